@@ -56,9 +56,8 @@ mod tests {
         ensures { result ≡ 3 }
     {
         let mut steps = Steps::<L>::new(blank);
-        for _ in 0..2 {
-            steps.tick();
-        }
+        steps.tick();
+        steps.tick();
         steps.tick();
         steps
     }
