@@ -49,21 +49,19 @@ mod tests {
     use super::*;
     use std::marker::Brand;
 
-    fn three_steps<L: Ledger>(blank: Blank) -> Steps<L>
+    fn take_two_steps<L: Ledger>(blank: Blank)
         requires name { blank.name ≡ L.name }
         requires parts { blank.parts ≡ L.parts }
         requires some { 0 < blank.parts }
-        ensures { result ≡ 3 }
     {
         let mut steps = Steps::<L>::new(blank);
         steps.tick();
         steps.tick();
-        steps.tick();
-        steps
     }
 
     #[test]
     fn counts_over_a_brand() {
-        let _steps = three_steps::<Brand>(Blank::new(1));
+        let blank = Blank::new(1);
+        take_two_steps::<Brand>(blank);
     }
 }
