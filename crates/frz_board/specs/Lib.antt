@@ -1,0 +1,9 @@
+pub mod Squares
+pub mod Lines
+pub mod Men
+pub mod Boards
+pub mod Moving
+pub mod Attacks
+pub mod EnPassant
+pub mod Shapes
+pub mod Texts

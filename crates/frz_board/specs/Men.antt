@@ -1,0 +1,50 @@
+-- The men, and the numbers that stand for them in the cells of a board.
+use Rattle.std.specs.Prelude.{ℕ, ◌+◌, ◌-◌, Bool, true, false, Option, None, Some, ◌==◌, nat_le, if◌then◌else◌}
+use Rattle.frz_board.specs.declared.man.Colour.{Colour}
+use Rattle.frz_board.specs.declared.man.Colour.TheVariants.{White, Black}
+use Rattle.frz_board.specs.declared.man.Kind.{Kind}
+use Rattle.frz_board.specs.declared.man.Kind.TheVariants.{King, Queen, Rook, Bishop, Knight, Pawn}
+use Rattle.frz_board.specs.declared.man.Man.{Man}
+
+-- the opponent
+abbrev pub other_of : Colour → Colour
+other_of White = Black
+other_of Black = White
+
+-- the kinds in order, from 1
+abbrev pub number_of_kind : Kind → ℕ
+number_of_kind King = 1
+number_of_kind Queen = 2
+number_of_kind Rook = 3
+number_of_kind Bishop = 4
+number_of_kind Knight = 5
+number_of_kind Pawn = 6
+
+-- White's kinds are 1 to 6, and Black's 7 to 12
+abbrev pub cell_of_man : Man → ℕ
+cell_of_man m = elim m.colour [ White ↦ number_of_kind m.kind | Black ↦ number_of_kind m.kind + 6 ]
+
+abbrev pub kind_of_number : ℕ → Kind
+kind_of_number n =
+    if n == 1 then King else (if n == 2 then Queen else (if n == 3 then Rook else (if n == 4 then Bishop else (if n == 5 then Knight else Pawn))))
+
+-- the man of a cell: none at 0 and above 12
+abbrev pub man_of_cell : ℕ → Option Man
+man_of_cell c =
+    if c == 0 then None else
+    (if nat_le c 6 then Some (record { colour = White; kind = kind_of_number c }) else
+    (if nat_le c 12 then Some (record { colour = Black; kind = kind_of_number (c - 6) }) else None))
+
+abbrev pub same_colour : Colour → Colour → Bool
+same_colour White White = true
+same_colour Black Black = true
+same_colour _ _ = false
+
+-- there is a man, and it is of this side
+abbrev pub is_man_of : Colour → Option Man → Bool
+is_man_of c None = false
+is_man_of c (Some m) = same_colour m.colour c
+
+abbrev pub is_pawn : Kind → Bool
+is_pawn Pawn = true
+is_pawn _ = false

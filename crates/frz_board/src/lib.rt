@@ -1,0 +1,18 @@
+//! Squares, men, moves and positions of chess, and the texts of moves.
+#![tactic(auto)]
+
+mod man;
+mod memory;
+mod position;
+mod shape;
+mod square;
+mod step;
+mod text;
+
+pub use man::{Colour, Kind, Man, cell_of, man_of};
+pub use memory::NoMemory;
+pub use position::Position;
+pub use shape::Shape;
+pub use square::Square;
+pub use step::Move;
+pub use text::{move_text, read_move};

@@ -1,0 +1,3 @@
+/// A call wanted more memory than there was.
+#[derive(Clone, Copy, Debug, PartialEq, Eq)]
+pub struct NoMemory;

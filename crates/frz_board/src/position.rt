@@ -1,0 +1,123 @@
+ghost use Rattle.std.specs.Prelude.{All, ◌≡◌, ◌<◌, ◌≤◌, ◌↔◌, IsSome, IfSome, slice_index, slice_set};
+ghost use Rattle.frz_board.specs.Boards.{Board, CellsFit, man_on, holds, has};
+ghost use Rattle.frz_board.specs.Men.{other_of};
+
+use super::man::{Colour, Kind, Man, cell_of, man_of};
+use super::square::Square;
+use std::marker::Model;
+
+/// A position: 64 cells, the side to move and the square that a pawn has just passed over. Each
+/// cell is the number of a man, as `cell_of` gives it, or 0 where the square is empty.
+#[derive(Clone, Copy, Debug)]
+pub struct Position {
+    cells: [u8; 64],
+    turn: Colour,
+    ep: Option<Square>,
+}
+
+impl Model for Position {
+    ghost use Rattle.frz_board.specs.Boards.{Board, CellsFit};
+
+    ghost Value = { Board };
+
+    ghost view = { λ p. record { cells = p.cells; turn = p.turn; ep = p.ep } };
+
+    ghost invariant = { λ p. CellsFit p.cells };
+
+    ghost inverse = { λ p. record { cells = p.cells; turn = p.turn; ep = p.ep } };
+}
+
+impl Position {
+    /// The position, and `None` exactly where a cell is above 12.
+    pub fn new(cells: [u8; 64], turn: Colour, ep: Option<Square>) -> Option<Position>
+        ensures there { IsSome result ↔ All (λ c. c < 13) cells }
+        ensures same { IfSome result (λ p. p ≡ record { cells = cells; turn = turn; ep = ep }) }
+    {
+        if cells.iter().all(|c| *c < 13) {
+            Some(Position { cells, turn, ep })
+        } else {
+            None
+        }
+    }
+
+    /// The number of the man on the square, or 0.
+    pub fn cell(&self, s: Square) -> u8
+        ensures cell { result ≡ slice_index self.now.cells s }
+        ensures fits { result ≤ 12 }
+    {
+        self.cells[s.number() as usize]
+    }
+
+    /// The cells of all squares, a1 first and h8 last.
+    pub fn cells(&self) -> [u8; 64]
+        ensures cells { result ≡ self.now.cells }
+        ensures fits { CellsFit self.now.cells }
+    {
+        self.cells
+    }
+
+    /// The side to move.
+    pub fn turn(&self) -> Colour
+        ensures turn { result ≡ self.now.turn }
+        ensures fits { CellsFit self.now.cells }
+    {
+        self.turn
+    }
+
+    /// The target: the square that a pawn has just passed over, where it may be captured.
+    pub fn ep(&self) -> Option<Square>
+        ensures { result ≡ self.now.ep }
+    {
+        self.ep
+    }
+
+    /// The man on the square.
+    pub fn man(&self, s: Square) -> Option<Man>
+        ensures { result ≡ man_on self.now s }
+    {
+        man_of(self.cell(s))
+    }
+
+    /// Does a man of this side stand on the square?
+    pub fn holds(&self, c: Colour, s: Square) -> bool
+        ensures { result ≡ holds self.now c s }
+    {
+        match self.man(s) {
+            None => false,
+            Some(man) => man.colour == c,
+        }
+    }
+
+    /// Does this very man stand on the square?
+    pub fn has(&self, c: Colour, k: Kind, s: Square) -> bool
+        ensures { result ≡ has self.now c k s }
+    {
+        self.cell(s) == cell_of(Man { colour: c, kind: k })
+    }
+
+    /// The position with another cell on the square.
+    pub fn put(&self, s: Square, c: u8) -> Position
+        requires { c ≤ 12 }
+        ensures on_board { s < 64 }
+        ensures put { result ≡ record self.now { cells = slice_set self.now.cells s c } }
+    {
+        let mut cells = self.cells;
+        cells[s.number() as usize] = c;
+        Position {
+            cells,
+            turn: self.turn,
+            ep: self.ep,
+        }
+    }
+
+    /// The position with the other side to move, and this target.
+    pub fn hand_over(&self, ep: Option<Square>) -> Position
+        ensures { result ≡ record self.now { turn = other_of self.now.turn; ep = ep } }
+    {
+        Position {
+            cells: self.cells,
+            turn: self.turn.other(),
+            ep,
+        }
+    }
+}
