@@ -1,0 +1,48 @@
+-- Numbers in mixed radix, both ways.
+use Rattle.std.proofs.Common.{◌≡◌, ℕ, zero, suc, ◌+◌, ◌*◌, ◌/◌, ◌%◌, ◌<◌, List, [], ◌∷◌, refl, ap, sym, ◌∙◌, arith, mul-zero, mul_assoc}
+use Rattle.std.proofs.lemmas.Nat.{mul-add-lt, div-mul-add, mod-mul-add, div-add-mod', mod_below, div_below}
+use Rattle.std.proofs.Math.Nat.{add-mul}
+use Rattle.frz_combinations.specs.MixedRadix.{product, value, digits, AreDigits, value_onto}
+
+-- a product above some number has no factor 0
+pos_from_product : (b p n : ℕ) → n < b * p → 0 < p
+pos_from_product b zero n h = absurd (omega (arith, mul-zero b))
+pos_from_product b (suc p) n h = omega arith
+
+spread : (n b d p v : ℕ) → (n * b + d) * p + v ≡ n * (b * p) + (d * p + v)
+spread n b d p v = omega (arith, add-mul (n * b) d p, mul_assoc n b p)
+
+pub value_below : (bs ds : List ℕ) → AreDigits bs ds → value bs ds < product bs
+value_below [] ds h = omega arith
+value_below (b ∷ bs) [] h = absurd h
+value_below (b ∷ bs) (d ∷ ds) h =
+    let below = value_below bs ds h.1 in
+    omega (arith, mul-add-lt d (product bs) (value bs ds) b h.0 below)
+
+pub digits-value : (bs ds : List ℕ) → AreDigits bs ds → digits bs (value bs ds) ≡ ds
+digits-value [] ds h = sym h
+digits-value (b ∷ bs) [] h = absurd h
+digits-value (b ∷ bs) (d ∷ ds) h =
+    let below = value_below bs ds h.1 in
+    ap (λ x. x ∷ digits bs ((d * product bs + value bs ds) % product bs)) (div-mul-add d (product bs) (value bs ds) below)
+    ∙ ap (λ x. d ∷ digits bs x) (mod-mul-add d (product bs) (value bs ds) below)
+    ∙ ap (λ xs. d ∷ xs) (digits-value bs ds h.1)
+
+-- the digits of a number below the product are digits, and say it
+pub digits_fit : (bs : List ℕ) (n : ℕ) → n < product bs → AreDigits bs (digits bs n)
+digits_fit [] n h = refl
+digits_fit (b ∷ bs) n h =
+    let some : 0 < product bs = pos_from_product b (product bs) n h in
+    (div_below n (product bs) b some h, digits_fit bs (n % product bs) (mod_below n (product bs) some))
+
+pub value-digits : (bs : List ℕ) (n : ℕ) → n < product bs → value bs (digits bs n) ≡ n
+value-digits [] n h = omega arith
+value-digits (b ∷ bs) n h =
+    let some : 0 < product bs = pos_from_product b (product bs) n h in
+    ap (λ x. n / product bs * product bs + x) (value-digits bs (n % product bs) (mod_below n (product bs) some)) ∙ div-add-mod' n (product bs)
+
+-- from the first digit on
+pub value_onto-value : (n : ℕ) (bs ds : List ℕ) → AreDigits bs ds → value_onto n bs ds ≡ n * product bs + value bs ds
+value_onto-value n [] ds h = omega arith
+value_onto-value n (b ∷ bs) [] h = absurd h
+value_onto-value n (b ∷ bs) (d ∷ ds) h = value_onto-value (n * b + d) bs ds h.1 ∙ spread n b d (product bs) (value bs ds)

@@ -1,0 +1,5 @@
+pub mod Pascals
+pub mod Ranking
+pub mod Selecting
+pub mod Digits
+pub mod Rows

@@ -1,0 +1,4 @@
+pub mod Binomials
+pub mod Combinations
+pub mod Selections
+pub mod MixedRadix

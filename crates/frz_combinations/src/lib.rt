@@ -1,0 +1,10 @@
+//! Combinations: binomial numbers, and the ranks of combinations in colexicographic order.
+#![tactic(auto)]
+
+pub mod laws;
+mod pascal;
+
+pub use pascal::{Triangle, binomial};
+
+#[cfg(test)]
+mod tests;

@@ -1,0 +1,83 @@
+ghost use Rattle.std.specs.Prelude.{◌≡◌, ◌<◌, ◌≤◌, ◌+◌, ℕ, IfOk};
+ghost use Rattle.frz_combinations.specs.Binomials.{choose, capped, IsRow};
+
+use std::alloc::{AllocError, Global};
+use std::marker::Model;
+
+/// A row has the numbers C(n, 0) to C(n, 16).
+const WIDTH: usize = 17;
+
+fn first_row() -> [u64; WIDTH]
+    ensures { IsRow 0 result }
+{
+    let mut row = [0; WIDTH];
+    row[0] = 1;
+    row
+}
+
+fn next_row(row: &[u64; WIDTH]) -> [u64; WIDTH]
+    ensures { (n : ℕ) → IsRow n row.now → IsRow (n + 1) result }
+{
+    let mut next = [1; WIDTH];
+    for k in 1..WIDTH {
+        next[k] = row[k].saturating_add(row[k - 1]);
+    }
+    next
+}
+
+/// C(n, k), or the greatest number of 64 bits where that is greater.
+pub fn binomial(n: u32, k: u32) -> u64
+    requires n { n ≤ 384 }
+    requires k { k ≤ 16 }
+    ensures { result ≡ capped (choose n k) }
+{
+    let mut row = first_row();
+    for _ in 0..n {
+        row = next_row(&row);
+    }
+    row[k as usize]
+}
+
+/// The first rows of Pascal's triangle, seen as the number of rows.
+///
+/// It gives the numbers of `binomial` without computing them again.
+#[derive(Drop)]
+pub struct Triangle {
+    rows: Vec<[u64; WIDTH]>,
+}
+
+impl Model for Triangle {
+    ghost use Rattle.std.specs.Prelude.{ℕ, length};
+    ghost use Rattle.frz_combinations.specs.Binomials.{AreRows};
+
+    ghost Value = { ℕ };
+
+    ghost view = { λ t. length t.rows.items };
+
+    ghost invariant = { λ t. AreRows t.rows.items };
+}
+
+impl Triangle {
+    /// The rows from 0 to `last`.
+    pub fn new(alloc: Global, last: u32) -> Result<Triangle, AllocError>
+        ensures { IfOk result (λ t. t ≡ last + 1) }
+    {
+        let mut rows = Vec::new(alloc);
+        let mut row = first_row();
+        for _ in 0..last {
+            rows.push(row)?;
+            row = next_row(&row);
+        }
+        rows.push(row)?;
+        Ok(Triangle { rows })
+    }
+
+    /// C(n, k), or the greatest number of 64 bits where that is greater.
+    pub fn binomial(&self, n: u32, k: u32) -> u64
+        requires n { n < self.now }
+        requires k { k ≤ 16 }
+        ensures { result ≡ capped (choose n k) }
+    {
+        self.rows[n as usize][k as usize]
+    }
+}
