@@ -1,0 +1,17 @@
+// Lines, words, numbers and sets of squares of a rules text. Every part is a slice of the text.
+#![tactic(auto)]
+
+mod lines;
+mod numbers;
+mod parts;
+mod squares;
+mod words;
+
+pub use lines::{Line, Lines};
+pub use numbers::read_number;
+pub use parts::cut;
+pub use squares::{SquareSet, read_square, read_squares};
+pub use words::{is_word, next_word};
+
+#[cfg(test)]
+mod tests;

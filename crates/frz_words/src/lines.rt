@@ -1,0 +1,110 @@
+ghost use Rattle.std.specs.Prelude.{◌≡◌, ◌<◌, ◌≤◌, ◌^◌, ◌+◌, ◌∷◌, ℕ, List, [], MatchOption, length, option_map};
+ghost use Rattle.std.specs.List.{AllByRecursion};
+ghost use Rattle.frz_words.specs.Lines.{lines, numbered};
+ghost use Rattle.frz_words.specs.Words.{words, word_at};
+
+use crate::parts::cut;
+use crate::words::next_word;
+use std::marker::Model;
+
+/// A line of a text without its line feed, and its number from 1.
+#[derive(Clone, Copy, Debug, Drop)]
+pub struct Line<'a> {
+    pub number: u32,
+    pub text: &'a [u8],
+}
+
+impl<'a> Line<'a> {
+    /// How many words it has.
+    pub fn count(&self) -> u32
+        requires { length self.now.text.now < 2 ^ 32 }
+        ensures words { result ≡ length (words self.now.text.now) }
+        ensures short { result ≤ length self.now.text.now }
+    {
+        let mut rest = self.text;
+        let mut count = 0;
+        while let Some((_, after)) = next_word(rest) {
+            rest = after;
+            count += 1;
+        }
+        count
+    }
+
+    /// The word of a number from 1, a slice of the text.
+    #[tactic(auto, using(crate::proofs::Wording::word_at_zero))]
+    pub fn word(&self, k: u32) -> Option<&'a [u8]>
+        requires { length self.now.text.now < 2 ^ 32 }
+        ensures { option_map (λ w. w.now) result ≡ word_at (words self.now.text.now) k }
+    {
+        let mut rest = self.text;
+        let mut left = k;
+        while left > 0 {
+            let (word, after) = next_word(rest)?;
+            if left == 1 {
+                return Some(word);
+            }
+            rest = after;
+            left -= 1;
+        }
+        None
+    }
+}
+
+/// The lines that are left of a text, seen as the list of their numbers and texts.
+#[derive(Drop)]
+pub struct Lines<'a> {
+    rest: &'a [u8],
+    number: u32,
+}
+
+impl<'a> Model for Lines<'a> {
+    ghost Value = { List (ℕ × List ℕ) };
+
+    ghost view = { λ l. numbered (l.number + 1) (lines l.rest.now) };
+
+    ghost invariant = { λ l. l.number + length l.rest.now < 2 ^ 32 };
+}
+
+impl<'a> Lines<'a> {
+    #[tactic(auto, using(crate::proofs::Lining::lines_short))]
+    pub fn new(text: &'a [u8]) -> Lines<'a>
+        requires { length text.now < 2 ^ 32 }
+        ensures lines { result ≡ numbered 1 (lines text.now) }
+        ensures short { AllByRecursion (λ l. length l.1 ≤ length text.now) result }
+    {
+        Lines {
+            rest: text,
+            number: 0,
+        }
+    }
+
+    /// The next line, and None after the last.
+    #[tactic(auto, using(crate::proofs::Lining::lining))]
+    pub fn next(&mut self) -> Option<Line<'a>>
+        ensures { MatchOption result ((self.old ≡ []) × (self.new ≡ [])) (λ l. self.old ≡ (l.number, l.text.now) ∷ self.new) }
+    {
+        if self.rest.is_empty() {
+            return None;
+        }
+        let (text, rest) = first_line(self.rest);
+        self.rest = rest;
+        self.number += 1;
+        Some(Line {
+            number: self.number,
+            text,
+        })
+    }
+}
+
+/// The first line of a text, and what follows its line feed.
+#[tactic(auto, using(crate::proofs::Lining::lining))]
+fn first_line(text: &[u8]) -> (&[u8], &[u8])
+    requires { 0 < length text.now }
+    ensures lines { lines text.now ≡ result.0.now ∷ lines result.1.now }
+    ensures shorter { length result.1.now < length text.now }
+{
+    match cut(text, b'\n') {
+        None => (text, &[]),
+        Some(line) => line,
+    }
+}

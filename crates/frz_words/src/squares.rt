@@ -1,0 +1,137 @@
+ghost use Rattle.std.specs.Prelude.{◌≡◌, ◌<◌, ◌≤◌, ◌^◌, ◌∷◌, ℕ, [], IfSome, option_map};
+ghost use Rattle.frz_words.specs.Squares.{file_of, rank_of, square_of, square_word, between, item_of, covers as covers_square, has_square, set_of, squares_of, is_square_of};
+
+use crate::parts::cut;
+use crate::words::is_word;
+
+/// A set of squares: the square of number s is in it where bit s is set.
+/// Squares are numbered from 0, a1, along the ranks to 63, h8.
+#[derive(Clone, Copy, Debug, PartialEq, Eq)]
+pub struct SquareSet(pub u64);
+
+impl SquareSet {
+    pub fn has(&self, s: u8) -> bool
+        requires { s < 64 }
+        ensures { result ≡ has_square self.now.0 s }
+    {
+        self.0 / (1 << s) % 2 == 1
+    }
+}
+
+/// The squares from one corner to the other, the first on the lower file and rank.
+#[derive(Clone, Copy)]
+pub struct Rectangle {
+    first: u8,
+    last: u8,
+}
+
+fn file(s: u8) -> u8
+    ensures { result ≡ file_of s }
+{
+    s % 8
+}
+
+fn rank(s: u8) -> u8
+    ensures { result ≡ rank_of s }
+{
+    s / 8
+}
+
+fn square_at(letter: u8, digit: u8) -> Option<u8>
+    ensures square { result ≡ square_of letter digit }
+    ensures on_board { IfSome result (λ s. s < 64) }
+{
+    match (letter, digit) {
+        (b'a'..=b'h', b'1'..=b'8') => Some(8 * (digit - b'1') + (letter - b'a')),
+        _ => None,
+    }
+}
+
+/// The number of the square of a letter a to h and a digit 1 to 8.
+pub fn read_square(w: &[u8]) -> Option<u8>
+    ensures square { result ≡ square_word w.now }
+    ensures on_board { IfSome result (λ s. s < 64) }
+{
+    match w {
+        [letter, digit] => square_at(*letter, *digit),
+        _ => None,
+    }
+}
+
+fn between_corners(first: Option<u8>, last: Option<u8>) -> Option<Rectangle>
+    ensures { result ≡ between first last }
+{
+    let first = first?;
+    let last = last?;
+    if file(first) <= file(last) && rank(first) <= rank(last) {
+        Some(Rectangle { first, last })
+    } else {
+        None
+    }
+}
+
+/// A square, two squares with a hyphen between them, or `all`.
+fn read_item(w: &[u8]) -> Option<Rectangle>
+    ensures { result ≡ item_of w.now }
+{
+    match w {
+        [f, r] => between_corners(square_at(*f, *r), square_at(*f, *r)),
+        [_, _, _] if is_word(w, b"all") => between_corners(Some(0), Some(63)),
+        [f, r, b'-', g, s] => between_corners(square_at(*f, *r), square_at(*g, *s)),
+        _ => None,
+    }
+}
+
+impl Rectangle {
+    fn covers(self, s: u8) -> bool
+        ensures { result ≡ covers_square self s }
+    {
+        (file(self.first) <= file(s) && file(s) <= file(self.last))
+            && (rank(self.first) <= rank(s) && rank(s) <= rank(self.last))
+    }
+
+    /// Its squares, a bit for each.
+    #[tactic(auto, using(crate::proofs::Bits::bits))]
+    fn squares(self) -> u64
+        ensures { result ≡ set_of (covers_square self) }
+    {
+        let mut set = 0u64;
+        for s in 0..64u8 {
+            if self.covers(s) {
+                set += bit(s);
+            }
+        }
+        set
+    }
+}
+
+#[tactic(auto, using(crate::proofs::Bits::bits))]
+fn bit(s: u8) -> u64
+    requires { s < 64 }
+    ensures { result ≡ 2 ^ s }
+{
+    1 << s
+}
+
+#[tactic(auto, using(crate::proofs::Sets::sets))]
+fn union_of_items(w: &[u8]) -> Option<SquareSet>
+    ensures { option_map (λ s. s.0) result ≡ squares_of w.now }
+{
+    let mut rest = w;
+    let mut set = 0u64;
+    while let Some((item, after)) = cut(rest, b',') {
+        set |= read_item(item)?.squares();
+        rest = after;
+    }
+    set |= read_item(rest)?.squares();
+    Some(SquareSet(set))
+}
+
+/// The union of the items between commas; an item may come again.
+#[tactic(auto, using(crate::proofs::Members::members))]
+pub fn read_squares(w: &[u8]) -> Option<SquareSet>
+    ensures set { option_map (λ s. s.0) result ≡ squares_of w.now }
+    ensures members { IfSome result (λ set. (s : ℕ) → s < 64 → has_square set.0 s ≡ is_square_of w.now s) }
+{
+    union_of_items(w)
+}
