@@ -4,6 +4,7 @@ pub mod Men
 pub mod Boards
 pub mod Moving
 pub mod Attacks
+pub mod Attacking
 pub mod EnPassant
 pub mod Shapes
 pub mod Texts

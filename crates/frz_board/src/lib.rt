@@ -1,6 +1,7 @@
 //! Squares, men, moves and positions of chess, and the texts of moves.
 #![tactic(auto)]
 
+pub mod laws;
 mod man;
 mod memory;
 mod position;

@@ -1,0 +1,4 @@
+pub mod Tests
+pub mod AllSquares
+pub mod CellsOfMen
+pub mod AttackInWords

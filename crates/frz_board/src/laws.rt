@@ -1,0 +1,27 @@
+//! Laws of the board, each the contract of a function that does nothing.
+
+ghost use Rattle.std.specs.Prelude.{◌≡◌, ℕ, ◌↔◌, true};
+ghost use Rattle.frz_board.specs.Attacking.{Attack};
+ghost use Rattle.frz_board.specs.Attacks.{attacks};
+ghost use Rattle.frz_board.specs.Boards.{Board};
+ghost use Rattle.frz_board.specs.Moving.{Step, IsStep, step_cmp};
+ghost use Rattle.frz_board.specs.Texts.{text_of};
+
+use super::step::Move;
+
+/// The test of attack holds exactly where the man on the one square attacks the other (FIDE 3.1 to
+/// 3.8).
+pub fn attack_in_words()
+    ensures { (p : Board) (a b : ℕ) → (attacks p a b ≡ true) ↔ Attack p a b }
+{}
+
+/// Moves are ordered by origin, then destination, then promotion: none, queen, rook, bishop,
+/// knight.
+pub fn move_order()
+    ensures { (m n : Step) → IsStep m → IsStep n → ⟦<Move as Ord>⟧.cmp m n ≡ step_cmp m n }
+{}
+
+/// Different moves have different texts.
+pub fn one_text()
+    ensures { (m n : Step) → IsStep m → IsStep n → text_of m ≡ text_of n → m ≡ n }
+{}
