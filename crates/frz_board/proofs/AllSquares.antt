@@ -3,29 +3,29 @@ use Rattle.std.proofs.Common.{◌≡◌, ℕ, zero, suc, ◌+◌, ◌<◌, ◌�
 use Rattle.std.specs.List.{list_all, list_any, range_with_len}
 use Rattle.std.proofs.lemmas.Bool.Decides.{eqb_tells}
 use Rattle.frz_board.specs.Squares.{squares}
-use Rattle.frz_board.proofs.Tests.{and_both, or_either, either_or}
+use Rattle.frz_board.proofs.Tests.{and_both, or_either, either_or, fails}
 
-all_from : (q : ℕ → Bool) (a n : ℕ) → ((k : ℕ) → a ≤ k → k < a + n → q k ≡ true) → list_all q (range_with_len a n) ≡ true
+pub all_from : (q : ℕ → Bool) (a n : ℕ) → ((k : ℕ) → a ≤ k → k < a + n → q k ≡ true) → list_all q (range_with_len a n) ≡ true
 all_from q a zero h = refl
 all_from q a (suc n) h =
     ap (λ x. x && list_all q (range_with_len (a + 1) n)) (h a (omega arith) (omega arith))
     ∙ all_from q (a + 1) n (λ k l m. h k (omega arith) (omega arith))
 
-all_at : (q : ℕ → Bool) (a n : ℕ) → list_all q (range_with_len a n) ≡ true → (k : ℕ) → a ≤ k → k < a + n → q k ≡ true
+pub all_at : (q : ℕ → Bool) (a n : ℕ) → list_all q (range_with_len a n) ≡ true → (k : ℕ) → a ≤ k → k < a + n → q k ≡ true
 all_at q a zero h k l m = absurd (omega arith)
 all_at q a (suc n) h k l m =
     let parts = and_both (q a) (list_all q (range_with_len (a + 1) n)) h in
     elim (eqb_tells a k) [
-      inl w ↦ ap q (sym w.1) ∙ parts.0
-    | inr w ↦ all_at q (a + 1) n parts.1 k (let ne = w.1 in omega arith) (omega arith)
+      | inl w ↦ ap q (sym w.1) ∙ parts.0
+      | inr w ↦ all_at q (a + 1) n parts.1 k (let ne = w.1 in omega arith) (omega arith)
     ]
 
 any_from : (q : ℕ → Bool) (a n : ℕ) → list_any q (range_with_len a n) ≡ true → (k : ℕ) × (a ≤ k) × (k < a + n) × (q k ≡ true)
 any_from q a zero h = absurd cc
 any_from q a (suc n) h =
     elim (or_either (q a) (list_any q (range_with_len (a + 1) n)) h) [
-      inl w ↦ (a, omega arith, omega arith, w)
-    | inr w ↦ later (any_from q (a + 1) n w)
+      | inl w ↦ (a, omega arith, omega arith, w)
+      | inr w ↦ later (any_from q (a + 1) n w)
     ]
   where
     later : (k : ℕ) × (a + 1 ≤ k) × (k < a + 1 + n) × (q k ≡ true) → (k : ℕ) × (a ≤ k) × (k < a + suc n) × (q k ≡ true)
@@ -35,8 +35,8 @@ any_at : (q : ℕ → Bool) (a n k : ℕ) → a ≤ k → k < a + n → q k ≡ 
 any_at q a zero k l m h = absurd (omega arith)
 any_at q a (suc n) k l m h =
     elim (eqb_tells a k) [
-      inl w ↦ either_or (q a) (list_any q (range_with_len (a + 1) n)) (inl (ap q w.1 ∙ h))
-    | inr w ↦ either_or (q a) (list_any q (range_with_len (a + 1) n)) (inr (any_at q (a + 1) n k (let ne = w.1 in omega arith) (omega arith) h))
+      | inl w ↦ either_or (q a) (list_any q (range_with_len (a + 1) n)) (inl (ap q w.1 ∙ h))
+      | inr w ↦ either_or (q a) (list_any q (range_with_len (a + 1) n)) (inr (any_at q (a + 1) n k (let ne = w.1 in omega arith) (omega arith) h))
     ]
 
 pub each_square : (q : ℕ → Bool) → list_all q squares ≡ true → (s : ℕ) → s < 64 → q s ≡ true
@@ -46,6 +46,9 @@ each_square q h s l = all_at q 0 64 h s (omega arith) (omega arith)
 pub all_squares : (q : ℕ → Bool) → ((s : ℕ) → s < 64 → q s ≡ true) → list_all q squares ≡ true
 unfolding squares
 all_squares q h = all_from q 0 64 (λ s l m. h s (omega arith))
+
+pub not_all_squares : (q : ℕ → Bool) (s : ℕ) → s < 64 → q s ≡ false → list_all q squares ≡ false
+not_all_squares q s l h = fails (list_all q squares) (λ e. let t : q s ≡ true = each_square q e s l in cc)
 
 -- a square, and that it passes
 pub record Found (q : ℕ → Bool) : Type 0 where

@@ -38,21 +38,22 @@ means_diagonal a b h =
 
 line_means : (a b : ℕ) → is_rook_line a b ≡ true → IsFileOrRank a b
 line_means a b h =
-    let parts = and_both (not (a == b)) (files_apart a b == 0 || ranks_apart a b == 0) h in
-    (not_same a b parts.0,
-     elim (or_either (files_apart a b == 0) (ranks_apart a b == 0) parts.1) [
-       inl w ↦ inl (eqb-true (files_apart a b) 0 w)
-     | inr w ↦ inr (eqb-true (ranks_apart a b) 0 w)
-     ])
+    let parts = and_both (not (a == b)) (files_apart a b == 0 || ranks_apart a b == 0) h in (
+      not_same a b parts.0,
+      elim (or_either (files_apart a b == 0) (ranks_apart a b == 0) parts.1) [
+        | inl w ↦ inl (eqb-true (files_apart a b) 0 w)
+        | inr w ↦ inr (eqb-true (ranks_apart a b) 0 w)
+      ],
+    )
 
 means_line : (a b : ℕ) → IsFileOrRank a b → is_rook_line a b ≡ true
 means_line a b h =
     both_and (not (a == b)) (files_apart a b == 0 || ranks_apart a b == 0) (same_not a b h.0)
     (either_or (files_apart a b == 0) (ranks_apart a b == 0)
-     (elim h.1 [
-       inl w ↦ inl (eq-eqb (files_apart a b) 0 w)
-     | inr w ↦ inr (eq-eqb (ranks_apart a b) 0 w)
-     ]))
+    (elim h.1 [
+      | inl w ↦ inl (eq-eqb (files_apart a b) 0 w)
+      | inr w ↦ inr (eq-eqb (ranks_apart a b) 0 w)
+    ]))
 
 two_means : (m n k l : ℕ) → (m == k && n == l) ≡ true → (m ≡ k) × (n ≡ l)
 two_means m n k l h = let parts = and_both (m == k) (n == l) h in (eqb-true m k parts.0, eqb-true n l parts.1)
@@ -80,15 +81,15 @@ by_kind p c Queen a b s h =
     let parts = and_both (is_rook_line a b || is_bishop_line a b) (is_clear p a b) h in
     queen c s
     (elim (or_either (is_rook_line a b) (is_bishop_line a b) parts.0) [
-      inl w ↦ inl (line_means a b w)
-    | inr w ↦ inr (diagonal_means a b w)
+      | inl w ↦ inl (line_means a b w)
+      | inr w ↦ inr (diagonal_means a b w)
     ])
     (clear_means p a b parts.1)
 by_kind p c Knight a b s h =
     knight c s
     (elim (or_either (files_apart a b == 1 && ranks_apart a b == 2) (files_apart a b == 2 && ranks_apart a b == 1) h) [
-      inl w ↦ inl (two_means (files_apart a b) (ranks_apart a b) 1 2 w)
-    | inr w ↦ inr (two_means (files_apart a b) (ranks_apart a b) 2 1 w)
+      | inl w ↦ inl (two_means (files_apart a b) (ranks_apart a b) 1 2 w)
+      | inr w ↦ inr (two_means (files_apart a b) (ranks_apart a b) 2 1 w)
     ])
 by_kind p c Pawn a b s h =
     let parts = and_both (files_apart a b == 1) (is_forward c 1 a b) h in
@@ -116,16 +117,16 @@ means_test p a b (bishop c s l w) =
 means_test p a b (queen c s l w) =
     opened p c Queen a b s
     (both_and (is_rook_line a b || is_bishop_line a b) (is_clear p a b)
-     (either_or (is_rook_line a b) (is_bishop_line a b)
-      (elim l [ inl x ↦ inl (means_line a b x) | inr x ↦ inr (means_diagonal a b x) ]))
-     (means_clear p a b w))
+    (either_or (is_rook_line a b) (is_bishop_line a b)
+    (elim l [ inl x ↦ inl (means_line a b x) | inr x ↦ inr (means_diagonal a b x) ]))
+    (means_clear p a b w))
 means_test p a b (knight c s h) =
     opened p c Knight a b s
     (either_or (files_apart a b == 1 && ranks_apart a b == 2) (files_apart a b == 2 && ranks_apart a b == 1)
-     (elim h [
-       inl w ↦ inl (means_two (files_apart a b) (ranks_apart a b) 1 2 w)
-     | inr w ↦ inr (means_two (files_apart a b) (ranks_apart a b) 2 1 w)
-     ]))
+    (elim h [
+      | inl w ↦ inl (means_two (files_apart a b) (ranks_apart a b) 1 2 w)
+      | inr w ↦ inr (means_two (files_apart a b) (ranks_apart a b) 2 1 w)
+    ]))
 means_test p a b (pawn c s f h) =
     opened p c Pawn a b s
     (both_and (files_apart a b == 1) (is_forward c 1 a b) (eq-eqb (files_apart a b) 1 f) (means_forward c a b h))

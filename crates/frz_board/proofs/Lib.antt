@@ -2,3 +2,6 @@ pub mod Tests
 pub mod AllSquares
 pub mod CellsOfMen
 pub mod AttackInWords
+pub mod Counting
+pub mod EndRanks
+pub mod Neighbours

@@ -43,3 +43,7 @@ same_test true true h k = refl
 same_test true false h k = let e : false ≡ true = h refl in cc
 same_test false true h k = k refl
 same_test false false h k = refl
+
+pub fails : (x : Bool) → (x ≡ true → ⊥) → x ≡ false
+fails true h = absurd (h refl)
+fails false h = refl

@@ -28,9 +28,13 @@ has_kings p = count_of p White King == 1 && count_of p Black King == 1
 abbrev pub is_end : ℕ → Bool
 is_end s = rank_of s == 0 || rank_of s == 7
 
+-- a pawn of either side stands on the square
+abbrev pub has_pawn : Board → ℕ → Bool
+has_pawn p s = has p White Pawn s || has p Black Pawn s
+
 -- no pawn stands on rank 1 or rank 8 (FIDE 3.7)
 unfoldable pub has_pawns_inside : Board → Bool
-has_pawns_inside p = list_all (λ s. not (is_end s && (has p White Pawn s || has p Black Pawn s))) squares
+has_pawns_inside p = list_all (λ s. not (is_end s && has_pawn p s)) squares
 
 -- each side has at most 16 men (FIDE 2.2)
 unfoldable pub has_few_men : Board → Bool

@@ -4,6 +4,7 @@
 pub mod laws;
 mod man;
 mod memory;
+mod passing;
 mod position;
 mod shape;
 mod square;
@@ -17,3 +18,6 @@ pub use shape::Shape;
 pub use square::Square;
 pub use step::Move;
 pub use text::{move_text, read_move};
+
+#[cfg(test)]
+mod tests;

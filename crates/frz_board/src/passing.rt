@@ -1,0 +1,79 @@
+ghost use Rattle.std.specs.Prelude.{◌≡◌, ◌<◌, ◌≤◌, ◌+◌, ◌-◌, ◌&&◌, nat_lt};
+ghost use Rattle.frz_board.specs.Boards.{has};
+ghost use Rattle.frz_board.specs.Squares.{file_of};
+ghost use Rattle.frz_board.specs.declared.man.Kind.TheVariants.{Pawn};
+ghost use Rattle.frz_board.specs.EnPassant.{has_pawn_beside, ahead, is_passing_rank, has_passed, has_target_in_place};
+
+use super::man::{Colour, Kind};
+use super::position::Position;
+use super::square::Square;
+
+impl Position {
+    /// Does a pawn of this side stand beside the square, on the same rank?
+    pub fn has_pawn_beside(&self, c: Colour, s: Square) -> bool
+        ensures { result ≡ has_pawn_beside self.now c s }
+    {
+        pawn_before(self, c, s) || pawn_after(self, c, s)
+    }
+
+    /// Has a pawn of this side passed over the square, so that it stands one rank ahead of it, and
+    /// the square and the one behind it are empty?
+    pub fn has_passed(&self, c: Colour, t: Square) -> bool
+        ensures { result ≡ has_passed self.now c t }
+    {
+        if !passing_rank(c, t) {
+            return false;
+        }
+        (self.cell(t) == 0 && self.cell(one_ahead(c.other(), t)) == 0)
+            && self.has(c, Kind::Pawn, one_ahead(c, t))
+    }
+}
+
+/// Is there no target, or has the opponent's pawn passed over it and stands beside a pawn of the
+/// side to move?
+#[tactic(auto, unfolding(crate::specs::EnPassant::has_target_in_place))]
+pub fn target_in_place(p: &Position) -> bool
+    ensures { result ≡ has_target_in_place p.now }
+{
+    match p.ep() {
+        None => true,
+        Some(t) => {
+            let passer = p.turn().other();
+            p.has_passed(passer, t) && p.has_pawn_beside(passer.other(), one_ahead(passer, t))
+        }
+    }
+}
+
+/// Does a pawn of this side stand on the next file towards the a-file?
+fn pawn_before(p: &Position, c: Colour, s: Square) -> bool
+    ensures { result ≡ (nat_lt 0 (file_of s) && has p.now c Pawn (s - 1)) }
+{
+    s.file() > 0 && p.has(c, Kind::Pawn, Square::at(s.number() - 1))
+}
+
+/// Does a pawn of this side stand on the next file towards the h-file?
+fn pawn_after(p: &Position, c: Colour, s: Square) -> bool
+    ensures { result ≡ (nat_lt (file_of s) 7 && has p.now c Pawn (s + 1)) }
+{
+    s.file() < 7 && p.has(c, Kind::Pawn, Square::at(s.number() + 1))
+}
+
+fn passing_rank(c: Colour, t: Square) -> bool
+    ensures { result ≡ is_passing_rank c t }
+{
+    match c {
+        Colour::White => t.rank() == 2,
+        Colour::Black => t.rank() == 5,
+    }
+}
+
+fn one_ahead(c: Colour, t: Square) -> Square
+    requires low { 8 ≤ t }
+    requires high { t < 56 }
+    ensures { result ≡ ahead c t }
+{
+    match c {
+        Colour::White => Square::at(t.number() + 8),
+        Colour::Black => Square::at(t.number() - 8),
+    }
+}
