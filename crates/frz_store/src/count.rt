@@ -1,0 +1,41 @@
+//! A count that never falls.
+ghost use Rattle.std.specs.Prelude.{◌≡◌, ◌+◌, ◌-◌, ◌^◌, ◌≤◌, min};
+
+use std::marker::Model;
+
+/// A count in 64 bits, which stays at its greatest value once it is there.
+#[derive(Drop)]
+pub struct Count {
+    value: u64,
+}
+
+impl Model for Count {
+    ghost use Rattle.std.specs.Prelude.{ℕ, ◌<◌, ◌^◌};
+
+    ghost Value = { ℕ };
+
+    ghost view = { λ count. count.value };
+
+    ghost invariant = { λ count. count.value < 2 ^ 64 };
+}
+
+impl Count {
+    pub fn new() -> Count
+        ensures { result ≡ 0 }
+    {
+        Count { value: 0 }
+    }
+
+    pub fn get(&self) -> u64
+        ensures { result ≡ self.now }
+    {
+        self.value
+    }
+
+    pub fn add(&mut self, amount: u64)
+        ensures sum { self.new ≡ min (self.old + amount) (2 ^ 64 - 1) }
+        ensures grows { self.old ≤ self.new }
+    {
+        self.value = self.value.saturating_add(amount);
+    }
+}

@@ -1,0 +1,105 @@
+//! The store over real files. It does not tell what they hold.
+ghost use Rattle.std.specs.Prelude.{None};
+
+use crate::count::Count;
+use crate::{Failed, Store, StoreFault};
+use std::fs;
+use std::fs::{Files, Metadata};
+use std::io::{ErrorKind, Read, Seek, SeekFrom, Write};
+
+/// Files by path.
+#[derive(Drop)]
+pub struct DiskStore<R: Files + Drop> {
+    rt: R,
+    newest: Option<R::File>,
+    faults: Count,
+    asked: Count,
+    room: u64,
+}
+
+impl<R: Files + Drop> DiskStore<R> {
+    pub fn new(rt: R) -> DiskStore<R> {
+        DiskStore {
+            rt,
+            newest: None,
+            faults: Count::new(),
+            asked: Count::new(),
+            room: 0,
+        }
+    }
+}
+
+fn read_at<R: Files>(rt: &R, name: &str, at: u64, into: &mut [u8]) -> Result<(), Failed> {
+    let Ok(mut file) = fs::open(rt, name) else {
+        return Err(Failed);
+    };
+    if file.seek(SeekFrom::Start(at)).is_err() {
+        return Err(Failed);
+    }
+    match file.read_exact(into) {
+        Ok(()) => Ok(()),
+        Err(_) => Err(Failed),
+    }
+}
+
+impl<R: Files + Drop> Store for DiskStore<R> {
+    ghost files = { λ _. None };
+
+    ghost last = { λ _. None };
+
+    ghost faults = { λ store. store.faults };
+
+    ghost wants = { λ _. 0 };
+
+    ghost asked = { λ store. store.asked };
+
+    ghost room = { λ store. store.room };
+
+    fn size(&mut self, name: &str) -> Result<Option<u64>, StoreFault> {
+        match fs::metadata(&self.rt, name) {
+            Ok(about) => Ok(Some(about.len())),
+            Err(e) if e.kind() == ErrorKind::NotFound => Ok(None),
+            Err(_) => {
+                self.faults.add(1);
+                Err(StoreFault::Failed)
+            }
+        }
+    }
+
+    fn read(&mut self, name: &str, at: u64, into: &mut [u8]) -> Result<(), StoreFault> {
+        self.asked.add(into.len() as u64);
+        match read_at(&self.rt, name, at, into) {
+            Ok(()) => Ok(()),
+            Err(_) => {
+                self.faults.add(1);
+                Err(StoreFault::Failed)
+            }
+        }
+    }
+
+    fn create(&mut self, name: &str, due: u64) -> Result<(), StoreFault> {
+        match fs::create(&self.rt, name) {
+            Ok(file) => {
+                self.newest = Some(file);
+                self.room = due;
+                Ok(())
+            }
+            Err(_) => {
+                self.faults.add(1);
+                self.room = 0;
+                Err(StoreFault::Failed)
+            }
+        }
+    }
+
+    fn append(&mut self, piece: &[u8]) -> Result<(), Failed> {
+        self.room -= piece.len() as u64;
+        if let Some(file) = &mut self.newest
+            && file.write_all(piece).is_ok()
+        {
+            return Ok(());
+        }
+        self.faults.add(1);
+        Err(Failed)
+    }
+}

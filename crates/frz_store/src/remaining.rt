@@ -1,0 +1,49 @@
+//! Bytes in memory that are taken from the front.
+ghost use Rattle.std.specs.Prelude.{◌≡◌, ◌<◌, length, drop, min};
+ghost use Rattle.frz_store.specs.Outside.{Took};
+
+use std::marker::Model;
+
+/// The bytes that are left.
+#[derive(Drop)]
+pub struct Remaining {
+    bytes: Vec<u8>,
+    at: usize,
+}
+
+impl Model for Remaining {
+    ghost use Rattle.std.specs.Prelude.{ℕ, List, ◌≤◌, length, drop};
+
+    ghost Value = { List ℕ };
+
+    ghost view = { λ remaining. drop remaining.at remaining.bytes.items };
+
+    ghost invariant = { λ remaining. remaining.at ≤ length remaining.bytes.items };
+}
+
+impl Remaining {
+    pub fn new(bytes: Vec<u8>) -> Remaining
+        ensures { result ≡ bytes.items }
+    {
+        Remaining { bytes, at: 0 }
+    }
+
+    pub fn as_slice(&self) -> &[u8]
+        ensures { result.now ≡ self.now }
+    {
+        &self.bytes[self.at..]
+    }
+
+    /// Takes as many bytes as are left and as the slice holds.
+    pub fn take_into(&mut self, into: &mut [u8]) -> usize
+        requires { 0 < length into.old }
+        ensures count { result ≡ min (length into.old) (length self.old) }
+        ensures took { Took into.new result self.old }
+        ensures rest { self.new ≡ drop result self.old }
+    {
+        let count = into.len().min(self.bytes.len() - self.at);
+        into[..count].copy_from_slice(&self.bytes[self.at..self.at + count]);
+        self.at += count;
+        count
+    }
+}

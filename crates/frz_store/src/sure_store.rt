@@ -1,0 +1,105 @@
+//! A store in memory that never fails.
+ghost use Rattle.std.specs.Prelude.{◌≡◌, ◌+◌, ◌≤◌, ℕ, List, [], length, take, drop, Some, None, IfSome, OnOk, OnErr};
+ghost use Rattle.std.specs.Option.{option_copied, option_map};
+ghost use Rattle.std.specs.Result.{IsErrOf};
+ghost use Rattle.frz_store.specs.Files.{no_files, put};
+ghost use Rattle.frz_store.specs.Shelf.{files_of, last_of, room_of};
+
+use crate::count::Count;
+use crate::shelf::Shelf;
+use crate::{Failed, Store, StoreFault};
+use std::alloc::Global;
+
+/// A store in memory that never fails.
+#[derive(Drop)]
+pub struct SureStore {
+    alloc: Global,
+    shelf: Shelf,
+    asked: Count,
+}
+
+impl SureStore {
+    /// A store without names.
+    pub fn new(alloc: Global) -> SureStore
+        ensures files { ⟦<SureStore as Store>⟧.files result ≡ Some no_files }
+        ensures last { ⟦<SureStore as Store>⟧.last result ≡ None }
+        ensures faults { ⟦<SureStore as Store>⟧.faults result ≡ 0 }
+        ensures wants { ⟦<SureStore as Store>⟧.wants result ≡ 0 }
+        ensures asked { ⟦<SureStore as Store>⟧.asked result ≡ 0 }
+        ensures room { ⟦<SureStore as Store>⟧.room result ≡ 0 }
+    {
+        SureStore {
+            alloc,
+            shelf: Shelf::new(alloc),
+            asked: Count::new(),
+        }
+    }
+
+    /// The bytes of the name, and None exactly where it is not there.
+    pub fn file(&self, name: &str) -> Option<&[u8]>
+        ensures { IfSome (⟦<SureStore as Store>⟧.files self.now) (λ m. option_copied result ≡ m name.now) }
+    {
+        self.shelf.file(name)
+    }
+
+    /// The bytes that all reads asked for, up to the greatest number of 64 bits.
+    pub fn asked(&self) -> u64
+        ensures { result ≡ ⟦<SureStore as Store>⟧.asked self.now }
+    {
+        self.asked.get()
+    }
+
+    /// Makes the name hold these bytes. It is no call of the trait, so it counts as none.
+    pub fn put(&mut self, name: &str, bytes: &[u8]) -> Result<(), StoreFault>
+        requires { ⟦<SureStore as Store>⟧.room self.old ≡ 0 }
+        ensures files { OnOk result (⟦<SureStore as Store>⟧.files self.new ≡ option_map (λ m. put m name.now bytes.now) (⟦<SureStore as Store>⟧.files self.old)) }
+        ensures no_memory { OnErr result (⟦<SureStore as Store>⟧.files self.new ≡ ⟦<SureStore as Store>⟧.files self.old) }
+        ensures never_failed { IsErrOf result StoreFault.Failed → ⊥ }
+        ensures last { ⟦<SureStore as Store>⟧.last self.new ≡ ⟦<SureStore as Store>⟧.last self.old }
+        ensures faults { ⟦<SureStore as Store>⟧.faults self.new ≡ ⟦<SureStore as Store>⟧.faults self.old }
+        ensures wants { ⟦<SureStore as Store>⟧.wants self.new ≡ ⟦<SureStore as Store>⟧.wants self.old }
+        ensures asked { ⟦<SureStore as Store>⟧.asked self.new ≡ ⟦<SureStore as Store>⟧.asked self.old }
+        ensures room { ⟦<SureStore as Store>⟧.room self.new ≡ ⟦<SureStore as Store>⟧.room self.old }
+    {
+        match self.shelf.put(self.alloc, name, bytes) {
+            Ok(()) => Ok(()),
+            Err(_) => Err(StoreFault::NoMemory),
+        }
+    }
+}
+
+impl Store for SureStore {
+    ghost files = { λ store. Some (files_of store.shelf) };
+
+    ghost last = { λ store. last_of store.shelf };
+
+    ghost faults = { λ _. 0 };
+
+    ghost wants = { λ _. 0 };
+
+    ghost asked = { λ store. store.asked };
+
+    ghost room = { λ store. room_of store.shelf };
+
+    fn size(&mut self, name: &str) -> Result<Option<u64>, StoreFault> {
+        Ok(self.shelf.size(name))
+    }
+
+    fn read(&mut self, name: &str, at: u64, into: &mut [u8]) -> Result<(), StoreFault> {
+        self.asked.add(into.len() as u64);
+        self.shelf.read(name, at, into);
+        Ok(())
+    }
+
+    fn create(&mut self, name: &str, due: u64) -> Result<(), StoreFault> {
+        match self.shelf.create(self.alloc, name, due) {
+            Ok(()) => Ok(()),
+            Err(_) => Err(StoreFault::NoMemory),
+        }
+    }
+
+    fn append(&mut self, piece: &[u8]) -> Result<(), Failed> {
+        self.shelf.append(piece);
+        Ok(())
+    }
+}
