@@ -1,0 +1,5 @@
+use Rattle.frz_arena.proofs.OneForces.{one_forces}
+use Rattle.frz_arena.proofs.laws.forcing.one_mate.Goals as goal
+
+pub returns : goal.returns
+returns g c = one_forces

@@ -1,0 +1,12 @@
+use Rattle.frz_arena.proofs.WinsForced.{wins_forces}
+use Rattle.frz_arena.proofs.TrueWins.{wins_mates, wins_mates_in}
+use Rattle.frz_arena.proofs.laws.forcing.wins_are_forced.Goals as goal
+
+pub returns-clause-goals : goal.returns-clause-goals
+returns-clause-goals g c = wins_forces
+
+pub returns-clause-mates : goal.returns-clause-mates
+returns-clause-mates g c = wins_mates
+
+pub returns-clause-within : goal.returns-clause-within
+returns-clause-within g c = wins_mates_in

@@ -1,0 +1,5 @@
+use Rattle.frz_arena.proofs.NeverBoth as lemma
+use Rattle.frz_arena.proofs.laws.plies.never_both.Goals as goal
+
+pub returns : goal.returns
+returns g c = lemma.never_both

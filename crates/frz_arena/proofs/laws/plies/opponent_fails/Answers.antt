@@ -1,0 +1,5 @@
+use Rattle.frz_arena.proofs.Opposed.{wins_gives_fails}
+use Rattle.frz_arena.proofs.laws.plies.opponent_fails.Goals as goal
+
+pub returns : goal.returns
+returns g c = wins_gives_fails

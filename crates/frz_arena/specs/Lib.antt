@@ -1,0 +1,11 @@
+pub mod Arena
+pub mod Plies
+pub mod Codes
+pub mod Bounds
+pub mod LocalCodes
+pub mod Tallies
+pub mod Chess
+pub mod Games
+pub mod Exits
+pub mod Names
+pub mod Tables

@@ -1,0 +1,71 @@
+-- The local code: what the codes one ply on give a position.
+use Rattle.std.specs.Prelude.{◌≡◌, ◌+◌, ℕ, Bool, min, max, if◌then◌else◌, List, [], ◌∷◌, map, filter}
+use Rattle.std.specs.List.{list_any, list_all}
+use Rattle.frz_board.specs.declared.man.Colour.{Colour}
+use Rattle.frz_board.specs.Men.{same_colour}
+use Rattle.frz_arena.specs.declared.node.Node.{Node}
+use Rattle.frz_arena.specs.declared.node.Node.TheVariants.{Broken, Mate, Stalemate, Going}
+use Rattle.frz_arena.specs.Arena.{Arena, Arm, Next, Inside, Outside}
+use Rattle.frz_arena.specs.Codes.{is_win, is_failure, exit_code}
+
+-- the least of some codes, and 0 of none
+abbrev pub least : List ℕ → ℕ
+least [] = 0
+least (c ∷ []) = c
+least (c ∷ d ∷ cs) = min c (least (d ∷ cs))
+
+-- the greatest of some codes, and 0 of none
+abbrev pub greatest : List ℕ → ℕ
+greatest [] = 0
+greatest (c ∷ cs) = max c (greatest cs)
+
+-- the mover seeks one kind of code and shuns the other: the least sought one with a ply more,
+-- else 1 where some code is not shunned, else the greatest with a ply more
+abbrev pub chosen_code : (sought shunned : ℕ → Bool) → List ℕ → ℕ
+chosen_code sought shunned cs =
+    if list_any sought cs then least (filter sought cs) + 2
+    else (if list_all shunned cs then greatest cs + 2 else 1)
+
+-- the side is to move, with the codes of its free moves
+abbrev pub own_code : List ℕ → ℕ
+own_code [] = 3
+own_code (c ∷ cs) = chosen_code is_win is_failure (c ∷ cs)
+
+-- the opponent is to move, with the codes of all his moves
+abbrev pub other_code : List ℕ → ℕ
+other_code cs = chosen_code is_failure is_win cs
+
+-- the local code at each kind of position
+abbrev pub node_code : Colour → Node → (free all : List ℕ) → ℕ
+node_code side Broken free all = 0
+node_code side (Mate mover) free all = if same_colour mover side then 3 else 2
+node_code side (Stalemate mover) free all = 1
+node_code side (Going mover) free all = if same_colour mover side then own_code free else other_code all
+
+-- the code of where a move leads, with the entries of the side at the positions
+abbrev pub next_code : {N V : Type 0} → Arena N V → Colour → (N → ℕ) → Next N V → ℕ
+next_code arena side entry (Inside q) = entry q
+next_code arena side entry (Outside v) = exit_code (arena.class v side) (arena.lag v)
+
+-- the code of a move
+abbrev pub arm_code : {N V : Type 0} → Arena N V → Colour → (N → ℕ) → Arm N V → ℕ
+arm_code arena side entry a = next_code arena side entry a.next
+
+abbrev pub codes_of : {N V : Type 0} → Arena N V → Colour → (N → ℕ) → List (Arm N V) → List ℕ
+codes_of arena side entry arms = map (arm_code arena side entry) arms
+
+-- the codes of the free moves, and of all moves
+abbrev pub free_codes : {N V : Type 0} → Arena N V → Colour → (N → ℕ) → N → List ℕ
+free_codes arena side entry p = codes_of arena side entry (filter (λ a. a.free) (arena.arms p))
+
+abbrev pub all_codes : {N V : Type 0} → Arena N V → Colour → (N → ℕ) → N → List ℕ
+all_codes arena side entry p = codes_of arena side entry (arena.arms p)
+
+-- the code that the entries give the position
+abbrev pub local_code : {N V : Type 0} → Arena N V → Colour → (N → ℕ) → N → ℕ
+local_code arena side entry p =
+    node_code side (arena.node p) (free_codes arena side entry p) (all_codes arena side entry p)
+
+-- each entry is its local code
+abbrev pub MeetsEquations : {N V : Type 0} → Arena N V → Colour → (N → ℕ) → Type 0
+MeetsEquations {N} arena side entry = (p : N) → entry p ≡ local_code arena side entry p

@@ -1,0 +1,45 @@
+//! What the restricted game says of chess.
+
+ghost use Rattle.std.specs.Prelude.{◌≡◌, ℕ, true};
+ghost use Rattle.frz_board.specs.declared.man.Colour.{Colour};
+ghost use Rattle.frz_board.specs.Men.{other_of};
+ghost use Rattle.frz_arena.specs.declared.class.Class.TheVariants.{Good, Bad};
+ghost use Rattle.frz_arena.specs.Arena.{IsLawful};
+ghost use Rattle.frz_arena.specs.Chess.{Chess, Forces, ForcesMate, NeverForcesMate};
+ghost use Rattle.frz_arena.specs.Exits.{TrueExits, AllNumbered};
+ghost use Rattle.frz_arena.specs.Games.{Game, arena_of, goals_of};
+ghost use Rattle.frz_arena.specs.Plies.{WinsWithin, FailsWithin};
+
+/// The arena of a game is lawful where no value is good for one side and not bad for the other.
+pub fn games_are_lawful<P, M, V>()
+    ensures { (game : Game P M V) →
+        ((v : V) (side : Colour) → game.class v side ≡ Good → game.class v (other_of side) ≡ Bad) →
+        IsLawful (arena_of game) }
+{}
+
+/// A win of the restricted game is forced in chess, to its goals; where the exits are true, to mate,
+/// and within its plies where each value by which the side wins has a number.
+pub fn wins_are_forced<P, M, V>()
+    ensures goals { (game : Game P M V) (side : Colour) (n : ℕ) (p : P) →
+        WinsWithin (arena_of game) side n p → Forces game.chess (goals_of game side) side n p }
+    ensures mates { (game : Game P M V) → TrueExits game → (side : Colour) (n : ℕ) (p : P) →
+        WinsWithin (arena_of game) side n p → (k : ℕ) × ForcesMate game.chess side k p }
+    ensures within { (game : Game P M V) → TrueExits game → (side : Colour) → AllNumbered game side →
+        (n : ℕ) (p : P) → WinsWithin (arena_of game) side n p → ForcesMate game.chess side n p }
+{}
+
+/// Both sides never force mate.
+pub fn one_mate<P, M>()
+    ensures { (chess : Chess P M) (side : Colour) (n m : ℕ) (p : P) →
+        ForcesMate chess side n p → ForcesMate chess (other_of side) m p → ⊥ }
+{}
+
+/// Where the exits are true, the opponent forces mate only where the side fails.
+pub fn holds_are_safe<P, M, V>()
+    ensures forced { (game : Game P M V) → TrueExits game → (side : Colour) (n : ℕ) (p : P) →
+        game.member p ≡ true → ForcesMate game.chess (other_of side) n p →
+        FailsWithin (arena_of game) side n p }
+    ensures safe { (game : Game P M V) → TrueExits game → (side : Colour) (p : P) → game.member p ≡ true →
+        ((n : ℕ) → FailsWithin (arena_of game) side n p → ⊥) →
+        NeverForcesMate game.chess (other_of side) p }
+{}
