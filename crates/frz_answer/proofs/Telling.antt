@@ -1,0 +1,26 @@
+-- What optional bytes and files do where nothing, or one thing after the other, is put to them.
+use Rattle.std.proofs.Common.{◌≡◌, refl, ap, ℕ, List, [], ◌++◌, take, drop, Option, Some, None, rules, append_assoc}
+use Rattle.std.specs.Option.{option_map, unwrap_or}
+use Rattle.std.specs.Io.KnownBytes.{append_known}
+
+pub unwrap_same : {A : Type 0} (o : Option A) (d : A) → o ≡ option_map (λ _. unwrap_or o d) o
+unwrap_same None d = refl
+unwrap_same (Some x) d = refl
+
+pub drop_none : (o : Option (List ℕ)) → o ≡ option_map (drop 0) o
+drop_none None = refl
+drop_none (Some x) = refl
+
+pub append_nothing : (o : Option (List ℕ)) → o ≡ append_known o []
+append_nothing None = refl
+append_nothing (Some x) = ap Some (search rules)
+
+pub append_twice : (o : Option (List ℕ)) (x y : List ℕ) → append_known (append_known o x) y ≡ append_known o (x ++ y)
+append_twice None x y = refl
+append_twice (Some t) x y = ap Some (append_assoc t x y)
+
+pub with_line : (o : Option (List ℕ)) (x y : List ℕ) → x ≡ y → append_known o x ≡ append_known o y
+with_line o x y e = ap (append_known o) e
+
+pub with_start : (o : Option (List ℕ)) (k : ℕ) (x y : List ℕ) → x ≡ y → append_known o (take k x) ≡ append_known o (take k y)
+with_start o k x y e = ap (λ (l : List ℕ). append_known o (take k l)) e

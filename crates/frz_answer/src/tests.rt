@@ -1,0 +1,55 @@
+//! What the sink takes at each end, over a sink in memory.
+use crate::{End, finish, say};
+use frz_store::{Fail, FailOn, MemSink};
+use std::alloc::Global;
+use std::test::Fail as TestFail;
+
+fn sink(alloc: Global, room: usize) -> Result<MemSink, TestFail> {
+    Ok(MemSink::new(alloc, room, Vec::new(alloc)).or(Err("sink"))?)
+}
+
+#[test]
+fn a_line_names_the_fault(rt: HostRuntime) -> Result<(), TestFail> {
+    let mut out = sink(rt.alloc(), 40)?;
+    assert_eq!(rt; finish(End::StoreFault, &mut out), 8);
+    assert_eq!(rt; finish(End::SourceFault, &mut out), 10);
+    assert_eq!(rt; finish(End::NoMemory, &mut out), 11);
+    assert_eq!(rt;
+        out.taken(),
+        b"store fault\ninput fault\nno memory\n".as_slice()
+    );
+    Ok(())
+}
+
+#[test]
+fn a_status_of_its_own_needs_no_line(rt: HostRuntime) -> Result<(), TestFail> {
+    let mut out = sink(rt.alloc(), 20)?;
+    let end = say(7, b"outside\n", &mut out);
+    assert_eq!(rt; finish(end, &mut out), 7);
+    assert_eq!(rt; out.taken(), b"outside\n".as_slice());
+    Ok(())
+}
+
+#[test]
+fn a_full_sink_takes_a_part(rt: HostRuntime) -> Result<(), TestFail> {
+    let mut out = sink(rt.alloc(), 3)?;
+    assert_eq!(rt; finish(End::NoMemory, &mut out), 9);
+    assert_eq!(rt; out.taken(), b"no ".as_slice());
+    Ok(())
+}
+
+#[test]
+fn a_failed_write_ends_the_command(rt: HostRuntime) -> Result<(), TestFail> {
+    let alloc = rt.alloc();
+    let mut fails = Vec::new(alloc);
+    fails.push(Fail {
+        on: FailOn::Call,
+        nth: 1,
+        keep: 0,
+    })?;
+    let mut out = MemSink::new(alloc, 20, fails).or(Err("sink"))?;
+    let end = say(0, b"mate\n", &mut out);
+    assert_eq!(rt; finish(end, &mut out), 9);
+    assert_eq!(rt; out.taken(), b"".as_slice());
+    Ok(())
+}
