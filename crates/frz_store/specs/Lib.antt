@@ -1,3 +1,6 @@
 pub mod Outside
 pub mod Files
 pub mod Shelf
+pub mod Fails
+pub mod MemStore
+pub mod MemStreams

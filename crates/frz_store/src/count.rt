@@ -32,6 +32,13 @@ impl Count {
         self.value
     }
 
+    /// One more than the count, up to its greatest value.
+    pub fn next(&self) -> u64
+        ensures { result ≡ min (self.now + 1) (2 ^ 64 - 1) }
+    {
+        self.value.saturating_add(1)
+    }
+
     pub fn add(&mut self, amount: u64)
         ensures sum { self.new ≡ min (self.old + amount) (2 ^ 64 - 1) }
         ensures grows { self.old ≤ self.new }

@@ -1,7 +1,9 @@
 //! The calls that an object in memory is told to fail.
 ghost use Rattle.std.specs.Prelude.{◌≡◌};
+ghost use Rattle.frz_store.specs.Fails.{counts, next_number, names, due_of, after, new_plan};
 
 use crate::count::Count;
+use std::marker::Model;
 
 /// Which calls an entry counts: all calls of the object, or those of one name on a store.
 #[derive(Clone, Copy, Debug, PartialEq, Eq, Drop)]
@@ -24,7 +26,7 @@ pub struct Fail {
 
 /// The calls that are to fail, and how many calls of each name there were.
 #[derive(Drop)]
-pub struct Plan {
+pub struct FailPlan {
     fails: Vec<Fail>,
     calls: Count,
     sizes: Count,
@@ -33,9 +35,19 @@ pub struct Plan {
     appends: Count,
 }
 
-impl Plan {
-    pub fn new(fails: Vec<Fail>) -> Plan {
-        Plan {
+impl Model for FailPlan {
+    ghost use Rattle.frz_store.specs.Fails.{Plan};
+
+    ghost Value = { Plan };
+
+    ghost view = { λ plan. record { fails = plan.fails.items; calls = plan.calls; sizes = plan.sizes; reads = plan.reads; creates = plan.creates; appends = plan.appends } };
+}
+
+impl FailPlan {
+    pub fn new(fails: Vec<Fail>) -> FailPlan
+        ensures { result ≡ new_plan fails.items }
+    {
+        FailPlan {
             fails,
             calls: Count::new(),
             sizes: Count::new(),
@@ -45,40 +57,62 @@ impl Plan {
         }
     }
 
-    /// Counts a call. Where it is to fail, how many bytes are kept: the first entry that names the
-    /// call says.
-    pub fn next(&mut self, on: FailOn) -> Option<u64> {
-        self.calls.add(1);
-        let all = self.calls.get();
-        let own = self.count(on);
-        for fail in &self.fails {
-            if fail.names(on, all, own) {
-                return Some(fail.keep);
-            }
-        }
-        None
+    /// Counts a call. Where it is to fail, how many bytes are kept.
+    pub fn next(&mut self, on: FailOn) -> Option<u64>
+        ensures due { result ≡ due_of self.old on }
+        ensures after { self.new ≡ after self.old on }
+    {
+        let due = self.due(on);
+        self.count(on);
+        due
     }
 
-    /// Counts a call under its name, and answers which call of the name it is.
-    fn count(&mut self, on: FailOn) -> u64 {
-        let count = match on {
-            FailOn::Call => return self.calls.get(),
-            FailOn::Size => &mut self.sizes,
-            FailOn::Read => &mut self.reads,
-            FailOn::Create => &mut self.creates,
-            FailOn::Append => &mut self.appends,
-        };
-        count.add(1);
-        count.get()
+    fn due(&self, on: FailOn) -> Option<u64>
+        ensures { result ≡ due_of self.now on }
+    {
+        self.fails
+            .iter()
+            .find(|fail| self.names(on, fail))
+            .map(|fail| fail.keep)
+    }
+
+    fn names(&self, on: FailOn, fail: &Fail) -> bool
+        ensures { result ≡ names self.now on fail.now }
+    {
+        fail.on.counts(on) && fail.nth == self.next_number(fail.on)
+    }
+
+    fn next_number(&self, on: FailOn) -> u64
+        ensures { result ≡ next_number self.now on }
+    {
+        match on {
+            FailOn::Call => self.calls.next(),
+            FailOn::Size => self.sizes.next(),
+            FailOn::Read => self.reads.next(),
+            FailOn::Create => self.creates.next(),
+            FailOn::Append => self.appends.next(),
+        }
+    }
+
+    fn count(&mut self, on: FailOn)
+        ensures { self.new ≡ after self.old on }
+    {
+        self.calls.add(1);
+        match on {
+            FailOn::Call => {}
+            FailOn::Size => self.sizes.add(1),
+            FailOn::Read => self.reads.add(1),
+            FailOn::Create => self.creates.add(1),
+            FailOn::Append => self.appends.add(1),
+        }
     }
 }
 
-impl Fail {
-    /// Whether this entry names the `all`th call of an object, which is the `own`th of its name.
-    fn names(&self, on: FailOn, all: u64, own: u64) -> bool {
-        match self.on {
-            FailOn::Call => self.nth == all,
-            name => name == on && self.nth == own,
-        }
+impl FailOn {
+    /// Whether an entry on this name counts the calls of the other.
+    fn counts(self, name: FailOn) -> bool
+        ensures { result ≡ counts self name }
+    {
+        self == FailOn::Call || self == name
     }
 }

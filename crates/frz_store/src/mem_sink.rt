@@ -1,9 +1,13 @@
 //! A sink in memory whose calls can be told to fail.
-ghost use Rattle.std.specs.Prelude.{◌≡◌, ◌+◌, ◌≤◌, ◌++◌, ℕ, List, [], length, take, Some, IfOk};
+ghost use Rattle.std.specs.Prelude.{◌≡◌, ◌+◌, ◌-◌, ◌≤◌, ◌++◌, ℕ, List, [], length, take, Some, is_err, IfOk, OnOk, OnErr};
+ghost use Rattle.std.specs.Io.KnownBytes.{append_known};
 ghost use Rattle.std.specs.Result.{IsErrOf};
+ghost use Rattle.frz_store.specs.Fails.{new_plan, after, kept};
+ghost use Rattle.frz_store.specs.MemStreams.{sink_plan, sink_room, refuses, taken_of};
+ghost use Rattle.frz_store.specs.Outside.{HasCause};
 
 use crate::count::Count;
-use crate::fails::{Fail, FailOn, Plan};
+use crate::fails::{Fail, FailOn, FailPlan};
 use crate::reserved::{Reserved, front};
 use crate::{Failed, Sink, StoreFault};
 use std::alloc::Global;
@@ -13,7 +17,7 @@ use std::alloc::Global;
 #[derive(Drop)]
 pub struct MemSink {
     held: Reserved,
-    plan: Plan,
+    plan: FailPlan,
     faults: Count,
 }
 
@@ -22,12 +26,14 @@ impl MemSink {
     pub fn new(alloc: Global, room: usize, fails: Vec<Fail>) -> Result<MemSink, StoreFault>
         ensures taken { IfOk result (λ sink. ⟦<MemSink as Sink>⟧.taken sink ≡ Some []) }
         ensures faults { IfOk result (λ sink. ⟦<MemSink as Sink>⟧.faults sink ≡ 0) }
+        ensures room { IfOk result (λ sink. sink_room sink ≡ room) }
+        ensures plan { IfOk result (λ sink. sink_plan sink ≡ new_plan fails.items) }
         ensures never_failed { IsErrOf result StoreFault.Failed → ⊥ }
     {
         match Reserved::with_room(alloc, room) {
             Ok(held) => Ok(MemSink {
                 held,
-                plan: Plan::new(fails),
+                plan: FailPlan::new(fails),
                 faults: Count::new(),
             }),
             Err(_) => Err(StoreFault::NoMemory),
@@ -47,17 +53,25 @@ impl Sink for MemSink {
 
     ghost faults = { λ sink. sink.faults };
 
-    fn write(&mut self, piece: &[u8]) -> Result<(), Failed> {
-        let keep = match self.plan.next(FailOn::Call) {
-            Some(keep) => keep,
-            None if piece.len() <= self.held.room => {
-                self.held.append(piece);
-                return Ok(());
-            }
-            None => u64::MAX,
+    fn write(&mut self, piece: &[u8]) -> Result<(), Failed>
+        ensures failed { is_err result ≡ refuses self.old piece.now }
+        ensures taken { ⟦<MemSink as Sink>⟧.taken self.new ≡ append_known (⟦<MemSink as Sink>⟧.taken self.old) (taken_of self.old piece.now) }
+        ensures room { sink_room self.new ≡ sink_room self.old - length (taken_of self.old piece.now) }
+        ensures plan { sink_plan self.new ≡ after (sink_plan self.old) FailOn.Call }
+        ensures whole { OnOk result (taken_of self.old piece.now ≡ piece.now) }
+        ensures prefix { (k : ℕ) × (taken_of self.old piece.now ≡ take k piece.now) }
+        ensures cause { HasCause (⟦<MemSink as Sink>⟧.faults self.old) (⟦<MemSink as Sink>⟧.faults self.new) result }
+    {
+        let due = self.plan.next(FailOn::Call);
+        let kept = match due {
+            Some(keep) => front(piece, keep),
+            None => piece,
         };
-        let room = self.held.room as u64;
-        self.held.append(front(piece, keep.min(room)));
+        let fitting = front(kept, self.held.room as u64);
+        self.held.append(fitting);
+        if due.is_none() && fitting.len() == piece.len() {
+            return Ok(());
+        }
         self.faults.add(1);
         Err(Failed)
     }

@@ -1,12 +1,15 @@
 //! A store in memory whose calls can be told to fail.
-ghost use Rattle.std.specs.Prelude.{◌≡◌, ◌+◌, ◌≤◌, ℕ, List, [], length, take, drop, Some, None, IfSome, OnOk, OnErr};
+ghost use Rattle.std.specs.Prelude.{◌≡◌, ◌+◌, ◌-◌, ◌≤◌, ◌↔◌, ℕ, List, [], length, take, drop, Some, None, Ok, Err, is_err, if◌then◌else◌, IfSome, IsTrue, IsErr, OnOk, OnErr};
 ghost use Rattle.std.specs.Option.{option_copied, option_map};
 ghost use Rattle.std.specs.Result.{IsErrOf};
-ghost use Rattle.frz_store.specs.Files.{no_files, put};
+ghost use Rattle.frz_store.specs.Fails.{new_plan, kept};
+ghost use Rattle.frz_store.specs.Files.{no_files, put, grown, Covers};
+ghost use Rattle.frz_store.specs.MemStore.{files, last, room, plan, due, fails_next, called, asked_for, IsCalled};
+ghost use Rattle.frz_store.specs.Outside.{StoreCauses, FreeCauses, HasCause};
 ghost use Rattle.frz_store.specs.Shelf.{files_of, last_of, room_of};
 
 use crate::count::Count;
-use crate::fails::{Fail, FailOn, Plan};
+use crate::fails::{Fail, FailOn, FailPlan};
 use crate::shelf::Shelf;
 use crate::{Failed, Store, StoreFault};
 use std::alloc::Global;
@@ -17,7 +20,7 @@ use std::alloc::Global;
 pub struct MemStore {
     alloc: Global,
     shelf: Shelf,
-    plan: Plan,
+    plan: FailPlan,
     faults: Count,
     asked: Count,
 }
@@ -31,11 +34,12 @@ impl MemStore {
         ensures wants { ⟦<MemStore as Store>⟧.wants result ≡ 0 }
         ensures asked { ⟦<MemStore as Store>⟧.asked result ≡ 0 }
         ensures room { ⟦<MemStore as Store>⟧.room result ≡ 0 }
+        ensures plan { plan result ≡ new_plan fails.items }
     {
         MemStore {
             alloc,
             shelf: Shelf::new(alloc),
-            plan: Plan::new(fails),
+            plan: FailPlan::new(fails),
             faults: Count::new(),
             asked: Count::new(),
         }
@@ -66,6 +70,7 @@ impl MemStore {
         ensures wants { ⟦<MemStore as Store>⟧.wants self.new ≡ ⟦<MemStore as Store>⟧.wants self.old }
         ensures asked { ⟦<MemStore as Store>⟧.asked self.new ≡ ⟦<MemStore as Store>⟧.asked self.old }
         ensures room { ⟦<MemStore as Store>⟧.room self.new ≡ ⟦<MemStore as Store>⟧.room self.old }
+        ensures plan { plan self.new ≡ plan self.old }
     {
         match self.shelf.put(self.alloc, name, bytes) {
             Ok(()) => Ok(()),
@@ -87,7 +92,11 @@ impl Store for MemStore {
 
     ghost room = { λ store. room_of store.shelf };
 
-    fn size(&mut self, name: &str) -> Result<Option<u64>, StoreFault> {
+    fn size(&mut self, name: &str) -> Result<Option<u64>, StoreFault>
+        ensures result { result ≡ if fails_next self.old FailOn.Size then Err StoreFault.Failed else Ok (option_map length (files self.old name.now)) }
+        ensures store { self.new ≡ called self.old FailOn.Size }
+        ensures causes { StoreCauses self.old.faults self.new.faults 0 0 result }
+    {
         if self.plan.next(FailOn::Size).is_some() {
             self.faults.add(1);
             return Err(StoreFault::Failed);
@@ -95,7 +104,14 @@ impl Store for MemStore {
         Ok(self.shelf.size(name))
     }
 
-    fn read(&mut self, name: &str, at: u64, into: &mut [u8]) -> Result<(), StoreFault> {
+    fn read(&mut self, name: &str, at: u64, into: &mut [u8]) -> Result<(), StoreFault>
+        requires { Covers at (length into.old) name.now (files self.old) }
+        ensures result { result ≡ if fails_next self.old FailOn.Read then Err StoreFault.Failed else Ok tt }
+        ensures bytes { OnOk result (IfSome (files self.old name.now) (λ bytes. into.new ≡ take (length into.old) (drop at bytes))) }
+        ensures store { self.new ≡ asked_for (called self.old FailOn.Read) (length into.old) }
+        ensures grows { self.old.asked ≤ self.new.asked }
+        ensures causes { StoreCauses self.old.faults self.new.faults 0 0 result }
+    {
         self.asked.add(into.len() as u64);
         if self.plan.next(FailOn::Read).is_some() {
             self.faults.add(1);
@@ -105,7 +121,18 @@ impl Store for MemStore {
         Ok(())
     }
 
-    fn create(&mut self, name: &str, due: u64) -> Result<(), StoreFault> {
+    fn create(&mut self, name: &str, due: u64) -> Result<(), StoreFault>
+        ensures failed { IsErrOf result StoreFault.Failed ↔ IsTrue (fails_next self.old FailOn.Create) }
+        ensures files { OnOk result (files self.new ≡ put (files self.old) name.now []) }
+        ensures last { OnOk result (last self.new ≡ Some name.now) }
+        ensures room { OnOk result (room self.new ≡ due) }
+        ensures err_files { OnErr result (files self.new ≡ files self.old) }
+        ensures err_last { OnErr result (last self.new ≡ last self.old) }
+        ensures failed_room { IsErrOf result StoreFault.Failed → room self.new ≡ 0 }
+        ensures no_memory_room { IsErrOf result StoreFault.NoMemory → room self.new ≡ room self.old }
+        ensures store { IsCalled self.old FailOn.Create self.new }
+        ensures causes { FreeCauses self.old.faults self.new.faults 0 0 result }
+    {
         if self.plan.next(FailOn::Create).is_some() {
             self.faults.add(1);
             self.shelf.close();
@@ -117,7 +144,16 @@ impl Store for MemStore {
         }
     }
 
-    fn append(&mut self, piece: &[u8]) -> Result<(), Failed> {
+    fn append(&mut self, piece: &[u8]) -> Result<(), Failed>
+        requires { length piece.now ≤ room self.old }
+        ensures failed { is_err result ≡ fails_next self.old FailOn.Append }
+        ensures files { files self.new ≡ grown (last self.old) (kept (due self.old FailOn.Append) piece.now) (files self.old) }
+        ensures empty { length piece.now ≡ 0 → files self.new ≡ files self.old }
+        ensures last { last self.new ≡ last self.old }
+        ensures room { room self.new ≡ room self.old - length piece.now }
+        ensures store { IsCalled self.old FailOn.Append self.new }
+        ensures cause { HasCause self.old.faults self.new.faults result }
+    {
         if let Some(keep) = self.plan.next(FailOn::Append) {
             self.faults.add(1);
             self.shelf.append_front(piece, keep);

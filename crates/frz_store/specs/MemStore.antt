@@ -1,0 +1,45 @@
+-- A store in memory, and what a call makes of it.
+use Rattle.std.specs.Prelude.{◌≡◌, ℕ, ◌+◌, ◌-◌, ◌^◌, min, Bool, List, Option, is_some, if◌then◌else◌}
+use Rattle.frz_store.specs.Fails.{Plan, counted, due_of, after}
+use Rattle.frz_store.specs.Files.{Files}
+use Rattle.frz_store.specs.Shelf.{files_of, last_of, room_of}
+use Rattle.frz_store.specs.declared.fails.FailOn.{FailOn}
+use Rattle.frz_store.specs.declared.mem_store.MemStore.{MemStore}
+
+-- what each name holds
+abbrev pub files : MemStore → Files
+files store = files_of store.shelf
+
+-- the name that was created last
+abbrev pub last : MemStore → Option (List ℕ)
+last store = last_of store.shelf
+
+-- how many bytes may still be appended
+abbrev pub room : MemStore → ℕ
+room store = room_of store.shelf
+
+-- the calls that are to fail
+abbrev pub plan : MemStore → Plan
+plan store = store.plan
+
+-- how many bytes the next call of this name keeps, where it is to fail
+abbrev pub due : MemStore → FailOn → Option ℕ
+due store on = due_of store.plan on
+
+-- whether the next call of this name is to fail
+abbrev pub fails_next : MemStore → FailOn → Bool
+fails_next store on = is_some (due store on)
+
+-- the store after a call of this name is counted, and its fault where it fails
+abbrev pub called : MemStore → FailOn → MemStore
+called store on = record store
+  { plan = after store.plan on
+  ; faults = if fails_next store on then counted store.faults else store.faults }
+
+-- the store after the bytes of a read are counted
+abbrev pub asked_for : MemStore → ℕ → MemStore
+asked_for store count = record store { asked = min (store.asked + count) (2 ^ 64 - 1) }
+
+-- a call of this name was counted, and nothing else but the files is new
+abbrev pub IsCalled : MemStore → FailOn → MemStore → Type 0
+IsCalled store on new = new ≡ record (called store on) { shelf = new.shelf }
