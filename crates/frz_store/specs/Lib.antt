@@ -3,4 +3,5 @@ pub mod Files
 pub mod Shelf
 pub mod Fails
 pub mod MemStore
-pub mod MemStreams
+pub mod MemSource
+pub mod MemSink

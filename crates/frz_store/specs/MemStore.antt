@@ -18,6 +18,13 @@ last store = last_of store.shelf
 abbrev pub room : MemStore → ℕ
 room store = room_of store.shelf
 
+-- the bytes that all reads asked for
+abbrev pub asked : MemStore → ℕ
+asked store = store.asked
+
+abbrev pub faults : MemStore → ℕ
+faults store = store.faults
+
 -- the calls that are to fail
 abbrev pub plan : MemStore → Plan
 plan store = store.plan

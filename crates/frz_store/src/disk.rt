@@ -3,9 +3,9 @@ ghost use Rattle.std.specs.Prelude.{None};
 
 use crate::count::Count;
 use crate::{Failed, Store, StoreFault};
-use std::fs;
-use std::fs::{Files, Metadata};
-use std::io::{ErrorKind, Read, Seek, SeekFrom, Write};
+use std::fs::{Files, OpenFile};
+use std::io::{Error, ErrorKind, Read, Seek, SeekFrom, Write};
+use std::{fs, io};
 
 /// Files by path.
 #[derive(Drop)]
@@ -29,17 +29,24 @@ impl<R: Files + Drop> DiskStore<R> {
     }
 }
 
-fn read_at<R: Files>(rt: &R, name: &str, at: u64, into: &mut [u8]) -> Result<(), Failed> {
-    let Ok(mut file) = fs::open(rt, name) else {
-        return Err(Failed);
+/// How many bytes a file holds, and None where there is none. A folder holds none to read.
+fn size_of<R: Files>(rt: &R, name: &str) -> io::Result<Option<u64>> {
+    let file = match fs::open(rt, name) {
+        Ok(file) => file,
+        Err(e) if e.kind() == ErrorKind::NotFound => return Ok(None),
+        Err(e) => return Err(e),
     };
-    if file.seek(SeekFrom::Start(at)).is_err() {
-        return Err(Failed);
+    let about = file.metadata()?;
+    if about.is_dir() {
+        return Err(Error::from(ErrorKind::IsADirectory));
     }
-    match file.read_exact(into) {
-        Ok(()) => Ok(()),
-        Err(_) => Err(Failed),
-    }
+    Ok(Some(about.len()))
+}
+
+fn read_at<R: Files>(rt: &R, name: &str, at: u64, into: &mut [u8]) -> io::Result<()> {
+    let mut file = fs::open(rt, name)?;
+    file.seek(SeekFrom::Start(at))?;
+    file.read_exact(into)
 }
 
 impl<R: Files + Drop> Store for DiskStore<R> {
@@ -56,9 +63,8 @@ impl<R: Files + Drop> Store for DiskStore<R> {
     ghost room = { λ store. store.room };
 
     fn size(&mut self, name: &str) -> Result<Option<u64>, StoreFault> {
-        match fs::metadata(&self.rt, name) {
-            Ok(about) => Ok(Some(about.len())),
-            Err(e) if e.kind() == ErrorKind::NotFound => Ok(None),
+        match size_of(&self.rt, name) {
+            Ok(size) => Ok(size),
             Err(_) => {
                 self.faults.add(1);
                 Err(StoreFault::Failed)
@@ -94,6 +100,9 @@ impl<R: Files + Drop> Store for DiskStore<R> {
 
     fn append(&mut self, piece: &[u8]) -> Result<(), Failed> {
         self.room -= piece.len() as u64;
+        if piece.is_empty() {
+            return Ok(());
+        }
         if let Some(file) = &mut self.newest
             && file.write_all(piece).is_ok()
         {

@@ -1,9 +1,8 @@
 //! A sink in memory whose calls can be told to fail.
-ghost use Rattle.std.specs.Prelude.{◌≡◌, ◌+◌, ◌-◌, ◌≤◌, ◌++◌, ℕ, List, [], length, take, Some, is_err, IfOk, OnOk, OnErr};
-ghost use Rattle.std.specs.Io.KnownBytes.{append_known};
+ghost use Rattle.std.specs.Prelude.{◌≡◌, ◌+◌, ◌-◌, ◌≤◌, ◌++◌, ℕ, List, [], length, take, Some, is_err, IfOk, OnOk};
 ghost use Rattle.std.specs.Result.{IsErrOf};
-ghost use Rattle.frz_store.specs.Fails.{new_plan, after, kept};
-ghost use Rattle.frz_store.specs.MemStreams.{sink_plan, sink_room, refuses, taken_of};
+ghost use Rattle.frz_store.specs.Fails.{new_plan, after};
+ghost use Rattle.frz_store.specs.MemSink.{taken, room_left, faults, plan, refuses, taken_of, faults_after};
 ghost use Rattle.frz_store.specs.Outside.{HasCause};
 
 use crate::count::Count;
@@ -26,8 +25,8 @@ impl MemSink {
     pub fn new(alloc: Global, room: usize, fails: Vec<Fail>) -> Result<MemSink, StoreFault>
         ensures taken { IfOk result (λ sink. ⟦<MemSink as Sink>⟧.taken sink ≡ Some []) }
         ensures faults { IfOk result (λ sink. ⟦<MemSink as Sink>⟧.faults sink ≡ 0) }
-        ensures room { IfOk result (λ sink. sink_room sink ≡ room) }
-        ensures plan { IfOk result (λ sink. sink_plan sink ≡ new_plan fails.items) }
+        ensures room { IfOk result (λ sink. room_left sink ≡ room) }
+        ensures plan { IfOk result (λ sink. plan sink ≡ new_plan fails.items) }
         ensures never_failed { IsErrOf result StoreFault.Failed → ⊥ }
     {
         match Reserved::with_room(alloc, room) {
@@ -55,12 +54,13 @@ impl Sink for MemSink {
 
     fn write(&mut self, piece: &[u8]) -> Result<(), Failed>
         ensures failed { is_err result ≡ refuses self.old piece.now }
-        ensures taken { ⟦<MemSink as Sink>⟧.taken self.new ≡ append_known (⟦<MemSink as Sink>⟧.taken self.old) (taken_of self.old piece.now) }
-        ensures room { sink_room self.new ≡ sink_room self.old - length (taken_of self.old piece.now) }
-        ensures plan { sink_plan self.new ≡ after (sink_plan self.old) FailOn.Call }
+        ensures taken { taken self.new ≡ taken self.old ++ taken_of self.old piece.now }
         ensures whole { OnOk result (taken_of self.old piece.now ≡ piece.now) }
         ensures prefix { (k : ℕ) × (taken_of self.old piece.now ≡ take k piece.now) }
-        ensures cause { HasCause (⟦<MemSink as Sink>⟧.faults self.old) (⟦<MemSink as Sink>⟧.faults self.new) result }
+        ensures room { room_left self.new ≡ room_left self.old - length (taken_of self.old piece.now) }
+        ensures plan { plan self.new ≡ after (plan self.old) FailOn.Call }
+        ensures faults { faults self.new ≡ faults_after self.old piece.now }
+        ensures cause { HasCause (faults self.old) (faults self.new) result }
     {
         let due = self.plan.next(FailOn::Call);
         let kept = match due {

@@ -1,9 +1,8 @@
 //! A source in memory whose calls can be told to fail.
-ghost use Rattle.std.specs.Prelude.{◌≡◌, ◌<◌, ◌↔◌, ℕ, List, Some, IsErr, IsSome, IfOk, IfSome, OnErr, ◌≤◌, length, drop};
-ghost use Rattle.std.specs.Option.{option_map};
+ghost use Rattle.std.specs.Prelude.{◌≡◌, ◌<◌, ◌≤◌, min, ℕ, List, Some, is_err, IfOk, OnErr, length};
+ghost use Rattle.frz_store.specs.Fails.{new_plan};
+ghost use Rattle.frz_store.specs.MemSource.{left, faults, plan, fails_next, called, without_front};
 ghost use Rattle.frz_store.specs.Outside.{Took, HasCause};
-ghost use Rattle.frz_store.specs.Fails.{due_of, after, new_plan};
-ghost use Rattle.frz_store.specs.MemStreams.{source_plan};
 
 use crate::count::Count;
 use crate::fails::{Fail, FailOn, FailPlan};
@@ -22,7 +21,7 @@ impl MemSource {
     pub fn new(bytes: Vec<u8>, fails: Vec<Fail>) -> MemSource
         ensures left { ⟦<MemSource as Source>⟧.left result ≡ Some bytes.items }
         ensures faults { ⟦<MemSource as Source>⟧.faults result ≡ 0 }
-        ensures plan { source_plan result ≡ new_plan fails.items }
+        ensures plan { plan result ≡ new_plan fails.items }
     {
         MemSource {
             remaining: Remaining::new(bytes),
@@ -46,13 +45,12 @@ impl Source for MemSource {
 
     fn read(&mut self, into: &mut [u8]) -> Result<usize, Failed>
         requires { 0 < length into.old }
-        ensures fails { IsErr result ↔ IsSome (due_of (source_plan self.old) FailOn.Call) }
-        ensures plan { source_plan self.new ≡ after (source_plan self.old) FailOn.Call }
-        ensures count { IfOk result (λ n. n ≤ length into.new) }
-        ensures took { IfOk result (λ n. IfSome (⟦<MemSource as Source>⟧.left self.old) (Took into.new n)) }
-        ensures rest { IfOk result (λ n. ⟦<MemSource as Source>⟧.left self.new ≡ option_map (drop n) (⟦<MemSource as Source>⟧.left self.old)) }
-        ensures failed { OnErr result (⟦<MemSource as Source>⟧.left self.new ≡ ⟦<MemSource as Source>⟧.left self.old) }
-        ensures cause { HasCause (⟦<MemSource as Source>⟧.faults self.old) (⟦<MemSource as Source>⟧.faults self.new) result }
+        ensures failed { is_err result ≡ fails_next self.old }
+        ensures count { IfOk result (λ n. n ≡ min (length into.old) (length (left self.old))) }
+        ensures took { IfOk result (λ n. Took into.new n (left self.old)) }
+        ensures source { IfOk result (λ n. self.new ≡ without_front (called self.old) n) }
+        ensures source_at_failure { OnErr result (self.new ≡ called self.old) }
+        ensures cause { HasCause (faults self.old) (faults self.new) result }
     {
         if self.plan.next(FailOn::Call).is_some() {
             self.faults.add(1);

@@ -4,7 +4,7 @@ ghost use Rattle.std.specs.Option.{option_copied, option_map};
 ghost use Rattle.std.specs.Result.{IsErrOf};
 ghost use Rattle.frz_store.specs.Fails.{new_plan, kept};
 ghost use Rattle.frz_store.specs.Files.{no_files, put, grown, Covers};
-ghost use Rattle.frz_store.specs.MemStore.{files, last, room, plan, due, fails_next, called, asked_for, IsCalled};
+ghost use Rattle.frz_store.specs.MemStore.{files, last, room, asked, faults, plan, due, fails_next, called, asked_for, IsCalled};
 ghost use Rattle.frz_store.specs.Outside.{StoreCauses, FreeCauses, HasCause};
 ghost use Rattle.frz_store.specs.Shelf.{files_of, last_of, room_of};
 
@@ -95,7 +95,7 @@ impl Store for MemStore {
     fn size(&mut self, name: &str) -> Result<Option<u64>, StoreFault>
         ensures result { result ≡ if fails_next self.old FailOn.Size then Err StoreFault.Failed else Ok (option_map length (files self.old name.now)) }
         ensures store { self.new ≡ called self.old FailOn.Size }
-        ensures causes { StoreCauses self.old.faults self.new.faults 0 0 result }
+        ensures causes { StoreCauses (faults self.old) (faults self.new) 0 0 result }
     {
         if self.plan.next(FailOn::Size).is_some() {
             self.faults.add(1);
@@ -109,8 +109,8 @@ impl Store for MemStore {
         ensures result { result ≡ if fails_next self.old FailOn.Read then Err StoreFault.Failed else Ok tt }
         ensures bytes { OnOk result (IfSome (files self.old name.now) (λ bytes. into.new ≡ take (length into.old) (drop at bytes))) }
         ensures store { self.new ≡ asked_for (called self.old FailOn.Read) (length into.old) }
-        ensures grows { self.old.asked ≤ self.new.asked }
-        ensures causes { StoreCauses self.old.faults self.new.faults 0 0 result }
+        ensures asked_grows { asked self.old ≤ asked self.new }
+        ensures causes { StoreCauses (faults self.old) (faults self.new) 0 0 result }
     {
         self.asked.add(into.len() as u64);
         if self.plan.next(FailOn::Read).is_some() {
@@ -131,7 +131,7 @@ impl Store for MemStore {
         ensures failed_room { IsErrOf result StoreFault.Failed → room self.new ≡ 0 }
         ensures no_memory_room { IsErrOf result StoreFault.NoMemory → room self.new ≡ room self.old }
         ensures store { IsCalled self.old FailOn.Create self.new }
-        ensures causes { FreeCauses self.old.faults self.new.faults 0 0 result }
+        ensures causes { FreeCauses (faults self.old) (faults self.new) 0 0 result }
     {
         if self.plan.next(FailOn::Create).is_some() {
             self.faults.add(1);
@@ -152,7 +152,7 @@ impl Store for MemStore {
         ensures last { last self.new ≡ last self.old }
         ensures room { room self.new ≡ room self.old - length piece.now }
         ensures store { IsCalled self.old FailOn.Append self.new }
-        ensures cause { HasCause self.old.faults self.new.faults result }
+        ensures cause { HasCause (faults self.old) (faults self.new) result }
     {
         if let Some(keep) = self.plan.next(FailOn::Append) {
             self.faults.add(1);
