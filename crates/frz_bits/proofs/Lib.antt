@@ -1,0 +1,6 @@
+pub mod Bits
+pub mod Tables
+pub mod Next
+pub mod Gather
+pub mod Men
+pub mod Put

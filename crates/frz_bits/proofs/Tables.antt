@@ -1,0 +1,83 @@
+-- The tables are what the definitions give, by computing.
+use Rattle.std.proofs.Common.{◌≡◌, ℕ, ◌+◌, ◌*◌, ◌/◌, ◌%◌, ◌<◌, List, [], ◌∷◌, length, zero, suc, ◌^◌, map, refl, ap, sym, ◌∙◌, slice_index, arith}
+use Rattle.std.specs.List.{range_with_len}
+use Rattle.std.proofs.lemmas.List.FromFn.{get_or-map-range_with_len}
+use Rattle.frz_board.specs.declared.man.Colour.TheVariants.{White, Black}
+use Rattle.frz_board.specs.Lines.{is_knight_jump, is_king_step, is_rook_line, is_bishop_line, is_between}
+use Rattle.frz_board.specs.Attacks.{pawn_reaches}
+use Rattle.frz_bits.specs.declared.lines.TheConstants.{BETWEEN_LOW, BETWEEN_HIGH}
+use Rattle.frz_bits.specs.declared.reach.TheConstants.{KNIGHT, KING, WHITE_PAWN, BLACK_PAWN, ROOK, BISHOP}
+use Rattle.frz_bits.specs.Words.{word_of}
+
+in_table : (f : ℕ → ℕ) (n : ℕ) (xs : List ℕ) → map f (range_with_len 0 n) ≡ xs → (i : ℕ) → i < n → slice_index xs i ≡ f i
+in_table f n xs e i h = ap (λ ys. slice_index ys i) (sym e) ∙ get_or-map-range_with_len f 0 n i i 0 h (omega arith)
+
+knight_table : map (λ a. word_of (λ b. is_knight_jump a b)) (range_with_len 0 64) ≡ KNIGHT
+unfolding word_of
+knight_table = refl
+
+king_table : map (λ a. word_of (λ b. is_king_step a b)) (range_with_len 0 64) ≡ KING
+unfolding word_of
+king_table = refl
+
+white_pawn_table : map (λ a. word_of (λ b. pawn_reaches White a b)) (range_with_len 0 64) ≡ WHITE_PAWN
+unfolding word_of
+white_pawn_table = refl
+
+black_pawn_table : map (λ a. word_of (λ b. pawn_reaches Black a b)) (range_with_len 0 64) ≡ BLACK_PAWN
+unfolding word_of
+black_pawn_table = refl
+
+rook_table : map (λ a. word_of (λ b. is_rook_line a b)) (range_with_len 0 64) ≡ ROOK
+unfolding word_of
+rook_table = refl
+
+bishop_table : map (λ a. word_of (λ b. is_bishop_line a b)) (range_with_len 0 64) ≡ BISHOP
+unfolding word_of
+bishop_table = refl
+
+-- the words of two lists of halves
+joined : List ℕ → List ℕ → List ℕ
+joined [] ls = []
+joined (h ∷ hs) [] = []
+joined (h ∷ hs) (l ∷ ls) = (h * 2 ^ 32 + l) ∷ joined hs ls
+
+joined_at : (hs ls : List ℕ) (i : ℕ) → length hs ≡ length ls → slice_index (joined hs ls) i ≡ slice_index hs i * 2 ^ 32 + slice_index ls i
+unfolding joined
+joined_at [] [] i e = refl
+joined_at [] (l ∷ ls) i e = cc
+joined_at (h ∷ hs) [] i e = cc
+joined_at (h ∷ hs) (l ∷ ls) zero e = refl
+joined_at (h ∷ hs) (l ∷ ls) (suc i) e = joined_at hs ls i (omega arith)
+
+between_table : map (λ i. word_of (λ s. is_between (i / 64) s (i % 64))) (range_with_len 0 4096) ≡ joined BETWEEN_HIGH BETWEEN_LOW
+unfolding word_of joined
+between_table = refl
+
+pub knight_at : (s : ℕ) → s < 64 → slice_index KNIGHT s ≡ word_of (λ b. is_knight_jump s b)
+knight_at s h = in_table (λ a. word_of (λ b. is_knight_jump a b)) 64 KNIGHT knight_table s h
+
+pub king_at : (s : ℕ) → s < 64 → slice_index KING s ≡ word_of (λ b. is_king_step s b)
+king_at s h = in_table (λ a. word_of (λ b. is_king_step a b)) 64 KING king_table s h
+
+pub white_pawn_at : (s : ℕ) → s < 64 → slice_index WHITE_PAWN s ≡ word_of (λ b. pawn_reaches White s b)
+white_pawn_at s h = in_table (λ a. word_of (λ b. pawn_reaches White a b)) 64 WHITE_PAWN white_pawn_table s h
+
+pub black_pawn_at : (s : ℕ) → s < 64 → slice_index BLACK_PAWN s ≡ word_of (λ b. pawn_reaches Black s b)
+black_pawn_at s h = in_table (λ a. word_of (λ b. pawn_reaches Black a b)) 64 BLACK_PAWN black_pawn_table s h
+
+pub rook_at : (s : ℕ) → s < 64 → slice_index ROOK s ≡ word_of (λ b. is_rook_line s b)
+rook_at s h = in_table (λ a. word_of (λ b. is_rook_line a b)) 64 ROOK rook_table s h
+
+pub bishop_at : (s : ℕ) → s < 64 → slice_index BISHOP s ≡ word_of (λ b. is_bishop_line s b)
+bishop_at s h = in_table (λ a. word_of (λ b. is_bishop_line a b)) 64 BISHOP bishop_table s h
+
+-- the word of two squares stands at 64 times the one and the other
+pub between_at : (a b : ℕ) → a < 64 → b < 64 → slice_index BETWEEN_HIGH (64 * a + b) * 2 ^ 32 + slice_index BETWEEN_LOW (64 * a + b) ≡ word_of (λ s. is_between a s b)
+between_at a b la lb =
+    let i = 64 * a + b in
+    let row : i / 64 ≡ a = omega arith in
+    let column : i % 64 ≡ b = omega arith in
+    sym (joined_at BETWEEN_HIGH BETWEEN_LOW i refl)
+    ∙ in_table (λ k. word_of (λ s. is_between (k / 64) s (k % 64))) 4096 (joined BETWEEN_HIGH BETWEEN_LOW) between_table i (omega arith)
+    ∙ ap (λ j. word_of (λ s. is_between j s (i % 64))) row ∙ ap (λ j. word_of (λ s. is_between a s j)) column

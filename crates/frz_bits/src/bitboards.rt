@@ -1,0 +1,194 @@
+ghost use Rattle.std.specs.Prelude.{◌≡◌, ◌<◌, ◌≤◌, ◌^◌, ◌&&◌, not, slice_set, if◌then◌else◌, ◌+◌};
+ghost use Rattle.frz_board.specs.Men.{is_man_of, man_of_cell, other_of};
+ghost use Rattle.frz_board.specs.Boards.{Board, is_empty, man_on, holds, has};
+ghost use Rattle.frz_board.specs.Attacks.{is_clear, reaches as man_reaches, attacks as man_attacks, is_attacked, is_in_check};
+ghost use Rattle.frz_bits.specs.Words.{word_of};
+
+use super::reaching::{bishop_line, king_step, knight_jump, pawn_reach, rook_line};
+use super::sets::between;
+use super::word::{next_square, replaced, with_square};
+use frz_board::{Colour, Kind, Man, Position, Square};
+use std::marker::Model;
+
+fn is_white(cell: u8) -> bool
+    ensures { result ≡ is_man_of Colour.White (man_of_cell cell) }
+{
+    1 <= cell && cell <= 6
+}
+
+fn is_black(cell: u8) -> bool
+    ensures { result ≡ is_man_of Colour.Black (man_of_cell cell) }
+{
+    7 <= cell && cell <= 12
+}
+
+/// A position with the words of the squares where the men of each side stand.
+#[derive(Drop)]
+pub struct Bitboards {
+    position: Position,
+    white: u64,
+    black: u64,
+}
+
+impl Model for Bitboards {
+    ghost use Rattle.frz_board.specs.Boards.{Board};
+    ghost use Rattle.frz_bits.specs.Sides.{HasSides};
+
+    ghost Value = { Board };
+
+    ghost view = { λ b. b.position };
+
+    ghost invariant = { λ b. HasSides b.position b.white b.black };
+}
+
+impl Bitboards {
+    /// The position's men, gathered from its cells.
+    #[tactic(auto, using(crate::proofs::Gather::sides))]
+    pub fn of(p: &Position) -> Bitboards
+        ensures { result ≡ p.now }
+    {
+        let cells = p.cells();
+        let mut white = 0;
+        let mut black = 0;
+        for n in 0..64 {
+            let cell = cells[n as usize];
+            white = with_square(white, Square::at(n), is_white(cell));
+            black = with_square(black, Square::at(n), is_black(cell));
+        }
+        Bitboards {
+            position: *p,
+            white,
+            black,
+        }
+    }
+
+    /// The squares where a man of the side stands.
+    pub fn side(&self, c: Colour) -> u64
+        ensures { result ≡ word_of (λ s. holds self.now c s) }
+    {
+        match c {
+            Colour::White => self.white,
+            Colour::Black => self.black,
+        }
+    }
+
+    /// The squares where a man stands.
+    pub fn occupied(&self) -> u64
+        ensures { result ≡ word_of (λ s. not (is_empty self.now s)) }
+    {
+        self.white | self.black
+    }
+
+    /// The side to move.
+    pub fn turn(&self) -> Colour
+        ensures { result ≡ self.now.turn }
+    {
+        self.position.turn()
+    }
+
+    /// The man on the square.
+    pub fn man(&self, s: Square) -> Option<Man>
+        ensures { result ≡ man_on self.now s }
+    {
+        self.position.man(s)
+    }
+
+    /// Is each square strictly between empty?
+    pub fn is_clear(&self, a: Square, b: Square) -> bool
+        ensures { result ≡ is_clear self.now a b }
+    {
+        between(a, b) & self.occupied() == 0
+    }
+
+    /// The position with another cell on the square.
+    pub fn put(&self, s: Square, c: u8) -> Bitboards
+        requires { c ≤ 12 }
+        ensures { result ≡ record self.now { cells = slice_set self.now.cells s c } }
+    {
+        Bitboards {
+            position: self.position.put(s, c),
+            white: replaced(self.white, s, is_white(c)),
+            black: replaced(self.black, s, is_black(c)),
+        }
+    }
+
+    /// Would this man on `a` attack `b`?
+    pub fn reaches(&self, man: Man, a: Square, b: Square) -> bool
+        ensures { result ≡ man_reaches self.now man.colour man.kind a b }
+    {
+        match man.kind {
+            Kind::King => king_step(a, b),
+            Kind::Queen => (rook_line(a, b) || bishop_line(a, b)) && self.is_clear(a, b),
+            Kind::Rook => rook_line(a, b) && self.is_clear(a, b),
+            Kind::Bishop => bishop_line(a, b) && self.is_clear(a, b),
+            Kind::Knight => knight_jump(a, b),
+            Kind::Pawn => pawn_reach(man.colour, a, b),
+        }
+    }
+
+    /// Does the man on `a` attack `b`?
+    pub fn attacks(&self, a: Square, b: Square) -> bool
+        ensures { result ≡ man_attacks self.now a b }
+    {
+        match self.man(a) {
+            None => false,
+            Some(man) => self.reaches(man, a, b),
+        }
+    }
+
+    /// The squares from which a man of the side attacks the square.
+    pub fn attackers(&self, s: Square, by: Colour) -> u64
+        ensures { result ≡ word_of (λ a. holds self.now by a && man_attacks self.now a s) }
+    {
+        let men = self.side(by);
+        let mut word = 0;
+        let mut n = 0;
+        while let Some(a) = next_square(men, n) {
+            word = with_square(word, a, self.attacks(a, s));
+            n = a.number() + 1;
+        }
+        word
+    }
+
+    /// Does a man of the side attack the square?
+    pub fn is_attacked(&self, s: Square, by: Colour) -> bool
+        ensures { result ≡ is_attacked self.now s by }
+    {
+        self.attackers(s, by) != 0
+    }
+
+    /// Does this very man stand on the square?
+    pub fn has(&self, c: Colour, k: Kind, s: Square) -> bool
+        ensures { result ≡ has self.now c k s }
+    {
+        self.position.has(c, k, s)
+    }
+
+    fn has_king_attacked(&self, c: Colour, s: Square) -> bool
+        ensures { result ≡ (has self.now c Kind.King s && is_attacked self.now s (other_of c)) }
+    {
+        self.has(c, Kind::King, s) && self.is_attacked(s, c.other())
+    }
+
+    /// Is the side's king attacked?
+    pub fn is_in_check(&self, c: Colour) -> bool
+        ensures { result ≡ is_in_check self.now c }
+    {
+        let men = self.side(c);
+        let mut n = 0;
+        while let Some(s) = next_square(men, n) {
+            if self.has_king_attacked(c, s) {
+                return true;
+            }
+            n = s.number() + 1;
+        }
+        false
+    }
+}
+
+/// The squares from which a man of the side attacks the square.
+pub fn attackers(p: &Position, s: Square, by: Colour) -> u64
+    ensures { result ≡ word_of (λ a. holds p.now by a && man_attacks p.now a s) }
+{
+    Bitboards::of(p).attackers(s, by)
+}

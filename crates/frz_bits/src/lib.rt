@@ -1,0 +1,15 @@
+// Words of 64 bits, one for each set of squares.
+#![tactic(auto)]
+
+mod bitboards;
+mod lines;
+mod rays;
+mod reach;
+mod reaching;
+mod sets;
+mod word;
+
+pub use bitboards::{Bitboards, attackers};
+pub use rays::{bishop_rays, rook_rays};
+pub use sets::{between, bishop_lines, king_set, knight_set, pawn_set, rook_lines};
+pub use word::{contains, next_square, with_square};

@@ -1,0 +1,36 @@
+ghost use Rattle.std.specs.Prelude.{◌≡◌, ◌&&◌};
+ghost use Rattle.frz_bits.specs.Words.{word_of, has_square};
+ghost use Rattle.frz_bits.specs.Rays.{is_open, is_rook_ray, is_bishop_ray};
+
+use super::sets::{between, bishop_lines, rook_lines};
+use super::word::{next_square, with_square};
+use frz_board::Square;
+
+/// The squares of some lines through `s` that no occupied square hides from it.
+fn seen(s: Square, lines: u64, occupied: u64) -> u64
+    ensures { result ≡ word_of (λ b. has_square lines b && is_open occupied s b) }
+{
+    let mut word = 0;
+    let mut n = 0;
+    while let Some(b) = next_square(lines, n) {
+        word = with_square(word, b, between(s, b) & occupied == 0);
+        n = b.number() + 1;
+    }
+    word
+}
+
+/// The squares that a rook attacks where these squares are occupied: along each rank and file up to
+/// the first occupied square, and that square too.
+pub fn rook_rays(s: Square, occupied: u64) -> u64
+    ensures { result ≡ word_of (λ b. is_rook_ray occupied s b) }
+{
+    seen(s, rook_lines(s), occupied)
+}
+
+/// The squares that a bishop attacks where these squares are occupied: along each diagonal up to
+/// the first occupied square, and that square too.
+pub fn bishop_rays(s: Square, occupied: u64) -> u64
+    ensures { result ≡ word_of (λ b. is_bishop_ray occupied s b) }
+{
+    seen(s, bishop_lines(s), occupied)
+}

@@ -1,0 +1,66 @@
+ghost use Rattle.std.specs.Prelude.{◌≡◌, ◌*◌, ◌+◌, ◌^◌};
+ghost use Rattle.frz_board.specs.Lines.{is_knight_jump, is_king_step, is_rook_line, is_bishop_line, is_between};
+ghost use Rattle.frz_board.specs.Attacks.{pawn_reaches};
+ghost use Rattle.frz_bits.specs.Words.{word_of};
+
+use super::lines::{BETWEEN_HIGH, BETWEEN_LOW};
+use super::reach::{BISHOP, BLACK_PAWN, KING, KNIGHT, ROOK, WHITE_PAWN};
+use frz_board::{Colour, Square};
+
+/// The squares that a knight attacks.
+#[tactic(auto, using(crate::proofs::Tables::knight_at))]
+pub fn knight_set(s: Square) -> u64
+    ensures { result ≡ word_of (λ b. is_knight_jump s b) }
+{
+    KNIGHT[s.number() as usize]
+}
+
+/// The squares that a king attacks.
+#[tactic(auto, using(crate::proofs::Tables::king_at))]
+pub fn king_set(s: Square) -> u64
+    ensures { result ≡ word_of (λ b. is_king_step s b) }
+{
+    KING[s.number() as usize]
+}
+
+/// The squares that a pawn of the side attacks.
+#[tactic(auto, using(crate::proofs::Tables::white_pawn_at, crate::proofs::Tables::black_pawn_at))]
+pub fn pawn_set(c: Colour, s: Square) -> u64
+    ensures { result ≡ word_of (λ b. pawn_reaches c s b) }
+{
+    match c {
+        Colour::White => WHITE_PAWN[s.number() as usize],
+        Colour::Black => BLACK_PAWN[s.number() as usize],
+    }
+}
+
+/// The squares of the same rank or file.
+#[tactic(auto, using(crate::proofs::Tables::rook_at))]
+pub fn rook_lines(s: Square) -> u64
+    ensures { result ≡ word_of (λ b. is_rook_line s b) }
+{
+    ROOK[s.number() as usize]
+}
+
+/// The squares of the same diagonals.
+#[tactic(auto, using(crate::proofs::Tables::bishop_at))]
+pub fn bishop_lines(s: Square) -> u64
+    ensures { result ≡ word_of (λ b. is_bishop_line s b) }
+{
+    BISHOP[s.number() as usize]
+}
+
+fn joined(high: u32, low: u32) -> u64
+    ensures { result ≡ high * 2 ^ 32 + low }
+{
+    u64::from(high) * 0x1_0000_0000 + u64::from(low)
+}
+
+/// The squares strictly between two squares of one line, and none for others.
+#[tactic(auto, using(crate::proofs::Tables::between_at))]
+pub fn between(a: Square, b: Square) -> u64
+    ensures { result ≡ word_of (λ s. is_between a s b) }
+{
+    let i = 64 * a.number() as usize + b.number() as usize;
+    joined(BETWEEN_HIGH[i], BETWEEN_LOW[i])
+}

@@ -1,0 +1,4 @@
+pub mod Legal
+pub mod Listing
+pub mod Valid
+pub mod Ends

@@ -1,0 +1,31 @@
+use frz_bits::Bitboards;
+use frz_board::{Position, Shape};
+
+ghost use Rattle.std.specs.Prelude.{◌≡◌, OnOk};
+ghost use Rattle.frz_fide.specs.Valid.{IsValid, validity_of};
+
+/// Why a position is not valid: the first of the conditions that fails.
+#[derive(Clone, Copy, Debug, PartialEq, Eq)]
+pub enum Invalid {
+    /// One of the conditions in which no attack takes part.
+    Shape(Shape),
+    /// The king of the side not to move is attacked.
+    OpponentInCheck,
+}
+
+/// Is the position valid, and if not, which condition fails first?
+pub fn valid(p: &Position) -> Result<(), Invalid>
+    ensures answer { result ≡ validity_of p.now }
+    ensures valid { OnOk result (IsValid p.now) }
+{
+    match p.shape() {
+        Err(fault) => Err(Invalid::Shape(fault)),
+        Ok(()) => {
+            if Bitboards::of(p).is_in_check(p.turn().other()) {
+                Err(Invalid::OpponentInCheck)
+            } else {
+                Ok(())
+            }
+        }
+    }
+}
