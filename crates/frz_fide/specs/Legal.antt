@@ -1,5 +1,5 @@
 -- What a man may do in one move, and the position after it.
-use Rattle.std.specs.Prelude.{ℕ, ◌+◌, ◌*◌, ◌/◌, Bool, true, false, not, ◌==◌, ◌&&◌, ◌||◌, Option, None, Some, slice_set, List, if◌then◌else◌, is_none, is_some}
+use Rattle.std.specs.Prelude.{ℕ, ◌+◌, ◌*◌, ◌/◌, Bool, false, not, ◌==◌, ◌&&◌, ◌||◌, Option, None, Some, slice_set, List, if◌then◌else◌, is_none, is_some}
 use Rattle.frz_board.specs.declared.man.Colour.{Colour}
 use Rattle.frz_board.specs.declared.man.Colour.TheVariants.{White, Black}
 use Rattle.frz_board.specs.declared.man.Kind.{Kind}

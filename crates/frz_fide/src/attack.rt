@@ -1,9 +1,9 @@
-use frz_bits::Bitboards;
-use frz_board::{Colour, Position, Square};
-
 ghost use Rattle.std.specs.Prelude.{◌≡◌, Ok};
 ghost use Rattle.frz_board.specs.Attacks.{is_attacked, is_in_check};
 ghost use Rattle.frz_board.specs.Shapes.{shape_of};
+
+use frz_bits::Bitboards;
+use frz_board::{Colour, Position, Square};
 
 /// Does some man of this side attack the square? A man attacks even where its own king would then
 /// stand in check (FIDE 3.1.3).

@@ -1,8 +1,8 @@
-use frz_bits::Bitboards;
-use frz_board::{Position, Shape};
-
 ghost use Rattle.std.specs.Prelude.{◌≡◌, OnOk};
 ghost use Rattle.frz_fide.specs.Valid.{IsValid, validity_of};
+
+use frz_bits::Bitboards;
+use frz_board::{Position, Shape};
 
 /// Why a position is not valid: the first of the conditions that fails.
 #[derive(Clone, Copy, Debug, PartialEq, Eq)]
