@@ -14,6 +14,11 @@ pub choose-none : (k : ℕ) → choose 0 (suc k) ≡ 0
 unfolding choose
 choose-none k = refl
 
+-- there are as many ways to choose one as there are
+pub choose-one : (n : ℕ) → choose n 1 ≡ n
+choose-one zero = choose-none 0
+choose-one (suc n) = omega (arith, choose-suc n 0, choose-one n, choose-zero n)
+
 -- there are no ways to choose more than there are
 pub choose-past : (n k : ℕ) → n < k → choose n k ≡ 0
 choose-past n zero h = absurd (omega arith)

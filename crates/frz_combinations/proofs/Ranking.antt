@@ -93,3 +93,35 @@ rank_ordered s t (c ∷ cs) (d ∷ ds) h k e (inl less) =
 rank_ordered s t (c ∷ cs) (d ∷ ds) h k e (inr later) =
     let here : choose c (length (c ∷ cs)) ≡ choose d (length (d ∷ ds)) = ap (λ x. choose x (length (c ∷ cs))) later.0 ∙ ap (choose d) e in
     omega (arith, rank_ordered c d cs ds h.1 k.1 (omega arith) later.1, here)
+
+-- the first place that is found is the greatest whose binomial is not above the rank
+pub unrank-greatest : (s j r c : ℕ) → c < s → choose c (suc j) ≤ r → ((x : ℕ) → c < x → x < s → r < choose x (suc j)) → unrank s (suc j) r ≡ c ∷ unrank c j (r - choose c (suc j))
+unrank-greatest zero j r c h fits above = absurd (omega arith)
+unrank-greatest (suc s) j r c h fits above =
+    elim (cases_lt c s) [
+      | inl less ↦
+          let over : r < choose s (suc j) = above s less (omega arith) in
+          unrank_at s j r false (grind (arith, nat_tests)) ∙ unrank-greatest s j r c less fits (λ x k l. above x k (omega arith))
+      | inr more ↦
+          let e : s ≡ c = omega arith in
+          let under : choose s (suc j) ≤ r = subst (λ x. choose x (suc j) ≤ r) (sym e) fits in
+          unrank_at s j r true (grind (arith, nat_tests)) ∙ ap (λ x. x ∷ unrank x j (r - choose x (suc j))) e
+    ]
+
+-- one more place is looked at
+places_step : (f : ℕ → Bool) (n : ℕ) → length (places_below f n) ≤ length (places_below f (suc n))
+places_step f n = elim (f n) as (λ b. length (places_below f n) ≤ length (cond b (n ∷ places_below f n) (places_below f n))) [ true ↦ omega arith | false ↦ omega arith ]
+
+pub places_wider : (f : ℕ → Bool) (k n : ℕ) → k ≤ n → length (places_below f k) ≤ length (places_below f n)
+places_wider f k zero h = let e : 0 ≡ k = omega arith in subst (λ x. length (places_below f x) ≤ length (places_below f 0)) e (omega arith)
+places_wider f k (suc n) h =
+    elim (cases_lt k (suc n)) [
+      | inl less ↦ omega (arith, places_wider f k n (omega arith), places_step f n)
+      | inr more ↦ let e : suc n ≡ k = omega arith in subst (λ x. length (places_below f x) ≤ length (places_below f (suc n))) e (omega arith)
+    ]
+
+-- a place where f holds counts
+pub place_counts : (f : ℕ → Bool) (k n : ℕ) → k < n → f k ≡ true → length (places_below f k) < length (places_below f n)
+place_counts f k n h e =
+    let here : length (places_below f (suc k)) ≡ suc (length (places_below f k)) = ap (λ b. length (cond b (k ∷ places_below f k) (places_below f k))) e in
+    omega (arith, places_wider f (suc k) n h)

@@ -17,8 +17,9 @@ pub fn binomials()
 pub fn combinations()
     ensures below { (s : ℕ) (cs : List ℕ) → AreDescending s cs → rank cs < choose s (length cs) }
 
-    // The last place is the greatest whose binomial is not above the rank.
+    // The last place is the greatest whose binomial is not above the rank, and so it is found again.
     ensures last { (c : ℕ) (cs : List ℕ) → AreDescending c cs → rank (c ∷ cs) < choose (c + 1) (length (c ∷ cs)) }
+    ensures greatest { (s j r c : ℕ) → c < s → choose c (j + 1) ≤ r → ((x : ℕ) → c < x → x < s → r < choose x (j + 1)) → unrank s (j + 1) r ≡ c ∷ unrank c j (r - choose c (j + 1)) }
     ensures found_again { (s : ℕ) (cs : List ℕ) → AreDescending s cs → unrank s (length cs) (rank cs) ≡ cs }
     ensures each { (s j r : ℕ) → r < choose s j → IsRanked s j r (unrank s j r) }
     ensures once { (s t : ℕ) (cs ds : List ℕ) → AreDescending s cs → AreDescending t ds → length cs ≡ length ds → rank cs ≡ rank ds → cs ≡ ds }
