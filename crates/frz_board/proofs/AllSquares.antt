@@ -3,7 +3,7 @@ use Rattle.std.proofs.Common.{◌≡◌, ℕ, zero, suc, ◌+◌, ◌<◌, ◌�
 use Rattle.std.specs.List.{list_all, list_any, range_with_len}
 use Rattle.std.proofs.lemmas.Bool.Decides.{eqb_tells}
 use Rattle.frz_board.specs.Squares.{squares}
-use Rattle.frz_board.proofs.Tests.{and_both, or_either, either_or, fails}
+use Rattle.frz_board.proofs.Connectives.{and_both, or_either, either_or, fails}
 
 pub all_from : (q : ℕ → Bool) (a n : ℕ) → ((k : ℕ) → a ≤ k → k < a + n → q k ≡ true) → list_all q (range_with_len a n) ≡ true
 all_from q a zero h = refl

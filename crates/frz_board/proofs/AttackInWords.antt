@@ -13,7 +13,7 @@ use Rattle.frz_board.specs.Men.{man_of_cell}
 use Rattle.frz_board.specs.Boards.{Board, man_on, is_empty}
 use Rattle.frz_board.specs.Attacks.{man_reaches, reaches, attacks, is_clear, pawn_reaches}
 use Rattle.frz_board.specs.Attacking.{Stands, IsClear, IsDiagonal, IsFileOrRank, IsForward, Attack, king, rook, bishop, queen, knight, pawn}
-use Rattle.frz_board.proofs.Tests.{and_both, both_and, or_either, either_or, implied, implies, not_same, same_not}
+use Rattle.frz_board.proofs.Connectives.{and_both, both_and, or_either, either_or, implied, implies, not_same, same_not}
 use Rattle.frz_board.proofs.AllSquares.{each_square, all_squares}
 use Rattle.frz_board.proofs.CellsOfMen.{cell_back, cell_forth}
 

@@ -7,7 +7,7 @@ use Rattle.std.proofs.lemmas.Bool.Decides.{eqb_tells}
 use Rattle.frz_board.specs.Squares.{squares, rank_of}
 use Rattle.frz_board.specs.Boards.{Board}
 use Rattle.frz_board.specs.Shapes.{is_end, has_pawn, has_pawns_inside}
-use Rattle.frz_board.proofs.Tests.{and_both, both_and, or_either, either_or, same_test}
+use Rattle.frz_board.proofs.Connectives.{and_both, both_and, or_either, either_or, same_test}
 use Rattle.frz_board.proofs.AllSquares.{all_squares, not_all_squares}
 
 -- what a test of a rank forbids

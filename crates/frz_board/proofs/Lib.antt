@@ -1,4 +1,4 @@
-pub mod Tests
+pub mod Connectives
 pub mod AllSquares
 pub mod CellsOfMen
 pub mod AttackInWords

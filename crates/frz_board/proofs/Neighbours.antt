@@ -8,7 +8,7 @@ use Rattle.frz_board.specs.declared.man.Kind.TheVariants.{Pawn}
 use Rattle.frz_board.specs.Squares.{squares, file_of, rank_of, files_apart, ranks_apart}
 use Rattle.frz_board.specs.Boards.{Board, has}
 use Rattle.frz_board.specs.EnPassant.{has_pawn_beside}
-use Rattle.frz_board.proofs.Tests.{and_both, both_and, or_either, either_or, same_test}
+use Rattle.frz_board.proofs.Connectives.{and_both, both_and, or_either, either_or, same_test}
 use Rattle.frz_board.proofs.AllSquares.{Found, some_square, any_square}
 
 -- one file apart on one rank
