@@ -11,7 +11,7 @@ pub use lines::{Line, Lines};
 pub use numbers::read_number;
 pub use parts::cut;
 pub use squares::{SquareSet, read_square, read_squares};
-pub use words::{is_word, next_word};
+pub use words::{count_words, is_word, next_word};
 
 #[cfg(test)]
 mod tests;

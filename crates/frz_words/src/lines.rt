@@ -4,7 +4,7 @@ ghost use Rattle.frz_words.specs.Lines.{lines, numbered};
 ghost use Rattle.frz_words.specs.Words.{words, word_at};
 
 use crate::parts::cut;
-use crate::words::next_word;
+use crate::words::{count_words, next_word};
 use std::marker::Model;
 
 /// A line of a text without its line feed, and its number from 1.
@@ -18,16 +18,9 @@ impl<'a> Line<'a> {
     /// How many words it has.
     pub fn count(&self) -> u32
         requires { length self.now.text.now < 2 ^ 32 }
-        ensures words { result ≡ length (words self.now.text.now) }
-        ensures short { result ≤ length self.now.text.now }
+        ensures { result ≡ length (words self.now.text.now) }
     {
-        let mut rest = self.text;
-        let mut count = 0;
-        while let Some((_, after)) = next_word(rest) {
-            rest = after;
-            count += 1;
-        }
-        count
+        count_words(self.text) as u32
     }
 
     /// The word of a number from 1, a slice of the text.

@@ -1,4 +1,4 @@
-ghost use Rattle.std.specs.Prelude.{◌≡◌, ◌<◌, ◌∷◌, [], not, IsTrue, MatchOption, IfSome, length};
+ghost use Rattle.std.specs.Prelude.{◌≡◌, ◌<◌, ◌≤◌, ◌∷◌, [], not, IsTrue, MatchOption, IfSome, length};
 ghost use Rattle.std.specs.List.{position};
 ghost use Rattle.std.specs.Str.{bytes_eq};
 ghost use Rattle.frz_words.specs.Words.{words, begins_word, is_blank as is_blank_byte};
@@ -44,6 +44,20 @@ fn first_word(line: &[u8]) -> (&[u8], &[u8])
         None => (line, &[]),
         Some(end) => (&line[..end], &line[end + 1..]),
     }
+}
+
+/// How many words a line has.
+pub fn count_words(line: &[u8]) -> usize
+    ensures words { result ≡ length (words line.now) }
+    ensures short { result ≤ length line.now }
+{
+    let mut rest = line;
+    let mut count = 0;
+    while let Some((_, after)) = next_word(rest) {
+        rest = after;
+        count += 1;
+    }
+    count
 }
 
 /// Is this the word?
