@@ -1,0 +1,11 @@
+pub mod Views
+pub mod Classes
+pub mod Conditions
+pub mod Lines
+pub mod Grammar
+pub mod Begins
+pub mod Groups
+pub mod Sets
+pub mod Text
+pub mod Sound
+pub mod Reading

@@ -1,0 +1,54 @@
+-- The set that groups describe: which men it has where, the turn states, and how many numbers it has.
+use Rattle.std.specs.Prelude.{ℕ, ◌+◌, Bool, ◌==◌, ◌&&◌, ◌||◌, List, ◌∷◌, length, map, filter}
+use Rattle.std.specs.List.{list_any}
+use Rattle.frz_board.specs.declared.man.Colour.{Colour}
+use Rattle.frz_board.specs.declared.man.Colour.TheVariants.{White, Black}
+use Rattle.frz_board.specs.declared.man.Kind.TheVariants.{Pawn}
+use Rattle.frz_board.specs.declared.man.Man.{Man}
+use Rattle.frz_board.specs.Squares.{squares, files_apart, ranks_apart}
+use Rattle.frz_board.specs.Men.{cell_of_man, other_of}
+use Rattle.frz_board.specs.EnPassant.{is_passing_rank, ahead}
+use Rattle.frz_combinations.specs.Selections.{radix}
+use Rattle.frz_combinations.specs.MixedRadix.{product}
+use Rattle.frz_rules.specs.Views.{GroupLine}
+
+-- the group has the man of this cell on this square as a state
+abbrev pub is_state : ℕ → ℕ → GroupLine → Bool
+is_state cell s g = list_any (λ state. cell_of_man (record { colour = g.colour; kind = state.0 }) == cell && state.1 == s) g.states
+
+-- some group has it
+abbrev pub is_covered : List GroupLine → ℕ → ℕ → Bool
+is_covered gs cell s = list_any (is_state cell s) gs
+
+-- the cell of a pawn of this side
+abbrev pub pawn : Colour → ℕ
+pawn c = cell_of_man (record { colour = c; kind = Pawn })
+
+-- a pawn of c can stand on b, and one of the other side beside it
+abbrev pub is_pair : List GroupLine → Colour → ℕ → Bool
+is_pair gs c b =
+    is_covered gs (pawn c) b
+    && list_any (λ s. (ranks_apart s b == 0 && files_apart s b == 1) && is_covered gs (pawn (other_of c)) s) squares
+
+-- a pawn of c can stand ahead of t as if it had just come over t, with one of the other side beside it
+abbrev pub is_possible_for : List GroupLine → Colour → ℕ → Bool
+is_possible_for gs c t = is_passing_rank c t && is_pair gs c (ahead c t)
+
+abbrev pub is_possible : List GroupLine → ℕ → Bool
+is_possible gs t = is_possible_for gs White t || is_possible_for gs Black t
+
+-- the possible targets in order
+abbrev pub targets : List GroupLine → List ℕ
+targets gs = filter (is_possible gs) squares
+
+-- how many choices of men and squares the group has: from its least to its most, among its states
+abbrev pub radix_of : GroupLine → ℕ
+radix_of g = radix (length g.states) g.least g.most
+
+-- White, Black, one turn state for each possible target; and the choices of each group
+abbrev pub radices : List GroupLine → List ℕ
+radices gs = (2 + length (targets gs)) ∷ map radix_of gs
+
+-- how many numbers the set has
+abbrev pub size_of : List GroupLine → ℕ
+size_of gs = product (radices gs)

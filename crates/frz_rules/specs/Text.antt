@@ -1,0 +1,111 @@
+-- The rules of a text, or its first bad line with the first cause there.
+use Rattle.std.specs.Prelude.{ℕ, ◌+◌, Bool, true, false, not, ◌&&◌, ◌||◌, ◌==◌, nat_le, nat_lt, List, [], ◌∷◌, ◌++◌, length, Option, None, Some, Result, Ok, Err, ◌≡◌, if◌then◌else◌, codes}
+use Rattle.frz_board.specs.declared.man.Colour.TheVariants.{White, Black}
+use Rattle.frz_combinations.specs.Binomials.{capped}
+use Rattle.frz_words.specs.Lines.{lines, numbered}
+use Rattle.frz_words.specs.Words.{words}
+use Rattle.frz_rules.specs.declared.forbid.Forbid.{Forbid}
+use Rattle.frz_rules.specs.declared.fault.RulesCause.{RulesCause}
+use Rattle.frz_rules.specs.declared.fault.RulesCause.TheVariants as causes
+use Rattle.frz_rules.specs.declared.fault.RulesFault.{RulesFault}
+use Rattle.frz_rules.specs.declared.fault.RulesError.{RulesError}
+use Rattle.frz_rules.specs.declared.fault.RulesError.TheVariants as errors
+use Rattle.frz_rules.specs.Views.{GroupLine, ExitLine, RuleLines}
+use Rattle.frz_rules.specs.Classes.{is}
+use Rattle.frz_rules.specs.Lines.{group_of, forbid_of, exit_of}
+use Rattle.frz_rules.specs.Grammar.{reach, line_form}
+use Rattle.frz_rules.specs.Groups.{cause_of_group, has_king_group}
+use Rattle.frz_rules.specs.Sets.{size_of}
+
+-- the line has no form: the word behind its longest front that begins a line of some form
+abbrev pub unreadable : List (List ℕ) → RulesCause
+unreadable line = causes.Word (reach line_form line + 1)
+
+abbrev pub unless : Option RulesCause → RuleLines → Result RuleLines RulesCause
+unless None r = Ok r
+unless (Some c) r = Err c
+
+abbrev pub add_group : RuleLines → GroupLine → Result RuleLines RulesCause
+add_group r g = unless (cause_of_group r.groups g) (record { groups = r.groups ++ g ∷ []; forbids = r.forbids; exits = r.exits })
+
+abbrev pub add_forbid : RuleLines → Forbid → Result RuleLines RulesCause
+add_forbid r f =
+    if nat_le 64 (length r.forbids) then Err causes.TooManyLines
+    else Ok (record { groups = r.groups; forbids = r.forbids ++ f ∷ []; exits = r.exits })
+
+abbrev pub add_exit : RuleLines → ExitLine → Result RuleLines RulesCause
+add_exit r e =
+    if nat_le 128 (length r.exits) || nat_le 9 (length e.conds) then Err causes.TooManyLines
+    else Ok (record { groups = r.groups; forbids = r.forbids; exits = r.exits ++ e ∷ [] })
+
+abbrev pub with_line : {A : Type 0} → (RuleLines → A → Result RuleLines RulesCause) → RuleLines → List (List ℕ) → Option A → Result RuleLines RulesCause
+with_line add r line None = Err (unreadable line)
+with_line add r line (Some x) = add r x
+
+-- a line behind the header, after the lines that gave r
+unfoldable pub line_of : RuleLines → List (List ℕ) → Result RuleLines RulesCause
+line_of r [] = Ok r
+line_of r (w ∷ ws) =
+    if is (codes "group") w then with_line add_group r (w ∷ ws) (group_of ws) else
+    (if is (codes "forbid") w then with_line add_forbid r (w ∷ ws) (forbid_of ws) else
+    (if is (codes "exit") w then with_line add_exit r (w ∷ ws) (exit_of ws) else Err causes.UnknownLine))
+
+abbrev pub at_line : ℕ → Result RuleLines RulesCause → Result RuleLines RulesFault
+at_line n (Ok r) = Ok r
+at_line n (Err c) = Err (record { line = n; cause = c })
+
+-- go on with what was read, or keep the fault
+infixl 10 ◌>>=◌
+abbrev pub ◌>>=◌ : {A B E : Type 0} → Result A E → (A → Result B E) → Result B E
+(Ok x) >>= f = f x
+(Err e) >>= f = Err e
+
+-- the lines behind the header in order, each with its number
+abbrev pub lines_of : RuleLines → List (ℕ × List (List ℕ)) → Result RuleLines RulesFault
+lines_of r [] = Ok r
+lines_of r (l ∷ ls) = at_line l.0 (line_of r l.1) >>= λ s. lines_of s ls
+
+abbrev pub begins_hash : List ℕ → Bool
+begins_hash [] = false
+begins_hash (b ∷ bs) = b == 35
+
+-- a line without words, or whose first word begins with #
+abbrev pub is_skipped : List (List ℕ) → Bool
+is_skipped [] = true
+is_skipped (w ∷ ws) = begins_hash w
+
+-- the lines that count, as words
+abbrev pub significant : List (ℕ × List ℕ) → List (ℕ × List (List ℕ))
+significant [] = []
+significant (l ∷ ls) = if is_skipped (words l.1) then significant ls else (l.0, words l.1) ∷ significant ls
+
+abbrev pub no_rules : RuleLines
+no_rules = record { groups = []; forbids = []; exits = [] }
+
+abbrev pub is_header : List (List ℕ) → Bool
+is_header (a ∷ b ∷ []) = is (codes "freezer") a && is (codes "1") b
+is_header _ = false
+
+-- the causes of the whole text
+abbrev pub whole : RuleLines → Result RuleLines RulesFault
+whole r =
+    if not (has_king_group r.groups White && has_king_group r.groups Black) then Err (record { line = 0; cause = causes.KingGroup }) else
+    (if nat_lt 134217728 (size_of r.groups) then Err (record { line = 0; cause = causes.SetTooBig (capped (size_of r.groups)) }) else Ok r)
+
+abbrev pub after_header : List (ℕ × List (List ℕ)) → Result RuleLines RulesFault
+after_header [] = Err (record { line = 0; cause = causes.Header })
+after_header (l ∷ ls) = if is_header l.1 then lines_of no_rules ls >>= whole else Err (record { line = l.0; cause = causes.Header })
+
+unfoldable pub rules_of : List ℕ → Result RuleLines RulesFault
+rules_of text =
+    if nat_lt 65536 (length text) then Err (record { line = 0; cause = causes.TooLong })
+    else after_header (significant (numbered 1 (lines text)))
+
+abbrev pub Fails : RulesError → Result RuleLines RulesFault → Type 0
+Fails errors.NoMemory read = Unit {0}
+Fails (errors.Bad f) read = read ≡ Err f
+
+-- what the reader answers is what the text gives, unless memory runs out
+abbrev pub Answers : Result RuleLines RulesError → Result RuleLines RulesFault → Type 0
+Answers (Ok r) read = read ≡ Ok r
+Answers (Err e) read = Fails e read

@@ -1,0 +1,18 @@
+ghost use Rattle.std.specs.Prelude.{ℕ, List, ◌≡◌, is_some};
+ghost use Rattle.frz_rules.specs.Lines.{group_of, forbid_of, exit_of};
+ghost use Rattle.frz_rules.specs.Grammar.{fits, reach, line_form, group_form, forbid_form, exit_form};
+ghost use Rattle.frz_rules.specs.Begins.{IsGreatestFront};
+
+/// A line's reach is the greatest number of its first words that begin a line of some form.
+pub fn line_places()
+    ensures { (line : List (List ℕ)) → IsGreatestFront line_form line (reach line_form line) }
+{
+}
+
+/// A line says something exactly where it has its form.
+pub fn line_forms()
+    ensures group { (ws : List (List ℕ)) → fits group_form ws ≡ is_some (group_of ws) }
+    ensures forbid { (ws : List (List ℕ)) → fits forbid_form ws ≡ is_some (forbid_of ws) }
+    ensures exit { (ws : List (List ℕ)) → fits exit_form ws ≡ is_some (exit_of ws) }
+{
+}

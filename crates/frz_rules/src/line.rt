@@ -1,0 +1,130 @@
+ghost use Rattle.std.specs.Prelude.{◌≡◌, ◌≤◌, length, IfOk};
+ghost use Rattle.frz_words.specs.Words.{words};
+ghost use Rattle.frz_rules.specs.Reading.{Reads, read_to, place as place_of, read_group, read_exit, group_words, forbid_words, exit_words};
+ghost use Rattle.frz_rules.specs.Text.{add_group as with_group, add_forbid as with_forbid, add_exit as with_exit, line_of};
+
+use crate::causes::group_cause;
+use crate::exit::Exit;
+use crate::fault::RulesCause;
+use crate::forbid::Forbid;
+use crate::forms::{exit_parts, forbid_parts, group_parts};
+use crate::group::Group;
+use crate::rules::Rules;
+use crate::states::states;
+use crate::stop::{Refusal, Stop};
+use frz_words::{count_words, is_word, next_word};
+use std::alloc::Global;
+
+/// The place of the first word that does not fit, where these bytes are left of the line.
+fn place(line: &[u8], left: &[u8]) -> RulesCause
+    requires { length line.now ≤ 65536 }
+    ensures { result ≡ place_of (length (words line.now)) (words left.now) }
+{
+    RulesCause::Word(count_words(line).saturating_sub(count_words(left)) as u32 + 1)
+}
+
+fn add_group(mut rules: Rules, g: Group) -> Result<Rules, Refusal>
+    requires { length rules.groups ≤ 32 }
+    ensures read { Reads result (with_group rules g) }
+    ensures few { IfOk result (λ r. length r.groups ≤ 32) }
+{
+    match group_cause(&rules.groups, &g) {
+        Some(cause) => Err(Refusal::Cause(cause)),
+        None => {
+            rules.groups.push(g)?;
+            Ok(rules)
+        }
+    }
+}
+
+fn add_forbid(mut rules: Rules, f: Forbid) -> Result<Rules, Refusal>
+    ensures read { Reads result (with_forbid rules f) }
+    ensures groups { IfOk result (λ r. r.groups ≡ rules.groups) }
+{
+    if rules.forbids.len() >= 64 {
+        return Err(Refusal::Cause(RulesCause::TooManyLines));
+    }
+    rules.forbids.push(f)?;
+    Ok(rules)
+}
+
+fn add_exit(mut rules: Rules, e: Exit) -> Result<Rules, Refusal>
+    ensures read { Reads result (with_exit rules e) }
+    ensures groups { IfOk result (λ r. r.groups ≡ rules.groups) }
+{
+    if rules.exits.len() >= 128 || e.conds.len() >= 9 {
+        return Err(Refusal::Cause(RulesCause::TooManyLines));
+    }
+    rules.exits.push(e)?;
+    Ok(rules)
+}
+
+/// The rules with a group line, of whose words these are left.
+fn read_group_line(alloc: Global, rules: Rules, line: &[u8], rest: &[u8]) -> Result<Rules, Refusal>
+    requires few { length rules.groups ≤ 32 }
+    requires short { length line.now ≤ 65536 }
+    ensures read { Reads result (read_to (λ r g. with_group r (read_group g)) rules (length (words line.now)) (group_words (words rest.now))) }
+    ensures few { IfOk result (λ r. length r.groups ≤ 32) }
+{
+    match group_parts(alloc, rest) {
+        Err(Stop::Memory) => Err(Refusal::Memory),
+        Err(Stop::At(left)) => Err(Refusal::Cause(place(line, left))),
+        Ok((colour, (least, most), places)) => {
+            let states = states(alloc, &places)?;
+            add_group(rules, Group {
+                colour,
+                least,
+                most,
+                states,
+            })
+        }
+    }
+}
+
+fn read_forbid_line(rules: Rules, line: &[u8], rest: &[u8]) -> Result<Rules, Refusal>
+    requires few { length rules.groups ≤ 32 }
+    requires short { length line.now ≤ 65536 }
+    ensures read { Reads result (read_to with_forbid rules (length (words line.now)) (forbid_words (words rest.now))) }
+    ensures few { IfOk result (λ r. length r.groups ≤ 32) }
+{
+    match forbid_parts(rest) {
+        Err(Stop::Memory) => Err(Refusal::Memory),
+        Err(Stop::At(left)) => Err(Refusal::Cause(place(line, left))),
+        Ok(f) => add_forbid(rules, f),
+    }
+}
+
+fn read_exit_line(alloc: Global, rules: Rules, line: &[u8], rest: &[u8]) -> Result<Rules, Refusal>
+    requires few { length rules.groups ≤ 32 }
+    requires short { length line.now ≤ 65536 }
+    ensures read { Reads result (read_to (λ r e. with_exit r (read_exit e)) rules (length (words line.now)) (exit_words (words rest.now))) }
+    ensures few { IfOk result (λ r. length r.groups ≤ 32) }
+{
+    match exit_parts(alloc, rest) {
+        Err(Stop::Memory) => Err(Refusal::Memory),
+        Err(Stop::At(left)) => Err(Refusal::Cause(place(line, left))),
+        Ok((value, conds)) => add_exit(rules, Exit { value, conds }),
+    }
+}
+
+/// The rules with a line behind the header, or why the line is bad.
+
+pub fn read_line(alloc: Global, rules: Rules, line: &[u8]) -> Result<Rules, Refusal>
+    requires few { length rules.groups ≤ 32 }
+    requires short { length line.now ≤ 65536 }
+    ensures read { Reads result (line_of rules (words line.now)) }
+    ensures few { IfOk result (λ r. length r.groups ≤ 32) }
+{
+    let Some((w, rest)) = next_word(line) else {
+        return Ok(rules);
+    };
+    if is_word(w, b"group") {
+        read_group_line(alloc, rules, line, rest)
+    } else if is_word(w, b"forbid") {
+        read_forbid_line(rules, line, rest)
+    } else if is_word(w, b"exit") {
+        read_exit_line(alloc, rules, line, rest)
+    } else {
+        Err(Refusal::Cause(RulesCause::UnknownLine))
+    }
+}

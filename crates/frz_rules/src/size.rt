@@ -1,0 +1,45 @@
+ghost use Rattle.std.specs.Prelude.{◌≡◌, ◌≤◌, ◌<◌};
+ghost use Rattle.frz_combinations.specs.Binomials.{capped};
+ghost use Rattle.frz_rules.specs.Sets.{radix_of, size_of};
+ghost use Rattle.frz_rules.specs.Sound.{AreSoundLines, AreCounted, IsCounted};
+
+use crate::group::Group;
+use crate::rules::Rules;
+use crate::targets::target_count;
+use frz_combinations::binomial;
+
+/// How many choices of men and squares the group has.
+
+fn radix(g: &Group) -> u64
+    requires { IsCounted g.now }
+    ensures { result ≡ capped (radix_of g.now) }
+{
+    let mut total = 0u64;
+    for men in g.least..g.most + 1 {
+        total = total.saturating_add(binomial(g.states.len() as u32, men as u32));
+    }
+    total
+}
+
+/// How many numbers the set of these groups has.
+
+fn size(groups: &[Group]) -> u64
+    requires { AreCounted groups.now }
+    ensures { result ≡ capped (size_of groups.now) }
+{
+    let mut total = 2 + target_count(groups) as u64;
+    for g in groups {
+        total = total.saturating_mul(radix(g));
+    }
+    total
+}
+
+/// The size of the set that the rules describe, or the greatest number of 64 bits where that is
+/// greater: the turn states times, for each group, the choices of its men and their squares.
+
+pub fn set_size(r: &Rules) -> u64
+    requires { AreSoundLines r.now }
+    ensures { result ≡ capped (size_of r.now.groups) }
+{
+    size(&r.groups)
+}

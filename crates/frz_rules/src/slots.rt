@@ -1,0 +1,115 @@
+ghost use Rattle.std.specs.Prelude.{◌≡◌, map};
+ghost use Rattle.frz_words.specs.Words.{words};
+ghost use Rattle.frz_words.specs.Squares.{squares_of};
+ghost use Rattle.frz_rules.specs.Classes.{colour_of, kind_of, count_of, place_of};
+ghost use Rattle.frz_rules.specs.Conditions.{cond_of};
+ghost use Rattle.frz_rules.specs.Reading.{Gives, slot, literal, one_or_more};
+
+use crate::conditions::cond;
+use crate::exit::Cond;
+use crate::stop::Stop;
+use crate::words::{colour, count, kind, place};
+use frz_board::{Colour, Kind};
+use frz_words::{SquareSet, is_word, next_word, read_squares};
+use std::alloc::Global;
+
+pub fn colour_at(line: &[u8]) -> Result<(Colour, &[u8]), Stop<'_>>
+    ensures { Gives (λ x. (x.0, words x.1.now)) result (slot colour_of (words line.now)) }
+{
+    let Some((w, rest)) = next_word(line) else {
+        return Err(Stop::At(line));
+    };
+    match colour(w) {
+        None => Err(Stop::At(line)),
+        Some(c) => Ok((c, rest)),
+    }
+}
+
+pub fn kind_at(line: &[u8]) -> Result<(Kind, &[u8]), Stop<'_>>
+    ensures { Gives (λ x. (x.0, words x.1.now)) result (slot kind_of (words line.now)) }
+{
+    let Some((w, rest)) = next_word(line) else {
+        return Err(Stop::At(line));
+    };
+    match kind(w) {
+        None => Err(Stop::At(line)),
+        Some(k) => Ok((k, rest)),
+    }
+}
+
+pub fn count_at(line: &[u8]) -> Result<((u8, u8), &[u8]), Stop<'_>>
+    ensures { Gives (λ x. (x.0, words x.1.now)) result (slot count_of (words line.now)) }
+{
+    let Some((w, rest)) = next_word(line) else {
+        return Err(Stop::At(line));
+    };
+    match count(w) {
+        None => Err(Stop::At(line)),
+        Some(n) => Ok((n, rest)),
+    }
+}
+
+pub fn squares_at(line: &[u8]) -> Result<(SquareSet, &[u8]), Stop<'_>>
+    ensures { Gives (λ x. (x.0.0, words x.1.now)) result (slot squares_of (words line.now)) }
+{
+    let Some((w, rest)) = next_word(line) else {
+        return Err(Stop::At(line));
+    };
+    match read_squares(w) {
+        None => Err(Stop::At(line)),
+        Some(s) => Ok((s, rest)),
+    }
+}
+
+pub fn literal_at<'a>(text: &[u8], line: &'a [u8]) -> Result<&'a [u8], Stop<'a>>
+    ensures { Gives (λ x. words x.now) result (literal text.now (words line.now)) }
+{
+    let Some((w, rest)) = next_word(line) else {
+        return Err(Stop::At(line));
+    };
+    if is_word(w, text) {
+        Ok(rest)
+    } else {
+        Err(Stop::At(line))
+    }
+}
+
+/// One place or more, to the end of the line.
+#[tactic(auto, using(crate::proofs::Many::manying))]
+pub fn places_at(alloc: Global, line: &[u8]) -> Result<Vec<(Kind, SquareSet)>, Stop<'_>>
+    ensures { Gives (λ v. map (λ p. (p.0, p.1.0)) v.items) result (one_or_more place_of (words line.now)) }
+{
+    let mut found = Vec::new(alloc);
+    let mut rest = line;
+    while let Some((w, after)) = next_word(rest) {
+        let Some(x) = place(w) else {
+            return Err(Stop::At(rest));
+        };
+        found.push(x)?;
+        rest = after;
+    }
+    if found.is_empty() {
+        return Err(Stop::At(rest));
+    }
+    Ok(found)
+}
+
+/// One condition or more, to the end of the line.
+#[tactic(auto, using(crate::proofs::Many::manying))]
+pub fn conds_at(alloc: Global, line: &[u8]) -> Result<Vec<Cond>, Stop<'_>>
+    ensures { Gives (λ v. v.items) result (one_or_more cond_of (words line.now)) }
+{
+    let mut found = Vec::new(alloc);
+    let mut rest = line;
+    while let Some((w, after)) = next_word(rest) {
+        let Some(x) = cond(w) else {
+            return Err(Stop::At(rest));
+        };
+        found.push(x)?;
+        rest = after;
+    }
+    if found.is_empty() {
+        return Err(Stop::At(rest));
+    }
+    Ok(found)
+}
