@@ -160,10 +160,10 @@ wins_case : (c : Colour) (w : List ℕ) (ws : List (List ℕ)) (b : Bool) → by
 wins_case c w ws true e =
     let no : is_some (lag_of w) ≡ false = ap (λ x. is_some (lag_of x)) (equal_words w (codes "if") e) ∙ ap is_some no_lag in
     or_left if_form lag_form (w ∷ ws) (conds_then (wins c, ws)) (not_fits (has lag_of) if_form w ws no) (not_reach (has lag_of) if_form w ws no)
-      (goes_on (is (codes "if")) (Many (has cond_of)) w ws (conds_then (wins c, ws)) e (many_agrees cond_of (λ conds. (wins c, conds)) ws))
+    (goes_on (is (codes "if")) (Many (has cond_of)) w ws (conds_then (wins c, ws)) e (many_agrees cond_of (λ conds. (wins c, conds)) ws))
 wins_case c w ws false e =
     or_right if_form lag_form (w ∷ ws) (lagged c (lag_of w) w ws >>= conds_then) (not_fits (is (codes "if")) (Many (has cond_of)) w ws e) (not_reach (is (codes "if")) (Many (has cond_of)) w ws e)
-      (lag_case c w ws (lag_of w) refl)
+    (lag_case c w ws (lag_of w) refl)
 
 wins_agrees : (c : Colour) (ws : List (List ℕ)) → Agrees wins_form ws (after_wins c ws >>= conds_then)
 wins_agrees c [] = (refl, refl)
@@ -176,13 +176,13 @@ verb_case : (c : Colour) (w : List ℕ) (ws : List (List ℕ)) (a b : Bool) → 
 verb_case c w ws true b e h =
     let no : bytes_eq w (codes "holds") ≡ false = ap (λ x. bytes_eq x (codes "holds")) (equal_words w (codes "wins") e) in
     or_right (Then (is (codes "holds")) if_form) (Then (is (codes "wins")) wins_form) (w ∷ ws) (after_wins c ws >>= conds_then) (not_fits (is (codes "holds")) if_form w ws no) (not_reach (is (codes "holds")) if_form w ws no)
-      (goes_on (is (codes "wins")) wins_form w ws (after_wins c ws >>= conds_then) e (wins_agrees c ws))
+    (goes_on (is (codes "wins")) wins_form w ws (after_wins c ws >>= conds_then) e (wins_agrees c ws))
 verb_case c w ws false true e h =
     or_left (Then (is (codes "holds")) if_form) (Then (is (codes "wins")) wins_form) (w ∷ ws) (then_if (holds c) ws >>= conds_then) (not_fits (is (codes "wins")) wins_form w ws e) (not_reach (is (codes "wins")) wins_form w ws e)
-      (goes_on (is (codes "holds")) if_form w ws (then_if (holds c) ws >>= conds_then) h (if_agrees (holds c) ws))
+    (goes_on (is (codes "holds")) if_form w ws (then_if (holds c) ws >>= conds_then) h (if_agrees (holds c) ws))
 verb_case c w ws false false e h =
     or_left {A = Value × List Condition} (Then (is (codes "holds")) if_form) (Then (is (codes "wins")) wins_form) (w ∷ ws) (Err (w ∷ ws)) (not_fits (is (codes "wins")) wins_form w ws e) (not_reach (is (codes "wins")) wins_form w ws e)
-      (stops (Value × List Condition) (is (codes "holds")) if_form w ws h)
+    (stops (Value × List Condition) (is (codes "holds")) if_form w ws h)
 
 verb_agrees : (c : Colour) (ws : List (List ℕ)) → Agrees verb_form ws (after_colour c ws >>= conds_then)
 verb_agrees c [] = (refl, refl)
@@ -204,19 +204,19 @@ first_case w ws true b e h =
     let no1 : bytes_eq w (codes "unknown") ≡ false = ap (λ x. bytes_eq x (codes "unknown")) w_is in
     let no2 : is_some (colour_of w) ≡ false = ap (λ x. is_some (colour_of x)) w_is in
     or_left draw_form (Or unknown_form side_form) (w ∷ ws) (then_if Draw ws >>= conds_then)
-      (rw (no1, no2) refl) (rw (no1, no2) refl)
-      (goes_on (is (codes "draw")) if_form w ws (then_if Draw ws >>= conds_then) e (if_agrees Draw ws))
+    (rw (no1, no2) refl) (rw (no1, no2) refl)
+    (goes_on (is (codes "draw")) if_form w ws (then_if Draw ws >>= conds_then) e (if_agrees Draw ws))
 first_case w ws false true e h =
     let w_is = equal_words w (codes "unknown") h in
     let no2 : is_some (colour_of w) ≡ false = ap (λ x. is_some (colour_of x)) w_is in
     or_right draw_form (Or unknown_form side_form) (w ∷ ws) (then_if Unknown ws >>= conds_then) (not_fits (is (codes "draw")) if_form w ws e) (not_reach (is (codes "draw")) if_form w ws e)
-      (or_left unknown_form side_form (w ∷ ws) (then_if Unknown ws >>= conds_then) (not_fits (has colour_of) verb_form w ws no2) (not_reach (has colour_of) verb_form w ws no2)
-        (goes_on (is (codes "unknown")) if_form w ws (then_if Unknown ws >>= conds_then) h (if_agrees Unknown ws)))
+    (or_left unknown_form side_form (w ∷ ws) (then_if Unknown ws >>= conds_then) (not_fits (has colour_of) verb_form w ws no2) (not_reach (has colour_of) verb_form w ws no2)
+    (goes_on (is (codes "unknown")) if_form w ws (then_if Unknown ws >>= conds_then) h (if_agrees Unknown ws)))
 first_case w ws false false e h =
     let r = (taken (colour_of w) w ws >>= λ c. after_colour c.0 c.1) >>= conds_then in
     or_right draw_form (Or unknown_form side_form) (w ∷ ws) r (not_fits (is (codes "draw")) if_form w ws e) (not_reach (is (codes "draw")) if_form w ws e)
-      (or_right unknown_form side_form (w ∷ ws) r (not_fits (is (codes "unknown")) if_form w ws h) (not_reach (is (codes "unknown")) if_form w ws h)
-        (side_agrees w ws (colour_of w) refl))
+    (or_right unknown_form side_form (w ∷ ws) r (not_fits (is (codes "unknown")) if_form w ws h) (not_reach (is (codes "unknown")) if_form w ws h)
+    (side_agrees w ws (colour_of w) refl))
 
 pub exit_agrees : (ws : List (List ℕ)) → Agrees exit_form ws (exit_words ws)
 unfolding exit_words value_words

@@ -6,3 +6,6 @@ pub mod Agreeing
 pub mod Reaches
 pub mod Saying
 pub mod LineReading
+pub mod Sizes
+pub mod SoundGroups
+pub mod Sounding

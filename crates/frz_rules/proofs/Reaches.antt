@@ -55,8 +55,8 @@ within (Many p) [] rest (suc n) l e = absurd (omega arith)
 within (Many p) (w ∷ ws) rest (suc n) l e = many_within p (w ∷ ws) rest (suc n) l e
 within (Or f g) ws rest n l e =
     elim (one_true (fits f (take n ws ++ rest)) (fits g (take n ws ++ rest)) e) [
-      inl h ↦ (let i = within f ws rest n l h in omega arith)
-    | inr h ↦ (let i = within g ws rest n l h in omega arith)
+      | inl h ↦ (let i = within f ws rest n l h in omega arith)
+      | inr h ↦ (let i = within g ws rest n l h in omega arith)
     ]
 
 many_begins : (p : List ℕ → Bool) (b : Bool) (w : List ℕ) (ws : List (List ℕ)) (n : ℕ) → p w ≡ b → suc n ≤ cond b (1 + reach (Many p) ws) 0 → (n ≤ reach (Many p) ws → list_all p (take n ws ++ []) ≡ true) → list_all p (take (suc n) (w ∷ ws) ++ []) ≡ true
@@ -83,8 +83,8 @@ begins (Many p) i [] (suc n) h = absurd (omega arith)
 begins (Many p) i (w ∷ ws) (suc n) h = ([], all_begin p (w ∷ ws) (suc n) h)
 begins (Or f g) i ws n h =
     elim (leb_tells n (reach f ws)) [
-      inl l ↦ (let r = begins f i.0 ws n l.1 in (r.0, rw r.1 refl))
-    | inr l ↦ (let r = begins g i.1 ws n (let k = l.1 in omega arith) in (r.0, right_true (fits f (take n ws ++ r.0)) (fits g (take n ws ++ r.0)) r.1))
+      | inl l ↦ (let r = begins f i.0 ws n l.1 in (r.0, rw r.1 refl))
+      | inr l ↦ (let r = begins g i.1 ws n (let k = l.1 in omega arith) in (r.0, right_true (fits f (take n ws ++ r.0)) (fits g (take n ws ++ r.0)) r.1))
     ]
 
 reach_within : (f : Form) (ws : List (List ℕ)) → reach f ws ≤ length ws
@@ -98,10 +98,10 @@ reach_within (Or f g) ws = let m = reach_within f ws in let n = reach_within g w
 -- the reach of a form is the greatest front
 pub greatest_front : (f : Form) → IsPossible f → (ws : List (List ℕ)) → IsGreatestFront f ws (reach f ws)
 greatest_front f i ws = record {
-    within = reach_within f ws;
-    begins = begins f i ws (reach f ws) (omega arith);
-    greatest = λ m l b. within f ws b.0 m l b.1
-  }
+  within = reach_within f ws;
+  begins = begins f i ws (reach f ws) (omega arith);
+  greatest = λ m l b. within f ws b.0 m l b.1;
+}
 
 conds_possible : IsPossible if_form
 unfolding number_of squares_of set_of

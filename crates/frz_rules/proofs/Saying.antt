@@ -232,8 +232,8 @@ lag_case : (c : Colour) (w v n : List ℕ) (ws : List (List ℕ)) (o : Option �
 lag_case c w v n ws None e s t = nothing_by (value_of (w ∷ v ∷ n ∷ before_first is_if ws)) (some_of cond_of (after_first is_if ws)) (won_lag c w v n (before_first is_if ws) e)
 lag_case c w v n ws (Some m) e s t =
     if_said (λ others. value_of (w ∷ v ∷ n ∷ others)) (wins_in c m)
-      (ap (λ b. cond b (won_in (colour_of w) (lag_of n)) None) t ∙ ap (λ o. won_in o (lag_of n)) s ∙ ap (won_in (Some c)) e)
-      (λ x xs. refl) ws
+    (ap (λ b. cond b (won_in (colour_of w) (lag_of n)) None) t ∙ ap (λ o. won_in o (lag_of n)) s ∙ ap (won_in (Some c)) e)
+    (λ x xs. refl) ws
 
 won_if : (c : Colour) (w v : List ℕ) → colour_of w ≡ Some c → is (codes "wins") v ≡ true → value_of (w ∷ v ∷ []) ≡ Some (wins c)
 won_if c w v s t = ap (λ o. won_or_held o v) s ∙ ap (λ b. cond b (Some (wins c)) (cond (is (codes "holds") v) (Some (holds c)) None)) t

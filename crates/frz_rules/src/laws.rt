@@ -6,13 +6,11 @@ ghost use Rattle.frz_rules.specs.Begins.{IsGreatestFront};
 /// A line's reach is the greatest number of its first words that begin a line of some form.
 pub fn line_places()
     ensures { (line : List (List ℕ)) → IsGreatestFront line_form line (reach line_form line) }
-{
-}
+{}
 
 /// A line says something exactly where it has its form.
 pub fn line_forms()
     ensures group { (ws : List (List ℕ)) → fits group_form ws ≡ is_some (group_of ws) }
     ensures forbid { (ws : List (List ℕ)) → fits forbid_form ws ≡ is_some (forbid_of ws) }
     ensures exit { (ws : List (List ℕ)) → fits exit_form ws ≡ is_some (exit_of ws) }
-{
-}
+{}

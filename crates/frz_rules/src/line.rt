@@ -71,12 +71,15 @@ fn read_group_line(alloc: Global, rules: Rules, line: &[u8], rest: &[u8]) -> Res
         Err(Stop::At(left)) => Err(Refusal::Cause(place(line, left))),
         Ok((colour, (least, most), places)) => {
             let states = states(alloc, &places)?;
-            add_group(rules, Group {
-                colour,
-                least,
-                most,
-                states,
-            })
+            add_group(
+                rules,
+                Group {
+                    colour,
+                    least,
+                    most,
+                    states,
+                },
+            )
         }
     }
 }

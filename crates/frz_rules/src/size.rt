@@ -9,7 +9,7 @@ use crate::targets::target_count;
 use frz_combinations::binomial;
 
 /// How many choices of men and squares the group has.
-
+#[tactic(auto, using(crate::proofs::Sizes::sums))]
 fn radix(g: &Group) -> u64
     requires { IsCounted g.now }
     ensures { result ≡ capped (radix_of g.now) }
@@ -22,7 +22,7 @@ fn radix(g: &Group) -> u64
 }
 
 /// How many numbers the set of these groups has.
-
+#[tactic(auto, using(crate::proofs::Sizes::products))]
 fn size(groups: &[Group]) -> u64
     requires { AreCounted groups.now }
     ensures { result ≡ capped (size_of groups.now) }
@@ -36,7 +36,7 @@ fn size(groups: &[Group]) -> u64
 
 /// The size of the set that the rules describe, or the greatest number of 64 bits where that is
 /// greater: the turn states times, for each group, the choices of its men and their squares.
-
+#[tactic(auto, using(crate::proofs::SoundGroups::counted))]
 pub fn set_size(r: &Rules) -> u64
     requires { AreSoundLines r.now }
     ensures { result ≡ capped (size_of r.now.groups) }

@@ -115,9 +115,7 @@ pub fn has_end_pawn(states: &[(Kind, Square)]) -> bool
 fn has_state(states: &[(Kind, Square)], s: &(Kind, Square)) -> bool
     ensures { result ≡ list_any (same_state s.now) states.now }
 {
-    states
-        .iter()
-        .any(|t| number(s.0) == number(t.0) && s.1.number() == t.1.number())
+    states.iter().any(|t| number(s.0) == number(t.0) && s.1.number() == t.1.number())
 }
 
 /// Is one of the states among the others?

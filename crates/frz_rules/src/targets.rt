@@ -48,7 +48,8 @@ fn is_beside(s: Square, b: Square) -> bool
 fn have_pawn_beside(groups: &[Group], colour: Colour, b: Square) -> bool
     ensures { result ≡ list_any (λ s. (ranks_apart s b == 0 && files_apart s b == 1) && is_covered groups.now (pawn_cell colour) s) squares }
 {
-    (0..64u8).any(|s| is_beside(Square::at(s), b) && have_state(groups, pawn(colour), Square::at(s)))
+    (0..64u8).any(|s| is_beside(Square::at(s), b)
+        && have_state(groups, pawn(colour), Square::at(s)))
 }
 
 fn has_pair(groups: &[Group], colour: Colour, b: Square) -> bool

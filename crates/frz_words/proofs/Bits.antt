@@ -95,8 +95,8 @@ bit_of : (f : ℕ → Bool) (n s : ℕ) → s < n → bits_of f n / 2 ^ s % 2 �
 bit_of f zero s h = absurd (omega arith)
 bit_of f (suc n) s h =
     elim (eqb_tells s n) [
-      inl w ↦ subst (λ m. bits_of f (suc n) / 2 ^ m % 2 ≡ cond (f m) 1 0) (sym w.1) (top_bit (f n) (bits_of f n) n (bits_small f n))
-    | inr w ↦ (let ne = w.1 in let l : s < n = omega arith in low_bit (f n) (bits_of f n) n s l ∙ bit_of f n s l)
+      | inl w ↦ subst (λ m. bits_of f (suc n) / 2 ^ m % 2 ≡ cond (f m) 1 0) (sym w.1) (top_bit (f n) (bits_of f n) n (bits_small f n))
+      | inr w ↦ (let ne = w.1 in let l : s < n = omega arith in low_bit (f n) (bits_of f n) n s l ∙ bit_of f n s l)
     ]
 
 shown_bit : (b : Bool) → (cond b 1 0 == 1) ≡ b

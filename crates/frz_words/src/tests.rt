@@ -11,7 +11,12 @@ fn has_squares(rt: &impl Abort, word: &[u8], set: u64) {
 fn lines_and_words(rt: HostRuntime) {
     let text = b"a bc\r\n\n \t\r\n#\0\xff x";
     let mut lines = Lines::new(text);
-    for (number, count, second) in [(1, 2, Some(b"bc".as_slice())), (2, 0, None), (3, 0, None), (4, 2, Some(b"x".as_slice()))] {
+    for (number, count, second) in [
+        (1, 2, Some(b"bc".as_slice())),
+        (2, 0, None),
+        (3, 0, None),
+        (4, 2, Some(b"x".as_slice())),
+    ] {
         let line = lines.next().expect(&rt, "a line");
         assert_eq!(rt; line.number, number);
         assert_eq!(rt; line.count(), count);
@@ -37,7 +42,18 @@ fn numbers_and_squares(rt: HostRuntime) {
     has_squares(&rt, b"all", u64::MAX);
     has_squares(&rt, b"a1-b2", 0x303);
     has_squares(&rt, b"h8,a1-a1,h8", 0x8000_0000_0000_0001);
-    for word in [b"".as_slice(), b"a1,", b",a1", b"b1-a2", b"a2-b1", b"a1-", b"a9", b"A1", b"a1--b2", b"All"] {
+    for word in [
+        b"".as_slice(),
+        b"a1,",
+        b",a1",
+        b"b1-a2",
+        b"a2-b1",
+        b"a1-",
+        b"a9",
+        b"A1",
+        b"a1--b2",
+        b"All",
+    ] {
         assert_eq!(rt; read_squares(word), None);
     }
 }

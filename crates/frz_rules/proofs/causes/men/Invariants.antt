@@ -5,5 +5,5 @@ use Rattle.frz_rules.proofs.causes.men.Given as goal
 abbrev pub invariant-loop-g : goal.invariant-loop-g
 invariant-loop-g l = record {
   same : l.total + men_of (drop l.g-index l.groups) l.c ≡ men_of l.groups l.c;
-  small : l.total ≤ 255 * l.g-index
+  small : l.total ≤ 255 * l.g-index;
 }

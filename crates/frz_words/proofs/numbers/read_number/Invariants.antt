@@ -7,5 +7,5 @@ abbrev pub invariant-loop-digit : goal.invariant-loop-digit
 invariant-loop-digit l = record {
   digits : list_all is_digit (drop l.digit-index l.w) ≡ list_all is_digit l.w;
   same : decimal l.value (drop l.digit-index l.w) ≡ decimal 0 l.w;
-  small : l.value < 10 ^ l.digit-index
+  small : l.value < 10 ^ l.digit-index;
 }

@@ -1,0 +1,10 @@
+use Rattle.std.proofs.Common.{◌≡◌, ◌<◌, ◌^◌}
+use Rattle.frz_rules.specs.Sets.{size_of}
+use Rattle.frz_rules.proofs.Sizes.{held, times_from}
+use Rattle.frz_rules.proofs.size.size.Given as goal
+
+abbrev pub invariant-loop-g : goal.invariant-loop-g
+invariant-loop-g l = record {
+  same : times_from l.total l.groups l.g-index ≡ held (size_of l.groups);
+  fits : l.total < 2 ^ 64;
+}
