@@ -1,5 +1,5 @@
 -- The test of attack computes the relation of attack.
-use Rattle.std.proofs.Common.{◌≡◌, ℕ, ◌+◌, ◌<◌, Bool, true, ◌&&◌, ◌||◌, not, max, refl, ap, sym, ◌∙◌, Option, None, Some, slice_index, ◌⊎◌, inl, inr}
+use Rattle.std.proofs.Common.{◌≡◌, ℕ, ◌+◌, true, ◌&&◌, ◌||◌, not, max, refl, ap, ◌∙◌, Option, None, Some, slice_index, inl, inr}
 use Rattle.std.specs.Prelude.{◌==◌}
 use Rattle.std.proofs.lemmas.Bool.{eqb-true, eq-eqb}
 use Rattle.frz_board.specs.declared.man.Colour.{Colour}
@@ -8,10 +8,10 @@ use Rattle.frz_board.specs.declared.man.Kind.{Kind}
 use Rattle.frz_board.specs.declared.man.Kind.TheVariants.{King, Queen, Rook, Bishop, Knight, Pawn}
 use Rattle.frz_board.specs.declared.man.Man.{Man}
 use Rattle.frz_board.specs.Squares.{files_apart, ranks_apart, rank_of, is_forward}
-use Rattle.frz_board.specs.Lines.{is_knight_jump, is_king_step, is_rook_line, is_bishop_line, is_between}
+use Rattle.frz_board.specs.Lines.{is_rook_line, is_bishop_line, is_between}
 use Rattle.frz_board.specs.Men.{man_of_cell}
 use Rattle.frz_board.specs.Boards.{Board, man_on, is_empty}
-use Rattle.frz_board.specs.Attacks.{man_reaches, reaches, attacks, is_clear, pawn_reaches}
+use Rattle.frz_board.specs.Attacks.{man_reaches, reaches, attacks, is_clear}
 use Rattle.frz_board.specs.Attacking.{Stands, IsClear, IsDiagonal, IsFileOrRank, IsForward, Attack, king, rook, bishop, queen, knight, pawn}
 use Rattle.frz_board.proofs.Connectives.{and_both, both_and, or_either, either_or, implied, implies, not_same, same_not}
 use Rattle.frz_board.proofs.AllSquares.{each_square, all_squares}

@@ -5,7 +5,6 @@ use Rattle.frz_board.specs.declared.man.Colour.{Colour}
 use Rattle.frz_board.specs.declared.man.Colour.TheVariants.{White, Black}
 use Rattle.frz_board.specs.declared.man.Kind.{Kind}
 use Rattle.frz_board.specs.declared.man.Kind.TheVariants.{King, Queen, Rook, Bishop, Knight, Pawn}
-use Rattle.frz_board.specs.declared.man.Man.{Man}
 use Rattle.frz_board.specs.Men.{man_of_cell, cell_of_man}
 
 pub cell_back : (x : ℕ) (c : Colour) (k : Kind) → man_of_cell x ≡ Some (record { colour = c; kind = k }) → x ≡ cell_of_man (record { colour = c; kind = k })

@@ -1,13 +1,11 @@
 -- The first and the last rank are the two ends of each file.
-use Rattle.std.proofs.Common.{◌≡◌, ℕ, ◌+◌, ◌-◌, ◌/◌, ◌<◌, ◌≤◌, Bool, true, false, ◌&&◌, ◌||◌, not, refl, ap, sym, ◌∙◌, arith, ◌⊎◌, inl, inr}
+use Rattle.std.proofs.Common.{◌≡◌, ℕ, ◌+◌, ◌-◌, ◌<◌, ◌≤◌, Bool, true, false, ◌&&◌, not, refl, ap, sym, ◌∙◌, arith, ◌⊎◌, inl, inr}
 use Rattle.std.specs.Prelude.{◌==◌}
-use Rattle.std.specs.List.{list_all, range_with_len}
 use Rattle.std.proofs.lemmas.Bool.{eqb-true, eq-eqb}
-use Rattle.std.proofs.lemmas.Bool.Decides.{eqb_tells}
-use Rattle.frz_board.specs.Squares.{squares, rank_of}
+use Rattle.frz_board.specs.Squares.{rank_of}
 use Rattle.frz_board.specs.Boards.{Board}
 use Rattle.frz_board.specs.Shapes.{is_end, has_pawn, has_pawns_inside}
-use Rattle.frz_board.proofs.Connectives.{and_both, both_and, or_either, either_or, same_test}
+use Rattle.frz_board.proofs.Connectives.{both_and, or_either, either_or}
 use Rattle.frz_board.proofs.AllSquares.{all_squares, not_all_squares}
 
 -- what a test of a rank forbids

@@ -1,11 +1,11 @@
 -- The squares beside a square have the numbers before and after it.
-use Rattle.std.proofs.Common.{◌≡◌, ℕ, ◌+◌, ◌-◌, ◌%◌, ◌/◌, ◌<◌, ◌≤◌, Bool, true, false, ◌&&◌, ◌||◌, ap, sym, ◌∙◌, arith, ◌⊎◌, inl, inr}
+use Rattle.std.proofs.Common.{◌≡◌, ℕ, ◌+◌, ◌-◌, ◌<◌, Bool, true, false, ◌&&◌, ◌||◌, ap, sym, ◌∙◌, arith, ◌⊎◌, inl, inr}
 use Rattle.std.specs.Prelude.{◌==◌, nat_lt}
 use Rattle.std.specs.List.{list_any}
 use Rattle.std.proofs.lemmas.Bool.{eqb-true, eq-eqb, ltb-true, lt-ltb}
 use Rattle.frz_board.specs.declared.man.Colour.{Colour}
 use Rattle.frz_board.specs.declared.man.Kind.TheVariants.{Pawn}
-use Rattle.frz_board.specs.Squares.{squares, file_of, rank_of, files_apart, ranks_apart}
+use Rattle.frz_board.specs.Squares.{squares, file_of, files_apart, ranks_apart}
 use Rattle.frz_board.specs.Boards.{Board, has}
 use Rattle.frz_board.specs.EnPassant.{has_pawn_beside}
 use Rattle.frz_board.proofs.Connectives.{and_both, both_and, or_either, either_or, same_test}

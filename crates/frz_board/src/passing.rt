@@ -8,6 +8,20 @@ use super::man::{Colour, Kind};
 use super::position::Position;
 use super::square::Square;
 
+impl Square {
+    /// The square one rank ahead, as the side sees it.
+    pub fn ahead(self, c: Colour) -> Square
+        requires low { 8 ≤ self }
+        requires high { self < 56 }
+        ensures { result ≡ ahead c self }
+    {
+        match c {
+            Colour::White => Square::at(self.number() + 8),
+            Colour::Black => Square::at(self.number() - 8),
+        }
+    }
+}
+
 impl Position {
     /// Does a pawn of this side stand beside the square, on the same rank?
     pub fn has_pawn_beside(&self, c: Colour, s: Square) -> bool
@@ -24,8 +38,8 @@ impl Position {
         if !passing_rank(c, t) {
             return false;
         }
-        (self.cell(t) == 0 && self.cell(one_ahead(c.other(), t)) == 0)
-            && self.has(c, Kind::Pawn, one_ahead(c, t))
+        (self.cell(t) == 0 && self.cell(t.ahead(c.other())) == 0)
+            && self.has(c, Kind::Pawn, t.ahead(c))
     }
 }
 
@@ -39,7 +53,7 @@ pub fn target_in_place(p: &Position) -> bool
         None => true,
         Some(t) => {
             let passer = p.turn().other();
-            p.has_passed(passer, t) && p.has_pawn_beside(passer.other(), one_ahead(passer, t))
+            p.has_passed(passer, t) && p.has_pawn_beside(passer.other(), t.ahead(passer))
         }
     }
 }
@@ -64,16 +78,5 @@ fn passing_rank(c: Colour, t: Square) -> bool
     match c {
         Colour::White => t.rank() == 2,
         Colour::Black => t.rank() == 5,
-    }
-}
-
-fn one_ahead(c: Colour, t: Square) -> Square
-    requires low { 8 ≤ t }
-    requires high { t < 56 }
-    ensures { result ≡ ahead c t }
-{
-    match c {
-        Colour::White => Square::at(t.number() + 8),
-        Colour::Black => Square::at(t.number() - 8),
     }
 }

@@ -110,6 +110,13 @@ impl Position {
         }
     }
 
+    /// The position with this target.
+    pub fn with_target(&self, ep: Option<Square>) -> Position
+        ensures { result ≡ record self.now { ep = ep } }
+    {
+        Position { ep, ..*self }
+    }
+
     /// The position with the other side to move, and this target.
     pub fn hand_over(&self, ep: Option<Square>) -> Position
         ensures { result ≡ record self.now { turn = other_of self.now.turn; ep = ep } }

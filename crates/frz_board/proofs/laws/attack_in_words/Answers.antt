@@ -1,5 +1,4 @@
 use Rattle.frz_board.proofs.AttackInWords.{test_means, means_test}
-use Rattle.frz_board.proofs.AllSquares.{some_square, any_square}
 use Rattle.frz_board.proofs.laws.attack_in_words.Goals as goal
 
 pub returns : goal.returns

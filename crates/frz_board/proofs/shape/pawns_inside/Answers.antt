@@ -1,4 +1,4 @@
-use Rattle.std.proofs.Common.{◌≡◌, ◌<◌, ◌∙◌, sym, ap, arith}
+use Rattle.std.proofs.Common.{◌∙◌, sym, ap, arith}
 use Rattle.frz_board.specs.Shapes.{has_pawn}
 use Rattle.frz_board.proofs.EndRanks.{ends_free, pawn_on_first, pawn_on_last}
 use Rattle.frz_board.proofs.shape.pawns_inside.Goals as goal
