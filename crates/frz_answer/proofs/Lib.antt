@@ -1,3 +1,4 @@
 pub mod Telling
+pub mod Pieces
 pub mod Ending
 pub mod Finishing

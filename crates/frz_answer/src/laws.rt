@@ -1,11 +1,12 @@
 //! Laws on the ends of commands. Each function does nothing: its clause is the law.
-ghost use Rattle.std.specs.Prelude.{◌≡◌, ℕ, List, Option, ⊤};
+ghost use Rattle.std.specs.Prelude.{◌≡◌, ◌++◌, ℕ, List, Option, ⊤};
+ghost use Rattle.std.specs.Io.KnownBytes.{append_known};
 ghost use Rattle.frz_store.specs.Files.{Files};
 ghost use Rattle.frz_store.specs.declared.outside.StoreFault.{StoreFault};
 ghost use Rattle.frz_answer.specs.declared.end.End.{End};
 ghost use Rattle.frz_answer.specs.Outside.{Outside, outside};
 ghost use Rattle.frz_answer.specs.Answers.{Answer};
-ghost use Rattle.frz_answer.specs.Ends.{Same, Ran};
+ghost use Rattle.frz_answer.specs.Ends.{Same, Said, Ran};
 ghost use Rattle.frz_answer.specs.Faults.{end_of_fault};
 ghost use Rattle.frz_answer.specs.Outcomes.{Finished, IsHonest, KeepsLines, IsCut, KeepsFiles};
 
@@ -30,4 +31,10 @@ pub fn gives_rightly()
     ensures files { (a : Answer) (end : End) (status : ℕ) (old : Outside) (files : Option Files) (left before after : Option (List ℕ)) →
         Ran ⊤ (λ b. b ≡ a) Same end old (outside files left before) → Finished end status before after →
         KeepsFiles Same status old.files files }
+{}
+
+/// A last piece that was said behind another text is the whole of both said at once.
+pub fn says_in_pieces()
+    ensures { (status : ℕ) (end : End) (old mid new : Option (List ℕ)) (written piece : List ℕ) →
+        mid ≡ append_known old written → Said status piece end mid new → Said status (written ++ piece) end old new }
 {}

@@ -1,0 +1,31 @@
+-- A text that is written piece by piece.
+use Rattle.std.proofs.Common.{◌≡◌, inl, inr, sym, ap, ◌∙◌, ℕ, List, [], ◌++◌, take, drop, length, Option, append_assoc, append-nil}
+use Rattle.std.proofs.Math.Seq.{take-append_seam}
+use Rattle.std.proofs.lemmas.List.{take-append-drop}
+use Rattle.std.specs.Io.KnownBytes.{append_known}
+use Rattle.frz_answer.specs.declared.end.End.{End}
+use Rattle.frz_answer.specs.Ends.{Said}
+use Rattle.frz_answer.proofs.Telling.{append_twice}
+
+-- a part of a piece that stands within the whole text
+pub part_of : (old mid new : Option (List ℕ)) (written piece rest whole : List ℕ)
+    → mid ≡ append_known old written → written ++ (piece ++ rest) ≡ whole → (k : ℕ) × (new ≡ append_known mid (take k piece))
+    → (j : ℕ) × (new ≡ append_known old (take j whole))
+part_of old mid new written piece rest whole before is part =
+    let front : List ℕ = written ++ take part.0 piece in
+    let all : front ++ (drop part.0 piece ++ rest) ≡ whole =
+    append_assoc written (take part.0 piece) (drop part.0 piece ++ rest)
+    ∙ ap (λ (l : List ℕ). written ++ l) (sym (append_assoc (take part.0 piece) (drop part.0 piece) rest) ∙ ap (λ (l : List ℕ). l ++ rest) (take-append-drop part.0 piece)) ∙ is in
+    let cut : take (length front) whole ≡ front = sym (ap (take (length front)) all) ∙ take-append_seam front (drop part.0 piece ++ rest) in (
+      length front,
+      part.1 ∙ ap (λ o. append_known o (take part.0 piece)) before ∙ append_twice old written (take part.0 piece) ∙ ap (append_known old) (sym cut),
+    )
+
+-- the last piece, behind what was written before
+pub said_behind : (status : ℕ) (end : End) (old mid new : Option (List ℕ)) (written piece whole : List ℕ)
+    → mid ≡ append_known old written → written ++ piece ≡ whole → Said status piece end mid new → Said status whole end old new
+said_behind status end old mid new written piece whole before is (inl done) =
+    inl (done.0, done.1 ∙ ap (λ o. append_known o piece) before ∙ append_twice old written piece ∙ ap (append_known old) is)
+said_behind status end old mid new written piece whole before is (inr cut) =
+    let nothing : List ℕ = [] in
+    inr (cut.0, part_of old mid new written piece nothing whole before (ap (λ (l : List ℕ). written ++ l) (append-nil piece) ∙ is) cut.1)
