@@ -21,9 +21,10 @@ fails_next source = is_some (due_of source.plan Call)
 
 -- the source after a read is counted, and its fault where it fails
 abbrev pub called : MemSource → MemSource
-called source = record source
-  { plan = after source.plan Call
-  ; faults = if fails_next source then counted source.faults else source.faults }
+called source = record source {
+  plan = after source.plan Call;
+  faults = if fails_next source then counted source.faults else source.faults;
+}
 
 -- the source after so many bytes are taken
 abbrev pub without_front : MemSource → ℕ → MemSource

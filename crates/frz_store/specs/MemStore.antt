@@ -39,9 +39,10 @@ fails_next store on = is_some (due store on)
 
 -- the store after a call of this name is counted, and its fault where it fails
 abbrev pub called : MemStore → FailOn → MemStore
-called store on = record store
-  { plan = after store.plan on
-  ; faults = if fails_next store on then counted store.faults else store.faults }
+called store on = record store {
+  plan = after store.plan on;
+  faults = if fails_next store on then counted store.faults else store.faults;
+}
 
 -- the store after the bytes of a read are counted
 abbrev pub asked_for : MemStore → ℕ → MemStore

@@ -1,5 +1,6 @@
 //! A count that never falls.
-ghost use Rattle.std.specs.Prelude.{◌≡◌, ◌+◌, ◌-◌, ◌^◌, ◌≤◌, min};
+ghost use Rattle.std.specs.Prelude.{◌≡◌, ◌+◌, ◌-◌, ◌^◌, ◌≤◌, min, Ok, is_ok, IfOk, IfErr};
+ghost use Rattle.frz_store.specs.Outside.{HasCause};
 
 use std::marker::Model;
 
@@ -44,5 +45,25 @@ impl Count {
         ensures grows { self.old ≤ self.new }
     {
         self.value = self.value.saturating_add(amount);
+    }
+
+    /// Passes a result on, with this fault in place of an error, which is counted.
+    pub fn or_fault<T: Drop, E: Drop, F: Drop>(
+        &mut self,
+        done: Result<T, E>,
+        fault: F,
+    ) -> Result<T, F>
+        ensures ok { IfOk result (λ value. done ≡ Ok value) }
+        ensures err { IfErr result (λ e. e ≡ fault) }
+        ensures same { is_ok result ≡ is_ok done }
+        ensures cause { HasCause self.old self.new result }
+    {
+        match done {
+            Ok(value) => Ok(value),
+            Err(_) => {
+                self.add(1);
+                Err(fault)
+            }
+        }
     }
 }

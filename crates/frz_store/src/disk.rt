@@ -49,6 +49,14 @@ fn read_at<R: Files>(rt: &R, name: &str, at: u64, into: &mut [u8]) -> io::Result
     file.read_exact(into)
 }
 
+fn write_to<W: Write>(newest: &mut Option<W>, piece: &[u8]) -> io::Result<()> {
+    match newest {
+        Some(file) => file.write_all(piece),
+        None if piece.is_empty() => Ok(()),
+        None => Err(Error::from(ErrorKind::NotFound)),
+    }
+}
+
 impl<R: Files + Drop> Store for DiskStore<R> {
     ghost files = { λ _. None };
 
@@ -63,52 +71,28 @@ impl<R: Files + Drop> Store for DiskStore<R> {
     ghost room = { λ store. store.room };
 
     fn size(&mut self, name: &str) -> Result<Option<u64>, StoreFault> {
-        match size_of(&self.rt, name) {
-            Ok(size) => Ok(size),
-            Err(_) => {
-                self.faults.add(1);
-                Err(StoreFault::Failed)
-            }
-        }
+        let size = size_of(&self.rt, name);
+        self.faults.or_fault(size, StoreFault::Failed)
     }
 
     fn read(&mut self, name: &str, at: u64, into: &mut [u8]) -> Result<(), StoreFault> {
         self.asked.add(into.len() as u64);
-        match read_at(&self.rt, name, at, into) {
-            Ok(()) => Ok(()),
-            Err(_) => {
-                self.faults.add(1);
-                Err(StoreFault::Failed)
-            }
-        }
+        let done = read_at(&self.rt, name, at, into);
+        self.faults.or_fault(done, StoreFault::Failed)
     }
 
     fn create(&mut self, name: &str, due: u64) -> Result<(), StoreFault> {
-        match fs::create(&self.rt, name) {
-            Ok(file) => {
-                self.newest = Some(file);
-                self.room = due;
-                Ok(())
-            }
-            Err(_) => {
-                self.faults.add(1);
-                self.room = 0;
-                Err(StoreFault::Failed)
-            }
-        }
+        self.room = 0;
+        let created = fs::create(&self.rt, name);
+        let file = self.faults.or_fault(created, StoreFault::Failed)?;
+        self.newest = Some(file);
+        self.room = due;
+        Ok(())
     }
 
     fn append(&mut self, piece: &[u8]) -> Result<(), Failed> {
         self.room -= piece.len() as u64;
-        if piece.is_empty() {
-            return Ok(());
-        }
-        if let Some(file) = &mut self.newest
-            && file.write_all(piece).is_ok()
-        {
-            return Ok(());
-        }
-        self.faults.add(1);
-        Err(Failed)
+        let done = write_to(&mut self.newest, piece);
+        self.faults.or_fault(done, Failed)
     }
 }

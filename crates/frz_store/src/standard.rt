@@ -3,6 +3,7 @@ ghost use Rattle.std.specs.Prelude.{None};
 
 use crate::count::Count;
 use crate::{Failed, Sink, Source};
+use std::io;
 use std::io::{Read, Write};
 
 /// A source over a reader, such as standard input.
@@ -27,13 +28,8 @@ impl<R: Read + Drop> Source for InputSource<R> {
     ghost faults = { λ source. source.faults };
 
     fn read(&mut self, into: &mut [u8]) -> Result<usize, Failed> {
-        match self.reader.read(into) {
-            Ok(count) => Ok(count),
-            Err(_) => {
-                self.faults.add(1);
-                Err(Failed)
-            }
-        }
+        let count = self.reader.read(into);
+        self.faults.or_fault(count, Failed)
     }
 }
 
@@ -53,16 +49,18 @@ impl<W: Write + Drop> OutputSink<W> {
     }
 }
 
+fn write_through<W: Write>(writer: &mut W, piece: &[u8]) -> io::Result<()> {
+    writer.write_all(piece)?;
+    writer.flush()
+}
+
 impl<W: Write + Drop> Sink for OutputSink<W> {
     ghost taken = { λ _. None };
 
     ghost faults = { λ sink. sink.faults };
 
     fn write(&mut self, piece: &[u8]) -> Result<(), Failed> {
-        if self.writer.write_all(piece).is_ok() && self.writer.flush().is_ok() {
-            return Ok(());
-        }
-        self.faults.add(1);
-        Err(Failed)
+        let done = write_through(&mut self.writer, piece);
+        self.faults.or_fault(done, Failed)
     }
 }
