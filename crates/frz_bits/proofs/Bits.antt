@@ -1,15 +1,15 @@
 -- Words as tests of their squares.
-use Rattle.std.proofs.Common.{◌≡◌, ℕ, zero, suc, ◌+◌, ◌-◌, ◌*◌, ◌^◌, ◌<◌, ◌≤◌, Bool, true, false, cond, ◌&&◌, ◌||◌, not, min, max, refl, ap, sym, ◌∙◌, arith, bit_and, bit_or, inl, inr}
+use Rattle.std.proofs.Common.{w64, ◌≡◌, ℕ, zero, suc, ◌+◌, ◌-◌, ◌*◌, ◌^◌, ◌<◌, ◌≤◌, Bool, true, false, cond, ◌&&◌, ◌||◌, not, min, max, refl, ap, sym, ◌∙◌, arith, bit_and, bit_or, inl, inr}
 use Rattle.std.specs.Prelude.{◌==◌}
 use Rattle.std.specs.List.{list_all, list_any, range_with_len}
-use Rattle.std.specs.Int.{bit_at}
+use Rattle.std.specs.Int.{bit_at, bit_not}
 use Rattle.std.proofs.lemmas.Bool.{eqb-true, eq-eqb, cases_eq, and_parts, not-true, false_from_ne_true}
 use Rattle.std.proofs.lemmas.Bool.Decides.{nat_tests, eqb_tells}
-use Rattle.std.proofs.lemmas.Nat.Bits.{bit_at-lt, bit_at-zero, bit_at_and, bit_at_or, bit_at_cat_low, bit_at_cat_high, same_from_bits_below}
+use Rattle.std.proofs.lemmas.Nat.Bits.{bit_at-lt, bit_at-zero, bit_at_and, bit_at_or, bit_at_not, bit_at_cat_low, bit_at_cat_high, same_from_bits_below}
 use Rattle.std.proofs.Math.Pow.{pow_pos}
 use Rattle.frz_board.specs.Squares.{squares}
 use Rattle.frz_bits.specs.Words.{has_square, word_below, word_of}
-use Rattle.std.proofs.lemmas.Nat.{and_le_r}
+use Rattle.std.proofs.lemmas.Nat.{and_le_r, or_lt}
 
 and_small : (v w : ℕ) → w < 2 ^ 64 → bit_and v w < 2 ^ 64
 and_small v w h = omega (arith, and_le_r v w)
@@ -89,6 +89,22 @@ has-and v w k = ap (λ b. b == 1) (bit_at_and v w k) ∙ and_bits (bit_at v k) (
 
 pub has-or : (v w k : ℕ) → has_square (bit_or v w) k ≡ (has_square v k || has_square w k)
 has-or v w k = ap (λ b. b == 1) (bit_at_or v w k) ∙ or_bits (bit_at v k) (bit_at w k) (bit_at-lt v k) (bit_at-lt w k)
+
+not_bit : (n : ℕ) → n < 2 → (1 - n == 1) ≡ not (n == 1)
+not_bit n h = grind (arith, nat_tests)
+
+pub has-not : (w k : ℕ) → w < 2 ^ 64 → k < 64 → has_square (bit_not w64 w) k ≡ not (has_square w k)
+has-not w k small l = ap (λ b. b == 1) (bit_at_not w64 w k small l) ∙ not_bit (bit_at w k) (bit_at-lt w k)
+
+-- the squares of the one word that are not in the other
+pub has-without : (v w k : ℕ) → w < 2 ^ 64 → k < 64 → has_square (bit_and v (bit_not w64 w)) k ≡ (has_square v k && not (has_square w k))
+has-without v w k small l = has-and v (bit_not w64 w) k ∙ ap (λ x. has_square v k && x) (has-not w k small l)
+
+-- the squares that pass either test
+pub or_words : (f g : ℕ → Bool) → bit_or (word_of f) (word_of g) ≡ word_of (λ k. f k || g k)
+or_words f g =
+    word_of-from (bit_or (word_of f) (word_of g)) (λ k. f k || g k) (or_lt 64 (word_of f) (word_of g) (word_of-small f) (word_of-small g))
+    (λ k l. has-or (word_of f) (word_of g) k ∙ ap (λ x. x || has_square (word_of g) k) (has-word_of f k l) ∙ ap (λ x. f k || x) (has-word_of g k l))
 
 pub has-zero : (k : ℕ) → has_square 0 k ≡ false
 has-zero k = ap (λ b. b == 1) (bit_at-zero k)

@@ -7,7 +7,9 @@ use Rattle.frz_board.specs.Lines.{is_knight_jump, is_king_step, is_rook_line, is
 use Rattle.frz_board.specs.Attacks.{pawn_reaches}
 use Rattle.frz_bits.specs.declared.lines.TheConstants.{BETWEEN_LOW, BETWEEN_HIGH}
 use Rattle.frz_bits.specs.declared.reach.TheConstants.{KNIGHT, KING, WHITE_PAWN, BLACK_PAWN, ROOK, BISHOP}
+use Rattle.frz_bits.specs.declared.pawn_ways.TheConstants.{WHITE_PAWN_WAYS, BLACK_PAWN_WAYS}
 use Rattle.frz_bits.specs.Words.{word_of}
+use Rattle.frz_bits.specs.Ways.{is_pawn_way}
 
 in_table : (f : ℕ → ℕ) (n : ℕ) (xs : List ℕ) → map f (range_with_len 0 n) ≡ xs → (i : ℕ) → i < n → slice_index xs i ≡ f i
 in_table f n xs e i h = ap (λ ys. slice_index ys i) (sym e) ∙ get_or-map-range_with_len f 0 n i i 0 h (omega arith)
@@ -35,6 +37,20 @@ rook_table = refl
 bishop_table : map (λ a. word_of (λ b. is_bishop_line a b)) (range_with_len 0 64) ≡ BISHOP
 unfolding word_of
 bishop_table = refl
+
+white_pawn_way_table : map (λ a. word_of (λ b. is_pawn_way White a b)) (range_with_len 0 64) ≡ WHITE_PAWN_WAYS
+unfolding word_of
+white_pawn_way_table = refl
+
+black_pawn_way_table : map (λ a. word_of (λ b. is_pawn_way Black a b)) (range_with_len 0 64) ≡ BLACK_PAWN_WAYS
+unfolding word_of
+black_pawn_way_table = refl
+
+pub white_pawn_way_at : (s : ℕ) → s < 64 → slice_index WHITE_PAWN_WAYS s ≡ word_of (λ b. is_pawn_way White s b)
+white_pawn_way_at s h = in_table (λ a. word_of (λ b. is_pawn_way White a b)) 64 WHITE_PAWN_WAYS white_pawn_way_table s h
+
+pub black_pawn_way_at : (s : ℕ) → s < 64 → slice_index BLACK_PAWN_WAYS s ≡ word_of (λ b. is_pawn_way Black s b)
+black_pawn_way_at s h = in_table (λ a. word_of (λ b. is_pawn_way Black a b)) 64 BLACK_PAWN_WAYS black_pawn_way_table s h
 
 -- the words of two lists of halves
 joined : List ℕ → List ℕ → List ℕ

@@ -1,3 +1,4 @@
 pub mod Words
 pub mod Rays
 pub mod Sides
+pub mod Ways

@@ -1,6 +1,7 @@
 ghost use Rattle.std.specs.Prelude.{◌≡◌, ◌<◌, ◌≤◌, ◌^◌, ◌&&◌, not, slice_set, if◌then◌else◌, ◌+◌};
 ghost use Rattle.frz_board.specs.Men.{is_man_of, man_of_cell, other_of};
 ghost use Rattle.frz_board.specs.Boards.{Board, is_empty, man_on, holds, has};
+ghost use Rattle.frz_board.specs.EnPassant.{has_pawn_beside};
 ghost use Rattle.frz_board.specs.Attacks.{is_clear, reaches as man_reaches, attacks as man_attacks, is_attacked, is_in_check};
 ghost use Rattle.frz_bits.specs.Words.{word_of};
 
@@ -91,6 +92,41 @@ impl Bitboards {
         ensures { result ≡ man_on self.now s }
     {
         self.position.man(s)
+    }
+
+    /// The target.
+    pub fn ep(&self) -> Option<Square>
+        ensures { result ≡ self.now.ep }
+    {
+        self.position.ep()
+    }
+
+    /// The position without its words.
+    pub fn position(&self) -> Position
+        ensures { result ≡ self.now }
+    {
+        self.position
+    }
+
+    /// Is the square empty?
+    pub fn is_empty(&self, s: Square) -> bool
+        ensures { result ≡ is_empty self.now s }
+    {
+        self.position.cell(s) == 0
+    }
+
+    /// Does a man of the side stand on the square?
+    pub fn holds(&self, c: Colour, s: Square) -> bool
+        ensures { result ≡ holds self.now c s }
+    {
+        self.position.holds(c, s)
+    }
+
+    /// Does a pawn of the side stand beside the square, on the same rank?
+    pub fn has_pawn_beside(&self, c: Colour, s: Square) -> bool
+        ensures { result ≡ has_pawn_beside self.now c s }
+    {
+        self.position.has_pawn_beside(c, s)
     }
 
     /// Is each square strictly between empty?

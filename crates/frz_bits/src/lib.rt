@@ -3,13 +3,16 @@
 
 mod bitboards;
 mod lines;
+mod pawn_ways;
 mod rays;
 mod reach;
 mod reaching;
 mod sets;
+mod ways;
 mod word;
 
 pub use bitboards::{Bitboards, attackers};
 pub use rays::{bishop_rays, rook_rays};
 pub use sets::{between, bishop_lines, king_set, knight_set, pawn_set, rook_lines};
-pub use word::{contains, next_square, with_square};
+pub use ways::move_set;
+pub use word::{contains, next_square, with_square, without};

@@ -1,4 +1,4 @@
-ghost use Rattle.std.specs.Prelude.{ℕ, ◌≡◌, ◌==◌, ◌+◌, ◌≤◌, ◌<◌, ◌^◌, MatchOption, if◌then◌else◌};
+ghost use Rattle.std.specs.Prelude.{ℕ, ◌≡◌, ◌&&◌, not, ◌==◌, ◌+◌, ◌≤◌, ◌<◌, ◌^◌, MatchOption, if◌then◌else◌};
 ghost use Rattle.frz_bits.specs.Words.{has_square, HasNoneFrom, IsNext};
 
 use frz_board::Square;
@@ -30,6 +30,13 @@ pub fn replaced(word: u64, s: Square, put_in: bool) -> u64
 {
     let bit = 1 << s.number();
     if put_in { word | bit } else { word & !bit }
+}
+
+/// The squares of the one word that are not in the other.
+pub fn without(word: u64, other: u64) -> u64
+    ensures { (k : ℕ) → k < 64 → has_square result k ≡ (has_square word k && not (has_square other k)) }
+{
+    word & !other
 }
 
 /// The first square of the word whose number is `n` or above.

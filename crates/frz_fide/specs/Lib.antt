@@ -1,4 +1,5 @@
 pub mod Legal
 pub mod Listing
+pub mod SquareBySquare
 pub mod Valid
 pub mod Ends

@@ -1,8 +1,19 @@
 //! Attack, validity, legal moves and play by the FIDE Laws of Chess, articles 1 to 5.
 #![tactic(auto)]
 
+mod aftermath;
 mod attack;
+mod finish;
+pub mod laws;
+mod moves;
+mod outcome;
+mod playing;
 mod validity;
+mod ways;
 
 pub use attack::{attacked, in_check};
+pub use finish::ending;
+pub use moves::{MoveList, legal_moves};
+pub use outcome::Ending;
+pub use playing::play;
 pub use validity::{Invalid, valid};

@@ -1,0 +1,5 @@
+use Rattle.frz_bits.proofs.Bits.{has-without}
+use Rattle.frz_bits.proofs.word.without.Goals as goal
+
+pub returns : goal.returns
+returns c k l = has-without c.args.word c.args.other k c.ranges.other.fits l

@@ -1,0 +1,12 @@
+pub mod Squares
+pub mod Order
+pub mod Together
+pub mod Room
+pub mod Cells
+pub mod Facts
+pub mod Standing
+pub mod Different
+pub mod Kept
+pub mod Skip
+pub mod Listed
+pub mod Targets

@@ -1,0 +1,69 @@
+ghost use Rattle.std.specs.Prelude.{◌≡◌, not, Some};
+ghost use Rattle.frz_board.specs.Boards.{man_on};
+ghost use Rattle.frz_board.specs.Attacks.{is_in_check};
+ghost use Rattle.frz_fide.specs.Legal.{beside_on_file, arrives, cells_after, target_after, after as board_after};
+
+use super::ways::{advances_two, midway, takes_passing};
+use frz_bits::Bitboards;
+use frz_board::{Kind, Man, Move, Position, Square, cell_of};
+
+/// The square beside `a` on the file of `b`.
+fn beside(a: Square, b: Square) -> Square
+    ensures { result ≡ beside_on_file a b }
+{
+    Square::at(8 * a.rank() + b.file())
+}
+
+fn arriving(man: Man, promo: Option<Kind>) -> Man
+    ensures { result ≡ arrives man promo }
+{
+    match promo {
+        None => man,
+        Some(kind) => Man {
+            colour: man.colour,
+            kind,
+        },
+    }
+}
+
+/// The men where they stand after the move of this man.
+fn moved(p: &Bitboards, man: Man, m: Move) -> Bitboards
+    ensures { result ≡ record p.now { cells = cells_after p.now man m } }
+{
+    let q = p.put(m.from, 0).put(m.to, cell_of(arriving(man, m.promo)));
+    if man.kind == Kind::Pawn && takes_passing(p, man.colour, m.from, m.to) {
+        q.put(beside(m.from, m.to), 0)
+    } else {
+        q
+    }
+}
+
+fn new_target(p: &Bitboards, man: Man, m: Move) -> Option<Square>
+    ensures { result ≡ target_after p.now man m }
+{
+    if (man.kind == Kind::Pawn && advances_two(p, man.colour, m.from, m.to))
+        && p.has_pawn_beside(man.colour.other(), m.to)
+    {
+        Some(midway(m.from, m.to))
+    } else {
+        None
+    }
+}
+
+/// The position after the move: of the man on its origin, if there is one.
+pub fn after(p: &Bitboards, m: Move) -> Position
+    ensures { result ≡ board_after p.now m }
+{
+    match p.man(m.from) {
+        None => p.position(),
+        Some(man) => moved(p, man, m).position().hand_over(new_target(p, man, m)),
+    }
+}
+
+/// Is the mover's king not attacked after the move of this man?
+pub fn is_safe(p: &Bitboards, man: Man, m: Move) -> bool
+    requires { man_on p.now m.from ≡ Some man }
+    ensures { result ≡ not (is_in_check (board_after p.now m) p.now.turn) }
+{
+    !moved(p, man, m).is_in_check(p.turn())
+}

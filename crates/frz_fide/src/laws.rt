@@ -1,0 +1,31 @@
+//! Laws of the rules of chess, each the contract of a function that does nothing.
+
+ghost use Rattle.std.specs.Prelude.{ℕ, ◌≡◌, ◌<◌, true, Contains, ◌↔◌};
+ghost use Rattle.std.specs.List.Sorted.{IsStrictlySortedBy};
+ghost use Rattle.frz_board.specs.Boards.{Board};
+ghost use Rattle.frz_board.specs.Moving.{Step, IsStep, step_cmp};
+ghost use Rattle.frz_fide.specs.Legal.{is_legal, after};
+ghost use Rattle.frz_fide.specs.Listing.{legal_moves_of};
+ghost use Rattle.frz_fide.specs.Valid.{IsValid};
+
+/// Two different legal moves of one position lead to two different positions.
+#[tactic(auto, using(crate::proofs::Different::same_move))]
+pub fn different_moves()
+    ensures { (p : Board) (m n : Step) → IsValid p → IsStep m → IsStep n → is_legal p m ≡ true → is_legal p n ≡ true → after p m ≡ after p n → m ≡ n }
+{}
+
+/// A legal move of a valid position leads to a valid position.
+pub fn stays_valid()
+    ensures { (p : Board) (m : Step) → IsValid p → IsStep m → is_legal p m ≡ true → IsValid (after p m) }
+{}
+
+/// The legal moves are listed in move order.
+#[tactic(auto, using(crate::proofs::Listed::sorted))]
+pub fn in_order()
+    ensures { (p : Board) → IsStrictlySortedBy step_cmp (legal_moves_of p) }
+{}
+
+/// The list has exactly the legal moves.
+pub fn all_listed()
+    ensures { (p : Board) (m : Step) → Contains (legal_moves_of p) m ↔ (IsStep m × (is_legal p m ≡ true)) }
+{}

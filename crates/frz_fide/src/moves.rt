@@ -1,0 +1,180 @@
+ghost use Rattle.std.specs.Prelude.{Contains, ◌↔◌, ◌≡◌, ◌+◌, ◌≤◌, ◌++◌, ◌∷◌, [], length, filter, true, ◌&&◌, not, Some};
+ghost use Rattle.std.specs.List.Sorted.{IsStrictlySortedBy};
+ghost use Rattle.arrayvec.specs.ArrayVec.{array_vec_len};
+ghost use Rattle.frz_board.specs.Boards.{man_on, holds};
+ghost use Rattle.frz_board.specs.Men.{same_colour, is_pawn};
+ghost use Rattle.frz_board.specs.Moving.{Step, IsStep, step_cmp};
+ghost use Rattle.frz_fide.specs.Legal.{is_legal, can_go, goes as man_goes, is_last};
+ghost use Rattle.frz_fide.specs.Valid.{IsValid};
+ghost use Rattle.frz_fide.specs.Listing.{legal_moves_of};
+ghost use Rattle.frz_fide.specs.SquareBySquare.{legal_between, legal_from, legal_by_squares, chosen};
+
+use super::aftermath::is_safe;
+use super::ways::{goes, last};
+use arrayvec::ArrayVec;
+use frz_bits::{Bitboards, move_set, next_square, without};
+use frz_board::{Kind, Man, Move, Position, Square};
+use frz_steps::Steps;
+use std::sync::ledger::Ledger;
+
+/// The moves of a position: at most 16 men of a side, each with at most 64 moves.
+pub type MoveList = ArrayVec<Move, 1024>;
+
+/// Adds a move that can go, if the king is safe afterwards.
+#[tactic(auto, unfolding(crate::specs::Legal::is_legal))]
+fn add_if_safe(p: &Bitboards, man: Man, m: Move, list: &mut MoveList)
+    requires man { man_on p.now m.from ≡ Some man }
+    requires can { can_go p.now m ≡ true }
+    requires room { array_vec_len list.old + length (filter (is_legal p.now) (m ∷ [])) ≤ 1024 }
+    ensures { list.new.items ≡ list.old.items ++ filter (is_legal p.now) (m ∷ []) }
+{
+    if is_safe(p, man, m) {
+        list.push(m);
+    }
+}
+
+/// Adds the legal moves of a pawn that reaches its last rank.
+#[tactic(auto, unfolding(crate::specs::SquareBySquare::chosen))]
+fn add_choices(p: &Bitboards, man: Man, from: Square, to: Square, list: &mut MoveList)
+    requires man { man_on p.now from ≡ Some man }
+    requires queen { can_go p.now (record { from = from; to = to; promo = Some Kind.Queen }) ≡ true }
+    requires rook { can_go p.now (record { from = from; to = to; promo = Some Kind.Rook }) ≡ true }
+    requires bishop { can_go p.now (record { from = from; to = to; promo = Some Kind.Bishop }) ≡ true }
+    requires knight { can_go p.now (record { from = from; to = to; promo = Some Kind.Knight }) ≡ true }
+    requires room { array_vec_len list.old + length (chosen p.now from to) ≤ 1024 }
+    ensures { list.new.items ≡ list.old.items ++ chosen p.now from to }
+{
+    let queen = Some(Kind::Queen);
+    let rook = Some(Kind::Rook);
+    let bishop = Some(Kind::Bishop);
+    let knight = Some(Kind::Knight);
+    add_if_safe(
+        p,
+        man,
+        Move {
+            from,
+            to,
+            promo: queen,
+        },
+        list,
+    );
+    add_if_safe(
+        p,
+        man,
+        Move {
+            from,
+            to,
+            promo: rook,
+        },
+        list,
+    );
+    add_if_safe(
+        p,
+        man,
+        Move {
+            from,
+            to,
+            promo: bishop,
+        },
+        list,
+    );
+    add_if_safe(
+        p,
+        man,
+        Move {
+            from,
+            to,
+            promo: knight,
+        },
+        list,
+    );
+}
+
+/// May the man go from `from` to `to`, as far as the way there goes?
+fn is_open(p: &Bitboards, man: Man, from: Square, to: Square) -> bool
+    ensures { result ≡ (not (holds p.now p.now.turn to) && man_goes p.now man.colour man.kind from to) }
+{
+    !p.holds(p.turn(), to) && goes(p, man, from, to)
+}
+
+/// Must the man become another one on `to`?
+fn must_choose(man: Man, to: Square) -> bool
+    ensures { result ≡ (is_pawn man.kind && is_last man.colour to) }
+{
+    man.kind == Kind::Pawn && last(man.colour, to)
+}
+
+/// Adds the legal moves of the man on `from` to `to`.
+#[tactic(auto, using(crate::proofs::Skip::skips))]
+fn add_between(p: &Bitboards, man: Man, from: Square, to: Square, list: &mut MoveList)
+    requires man { man_on p.now from ≡ Some man }
+    requires own { same_colour man.colour p.now.turn ≡ true }
+    requires room { array_vec_len list.old + length (legal_between p.now from to) ≤ 1024 }
+    ensures { list.new.items ≡ list.old.items ++ legal_between p.now from to }
+{
+    if is_open(p, man, from, to) {
+        if must_choose(man, to) {
+            add_choices(p, man, from, to, list);
+        } else {
+            let promo = None;
+            add_if_safe(p, man, Move { from, to, promo }, list);
+        }
+    }
+}
+
+/// Adds the legal moves of the man on `from`: it goes over the squares where the man may go on some
+/// board, but for those of its own side.
+#[tactic(auto, using(crate::proofs::Order::loops))]
+fn add_from(p: &Bitboards, man: Man, from: Square, list: &mut MoveList)
+    requires man { man_on p.now from ≡ Some man }
+    requires own { same_colour man.colour p.now.turn ≡ true }
+    requires room { array_vec_len list.old + length (legal_from p.now from) ≤ 1024 }
+    ensures { list.new.items ≡ list.old.items ++ legal_from p.now from }
+{
+    let targets = without(move_set(man, from), p.side(p.turn()));
+    let mut n = 0;
+    while let Some(to) = next_square(targets, n) {
+        add_between(p, man, from, to, list);
+        n = to.number() + 1;
+    }
+}
+
+/// Adds the legal moves from a square of the side to move.
+fn add_square(p: &Bitboards, from: Square, list: &mut MoveList)
+    requires own { holds p.now p.now.turn from ≡ true }
+    requires room { array_vec_len list.old + length (legal_from p.now from) ≤ 1024 }
+    ensures { list.new.items ≡ list.old.items ++ legal_from p.now from }
+{
+    if let Some(man) = p.man(from) {
+        add_from(p, man, from, list);
+    }
+}
+
+/// All legal moves: it goes over the squares of the side to move.
+#[tactic(auto, using(crate::proofs::Order::loops))]
+fn all_moves(p: &Bitboards) -> MoveList
+    requires { length (legal_by_squares p.now) ≤ 1024 }
+    ensures { result.items ≡ legal_by_squares p.now }
+{
+    let own = p.side(p.turn());
+    let mut list = MoveList::new();
+    let mut n = 0;
+    while let Some(from) = next_square(own, n) {
+        add_square(p, from, &mut list);
+        n = from.number() + 1;
+    }
+    list
+}
+
+/// All legal moves, in move order. It is one step.
+#[tactic(auto, using(crate::proofs::Together::by_squares, crate::proofs::Room::legal_room))]
+pub fn legal_moves<L: Ledger>(p: &Position, steps: &mut Steps<L>) -> MoveList
+    requires { IsValid p.now }
+    ensures moves { result.items ≡ legal_moves_of p.now }
+    ensures all { (m : Step) → Contains result.items m ↔ (IsStep m × (is_legal p.now m ≡ true)) }
+    ensures order { IsStrictlySortedBy step_cmp result.items }
+    ensures step { steps.new ≡ steps.old + 1 }
+{
+    steps.tick();
+    all_moves(&Bitboards::of(p))
+}
