@@ -1,0 +1,3 @@
+pub mod Classes
+pub mod FirstLines
+pub mod SoundLags

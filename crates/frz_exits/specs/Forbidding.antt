@@ -1,0 +1,48 @@
+-- Which moves the rules forbid a side.
+use Rattle.std.specs.Prelude.{not, ℕ, Bool, true, false, ◌==◌, ◌&&◌, ◌||◌, List, Option, None, Some, is_some}
+use Rattle.std.specs.List.{list_any}
+use Rattle.frz_board.specs.declared.man.Colour.{Colour}
+use Rattle.frz_board.specs.declared.man.Kind.TheVariants.{Pawn}
+use Rattle.frz_board.specs.Men.{same_colour}
+use Rattle.frz_board.specs.Boards.{Board, is_empty, has}
+use Rattle.frz_board.specs.Moving.{Step}
+use Rattle.frz_board.specs.Attacks.{pawn_reaches}
+use Rattle.frz_words.specs.Squares.{has_square}
+use Rattle.frz_rules.specs.declared.forbid.Only.{Only}
+use Rattle.frz_rules.specs.declared.forbid.Only.TheVariants.{Any, Capture, Promotion}
+use Rattle.frz_rules.specs.declared.forbid.Forbid.{Forbid}
+use Rattle.frz_rules.specs.Views.{RuleLines}
+
+-- the square is the target
+abbrev pub is_target : Option ℕ → ℕ → Bool
+is_target None s = false
+is_target (Some t) s = t == s
+
+-- a pawn captures the one that has just passed its square (FIDE 3.7)
+abbrev pub is_en_passant : Board → Step → Bool
+is_en_passant p m =
+    has p p.turn Pawn m.from && (pawn_reaches p.turn m.from m.to && is_target p.ep m.to)
+
+-- a man is captured, en passant too
+abbrev pub is_capture : Board → Step → Bool
+is_capture p m = not (is_empty p m.to) || is_en_passant p m
+
+-- the move is of the kind that the line names
+abbrev pub fits : Only → Board → Step → Bool
+fits Any p m = true
+fits Capture p m = is_capture p m
+fits Promotion p m = is_some m.promo
+
+-- the move is of such a man, from the first squares to the second
+unfoldable pub covers : Forbid → Board → Step → Bool
+covers line p m =
+    has p line.colour line.kind m.from
+    && ((has_square line.from.0 m.from && has_square line.to.0 m.to) && fits line.only p m)
+
+-- one of the lines is of the side and covers the move
+abbrev pub is_covered : List Forbid → Colour → Board → Step → Bool
+is_covered lines side p m = list_any (λ line. same_colour line.colour side && covers line p m) lines
+
+-- no forbid line of the side covers the move
+abbrev pub is_free : RuleLines → Colour → Board → Step → Bool
+is_free rules side p m = not (is_covered rules.forbids side p m)

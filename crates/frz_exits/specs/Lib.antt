@@ -1,0 +1,5 @@
+pub mod Values
+pub mod Forbidding
+pub mod Conditions
+pub mod Books
+pub mod SmallLags

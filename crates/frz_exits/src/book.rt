@@ -1,0 +1,67 @@
+ghost use Rattle.std.specs.Prelude.{◌≡◌, ◌≤◌, All};
+ghost use Rattle.frz_board.specs.Boards.{Board};
+ghost use Rattle.frz_fide.specs.Valid.{IsValid};
+ghost use Rattle.frz_rules.specs.declared.exit.Value.{Value};
+ghost use Rattle.frz_rules.specs.Sound.{IsSound};
+ghost use Rattle.frz_exits.specs.Values.{lag_of};
+ghost use Rattle.frz_exits.specs.Books.{value_by, first_value};
+ghost use Rattle.frz_exits.specs.SmallLags.{first_value_small};
+
+use crate::conditions::all_hold;
+use frz_board::Position;
+use frz_rules::{Exit, Rules, Value};
+
+/// What gives a value to each position outside the set.
+pub trait ExitBook {
+    /// The value of a valid position.
+    ghost value_at: { Self → Board → Value };
+
+    /// The value of the position.
+    fn value(&self, q: &Position) -> Value
+        requires { IsValid q.now }
+        ensures { result ≡ value_at self.now q.now };
+
+    /// No number is above 1,000.
+    ghost small: { (book : Self) (q : Board) → IsValid q → lag_of (value_at book q) ≤ 1000 };
+}
+
+/// The book of a rules text: the value of the first exit line that holds, else unknown.
+#[derive(Clone, Copy)]
+pub struct RuleBook<'a> {
+    pub rules: &'a Rules,
+    pub ghost small: { All (λ line. lag_of line.value ≤ 1000) rules.now.exits },
+}
+
+impl<'a> RuleBook<'a> {
+    /// The book of sound rules.
+    pub fn new(rules: &'a Rules) -> RuleBook<'a>
+        requires { IsSound rules.now }
+        ensures { result.rules.now ≡ rules.now }
+    {
+        RuleBook { rules }
+    }
+}
+
+impl ExitBook for RuleBook<'_> {
+    ghost value_at = { λ book q. value_by book.rules.now q };
+
+    ghost small = { λ book q valid. first_value_small book.rules.now.exits book.small q };
+
+    fn value(&self, q: &Position) -> Value {
+        let rules = self.rules;
+        value_of(&rules.exits, q)
+    }
+}
+
+/// The value of the first line that holds, else unknown.
+fn value_of(lines: &[Exit], q: &Position) -> Value
+    requires { IsValid q.now }
+    ensures { result ≡ first_value lines.now q.now }
+{
+    for line in lines {
+        if all_hold(&line.conds, q) {
+            return line.value;
+        }
+    }
+    Value::Unknown
+}

@@ -1,0 +1,30 @@
+ghost use Rattle.std.specs.Prelude.{◌≡◌};
+ghost use Rattle.frz_exits.specs.Values.{class_of, lag_of};
+
+use frz_arena::Class;
+use frz_board::Colour;
+use frz_rules::Value;
+
+/// What the value is worth to the side.
+pub fn class(v: Value, side: Colour) -> Class
+    ensures { result ≡ class_of v side }
+{
+    match (v, side) {
+        (Value::WhiteWins | Value::WhiteWinsIn(_), Colour::White) => Class::Good,
+        (Value::BlackWins | Value::BlackWinsIn(_), Colour::Black) => Class::Good,
+        (Value::Draw, _) => Class::Safe,
+        (Value::WhiteHolds, Colour::White) => Class::Safe,
+        (Value::BlackHolds, Colour::Black) => Class::Safe,
+        _ => Class::Bad,
+    }
+}
+
+/// In how many plies the value wins, where it says so, and 0 otherwise.
+pub fn lag(v: Value) -> u32
+    ensures { result ≡ lag_of v }
+{
+    match v {
+        Value::WhiteWinsIn(plies) | Value::BlackWinsIn(plies) => plies,
+        _ => 0,
+    }
+}
