@@ -6,6 +6,7 @@ use Rattle.std.proofs.lemmas.Slice.Eq.{bytes_eq-Decides}
 use Rattle.std.proofs.lemmas.Bool.{false_from_ne_true}
 use Rattle.frz_store.specs.Files.{Files, put, bytes_at, grown}
 
+-- of two choices by one test the first counts
 cond_twice : {A : Type 0} (b : Bool) (x y z : A) → cond b x (cond b y z) ≡ cond b x z
 cond_twice true x y z = refl
 cond_twice false x y z = refl
@@ -25,9 +26,11 @@ pub put-off : (m : Files) (n v q : List ℕ) → bytes_eq n q ≡ false → put 
 unfolding put
 put-off m n v q e = ap (λ b. cond b (Some v) (m q)) e
 
+-- at the name itself
 pub put-same : (m : Files) (n v : List ℕ) → put m n v n ≡ Some v
 put-same m n v = put-at m n v n ((bytes_eq-Decides n n).1 refl)
 
+-- at a name that differs
 pub put-other : (m : Files) (n v q : List ℕ) → n ≢ q → put m n v q ≡ m q
 put-other m n v q differs = put-off m n v q (false_from_ne_true (bytes_eq n q) (λ e. differs ((bytes_eq-Decides n q).0 e)))
 
@@ -35,6 +38,7 @@ put-other m n v q differs = put-off m n v q (false_from_ne_true (bytes_eq n q) (
 pub grown-put : (m : Files) (n v piece : List ℕ) → grown (Some n) piece (put m n v) ≡ put m n (v ++ piece)
 grown-put m n v piece = put-put m n v (bytes_at (put m n v) n ++ piece) ∙ ap (λ o. put m n (unwrap_or o [] ++ piece)) (put-same m n v)
 
+-- choices by tests that exclude each other, in either order
 swap_at : {A : Type 0} (a b : Bool) (x y z : A) → (a ≡ true → b ≡ true → ⊥) → cond b y (cond a x z) ≡ cond a x (cond b y z)
 swap_at true true x y z h = absurd (h refl refl)
 swap_at true false x y z h = refl

@@ -40,7 +40,14 @@ impl Model for FailPlan {
 
     ghost Value = { Plan };
 
-    ghost view = { λ plan. record { fails = plan.fails.items; calls = plan.calls; sizes = plan.sizes; reads = plan.reads; creates = plan.creates; appends = plan.appends } };
+    ghost view = { λ plan. record {
+      fails = plan.fails.items;
+      calls = plan.calls;
+      sizes = plan.sizes;
+      reads = plan.reads;
+      creates = plan.creates;
+      appends = plan.appends;
+    } };
 }
 
 impl FailPlan {

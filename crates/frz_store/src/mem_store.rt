@@ -47,7 +47,8 @@ impl MemStore {
 
     /// The bytes of the name, and None exactly where it is not there.
     pub fn file(&self, name: &str) -> Option<&[u8]>
-        ensures { IfSome (⟦<MemStore as Store>⟧.files self.now) (λ m. option_copied result ≡ m name.now) }
+        ensures { IfSome (⟦<MemStore as Store>⟧.files self.now)
+            (λ m. option_copied result ≡ m name.now) }
     {
         self.shelf.file(name)
     }
@@ -62,14 +63,21 @@ impl MemStore {
     /// Makes the name hold these bytes. It is no call of the trait, so it counts as none.
     pub fn put(&mut self, name: &str, bytes: &[u8]) -> Result<(), StoreFault>
         requires { ⟦<MemStore as Store>⟧.room self.old ≡ 0 }
-        ensures files { OnOk result (⟦<MemStore as Store>⟧.files self.new ≡ option_map (λ m. put m name.now bytes.now) (⟦<MemStore as Store>⟧.files self.old)) }
-        ensures no_memory { OnErr result (⟦<MemStore as Store>⟧.files self.new ≡ ⟦<MemStore as Store>⟧.files self.old) }
+        ensures files { OnOk result (⟦<MemStore as Store>⟧.files self.new
+            ≡ option_map (λ m. put m name.now bytes.now) (⟦<MemStore as Store>⟧.files self.old)) }
+        ensures no_memory { OnErr result (⟦<MemStore as Store>⟧.files self.new
+            ≡ ⟦<MemStore as Store>⟧.files self.old) }
         ensures never_failed { IsErrOf result StoreFault.Failed → ⊥ }
-        ensures last { ⟦<MemStore as Store>⟧.last self.new ≡ ⟦<MemStore as Store>⟧.last self.old }
-        ensures faults { ⟦<MemStore as Store>⟧.faults self.new ≡ ⟦<MemStore as Store>⟧.faults self.old }
-        ensures wants { ⟦<MemStore as Store>⟧.wants self.new ≡ ⟦<MemStore as Store>⟧.wants self.old }
-        ensures asked { ⟦<MemStore as Store>⟧.asked self.new ≡ ⟦<MemStore as Store>⟧.asked self.old }
-        ensures room { ⟦<MemStore as Store>⟧.room self.new ≡ ⟦<MemStore as Store>⟧.room self.old }
+        ensures last { ⟦<MemStore as Store>⟧.last self.new
+            ≡ ⟦<MemStore as Store>⟧.last self.old }
+        ensures faults { ⟦<MemStore as Store>⟧.faults self.new
+            ≡ ⟦<MemStore as Store>⟧.faults self.old }
+        ensures wants { ⟦<MemStore as Store>⟧.wants self.new
+            ≡ ⟦<MemStore as Store>⟧.wants self.old }
+        ensures asked { ⟦<MemStore as Store>⟧.asked self.new
+            ≡ ⟦<MemStore as Store>⟧.asked self.old }
+        ensures room { ⟦<MemStore as Store>⟧.room self.new
+            ≡ ⟦<MemStore as Store>⟧.room self.old }
         ensures plan { plan self.new ≡ plan self.old }
     {
         match self.shelf.put(self.alloc, name, bytes) {
@@ -93,7 +101,8 @@ impl Store for MemStore {
     ghost room = { λ store. room_of store.shelf };
 
     fn size(&mut self, name: &str) -> Result<Option<u64>, StoreFault>
-        ensures result { result ≡ if fails_next self.old FailOn.Size then Err StoreFault.Failed else Ok (option_map length (files self.old name.now)) }
+        ensures result { result ≡ if fails_next self.old FailOn.Size then Err StoreFault.Failed
+            else Ok (option_map length (files self.old name.now)) }
         ensures store { self.new ≡ called self.old FailOn.Size }
         ensures causes { StoreCauses (faults self.old) (faults self.new) 0 0 result }
     {
@@ -106,8 +115,10 @@ impl Store for MemStore {
 
     fn read(&mut self, name: &str, at: u64, into: &mut [u8]) -> Result<(), StoreFault>
         requires { Covers at (length into.old) name.now (files self.old) }
-        ensures result { result ≡ if fails_next self.old FailOn.Read then Err StoreFault.Failed else Ok tt }
-        ensures bytes { OnOk result (IfSome (files self.old name.now) (λ bytes. into.new ≡ take (length into.old) (drop at bytes))) }
+        ensures result { result ≡ if fails_next self.old FailOn.Read then Err StoreFault.Failed
+            else Ok tt }
+        ensures bytes { OnOk result (IfSome (files self.old name.now)
+            (λ bytes. into.new ≡ take (length into.old) (drop at bytes))) }
         ensures store { self.new ≡ asked_for (called self.old FailOn.Read) (length into.old) }
         ensures asked_grows { asked self.old ≤ asked self.new }
         ensures causes { StoreCauses (faults self.old) (faults self.new) 0 0 result }
@@ -122,14 +133,16 @@ impl Store for MemStore {
     }
 
     fn create(&mut self, name: &str, due: u64) -> Result<(), StoreFault>
-        ensures failed { IsErrOf result StoreFault.Failed ↔ IsTrue (fails_next self.old FailOn.Create) }
+        ensures failed { IsErrOf result StoreFault.Failed
+            ↔ IsTrue (fails_next self.old FailOn.Create) }
         ensures files { OnOk result (files self.new ≡ put (files self.old) name.now []) }
         ensures last { OnOk result (last self.new ≡ Some name.now) }
         ensures room { OnOk result (room self.new ≡ due) }
         ensures err_files { OnErr result (files self.new ≡ files self.old) }
         ensures err_last { OnErr result (last self.new ≡ last self.old) }
         ensures failed_room { IsErrOf result StoreFault.Failed → room self.new ≡ 0 }
-        ensures no_memory_room { IsErrOf result StoreFault.NoMemory → room self.new ≡ room self.old }
+        ensures no_memory_room { IsErrOf result StoreFault.NoMemory
+            → room self.new ≡ room self.old }
         ensures store { IsCalled self.old FailOn.Create self.new }
         ensures causes { FreeCauses (faults self.old) (faults self.new) 0 0 result }
     {
@@ -147,7 +160,8 @@ impl Store for MemStore {
     fn append(&mut self, piece: &[u8]) -> Result<(), Failed>
         requires { length piece.now ≤ room self.old }
         ensures failed { is_err result ≡ fails_next self.old FailOn.Append }
-        ensures files { files self.new ≡ grown (last self.old) (kept (due self.old FailOn.Append) piece.now) (files self.old) }
+        ensures files { files self.new
+            ≡ grown (last self.old) (kept (due self.old FailOn.Append) piece.now) (files self.old) }
         ensures empty { length piece.now ≡ 0 → files self.new ≡ files self.old }
         ensures last { last self.new ≡ last self.old }
         ensures room { room self.new ≡ room self.old - length piece.now }

@@ -41,50 +41,63 @@ pub trait Store {
 
     /// How many bytes the name holds, and None exactly where the name is not there.
     fn size(&mut self, name: &str) -> Result<Option<u64>, StoreFault>
-        ensures size { IfOk result (λ size. IfSome (files self.old) (λ m. size ≡ option_map length (m name.now))) }
+        ensures size { IfOk result (λ size. IfSome (files self.old)
+            (λ m. size ≡ option_map length (m name.now))) }
         ensures files { files self.new ≡ files self.old }
         ensures last { last self.new ≡ last self.old }
         ensures room { room self.new ≡ room self.old }
         ensures asked { asked self.new ≡ asked self.old }
-        ensures causes { StoreCauses (faults self.old) (faults self.new) (wants self.old) (wants self.new) result };
+        ensures causes { StoreCauses (faults self.old) (faults self.new)
+            (wants self.old) (wants self.new) result };
 
     /// Fills the slice with the bytes of the name from the place `at` on. After a refusal the slice
     /// may hold anything.
     fn read(&mut self, name: &str, at: u64, into: &mut [u8]) -> Result<(), StoreFault>
         requires { IfSome (files self.old) (Covers at (length into.old) name.now) }
-        ensures bytes { OnOk result (IfSome (files self.old) (λ m. IfSome (m name.now) (λ bytes. into.new ≡ take (length into.old) (drop at bytes)))) }
+        ensures bytes { OnOk result (IfSome (files self.old) (λ m. IfSome (m name.now)
+            (λ bytes. into.new ≡ take (length into.old) (drop at bytes)))) }
         ensures files { files self.new ≡ files self.old }
         ensures last { last self.new ≡ last self.old }
         ensures room { room self.new ≡ room self.old }
         ensures asked { asked self.new ≡ min (asked self.old + length into.old) (2 ^ 64 - 1) }
         ensures asked_grows { asked self.old ≤ asked self.new }
-        ensures causes { StoreCauses (faults self.old) (faults self.new) (wants self.old) (wants self.new) result };
+        ensures causes { StoreCauses (faults self.old) (faults self.new)
+            (wants self.old) (wants self.new) result };
 
     /// Makes the name hold no bytes, with room for `due` bytes to come.
     fn create(&mut self, name: &str, due: u64) -> Result<(), StoreFault>
-        ensures files { OnOk result (files self.new ≡ option_map (λ m. put m name.now []) (files self.old)) }
+        ensures files { OnOk result (files self.new
+            ≡ option_map (λ m. put m name.now []) (files self.old)) }
         ensures last { OnOk result (OnSome (files self.old) (last self.new ≡ Some name.now)) }
         ensures room { OnOk result (room self.new ≡ due) }
         ensures err_last { OnErr result (last self.new ≡ last self.old) }
         ensures asked { asked self.new ≡ asked self.old }
-        ensures causes { FreeCauses (faults self.old) (faults self.new) (wants self.old) (wants self.new) result }
+        ensures causes { FreeCauses (faults self.old) (faults self.new)
+            (wants self.old) (wants self.new) result }
 
         // Failed leaves the name as it was or with no bytes.
         ensures failed_files { IsErrOf result StoreFault.Failed
-            → (files self.new ≡ files self.old) ⊎ (files self.new ≡ option_map (λ m. put m name.now []) (files self.old)) }
+            → (files self.new ≡ files self.old)
+            ⊎ (files self.new ≡ option_map (λ m. put m name.now []) (files self.old)) }
         ensures failed_room { IsErrOf result StoreFault.Failed → room self.new ≡ 0 }
 
         // NoMemory changes nothing.
-        ensures no_memory_files { IsErrOf result StoreFault.NoMemory → files self.new ≡ files self.old }
-        ensures no_memory_room { IsErrOf result StoreFault.NoMemory → room self.new ≡ room self.old }
-        ensures no_memory_faults { IsErrOf result StoreFault.NoMemory → faults self.new ≡ faults self.old }
-        ensures no_memory_wants { IsErrOf result StoreFault.NoMemory → wants self.new ≡ wants self.old };
+        ensures no_memory_files { IsErrOf result StoreFault.NoMemory
+            → files self.new ≡ files self.old }
+        ensures no_memory_room { IsErrOf result StoreFault.NoMemory
+            → room self.new ≡ room self.old }
+        ensures no_memory_faults { IsErrOf result StoreFault.NoMemory
+            → faults self.new ≡ faults self.old }
+        ensures no_memory_wants { IsErrOf result StoreFault.NoMemory
+            → wants self.new ≡ wants self.old };
 
     /// Puts the piece at the end of the file that was created last.
     fn append(&mut self, piece: &[u8]) -> Result<(), Failed>
         requires { length piece.now ≤ room self.old }
-        ensures files { OnOk result (files self.new ≡ option_map (grown (last self.old) piece.now) (files self.old)) }
-        ensures failed_files { OnErr result ((k : ℕ) × (files self.new ≡ option_map (grown (last self.old) (take k piece.now)) (files self.old))) }
+        ensures files { OnOk result (files self.new
+            ≡ option_map (grown (last self.old) piece.now) (files self.old)) }
+        ensures failed_files { OnErr result ((k : ℕ) × (files self.new
+            ≡ option_map (grown (last self.old) (take k piece.now)) (files self.old))) }
         ensures empty { length piece.now ≡ 0 → files self.new ≡ files self.old }
         ensures last { last self.new ≡ last self.old }
         ensures room { room self.new ≡ room self.old - length piece.now }
@@ -120,6 +133,7 @@ pub trait Sink {
     /// Takes the whole piece, or fails and takes a prefix of it.
     fn write(&mut self, piece: &[u8]) -> Result<(), Failed>
         ensures ok { OnOk result (taken self.new ≡ append_known (taken self.old) piece.now) }
-        ensures failed { OnErr result ((k : ℕ) × (taken self.new ≡ append_known (taken self.old) (take k piece.now))) }
+        ensures failed { OnErr result ((k : ℕ)
+            × (taken self.new ≡ append_known (taken self.old) (take k piece.now))) }
         ensures cause { HasCause (faults self.old) (faults self.new) result };
 }

@@ -75,7 +75,8 @@ impl Shelf {
     /// Copies what the name holds from the place `at` on.
     pub fn read(&self, name: &str, at: u64, into: &mut [u8])
         requires { Covers at (length into.old) name.now (files_of self.now) }
-        ensures { IfSome (files_of self.now name.now) (λ bytes. into.new ≡ take (length into.old) (drop at bytes)) }
+        ensures { IfSome (files_of self.now name.now)
+            (λ bytes. into.new ≡ take (length into.old) (drop at bytes)) }
     {
         match self.file(name) {
             Some(bytes) => copy_out(bytes, at, into),
@@ -141,7 +142,8 @@ impl Shelf {
     /// and uses up the room of the whole piece.
     pub fn append_front(&mut self, piece: &[u8], keep: u64)
         requires { length piece.now ≤ room_of self.old }
-        ensures files { files_of self.new ≡ grown (last_of self.old) (take keep piece.now) (files_of self.old) }
+        ensures files { files_of self.new
+            ≡ grown (last_of self.old) (take keep piece.now) (files_of self.old) }
         ensures empty { length piece.now ≡ 0 → files_of self.new ≡ files_of self.old }
         ensures last { last_of self.new ≡ last_of self.old }
         ensures room { room_of self.new ≡ room_of self.old - length piece.now }
@@ -185,7 +187,8 @@ fn copy_out(bytes: &[u8], at: u64, into: &mut [u8])
 /// Puts a file behind the others, which have room for one more.
 fn shelve(rest: &mut Vec<NamedFile>, file: GrowingFile)
     requires { vec_len rest.old + 1 ≤ vec_capacity rest.old }
-    ensures { stacked no_files rest.new.items ≡ put (stacked no_files rest.old.items) (string_bytes file.name) file.held.bytes.items }
+    ensures { stacked no_files rest.new.items
+        ≡ put (stacked no_files rest.old.items) (string_bytes file.name) file.held.bytes.items }
 {
     let GrowingFile { name, held } = file;
     let Reserved { bytes, room: _ } = held;
@@ -202,7 +205,8 @@ fn add(
     name: &str,
     bytes: Vec<u8>,
 ) -> Result<(), AllocError>
-    ensures ok { OnOk result (stacked no_files rest.new.items ≡ put (stacked no_files rest.old.items) name.now bytes.items) }
+    ensures ok { OnOk result (stacked no_files rest.new.items
+        ≡ put (stacked no_files rest.old.items) name.now bytes.items) }
     ensures err { OnErr result (stacked no_files rest.new.items ≡ stacked no_files rest.old.items) }
 {
     let name = String::from_str(alloc, name)?;

@@ -37,7 +37,8 @@ impl SureStore {
 
     /// The bytes of the name, and None exactly where it is not there.
     pub fn file(&self, name: &str) -> Option<&[u8]>
-        ensures { IfSome (⟦<SureStore as Store>⟧.files self.now) (λ m. option_copied result ≡ m name.now) }
+        ensures { IfSome (⟦<SureStore as Store>⟧.files self.now)
+            (λ m. option_copied result ≡ m name.now) }
     {
         self.shelf.file(name)
     }
@@ -52,14 +53,21 @@ impl SureStore {
     /// Makes the name hold these bytes. It is no call of the trait, so it counts as none.
     pub fn put(&mut self, name: &str, bytes: &[u8]) -> Result<(), StoreFault>
         requires { ⟦<SureStore as Store>⟧.room self.old ≡ 0 }
-        ensures files { OnOk result (⟦<SureStore as Store>⟧.files self.new ≡ option_map (λ m. put m name.now bytes.now) (⟦<SureStore as Store>⟧.files self.old)) }
-        ensures no_memory { OnErr result (⟦<SureStore as Store>⟧.files self.new ≡ ⟦<SureStore as Store>⟧.files self.old) }
+        ensures files { OnOk result (⟦<SureStore as Store>⟧.files self.new
+            ≡ option_map (λ m. put m name.now bytes.now) (⟦<SureStore as Store>⟧.files self.old)) }
+        ensures no_memory { OnErr result (⟦<SureStore as Store>⟧.files self.new
+            ≡ ⟦<SureStore as Store>⟧.files self.old) }
         ensures never_failed { IsErrOf result StoreFault.Failed → ⊥ }
-        ensures last { ⟦<SureStore as Store>⟧.last self.new ≡ ⟦<SureStore as Store>⟧.last self.old }
-        ensures faults { ⟦<SureStore as Store>⟧.faults self.new ≡ ⟦<SureStore as Store>⟧.faults self.old }
-        ensures wants { ⟦<SureStore as Store>⟧.wants self.new ≡ ⟦<SureStore as Store>⟧.wants self.old }
-        ensures asked { ⟦<SureStore as Store>⟧.asked self.new ≡ ⟦<SureStore as Store>⟧.asked self.old }
-        ensures room { ⟦<SureStore as Store>⟧.room self.new ≡ ⟦<SureStore as Store>⟧.room self.old }
+        ensures last { ⟦<SureStore as Store>⟧.last self.new
+            ≡ ⟦<SureStore as Store>⟧.last self.old }
+        ensures faults { ⟦<SureStore as Store>⟧.faults self.new
+            ≡ ⟦<SureStore as Store>⟧.faults self.old }
+        ensures wants { ⟦<SureStore as Store>⟧.wants self.new
+            ≡ ⟦<SureStore as Store>⟧.wants self.old }
+        ensures asked { ⟦<SureStore as Store>⟧.asked self.new
+            ≡ ⟦<SureStore as Store>⟧.asked self.old }
+        ensures room { ⟦<SureStore as Store>⟧.room self.new
+            ≡ ⟦<SureStore as Store>⟧.room self.old }
     {
         match self.shelf.put(self.alloc, name, bytes) {
             Ok(()) => Ok(()),
