@@ -1,0 +1,10 @@
+pub mod Soundness
+pub mod BoardSquares
+pub mod Turns
+pub mod Filling
+pub mod WholeNumbers
+pub mod LastPlaces
+pub mod GroupDigits
+pub mod GroupSteps
+pub mod KnownCells
+pub mod AtNumbers

@@ -1,0 +1,104 @@
+//! The way back from a digit: the men of its combination are put on the board.
+ghost use Rattle.std.specs.Prelude.{◌≡◌, ◌<◌, ◌≤◌, ◌-◌, ℕ, length};
+ghost use Rattle.frz_combinations.specs.Binomials.{choose};
+ghost use Rattle.frz_combinations.specs.Combinations.{unrank};
+ghost use Rattle.frz_combinations.specs.Selections.{count_and_rank};
+ghost use Rattle.frz_index.specs.Candidates.{put_group, put_men};
+ghost use Rattle.frz_rules.specs.Sound.{IsCounted};
+
+use frz_board::{Colour, Kind, Man, Square, cell_of};
+use frz_combinations::Triangle;
+use frz_rules::Group;
+
+/// How many men a digit stands for, and the rank of their places.
+fn men_of(triangle: &Triangle, states: u32, least: u32, most: u32, digit: u32) -> (u32, u64)
+    requires order { least ≤ most }
+    requires few { most ≤ 16 }
+    requires rows { states < triangle.now }
+    ensures men { result ≡ count_and_rank states least (most - least) digit }
+    ensures few { result.0 ≤ 16 }
+    ensures small { result.1 ≤ digit }
+{
+    let mut count = least;
+    let mut rest = digit as u64;
+    while count < most {
+        let ways = triangle.binomial(states, count);
+        if rest < ways {
+            return (count, rest);
+        }
+        rest -= ways;
+        count += 1;
+    }
+    (count, rest)
+}
+
+/// The last place, below `end`, of the combination of `count` places with this rank.
+fn last_place(triangle: &Triangle, end: u32, count: u32, rank: u64) -> u32
+    requires end { 0 < end }
+    requires some { 0 < count }
+    requires few { count ≤ 16 }
+    requires small { rank < 4294967296 }
+    requires rows { end ≤ triangle.now }
+    ensures below { result < end }
+    ensures fits { choose result count ≤ rank }
+    ensures greatest { (x : ℕ) → result < x → x < end → rank < choose x count }
+{
+    if count == 1 {
+        return (rank as u32).min(end - 1);
+    }
+    let mut low = 0;
+    let mut high = end;
+    while high - low > 1 {
+        let middle = low + (high - low) / 2;
+        if triangle.binomial(middle, count) <= rank {
+            low = middle;
+        } else {
+            high = middle;
+        }
+    }
+    low
+}
+
+/// Puts so many men on the board, at the places of this rank.
+fn put_ranked(
+    cells: &mut [u8; 64],
+    triangle: &Triangle,
+    colour: Colour,
+    states: &[(Kind, Square)],
+    count: u32,
+    rank: u64,
+)
+    requires few { count ≤ 16 }
+    requires small { rank < 4294967296 }
+    requires short { length states.now ≤ 384 }
+    requires rows { length states.now < triangle.now }
+    ensures { cells.new ≡ put_men colour states.now (unrank (length states.now) count rank) cells.old }
+{
+    let mut end = states.len() as u32;
+    let mut left = count;
+    let mut rest = rank;
+    while left > 0 && end > 0 {
+        end = last_place(triangle, end, left, rest);
+        rest -= triangle.binomial(end, left);
+        left -= 1;
+        let (kind, square) = states[end as usize];
+        cells[square.number() as usize] = cell_of(Man { colour, kind });
+    }
+}
+
+/// Puts the men of a group's digit on the board.
+pub(crate) fn put(cells: &mut [u8; 64], triangle: &Triangle, group: &Group, digit: u32)
+    requires numberable { IsCounted group.now }
+    requires rows { length group.now.states < triangle.now }
+    ensures { cells.new ≡ put_group group.now digit cells.old }
+{
+    let states = group.states.len() as u32;
+    let (count, rank) = men_of(
+        triangle,
+        states,
+        group.least as u32,
+        group.most as u32,
+        digit,
+    );
+    put_ranked(cells, triangle, group.colour, &group.states, count, rank);
+}
