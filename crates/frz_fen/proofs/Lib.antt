@@ -1,0 +1,4 @@
+pub mod Fielding
+pub mod RankCells
+pub mod Placing
+pub mod Meaning

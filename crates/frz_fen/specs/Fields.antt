@@ -1,0 +1,31 @@
+-- The fields of a FEN text (PGN 16.1.3).
+use Rattle.std.specs.Prelude.{ℕ, Bool, true, false, ◌==◌, List, [], ◌∷◌, filter, Option, None, Some}
+use Rattle.frz_words.specs.Parts.{split}
+
+abbrev pub has_bytes : List ℕ → Bool
+has_bytes [] = false
+has_bytes (b ∷ bs) = true
+
+-- the longest runs of bytes other than the space
+unfoldable pub fields : List ℕ → List (List ℕ)
+fields text = filter has_bytes (split (λ b. b == 32) text)
+
+-- what each field is for; the two numbers may be left out together
+pub record FieldTexts : Type 0 where
+  pub placement : List ℕ
+  pub turn : List ℕ
+  pub castling : List ℕ
+  pub target : List ℕ
+  pub halfmove : Option (List ℕ)
+  pub fullmove : Option (List ℕ)
+
+-- four fields or six
+unfoldable pub named : List (List ℕ) → Option FieldTexts
+named (a ∷ b ∷ c ∷ d ∷ []) =
+    Some (record { placement = a; turn = b; castling = c; target = d; halfmove = None; fullmove = None })
+named (a ∷ b ∷ c ∷ d ∷ e ∷ f ∷ []) =
+    Some (record { placement = a; turn = b; castling = c; target = d; halfmove = Some e; fullmove = Some f })
+named _ = None
+
+abbrev pub named_fields : List ℕ → Option FieldTexts
+named_fields text = named (fields text)

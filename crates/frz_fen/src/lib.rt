@@ -1,0 +1,10 @@
+//! FEN, the text of a position (PGN specification, section 16.1), read and written.
+#![tactic(auto)]
+
+mod fault;
+mod fields;
+mod placement;
+mod reading;
+
+pub use fault::FenFault;
+pub use reading::read_fen;
