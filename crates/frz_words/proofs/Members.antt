@@ -1,5 +1,5 @@
 -- The set of a word has exactly the squares that the word writes.
-use Rattle.std.proofs.Common.{◌≡◌, ℕ, ◌<◌, List, Option, None, Some, refl, sym, ap, ◌∙◌}
+use Rattle.std.proofs.Common.{◌≡◌, ℕ, ◌<◌, List, Option, None, Some, ap, ◌∙◌}
 use Rattle.std.specs.Prelude.{option_map, IfSome}
 use Rattle.frz_words.specs.declared.squares.Rectangle.{Rectangle}
 use Rattle.frz_words.specs.declared.squares.SquareSet.{SquareSet}

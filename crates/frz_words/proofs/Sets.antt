@@ -1,5 +1,5 @@
 -- Reading a set of squares item by item.
-use Rattle.std.proofs.Common.{◌≡◌, ℕ, List, [], ◌∷◌, Option, None, Some, refl, sym, ap, ◌∙◌, bit_or}
+use Rattle.std.proofs.Common.{◌≡◌, ℕ, List, [], ◌∷◌, Option, None, Some, sym, ap, ◌∙◌, bit_or}
 use Rattle.std.specs.Prelude.{map, option_map}
 use Rattle.frz_words.proofs.Unions.{with_items, from_nothing}
 use Rattle.frz_words.specs.Parts.{split}

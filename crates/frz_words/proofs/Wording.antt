@@ -1,10 +1,10 @@
 -- The first word of a line, and the words after it.
-use Rattle.std.proofs.Common.{◌≡◌, ℕ, zero, suc, ◌+◌, ◌<◌, ◌≤◌, Bool, true, false, cond, List, [], ◌∷◌, length, take, drop, Option, None, Some, refl, sym, ap, subst, ◌∙◌, arith}
+use Rattle.std.proofs.Common.{◌≡◌, ℕ, suc, ◌+◌, ◌<◌, ◌≤◌, Bool, true, false, cond, List, [], ◌∷◌, length, take, drop, None, Some, refl, sym, ap, subst, ◌∙◌, arith}
 use Rattle.std.specs.Prelude.{not, IsTrue}
-use Rattle.std.specs.List.{filter, position, position_or_len}
+use Rattle.std.specs.List.{position, position_or_len}
 use Rattle.std.proofs.lemmas.List.{drop_all}
 use Rattle.frz_words.specs.Parts.{with_first, split}
-use Rattle.frz_words.specs.Words.{words, is_blank, has_bytes, begins_word, word_at}
+use Rattle.frz_words.specs.Words.{words, is_blank, begins_word, word_at}
 use Rattle.frz_words.proofs.Splitting.{absent, present, from_place, from_place_drop, split_absent, split_present}
 
 -- how many blanks stand in front

@@ -1,4 +1,4 @@
-ghost use Rattle.std.specs.Prelude.{◌≡◌, ◌<◌, ◌≤◌, ◌^◌, ◌+◌, ◌∷◌, ℕ, List, [], MatchOption, length, option_map};
+ghost use Rattle.std.specs.Prelude.{◌≡◌, ◌<◌, ◌≤◌, ◌^◌, ◌+◌, ◌∷◌, ℕ, List, [], MatchOption, IfSome, length, option_map};
 ghost use Rattle.std.specs.List.{AllByRecursion};
 ghost use Rattle.frz_words.specs.Lines.{lines, numbered};
 ghost use Rattle.frz_words.specs.Words.{words, word_at};
@@ -74,7 +74,8 @@ impl<'a> Lines<'a> {
     /// The next line, and None after the last.
     #[tactic(auto, using(crate::proofs::Lining::lining))]
     pub fn next(&mut self) -> Option<Line<'a>>
-        ensures { MatchOption result ((self.old ≡ []) × (self.new ≡ [])) (λ l. self.old ≡ (l.number, l.text.now) ∷ self.new) }
+        ensures line { MatchOption result ((self.old ≡ []) × (self.new ≡ [])) (λ l. self.old ≡ (l.number, l.text.now) ∷ self.new) }
+        ensures short { IfSome result (λ l. length l.text.now < 2 ^ 32) }
     {
         if self.rest.is_empty() {
             return None;
@@ -95,6 +96,7 @@ fn first_line(text: &[u8]) -> (&[u8], &[u8])
     requires { 0 < length text.now }
     ensures lines { lines text.now ≡ result.0.now ∷ lines result.1.now }
     ensures shorter { length result.1.now < length text.now }
+    ensures short { length result.0.now ≤ length text.now }
 {
     match cut(text, b'\n') {
         None => (text, &[]),
