@@ -1,5 +1,5 @@
 -- Reading from word to word stops where no form goes on.
-use Rattle.std.proofs.Common.{◌≡◌, ℕ, zero, suc, ◌+◌, ◌≤◌, Bool, true, false, cond, ◌&&◌, ◌||◌, List, [], ◌∷◌, ◌++◌, length, max, Option, None, Some, Result, Ok, Err, refl, sym, ap, ◌∙◌, arith}
+use Rattle.std.proofs.Common.{◌≡◌, ℕ, ◌+◌, Bool, true, false, cond, List, [], ◌∷◌, length, Option, None, Some, Result, Ok, Err, refl, ap, ◌∙◌, arith}
 use Rattle.std.specs.Prelude.{is_some, codes}
 use Rattle.std.specs.List.{list_all}
 use Rattle.std.specs.Str.{bytes_eq}
@@ -9,7 +9,7 @@ use Rattle.frz_board.specs.declared.man.Kind.{Kind}
 use Rattle.frz_words.specs.Numbers.{number_of}
 use Rattle.frz_words.specs.Squares.{squares_of}
 use Rattle.frz_rules.specs.declared.forbid.Only.{Only}
-use Rattle.frz_rules.specs.declared.forbid.Only.TheVariants.{Any, Capture, Promotion}
+use Rattle.frz_rules.specs.declared.forbid.Only.TheVariants.{Capture, Promotion}
 use Rattle.frz_rules.specs.declared.forbid.Forbid.{Forbid}
 use Rattle.frz_rules.specs.declared.exit.Value.{Value}
 use Rattle.frz_rules.specs.declared.exit.Value.TheVariants.{Draw, Unknown}
@@ -20,7 +20,7 @@ use Rattle.frz_rules.specs.Lines.{wins, wins_in, holds}
 use Rattle.frz_rules.specs.Text.{◌>>=◌}
 use Rattle.frz_rules.specs.Reading.{slot, taken, literal, each_of, more_of, one_or_more, at_least_one, group_words, only_words, forbid_words, then_if, lagged, after_wins, after_colour, value_words, exit_words}
 use Rattle.frz_rules.specs.Grammar.{Form, fits, reach, has, group_form, only_form, forbid_form, if_form, wins_form, side_form, exit_form}
-use Rattle.frz_rules.specs.Grammar.Form.{Ends, Then, Many, Or}
+use Rattle.frz_rules.specs.Grammar.Form.{Then, Many, Or}
 
 -- the words are of the form; or they are not, and those that are left stand behind the longest front that begins one
 abbrev pub Agrees : {A : Type 0} → Form → List (List ℕ) → Result A (List (List ℕ)) → Type 0

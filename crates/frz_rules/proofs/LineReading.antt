@@ -1,10 +1,9 @@
 -- A line that is read word by word gives what the line says, or its place.
-use Rattle.std.proofs.Common.{◌≡◌, ℕ, zero, suc, ◌+◌, ◌-◌, Bool, true, false, cond, List, [], ◌∷◌, length, max, Option, None, Some, Result, Ok, Err, refl, sym, ap, ◌∙◌, subst, arith}
+use Rattle.std.proofs.Common.{◌≡◌, ℕ, suc, ◌+◌, ◌-◌, true, false, List, [], ◌∷◌, length, Option, None, Some, Result, Ok, Err, refl, sym, ap, ◌∙◌, arith}
 use Rattle.std.specs.Prelude.{is_some, codes, option_map}
 use Rattle.frz_rules.specs.declared.fault.RulesCause.{RulesCause}
 use Rattle.frz_rules.specs.declared.fault.RulesCause.TheVariants as causes
-use Rattle.frz_rules.specs.declared.forbid.Forbid.{Forbid}
-use Rattle.frz_rules.specs.Views.{GroupLine, ExitLine, RuleLines}
+use Rattle.frz_rules.specs.Views.{RuleLines}
 use Rattle.frz_rules.specs.Classes.{is}
 use Rattle.frz_rules.specs.Lines.{group_of, forbid_of, exit_of}
 use Rattle.frz_rules.specs.Grammar.{Form, fits, reach, line_form, group_form, forbid_form, exit_form}

@@ -1,5 +1,5 @@
 -- Words with too many parts.
-use Rattle.std.proofs.Common.{◌≡◌, ℕ, ◌<◌, List, [], ◌∷◌, length, Option, None, refl, arith}
+use Rattle.std.proofs.Common.{◌≡◌, ℕ, ◌<◌, List, [], ◌∷◌, length, None, refl, arith}
 use Rattle.frz_rules.specs.Classes.{least_and_most, kind_and_squares}
 use Rattle.frz_rules.specs.Conditions.{test_of}
 

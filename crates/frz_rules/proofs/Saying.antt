@@ -1,18 +1,16 @@
 -- A line says what reading it word by word gives.
-use Rattle.std.proofs.Common.{◌≡◌, ℕ, zero, suc, ◌+◌, Bool, true, false, cond, ◌&&◌, List, [], ◌∷◌, length, take, drop, Option, None, Some, Result, Ok, Err, refl, sym, ap, ◌∙◌, arith}
-use Rattle.std.specs.Prelude.{is_some, codes, option_map, not}
+use Rattle.std.proofs.Common.{◌≡◌, ℕ, suc, ◌+◌, Bool, true, false, cond, ◌&&◌, List, [], ◌∷◌, Option, None, Some, Result, Ok, Err, refl, ap, ◌∙◌, arith}
+use Rattle.std.specs.Prelude.{codes, option_map}
 use Rattle.std.specs.List.{before_first, after_first, position_or_len}
-use Rattle.std.specs.Str.{bytes_eq}
 use Rattle.frz_board.specs.declared.man.Colour.{Colour}
 use Rattle.frz_board.specs.declared.man.Kind.{Kind}
-use Rattle.frz_words.specs.Numbers.{number_of}
 use Rattle.frz_words.specs.Squares.{squares_of}
 use Rattle.frz_rules.specs.declared.forbid.Only.{Only}
-use Rattle.frz_rules.specs.declared.forbid.Only.TheVariants.{Any, Capture, Promotion}
+use Rattle.frz_rules.specs.declared.forbid.Only.TheVariants.{Capture, Promotion}
 use Rattle.frz_rules.specs.declared.forbid.Forbid.{Forbid}
 use Rattle.frz_rules.specs.declared.exit.Value.{Value}
 use Rattle.frz_rules.specs.declared.exit.Value.TheVariants.{Draw, Unknown}
-use Rattle.frz_rules.specs.Views.{Condition, GroupLine, ExitLine}
+use Rattle.frz_rules.specs.Views.{Condition, ExitLine}
 use Rattle.frz_rules.specs.Classes.{is, colour_of, kind_of, count_of, place_of, lag_of}
 use Rattle.frz_rules.specs.Conditions.{cond_of}
 use Rattle.frz_rules.specs.Lines.{with_first, all_of, some_of, group_from, group_of, only_of, forbid_from, forbid_of, wins, holds, wins_in, won_or_held, won_in, value_of, exit_from, exit_of}

@@ -1,9 +1,8 @@
 -- What soundness says of each group.
-use Rattle.std.proofs.Common.{◌≡◌, ℕ, zero, suc, ◌+◌, ◌<◌, ◌≤◌, Bool, true, false, cond, ◌||◌, ◌&&◌, List, [], ◌∷◌, ◌++◌, length, Option, None, Some, refl, sym, ap, ◌∙◌, arith, length-append}
-use Rattle.std.specs.Prelude.{nat_le, nat_lt, not, ◌==◌}
-use Rattle.std.specs.List.{AllByRecursion, list_any}
+use Rattle.std.proofs.Common.{◌≡◌, ◌+◌, ◌<◌, ◌≤◌, Bool, true, false, cond, ◌||◌, List, [], ◌∷◌, ◌++◌, length, None, Some, refl, arith, length-append}
+use Rattle.std.specs.Prelude.{nat_le, nat_lt, ◌==◌}
+use Rattle.std.specs.List.{list_any}
 use Rattle.std.proofs.lemmas.Bool.{ltb-false, leb-false}
-use Rattle.frz_rules.specs.declared.fault.RulesCause.{RulesCause}
 use Rattle.frz_rules.specs.declared.fault.RulesCause.TheVariants as causes
 use Rattle.frz_rules.specs.Views.{GroupLine, RuleLines}
 use Rattle.frz_rules.specs.Groups.{is_end_pawn, is_bad_count, is_bad_king, overlaps, men_of, cause_of_group}

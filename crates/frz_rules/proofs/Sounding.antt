@@ -1,5 +1,5 @@
 -- The rules that a text gives are sound.
-use Rattle.std.proofs.Common.{◌≡◌, ℕ, zero, suc, ◌+◌, ◌-◌, ◌*◌, ◌/◌, ◌%◌, ◌<◌, ◌≤◌, Bool, true, false, cond, ◌||◌, ◌&&◌, List, [], ◌∷◌, ◌++◌, length, Option, None, Some, Result, Ok, Err, refl, sym, ap, subst, ◌∙◌, append_assoc, arith, length-append}
+use Rattle.std.proofs.Common.{◌≡◌, ℕ, zero, suc, ◌+◌, ◌/◌, ◌<◌, ◌≤◌, Bool, true, false, cond, ◌||◌, ◌&&◌, List, [], ◌∷◌, ◌++◌, length, Option, None, Some, Result, Ok, Err, refl, sym, subst, append_assoc, arith, length-append}
 use Rattle.std.specs.Prelude.{codes, map, filter, nat_le, nat_lt, not, IfOk}
 use Rattle.std.specs.List.{AllByRecursion, list_all, range_with_len, before_first, after_first}
 use Rattle.std.proofs.lemmas.List.{append-nil}

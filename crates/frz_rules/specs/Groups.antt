@@ -1,9 +1,8 @@
 -- The states of a group, and what is wrong with a group line.
-use Rattle.std.specs.Prelude.{ℕ, ◌+◌, ◌-◌, ◌*◌, ◌/◌, ◌%◌, Bool, true, false, not, ◌&&◌, ◌||◌, ◌==◌, nat_le, nat_lt, List, [], ◌∷◌, map, filter, length, Option, None, Some, if◌then◌else◌}
+use Rattle.std.specs.Prelude.{ℕ, ◌+◌, ◌-◌, ◌*◌, ◌/◌, ◌%◌, Bool, not, ◌&&◌, ◌||◌, ◌==◌, nat_le, nat_lt, List, [], ◌∷◌, map, filter, length, Option, None, Some, if◌then◌else◌}
 use Rattle.std.specs.List.{list_any, range_with_len}
 use Rattle.frz_board.specs.declared.man.Colour.{Colour}
 use Rattle.frz_board.specs.declared.man.Kind.{Kind}
-use Rattle.frz_board.specs.declared.man.Kind.TheVariants.{King}
 use Rattle.frz_board.specs.Squares.{rank_of}
 use Rattle.frz_board.specs.Men.{number_of_kind, kind_of_number, same_colour, is_pawn}
 use Rattle.frz_words.specs.Squares.{has_square}

@@ -18,7 +18,7 @@ use Rattle.frz_rules.specs.Classes.{is, colour_of, kind_of, count_of, place_of, 
 use Rattle.frz_rules.specs.Conditions.{cond_of}
 use Rattle.frz_rules.specs.Groups.{states_of}
 use Rattle.frz_rules.specs.Lines.{wins, holds, wins_in}
-use Rattle.frz_rules.specs.Text.{◌>>=◌, add_group, add_forbid, add_exit}
+use Rattle.frz_rules.specs.Text.{◌>>=◌}
 use Rattle.frz_words.specs.Words.{words}
 use Rattle.frz_words.specs.Squares.{squares_of}
 

@@ -4,7 +4,6 @@ use Rattle.std.specs.List.{list_any}
 use Rattle.frz_board.specs.declared.man.Colour.{Colour}
 use Rattle.frz_board.specs.declared.man.Colour.TheVariants.{White, Black}
 use Rattle.frz_board.specs.declared.man.Kind.TheVariants.{Pawn}
-use Rattle.frz_board.specs.declared.man.Man.{Man}
 use Rattle.frz_board.specs.Squares.{squares, files_apart, ranks_apart}
 use Rattle.frz_board.specs.Men.{cell_of_man, other_of}
 use Rattle.frz_board.specs.EnPassant.{is_passing_rank, ahead}

@@ -96,9 +96,13 @@ abbrev pub after_header : List (ℕ × List (List ℕ)) → Result RuleLines Rul
 after_header [] = Err (record { line = 0; cause = causes.Header })
 after_header (l ∷ ls) = if is_header l.1 then lines_of no_rules ls >>= whole else Err (record { line = l.0; cause = causes.Header })
 
+-- more than 65,536 bytes
+abbrev pub too_long : Result RuleLines RulesFault
+too_long = Err (record { line = 0; cause = causes.TooLong })
+
 unfoldable pub rules_of : List ℕ → Result RuleLines RulesFault
 rules_of text =
-    if nat_lt 65536 (length text) then Err (record { line = 0; cause = causes.TooLong })
+    if nat_lt 65536 (length text) then too_long
     else after_header (significant (numbered 1 (lines text)))
 
 abbrev pub Fails : RulesError → Result RuleLines RulesFault → Type 0
