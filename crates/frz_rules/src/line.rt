@@ -111,7 +111,6 @@ fn read_exit_line(alloc: Global, rules: Rules, line: &[u8], rest: &[u8]) -> Resu
 }
 
 /// The rules with a line behind the header, or why the line is bad.
-
 pub fn read_line(alloc: Global, rules: Rules, line: &[u8]) -> Result<Rules, Refusal>
     requires few { length rules.groups ≤ 32 }
     requires short { length line.now ≤ 65536 }

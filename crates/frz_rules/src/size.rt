@@ -1,4 +1,4 @@
-ghost use Rattle.std.specs.Prelude.{◌≡◌, ◌≤◌, ◌<◌};
+ghost use Rattle.std.specs.Prelude.{◌≡◌};
 ghost use Rattle.frz_combinations.specs.Binomials.{capped};
 ghost use Rattle.frz_rules.specs.Sets.{radix_of, size_of};
 ghost use Rattle.frz_rules.specs.Sound.{AreSoundLines, AreCounted, IsCounted};

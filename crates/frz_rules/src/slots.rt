@@ -1,4 +1,4 @@
-ghost use Rattle.std.specs.Prelude.{◌≡◌, map};
+ghost use Rattle.std.specs.Prelude.{map};
 ghost use Rattle.frz_words.specs.Words.{words};
 ghost use Rattle.frz_words.specs.Squares.{squares_of};
 ghost use Rattle.frz_rules.specs.Classes.{colour_of, kind_of, count_of, place_of};

@@ -1,7 +1,6 @@
-ghost use Rattle.std.specs.Prelude.{◌≡◌, ◌+◌, ◌==◌, ◌&&◌, ◌≤◌, ℕ, true, length, filter};
-ghost use Rattle.std.specs.List.{list_any, range_with_len};
+ghost use Rattle.std.specs.Prelude.{◌≡◌, ◌+◌, ◌==◌, ◌&&◌, ◌≤◌, true, length, filter};
+ghost use Rattle.std.specs.List.{list_any};
 ghost use Rattle.frz_board.specs.Squares.{squares, files_apart, ranks_apart};
-ghost use Rattle.frz_board.specs.Men.{cell_of_man, other_of};
 ghost use Rattle.frz_board.specs.EnPassant.{is_passing_rank as is_passing, ahead as ahead_of};
 ghost use Rattle.frz_rules.specs.Sets.{is_state, is_covered, pawn as pawn_cell, is_pair, is_possible_for, is_possible, targets};
 

@@ -68,7 +68,6 @@ fn fault(line: u32, cause: RulesCause) -> RulesError
 }
 
 /// The lines behind the header.
-
 fn read_lines(alloc: Global, mut lines: Lines<'_>) -> Result<Rules, RulesError>
     requires { AllByRecursion (λ l. length l.1 ≤ 65536) lines }
     ensures { Answers result (lines_of no_rules (significant lines.entry)) }

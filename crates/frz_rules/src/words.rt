@@ -1,4 +1,4 @@
-ghost use Rattle.std.specs.Prelude.{◌≡◌, ◌≤◌, IfSome, option_map};
+ghost use Rattle.std.specs.Prelude.{◌≡◌, option_map};
 ghost use Rattle.frz_rules.specs.Classes.{colour_of, kind_of, count_of, range_of, place_of};
 ghost use Rattle.frz_words.specs.Numbers.{number_of};
 ghost use Rattle.frz_words.specs.Squares.{square_word};
