@@ -1,8 +1,8 @@
 -- The fields of a text, one after the other.
-use Rattle.std.proofs.Common.{◌≡◌, ℕ, ◌<◌, List, [], ◌∷◌, length, Option, None, Some, refl, ap, ◌∙◌, arith}
+use Rattle.std.proofs.Common.{◌≡◌, ℕ, ◌<◌, List, [], ◌∷◌, length, None, Some, refl, arith}
 use Rattle.std.specs.Prelude.{◌==◌}
 use Rattle.frz_words.specs.Parts.{split}
-use Rattle.frz_fen.specs.Fields.{fields, has_bytes, FieldTexts, named}
+use Rattle.frz_fen.specs.Fields.{fields, named}
 
 abbrev parts : List ℕ → List (List ℕ)
 parts text = split (λ b. b == 32) text

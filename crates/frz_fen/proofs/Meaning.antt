@@ -1,8 +1,7 @@
 -- What the fields of a text lead to, one after the other.
 use Rattle.std.proofs.Common.{◌≡◌, ℕ, List, Option, None, Some, refl, sym, ap, ◌∙◌}
-use Rattle.std.specs.Prelude.{Result, Ok, Err}
+use Rattle.std.specs.Prelude.{Ok, Err}
 use Rattle.frz_board.specs.declared.man.Colour.{Colour}
-use Rattle.frz_board.specs.Boards.{Board}
 use Rattle.frz_fen.specs.declared.fault.FenFault.{FenFault}
 use Rattle.frz_fen.specs.declared.fault.FenFault.TheVariants.{Fields as WrongFields}
 use Rattle.frz_fen.specs.Fields.{FieldTexts, named_fields}

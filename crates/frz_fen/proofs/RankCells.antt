@@ -2,7 +2,7 @@
 use Rattle.std.proofs.Common.{◌≡◌, ℕ, ◌+◌, ◌<◌, ◌≤◌, Bool, true, false, ◌&&◌, List, [], ◌∷◌, ◌++◌, length, take, get_or, replicate, refl, ap, sym, ◌∙◌, arith}
 use Rattle.std.specs.Prelude.{◌==◌}
 use Rattle.std.proofs.Common.{inl, inr}
-use Rattle.std.specs.List.{list_all, flat_map}
+use Rattle.std.specs.List.{list_all}
 use Rattle.std.proofs.lemmas.Grind.{flat_map-append}
 use Rattle.std.proofs.lemmas.List.{take_more, append-nil, take_all, length-replicate}
 use Rattle.std.proofs.lemmas.List.Folds.{list_all_at, list_all_more, length-flat_map-take}
@@ -40,9 +40,9 @@ unfolding is_rank
 too_wide part i n cell l e h =
     second_false (list_all is_gap_or_man part) (length (rank_cells part) == 8)
     (not_eight (length (rank_cells part))
-     (let k = length-flat_map-take cells_of part i 0 l in
-      let m : length (cells_of (get_or part i 0)) ≡ n = ap length e ∙ length-replicate n cell in
-      omega arith))
+    (let k = length-flat_map-take cells_of part i 0 l in
+    let m : length (cells_of (get_or part i 0)) ≡ n = ap length e ∙ length-replicate n cell in
+    omega arith))
 
 whole_rank : (part : List ℕ) → list_all is_gap_or_man part ≡ true → length (rank_cells part) ≡ 8 → is_rank part ≡ true
 unfolding is_rank

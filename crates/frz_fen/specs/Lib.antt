@@ -1,3 +1,4 @@
 pub mod Fields
 pub mod Placement
 pub mod Reading
+pub mod Writing

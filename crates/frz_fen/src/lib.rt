@@ -5,6 +5,11 @@ mod fault;
 mod fields;
 mod placement;
 mod reading;
+mod writing;
 
 pub use fault::FenFault;
 pub use reading::read_fen;
+pub use writing::write_fen;
+
+#[cfg(test)]
+mod tests;

@@ -1,4 +1,4 @@
-use Rattle.std.proofs.Common.{◌≡◌, rules, arith}
+use Rattle.std.proofs.Common.{rules}
 use Rattle.frz_fen.proofs.Fielding.{named_two, named_three, four_fields, named_six, named_more}
 use Rattle.frz_fen.proofs.fields.named_fields.Goals as goal
 

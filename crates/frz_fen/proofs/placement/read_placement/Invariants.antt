@@ -1,4 +1,4 @@
-use Rattle.std.proofs.Common.{◌≡◌, ◌≤◌, ◌<◌, ◌*◌, ◌++◌, drop, length, option_map}
+use Rattle.std.proofs.Common.{◌≡◌, ◌≤◌, ◌*◌, ◌++◌, drop, length, option_map}
 use Rattle.frz_fen.specs.Placement.{ranks, ranks_left, wrong_rank, board_cells}
 use Rattle.frz_fen.proofs.placement.read_placement.Given as goal
 

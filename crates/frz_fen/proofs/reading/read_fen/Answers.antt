@@ -1,4 +1,4 @@
-use Rattle.std.proofs.Common.{rules, ◌∙◌}
+use Rattle.std.proofs.Common.{rules}
 use Rattle.frz_fen.proofs.Meaning.{wrong_placement, wrong_turn, wrong_castling, wrong_target, wrong_clock, all_right}
 use Rattle.frz_fen.proofs.reading.read_fen.Goals as goal
 
