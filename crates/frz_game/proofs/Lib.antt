@@ -1,0 +1,4 @@
+pub mod Filled
+pub mod Membership
+pub mod Endings
+pub mod Numbers

@@ -1,0 +1,6 @@
+pub mod Arms
+pub mod Entering
+pub mod Graphs
+pub mod Membership
+pub mod Games
+pub mod Values
