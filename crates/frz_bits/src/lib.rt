@@ -8,6 +8,8 @@ mod rays;
 mod reach;
 mod reaching;
 mod sets;
+#[cfg(test)]
+mod tests;
 mod ways;
 mod word;
 

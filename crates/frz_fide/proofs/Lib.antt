@@ -10,3 +10,4 @@ pub mod Kept
 pub mod Skip
 pub mod Listed
 pub mod Targets
+pub mod InWords

@@ -46,7 +46,7 @@ ahead_is_beside White a b h = let e = eqb-true (b / 8) (a / 8 + 1) h in omega ar
 ahead_is_beside Black a b h = let e = eqb-true (a / 8) (b / 8 + 1) h in omega arith
 
 -- where a target is taken, it is the position's
-target_is : (o : Option ℕ) (b : ℕ) → is_target o b ≡ true → o ≡ Some b
+pub target_is : (o : Option ℕ) (b : ℕ) → is_target o b ≡ true → o ≡ Some b
 target_is None b h = absurd cc
 target_is (Some t) b h = ap Some (eqb-true t b h)
 

@@ -3,3 +3,4 @@ pub mod Listing
 pub mod SquareBySquare
 pub mod Valid
 pub mod Ends
+pub mod LegalMoves

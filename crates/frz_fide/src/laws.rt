@@ -5,6 +5,7 @@ ghost use Rattle.std.specs.List.Sorted.{IsStrictlySortedBy};
 ghost use Rattle.frz_board.specs.Boards.{Board};
 ghost use Rattle.frz_board.specs.Moving.{Step, IsStep, step_cmp};
 ghost use Rattle.frz_fide.specs.Legal.{is_legal, after};
+ghost use Rattle.frz_fide.specs.LegalMoves.{Legal};
 ghost use Rattle.frz_fide.specs.Listing.{legal_moves_of};
 ghost use Rattle.frz_fide.specs.Valid.{IsValid};
 
@@ -28,4 +29,10 @@ pub fn in_order()
 /// The list has exactly the legal moves.
 pub fn all_listed()
     ensures { (p : Board) (m : Step) → Contains (legal_moves_of p) m ↔ (IsStep m × (is_legal p m ≡ true)) }
+{}
+
+/// The test of legal moves holds exactly where the laws of chess allow the move, and then the
+/// position after it is the one that they give (FIDE 3.1 to 3.9).
+pub fn moves_in_words()
+    ensures { (p : Board) (m : Step) (q : Board) → IsValid p → Legal p m q ↔ (IsStep m × (is_legal p m ≡ true) × (q ≡ after p m)) }
 {}

@@ -8,6 +8,8 @@ pub mod laws;
 mod moves;
 mod outcome;
 mod playing;
+#[cfg(test)]
+mod tests;
 mod validity;
 mod ways;
 
