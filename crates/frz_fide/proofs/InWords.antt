@@ -1,7 +1,7 @@
 -- The tests of legal moves compute the relation of legal moves.
-use Rattle.std.proofs.Common.{◌≡◌, ◌≢◌, ℕ, ◌+◌, ◌/◌, ◌%◌, ◌<◌, Bool, true, false, cond, ◌&&◌, ◌||◌, not, refl, ap, sym, ◌∙◌, subst, arith, Option, None, Some, slice_index, slice_set, ◌⊎◌, inl, inr}
+use Rattle.std.proofs.Common.{◌≡◌, ◌≢◌, ℕ, ◌+◌, ◌/◌, ◌<◌, Bool, true, false, cond, ◌&&◌, ◌||◌, not, refl, ap, sym, ◌∙◌, arith, Option, None, Some, slice_index, slice_set, ◌⊎◌, inl, inr}
 use Rattle.std.specs.Prelude.{◌==◌, is_none, is_some, if◌then◌else◌}
-use Rattle.std.proofs.lemmas.Bool.{eqb-true, eq-eqb, ne_eqb, both_ways, false_from_ne_true, cases_Bool, and_left, and_right}
+use Rattle.std.proofs.lemmas.Bool.{eqb-true, eq-eqb, ne_eqb, both_ways, false_from_ne_true, and_left, and_right}
 use Rattle.frz_board.specs.declared.man.Colour.{Colour}
 use Rattle.frz_board.specs.declared.man.Colour.TheVariants.{White, Black}
 use Rattle.frz_board.specs.declared.man.Kind.{Kind}
@@ -12,16 +12,16 @@ use Rattle.frz_board.specs.Men.{man_of_cell, cell_of_man, other_of, same_colour,
 use Rattle.frz_board.specs.Boards.{Board, man_on, is_empty, holds, has}
 use Rattle.frz_board.specs.Moving.{Step, IsStep, is_promotion}
 use Rattle.frz_board.specs.Attacks.{attacks, reaches, man_reaches, pawn_reaches, is_attacked, is_in_check}
-use Rattle.frz_board.specs.EnPassant.{has_pawn_beside, is_passing_rank, is_passed, has_passed, target_stands, has_target_in_place, ahead}
+use Rattle.frz_board.specs.EnPassant.{has_pawn_beside, is_passing_rank, has_passed, target_stands, has_target_in_place, ahead}
 use Rattle.frz_board.specs.Attacking.{Attack, Stands, IsForward}
 use Rattle.frz_board.proofs.Connectives.{and_both, both_and, or_either, either_or}
-use Rattle.frz_board.proofs.AllSquares.{some_square, any_square, Found}
+use Rattle.frz_board.proofs.AllSquares.{some_square, any_square}
 use Rattle.frz_board.proofs.CellsOfMen.{cell_back, cell_forth}
 use Rattle.frz_board.proofs.AttackInWords.{test_means, means_test}
 use Rattle.frz_fide.specs.Legal.{is_home, is_last, passed_over, beside_on_file, is_target, captures, takes_in_passing, steps, advances, goes, promotes, can_go, man_goes, arrives, after_man, after, is_legal}
 use Rattle.frz_fide.specs.Valid.{IsValid}
-use Rattle.frz_fide.specs.LegalMoves.{Begins, IsEmpty, IsHome, IsLast, IsTwoForward, Becomes, HasEnemyBeside, gone, IsSafe, Legal, piece, capture, step, advance, en_passant}
-use Rattle.frz_fide.proofs.Facts.{Move, facts, same_side}
+use Rattle.frz_fide.specs.LegalMoves.{Begins, IsHome, IsLast, IsTwoForward, Becomes, HasEnemyBeside, gone, IsSafe, Legal, piece, capture, step, advance, en_passant}
+use Rattle.frz_fide.proofs.Facts.{facts, same_side}
 use Rattle.frz_fide.proofs.Standing.{own_colour, target_is}
 
 abbrev mine : Board → Kind → Man

@@ -1,5 +1,5 @@
 -- Legal moves as the laws of chess state them; the tests of the module Legal compute them.
-use Rattle.std.specs.Prelude.{ℕ, ◌≡◌, ◌≢◌, ◌+◌, ◌<◌, true, false, Option, None, Some, ◌⊎◌, slice_index, slice_set, List}
+use Rattle.std.specs.Prelude.{ℕ, ◌≡◌, ◌≢◌, ◌+◌, ◌<◌, Option, None, Some, ◌⊎◌, slice_index, slice_set}
 use Rattle.frz_board.specs.declared.man.Colour.{Colour}
 use Rattle.frz_board.specs.declared.man.Colour.TheVariants.{White, Black}
 use Rattle.frz_board.specs.declared.man.Kind.{Kind}
@@ -7,7 +7,7 @@ use Rattle.frz_board.specs.declared.man.Kind.TheVariants.{King, Pawn}
 use Rattle.frz_board.specs.Squares.{rank_of, files_apart, ranks_apart}
 use Rattle.frz_board.specs.Men.{cell_of_man, other_of}
 use Rattle.frz_board.specs.Boards.{Board}
-use Rattle.frz_board.specs.Moving.{Step, IsStep, is_promotion}
+use Rattle.frz_board.specs.Moving.{Step, IsStep}
 use Rattle.frz_board.specs.Attacking.{Attack, Stands, IsForward}
 use Rattle.frz_fide.specs.Legal.{passed_over, beside_on_file}
 

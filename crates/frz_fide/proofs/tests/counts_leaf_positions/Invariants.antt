@@ -2,4 +2,4 @@
 use Rattle.frz_fide.proofs.tests.counts_leaf_positions.Given as goal
 
 abbrev pub ghosts-count_leaves : goal.ghosts-count_leaves
-ghosts-count_leaves a = record { name = a.blank.name; parts = a.blank.parts }
+ghosts-count_leaves g a = record { name = a.blank.name; parts = a.blank.parts }

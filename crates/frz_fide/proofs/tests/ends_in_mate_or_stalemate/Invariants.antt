@@ -2,4 +2,4 @@
 use Rattle.frz_fide.proofs.tests.ends_in_mate_or_stalemate.Given as goal
 
 abbrev pub ghosts-end_games : goal.ghosts-end_games
-ghosts-end_games a = record { name = a.blank.name; parts = a.blank.parts }
+ghosts-end_games g a = record { name = a.blank.name; parts = a.blank.parts }
