@@ -5,3 +5,4 @@ pub mod Meaning
 pub mod RankTexts
 pub mod WholeTexts
 pub mod Roundtrip
+pub mod Shortest

@@ -62,7 +62,7 @@ byte_fits : (c : Bool) (b : ℕ) → All (λ x. x < 13) (cond c (replicate (b - 
 byte_fits true b = All-replicate (λ x. x < 13) (b - 48) 0 (lit< tt)
 byte_fits false b = All-cons (λ x. x < 13) (unwrap_or (place_of_letter b) 0 + 1) [] (place_fits b) (All-nil (λ x. x < 13))
 
-rank_fits : (part : List ℕ) → All (λ x. x < 13) (rank_cells part)
+pub rank_fits : (part : List ℕ) → All (λ x. x < 13) (rank_cells part)
 rank_fits [] = All-nil (λ x. x < 13)
 rank_fits (b ∷ bs) = All-append (λ x. x < 13) (cells_of b) (rank_cells bs) (byte_fits (is_gap b) b) (rank_fits bs)
 

@@ -50,7 +50,7 @@ letter-cells c l m =
     ∙ ap (λ n. n ∷ []) (eqb-true (unwrap_or (place_of_letter (letter_of c)) 0 + 1) c (letter-man c l m).1)
 
 -- whether a text begins with a digit
-abbrev begins_gap : List ℕ → Bool
+abbrev pub begins_gap : List ℕ → Bool
 begins_gap [] = false
 begins_gap (b ∷ bs) = is_gap b
 
@@ -83,7 +83,7 @@ pub gaps_first : (n : ℕ) (cells : List ℕ) → n ≤ 8 → begins_gap (rank_t
 gaps_first zero cells l h = refl
 gaps_first (suc n) cells l h = ap with_gap (gaps_first n cells (omega arith) h) ∙ gap_grows n (rank_text cells) (omega arith) h
 
-man_first : (cell : ℕ) (cells : List ℕ) → 0 < cell → rank_text (cell ∷ cells) ≡ letter_of cell ∷ rank_text cells
+pub man_first : (cell : ℕ) (cells : List ℕ) → 0 < cell → rank_text (cell ∷ cells) ≡ letter_of cell ∷ rank_text cells
 man_first cell cells l = rw (not_zero cell l) refl
 
 man_begins : (cell : ℕ) (cells : List ℕ) → 0 < cell → cell < 13 → begins_gap (rank_text (cell ∷ cells)) ≡ false
@@ -111,14 +111,14 @@ rank_ends old text row n i l m e =
     ∙ ap (λ xs. text ++ rank_text (replicate n 0 ++ xs)) (sym (drop_all i row m))
     ∙ e
 
-gap_bounds : (b : ℕ) → is_gap b ≡ true → (49 ≤ b) × (b ≤ 56)
+pub gap_bounds : (b : ℕ) → is_gap b ≡ true → (49 ≤ b) × (b ≤ 56)
 gap_bounds b h = let parts = and_both (nat_le 49 b) (nat_le b 56) h in (leb-true 49 b parts.0, leb-true b 56 parts.1)
 
-gap_cells : (b : ℕ) → is_gap b ≡ true → cells_of b ≡ replicate (b - 48) 0
+pub gap_cells : (b : ℕ) → is_gap b ≡ true → cells_of b ≡ replicate (b - 48) 0
 gap_cells b h = ap (λ (x : Bool). cond x (replicate (b - 48) 0) ((unwrap_or (place_of_letter b) 0 + 1) ∷ [])) h
 
 -- a digit that stands for at most 7 squares has a next one
-next_digit : (b : ℕ) (bs : List ℕ) → is_gap b ≡ true → length (rank_cells (b ∷ bs)) ≤ 7 → is_gap (b + 1) ≡ true
+pub next_digit : (b : ℕ) (bs : List ℕ) → is_gap b ≡ true → length (rank_cells (b ∷ bs)) ≤ 7 → is_gap (b + 1) ≡ true
 next_digit b bs h l =
     let bounds = gap_bounds b h in
     let low = bounds.0 in
