@@ -11,3 +11,6 @@ mod sums;
 mod turn;
 
 pub use set::Set;
+
+#[cfg(test)]
+mod tests;
