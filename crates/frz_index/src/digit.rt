@@ -88,7 +88,6 @@ pub(crate) fn radix_in(triangle: &Triangle, group: &Group) -> u64
 {
     let states = group.states.as_slice().len() as u32;
     let most = group.most as u32;
-    smaller(triangle, states, group.least as u32, most).saturating_add(triangle.binomial(
-        states, most,
-    ))
+    let fewer = smaller(triangle, states, group.least as u32, most);
+    fewer.saturating_add(triangle.binomial(states, most))
 }
