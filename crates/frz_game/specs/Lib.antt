@@ -4,3 +4,4 @@ pub mod Graphs
 pub mod Membership
 pub mod Games
 pub mod Values
+pub mod Stored

@@ -1,0 +1,46 @@
+//! What bounds say of chess.
+
+ghost use Rattle.std.specs.Prelude.{ℕ};
+ghost use Rattle.frz_board.specs.declared.man.Colour.{Colour};
+ghost use Rattle.frz_board.specs.Men.{other_of};
+ghost use Rattle.frz_board.specs.Boards.{Board};
+ghost use Rattle.frz_rules.specs.declared.exit.Value.{Value};
+ghost use Rattle.frz_rules.specs.Views.{RuleLines};
+ghost use Rattle.frz_index.specs.Members.{Member};
+ghost use Rattle.frz_arena.specs.declared.bound.Bound.TheVariants.{Wins, Holds};
+ghost use Rattle.frz_arena.specs.Chess.{ForcesMate, NeverForcesMate};
+ghost use Rattle.frz_arena.specs.Exits.{TrueExits, AllNumbered, IsTrueAt};
+ghost use Rattle.frz_game.specs.Games.{chess, game_of};
+ghost use Rattle.frz_game.specs.Stored.{ForcesWin, IsBoundAt};
+ghost use Rattle.frz_game.specs.Values.{AreTrueExits, IsTrueValue};
+
+/// A value is true where it is, by the words of the arena.
+pub fn true_values()
+    ensures value { (rules : RuleLines) (value : Board → Value) (v : Value) (q : Board) →
+        IsTrueValue v q → IsTrueAt (game_of rules value) v q }
+    ensures exits { (rules : RuleLines) (value : Board → Value) →
+        AreTrueExits rules value → TrueExits (game_of rules value) }
+{}
+
+/// A bound that is a win is forced in chess, to mate or to a value that wins. Where the exits are
+/// true it is forced to mate, and within its plies where each value that wins has a number.
+pub fn wins()
+    ensures goals { (rules : RuleLines) (value : Board → Value) (side : Colour) (n : ℕ) (p : Board) →
+        IsBoundAt rules value side p (Wins n) → ForcesWin rules value side n p }
+    ensures mates { (rules : RuleLines) (value : Board → Value) → AreTrueExits rules value →
+        (side : Colour) (n : ℕ) (p : Board) → IsBoundAt rules value side p (Wins n) →
+        (k : ℕ) × ForcesMate chess side k p }
+    ensures within { (rules : RuleLines) (value : Board → Value) → AreTrueExits rules value →
+        (side : Colour) → AllNumbered (game_of rules value) side →
+        (n : ℕ) (p : Board) → IsBoundAt rules value side p (Wins n) → ForcesMate chess side n p }
+{}
+
+/// Where the exits are true, a side that holds or wins is never mated by force.
+pub fn holds()
+    ensures hold { (rules : RuleLines) (value : Board → Value) → AreTrueExits rules value →
+        (side : Colour) (p : Board) → Member rules.groups p → IsBoundAt rules value side p Holds →
+        NeverForcesMate chess (other_of side) p }
+    ensures win { (rules : RuleLines) (value : Board → Value) → AreTrueExits rules value →
+        (side : Colour) (n : ℕ) (p : Board) → Member rules.groups p →
+        IsBoundAt rules value side p (Wins n) → NeverForcesMate chess (other_of side) p }
+{}

@@ -1,0 +1,49 @@
+//! Numbers of a set, and the game over them.
+
+ghost use Rattle.std.specs.Prelude.{◌≡◌, ◌↔◌, ℕ, List, map, true, Some, None};
+ghost use Rattle.frz_board.specs.declared.man.Colour.{Colour};
+ghost use Rattle.frz_board.specs.Boards.{Board};
+ghost use Rattle.frz_rules.specs.declared.exit.Value.{Value};
+ghost use Rattle.frz_rules.specs.Sets.{size_of};
+ghost use Rattle.frz_rules.specs.Views.{GroupLine, RuleLines};
+ghost use Rattle.frz_index.specs.Members.{Member, Num, HasNumber};
+ghost use Rattle.frz_arena.specs.Arena.{IsLawful};
+ghost use Rattle.frz_arena.specs.Names.{IsNumbering, IsNumbered};
+ghost use Rattle.frz_arena.specs.Plies.{LagsWithin};
+ghost use Rattle.frz_game.specs.Arms.{arm_of};
+ghost use Rattle.frz_game.specs.Games.{arena_by, graph_by, arms_of, node_of};
+ghost use Rattle.frz_game.specs.Membership.{is_member, number_of, position_at, numbers_by};
+ghost use Rattle.frz_game.specs.Stored.{HasSmallLags};
+
+/// The test of membership is membership, and numbers go both ways.
+pub fn membership()
+    ensures member { (groups : List GroupLine) (p : Board) →
+        (is_member groups p ≡ true) ↔ Member groups p }
+    ensures number { (groups : List GroupLine) (p : Board) →
+        Member groups p → number_of groups p ≡ Some (Num groups p) }
+    ensures outside { (groups : List GroupLine) (p : Board) →
+        (Member groups p → ⊥) → number_of groups p ≡ None }
+    ensures position { (groups : List GroupLine) (i : ℕ) (p : Board) →
+        (position_at groups i ≡ Some p) ↔ HasNumber groups i p }
+{}
+
+/// The game is an arena whose positions have dense numbers, and the lags of its exits are small.
+pub fn numbered()
+    ensures lawful { (rules : RuleLines) (value : Board → Value) → IsLawful (arena_by rules value) }
+    ensures numbering { (rules : RuleLines) (value : Board → Value) →
+        IsNumbering (numbers_by rules.groups) (arena_by rules value) }
+    ensures graph_lawful { (rules : RuleLines) (value : Board → Value) →
+        IsLawful (graph_by rules value) }
+    ensures graph_numbered { (rules : RuleLines) (value : Board → Value) →
+        IsNumbered (graph_by rules value) (size_of rules.groups) }
+    ensures lags { (rules : RuleLines) (value : Board → Value) → HasSmallLags value →
+        (side : Colour) → LagsWithin (graph_by rules value) side 1000 }
+{}
+
+/// What `Game::nexts` gives is the node and the arms of the game over numbers.
+pub fn graph()
+    ensures node { (rules : RuleLines) (value : Board → Value) (i : ℕ) →
+        (graph_by rules value).node i ≡ node_of rules.groups i }
+    ensures arms { (rules : RuleLines) (value : Board → Value) (i : ℕ) →
+        (graph_by rules value).arms i ≡ map arm_of (arms_of rules value i) }
+{}
