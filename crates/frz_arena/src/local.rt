@@ -1,5 +1,4 @@
 ghost use Rattle.std.specs.Prelude.{◌≡◌, ◌+◌, ◌||◌, ◌&&◌, ◌↔◌, if◌then◌else◌, min, max, [], ℕ, Bool};
-ghost use Rattle.frz_board.specs.Men.{same_colour};
 ghost use Rattle.frz_arena.specs.Codes as codes;
 ghost use Rattle.frz_arena.specs.LocalCodes as local_codes;
 
@@ -94,15 +93,6 @@ fn other_code(all: &[u32]) -> u64
     tally.code()
 }
 
-fn is_same(a: Colour, b: Colour) -> bool
-    ensures { result ≡ same_colour a b }
-{
-    match (a, b) {
-        (Colour::White, Colour::White) | (Colour::Black, Colour::Black) => true,
-        _ => false,
-    }
-}
-
 /// The local code of a side: what the codes one ply on give. `free` has the codes of the moves
 /// allowed to the mover, `all` those of all legal moves.
 pub fn local_code(side: Colour, node: Node, free: &[u32], all: &[u32]) -> u64
@@ -110,10 +100,10 @@ pub fn local_code(side: Colour, node: Node, free: &[u32], all: &[u32]) -> u64
 {
     match node {
         Node::Broken => 0,
-        Node::Mate(mover) => { if is_same(mover, side) { 3 } else { 2 } }
+        Node::Mate(mover) => { if mover == side { 3 } else { 2 } }
         Node::Stalemate(_) => 1,
         Node::Going(mover) => {
-            if is_same(mover, side) {
+            if mover == side {
                 own_code(free)
             } else {
                 other_code(all)

@@ -6,22 +6,17 @@ use Rattle.frz_board.specs.declared.man.Kind.TheVariants.{Pawn}
 use Rattle.frz_board.specs.Men.{same_colour}
 use Rattle.frz_board.specs.Boards.{Board, is_empty, has}
 use Rattle.frz_board.specs.Moving.{Step}
-use Rattle.frz_board.specs.Attacks.{pawn_reaches}
+use Rattle.frz_fide.specs.Legal.{takes_in_passing}
 use Rattle.frz_words.specs.Squares.{has_square}
 use Rattle.frz_rules.specs.declared.forbid.Only.{Only}
 use Rattle.frz_rules.specs.declared.forbid.Only.TheVariants.{Any, Capture, Promotion}
 use Rattle.frz_rules.specs.declared.forbid.Forbid.{Forbid}
 use Rattle.frz_rules.specs.Views.{RuleLines}
 
--- the square is the target
-abbrev pub is_target : Option ℕ → ℕ → Bool
-is_target None s = false
-is_target (Some t) s = t == s
-
 -- a pawn captures the one that has just passed its square (FIDE 3.7)
 abbrev pub is_en_passant : Board → Step → Bool
 is_en_passant p m =
-    has p p.turn Pawn m.from && (pawn_reaches p.turn m.from m.to && is_target p.ep m.to)
+    has p p.turn Pawn m.from && takes_in_passing p p.turn m.from m.to
 
 -- a man is captured, en passant too
 abbrev pub is_capture : Board → Step → Bool

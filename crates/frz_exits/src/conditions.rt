@@ -9,7 +9,6 @@ ghost use Rattle.frz_exits.specs.Conditions as conditions;
 ghost use Rattle.frz_exits.specs.Conditions.{in_range, condition_holds, conditions_hold};
 ghost use Rattle.frz_board.specs.declared.man.Kind.TheVariants.{King};
 
-use crate::side::is_same;
 use frz_board::{Colour, Kind, Man, Position, Square, cell_of};
 use frz_fide::in_check;
 use frz_rules::{Cond, Test};
@@ -62,7 +61,7 @@ fn test_holds(test: &Test, q: &Position) -> bool
     ensures { result ≡ conditions.test_holds test.now q.now }
 {
     match *test {
-        Test::Turn(side) => is_same(side, q.turn()),
+        Test::Turn(side) => side == q.turn(),
         Test::Count(side, kind, least, most) => is_in_range(least, most, count(q, side, kind)),
         Test::On(side, kind, set) => stands_on(q, side, kind, set),
         Test::Distance(side, square, least, most) => is_king_within(q, side, square, least, most),

@@ -1,9 +1,9 @@
 ghost use Rattle.std.specs.Prelude.{◌≡◌};
 ghost use Rattle.frz_board.specs.Attacks.{pawn_reaches};
 ghost use Rattle.frz_board.specs.Squares.{is_forward};
-ghost use Rattle.frz_exits.specs.Forbidding.{is_target, is_en_passant, is_capture as captures_by, fits as fits_by, covers as covers_by, is_covered as is_covered_by, is_free};
+ghost use Rattle.frz_fide.specs.Legal.{is_target};
+ghost use Rattle.frz_exits.specs.Forbidding.{is_en_passant, is_capture as captures_by, fits as fits_by, covers as covers_by, is_covered as is_covered_by, is_free};
 
-use crate::side::is_same;
 use frz_board::{Colour, Kind, Move, Position, Square};
 use frz_rules::{Forbid, Only, Rules};
 
@@ -64,7 +64,7 @@ fn is_covered(lines: &[Forbid], side: Colour, p: &Position, m: Move) -> bool
 {
     lines
         .iter()
-        .any(|line| is_same(line.colour, side) && covers(line, p, m))
+        .any(|line| line.colour == side && covers(line, p, m))
 }
 
 /// Is the move free: covered by no forbid line of the side? The move is a legal one of the side to

@@ -5,7 +5,6 @@ mod book;
 mod conditions;
 mod forbidding;
 pub mod laws;
-mod side;
 mod value;
 
 pub use book::{ExitBook, RuleBook};
