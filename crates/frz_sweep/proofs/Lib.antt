@@ -1,0 +1,5 @@
+pub mod OnePly
+pub mod NextTold
+pub mod Reached
+pub mod WinningLags
+pub mod GameNumbers

@@ -1,0 +1,10 @@
+use Rattle.std.proofs.Common.{◌≤◌, ◌<◌, ℕ, get_or}
+use Rattle.std.specs.Prelude.{All, take}
+use Rattle.frz_sweep.specs.Winning.{WinsIn}
+use Rattle.frz_sweep.proofs.winning.greatest_winning_lag.Given as goal
+
+abbrev pub invariant-loop-arm : goal.invariant-loop-arm
+invariant-loop-arm l = record {
+  within : All (λ a. WinsIn l.side l.most a.next) (take l.arm-index l.arms);
+  small : l.most ≤ 1000;
+}

@@ -1,0 +1,4 @@
+pub mod Finite
+pub mod Told
+pub mod Winning
+pub mod FiniteGames

@@ -1,0 +1,11 @@
+//! A slow solver of the restricted game: forwards, ply by ply, until nothing changes.
+#![tactic(auto)]
+
+mod numbered;
+mod over_game;
+mod passes;
+mod plies;
+mod tables;
+mod winning;
+
+pub use tables::sweep;

@@ -1,0 +1,73 @@
+//! Ply by ply, until nothing changes.
+
+ghost use Rattle.std.specs.Prelude.{◌≡◌, ◌≤◌, ℕ, length, slice_index, vec_len, IfOk};
+ghost use Rattle.frz_arena.specs.Bounds.{IsCodeAt};
+ghost use Rattle.frz_arena.specs.Plies.{LagsWithin};
+ghost use Rattle.frz_sweep.specs.Told.{AreTold};
+
+use crate::numbered::NumberedGame;
+use crate::plies::{OPEN, settle_all};
+use frz_board::{Colour, NoMemory};
+use frz_steps::Steps;
+use std::alloc::Global;
+use std::sync::ledger::Ledger;
+
+/// The greatest lag of the exits that win for the side, in plies.
+fn greatest_lag<G: NumberedGame<L>, L: Ledger>(game: &G, side: Colour, steps: &mut Steps<L>) -> u32
+    requires { G.sound game.now }
+    ensures within { LagsWithin (G.arena game.now) side result }
+    ensures small { result ≤ 1000 }
+{
+    let mut most = 0;
+    for i in 0..game.size() {
+        most = game.lag(side, i, steps).max(most);
+    }
+    most
+}
+
+/// Goes on from the first ply until one changes nothing and no lag is still to come.
+fn settle_from_first<G: NumberedGame<L>, L: Ledger>(
+    game: &G,
+    side: Colour,
+    lag: u32,
+    codes: &mut [u32],
+    steps: &mut Steps<L>,
+)
+    requires sound { G.sound game.now }
+    requires many { length codes.old ≡ G.count game.now }
+    requires within { LagsWithin (G.arena game.now) side lag }
+    requires small { lag ≤ 1000 }
+    requires told { AreTold (G.arena game.now) side 1 codes.old }
+    ensures { (i : ℕ) → IsCodeAt (G.arena game.now) side i (slice_index codes.new i) }
+{
+    let mut ply = 1;
+    'plies: loop {
+        let changed = settle_all(game, side, ply, codes, steps);
+        if !changed && lag < ply {
+            return;
+        }
+        ply += 1;
+    }
+}
+
+/// The codes of the bounds of a side, one for each number.
+pub fn solve<G: NumberedGame<L>, L: Ledger>(
+    alloc: Global,
+    game: &G,
+    side: Colour,
+    steps: &mut Steps<L>,
+) -> Result<Vec<u32>, NoMemory>
+    requires { G.sound game.now }
+    ensures many { IfOk result (λ codes. length codes.items ≡ G.count game.now) }
+    ensures codes { IfOk result (λ codes. (i : ℕ) → IsCodeAt (G.arena game.now) side i (slice_index codes.items i)) }
+{
+    let size = game.size() as usize;
+    let mut codes = match vec![in alloc; OPEN; size] {
+        Ok(codes) => codes,
+        Err(_) => return Err(NoMemory),
+    };
+    let _ = settle_all(game, side, 0, &mut codes, steps);
+    let lag = greatest_lag(game, side, steps);
+    settle_from_first(game, side, lag, &mut codes, steps);
+    Ok(codes)
+}

@@ -1,0 +1,36 @@
+//! How long the assigned wins take that one move reaches.
+
+ghost use Rattle.std.specs.Prelude.{◌≤◌, All};
+ghost use Rattle.frz_sweep.specs.Winning.{HasSmallLag, WinsIn};
+
+use frz_board::Colour;
+use frz_exits::{Class, class, lag};
+use frz_game::{Arm, Next};
+
+/// The lag of the move's exit where that wins for the side, and 0 elsewhere.
+fn winning_lag(side: Colour, next: Next) -> u32
+    requires { HasSmallLag next }
+    ensures within { WinsIn side result next }
+    ensures small { result ≤ 1000 }
+{
+    match next {
+        Next::Inside(_) => 0,
+        Next::Outside(value) => match class(value, side) {
+            Class::Good => lag(value),
+            _ => 0,
+        },
+    }
+}
+
+/// The greatest lag of the exits of these moves that win for the side.
+pub fn greatest_winning_lag(side: Colour, arms: &[Arm]) -> u32
+    requires { All (λ a. HasSmallLag a.next) arms.now }
+    ensures within { All (λ a. WinsIn side result a.next) arms.now }
+    ensures small { result ≤ 1000 }
+{
+    let mut most = 0;
+    for arm in arms {
+        most = winning_lag(side, arm.next).max(most);
+    }
+    most
+}
