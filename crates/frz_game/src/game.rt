@@ -17,6 +17,7 @@ use frz_steps::Steps;
 use std::sync::ledger::Ledger;
 
 /// The restricted game of rules, over the numbers of their set, with the values of a book outside.
+#[derive_where(Clone, Copy)]
 pub struct Game<'a, B: ExitBook> {
     pub set: &'a Set,
     pub rules: &'a Rules,

@@ -16,3 +16,6 @@ pub use frz_arena::{Bound, Node, bound_of, code};
 pub use game::Game;
 pub use local_code::local;
 pub use wrong::Wrong;
+
+#[cfg(test)]
+mod tests;
