@@ -9,3 +9,6 @@ mod tables;
 mod winning;
 
 pub use tables::sweep;
+
+#[cfg(test)]
+mod tests;
