@@ -1,13 +1,11 @@
 -- A code that tells so many plies, and what it is one ply on.
-use Rattle.std.proofs.Common.{◌≡◌, ◌≢◌, ◌≤◌, ◌<◌, ◌+◌, ◌*◌, ◌↔◌, ℕ, suc, List, length, slice_index, inl, inr, refl, sym, subst, ◌∙◌, arith}
+use Rattle.std.proofs.Common.{◌≡◌, ◌≢◌, ◌≤◌, ◌<◌, ◌+◌, ◌*◌, ◌↔◌, ℕ, List, length, slice_index, inl, inr, sym, ◌∙◌, arith}
 use Rattle.std.proofs.lemmas.Bool.{cases_lt}
 use Rattle.std.proofs.lemmas.Bool.Decides.{nat_tests}
 use Rattle.std.proofs.lemmas.List.{get_or_past}
 use Rattle.frz_board.specs.declared.man.Colour.{Colour}
-use Rattle.frz_arena.specs.declared.node.Node.TheVariants.{Broken}
 use Rattle.frz_arena.specs.Arena.{Arena, IsLawful}
-use Rattle.frz_arena.specs.Plies.{WinsWithin, FailsWithin}
-use Rattle.frz_arena.specs.Codes.{is_win, is_failure, IsWinWithin, IsFailureWithin}
+use Rattle.frz_arena.specs.Codes.{IsWinWithin, IsFailureWithin}
 use Rattle.frz_arena.specs.LocalCodes.{local_code}
 use Rattle.frz_arena.proofs.ChosenCodes.{win_and_failure}
 use Rattle.frz_arena.proofs.NeverBoth.{never_both}

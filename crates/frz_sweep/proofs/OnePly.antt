@@ -3,7 +3,7 @@ use Rattle.std.proofs.Common.{◌≡◌, ◌≤◌, ◌<◌, ◌↔◌, ℕ, zer
 use Rattle.frz_board.specs.declared.man.Colour.{Colour}
 use Rattle.frz_arena.specs.Arena.{Arena, IsLawful}
 use Rattle.frz_arena.specs.Plies.{WinsWithin, FailsWithin}
-use Rattle.frz_arena.specs.Codes.{is_win, is_failure, IsWinWithin, IsFailureWithin}
+use Rattle.frz_arena.specs.Codes.{IsWinWithin, IsFailureWithin}
 use Rattle.frz_arena.specs.LocalCodes.{local_code}
 use Rattle.frz_arena.proofs.Opposed.{wins_later, fails_at_once}
 use Rattle.frz_arena.proofs.PlyCodes.{at_mates}

@@ -1,12 +1,12 @@
 -- Where the plies end.
-use Rattle.std.proofs.Common.{◌≡◌, ◌≤◌, ◌<◌, ◌+◌, ◌*◌, ◌-◌, ◌↔◌, ℕ, zero, suc, inl, inr, List, length, slice_index, refl, subst, arith}
+use Rattle.std.proofs.Common.{◌≡◌, ◌≤◌, ◌<◌, ◌+◌, ◌*◌, ℕ, zero, suc, inl, inr, List, slice_index, subst, arith}
 use Rattle.std.proofs.lemmas.Bool.{cases_lt}
 use Rattle.std.proofs.lemmas.Bool.Decides.{nat_tests}
 use Rattle.frz_board.specs.declared.man.Colour.{Colour}
 use Rattle.frz_arena.specs.declared.bound.Bound.TheVariants.{Wins, Fails}
-use Rattle.frz_arena.specs.Arena.{Arena, IsLawful}
+use Rattle.frz_arena.specs.Arena.{Arena}
 use Rattle.frz_arena.specs.Plies.{WinsWithin, FailsWithin, LagsWithin}
-use Rattle.frz_arena.specs.Codes.{is_win, is_failure, IsWinWithin, IsFailureWithin}
+use Rattle.frz_arena.specs.Codes.{IsWinWithin, IsFailureWithin}
 use Rattle.frz_arena.specs.Bounds.{IsBound, IsCodeAt}
 use Rattle.frz_arena.proofs.BoundsExist.{win_plies_few, failure_plies_few}
 use Rattle.frz_arena.proofs.CodesByPlies.{AreCodes}
@@ -66,7 +66,7 @@ reached arena side n lags codes before after =
         | inr above ↦ (
           λ w. (let k = wins_by m p w in (k.0, omega (arith, k.1))),
           λ w. wins_later arena side n m p (omega arith)
-          (((before p).wins n (omega arith)).1 (earlier_win n _ (let h = (before p).within in omega arith) m w)),
+              (((before p).wins n (omega arith)).1 (earlier_win n _ (let h = (before p).within in omega arith) m w)),
         )
       ];
       fails = λ m p. elim (cases_lt m (n + 1)) [
@@ -74,7 +74,7 @@ reached arena side n lags codes before after =
         | inr above ↦ (
           λ f. (let k = fails_by m p f in (k.0, omega (arith, k.1))),
           λ f. fails_later arena side n m p (omega arith)
-          (((before p).fails n (omega arith)).1 (earlier_failure n _ (let h = (before p).within in omega arith) m f)),
+              (((before p).fails n (omega arith)).1 (earlier_failure n _ (let h = (before p).within in omega arith) m f)),
         )
       ];
     }

@@ -1,10 +1,9 @@
 -- Lags of assigned wins.
-use Rattle.std.proofs.Common.{◌≤◌, arith}
+use Rattle.std.proofs.Common.{◌≤◌, ℕ, arith}
 use Rattle.frz_board.specs.declared.man.Colour.{Colour}
 use Rattle.frz_game.specs.declared.arm.Next.{Next}
 use Rattle.frz_game.specs.declared.arm.Next.TheVariants.{Inside, Outside}
 use Rattle.frz_sweep.specs.Winning.{WinsIn}
-use Rattle.std.proofs.Common.{ℕ}
 
 -- a greater lag will do
 pub wins_in_more : (side : Colour) (a b : ℕ) (x : Next) → a ≤ b → WinsIn side a x → WinsIn side b x

@@ -1,7 +1,6 @@
 -- How long the assigned wins take that one move reaches.
 use Rattle.std.specs.Prelude.{◌≡◌, ◌≤◌, ℕ}
 use Rattle.frz_board.specs.declared.man.Colour.{Colour}
-use Rattle.frz_rules.specs.declared.exit.Value.{Value}
 use Rattle.frz_arena.specs.declared.class.Class.TheVariants.{Good}
 use Rattle.frz_exits.specs.Values.{class_of, lag_of}
 use Rattle.frz_game.specs.declared.arm.Next.{Next}

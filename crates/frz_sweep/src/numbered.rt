@@ -19,6 +19,7 @@ pub trait NumberedGame<L: Ledger> {
     /// What the answers rest on.
     ghost sound: { Self → Type 0 };
 
+    /// How many numbers there are.
     fn size(&self) -> u32
         requires { sound self.now }
         ensures { result ≡ count self.now };

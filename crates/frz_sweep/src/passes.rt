@@ -62,9 +62,8 @@ pub fn solve<G: NumberedGame<L>, L: Ledger>(
     ensures codes { IfOk result (λ codes. (i : ℕ) → IsCodeAt (G.arena game.now) side i (slice_index codes.items i)) }
 {
     let size = game.size() as usize;
-    let mut codes = match vec![in alloc; OPEN; size] {
-        Ok(codes) => codes,
-        Err(_) => return Err(NoMemory),
+    let Ok(mut codes) = vec![in alloc; OPEN; size] else {
+        return Err(NoMemory);
     };
     let _ = settle_all(game, side, 0, &mut codes, steps);
     let lag = greatest_lag(game, side, steps);

@@ -14,14 +14,16 @@ use std::sync::ledger::{Blank, Ledger};
 use std::test::Fail;
 
 /// A rook on h1 or h8 and a king on b6 against a king on a8 or b8.
-const ROOK: &[u8] = b"freezer 1\ngroup white 1 K:b6\ngroup white 1 R:h1,h8\ngroup black 1 K:a8,b8\n";
+const ROOK: &[u8] =
+    b"freezer 1\ngroup white 1 K:b6\ngroup white 1 R:h1,h8\ngroup black 1 K:a8,b8\n";
 
 /// No rook, one or two on h1 and h8.
 const TWO_ROOKS: &[u8] =
     b"freezer 1\ngroup white 1 K:b6\ngroup white 0-2 R:h1,h8\ngroup black 1 K:a8,b8\n";
 
 /// White mates within 7 plies where the black king leaves to c8.
-const LONG_WIN: &[u8] = b"freezer 1\ngroup white 1 K:b6\ngroup white 1 R:h1,h8\ngroup black 1 K:a8,b8\nexit white wins 7 if on:black:K:c8\n";
+const LONG_WIN: &[u8] =
+    b"freezer 1\ngroup white 1 K:b6\ngroup white 1 R:h1,h8\ngroup black 1 K:a8,b8\nexit white wins 7 if on:black:K:c8\n";
 
 /// The rook reaches neither h1 nor h8.
 const SHORT_ROOK: &[u8] =
@@ -32,11 +34,11 @@ const KINGS: &[u8] =
     b"freezer 1\ngroup white 1 K:a1,b1\ngroup black 1 K:g8,h8\nexit draw if always\n";
 
 /// White has moves and none is allowed.
-const FORBIDDEN: &[u8] = b"freezer 1\ngroup white 1 K:b6\ngroup white 1 R:h1,h8\ngroup black 1 K:a8,b8\nforbid white K from all to all\nforbid white R from all to all\n";
+const FORBIDDEN: &[u8] =
+    b"freezer 1\ngroup white 1 K:b6\ngroup white 1 R:h1,h8\ngroup black 1 K:a8,b8\nforbid white K from all to all\nforbid white R from all to all\n";
 
 /// Black to move is stalemated.
-const STALEMATE: &[u8] =
-    b"freezer 1\ngroup white 1 K:b6\ngroup white 1 Q:c7\ngroup black 1 K:a8\n";
+const STALEMATE: &[u8] = b"freezer 1\ngroup white 1 K:b6\ngroup white 1 Q:c7\ngroup black 1 K:a8\n";
 
 /// The codes of the side by the rules of the text.
 fn codes_of<L: Ledger>(
@@ -53,13 +55,7 @@ fn codes_of<L: Ledger>(
         rules: &rules,
         book: &book,
     };
-    let codes = sweep(alloc, &game, side, steps);
-    let Game {
-        set: _,
-        rules: _,
-        book: _,
-    } = game;
-    Ok(codes?)
+    Ok(sweep(alloc, &game, side, steps)?)
 }
 
 fn solve_rooks<L: Ledger, R: Abort>(rt: &R, alloc: Global, blank: Blank) -> Result<(), Fail>
@@ -73,9 +69,15 @@ fn solve_rooks<L: Ledger, R: Abort>(rt: &R, alloc: Global, blank: Blank) -> Resu
     let black = codes_of(alloc, ROOK, Colour::Black, &mut steps)?;
     assert_eq!(rt; black.as_slice(), [5, 5, 0, 0, 7, 7, 3, 3].as_slice());
     let white = codes_of(alloc, TWO_ROOKS, Colour::White, &mut steps)?;
-    assert_eq!(rt; white.as_slice(), [5, 5, 4, 4, 0, 0, 0, 0, 7, 5, 6, 5, 2, 2, 2, 2].as_slice());
+    assert_eq!(rt;
+        white.as_slice(),
+        [5, 5, 4, 4, 0, 0, 0, 0, 7, 5, 6, 5, 2, 2, 2, 2].as_slice()
+    );
     let black = codes_of(alloc, TWO_ROOKS, Colour::Black, &mut steps)?;
-    assert_eq!(rt; black.as_slice(), [5, 5, 5, 5, 0, 0, 0, 0, 7, 7, 7, 7, 3, 3, 3, 3].as_slice());
+    assert_eq!(rt;
+        black.as_slice(),
+        [5, 5, 5, 5, 0, 0, 0, 0, 7, 7, 7, 7, 3, 3, 3, 3].as_slice()
+    );
     Ok(())
 }
 

@@ -1,8 +1,7 @@
-use Rattle.std.proofs.Common.{◌≡◌, ◌≤◌, ◌<◌, ◌+◌, ℕ, inl, inr, max, [], subst, arith}
+use Rattle.std.proofs.Common.{◌≡◌, inl, inr, subst, arith}
 use Rattle.std.proofs.lemmas.Bool.{cases_lt}
 use Rattle.std.specs.List.{Contains}
 use Rattle.frz_arena.proofs.Members.{none_in_empty}
-use Rattle.frz_sweep.specs.Finite.{LagsAt}
 use Rattle.frz_sweep.proofs.passes.greatest_lag.Goals as goal
 
 pub loop-i-preserved : goal.loop-i-preserved

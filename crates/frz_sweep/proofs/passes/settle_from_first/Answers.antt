@@ -1,5 +1,4 @@
-use Rattle.std.proofs.Common.{◌≡◌, ◌≤◌, ◌<◌, ◌+◌, ◌-◌, ℕ, inl, inr, List, slice_index, sym, subst, arith}
-use Rattle.frz_arena.specs.Plies.{LagsWithin}
+use Rattle.std.proofs.Common.{◌≡◌, ℕ, inl, inr, List, slice_index, sym, subst, arith}
 use Rattle.frz_sweep.specs.Told.{AreTold}
 use Rattle.frz_sweep.proofs.Reached.{reached_codes, few_plies}
 use Rattle.frz_sweep.proofs.passes.settle_from_first.Goals as goal

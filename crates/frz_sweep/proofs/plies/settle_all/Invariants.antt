@@ -1,4 +1,4 @@
-use Rattle.std.proofs.Common.{◌≡◌, ◌≤◌, ◌<◌, ◌+◌, ◌*◌, ℕ, true, false, length, slice_index}
+use Rattle.std.proofs.Common.{◌≡◌, ◌≤◌, ◌<◌, ◌+◌, ◌*◌, ℕ, true, false, slice_index}
 use Rattle.frz_sweep.specs.Told.{IsTold}
 use Rattle.frz_sweep.proofs.plies.settle_all.Given as goal
 

@@ -1,4 +1,4 @@
-use Rattle.std.proofs.Common.{◌≤◌, ◌<◌, ◌+◌, ℕ, List, length, get_or, take, sym, subst, arith}
+use Rattle.std.proofs.Common.{List, subst, arith}
 use Rattle.std.specs.List.{All}
 use Rattle.std.proofs.lemmas.List.{take_all}
 use Rattle.std.proofs.lemmas.List.Elements.{All-more}
@@ -12,8 +12,8 @@ loop-arm-preserved c =
     let most = c.max-most.result in
     record {
       within = All-more (λ (a : Arm). WinsIn c.args.side most a.next) c.args.arms.now c.loop-arm.arm-index c.arm-item.result (omega arith)
-      (λ k d l. wins_in_more c.args.side c.loop-arm.most most _ (omega arith) (c.loop-arm.invariant.within k d l))
-      (subst (λ (a : Arm). WinsIn c.args.side most a.next) c.arm-item.is (wins_in_more c.args.side c.winning_lag.result most _ (omega arith) c.winning_lag.ensures.within));
+          (λ k d l. wins_in_more c.args.side c.loop-arm.most most _ (omega arith) (c.loop-arm.invariant.within k d l))
+          (subst (λ (a : Arm). WinsIn c.args.side most a.next) c.arm-item.is (wins_in_more c.args.side c.winning_lag.result most _ (omega arith) c.winning_lag.ensures.within));
       small = omega arith;
     }
 

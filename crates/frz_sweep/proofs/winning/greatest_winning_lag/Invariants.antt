@@ -1,4 +1,4 @@
-use Rattle.std.proofs.Common.{◌≤◌, ◌<◌, ℕ, get_or}
+use Rattle.std.proofs.Common.{◌≤◌}
 use Rattle.std.specs.Prelude.{All, take}
 use Rattle.frz_sweep.specs.Winning.{WinsIn}
 use Rattle.frz_sweep.proofs.winning.greatest_winning_lag.Given as goal

@@ -1,6 +1,4 @@
-use Rattle.std.proofs.Common.{◌≡◌, List, ◌∙◌}
-use Rattle.frz_game.specs.declared.arm.Arm.{Arm}
-use Rattle.frz_game.specs.Games.{arms_of}
+use Rattle.std.proofs.Common.{◌∙◌}
 use Rattle.frz_sweep.proofs.GameNumbers.{small_lags, lags_at}
 use Rattle.frz_sweep.proofs.over_game.GameNumberedGame.lag.Goals as goal
 
