@@ -1,0 +1,126 @@
+-- What the definition of `solve` says at each of its stages.
+use Rattle.std.proofs.Common.{◌≡◌, inr, refl, sym, ap, subst, ◌∙◌, ℕ, ◌<◌, List, length, Bool, true, false, Option, Some, None, Ok, Err, IsSome, IfSome, is_ok, cond, lt-ltb, codes}
+use Rattle.std.specs.Prelude.{⊤}
+use Rattle.std.specs.Bool.{MatchBool}
+use Rattle.std.specs.Option.{MatchOption, IsSomeAnd, unwrap_or}
+use Rattle.std.specs.Result.{MatchResult}
+use Rattle.frz_store.specs.Files.{Files, no_files}
+use Rattle.frz_answer.specs.Outside.{Outside}
+use Rattle.frz_answer.specs.Answers.{Answer, says}
+use Rattle.frz_board.specs.Boards.{Board}
+use Rattle.frz_fen.specs.declared.fault.FenFault.{FenFault}
+use Rattle.frz_fen.specs.Reading.{fen_of}
+use Rattle.frz_rules.specs.declared.fault.RulesFault.{RulesFault}
+use Rattle.frz_rules.specs.declared.fault.RulesCause.TheVariants.{TooLong}
+use Rattle.frz_rules.specs.Views.{RuleLines}
+use Rattle.frz_rules.specs.Text.{rules_of}
+use Rattle.freezer.specs.Calls.{solving}
+use Rattle.freezer.specs.Causes.{fen_line, rules_line}
+use Rattle.freezer.specs.Built.{is_built, is_member}
+use Rattle.freezer.specs.Solving.{IsBound, IsSolvedBy, IsSolvedIn, IsSolvedAt, IsSolved}
+use Rattle.freezer.specs.Needs.{IsToldEnough}
+
+-- there is an answer at each stage
+pub some_solved_by : (r : RuleLines) (p : Board) (m : Files) → (a : Answer) × IsSolvedBy r p m a
+some_solved_by r p m =
+    elim (is_built r) as (λ b. (a : Answer) × MatchBool b (MatchBool (is_member r p) (IsBound m a) (a ≡ says 7 (codes "outside\n") m)) (a ≡ says 14 (codes "not built rules\n") m)) [
+      | true ↦ elim (is_member r p) as (λ b. (a : Answer) × MatchBool b (IsBound m a) (a ≡ says 7 (codes "outside\n") m)) [
+        | true ↦ (says 0 (codes "white no win\n") m, inr refl)
+        | false ↦ (says 7 (codes "outside\n") m, refl)
+      ]
+      | false ↦ (says 14 (codes "not built rules\n") m, refl)
+    ]
+
+pub some_solved_in : (text : List ℕ) (p : Board) (m : Files) → (a : Answer) × IsSolvedIn text p m a
+some_solved_in text p m =
+    elim (rules_of text) as (λ x. (a : Answer) × MatchResult x (λ r. IsSolvedBy r p m a) (λ fault. a ≡ says 3 (rules_line fault) m)) [
+      | Ok r ↦ some_solved_by r p m
+      | Err fault ↦ (says 3 (rules_line fault) m, refl)
+    ]
+
+pub some_solved_at : (p : Board) (rules : List ℕ) (m : Files) → (a : Answer) × IsSolvedAt p rules m a
+some_solved_at p rules m =
+    elim (m rules) as (λ x. (a : Answer) × MatchOption x (a ≡ says 12 (codes "missing rules\n") m) (λ text. IsSolvedIn text p m a)) [
+      | None ↦ (says 12 (codes "missing rules\n") m, refl)
+      | Some text ↦ some_solved_in text p m
+    ]
+
+pub some_solved : (rules fen : List ℕ) (m : Files) → (a : Answer) × IsSolved rules fen m a
+some_solved rules fen m =
+    elim (fen_of fen) as (λ x. (a : Answer) × MatchResult x (λ p. IsSolvedAt p rules m a) (λ fault. a ≡ says 4 (fen_line fault) m)) [
+      | Ok p ↦ some_solved_at p rules m
+      | Err fault ↦ (says 4 (fen_line fault) m, refl)
+    ]
+
+-- by the rules
+pub not_built : (r : RuleLines) (p : Board) (m : Files) → is_built r ≡ false → IsSolvedBy r p m (says 14 (codes "not built rules\n") m)
+not_built r p m e =
+    let a : Answer = says 14 (codes "not built rules\n") m in
+    subst (λ b. MatchBool b (MatchBool (is_member r p) (IsBound m a) (a ≡ says 7 (codes "outside\n") m)) (a ≡ says 14 (codes "not built rules\n") m)) (sym e) refl
+
+pub is_bound_by : (r : RuleLines) (p : Board) (m : Files) (a : Answer) → is_built r ≡ true → MatchBool (is_member r p) (IsBound m a) (a ≡ says 7 (codes "outside\n") m) → IsSolvedBy r p m a
+is_bound_by r p m a e h =
+    subst (λ b. MatchBool b (MatchBool (is_member r p) (IsBound m a) (a ≡ says 7 (codes "outside\n") m)) (a ≡ says 14 (codes "not built rules\n") m)) (sym e) h
+
+pub is_outside : (r : RuleLines) (p : Board) (m : Files) → is_built r ≡ true → is_member r p ≡ false → IsSolvedBy r p m (says 7 (codes "outside\n") m)
+is_outside r p m e f =
+    let a : Answer = says 7 (codes "outside\n") m in
+    is_bound_by r p m a e (subst (λ b. MatchBool b (IsBound m a) (a ≡ says 7 (codes "outside\n") m)) (sym f) refl)
+
+pub is_inside : (r : RuleLines) (p : Board) (m : Files) (a : Answer) → is_built r ≡ true → is_member r p ≡ true → IsBound m a → IsSolvedBy r p m a
+is_inside r p m a e f h =
+    is_bound_by r p m a e (subst (λ b. MatchBool b (IsBound m a) (a ≡ says 7 (codes "outside\n") m)) (sym f) h)
+
+-- in the text
+pub is_refused_in : (text : List ℕ) (p : Board) (m : Files) (fault : RulesFault) (line : List ℕ) → rules_of text ≡ Err fault → line ≡ rules_line fault → IsSolvedIn text p m (says 3 line m)
+is_refused_in text p m fault line e is =
+    let a : Answer = says 3 line m in
+    subst (λ x. MatchResult x (λ r. IsSolvedBy r p m a) (λ f. a ≡ says 3 (rules_line f) m)) (sym e) (ap (λ (l : List ℕ). says 3 l m) is)
+
+pub is_read_in : (text : List ℕ) (p : Board) (m : Files) (r : RuleLines) (a : Answer) → rules_of text ≡ Ok r → IsSolvedBy r p m a → IsSolvedIn text p m a
+is_read_in text p m r a e h = subst (λ x. MatchResult x (λ r. IsSolvedBy r p m a) (λ f. a ≡ says 3 (rules_line f) m)) (sym e) h
+
+by_test : {A : Type 0} (b : Bool) (x y : A) → b ≡ true → cond b x y ≡ x
+by_test b x y e = ap (λ t. cond t x y) e
+
+-- a text that is too long has that fault
+too_long : (text : List ℕ) → 65536 < length text → rules_of text ≡ Err (record { line = 0; cause = TooLong })
+unfolding rules_of
+too_long text h = by_test _ _ _ (lt-ltb 65536 (length text) h)
+
+too_long_text : (held : Option (List ℕ)) (p : Board) (m : Files) (line : List ℕ) → IsSomeAnd held (λ text. 65536 < length text) → line ≡ rules_line (record { line = 0; cause = TooLong })
+    → MatchOption held (says 3 line m ≡ says 12 (codes "missing rules\n") m) (λ text. IsSolvedIn text p m (says 3 line m))
+too_long_text None p m line h is = absurd h
+too_long_text (Some text) p m line h is = is_refused_in text p m (record { line = 0; cause = TooLong }) line (too_long text h) is
+
+-- at the position
+pub is_missing : (o : Option Files) (p : Board) (rules : List ℕ) → IfSome o (λ m. m rules ≡ None) → IsSome o
+    → IsSolvedAt p rules (unwrap_or o no_files) (says 12 (codes "missing rules\n") (unwrap_or o no_files))
+is_missing None p rules held told = absurd (cc)
+is_missing (Some m) p rules held told =
+    let a : Answer = says 12 (codes "missing rules\n") m in
+    subst (λ x. MatchOption x (a ≡ says 12 (codes "missing rules\n") m) (λ text. IsSolvedIn text p m a)) (sym held) refl
+
+pub is_too_long : (o : Option Files) (p : Board) (rules line : List ℕ) → IfSome o (λ m. IsSomeAnd (m rules) (λ text. 65536 < length text)) → IsSome o
+    → line ≡ rules_line (record { line = 0; cause = TooLong }) → IsSolvedAt p rules (unwrap_or o no_files) (says 3 line (unwrap_or o no_files))
+is_too_long None p rules line held told is = absurd (cc)
+is_too_long (Some m) p rules line held told is = too_long_text (m rules) p m line held is
+
+pub is_text_of : (o : Option Files) (p : Board) (rules text : List ℕ) (a : Answer) → IfSome o (λ m. m rules ≡ Some text) → IsSome o
+    → IsSolvedIn text p (unwrap_or o no_files) a → IsSolvedAt p rules (unwrap_or o no_files) a
+is_text_of None p rules text a held told h = absurd (cc)
+is_text_of (Some m) p rules text a held told h = subst (λ x. MatchOption x (a ≡ says 12 (codes "missing rules\n") m) (λ text. IsSolvedIn text p m a)) (sym held) h
+
+-- at the FEN
+pub is_unread : (rules fen bytes line : List ℕ) (m : Files) (why : FenFault) → Err why ≡ fen_of bytes → bytes ≡ fen → line ≡ fen_line why → IsSolved rules fen m (says 4 line m)
+is_unread rules fen bytes line m why read same is =
+    let a : Answer = says 4 line m in
+    subst (λ x. MatchResult x (λ p. IsSolvedAt p rules m a) (λ f. a ≡ says 4 (fen_line f) m)) (read ∙ ap fen_of same) (ap (λ (l : List ℕ). says 4 l m) is)
+
+pub is_read : (rules fen bytes : List ℕ) (m : Files) (p : Board) (a : Answer) → Ok p ≡ fen_of bytes → bytes ≡ fen → IsSolvedAt p rules m a → IsSolved rules fen m a
+is_read rules fen bytes m p a read same h =
+    subst (λ x. MatchResult x (λ q. IsSolvedAt q rules m a) (λ f. a ≡ says 4 (fen_line f) m)) (read ∙ ap fen_of same) h
+
+pub tells_files : (rules fen bytes : List ℕ) (p : Board) (old : Outside) → Ok p ≡ fen_of bytes → bytes ≡ fen → IsToldEnough (solving rules fen) old → IsSome old.files
+tells_files rules fen bytes p old read same told =
+    subst (λ x. MatchBool (is_ok x) (IsSome old.files) ⊤) (sym (read ∙ ap fen_of same)) told.files

@@ -1,0 +1,9 @@
+pub mod Calls
+pub mod Causes
+pub mod Listing
+pub mod Built
+pub mod Solving
+pub mod Needs
+pub mod Commands
+pub mod RulesFiles
+pub mod Settled

@@ -1,0 +1,126 @@
+//! The lines that refuse words, a FEN and a rules text. They take no memory.
+ghost use Rattle.std.specs.Prelude.{◌≡◌, ◌+◌, ◌≤◌, ◌++◌, length, decimal};
+ghost use Rattle.arrayvec.specs.ArrayString.{array_string_len};
+ghost use Rattle.freezer.specs.Causes.{words_line, shape_cause, invalid_cause, fen_cause, fen_line, rules_cause, rules_line};
+ghost use Rattle.freezer.specs.Solving.{wins_line};
+
+use crate::words::Refusal;
+use arrayvec::ArrayString;
+use frz_board::Shape;
+use frz_fen::FenFault;
+use frz_fide::Invalid;
+use frz_rules::{RulesCause, RulesFault};
+use itoa::Buffer;
+
+/// A line of text, with room for the longest of these.
+pub type Line = ArrayString<128>;
+
+pub fn refusal_line(why: Refusal) -> &'static [u8]
+    ensures { result.now ≡ words_line why }
+{
+    match why {
+        Refusal::NoCommand => b"words: command\n",
+        Refusal::Count => b"words: count\n",
+    }
+}
+
+fn shape_text(shape: Shape) -> &'static str
+    ensures text { result.now ≡ shape_cause shape }
+    ensures short { length result.now ≤ 30 }
+{
+    match shape {
+        Shape::Kings => "invalid kings",
+        Shape::PawnRank => "invalid pawn rank",
+        Shape::TooMany => "invalid too many",
+        Shape::EpPlace => "invalid ep place",
+    }
+}
+
+fn invalid_text(why: Invalid) -> &'static str
+    ensures text { result.now ≡ invalid_cause why }
+    ensures short { length result.now ≤ 30 }
+{
+    match why {
+        Invalid::Shape(shape) => shape_text(shape),
+        Invalid::OpponentInCheck => "invalid opponent in check",
+    }
+}
+
+/// Adds a word and a number.
+fn add_number(line: &mut Line, word: &str, number: u64)
+    requires { array_string_len line.old + length word.now + 40 ≤ 128 }
+    ensures bytes { line.new.bytes ≡ line.old.bytes ++ (word.now ++ decimal number) }
+    ensures short { array_string_len line.new ≤ array_string_len line.old + length word.now + 40 }
+{
+    line.push_str(word);
+    line.push_str(Buffer::new().format(number));
+}
+
+fn add_fen_cause(line: &mut Line, fault: FenFault)
+    requires { array_string_len line.old ≤ 10 }
+    ensures bytes { line.new.bytes ≡ line.old.bytes ++ fen_cause fault }
+    ensures short { array_string_len line.new ≤ 70 }
+{
+    match fault {
+        FenFault::Fields => line.push_str("fields"),
+        FenFault::Placement(rank) => add_number(line, "placement ", rank as u64),
+        FenFault::Turn => line.push_str("turn"),
+        FenFault::Castling => line.push_str("castling"),
+        FenFault::EpSquare => line.push_str("ep square"),
+        FenFault::Clock => line.push_str("clock"),
+        FenFault::Invalid(why) => line.push_str(invalid_text(why)),
+    }
+}
+
+/// The line that refuses a FEN.
+pub fn fen_fault_line(fault: FenFault) -> Line
+    ensures { result.bytes ≡ fen_line fault }
+{
+    let mut line = Line::new();
+    line.push_str("fen: ");
+    add_fen_cause(&mut line, fault);
+    line.push_str("\n");
+    line
+}
+
+fn add_rules_cause(line: &mut Line, cause: RulesCause)
+    requires { array_string_len line.old ≤ 60 }
+    ensures bytes { line.new.bytes ≡ line.old.bytes ++ rules_cause cause }
+    ensures short { array_string_len line.new ≤ 120 }
+{
+    match cause {
+        RulesCause::TooLong => line.push_str("too long"),
+        RulesCause::Header => line.push_str("header"),
+        RulesCause::UnknownLine => line.push_str("unknown line"),
+        RulesCause::Word(place) => add_number(line, "word ", place as u64),
+        RulesCause::PawnSquare => line.push_str("pawn square"),
+        RulesCause::Count => line.push_str("count"),
+        RulesCause::KingGroup => line.push_str("king group"),
+        RulesCause::Overlap => line.push_str("overlap"),
+        RulesCause::TooManyMen => line.push_str("too many men"),
+        RulesCause::TooManyLines => line.push_str("too many lines"),
+        RulesCause::SetTooBig(numbers) => add_number(line, "set too big ", numbers),
+    }
+}
+
+/// The line that refuses a rules text.
+pub fn rules_fault_line(fault: RulesFault) -> Line
+    ensures { result.bytes ≡ rules_line fault }
+{
+    let mut line = Line::new();
+    add_number(&mut line, "rules ", fault.line as u64);
+    line.push_str(": ");
+    add_rules_cause(&mut line, fault.cause);
+    line.push_str("\n");
+    line
+}
+
+/// The line of a win for White.
+pub fn win_line(plies: u32) -> Line
+    ensures { result.bytes ≡ wins_line plies }
+{
+    let mut line = Line::new();
+    add_number(&mut line, "white wins within ", plies as u64);
+    line.push_str("\n");
+    line
+}

@@ -1,0 +1,304 @@
+//! The program over objects in memory.
+use crate::run_once;
+use frz_store::{Fail, FailOn, MemSink, MemSource, MemStore};
+use std::alloc::Global;
+use std::process::Abort;
+use std::test::Fail as TestFail;
+
+const RULES: &[u8] =
+    b"freezer 1\ngroup white 1 K:b6\ngroup white 1 R:h1,h8\ngroup black 1 K:a8,b8\n";
+
+/// A mate in one move: the rook goes to h8.
+const MATE_IN_ONE: &str = "k7/8/1K6/8/8/8/8/7R w - - 0 1";
+
+/// A call over a store in which `A` holds the rules, and the status and the text that it gives.
+struct Row<'a>(&'a [u8], &'a [&'a str], u8, &'a str);
+
+const SOLVED: &[Row] = &[
+    Row(
+        RULES,
+        &["solve", "A", MATE_IN_ONE],
+        0,
+        "white wins within 1\n",
+    ),
+    Row(
+        RULES,
+        &["solve", "A", "k7/8/1K6/8/8/8/8/7R b - - 0 1"],
+        0,
+        "white wins within 2\n",
+    ),
+    Row(
+        RULES,
+        &["solve", "A", "1k6/8/1K6/8/8/8/8/7R b - - 0 1"],
+        0,
+        "white no win\n",
+    ),
+    Row(
+        RULES,
+        &["solve", "A", "k7/8/1K6/8/8/8/8/2Q4R w - - 0 1"],
+        7,
+        "outside\n",
+    ),
+    Row(
+        RULES,
+        &["solve", "A", "k7/8/1K6/8/8/8/8/6R1 w - - 0 1"],
+        7,
+        "outside\n",
+    ),
+    Row(
+        RULES,
+        &["solve", "missing", MATE_IN_ONE],
+        12,
+        "missing rules\n",
+    ),
+    Row(
+        RULES,
+        &["solve", "missing", "k7/8/1K6/8/8/8/8/7R w - - 0"],
+        4,
+        "fen: fields\n",
+    ),
+];
+
+const WITH_EXIT: &[u8] =
+    b"freezer 1\ngroup white 1 K:b6\ngroup white 1 R:h1,h8\ngroup black 1 K:a8,b8\nexit white wins if on:black:K:c8\n";
+
+const NO_BLACK_KING: &[u8] = b"freezer 1\ngroup white 1 K:b6\ngroup white 1 R:h1,h8\n";
+
+const WITH_PAWNS: &[u8] =
+    b"freezer 1\ngroup white 1 K:b6\ngroup white 1 R:h1,h8\ngroup black 1 K:a8,b8\ngroup white 1 P:all\n";
+
+const TWO_ON_ONE: &[u8] =
+    b"freezer 1\ngroup white 1 K:b6\ngroup white 1 R:h1,h8\ngroup black 1 K:a8,b8\ngroup white 2 N:b1\n";
+
+const NO_PLACE: &[u8] =
+    b"freezer 1\ngroup white 1 K:b6\ngroup white 1 R:h1,h8\ngroup black 1 K:a8,b8\ngroup white 1\n";
+
+const REFUSED: &[Row] = &[
+    Row(
+        WITH_EXIT,
+        &["solve", "A", MATE_IN_ONE],
+        14,
+        "not built rules\n",
+    ),
+    Row(
+        NO_BLACK_KING,
+        &["solve", "A", MATE_IN_ONE],
+        3,
+        "rules 0: king group\n",
+    ),
+    Row(
+        WITH_PAWNS,
+        &["solve", "A", MATE_IN_ONE],
+        3,
+        "rules 5: pawn square\n",
+    ),
+    Row(
+        TWO_ON_ONE,
+        &["solve", "A", MATE_IN_ONE],
+        3,
+        "rules 5: count\n",
+    ),
+    Row(
+        NO_PLACE,
+        &["solve", "A", MATE_IN_ONE],
+        3,
+        "rules 5: word 4\n",
+    ),
+    Row(RULES, &[], 2, "words: command\n"),
+    Row(RULES, &["--help"], 2, "words: command\n"),
+    Row(RULES, &["solve", "A"], 2, "words: count\n"),
+    Row(RULES, &["moves"], 2, "words: count\n"),
+];
+
+const TWENTY: &str =
+    "b1a3 b1c3 g1f3 g1h3 a2a3 a2a4 b2b3 b2b4 c2c3 c2c4 d2d3 d2d4 e2e3 e2e4 f2f3 f2f4 g2g3 g2g4 h2h3 h2h4\n";
+
+const LISTED: &[Row] = &[
+    Row(
+        RULES,
+        &["moves", "8/8/8/3pP3/8/8/8/K1k5 w - d6 0 1"],
+        0,
+        "a1a2 e5d6 e5e6\n",
+    ),
+    Row(
+        RULES,
+        &["moves", "8/8/8/K2pP2r/8/8/8/7k w - d6 0 1"],
+        0,
+        "a5a4 a5b4 a5b5 a5a6 a5b6 e5e6\n",
+    ),
+    Row(
+        RULES,
+        &["moves", "8/P7/8/8/8/8/8/K1k5 w - - 0 1"],
+        0,
+        "a1a2 a7a8q a7a8r a7a8b a7a8n\n",
+    ),
+    Row(
+        RULES,
+        &["moves", "4k3/8/8/3p4/8/8/8/4K3 w - d6 0 1"],
+        0,
+        "e1d1 e1f1 e1d2 e1e2 e1f2\n",
+    ),
+    Row(
+        RULES,
+        &[
+            "moves",
+            "rnbqkbnr/pppppppp/8/8/8/8/PPPPPPPP/RNBQKBNR w - - 0 1",
+        ],
+        0,
+        TWENTY,
+    ),
+    Row(
+        RULES,
+        &["moves", "k6R/8/1K6/8/8/8/8/8 b - - 0 1"],
+        0,
+        "mate\n",
+    ),
+    Row(
+        RULES,
+        &["moves", "k7/8/KR6/8/8/8/8/8 b - - 0 1"],
+        0,
+        "stalemate\n",
+    ),
+    Row(
+        RULES,
+        &[
+            "moves",
+            "rnbqkbnr/pppppppp/8/8/8/8/PPPPPPPP/RNBQKBNR w KQkq - 0 1",
+        ],
+        4,
+        "fen: castling\n",
+    ),
+    Row(
+        RULES,
+        &["moves", "k6R/8/1K6/8/8/8/8/8 w - - 0 1"],
+        4,
+        "fen: invalid opponent in check\n",
+    ),
+    Row(
+        RULES,
+        &["moves", "4k3/8/8/8/8/8/8/4K3 w - d6 0 1"],
+        4,
+        "fen: invalid ep place\n",
+    ),
+    Row(
+        RULES,
+        &["moves", "4k3/8/8/8/8/8/8/4K3 w - d3 0 1"],
+        4,
+        "fen: ep square\n",
+    ),
+    Row(
+        RULES,
+        &["moves", "8/8/8/8/8/8/8/8 w - - 0 1"],
+        4,
+        "fen: invalid kings\n",
+    ),
+    Row(
+        RULES,
+        &["moves", "k7/8/1K6/8/8/8/8/6R w - - 0 1"],
+        4,
+        "fen: placement 1\n",
+    ),
+    Row(
+        RULES,
+        &["moves", "k7/8/1K6/8/8/8/8/7R w - - 0"],
+        4,
+        "fen: fields\n",
+    ),
+];
+
+fn no_fails(alloc: Global) -> Vec<Fail> {
+    Vec::new(alloc)
+}
+
+fn first_fails(alloc: Global) -> Result<Vec<Fail>, TestFail> {
+    let mut fails = Vec::new(alloc);
+    fails.push(Fail {
+        on: FailOn::Call,
+        nth: 1,
+        keep: 0,
+    })?;
+    Ok(fails)
+}
+
+/// Calls the program over a store, a sink and an empty input.
+fn call(
+    alloc: Global,
+    line: &[&str],
+    store: &mut MemStore,
+    out: &mut MemSink,
+) -> Result<u8, TestFail> {
+    let mut words = Vec::new(alloc);
+    for word in line {
+        words.push(String::from_str(alloc, word)?)?;
+    }
+    let mut input = MemSource::new(Vec::new(alloc), no_fails(alloc));
+    Ok(run_once(alloc, &words, store, &mut input, out))
+}
+
+fn expect(rt: &impl Abort, alloc: Global, row: &Row<'_>) -> Result<(), TestFail> {
+    let Row(rules, line, status, text) = row;
+    let mut store = MemStore::new(alloc, no_fails(alloc));
+    store.put("A", rules).or(Err("put"))?;
+    let mut out = MemSink::new(alloc, 200, no_fails(alloc)).or(Err("sink"))?;
+    let answer = call(alloc, line, &mut store, &mut out)?;
+    assert_eq!(rt; out.taken(), text.as_bytes());
+    assert_eq!(rt; answer, *status);
+    Ok(())
+}
+
+fn expect_all(rt: &impl Abort, alloc: Global, rows: &[Row<'_>]) -> Result<(), TestFail> {
+    for row in rows {
+        expect(rt, alloc, row)?;
+    }
+    Ok(())
+}
+
+#[test]
+fn solves(rt: HostRuntime) -> Result<(), TestFail> {
+    expect_all(&rt, rt.alloc(), SOLVED)
+}
+
+#[test]
+fn refuses_words_and_rules(rt: HostRuntime) -> Result<(), TestFail> {
+    expect_all(&rt, rt.alloc(), REFUSED)
+}
+
+#[test]
+fn lists_moves(rt: HostRuntime) -> Result<(), TestFail> {
+    expect_all(&rt, rt.alloc(), LISTED)
+}
+
+#[test]
+fn names_a_fault_of_the_store(rt: HostRuntime) -> Result<(), TestFail> {
+    let alloc = rt.alloc();
+    let mut store = MemStore::new(alloc, first_fails(alloc)?);
+    let mut out = MemSink::new(alloc, 200, no_fails(alloc)).or(Err("sink"))?;
+    let status = call(alloc, &["solve", "A", MATE_IN_ONE], &mut store, &mut out)?;
+    assert_eq!(rt; status, 8);
+    assert_eq!(rt; out.taken(), b"store fault\n".as_slice());
+    Ok(())
+}
+
+#[test]
+fn stops_where_the_sink_fails(rt: HostRuntime) -> Result<(), TestFail> {
+    let alloc = rt.alloc();
+    let mut store = MemStore::new(alloc, no_fails(alloc));
+    let mut out = MemSink::new(alloc, 200, first_fails(alloc)?).or(Err("sink"))?;
+    let moves = ["moves", "8/8/8/3pP3/8/8/8/K1k5 w - d6 0 1"];
+    let status = call(alloc, &moves, &mut store, &mut out)?;
+    assert_eq!(rt; status, 9);
+    assert_eq!(rt; out.taken(), b"".as_slice());
+    Ok(())
+}
+
+#[test]
+fn a_full_sink_cuts_the_line(rt: HostRuntime) -> Result<(), TestFail> {
+    let alloc = rt.alloc();
+    let mut store = MemStore::new(alloc, no_fails(alloc));
+    let mut out = MemSink::new(alloc, 7, no_fails(alloc)).or(Err("sink"))?;
+    let moves = ["moves", "8/8/8/3pP3/8/8/8/K1k5 w - d6 0 1"];
+    let status = call(alloc, &moves, &mut store, &mut out)?;
+    assert_eq!(rt; status, 9);
+    assert_eq!(rt; out.taken(), b"a1a2 e5".as_slice());
+    Ok(())
+}
