@@ -1,6 +1,6 @@
 -- What the definition of `solve` says at each of its stages.
-use Rattle.std.proofs.Common.{◌≡◌, inr, refl, sym, ap, subst, ◌∙◌, ℕ, ◌<◌, List, length, Bool, true, false, Option, Some, None, Ok, Err, IsSome, IfSome, is_ok, cond, lt-ltb, codes}
-use Rattle.std.specs.Prelude.{⊤}
+use Rattle.std.proofs.Common.{◌≡◌, ◌⊎◌, inr, refl, sym, ap, subst, ◌∙◌, ℕ, ◌<◌, List, length, Bool, Result, true, false, Option, Some, None, Ok, Err, IsSome, IfSome, is_ok, cond, lt-ltb, codes}
+use Rattle.std.specs.Prelude.{⊤, ◌↔◌}
 use Rattle.std.specs.Bool.{MatchBool}
 use Rattle.std.specs.Option.{MatchOption, IsSomeAnd, unwrap_or}
 use Rattle.std.specs.Result.{MatchResult}
@@ -12,31 +12,42 @@ use Rattle.frz_fen.specs.declared.fault.FenFault.{FenFault}
 use Rattle.frz_fen.specs.Reading.{fen_of}
 use Rattle.frz_rules.specs.declared.fault.RulesFault.{RulesFault}
 use Rattle.frz_rules.specs.declared.fault.RulesCause.TheVariants.{TooLong}
-use Rattle.frz_rules.specs.Views.{RuleLines}
+use Rattle.frz_rules.specs.Views.{GroupLine, RuleLines}
 use Rattle.frz_rules.specs.Text.{rules_of}
 use Rattle.freezer.specs.Calls.{solving}
 use Rattle.freezer.specs.Causes.{fen_line, rules_line}
-use Rattle.freezer.specs.Built.{is_built, is_member}
-use Rattle.freezer.specs.Solving.{IsBound, IsSolvedBy, IsSolvedIn, IsSolvedAt, IsSolved}
+use Rattle.frz_rules.specs.Sound.{IsSound}
+use Rattle.frz_board.specs.declared.man.Colour.TheVariants.{White, Black}
+use Rattle.frz_index.specs.Members.{Member}
+use Rattle.frz_exits.specs.Books.{value_by}
+use Rattle.frz_game.specs.Membership.{is_member}
+use Rattle.frz_game.proofs.Membership.{member_of, of_member}
+use Rattle.frz_game.proofs.Bounded.{bound_there}
+use Rattle.freezer.proofs.Soundness.{read_sound, small_lags}
+use Rattle.freezer.specs.Solving.{AreBounds, Solves, bounds_text, IsSolvedBy, IsSolvedIn, IsSolvedAt, IsSolved}
 use Rattle.freezer.specs.Needs.{IsToldEnough}
 
 -- there is an answer at each stage
-pub some_solved_by : (r : RuleLines) (p : Board) (m : Files) → (a : Answer) × IsSolvedBy r p m a
-some_solved_by r p m =
-    elim (is_built r) as (λ b. (a : Answer) × MatchBool b (MatchBool (is_member r p) (IsBound m a) (a ≡ says 7 (codes "outside\n") m)) (a ≡ says 14 (codes "not built rules\n") m)) [
-      | true ↦ elim (is_member r p) as (λ b. (a : Answer) × MatchBool b (IsBound m a) (a ≡ says 7 (codes "outside\n") m)) [
-        | true ↦ (says 0 (codes "white no win\n") m, inr refl)
-        | false ↦ (says 7 (codes "outside\n") m, refl)
-      ]
-      | false ↦ (says 14 (codes "not built rules\n") m, refl)
-    ]
+some_bounds : (r : RuleLines) → IsSound r → (p : Board) (m : Files) → Member r.groups p → (a : Answer) × AreBounds r p m a
+some_bounds r sound p m member =
+    let white = bound_there r (value_by r) (small_lags r sound) White p member in
+    let black = bound_there r (value_by r) (small_lags r sound) Black p member in
+    (says 0 (bounds_text white.0 black.0) m, (white.0, black.0, record { white_is = white.1; black_is = black.1 }, refl))
+
+some_by : (r : RuleLines) → IsSound r → (p : Board) (m : Files) (b : Bool) → is_member r.groups p ≡ b → (a : Answer) × MatchBool b (AreBounds r p m a) (a ≡ says 7 (codes "outside\n") m)
+some_by r sound p m true e = some_bounds r sound p m (member_of r.groups p e)
+some_by r sound p m false e = (says 7 (codes "outside\n") m, refl)
+
+pub some_solved_by : (r : RuleLines) → IsSound r → (p : Board) (m : Files) → (a : Answer) × IsSolvedBy r p m a
+some_solved_by r sound p m = some_by r sound p m (is_member r.groups p) refl
+
+some_in : (text : List ℕ) (p : Board) (m : Files) (x : Result RuleLines RulesFault) → rules_of text ≡ x
+    → (a : Answer) × MatchResult x (λ r. IsSolvedBy r p m a) (λ fault. a ≡ says 3 (rules_line fault) m)
+some_in text p m (Ok r) e = some_solved_by r (read_sound text r e) p m
+some_in text p m (Err fault) e = (says 3 (rules_line fault) m, refl)
 
 pub some_solved_in : (text : List ℕ) (p : Board) (m : Files) → (a : Answer) × IsSolvedIn text p m a
-some_solved_in text p m =
-    elim (rules_of text) as (λ x. (a : Answer) × MatchResult x (λ r. IsSolvedBy r p m a) (λ fault. a ≡ says 3 (rules_line fault) m)) [
-      | Ok r ↦ some_solved_by r p m
-      | Err fault ↦ (says 3 (rules_line fault) m, refl)
-    ]
+some_solved_in text p m = some_in text p m (rules_of text) refl
 
 pub some_solved_at : (p : Board) (rules : List ℕ) (m : Files) → (a : Answer) × IsSolvedAt p rules m a
 some_solved_at p rules m =
@@ -53,23 +64,25 @@ some_solved rules fen m =
     ]
 
 -- by the rules
-pub not_built : (r : RuleLines) (p : Board) (m : Files) → is_built r ≡ false → IsSolvedBy r p m (says 14 (codes "not built rules\n") m)
-not_built r p m e =
-    let a : Answer = says 14 (codes "not built rules\n") m in
-    subst (λ b. MatchBool b (MatchBool (is_member r p) (IsBound m a) (a ≡ says 7 (codes "outside\n") m)) (a ≡ says 14 (codes "not built rules\n") m)) (sym e) refl
+not_member : (groups : List GroupLine) (p : Board) (b : Bool) → is_member groups p ≡ b → (Member groups p → ⊥) → b ≡ false
+not_member groups p true e other = absurd (other (member_of groups p e))
+not_member groups p false e other = refl
 
-pub is_bound_by : (r : RuleLines) (p : Board) (m : Files) (a : Answer) → is_built r ≡ true → MatchBool (is_member r p) (IsBound m a) (a ≡ says 7 (codes "outside\n") m) → IsSolvedBy r p m a
-is_bound_by r p m a e h =
-    subst (λ b. MatchBool b (MatchBool (is_member r p) (IsBound m a) (a ≡ says 7 (codes "outside\n") m)) (a ≡ says 14 (codes "not built rules\n") m)) (sym e) h
+-- what the set answers of membership
+pub none_inside : (set groups : List GroupLine) (p : Board) → set ≡ groups → (false ≡ true) ↔ Member set p → Member groups p → ⊥
+none_inside set groups p e none member = let no : false ≡ true = none.1 (subst (λ (gs : List GroupLine). Member gs p) (sym e) member) in cc
 
-pub is_outside : (r : RuleLines) (p : Board) (m : Files) → is_built r ≡ true → is_member r p ≡ false → IsSolvedBy r p m (says 7 (codes "outside\n") m)
-is_outside r p m e f =
+pub some_inside : (set groups : List GroupLine) (p : Board) → set ≡ groups → (true ≡ true) ↔ Member set p → Member groups p
+some_inside set groups p e some = subst (λ (gs : List GroupLine). Member gs p) e (some.0 refl)
+
+pub is_outside : (r : RuleLines) (p : Board) (m : Files) → (Member r.groups p → ⊥) → IsSolvedBy r p m (says 7 (codes "outside\n") m)
+is_outside r p m other =
     let a : Answer = says 7 (codes "outside\n") m in
-    is_bound_by r p m a e (subst (λ b. MatchBool b (IsBound m a) (a ≡ says 7 (codes "outside\n") m)) (sym f) refl)
+    subst (λ b. MatchBool b (AreBounds r p m a) (a ≡ says 7 (codes "outside\n") m)) (sym (not_member r.groups p (is_member r.groups p) refl other)) refl
 
-pub is_inside : (r : RuleLines) (p : Board) (m : Files) (a : Answer) → is_built r ≡ true → is_member r p ≡ true → IsBound m a → IsSolvedBy r p m a
-is_inside r p m a e f h =
-    is_bound_by r p m a e (subst (λ b. MatchBool b (IsBound m a) (a ≡ says 7 (codes "outside\n") m)) (sym f) h)
+pub is_inside : (r : RuleLines) (p : Board) (m : Files) (a : Answer) → Member r.groups p → AreBounds r p m a → IsSolvedBy r p m a
+is_inside r p m a member h =
+    subst (λ b. MatchBool b (AreBounds r p m a) (a ≡ says 7 (codes "outside\n") m)) (sym (of_member r.groups p member)) h
 
 -- in the text
 pub is_refused_in : (text : List ℕ) (p : Board) (m : Files) (fault : RulesFault) (line : List ℕ) → rules_of text ≡ Err fault → line ≡ rules_line fault → IsSolvedIn text p m (says 3 line m)

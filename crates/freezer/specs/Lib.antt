@@ -1,9 +1,8 @@
 pub mod Calls
 pub mod Causes
 pub mod Listing
-pub mod Built
 pub mod Solving
+pub mod Meaning
 pub mod Needs
 pub mod Commands
 pub mod RulesFiles
-pub mod Settled

@@ -2,7 +2,6 @@
 ghost use Rattle.std.specs.Prelude.{◌≡◌, ◌+◌, ◌≤◌, ◌++◌, length, decimal};
 ghost use Rattle.arrayvec.specs.ArrayString.{array_string_len};
 ghost use Rattle.freezer.specs.Causes.{words_line, shape_cause, invalid_cause, fen_cause, fen_line, rules_cause, rules_line};
-ghost use Rattle.freezer.specs.Solving.{wins_line};
 
 use crate::words::Refusal;
 use arrayvec::ArrayString;
@@ -47,7 +46,7 @@ fn invalid_text(why: Invalid) -> &'static str
 }
 
 /// Adds a word and a number.
-fn add_number(line: &mut Line, word: &str, number: u64)
+pub fn add_number(line: &mut Line, word: &str, number: u64)
     requires { array_string_len line.old + length word.now + 40 ≤ 128 }
     ensures bytes { line.new.bytes ≡ line.old.bytes ++ (word.now ++ decimal number) }
     ensures short { array_string_len line.new ≤ array_string_len line.old + length word.now + 40 }
@@ -111,16 +110,6 @@ pub fn rules_fault_line(fault: RulesFault) -> Line
     add_number(&mut line, "rules ", fault.line as u64);
     line.push_str(": ");
     add_rules_cause(&mut line, fault.cause);
-    line.push_str("\n");
-    line
-}
-
-/// The line of a win for White.
-pub fn win_line(plies: u32) -> Line
-    ensures { result.bytes ≡ wins_line plies }
-{
-    let mut line = Line::new();
-    add_number(&mut line, "white wins within ", plies as u64);
     line.push_str("\n");
     line
 }

@@ -3,12 +3,12 @@
 
 ghost use Rattle.std.specs.Prelude.{◌≡◌, ◌<◌};
 
-mod built;
+mod bound_lines;
+mod bounds;
 mod causes;
 pub mod laws;
 mod listing;
 mod rules_file;
-mod small_solver;
 mod solving;
 #[cfg(test)]
 mod tests;

@@ -1,4 +1,4 @@
-//! The command `solve RULES FEN`: how White stands at a position of the rules' set.
+//! The command `solve RULES FEN`: the bounds of both sides at a position of the rules' set.
 ghost use Rattle.std.specs.Prelude.{◌≡◌, ℕ, List, Option, IsSome, IsTrue, false, is_ok, ⊤, None};
 ghost use Rattle.std.specs.Option.{unwrap_or};
 ghost use Rattle.frz_store.specs.Files.{Files, no_files};
@@ -9,37 +9,22 @@ ghost use Rattle.frz_answer.specs.Outside.{outside};
 ghost use Rattle.frz_answer.specs.Ends.{Same, Ran, Caused};
 ghost use Rattle.freezer.specs.Calls.{solving};
 ghost use Rattle.freezer.specs.Commands.{Runs};
-ghost use Rattle.freezer.specs.Solving.{IsBound, IsSolvedBy, IsSolvedIn, IsSolvedAt};
+ghost use Rattle.freezer.specs.Solving.{IsSolvedBy, IsSolvedIn, IsSolvedAt};
 ghost use Rattle.freezer.specs.Needs.{words_status, EndsByWords};
 
-use crate::built::{is_built, is_member};
-use crate::causes::{fen_fault_line, rules_fault_line, win_line};
+use crate::bound_lines::bound_lines;
+use crate::bounds::bounds_at;
+use crate::causes::{fen_fault_line, rules_fault_line};
 use crate::rules_file::{RulesFile, read_rules_file};
-use crate::small_solver::white_win;
 use frz_answer::{End, say};
-use frz_board::Position;
+use frz_board::{NoMemory, Position};
 use frz_fen::read_fen;
+use frz_index::Set;
 use frz_rules::{Rules, RulesCause, RulesError, RulesFault, read_rules};
 use frz_steps::Steps;
 use frz_store::{Sink, Store};
 use std::alloc::Global;
 use std::sync::ledger::Ledger;
-
-/// Says in how many plies White wins, or that he does not.
-fn say_bound<O: Sink>(win: Option<u32>, out: &mut O) -> End
-    ensures ran { (files : Option Files) (left : Option (List ℕ)) →
-        Ran ⊤ (IsBound (unwrap_or files no_files)) Same result
-        (outside files left (O.taken out.old)) (outside files left (O.taken out.new)) }
-    ensures words { EndsByWords None result }
-    ensures sink { Caused result End.SinkFault (O.faults out.old) (O.faults out.new) }
-    ensures store { result ≡ End.StoreFault → ⊥ }
-    ensures source { result ≡ End.SourceFault → ⊥ }
-{
-    match win {
-        Some(plies) => say(0, win_line(plies).as_bytes(), out),
-        None => say(0, b"white no win\n", out),
-    }
-}
 
 /// Solves at a position, by rules that were read.
 fn solve_by<O: Sink, L: Ledger>(
@@ -49,7 +34,8 @@ fn solve_by<O: Sink, L: Ledger>(
     out: &mut O,
     steps: &mut Steps<L>,
 ) -> End
-    requires { IsSound rules.now }
+    requires sound { IsSound rules.now }
+    requires valid { IsValid p.now }
     ensures ran { (files : Option Files) (left : Option (List ℕ)) →
         Ran ⊤ (IsSolvedBy rules.now p.now (unwrap_or files no_files)) Same result
         (outside files left (O.taken out.old)) (outside files left (O.taken out.new)) }
@@ -58,15 +44,15 @@ fn solve_by<O: Sink, L: Ledger>(
     ensures store { result ≡ End.StoreFault → ⊥ }
     ensures source { result ≡ End.SourceFault → ⊥ }
 {
-    if !is_built(rules) {
-        return say(14, b"not built rules\n", out);
-    }
-    if !is_member(rules, p) {
+    let Ok(set) = Set::new(alloc, rules) else {
+        return End::NoMemory;
+    };
+    let Some(i) = set.number(p) else {
         return say(7, b"outside\n", out);
-    }
-    match white_win(alloc, rules, p, steps) {
-        Ok(win) => say_bound(win, out),
-        Err(_) => End::NoMemory,
+    };
+    match bounds_at(alloc, rules, &set, p, i, steps) {
+        Ok(bounds) => say(0, bound_lines(bounds.white, bounds.black).as_bytes(), out),
+        Err(NoMemory) => End::NoMemory,
     }
 }
 
@@ -78,6 +64,7 @@ fn solve_in<O: Sink, L: Ledger>(
     out: &mut O,
     steps: &mut Steps<L>,
 ) -> End
+    requires { IsValid p.now }
     ensures ran { (files : Option Files) (left : Option (List ℕ)) →
         Ran ⊤ (IsSolvedIn text.now p.now (unwrap_or files no_files)) Same result
         (outside files left (O.taken out.old)) (outside files left (O.taken out.new)) }
@@ -102,6 +89,7 @@ fn solve_at<S: Store, O: Sink, L: Ledger>(
     out: &mut O,
     steps: &mut Steps<L>,
 ) -> End
+    requires { IsValid p.now }
     ensures ran { (left : Option (List ℕ)) →
         Ran (IsSome (S.files store.old)) (IsSolvedAt p.now rules.now (unwrap_or (S.files store.old) no_files)) Same result
         (outside (S.files store.old) left (O.taken out.old)) (outside (S.files store.new) left (O.taken out.new)) }

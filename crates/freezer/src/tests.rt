@@ -14,24 +14,73 @@ const MATE_IN_ONE: &str = "k7/8/1K6/8/8/8/8/7R w - - 0 1";
 /// A call over a store in which `A` holds the rules, and the status and the text that it gives.
 struct Row<'a>(&'a [u8], &'a [&'a str], u8, &'a str);
 
+const WITH_EXIT: &[u8] =
+    b"freezer 1\ngroup white 1 K:b6\ngroup white 1 R:h1,h8\ngroup black 1 K:a8,b8\nexit white wins if on:black:K:c8\n";
+
+const COUNTED: &[u8] =
+    b"freezer 1\ngroup white 1 K:b6\ngroup white 1 R:h1,h8\ngroup black 1 K:a8,b8\nexit white wins 7 if on:black:K:c8\n";
+
+const RENOUNCED: &[u8] =
+    b"freezer 1\ngroup white 1 K:b6\ngroup white 1 R:h1,h8\ngroup black 1 K:a8,b8\nforbid white K from all to all\nforbid white R from all to all\n";
+
+const DRAWN: &[u8] =
+    b"freezer 1\ngroup white 1 K:a1,b1\ngroup black 1 K:g8,h8\nexit draw if always\n";
+
+const STALEMATE: &[u8] = b"freezer 1\ngroup white 1 K:b6\ngroup white 1 Q:c7\ngroup black 1 K:a8\n";
+
+/// Black to move in the corner, and next to it.
+const CORNER: &str = "k7/8/1K6/8/8/8/8/7R b - - 0 1";
+
+const NEXT_TO_IT: &str = "1k6/8/1K6/8/8/8/8/7R b - - 0 1";
+
 const SOLVED: &[Row] = &[
     Row(
         RULES,
         &["solve", "A", MATE_IN_ONE],
         0,
-        "white wins within 1\n",
+        "white wins within 1\nblack none\n",
     ),
     Row(
         RULES,
-        &["solve", "A", "k7/8/1K6/8/8/8/8/7R b - - 0 1"],
+        &["solve", "A", CORNER],
         0,
-        "white wins within 2\n",
+        "white wins within 2\nblack none\n",
     ),
     Row(
         RULES,
-        &["solve", "A", "1k6/8/1K6/8/8/8/8/7R b - - 0 1"],
+        &["solve", "A", NEXT_TO_IT],
         0,
-        "white no win\n",
+        "white none\nblack none\n",
+    ),
+    Row(
+        WITH_EXIT,
+        &["solve", "A", NEXT_TO_IT],
+        0,
+        "white wins within 2\nblack none\n",
+    ),
+    Row(
+        COUNTED,
+        &["solve", "A", NEXT_TO_IT],
+        0,
+        "white wins within 8\nblack none\n",
+    ),
+    Row(
+        RENOUNCED,
+        &["solve", "A", MATE_IN_ONE],
+        0,
+        "white none\nblack none\n",
+    ),
+    Row(
+        DRAWN,
+        &["solve", "A", "7k/8/8/8/8/8/8/K7 w - - 0 1"],
+        0,
+        "white holds\nblack holds\n",
+    ),
+    Row(
+        STALEMATE,
+        &["solve", "A", "k7/2Q5/1K6/8/8/8/8/8 b - - 0 1"],
+        0,
+        "white holds\nblack holds\n",
     ),
     Row(
         RULES,
@@ -59,9 +108,6 @@ const SOLVED: &[Row] = &[
     ),
 ];
 
-const WITH_EXIT: &[u8] =
-    b"freezer 1\ngroup white 1 K:b6\ngroup white 1 R:h1,h8\ngroup black 1 K:a8,b8\nexit white wins if on:black:K:c8\n";
-
 const NO_BLACK_KING: &[u8] = b"freezer 1\ngroup white 1 K:b6\ngroup white 1 R:h1,h8\n";
 
 const WITH_PAWNS: &[u8] =
@@ -74,12 +120,6 @@ const NO_PLACE: &[u8] =
     b"freezer 1\ngroup white 1 K:b6\ngroup white 1 R:h1,h8\ngroup black 1 K:a8,b8\ngroup white 1\n";
 
 const REFUSED: &[Row] = &[
-    Row(
-        WITH_EXIT,
-        &["solve", "A", MATE_IN_ONE],
-        14,
-        "not built rules\n",
-    ),
     Row(
         NO_BLACK_KING,
         &["solve", "A", MATE_IN_ONE],
