@@ -4,13 +4,15 @@
 
 use frz_rules::{RulesError, read_rules, set_size};
 use std::alloc::Global;
-
 use std::{env, fs, io};
 
 fn describe(rt: &impl Print, alloc: Global, name: &str, text: &[u8]) -> io::Result<()> {
     match read_rules(alloc, text) {
         Ok(rules) => println!(rt; "{name}: {} numbers", set_size(&rules)),
-        Err(RulesError::Bad(fault)) => println!(rt; "{name}: line {}, {:?}", fault.line, fault.cause),
+        Err(RulesError::Bad(fault)) => println!(rt;
+            "{name}: line {}, {:?}",
+            fault.line, fault.cause
+        ),
         Err(RulesError::NoMemory) => println!(rt; "{name}: no memory"),
     }
 }
