@@ -1,5 +1,5 @@
 //! The store over real files. It does not tell what they hold.
-ghost use Rattle.std.specs.Prelude.{None};
+ghost use Rattle.std.specs.Prelude.{◌≡◌, None};
 
 use crate::count::Count;
 use crate::{Failed, Store, StoreFault};
@@ -18,7 +18,12 @@ pub struct DiskStore<R: Files + Drop> {
 }
 
 impl<R: Files + Drop> DiskStore<R> {
-    pub fn new(rt: R) -> DiskStore<R> {
+    /// A store over the files of this runtime, with no fault yet.
+    pub fn new(rt: R) -> DiskStore<R>
+        ensures faults { result.faults ≡ 0 }
+        ensures asked { result.asked ≡ 0 }
+        ensures room { result.room ≡ 0 }
+    {
         DiskStore {
             rt,
             newest: None,

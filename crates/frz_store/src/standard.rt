@@ -1,5 +1,5 @@
 //! The real source and sink, over any reader and writer. They tell nothing.
-ghost use Rattle.std.specs.Prelude.{None};
+ghost use Rattle.std.specs.Prelude.{◌≡◌, None};
 
 use crate::count::Count;
 use crate::{Failed, Sink, Source};
@@ -14,7 +14,10 @@ pub struct InputSource<R: Read + Drop> {
 }
 
 impl<R: Read + Drop> InputSource<R> {
-    pub fn new(reader: R) -> InputSource<R> {
+    /// A source over this reader, with no fault yet.
+    pub fn new(reader: R) -> InputSource<R>
+        ensures { result.faults ≡ 0 }
+    {
         InputSource {
             reader,
             faults: Count::new(),
@@ -41,7 +44,10 @@ pub struct OutputSink<W: Write + Drop> {
 }
 
 impl<W: Write + Drop> OutputSink<W> {
-    pub fn new(writer: W) -> OutputSink<W> {
+    /// A sink over this writer, with no fault yet.
+    pub fn new(writer: W) -> OutputSink<W>
+        ensures { result.faults ≡ 0 }
+    {
         OutputSink {
             writer,
             faults: Count::new(),
