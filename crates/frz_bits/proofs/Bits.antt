@@ -1,13 +1,15 @@
 -- Words as tests of their squares.
 use Rattle.std.proofs.Common.{w64, ◌≡◌, ℕ, zero, suc, ◌+◌, ◌-◌, ◌*◌, ◌^◌, ◌<◌, ◌≤◌, Bool, true, false, cond, ◌&&◌, ◌||◌, not, min, max, refl, ap, sym, ◌∙◌, arith, bit_and, bit_or, inl, inr}
 use Rattle.std.specs.Prelude.{◌==◌}
-use Rattle.std.specs.List.{list_all, list_any, range_with_len}
+use Rattle.std.specs.List.{list_all, list_any}
 use Rattle.std.specs.Int.{bit_at, bit_not}
-use Rattle.std.proofs.lemmas.Bool.{eqb-true, eq-eqb, cases_eq, and_parts, not-true, false_from_ne_true}
-use Rattle.std.proofs.lemmas.Bool.Decides.{nat_tests, eqb_tells}
+use Rattle.std.proofs.lemmas.Bool.{eqb-true, eq-eqb, cases_eq, not-true, false_from_ne_true}
+use Rattle.std.proofs.lemmas.Bool.Decides.{nat_tests}
 use Rattle.std.proofs.lemmas.Nat.Bits.{bit_at-lt, bit_at-zero, bit_at_and, bit_at_or, bit_at_not, bit_at_cat_low, bit_at_cat_high, same_from_bits_below}
 use Rattle.std.proofs.Math.Pow.{pow_pos}
 use Rattle.frz_board.specs.Squares.{squares}
+use Rattle.frz_board.proofs.Connectives.{same_test, not_not}
+use Rattle.frz_board.proofs.AllSquares.{each_square, all_squares, any_square, no_square as none_passes}
 use Rattle.frz_bits.specs.Words.{has_square, word_below, word_of}
 use Rattle.std.proofs.lemmas.Nat.{and_le_r, or_lt}
 
@@ -117,33 +119,6 @@ pub no_square : (w : ℕ) → w < 2 ^ 64 → ((k : ℕ) → k < 64 → has_squar
 no_square w small h =
     same_from_bits_below 64 w 0 small (pow_pos 64) (λ k l. none_from (bit_at w k) (bit_at-lt w k) (h k l) ∙ sym (bit_at-zero k))
 
-pub all_from : (q : ℕ → Bool) (a n : ℕ) → ((k : ℕ) → a ≤ k → k < a + n → q k ≡ true) → list_all q (range_with_len a n) ≡ true
-all_from q a zero h = refl
-all_from q a (suc n) h = ap (λ x. x && list_all q (range_with_len (a + 1) n)) (h a (omega arith) (omega arith)) ∙ all_from q (a + 1) n (λ k l m. h k (omega arith) (omega arith))
-
-pub all_at : (q : ℕ → Bool) (a n : ℕ) → list_all q (range_with_len a n) ≡ true → (k : ℕ) → a ≤ k → k < a + n → q k ≡ true
-all_at q a zero h k l m = absurd (omega arith)
-all_at q a (suc n) h k l m =
-    let parts = and_parts (q a) (list_all q (range_with_len (a + 1) n)) h in
-    elim (eqb_tells a k) [
-      | inl w ↦ ap q (sym w.1) ∙ parts.0
-      | inr w ↦ all_at q (a + 1) n parts.1 k (let ne = w.1 in omega arith) (omega arith)
-    ]
-
--- a test that every square passes
-pub all_squares_from : (q : ℕ → Bool) → ((k : ℕ) → k < 64 → q k ≡ true) → list_all q squares ≡ true
-unfolding squares
-all_squares_from q h = all_from q 0 64 (λ k l m. h k (omega arith))
-
-pub all_squares_at : (q : ℕ → Bool) → list_all q squares ≡ true → (k : ℕ) → k < 64 → q k ≡ true
-unfolding squares
-all_squares_at q h k l = all_at q 0 64 h k (omega arith) (omega arith)
-
-same_truth : (x y : Bool) → (x ≡ true → y ≡ true) → (y ≡ true → x ≡ true) → x ≡ y
-same_truth true y h k = sym (h refl)
-same_truth false true h k = k refl
-same_truth false false h k = refl
-
 not_both : (x y : Bool) → (x && y) ≡ false → (not x || not y) ≡ true
 not_both true true h = cc
 not_both true false h = refl
@@ -157,70 +132,23 @@ either_not false y h = refl
 -- two words have no square in common
 pub apart_words : (f : ℕ → Bool) (w : ℕ) → w < 2 ^ 64 → (bit_and (word_of f) w == 0) ≡ list_all (λ s. not (f s) || not (has_square w s)) squares
 apart_words f w small =
-    same_truth (bit_and (word_of f) w == 0) (list_all (λ s. not (f s) || not (has_square w s)) squares)
-    (λ h. all_squares_from (λ s. not (f s) || not (has_square w s))
+    same_test (bit_and (word_of f) w == 0) (list_all (λ s. not (f s) || not (has_square w s)) squares)
+    (λ h. all_squares (λ s. not (f s) || not (has_square w s))
     (λ k l. not_both (f k) (has_square w k)
     (ap (λ x. x && has_square w k) (sym (has-word_of f k l)) ∙ sym (has-and (word_of f) w k) ∙ ap (λ v. has_square v k) (eqb-true (bit_and (word_of f) w) 0 h) ∙ has-zero k)))
     (λ h. eq-eqb (bit_and (word_of f) w) 0
     (no_square (bit_and (word_of f) w) (and_small (word_of f) w small)
-    (λ k l. has-and (word_of f) w k ∙ ap (λ x. x && has_square w k) (has-word_of f k l) ∙ either_not (f k) (has_square w k) (all_squares_at (λ s. not (f s) || not (has_square w s)) h k l))))
-
-all_range-same : (q r : ℕ → Bool) (a n : ℕ) → ((k : ℕ) → a ≤ k → k < a + n → q k ≡ r k) → list_all q (range_with_len a n) ≡ list_all r (range_with_len a n)
-all_range-same q r a zero h = refl
-all_range-same q r a (suc n) h =
-    ap (λ x. x && list_all q (range_with_len (a + 1) n)) (h a (omega arith) (omega arith))
-    ∙ ap (λ x. r a && x) (all_range-same q r (a + 1) n (λ k l m. h k (omega arith) (omega arith)))
-
--- two tests that agree on the squares
-pub all_squares-same : (q r : ℕ → Bool) → ((k : ℕ) → k < 64 → q k ≡ r k) → list_all q squares ≡ list_all r squares
-unfolding squares
-all_squares-same q r h = all_range-same q r 0 64 (λ k l m. h k (omega arith))
-
-any_range-same : (q r : ℕ → Bool) (a n : ℕ) → ((k : ℕ) → a ≤ k → k < a + n → q k ≡ r k) → list_any q (range_with_len a n) ≡ list_any r (range_with_len a n)
-any_range-same q r a zero h = refl
-any_range-same q r a (suc n) h =
-    ap (λ x. x || list_any q (range_with_len (a + 1) n)) (h a (omega arith) (omega arith))
-    ∙ ap (λ x. r a || x) (any_range-same q r (a + 1) n (λ k l m. h k (omega arith) (omega arith)))
-
-none_in_range : (a n : ℕ) → list_any (λ (k : ℕ). false) (range_with_len a n) ≡ false
-none_in_range a zero = refl
-none_in_range a (suc n) = none_in_range (a + 1) n
-
--- a test that no square passes
-pub no_squares : (q : ℕ → Bool) → ((k : ℕ) → k < 64 → q k ≡ false) → list_any q squares ≡ false
-unfolding squares
-no_squares q h = any_range-same q (λ k. false) 0 64 (λ k l m. h k (omega arith)) ∙ none_in_range 0 64
-
-or_true : (x : Bool) → (x || true) ≡ true
-or_true true = refl
-or_true false = refl
-
-any_range-at : (q : ℕ → Bool) (a n k : ℕ) → a ≤ k → k < a + n → q k ≡ true → list_any q (range_with_len a n) ≡ true
-any_range-at q a zero k l m h = absurd (omega arith)
-any_range-at q a (suc n) k l m h =
-    elim (cases_eq a k) [
-      | inl e ↦ ap (λ x. x || list_any q (range_with_len (a + 1) n)) (ap q e ∙ h)
-      | inr e ↦ ap (λ x. q a || x) (any_range-at q (a + 1) n k (omega arith) (omega arith) h) ∙ or_true (q a)
-    ]
-
--- a test that some square passes
-pub some_square : (q : ℕ → Bool) (k : ℕ) → k < 64 → q k ≡ true → list_any q squares ≡ true
-unfolding squares
-some_square q k l h = any_range-at q 0 64 k (omega arith) (omega arith) h
+    (λ k l. has-and (word_of f) w k ∙ ap (λ x. x && has_square w k) (has-word_of f k l) ∙ either_not (f k) (has_square w k) (each_square (λ s. not (f s) || not (has_square w s)) h k l))))
 
 none_at : (f : ℕ → Bool) → list_any f squares ≡ false → (k : ℕ) → k < 64 → f k ≡ false
-none_at f h k l = false_from_ne_true (f k) (λ e. let there = some_square f k l e in cc)
+none_at f h k l = false_from_ne_true (f k) (λ e. let there = any_square f k l e in cc)
 
 -- a word is 0 exactly where no square passes its test
 pub word_of-none : (f : ℕ → Bool) → (word_of f == 0) ≡ not (list_any f squares)
 word_of-none f =
-    same_truth (word_of f == 0) (not (list_any f squares))
-    (λ h. ap not (no_squares f (λ k l. sym (has-word_of f k l) ∙ ap (λ w. has_square w k) (eqb-true (word_of f) 0 h) ∙ has-zero k)))
+    same_test (word_of f == 0) (not (list_any f squares))
+    (λ h. ap not (none_passes f (λ k l. sym (has-word_of f k l) ∙ ap (λ w. has_square w k) (eqb-true (word_of f) 0 h) ∙ has-zero k)))
     (λ h. eq-eqb (word_of f) 0 (no_square (word_of f) (word_of-small f) (λ k l. has-word_of f k l ∙ none_at f (not-true (list_any f squares) h) k l)))
-
-not_not : (x : Bool) → not (not x) ≡ x
-not_not true = refl
-not_not false = refl
 
 pub word_of-some : (f : ℕ → Bool) → not (word_of f == 0) ≡ list_any f squares
 word_of-some f = ap not (word_of-none f) ∙ not_not (list_any f squares)

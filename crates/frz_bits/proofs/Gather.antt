@@ -79,15 +79,12 @@ hits p s by a = holds p by a && attacks p a s
 pub sees_in : (s lines occupied : ℕ) (k : ℕ) → k < 64 → has_square lines k ≡ false → sees s lines occupied k ≡ false
 sees_in s lines occupied k l h = and_left (has_square lines k) (is_open occupied s k) h
 
--- the word of a side leaves no man out
-pub side_out : (p : Board) (c : Colour) (w k : ℕ) → w ≡ word_of (λ s. holds p c s) → k < 64 → has_square w k ≡ false → holds p c k ≡ false
-side_out p c w k e l h = sym (has-word_of (λ s. holds p c s) k l) ∙ ap (λ v. has_square v k) (sym e) ∙ h
-
-pub side_in : (p : Board) (c : Colour) (w k : ℕ) → w ≡ word_of (λ s. holds p c s) → k < 64 → has_square w k ≡ true → holds p c k ≡ true
-side_in p c w k e l h = sym (has-word_of (λ s. holds p c s) k l) ∙ ap (λ v. has_square v k) (sym e) ∙ h
+-- a square is in the word of a side where its man stands there
+pub in_side : (p : Board) (c : Colour) (w k : ℕ) → w ≡ word_of (λ s. holds p c s) → k < 64 → has_square w k ≡ holds p c k
+in_side p c w k e l = ap (λ v. has_square v k) e ∙ has-word_of (λ s. holds p c s) k l
 
 pub hits_in : (p : Board) (s : ℕ) (by : Colour) (w : ℕ) → w ≡ word_of (λ a. holds p by a) → (k : ℕ) → k < 64 → has_square w k ≡ false → hits p s by k ≡ false
-hits_in p s by w e k l h = and_left (holds p by k) (attacks p k s) (side_out p by w k e l h)
+hits_in p s by w e k l h = and_left (holds p by k) (attacks p k s) (sym (in_side p by w k e l) ∙ h)
 
 -- a king of the side stands on the square, and is attacked
 abbrev pub checks : Board → Colour → ℕ → Bool
@@ -98,7 +95,7 @@ king_is_man White x h = grind (arith, nat_tests)
 king_is_man Black x h = grind (arith, nat_tests)
 
 pub checks_in : (p : Board) (c : Colour) (w : ℕ) → w ≡ word_of (λ s. holds p c s) → (k : ℕ) → k < 64 → has_square w k ≡ false → checks p c k ≡ false
-checks_in p c w e k l h = and_left (has p c King k) (is_attacked p k (other_of c)) (king_is_man c (slice_index p.cells k) (side_out p c w k e l h))
+checks_in p c w e k l h = and_left (has p c King k) (is_attacked p k (other_of c)) (king_is_man c (slice_index p.cells k) (sym (in_side p c w k e l) ∙ h))
 
 -- what fails below n, between n and s, and at s, fails below s + 1
 pub fails_on : (f : ℕ → Bool) (w n s : ℕ) → ((k : ℕ) → k < 64 → has_square w k ≡ false → f k ≡ false) → IsNext w n s → ((k : ℕ) → k < n → f k ≡ false) → f s ≡ false → (k : ℕ) → k < s + 1 → f k ≡ false

@@ -1,5 +1,5 @@
 -- The men of the two sides are the men.
-use Rattle.std.proofs.Common.{◌≡◌, ℕ, ◌<◌, ◌^◌, Bool, true, false, ◌||◌, not, refl, ap, ◌∙◌, arith, slice_index, bit_or, bit_and}
+use Rattle.std.proofs.Common.{◌≡◌, ℕ, ◌<◌, ◌^◌, Bool, true, false, ◌||◌, not, ap, ◌∙◌, arith, slice_index, bit_or, bit_and}
 use Rattle.std.specs.Prelude.{◌==◌}
 use Rattle.std.proofs.lemmas.Bool.Decides.{nat_tests}
 use Rattle.std.proofs.lemmas.Nat.{or_lt}
@@ -12,7 +12,9 @@ use Rattle.frz_bits.specs.Words.{word_of, has_square}
 use Rattle.frz_bits.specs.Sides.{HasSides}
 use Rattle.frz_board.specs.Lines.{is_between}
 use Rattle.frz_board.specs.Attacks.{is_clear}
-use Rattle.frz_bits.proofs.Bits.{apart_words, all_squares-same, has-or, has-word_of, word_of-from, word_of-small}
+use Rattle.frz_board.proofs.Connectives.{not_not}
+use Rattle.frz_board.proofs.AllSquares.{all_squares-same}
+use Rattle.frz_bits.proofs.Bits.{apart_words, has-or, has-word_of, word_of-from, word_of-small}
 
 either_side : (x : ℕ) → x < 13 → (is_man_of White (man_of_cell x) || is_man_of Black (man_of_cell x)) ≡ not (x == 0)
 either_side x h = grind (arith, nat_tests)
@@ -31,10 +33,6 @@ occupied_is p white black h =
     ∙ ap (λ x. x || has_square black k) (ap (λ w. has_square w k) h.of_white ∙ has-word_of (λ s. holds p White s) k l)
     ∙ ap (λ x. holds p White k || x) (ap (λ w. has_square w k) h.of_black ∙ has-word_of (λ s. holds p Black s) k l)
     ∙ either_side (slice_index p.cells k) (cell_fits p h.fits k l))
-
-not_not : (x : Bool) → not (not x) ≡ x
-not_not true = refl
-not_not false = refl
 
 -- no square strictly between is occupied where each is empty
 pub clear_is : (p : Board) (a b : ℕ) → (bit_and (word_of (λ s. is_between a s b)) (word_of (λ s. not (is_empty p s))) == 0) ≡ is_clear p a b

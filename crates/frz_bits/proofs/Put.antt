@@ -1,5 +1,5 @@
 -- A square's bit after a cell is written.
-use Rattle.std.proofs.Common.{◌≡◌, ℕ, ◌*◌, ◌%◌, ◌^◌, ◌<◌, List, length, Bool, true, false, refl, ap, sym, ◌∙◌, arith, w64, bit_and, bit_or, slice_index, slice_set, length-set, get_or-set_same, get_or-set_other, inl, inr}
+use Rattle.std.proofs.Common.{◌≡◌, ℕ, ◌*◌, ◌%◌, ◌^◌, ◌<◌, List, length, Bool, true, false, refl, ap, sym, ◌∙◌, arith, w64, bit_and, bit_or, slice_index, slice_set, length-set, inl, inr}
 use Rattle.std.specs.Prelude.{◌==◌, if◌then◌else◌}
 use Rattle.std.specs.Int.{bit_not}
 use Rattle.std.proofs.lemmas.Nat.Bits.{bit_at_set_same, bit_at_set_other, bit_at_clear_same, bit_at_clear_other}
@@ -9,6 +9,7 @@ use Rattle.frz_board.specs.declared.man.Colour.{Colour}
 use Rattle.frz_board.specs.declared.man.Colour.TheVariants.{White, Black}
 use Rattle.frz_board.specs.Men.{man_of_cell, is_man_of}
 use Rattle.frz_board.specs.Boards.{Board, holds}
+use Rattle.frz_board.proofs.WrittenCells.{set_at}
 use Rattle.frz_bits.specs.Words.{has_square, word_of}
 use Rattle.frz_bits.specs.Sides.{HasSides}
 use Rattle.frz_bits.proofs.Bits.{has-word_of, word_of-from}
@@ -25,14 +26,6 @@ taken_out w s k ls lk =
     elim (eqb_tells k s) [
       | inl e ↦ ap (λ i. has_square (bit_and w (bit_not w64 (1 * 2 ^ s % 2 ^ 64))) i) e.1 ∙ ap (λ b. b == 1) (bit_at_clear_same w64 w s ls) ∙ sym (ap (λ x. if x then false else has_square w k) e.0)
       | inr e ↦ ap (λ b. b == 1) (bit_at_clear_other w64 w s ls k lk e.1) ∙ sym (ap (λ x. if x then false else has_square w k) e.0)
-    ]
-
--- a cell after a write
-pub set_at : (xs : List ℕ) (i v j : ℕ) → i < length xs → slice_index (slice_set xs i v) j ≡ (if j == i then v else slice_index xs j)
-set_at xs i v j h =
-    elim (eqb_tells j i) [
-      | inl w ↦ rw w.0 (rw w.1 (get_or-set_same xs i v 0 h))
-      | inr w ↦ rw w.0 (get_or-set_other xs i j v 0 w.1)
     ]
 
 choose : (t : Bool) (c : Colour) (v x : ℕ) → is_man_of c (man_of_cell (if t then v else x)) ≡ (if t then is_man_of c (man_of_cell v) else is_man_of c (man_of_cell x))

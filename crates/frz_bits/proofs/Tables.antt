@@ -1,5 +1,5 @@
 -- The tables are what the definitions give, by computing.
-use Rattle.std.proofs.Common.{◌≡◌, ℕ, ◌+◌, ◌*◌, ◌/◌, ◌%◌, ◌<◌, List, [], ◌∷◌, length, zero, suc, ◌^◌, map, refl, ap, sym, ◌∙◌, slice_index, arith}
+use Rattle.std.proofs.Common.{◌≡◌, ℕ, ◌+◌, ◌*◌, ◌/◌, ◌%◌, ◌<◌, Bool, List, [], ◌∷◌, length, zero, suc, ◌^◌, map, refl, ap, sym, ◌∙◌, slice_index, arith}
 use Rattle.std.specs.List.{range_with_len}
 use Rattle.std.proofs.lemmas.List.FromFn.{get_or-map-range_with_len}
 use Rattle.frz_board.specs.declared.man.Colour.TheVariants.{White, Black}
@@ -14,43 +14,41 @@ use Rattle.frz_bits.specs.Ways.{is_pawn_way}
 in_table : (f : ℕ → ℕ) (n : ℕ) (xs : List ℕ) → map f (range_with_len 0 n) ≡ xs → (i : ℕ) → i < n → slice_index xs i ≡ f i
 in_table f n xs e i h = ap (λ ys. slice_index ys i) (sym e) ∙ get_or-map-range_with_len f 0 n i i 0 h (omega arith)
 
-knight_table : map (λ a. word_of (λ b. is_knight_jump a b)) (range_with_len 0 64) ≡ KNIGHT
-unfolding word_of
-knight_table = refl
+-- a table of 64 words, one for each square
+words_in : (f : ℕ → ℕ → Bool) (xs : List ℕ) → map (λ a. word_of (f a)) (range_with_len 0 64) ≡ xs → (s : ℕ) → s < 64 → slice_index xs s ≡ word_of (f s)
+words_in f xs e s h = in_table (λ a. word_of (f a)) 64 xs e s h
 
-king_table : map (λ a. word_of (λ b. is_king_step a b)) (range_with_len 0 64) ≡ KING
+pub knight_at : (s : ℕ) → s < 64 → slice_index KNIGHT s ≡ word_of (λ b. is_knight_jump s b)
 unfolding word_of
-king_table = refl
+knight_at s h = words_in is_knight_jump KNIGHT refl s h
 
-white_pawn_table : map (λ a. word_of (λ b. pawn_reaches White a b)) (range_with_len 0 64) ≡ WHITE_PAWN
+pub king_at : (s : ℕ) → s < 64 → slice_index KING s ≡ word_of (λ b. is_king_step s b)
 unfolding word_of
-white_pawn_table = refl
+king_at s h = words_in is_king_step KING refl s h
 
-black_pawn_table : map (λ a. word_of (λ b. pawn_reaches Black a b)) (range_with_len 0 64) ≡ BLACK_PAWN
+pub white_pawn_at : (s : ℕ) → s < 64 → slice_index WHITE_PAWN s ≡ word_of (λ b. pawn_reaches White s b)
 unfolding word_of
-black_pawn_table = refl
+white_pawn_at s h = words_in (pawn_reaches White) WHITE_PAWN refl s h
 
-rook_table : map (λ a. word_of (λ b. is_rook_line a b)) (range_with_len 0 64) ≡ ROOK
+pub black_pawn_at : (s : ℕ) → s < 64 → slice_index BLACK_PAWN s ≡ word_of (λ b. pawn_reaches Black s b)
 unfolding word_of
-rook_table = refl
+black_pawn_at s h = words_in (pawn_reaches Black) BLACK_PAWN refl s h
 
-bishop_table : map (λ a. word_of (λ b. is_bishop_line a b)) (range_with_len 0 64) ≡ BISHOP
+pub rook_at : (s : ℕ) → s < 64 → slice_index ROOK s ≡ word_of (λ b. is_rook_line s b)
 unfolding word_of
-bishop_table = refl
+rook_at s h = words_in is_rook_line ROOK refl s h
 
-white_pawn_way_table : map (λ a. word_of (λ b. is_pawn_way White a b)) (range_with_len 0 64) ≡ WHITE_PAWN_WAYS
+pub bishop_at : (s : ℕ) → s < 64 → slice_index BISHOP s ≡ word_of (λ b. is_bishop_line s b)
 unfolding word_of
-white_pawn_way_table = refl
-
-black_pawn_way_table : map (λ a. word_of (λ b. is_pawn_way Black a b)) (range_with_len 0 64) ≡ BLACK_PAWN_WAYS
-unfolding word_of
-black_pawn_way_table = refl
+bishop_at s h = words_in is_bishop_line BISHOP refl s h
 
 pub white_pawn_way_at : (s : ℕ) → s < 64 → slice_index WHITE_PAWN_WAYS s ≡ word_of (λ b. is_pawn_way White s b)
-white_pawn_way_at s h = in_table (λ a. word_of (λ b. is_pawn_way White a b)) 64 WHITE_PAWN_WAYS white_pawn_way_table s h
+unfolding word_of
+white_pawn_way_at s h = words_in (is_pawn_way White) WHITE_PAWN_WAYS refl s h
 
 pub black_pawn_way_at : (s : ℕ) → s < 64 → slice_index BLACK_PAWN_WAYS s ≡ word_of (λ b. is_pawn_way Black s b)
-black_pawn_way_at s h = in_table (λ a. word_of (λ b. is_pawn_way Black a b)) 64 BLACK_PAWN_WAYS black_pawn_way_table s h
+unfolding word_of
+black_pawn_way_at s h = words_in (is_pawn_way Black) BLACK_PAWN_WAYS refl s h
 
 -- the words of two lists of halves
 joined : List ℕ → List ℕ → List ℕ
@@ -69,24 +67,6 @@ joined_at (h ∷ hs) (l ∷ ls) (suc i) e = joined_at hs ls i (omega arith)
 between_table : map (λ i. word_of (λ s. is_between (i / 64) s (i % 64))) (range_with_len 0 4096) ≡ joined BETWEEN_HIGH BETWEEN_LOW
 unfolding word_of joined
 between_table = refl
-
-pub knight_at : (s : ℕ) → s < 64 → slice_index KNIGHT s ≡ word_of (λ b. is_knight_jump s b)
-knight_at s h = in_table (λ a. word_of (λ b. is_knight_jump a b)) 64 KNIGHT knight_table s h
-
-pub king_at : (s : ℕ) → s < 64 → slice_index KING s ≡ word_of (λ b. is_king_step s b)
-king_at s h = in_table (λ a. word_of (λ b. is_king_step a b)) 64 KING king_table s h
-
-pub white_pawn_at : (s : ℕ) → s < 64 → slice_index WHITE_PAWN s ≡ word_of (λ b. pawn_reaches White s b)
-white_pawn_at s h = in_table (λ a. word_of (λ b. pawn_reaches White a b)) 64 WHITE_PAWN white_pawn_table s h
-
-pub black_pawn_at : (s : ℕ) → s < 64 → slice_index BLACK_PAWN s ≡ word_of (λ b. pawn_reaches Black s b)
-black_pawn_at s h = in_table (λ a. word_of (λ b. pawn_reaches Black a b)) 64 BLACK_PAWN black_pawn_table s h
-
-pub rook_at : (s : ℕ) → s < 64 → slice_index ROOK s ≡ word_of (λ b. is_rook_line s b)
-rook_at s h = in_table (λ a. word_of (λ b. is_rook_line a b)) 64 ROOK rook_table s h
-
-pub bishop_at : (s : ℕ) → s < 64 → slice_index BISHOP s ≡ word_of (λ b. is_bishop_line s b)
-bishop_at s h = in_table (λ a. word_of (λ b. is_bishop_line a b)) 64 BISHOP bishop_table s h
 
 -- the word of two squares stands at 64 times the one and the other
 pub between_at : (a b : ℕ) → a < 64 → b < 64 → slice_index BETWEEN_HIGH (64 * a + b) * 2 ^ 32 + slice_index BETWEEN_LOW (64 * a + b) ≡ word_of (λ s. is_between a s b)

@@ -5,9 +5,8 @@ ghost use Rattle.frz_board.specs.EnPassant.{has_pawn_beside};
 ghost use Rattle.frz_board.specs.Attacks.{is_clear, reaches as man_reaches, attacks as man_attacks, is_attacked, is_in_check};
 ghost use Rattle.frz_bits.specs.Words.{word_of};
 
-use super::reaching::{bishop_line, king_step, knight_jump, pawn_reach, rook_line};
-use super::sets::between;
-use super::word::{next_square, replaced, with_square};
+use super::sets::{between, bishop_lines, king_set, knight_set, pawn_set, rook_lines};
+use super::word::{contains, next_square, replaced, with_square};
 use frz_board::{Colour, Kind, Man, Position, Square};
 use std::marker::Model;
 
@@ -149,16 +148,19 @@ impl Bitboards {
     }
 
     /// Would this man on `a` attack `b`?
+    #[tactic(auto, using(crate::proofs::Bits::reading))]
     pub fn reaches(&self, man: Man, a: Square, b: Square) -> bool
         ensures { result ≡ man_reaches self.now man.colour man.kind a b }
     {
         match man.kind {
-            Kind::King => king_step(a, b),
-            Kind::Queen => (rook_line(a, b) || bishop_line(a, b)) && self.is_clear(a, b),
-            Kind::Rook => rook_line(a, b) && self.is_clear(a, b),
-            Kind::Bishop => bishop_line(a, b) && self.is_clear(a, b),
-            Kind::Knight => knight_jump(a, b),
-            Kind::Pawn => pawn_reach(man.colour, a, b),
+            Kind::King => contains(king_set(a), b),
+            Kind::Queen => {
+                (contains(rook_lines(a), b) || contains(bishop_lines(a), b)) && self.is_clear(a, b)
+            }
+            Kind::Rook => contains(rook_lines(a), b) && self.is_clear(a, b),
+            Kind::Bishop => contains(bishop_lines(a), b) && self.is_clear(a, b),
+            Kind::Knight => contains(knight_set(a), b),
+            Kind::Pawn => contains(pawn_set(man.colour, a), b),
         }
     }
 

@@ -6,7 +6,6 @@ mod lines;
 mod pawn_ways;
 mod rays;
 mod reach;
-mod reaching;
 mod sets;
 #[cfg(test)]
 mod tests;

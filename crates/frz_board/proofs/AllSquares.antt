@@ -1,9 +1,18 @@
--- A test of all squares is the test of each square.
-use Rattle.std.proofs.Common.{◌≡◌, ℕ, zero, suc, ◌+◌, ◌<◌, ◌≤◌, Bool, true, false, ◌&&◌, refl, ap, sym, ◌∙◌, arith, inl, inr}
+-- The list of the squares; a test of all squares is the test of each square.
+use Rattle.std.proofs.Common.{◌≡◌, ℕ, zero, suc, ◌+◌, ◌<◌, ◌≤◌, Bool, true, false, ◌&&◌, length, get_or, refl, ap, sym, ◌∙◌, arith, inl, inr}
 use Rattle.std.specs.List.{list_all, list_any, range_with_len}
 use Rattle.std.proofs.lemmas.Bool.Decides.{eqb_tells}
+use Rattle.std.proofs.lemmas.List.FromFn.{length-range_with_len, get_or-range_with_len}
 use Rattle.frz_board.specs.Squares.{squares}
-use Rattle.frz_board.proofs.Connectives.{and_both, or_either, either_or, fails}
+use Rattle.frz_board.proofs.Connectives.{and_both, or_either, either_or, fails, same_test}
+
+pub length-squares : length squares ≡ 64
+unfolding squares
+length-squares = length-range_with_len 0 64
+
+pub get_or-squares : (n : ℕ) → n < 64 → get_or squares n 0 ≡ n
+unfolding squares
+get_or-squares n h = get_or-range_with_len 0 64 n 0 h ∙ omega arith
 
 pub all_from : (q : ℕ → Bool) (a n : ℕ) → ((k : ℕ) → a ≤ k → k < a + n → q k ≡ true) → list_all q (range_with_len a n) ≡ true
 all_from q a zero h = refl
@@ -66,3 +75,13 @@ some_square q h = found (any_from q 0 64 h)
 pub any_square : (q : ℕ → Bool) (s : ℕ) → s < 64 → q s ≡ true → list_any q squares ≡ true
 unfolding squares
 any_square q s l h = any_at q 0 64 s (omega arith) (omega arith) h
+
+pub no_square : (q : ℕ → Bool) → ((s : ℕ) → s < 64 → q s ≡ false) → list_any q squares ≡ false
+no_square q h = fails (list_any q squares) (λ e. let w = some_square q e in let not = h w.square w.on_board in let there = w.passes in cc)
+
+-- two tests that agree on each square
+pub all_squares-same : (q r : ℕ → Bool) → ((s : ℕ) → s < 64 → q s ≡ r s) → list_all q squares ≡ list_all r squares
+all_squares-same q r h =
+    same_test (list_all q squares) (list_all r squares)
+    (λ e. all_squares r (λ s l. sym (h s l) ∙ each_square q e s l))
+    (λ e. all_squares q (λ s l. h s l ∙ each_square r e s l))

@@ -61,11 +61,11 @@ two_means m n k l h = let parts = and_both (m == k) (n == l) h in (eqb-true m k 
 means_two : (m n k l : ℕ) → (m ≡ k) × (n ≡ l) → (m == k && n == l) ≡ true
 means_two m n k l h = both_and (m == k) (n == l) (eq-eqb m k h.0) (eq-eqb n l h.1)
 
-forward_means : (c : Colour) (a b : ℕ) → is_forward c 1 a b ≡ true → IsForward c a b
+pub forward_means : (c : Colour) (a b : ℕ) → is_forward c 1 a b ≡ true → IsForward c a b
 forward_means White a b h = eqb-true (rank_of b) (rank_of a + 1) h
 forward_means Black a b h = eqb-true (rank_of a) (rank_of b + 1) h
 
-means_forward : (c : Colour) (a b : ℕ) → IsForward c a b → is_forward c 1 a b ≡ true
+pub means_forward : (c : Colour) (a b : ℕ) → IsForward c a b → is_forward c 1 a b ≡ true
 means_forward White a b h = eq-eqb (rank_of b) (rank_of a + 1) h
 means_forward Black a b h = eq-eqb (rank_of a) (rank_of b + 1) h
 

@@ -1,15 +1,8 @@
 -- What tests made of others say.
-use Rattle.std.proofs.Common.{◌≡◌, ◌≢◌, ℕ, Bool, true, false, ◌&&◌, ◌||◌, not, refl, ◌⊎◌, inl, inr}
+use Rattle.std.proofs.Common.{◌≡◌, ◌≢◌, ℕ, Bool, true, false, ◌||◌, not, refl, ◌⊎◌, inl, inr}
 use Rattle.std.specs.Prelude.{◌==◌}
 use Rattle.std.proofs.lemmas.Bool.Decides.{eqb_tells}
-
-pub and_both : (x y : Bool) → (x && y) ≡ true → (x ≡ true) × (y ≡ true)
-and_both true true h = (refl, refl)
-and_both true false h = cc
-and_both false y h = cc
-
-pub both_and : (x y : Bool) → x ≡ true → y ≡ true → (x && y) ≡ true
-both_and x y h k = rw (h, k)
+pub use Rattle.std.proofs.lemmas.Bool.{and_parts as and_both, and_from as both_and, false_from_ne_true as fails}
 
 pub or_either : (x y : Bool) → (x || y) ≡ true → (x ≡ true) ⊎ (y ≡ true)
 or_either true y h = inl refl
@@ -44,6 +37,6 @@ same_test true false h k = let e : false ≡ true = h refl in cc
 same_test false true h k = k refl
 same_test false false h k = refl
 
-pub fails : (x : Bool) → (x ≡ true → ⊥) → x ≡ false
-fails true h = absurd (h refl)
-fails false h = refl
+pub not_not : (x : Bool) → not (not x) ≡ x
+not_not true = refl
+not_not false = refl

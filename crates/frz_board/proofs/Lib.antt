@@ -1,6 +1,7 @@
 pub mod Connectives
 pub mod AllSquares
 pub mod CellsOfMen
+pub mod WrittenCells
 pub mod AttackInWords
 pub mod Counting
 pub mod EndRanks

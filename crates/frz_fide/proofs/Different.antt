@@ -11,7 +11,8 @@ use Rattle.frz_board.specs.declared.man.Colour.{Colour}
 use Rattle.frz_board.specs.declared.man.Kind.{Kind}
 use Rattle.frz_board.specs.declared.man.Kind.TheVariants.{King, Queen, Rook, Bishop, Knight, Pawn}
 use Rattle.frz_board.specs.declared.man.Man.{Man}
-use Rattle.frz_fide.proofs.Facts.{Move, facts, and_both}
+use Rattle.frz_board.proofs.Connectives.{and_both}
+use Rattle.frz_fide.proofs.Facts.{Move, facts}
 use Rattle.frz_fide.proofs.Cells.{cell_then}
 use Rattle.frz_fide.proofs.Standing.{after_at, stays, arrived, left, none_comes, arrived_own, arrives_own, holds_from}
 

@@ -1,5 +1,6 @@
 -- What a legal move is.
-use Rattle.std.proofs.Common.{◌≡◌, refl, Bool, true, false, ◌&&◌, not, Option, None, Some}
+use Rattle.std.proofs.Common.{◌≡◌, refl, true, false, ◌&&◌, not, Option, None, Some}
+use Rattle.std.proofs.lemmas.Bool.{not-true}
 use Rattle.frz_board.specs.Attacks.{is_in_check}
 use Rattle.frz_board.specs.Boards.{Board, man_on, holds}
 use Rattle.frz_board.specs.Men.{is_man_of, same_colour}
@@ -8,15 +9,7 @@ use Rattle.frz_fide.specs.Legal.{is_legal, can_go, man_goes, goes, promotes, aft
 use Rattle.frz_board.specs.declared.man.Colour.{Colour}
 use Rattle.frz_board.specs.declared.man.Colour.TheVariants.{White, Black}
 use Rattle.frz_board.specs.declared.man.Man.{Man}
-
-pub and_both : (x y : Bool) → (x && y) ≡ true → (x ≡ true) × (y ≡ true)
-and_both true true h = (refl, refl)
-and_both true false h = cc
-and_both false y h = cc
-
-pub not_true : (x : Bool) → not x ≡ true → x ≡ false
-not_true true h = cc
-not_true false h = refl
+use Rattle.frz_board.proofs.Connectives.{and_both}
 
 pub same_side : (c d : Colour) → same_colour c d ≡ true → c ≡ d
 same_side White White h = refl
@@ -43,7 +36,7 @@ facts_of p m (Some man) e h s =
       man = man;
       on = e;
       own = same_side man.colour p.turn sides.0;
-      free = not_true (holds p p.turn m.to) sides.1;
+      free = not-true (holds p p.turn m.to) sides.1;
       way = ways.0;
       promo = ways.1;
       safe = s;
@@ -53,4 +46,4 @@ pub facts : (p : Board) (m : Step) → is_legal p m ≡ true → Move p m
 unfolding is_legal
 facts p m h =
     let parts = and_both (can_go p m) (not (is_in_check (after p m) p.turn)) h in
-    facts_of p m (man_on p m.from) refl parts.0 (not_true (is_in_check (after p m) p.turn) parts.1)
+    facts_of p m (man_on p m.from) refl parts.0 (not-true (is_in_check (after p m) p.turn) parts.1)

@@ -17,7 +17,7 @@ use Rattle.frz_board.specs.Attacking.{Attack, Stands, IsForward}
 use Rattle.frz_board.proofs.Connectives.{and_both, both_and, or_either, either_or}
 use Rattle.frz_board.proofs.AllSquares.{some_square, any_square}
 use Rattle.frz_board.proofs.CellsOfMen.{cell_back, cell_forth}
-use Rattle.frz_board.proofs.AttackInWords.{test_means, means_test}
+use Rattle.frz_board.proofs.AttackInWords.{test_means, means_test, forward_means, means_forward}
 use Rattle.frz_fide.specs.Legal.{is_home, is_last, passed_over, beside_on_file, is_target, captures, takes_in_passing, steps, advances, goes, promotes, can_go, man_goes, arrives, after_man, after, is_legal}
 use Rattle.frz_fide.specs.Valid.{IsValid}
 use Rattle.frz_fide.specs.LegalMoves.{Begins, IsHome, IsLast, IsTwoForward, Becomes, HasEnemyBeside, gone, IsSafe, Legal, piece, capture, step, advance, en_passant}
@@ -61,14 +61,6 @@ means_safe c q h =
     h w.square v.square man.0 w.on_board v.on_board (eqb-true (slice_index q.cells w.square) (cell_of_man (record { colour = c; kind = King })) king.0) man.1 (test_means q v.square w.square hit.1))
 
 -- ranks, as tests and as facts
-forward_test : (c : Colour) (a b : ℕ) → IsForward c a b → is_forward c 1 a b ≡ true
-forward_test White a b h = eq-eqb (rank_of b) (rank_of a + 1) h
-forward_test Black a b h = eq-eqb (rank_of a) (rank_of b + 1) h
-
-forward_means : (c : Colour) (a b : ℕ) → is_forward c 1 a b ≡ true → IsForward c a b
-forward_means White a b h = eqb-true (rank_of b) (rank_of a + 1) h
-forward_means Black a b h = eqb-true (rank_of a) (rank_of b + 1) h
-
 two_test : (c : Colour) (a b : ℕ) → IsTwoForward c a b → is_forward c 2 a b ≡ true
 two_test White a b h = eq-eqb (rank_of b) (rank_of a + 2) h
 two_test Black a b h = eq-eqb (rank_of a) (rank_of b + 2) h
@@ -260,7 +252,7 @@ relation_tests p m q v (capture k j b hit enemy becomes e s) =
     (result_is p m Pawn k false None promo.1 (and_right (pawn_reaches p.turn m.from m.to) (is_target p.ep m.to) (no_target p (other_of p.turn) j m.to v enemy)) (no_advance p m Pawn (aside_no_advance p p.turn m.from m.to reach))) e s
 relation_tests p m q v (step k b file rank empty becomes e s) =
     let promo = becomes_test p m k b.step.promo becomes in
-    let ahead = both_and (files_apart m.from m.to == 0) (is_forward p.turn 1 m.from m.to) (eq-eqb (files_apart m.from m.to) 0 file) (forward_test p.turn m.from m.to rank) in
+    let ahead = both_and (files_apart m.from m.to == 0) (is_forward p.turn 1 m.from m.to) (eq-eqb (files_apart m.from m.to) 0 file) (means_forward p.turn m.from m.to rank) in
     made p m q (gone p m k None) Pawn b
     (either_or _ _ (inl (either_or _ _ (inr (both_and (files_apart m.from m.to == 0 && is_forward p.turn 1 m.from m.to) (is_empty p m.to) ahead (eq-eqb (slice_index p.cells m.to) 0 empty)))))) promo.0
     (result_is p m Pawn k false None promo.1 (straight_no_taking p p.turn m.from m.to file) (no_advance p m Pawn (step_no_advance p p.turn m.from m.to rank))) e s

@@ -1,11 +1,10 @@
 -- What a legal move keeps of a valid position.
 use Rattle.std.proofs.Common.{◌≡◌, ◌≢◌, ℕ, ◌+◌, ◌/◌, ◌%◌, ◌<◌, ◌≤◌, List, [], ◌∷◌, length, refl, ap, sym, ◌∙◌, Bool, true, false, cond, ◌&&◌, ◌||◌, not, arith, Option, None, Some, subst, slice_index, slice_set, length-set, get_or-set_other, ◌⊎◌, inl, inr}
 use Rattle.std.specs.Prelude.{◌==◌, nat_le, if◌then◌else◌, count_by}
-use Rattle.std.specs.List.{list_all, list_any}
+use Rattle.std.specs.List.{list_all}
 use Rattle.std.proofs.lemmas.Bool.Decides.{nat_tests, eqb_tells}
-use Rattle.std.proofs.lemmas.Bool.{eqb-true, eq-eqb}
+use Rattle.std.proofs.lemmas.Bool.{eqb-true, eq-eqb, le-leb, not-true, and_right, cases_Bool}
 use Rattle.std.proofs.lemmas.List.Sums.{sum_by-set}
-use Rattle.std.proofs.lemmas.List.Folds.{list_any_at}
 use Rattle.std.proofs.lemmas.List.Elements.{All-set}
 use Rattle.frz_board.specs.Attacks.{man_reaches, pawn_reaches, reaches, attacks, is_attacked, is_in_check}
 use Rattle.frz_board.specs.Boards.{Board, CellsFit, holds, has, is_empty}
@@ -21,9 +20,11 @@ use Rattle.frz_board.specs.declared.man.Colour.TheVariants.{White, Black}
 use Rattle.frz_board.specs.declared.man.Kind.{Kind}
 use Rattle.frz_board.specs.declared.man.Kind.TheVariants.{King, Queen, Rook, Bishop, Knight, Pawn}
 use Rattle.frz_board.specs.declared.man.Man.{Man}
-use Rattle.frz_fide.proofs.Squares.{length-squares, get_or-squares}
-use Rattle.frz_fide.proofs.Facts.{Move, and_both, not_true, facts}
-use Rattle.frz_fide.proofs.Cells.{cell_then, cell_at, cell_back, cell_forth}
+use Rattle.frz_board.proofs.Connectives.{and_both, both_and}
+use Rattle.frz_board.proofs.AllSquares.{each_square, all_squares, some_square, any_square}
+use Rattle.frz_board.proofs.CellsOfMen.{cell_back, cell_forth}
+use Rattle.frz_fide.proofs.Facts.{Move, facts}
+use Rattle.frz_fide.proofs.Cells.{cell_then, cell_at}
 use Rattle.frz_fide.proofs.Standing.{on_board, apart, taken, holds_from, arrived, left, arrives_own, arrives_colour, own_colour, stays_by, others_by, beside_apart}
 use Rattle.frz_fide.proofs.Room.{forward_only, few}
 
@@ -120,10 +121,6 @@ same_king c Pawn b (Some Bishop) d h = refl
 same_king c Pawn b (Some Knight) d h = refl
 same_king c Pawn b (Some Pawn) d h = cc
 
-and_false : (x : Bool) → (x && false) ≡ false
-and_false true = refl
-and_false false = refl
-
 not_last : (l : Bool) → (true && (if l then false else true)) ≡ true → l ≡ false
 not_last true h = cc
 not_last false h = refl
@@ -141,11 +138,11 @@ pawn_rank White a b la h l = grind (arith, nat_tests)
 pawn_rank Black a b la h l = grind (arith, nat_tests)
 
 no_end_pawn : (p : Board) (c : Colour) (k : Kind) (a b : ℕ) (promo : Option Kind) → a < 64 → goes p c k a b ≡ true → promotes c k b promo ≡ true → (is_end b && is_pawn (arrives (record { colour = c; kind = k }) promo).kind) ≡ false
-no_end_pawn p c King a b None la g h = and_false (is_end b)
-no_end_pawn p c Queen a b None la g h = and_false (is_end b)
-no_end_pawn p c Rook a b None la g h = and_false (is_end b)
-no_end_pawn p c Bishop a b None la g h = and_false (is_end b)
-no_end_pawn p c Knight a b None la g h = and_false (is_end b)
+no_end_pawn p c King a b None la g h = and_right (is_end b) false refl
+no_end_pawn p c Queen a b None la g h = and_right (is_end b) false refl
+no_end_pawn p c Rook a b None la g h = and_right (is_end b) false refl
+no_end_pawn p c Bishop a b None la g h = and_right (is_end b) false refl
+no_end_pawn p c Knight a b None la g h = and_right (is_end b) false refl
 no_end_pawn p c Pawn a b None la g h = ap (λ x. x && true) (pawn_rank c a b la (pawn_forward p c a b g) (not_last (is_last c b) h))
 no_end_pawn p c King a b (Some j) la g h = cc
 no_end_pawn p c Queen a b (Some j) la g h = cc
@@ -153,10 +150,10 @@ no_end_pawn p c Rook a b (Some j) la g h = cc
 no_end_pawn p c Bishop a b (Some j) la g h = cc
 no_end_pawn p c Knight a b (Some j) la g h = cc
 no_end_pawn p c Pawn a b (Some King) la g h = cc
-no_end_pawn p c Pawn a b (Some Queen) la g h = and_false (is_end b)
-no_end_pawn p c Pawn a b (Some Rook) la g h = and_false (is_end b)
-no_end_pawn p c Pawn a b (Some Bishop) la g h = and_false (is_end b)
-no_end_pawn p c Pawn a b (Some Knight) la g h = and_false (is_end b)
+no_end_pawn p c Pawn a b (Some Queen) la g h = and_right (is_end b) false refl
+no_end_pawn p c Pawn a b (Some Rook) la g h = and_right (is_end b) false refl
+no_end_pawn p c Pawn a b (Some Bishop) la g h = and_right (is_end b) false refl
+no_end_pawn p c Pawn a b (Some Knight) la g h = and_right (is_end b) false refl
 no_end_pawn p c Pawn a b (Some Pawn) la g h = cc
 
 -- a man that may go to a square where a man stands attacks it
@@ -196,10 +193,6 @@ fit_written xs a b v e true lv fits = record {
   men = All-set (λ c. c < 13) (slice_set (slice_set xs a 0) b v) e 0 (omega arith) (All-set (λ c. c < 13) (slice_set xs a 0) b v lv (All-set (λ c. c < 13) xs a 0 (omega arith) fits.men));
 }
 
-either : (x : Bool) → (x ≡ true) ⊎ (x ≡ false)
-either true = inl refl
-either false = inr refl
-
 side : (c d : Colour) → (d ≡ c) ⊎ (d ≡ other_of c)
 side White White = inl refl
 side White Black = inr refl
@@ -225,17 +218,6 @@ no_part : (t : Bool) (n : ℕ) → (t ≡ true → n ≡ 0) → cond t n 0 ≡ 0
 no_part true n h = h refl
 no_part false n h = refl
 
-≤_trans : {k m n : ℕ} → k ≤ m → m ≤ n → k ≤ n
-≤_trans h l = omega arith
-
-both_true : (x y : Bool) → x ≡ true → y ≡ true → (x && y) ≡ true
-both_true true true hx hy = refl
-both_true true false hx hy = cc
-both_true false y hx hy = cc
-
-test_from_le : (m n : ℕ) → m ≤ n → nat_le m n ≡ true
-test_from_le m n h = grind (arith, nat_tests)
-
 none_two : (q : ℕ → Bool) (t : Bool) (v : ℕ) → q 0 ≡ false → q v ≡ false → q (cond t 0 v) ≡ false
 none_two q true v h0 hv = h0
 none_two q false v h0 hv = hv
@@ -246,10 +228,6 @@ none_by q t e b a v x s h0 hx hb =
       | inl w ↦ rw w.0 (none_two q (t && (s == e)) v h0 (hb w.1))
       | inr w ↦ others_by q t e b a v x s h0 hx w.1
     ]
-
-list_all_weaker : (t u : ℕ → Bool) → ((s : ℕ) → t s ≡ true → u s ≡ true) → (xs : List ℕ) → list_all t xs ≡ true → list_all u xs ≡ true
-list_all_weaker t u h [] e = refl
-list_all_weaker t u h (x ∷ xs) e = let both = and_both (t x) (list_all t xs) e in both_true (u x) (list_all u xs) (h x both.0) (list_all_weaker t u h xs both.1)
 
 not_beside : (a b s : ℕ) → rank_of a ≢ rank_of b → ranks_apart s b ≡ 0 → s ≡ beside_on_file a b → ⊥
 not_beside a b s n r e = omega arith
@@ -306,18 +284,6 @@ pawn_arrives c Knight b promo k h l = cc
 empty_from : (x : ℕ) → not (x == 0) ≡ false → (x == 0) ≡ true
 empty_from x h = grind (arith, nat_tests)
 
-or_right : (x y : Bool) → y ≡ true → (x || y) ≡ true
-or_right true y h = refl
-or_right false y h = h
-
-list_any_weaker : (t u : ℕ → Bool) → ((s : ℕ) → t s ≡ true → u s ≡ true) → (xs : List ℕ) → list_any t xs ≡ true → list_any u xs ≡ true
-list_any_weaker t u h [] e = e
-list_any_weaker t u h (x ∷ xs) e =
-    elim (either (t x)) [
-      | inl w ↦ ap (λ y. y || list_any u xs) (h x w)
-      | inr w ↦ or_right (u x) (list_any u xs) (list_any_weaker t u h xs (ap (λ y. y || list_any t xs) (sym w) ∙ e))
-    ]
-
 module _ (p : Board) (m : Step) (v : IsValid p) (lt : m.to < 64) (f : Move p m) where
   abbrev takes : Bool
   takes = is_pawn f.man.kind && takes_in_passing p f.man.colour m.from m.to
@@ -357,13 +323,12 @@ module _ (p : Board) (m : Step) (v : IsValid p) (lt : m.to < 64) (f : Move p m) 
 
   attacked_there : is_empty p m.to ≡ false → is_attacked p m.to p.turn ≡ true
   attacked_there e =
-      let from = lf in
-      list_any_at (λ a. holds p p.turn a && attacks p a m.to) squares m.from 0 (omega (arith, length-squares))
-      (ap (λ a. holds p p.turn a && attacks p a m.to) (get_or-squares m.from lf) ∙ ap (λ x. x && attacks p m.from m.to) (holds_from p m f) ∙ attack e)
+      any_square (λ a. holds p p.turn a && attacks p a m.to) m.from lf
+      (both_and (holds p p.turn m.from) (attacks p m.from m.to) (holds_from p m f) (attack e))
 
   no_king_there : (d : Colour) → has p d King m.to ≡ false
   no_king_there d =
-      elim (either (has p d King m.to)) [
+      elim (cases_Bool (has p d King m.to)) [
         | inr h ↦ h
         | inl h ↦ absurd (
             let cell = eqb-true (slice_index p.cells m.to) (cell_of_man (record { colour = d; kind = King })) h in
@@ -376,8 +341,8 @@ module _ (p : Board) (m : Step) (v : IsValid p) (lt : m.to < 64) (f : Move p m) 
                   let king : has p (other_of p.turn) King m.to ≡ true = ap (λ c. has p c King m.to) (sym e) ∙ h in
                   let hit : is_attacked p m.to (other_of (other_of p.turn)) ≡ true = ap (is_attacked p m.to) (other_other p.turn) ∙ attacked_there full in
                   let check : is_in_check p (other_of p.turn) ≡ true =
-                  list_any_at (λ s. has p (other_of p.turn) King s && is_attacked p s (other_of (other_of p.turn))) squares m.to 0 (omega (arith, length-squares))
-                  (ap (λ s. has p (other_of p.turn) King s && is_attacked p s (other_of (other_of p.turn))) (get_or-squares m.to lt) ∙ ap (λ x. x && is_attacked p m.to (other_of (other_of p.turn))) king ∙ hit) in
+                  any_square (λ s. has p (other_of p.turn) King s && is_attacked p s (other_of (other_of p.turn))) m.to lt
+                  (both_and (has p (other_of p.turn) King m.to) (is_attacked p m.to (other_of (other_of p.turn))) king hit) in
                   let safe = v.safe in cc
             ])
       ]
@@ -406,6 +371,13 @@ module _ (p : Board) (m : Step) (v : IsValid p) (lt : m.to < 64) (f : Move p m) 
       let same : one q (slice_index p.cells m.from) ≡ one q arrival = ap (λ x. cond x 1 0) (from ∙ sym to) in
       omega (arith, count, same)
 
+  abbrev next : Board
+  next = record { cells = cells_after p f.man m; turn = other_of p.turn; ep = target_after p f.man m }
+
+  few_kept : (d : Colour) → nat_le (men_of next d) 16 ≡ true
+  unfolding men_of
+  few_kept d = let kept = men_kept d in let few_before = few p d v.men in le-leb (men_of next d) 16 (omega arith)
+
   cell_there : (s : ℕ) → slice_index (cells_after p f.man m) s ≡ cell_then p f.man m s
   cell_there s = cell_at p f.man m s v.fits.size lf lt
 
@@ -420,15 +392,12 @@ module _ (p : Board) (m : Step) (v : IsValid p) (lt : m.to < 64) (f : Move p m) 
 
   pawn_inside : (s : ℕ) → not (is_end s && is_pawn_cell (slice_index p.cells s)) ≡ true → not (is_end s && is_pawn_cell (slice_index (cells_after p f.man m) s)) ≡ true
   pawn_inside s h =
-      ap not (none_then (λ x. is_end s && is_pawn_cell x) s (and_false (is_end s)) (not_true _ h)
+      ap not (none_then (λ x. is_end s && is_pawn_cell x) s (and_right (is_end s) false refl) (not-true _ h)
       (λ e. ap (λ b. is_end b && is_pawn_cell arrival) e ∙ no_end_arrival))
 
   pawns_kept : list_all (λ s. not (is_end s && is_pawn_cell (slice_index (cells_after p f.man m) s))) squares ≡ true
   unfolding has_pawns_inside
-  pawns_kept = list_all_weaker (λ s. not (is_end s && is_pawn_cell (slice_index p.cells s))) (λ s. not (is_end s && is_pawn_cell (slice_index (cells_after p f.man m) s))) pawn_inside squares v.pawns
-
-  abbrev next : Board
-  next = record { cells = cells_after p f.man m; turn = other_of p.turn; ep = target_after p f.man m }
+  pawns_kept = all_squares (λ s. not (is_end s && is_pawn_cell (slice_index (cells_after p f.man m) s))) (λ s l. pawn_inside s (each_square (λ k. not (is_end k && is_pawn_cell (slice_index p.cells k))) v.pawns s l))
 
   -- a pawn beside the square of arrival stays there
   beside_stays : rank_of m.from ≢ rank_of m.to → (s : ℕ) → ((ranks_apart s m.to == 0 && files_apart s m.to == 1) && has p (other_of f.man.colour) Pawn s) ≡ true → ((ranks_apart s m.to == 0 && files_apart s m.to == 1) && has next (other_of f.man.colour) Pawn s) ≡ true
@@ -439,7 +408,7 @@ module _ (p : Board) (m : Step) (v : IsValid p) (lt : m.to < 64) (f : Move p m) 
       let file = eqb-true (files_apart s m.to) 1 places.1 in
       let same : cell_then p f.man m s ≡ slice_index p.cells s =
       stays_by takes beside m.to m.from arrival (slice_index p.cells s) s (λ _ e. not_beside m.from m.to s ranks rank e) (λ e. not_there s m.to file e) (λ e. not_left m.from m.to s ranks rank e) in
-      both_true _ _ parts.0 (ap (λ x. x == cell_of_man (record { colour = other_of f.man.colour; kind = Pawn })) (cell_there s ∙ same) ∙ parts.1)
+      both_and _ _ parts.0 (ap (λ x. x == cell_of_man (record { colour = other_of f.man.colour; kind = Pawn })) (cell_there s ∙ same) ∙ parts.1)
 
   -- a pawn that has advanced two squares beside an enemy pawn has passed its target
   passed : is_pawn f.man.kind ≡ true → advances p f.man.colour m.from m.to ≡ true → has_pawn_beside p (other_of f.man.colour) m.to ≡ true → is_passed next f.man.colour (passed_over m.from m.to) ≡ true
@@ -454,9 +423,10 @@ module _ (p : Board) (m : Step) (v : IsValid p) (lt : m.to < 64) (f : Move p m) 
       let pawn : has next f.man.colour Pawn m.to ≡ true =
       eq-eqb (slice_index (cells_after p f.man m) m.to) (cell_of_man (record { colour = f.man.colour; kind = Pawn }))
       (cell_there m.to ∙ arrived p m f ∙ ap cell_of_man (pawn_arrives f.man.colour f.man.kind m.to m.promo k f.promo n.inner)) in
-      let enemies = list_any_weaker _ _ (beside_stays n.ranks) squares b in
-      both_true _ _
-      (both_true _ _ (both_true _ _ n.passing (both_true _ _ here behind)) (ap (has next f.man.colour Pawn) n.forth ∙ pawn))
+      let near = some_square (λ s. (ranks_apart s m.to == 0 && files_apart s m.to == 1) && has p (other_of f.man.colour) Pawn s) b in
+      let enemies = any_square (λ s. (ranks_apart s m.to == 0 && files_apart s m.to == 1) && has next (other_of f.man.colour) Pawn s) near.square near.on_board (beside_stays n.ranks near.square near.passes) in
+      both_and _ _
+      (both_and _ _ (both_and _ _ n.passing (both_and _ _ here behind)) (ap (has next f.man.colour Pawn) n.forth ∙ pawn))
       (ap (has_pawn_beside next (other_of f.man.colour)) n.forth ∙ enemies)
 
   target_case : (x y : Bool) → (is_pawn f.man.kind && advances p f.man.colour m.from m.to) ≡ x → has_pawn_beside p (other_of f.man.colour) m.to ≡ y → target_stands next (if x && y then Some (passed_over m.from m.to) else None) ≡ true
@@ -475,7 +445,7 @@ module _ (p : Board) (m : Step) (v : IsValid p) (lt : m.to < 64) (f : Move p m) 
     fits = fit_written p.cells m.from m.to arrival beside takes (arrives_small f.man m.promo) v.fits;
     kings = ap (λ n. n == 1 && count_of next Black King == 1) (kings_kept White) ∙ ap (λ n. count_of p White King == 1 && n == 1) (kings_kept Black) ∙ v.kings;
     pawns = pawns_kept;
-    men = both_true _ _ (test_from_le (men_of next White) 16 (≤_trans (men_kept White) (few p White v.men))) (test_from_le (men_of next Black) 16 (≤_trans (men_kept Black) (few p Black v.men)));
+    men = both_and _ _ (few_kept White) (few_kept Black);
     target = target_kept;
     safe = ap (is_in_check next) (other_other p.turn) ∙ safe;
   }

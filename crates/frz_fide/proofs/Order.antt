@@ -6,7 +6,8 @@ use Rattle.frz_board.specs.Boards.{Board}
 use Rattle.frz_board.specs.Moving.{Step}
 use Rattle.frz_board.specs.Squares.{squares}
 use Rattle.frz_fide.specs.SquareBySquare.{legal_between, legal_from, legal_by_squares}
-use Rattle.frz_fide.proofs.Squares.{flat_map_next, room_next, length-squares}
+use Rattle.frz_board.proofs.AllSquares.{length-squares}
+use Rattle.frz_fide.proofs.Squares.{flat_map_next, room_next}
 
 -- the list that began as start, with the pieces of the squares below n
 unfoldable pub grown : {X : Type 0} → List X → (ℕ → List X) → ℕ → List X

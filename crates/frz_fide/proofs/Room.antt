@@ -4,6 +4,7 @@ use Rattle.std.specs.Prelude.{nat_le, is_some, is_none, count_by, sum_by, if◌t
 use Rattle.std.specs.List.{list_all}
 use Rattle.std.proofs.lemmas.List.Sums.{length-filter, sum_by-cons, sum_by-le-sum_by}
 use Rattle.std.proofs.lemmas.List.Concat.{length-flat_map}
+use Rattle.frz_board.proofs.Connectives.{and_both}
 use Rattle.frz_board.specs.Attacks.{is_in_check}
 use Rattle.frz_board.specs.Boards.{Board, holds, man_on, is_empty}
 use Rattle.frz_board.specs.Men.{other_of, same_colour, is_man_of, man_of_cell}
@@ -37,11 +38,6 @@ fits_rank a = nat_le (sum_by (pawn_room White a) squares) 64 && nat_le (sum_by (
 pub table : list_all fits_rank squares ≡ true
 unfolding squares
 table = refl
-
-and_both : (x y : Bool) → (x && y) ≡ true → (x ≡ true) × (y ≡ true)
-and_both true true h = (refl, refl)
-and_both true false h = cc
-and_both false y h = cc
 
 -- at most this many of the steps from a to b are moves of the man
 abbrev pub kind_room : Colour → Kind → ℕ → ℕ → ℕ

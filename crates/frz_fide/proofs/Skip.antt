@@ -2,6 +2,7 @@
 use Rattle.std.proofs.Common.{◌≡◌, ℕ, List, [], ◌∷◌, ◌++◌, refl, ap, ◌∙◌, Bool, true, false, cond, ◌&&◌, not, filter, map, Option, None, Some}
 use Rattle.std.specs.Prelude.{if◌then◌else◌}
 use Rattle.std.specs.List.{flat_map}
+use Rattle.std.proofs.lemmas.Bool.{and_right}
 use Rattle.frz_board.specs.Attacks.{is_in_check}
 use Rattle.frz_board.specs.Boards.{Board, man_on, holds}
 use Rattle.frz_board.specs.Men.{is_man_of, same_colour, is_pawn}
@@ -40,12 +41,8 @@ must_choose c Rook b h = cc
 must_choose c Bishop b h = cc
 must_choose c Knight b h = cc
 
-and_false : (x : Bool) → (x && false) ≡ false
-and_false true = refl
-and_false false = refl
-
 cannot_choose : (c : Colour) (k : Kind) (b : ℕ) (j : Kind) → (is_pawn k && is_last c b) ≡ false → promotes c k b (Some j) ≡ false
-cannot_choose c Pawn b j h = ap (λ x. is_promotion (Some j) && (if x then true else false)) h ∙ and_false (is_promotion (Some j))
+cannot_choose c Pawn b j h = ap (λ x. is_promotion (Some j) && (if x then true else false)) h ∙ and_right (is_promotion (Some j)) false refl
 cannot_choose c King b j h = refl
 cannot_choose c Queen b j h = refl
 cannot_choose c Rook b j h = refl

@@ -1,19 +1,11 @@
 -- Loops over the squares.
-use Rattle.std.proofs.Common.{◌≡◌, ℕ, ◌+◌, ◌<◌, ◌≤◌, List, ◌++◌, length, get_or, take, subst, ◌∙◌, arith, append-nil}
+use Rattle.std.proofs.Common.{◌≡◌, ℕ, ◌+◌, ◌<◌, ◌≤◌, List, ◌++◌, length, take, subst, arith, append-nil}
 use Rattle.std.specs.List.{flat_map}
-use Rattle.std.proofs.lemmas.List.FromFn.{length-range_with_len, get_or-range_with_len}
 use Rattle.std.proofs.lemmas.List.Folds.{length-flat_map-take}
 use Rattle.std.proofs.lemmas.Grind.{flat_map-append, take_at_read}
 use Rattle.std.proofs.lemmas.List.{take_all}
 use Rattle.frz_board.specs.Squares.{squares}
-
-pub length-squares : length squares ≡ 64
-unfolding squares
-length-squares = length-range_with_len 0 64
-
-pub get_or-squares : (n : ℕ) → n < 64 → get_or squares n 0 ≡ n
-unfolding squares
-get_or-squares n h = get_or-range_with_len 0 64 n 0 h ∙ omega arith
+use Rattle.frz_board.proofs.AllSquares.{length-squares, get_or-squares}
 
 -- one more square
 pub flat_map_next : {X : Type 0} (f : ℕ → List X) (n : ℕ) → n < 64 → flat_map f (take (n + 1) squares) ≡ flat_map f (take n squares) ++ f n

@@ -17,8 +17,10 @@ use Rattle.frz_board.specs.declared.man.Colour.TheVariants.{White, Black}
 use Rattle.frz_board.specs.declared.man.Kind.{Kind}
 use Rattle.frz_board.specs.declared.man.Kind.TheVariants.{Pawn}
 use Rattle.frz_board.specs.declared.man.Man.{Man}
-use Rattle.frz_fide.proofs.Facts.{Move, and_both}
-use Rattle.frz_fide.proofs.Cells.{cell_then, cell_at, cell_forth}
+use Rattle.frz_board.proofs.Connectives.{and_both}
+use Rattle.frz_board.proofs.CellsOfMen.{cell_forth}
+use Rattle.frz_fide.proofs.Facts.{Move}
+use Rattle.frz_fide.proofs.Cells.{cell_then, cell_at}
 
 -- a square with a man is on the board
 pub on_board : (p : Board) (s : ℕ) (man : Man) → length p.cells ≡ 64 → man_on p s ≡ Some man → s < 64

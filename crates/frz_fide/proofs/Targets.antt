@@ -14,6 +14,7 @@ use Rattle.frz_board.specs.Attacks.{is_clear}
 use Rattle.frz_bits.specs.Words.{word_of, has_square, IsNext, HasNoneFrom}
 use Rattle.frz_bits.specs.Ways.{may_go}
 use Rattle.frz_bits.proofs.Bits.{has-word_of}
+use Rattle.frz_bits.proofs.Gather.{in_side}
 use Rattle.frz_fide.specs.Legal.{goes, is_home, passed_over, is_target}
 use Rattle.frz_fide.specs.SquareBySquare.{legal_between, legal_from, legal_by_squares}
 use Rattle.frz_board.specs.Moving.{Step}
@@ -62,17 +63,17 @@ pub off_target : (p : Board) (man : Man) (a targets moves own : ℕ) (t : Colour
     ((k : ℕ) → k < 64 → has_square targets k ≡ (has_square moves k && not (has_square own k))) → (k : ℕ) → k < 64 → has_square targets k ≡ false → legal_between p a k ≡ []
 off_target p man a targets moves own t on em eo et h k l out =
     let may : has_square moves k ≡ may_go man.colour man.kind a k = ap (λ w. has_square w k) em ∙ has-word_of (λ b. may_go man.colour man.kind a b) k l in
-    let held : has_square own k ≡ holds p p.turn k = ap (λ w. has_square w k) eo ∙ has-word_of (λ s. holds p t s) k l ∙ ap (λ u. holds p u k) et in
+    let held : has_square own k ≡ holds p p.turn k = in_side p t own k eo l ∙ ap (λ u. holds p u k) et in
     no_way p a k man on
     (stays_out (may_go man.colour man.kind a k) (goes p man.colour man.kind a k) (not (holds p p.turn k)) (goes_somewhere p man.colour man.kind a k)
     (ap (λ x. may_go man.colour man.kind a k && not x) (sym held) ∙ ap (λ x. x && not (has_square own k)) (sym may) ∙ sym (h k l) ∙ out))
 
 -- no legal move begins on a square without a man of the side to move
 pub off_side : (p : Board) (own : ℕ) (t : Colour) → own ≡ word_of (λ s. holds p t s) → t ≡ p.turn → (k : ℕ) → k < 64 → has_square own k ≡ false → legal_from p k ≡ []
-off_side p own t e et k l out = none_here p k (ap (λ u. holds p u k) (sym et) ∙ sym (has-word_of (λ s. holds p t s) k l) ∙ ap (λ w. has_square w k) (sym e) ∙ out)
+off_side p own t e et k l out = none_here p k (ap (λ u. holds p u k) (sym et) ∙ sym (in_side p t own k e l) ∙ out)
 
 pub on_side : (p : Board) (own : ℕ) (t : Colour) → own ≡ word_of (λ s. holds p t s) → t ≡ p.turn → (k : ℕ) → k < 64 → has_square own k ≡ true → holds p p.turn k ≡ true
-on_side p own t e et k l h = ap (λ u. holds p u k) (sym et) ∙ sym (has-word_of (λ s. holds p t s) k l) ∙ ap (λ w. has_square w k) (sym e) ∙ h
+on_side p own t e et k l h = ap (λ u. holds p u k) (sym et) ∙ sym (in_side p t own k e l) ∙ h
 
 -- a walk over the targets of a man collects its moves
 module _ (start : List Step) (p : Board) (a w : ℕ) (out : (k : ℕ) → k < 64 → has_square w k ≡ false → legal_between p a k ≡ []) where

@@ -1,7 +1,7 @@
 use Rattle.std.proofs.Common.{◌+◌, ◌∙◌, ◌&&◌, ap, sym, arith}
 use Rattle.frz_board.specs.Attacks.{attacks}
 use Rattle.frz_bits.specs.Words.{word_below, IsNext}
-use Rattle.frz_bits.proofs.Gather.{hits, hits_in, side_in, walk_room, walk_next, walk_end}
+use Rattle.frz_bits.proofs.Gather.{hits, hits_in, in_side, walk_room, walk_next, walk_end}
 use Rattle.frz_bits.proofs.bitboards.Bitboards.attackers.Goals as goal
 
 pub with_square-word-requires : goal.with_square-word-requires
@@ -12,7 +12,7 @@ pub loop-a-preserved : goal.loop-a-preserved
 loop-a-preserved c =
     let next : IsNext c.side-men.result c.loop-a.n c.in-Some.a = c.in-Some.ensures in
     let on = next.on_board in
-    let own = side_in c.args.self.now c.args.by c.side-men.result c.in-Some.a c.side-men.ensures next.on_board next.there in (
+    let own = sym (in_side c.args.self.now c.args.by c.side-men.result c.in-Some.a c.side-men.ensures next.on_board) ∙ next.there in (
       omega arith,
       walk_next (hits c.args.self.now c.args.s c.args.by) c.side-men.result (hits_in c.args.self.now c.args.s c.args.by c.side-men.result c.side-men.ensures) c.loop-a.n c.in-Some.a c.loop-a.word c.with_square-word.result c.attacks.result
           c.loop-a.invariant.1 next c.with_square-word.ensures (c.attacks.ensures ∙ ap (λ x. x && attacks c.args.self.now c.in-Some.a c.args.s) (sym own))
