@@ -1,5 +1,5 @@
 -- Words as tests of their squares.
-use Rattle.std.proofs.Common.{w64, ◌≡◌, ℕ, zero, suc, ◌+◌, ◌-◌, ◌*◌, ◌^◌, ◌<◌, ◌≤◌, Bool, true, false, cond, ◌&&◌, ◌||◌, not, min, max, refl, ap, sym, ◌∙◌, arith, bit_and, bit_or, inl, inr}
+use Rattle.std.proofs.Common.{w64, ◌≡◌, ℕ, zero, suc, ◌+◌, ◌-◌, ◌*◌, ◌^◌, ◌<◌, Bool, true, false, cond, ◌&&◌, ◌||◌, not, min, max, refl, ap, sym, ◌∙◌, arith, bit_and, bit_or, inl, inr}
 use Rattle.std.specs.Prelude.{◌==◌}
 use Rattle.std.specs.List.{list_all, list_any}
 use Rattle.std.specs.Int.{bit_at, bit_not}

@@ -1,5 +1,5 @@
 -- A square's bit after a cell is written.
-use Rattle.std.proofs.Common.{◌≡◌, ℕ, ◌*◌, ◌%◌, ◌^◌, ◌<◌, List, length, Bool, true, false, refl, ap, sym, ◌∙◌, arith, w64, bit_and, bit_or, slice_index, slice_set, length-set, inl, inr}
+use Rattle.std.proofs.Common.{◌≡◌, ℕ, ◌*◌, ◌%◌, ◌^◌, ◌<◌, length, Bool, true, false, refl, ap, sym, ◌∙◌, arith, w64, bit_and, bit_or, slice_index, slice_set, length-set, inl, inr}
 use Rattle.std.specs.Prelude.{◌==◌, if◌then◌else◌}
 use Rattle.std.specs.Int.{bit_not}
 use Rattle.std.proofs.lemmas.Nat.Bits.{bit_at_set_same, bit_at_set_other, bit_at_clear_same, bit_at_clear_other}

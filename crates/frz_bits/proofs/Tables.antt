@@ -6,8 +6,8 @@ use Rattle.frz_board.specs.declared.man.Colour.TheVariants.{White, Black}
 use Rattle.frz_board.specs.Lines.{is_knight_jump, is_king_step, is_rook_line, is_bishop_line, is_between}
 use Rattle.frz_board.specs.Attacks.{pawn_reaches}
 use Rattle.frz_bits.specs.declared.lines.TheConstants.{BETWEEN_LOW, BETWEEN_HIGH}
-use Rattle.frz_bits.specs.declared.reach.TheConstants.{KNIGHT, KING, WHITE_PAWN, BLACK_PAWN, ROOK, BISHOP}
-use Rattle.frz_bits.specs.declared.pawn_ways.TheConstants.{WHITE_PAWN_WAYS, BLACK_PAWN_WAYS}
+use Rattle.frz_bits.specs.declared.reach.TheConstants.{KNIGHT, KING, ROOK, BISHOP}
+use Rattle.frz_bits.specs.declared.pawns.TheConstants.{WHITE_PAWN, BLACK_PAWN, WHITE_PAWN_WAYS, BLACK_PAWN_WAYS}
 use Rattle.frz_bits.specs.Words.{word_of}
 use Rattle.frz_bits.specs.Ways.{is_pawn_way}
 

@@ -3,7 +3,7 @@
 
 mod bitboards;
 mod lines;
-mod pawn_ways;
+mod pawns;
 mod rays;
 mod reach;
 mod sets;

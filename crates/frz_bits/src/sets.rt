@@ -4,7 +4,8 @@ ghost use Rattle.frz_board.specs.Attacks.{pawn_reaches};
 ghost use Rattle.frz_bits.specs.Words.{word_of};
 
 use super::lines::{BETWEEN_HIGH, BETWEEN_LOW};
-use super::reach::{BISHOP, BLACK_PAWN, KING, KNIGHT, ROOK, WHITE_PAWN};
+use super::pawns::{BLACK_PAWN, WHITE_PAWN};
+use super::reach::{BISHOP, KING, KNIGHT, ROOK};
 use frz_board::{Colour, Square};
 
 /// The squares that a knight attacks.

@@ -3,7 +3,7 @@ ghost use Rattle.frz_board.specs.Lines.{is_rook_line, is_bishop_line};
 ghost use Rattle.frz_bits.specs.Words.{word_of};
 ghost use Rattle.frz_bits.specs.Ways.{is_pawn_way, may_go};
 
-use super::pawn_ways::{BLACK_PAWN_WAYS, WHITE_PAWN_WAYS};
+use super::pawns::{BLACK_PAWN_WAYS, WHITE_PAWN_WAYS};
 use super::sets::{bishop_lines, king_set, knight_set, rook_lines};
 use frz_board::{Colour, Kind, Man, Square};
 
