@@ -1,6 +1,6 @@
 -- The entry of a position in a side's table is the code of its bound.
-use Rattle.std.proofs.Common.{◌≡◌, ◌<◌, ℕ, List, length, None, Some, IsNone, IfSome, refl, sym, subst, ◌∙◌, arith}
-use Rattle.std.specs.Prelude.{slice_index, Option, ◌↔◌}
+use Rattle.std.proofs.Common.{◌≡◌, ◌<◌, ℕ, List, length, sym, subst, ◌∙◌, arith}
+use Rattle.std.specs.Prelude.{slice_index}
 use Rattle.frz_board.specs.declared.man.Colour.{Colour}
 use Rattle.frz_board.specs.Boards.{Board}
 use Rattle.frz_rules.specs.Views.{RuleLines}

@@ -1,5 +1,5 @@
 -- What the definition of `solve` says at each of its stages.
-use Rattle.std.proofs.Common.{◌≡◌, ◌⊎◌, inr, refl, sym, ap, subst, ◌∙◌, ℕ, ◌<◌, List, length, Bool, Result, true, false, Option, Some, None, Ok, Err, IsSome, IfSome, is_ok, cond, lt-ltb, codes}
+use Rattle.std.proofs.Common.{◌≡◌, refl, sym, ap, subst, ◌∙◌, ℕ, ◌<◌, List, length, Bool, Result, true, false, Option, Some, None, Ok, Err, IsSome, IfSome, is_ok, cond, lt-ltb, codes}
 use Rattle.std.specs.Prelude.{⊤, ◌↔◌}
 use Rattle.std.specs.Bool.{MatchBool}
 use Rattle.std.specs.Option.{MatchOption, IsSomeAnd, unwrap_or}
@@ -24,7 +24,7 @@ use Rattle.frz_game.specs.Membership.{is_member}
 use Rattle.frz_game.proofs.Membership.{member_of, of_member}
 use Rattle.frz_game.proofs.Bounded.{bound_there}
 use Rattle.freezer.proofs.Soundness.{read_sound, small_lags}
-use Rattle.freezer.specs.Solving.{AreBounds, Solves, bounds_text, IsSolvedBy, IsSolvedIn, IsSolvedAt, IsSolved}
+use Rattle.freezer.specs.Solving.{AreBounds, bounds_text, IsSolvedBy, IsSolvedIn, IsSolvedAt, IsSolved}
 use Rattle.freezer.specs.Needs.{IsToldEnough}
 
 -- there is an answer at each stage

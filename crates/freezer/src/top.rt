@@ -8,6 +8,7 @@ ghost use Rattle.frz_answer.specs.Ends.{Caused};
 ghost use Rattle.frz_answer.specs.Outcomes.{IsHonest, IsComplete, KeepsLines, IsCut, KeepsFiles};
 ghost use Rattle.freezer.specs.Calls.{call_of, refused};
 ghost use Rattle.freezer.specs.Commands.{IsAnswerOver, FilesMay, Runs};
+ghost use Rattle.freezer.specs.Meaning.{SpeaksOfChess};
 ghost use Rattle.freezer.specs.Needs.{IsToldEnough, reads_store, reads_input, may_fail_store, may_want_memory, words_status, EndsByWords, GoesByWords};
 
 use crate::causes::refusal_line;
@@ -78,6 +79,13 @@ pub fn freezer<S: Store, I: Source, O: Sink, L: Ledger>(
         let old = outside (S.files store.old) (I.left input.old) (O.taken out.old) in
         let new = outside (S.files store.new) (I.left input.new) (O.taken out.new) in
         IsHonest (IsToldEnough call old) (IsAnswerOver call old) result old new }
+
+    // With status 0, what the text says of chess: for `solve` the lines of both bounds, what each of
+    // them forces and keeps, and that never both sides win.
+    ensures chess { let call = call_of (map string_bytes words.now) in
+        let old = outside (S.files store.old) (I.left input.old) (O.taken out.old) in
+        let new = outside (S.files store.new) (I.left input.new) (O.taken out.new) in
+        SpeaksOfChess call result old new }
 
     // Where no count of faults rose, the status is an answer's, or there was no memory.
     ensures complete { let call = call_of (map string_bytes words.now) in

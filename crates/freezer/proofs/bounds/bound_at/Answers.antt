@@ -1,4 +1,4 @@
-use Rattle.std.proofs.Common.{refl, rules, arith, ℕ, List, length, ◌<◌, ◌≡◌}
+use Rattle.std.proofs.Common.{refl, rules, arith, length, ◌<◌, ◌≡◌}
 use Rattle.std.specs.Prelude.{slice_index}
 use Rattle.std.proofs.lemmas.List.{get_or_read}
 use Rattle.freezer.proofs.Entries.{in_range, entry_of, some_bound, is_bound}

@@ -1,9 +1,13 @@
 use Rattle.frz_answer.proofs.Finishing.{is_honest, is_complete, keeps_lines, is_cut, keeps_files}
+use Rattle.freezer.proofs.Meaning.{speaks}
 use Rattle.freezer.proofs.Statuses.{is_store_fault, is_source_fault, is_no_memory, goes_by_words, sink_rose}
 use Rattle.freezer.proofs.top.freezer.Goals as goal
 
 pub returns-clause-honest : goal.returns-clause-honest
 returns-clause-honest g c = is_honest _ _ _ _ _ _ _ _ _ _ c.run-end.ensures.ran c.finish.ensures.finished
+
+pub returns-clause-chess : goal.returns-clause-chess
+returns-clause-chess g c = speaks _ _ _ _ (is_honest _ _ _ _ _ _ _ _ _ _ c.run-end.ensures.ran c.finish.ensures.finished)
 
 pub returns-clause-complete : goal.returns-clause-complete
 returns-clause-complete g c =
