@@ -1,4 +1,4 @@
-ghost use Rattle.std.specs.Prelude.{◌≡◌, ◌<◌, ◌≤◌, ◌^◌, ◌∷◌, ℕ, [], IfSome, option_map};
+ghost use Rattle.std.specs.Prelude.{◌≡◌, ◌<◌, ◌^◌, ℕ, IfSome, option_map};
 ghost use Rattle.frz_words.specs.Squares.{file_of, rank_of, square_of, square_word, between, item_of, covers as covers_square, has_square, set_of, squares_of, is_square_of};
 
 use crate::parts::cut;

@@ -57,3 +57,15 @@ fn numbers_and_squares(rt: HostRuntime) {
         assert_eq!(rt; read_squares(word), None);
     }
 }
+
+#[test]
+fn line_of_sixty_thousand_words(rt: HostRuntime) {
+    let mut text = [b'x'; 119_999];
+    for i in 0..59_999 {
+        text[2 * i + 1] = b' ';
+    }
+    let line = Lines::new(&text).next().expect(&rt, "a line");
+    assert_eq!(rt; line.count(), 60_000);
+    assert!(rt; line.word(60_000) == Some(b"x".as_slice()));
+    assert!(rt; line.word(60_001).is_none());
+}
