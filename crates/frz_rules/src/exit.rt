@@ -3,7 +3,7 @@ use frz_words::SquareSet;
 use std::marker::Model;
 
 /// What a condition asks of a position.
-#[derive(Clone, Copy, Debug)]
+#[derive(Clone, Copy, Debug, PartialEq, Eq)]
 pub enum Test {
     /// The side is to move.
     Turn(Colour),
@@ -36,7 +36,7 @@ impl Model for Cond {
 
 /// What an exit line says of a position outside the set. The number is in how many plies at most
 /// the side mates, at most 1,000.
-#[derive(Clone, Copy, Debug)]
+#[derive(Clone, Copy, Debug, PartialEq, Eq)]
 pub enum Value {
     WhiteWins,
     BlackWins,
