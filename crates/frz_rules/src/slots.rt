@@ -16,61 +16,41 @@ use std::alloc::Global;
 pub fn colour_at(line: &[u8]) -> Result<(Colour, &[u8]), Stop<'_>>
     ensures { Gives (λ x. (x.0, words x.1.now)) result (slot colour_of (words line.now)) }
 {
-    let Some((w, rest)) = next_word(line) else {
-        return Err(Stop::At(line));
-    };
-    match colour(w) {
-        None => Err(Stop::At(line)),
-        Some(c) => Ok((c, rest)),
-    }
+    let (w, rest) = next_word(line).ok_or(Stop::At(line))?;
+    let colour = colour(w).ok_or(Stop::At(line))?;
+    Ok((colour, rest))
 }
 
 pub fn kind_at(line: &[u8]) -> Result<(Kind, &[u8]), Stop<'_>>
     ensures { Gives (λ x. (x.0, words x.1.now)) result (slot kind_of (words line.now)) }
 {
-    let Some((w, rest)) = next_word(line) else {
-        return Err(Stop::At(line));
-    };
-    match kind(w) {
-        None => Err(Stop::At(line)),
-        Some(k) => Ok((k, rest)),
-    }
+    let (w, rest) = next_word(line).ok_or(Stop::At(line))?;
+    let kind = kind(w).ok_or(Stop::At(line))?;
+    Ok((kind, rest))
 }
 
 pub fn count_at(line: &[u8]) -> Result<((u8, u8), &[u8]), Stop<'_>>
     ensures { Gives (λ x. (x.0, words x.1.now)) result (slot count_of (words line.now)) }
 {
-    let Some((w, rest)) = next_word(line) else {
-        return Err(Stop::At(line));
-    };
-    match count(w) {
-        None => Err(Stop::At(line)),
-        Some(n) => Ok((n, rest)),
-    }
+    let (w, rest) = next_word(line).ok_or(Stop::At(line))?;
+    let count = count(w).ok_or(Stop::At(line))?;
+    Ok((count, rest))
 }
 
 pub fn squares_at(line: &[u8]) -> Result<(SquareSet, &[u8]), Stop<'_>>
     ensures { Gives (λ x. (x.0.0, words x.1.now)) result (slot squares_of (words line.now)) }
 {
-    let Some((w, rest)) = next_word(line) else {
-        return Err(Stop::At(line));
-    };
-    match read_squares(w) {
-        None => Err(Stop::At(line)),
-        Some(s) => Ok((s, rest)),
-    }
+    let (w, rest) = next_word(line).ok_or(Stop::At(line))?;
+    let set = read_squares(w).ok_or(Stop::At(line))?;
+    Ok((set, rest))
 }
 
 pub fn literal_at<'a>(text: &[u8], line: &'a [u8]) -> Result<&'a [u8], Stop<'a>>
     ensures { Gives (λ x. words x.now) result (literal text.now (words line.now)) }
 {
-    let Some((w, rest)) = next_word(line) else {
-        return Err(Stop::At(line));
-    };
-    if is_word(w, text) {
-        Ok(rest)
-    } else {
-        Err(Stop::At(line))
+    match next_word(line) {
+        Some((w, rest)) if is_word(w, text) => Ok(rest),
+        _ => Err(Stop::At(line)),
     }
 }
 
@@ -82,10 +62,7 @@ pub fn places_at(alloc: Global, line: &[u8]) -> Result<Vec<(Kind, SquareSet)>, S
     let mut found = Vec::new(alloc);
     let mut rest = line;
     while let Some((w, after)) = next_word(rest) {
-        let Some(x) = place(w) else {
-            return Err(Stop::At(rest));
-        };
-        found.push(x)?;
+        found.push(place(w).ok_or(Stop::At(rest))?)?;
         rest = after;
     }
     if found.is_empty() {
@@ -102,10 +79,7 @@ pub fn conds_at(alloc: Global, line: &[u8]) -> Result<Vec<Cond>, Stop<'_>>
     let mut found = Vec::new(alloc);
     let mut rest = line;
     while let Some((w, after)) = next_word(rest) {
-        let Some(x) = cond(w) else {
-            return Err(Stop::At(rest));
-        };
-        found.push(x)?;
+        found.push(cond(w).ok_or(Stop::At(rest))?)?;
         rest = after;
     }
     if found.is_empty() {
