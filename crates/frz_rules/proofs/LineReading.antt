@@ -1,5 +1,5 @@
 -- A line that is read word by word gives what the line says, or its place.
-use Rattle.std.proofs.Common.{◌≡◌, ℕ, suc, ◌+◌, ◌-◌, true, false, List, [], ◌∷◌, length, Option, None, Some, Result, Ok, Err, refl, sym, ap, ◌∙◌, arith}
+use Rattle.std.proofs.Common.{◌≡◌, ℕ, ◌+◌, ◌-◌, true, false, List, [], ◌∷◌, length, Option, None, Some, Result, Ok, Err, refl, sym, ap, ◌∙◌, arith}
 use Rattle.std.specs.Prelude.{is_some, codes, option_map}
 use Rattle.frz_rules.specs.declared.fault.RulesCause.{RulesCause}
 use Rattle.frz_rules.specs.declared.fault.RulesCause.TheVariants as causes
@@ -12,66 +12,36 @@ use Rattle.frz_rules.specs.Reading.{read_to, read_group, read_exit, group_words,
 use Rattle.frz_rules.proofs.Agreeing.{Agrees, equal_words, group_agrees, forbid_agrees, exit_agrees}
 use Rattle.frz_rules.proofs.Saying.{ok_of, group_said, forbid_said, exit_said}
 
--- how far the words behind the first reach
-reach_group : (w : List ℕ) (ws : List (List ℕ)) → is (codes "group") w ≡ true → reach line_form (w ∷ ws) ≡ 1 + reach group_form ws
-unfolding line_form
-reach_group w ws e =
-    let same = equal_words w (codes "group") e in
-    let f : is (codes "forbid") w ≡ false = ap (is (codes "forbid")) same in
-    let x : is (codes "exit") w ≡ false = ap (is (codes "exit")) same in
-    rw (e, f, x) (omega arith)
-
-reach_forbid : (w : List ℕ) (ws : List (List ℕ)) → is (codes "forbid") w ≡ true → reach line_form (w ∷ ws) ≡ 1 + reach forbid_form ws
-unfolding line_form
-reach_forbid w ws e =
-    let same = equal_words w (codes "forbid") e in
-    let g : is (codes "group") w ≡ false = ap (is (codes "group")) same in
-    let x : is (codes "exit") w ≡ false = ap (is (codes "exit")) same in
-    rw (e, g, x) (omega arith)
-
-reach_exit : (w : List ℕ) (ws : List (List ℕ)) → is (codes "exit") w ≡ true → reach line_form (w ∷ ws) ≡ 1 + reach exit_form ws
-unfolding line_form
-reach_exit w ws e =
-    let same = equal_words w (codes "exit") e in
-    let g : is (codes "group") w ≡ false = ap (is (codes "group")) same in
-    let f : is (codes "forbid") w ≡ false = ap (is (codes "forbid")) same in
-    rw (e, g, f) (omega arith)
-
--- a line that is read, or stops at its place
-read_case : {A B : Type 0} (h : A → B) (add : RuleLines → B → Result RuleLines RulesCause) (f : Form) (r : RuleLines) (w : List ℕ) (ws : List (List ℕ)) (a : Result A (List (List ℕ))) → Agrees f ws a → reach line_form (w ∷ ws) ≡ 1 + reach f ws → read_to (λ r x. add r (h x)) r (suc (length ws)) a ≡ with_line add r (w ∷ ws) (option_map h (ok_of a))
-read_case h add f r w ws (Ok x) agrees e = refl
-read_case h add f r w ws (Err rest) agrees e =
+-- a line is read to what it says, or to its place, where its first word begins lines of the form
+reads : {A B : Type 0} (h : A → B) (add : RuleLines → B → Result RuleLines RulesCause) (f : Form) (text : List ℕ) (a : Result A (List (List ℕ))) (said : Option B) (r : RuleLines) (line : List (List ℕ)) (w : List ℕ) (ws : List (List ℕ)) → line ≡ w ∷ ws → is text w ≡ true → reach line_form (text ∷ ws) ≡ 1 + reach f ws → Agrees f ws a → said ≡ option_map h (ok_of a) → line_of r (w ∷ ws) ≡ with_line add r (w ∷ ws) said → read_to (λ r x. add r (h x)) r (length line) a ≡ line_of r line
+reads h add f text (Ok x) said r line w ws s e behind agrees says gives =
+    sym (ap (line_of r) s ∙ gives ∙ ap (with_line add r (w ∷ ws)) says)
+reads h add f text (Err rest) said r line w ws s e behind agrees says gives =
     let l = agrees.1 in
-    let same : suc (length ws) - length rest + 1 ≡ reach line_form (w ∷ ws) + 1 = omega (arith, e) in
+    let n = ap length s in
+    let front = ap (λ v. reach line_form (v ∷ ws)) (equal_words w text e) ∙ behind in
+    let same : length line - length rest + 1 ≡ reach line_form (w ∷ ws) + 1 = omega (arith, n, front) in
     ap (λ n. let failed : Result RuleLines RulesCause = Err (causes.Word n) in failed) same
+    ∙ sym (ap (line_of r) s ∙ gives ∙ ap (with_line add r (w ∷ ws)) says)
 
 same_option : {A : Type 0} (o : Option A) → o ≡ option_map (λ x. x) o
 same_option None = refl
 same_option (Some x) = refl
 
+forbid_says : (ws : List (List ℕ)) → forbid_of ws ≡ option_map (λ f. f) (ok_of (forbid_words ws))
+forbid_says ws = forbid_said ws ∙ same_option (ok_of (forbid_words ws))
+
 pub group_reads : (r : RuleLines) (line : List (List ℕ)) (w : List ℕ) (ws : List (List ℕ)) → line ≡ w ∷ ws → is (codes "group") w ≡ true → read_to (λ r g. add_group r (read_group g)) r (length line) (group_words ws) ≡ line_of r line
-unfolding line_of
-group_reads r line w ws s e =
-    ap (λ l. read_to (λ r g. add_group r (read_group g)) r (length l) (group_words ws)) s
-    ∙ read_case read_group add_group group_form r w ws (group_words ws) (group_agrees ws) (reach_group w ws e)
-    ∙ ap (with_line add_group r (w ∷ ws)) (sym (group_said ws))
-    ∙ sym (ap (line_of r) s ∙ rw e refl)
+unfolding line_of line_form
+group_reads r line w ws s e = reads read_group add_group group_form (codes "group") (group_words ws) (group_of ws) r line w ws s e (omega arith) (group_agrees ws) (group_said ws) (rw e refl)
 
 pub forbid_reads : (r : RuleLines) (line : List (List ℕ)) (w : List ℕ) (ws : List (List ℕ)) → line ≡ w ∷ ws → is (codes "group") w ≡ false → is (codes "forbid") w ≡ true → read_to add_forbid r (length line) (forbid_words ws) ≡ line_of r line
-unfolding line_of
-forbid_reads r line w ws s g e =
-    ap (λ l. read_to add_forbid r (length l) (forbid_words ws)) s
-    ∙ read_case (λ f. f) add_forbid forbid_form r w ws (forbid_words ws) (forbid_agrees ws) (reach_forbid w ws e)
-    ∙ ap (with_line add_forbid r (w ∷ ws)) (sym (forbid_said ws ∙ same_option (ok_of (forbid_words ws))))
-    ∙ sym (ap (line_of r) s ∙ rw (g, e) refl)
+unfolding line_of line_form
+forbid_reads r line w ws s g e = reads (λ f. f) add_forbid forbid_form (codes "forbid") (forbid_words ws) (forbid_of ws) r line w ws s e (omega arith) (forbid_agrees ws) (forbid_says ws) (rw (g, e) refl)
 
 pub exit_reads : (r : RuleLines) (line : List (List ℕ)) (w : List ℕ) (ws : List (List ℕ)) → line ≡ w ∷ ws → is (codes "group") w ≡ false → is (codes "forbid") w ≡ false → is (codes "exit") w ≡ true → read_to (λ r e. add_exit r (read_exit e)) r (length line) (exit_words ws) ≡ line_of r line
-unfolding line_of
-exit_reads r line w ws s g f e =
-    ap (λ l. read_to (λ r e. add_exit r (read_exit e)) r (length l) (exit_words ws)) s
-    ∙ read_case read_exit add_exit exit_form r w ws (exit_words ws) (exit_agrees ws) (reach_exit w ws e)
-    ∙ ap (with_line add_exit r (w ∷ ws)) (sym (exit_said ws))
-    ∙ sym (ap (line_of r) s ∙ rw (g, f, e) refl)
+unfolding line_of line_form
+exit_reads r line w ws s g f e = reads read_exit add_exit exit_form (codes "exit") (exit_words ws) (exit_of ws) r line w ws s e (omega arith) (exit_agrees ws) (exit_said ws) (rw (g, f, e) refl)
 
 pub unknown_reads : (r : RuleLines) (line : List (List ℕ)) (w : List ℕ) (ws : List (List ℕ)) → line ≡ w ∷ ws → is (codes "group") w ≡ false → is (codes "forbid") w ≡ false → is (codes "exit") w ≡ false → line_of r line ≡ Err causes.UnknownLine
 unfolding line_of
@@ -90,7 +60,7 @@ pub group_fits : (ws : List (List ℕ)) → fits group_form ws ≡ is_some (grou
 group_fits ws = form_case read_group group_form ws (group_words ws) (group_agrees ws) ∙ ap is_some (sym (group_said ws))
 
 pub forbid_fits : (ws : List (List ℕ)) → fits forbid_form ws ≡ is_some (forbid_of ws)
-forbid_fits ws = form_case (λ f. f) forbid_form ws (forbid_words ws) (forbid_agrees ws) ∙ ap is_some (sym (forbid_said ws ∙ same_option (ok_of (forbid_words ws))))
+forbid_fits ws = form_case (λ f. f) forbid_form ws (forbid_words ws) (forbid_agrees ws) ∙ ap is_some (sym (forbid_says ws))
 
 pub exit_fits : (ws : List (List ℕ)) → fits exit_form ws ≡ is_some (exit_of ws)
 exit_fits ws = form_case read_exit exit_form ws (exit_words ws) (exit_agrees ws) ∙ ap is_some (sym (exit_said ws))
