@@ -7,6 +7,7 @@ pub mod ChosenCodes
 pub mod Tallied
 pub mod PlyCodes
 pub mod CodesByPlies
+pub mod OnePly
 pub mod UniqueCodes
 pub mod Witnessed
 pub mod OneBound

@@ -10,7 +10,7 @@ use Rattle.frz_arena.specs.LocalCodes.{free_codes, all_codes, next_code, own_cod
 use Rattle.frz_arena.proofs.Members.{none_in_empty}
 use Rattle.frz_arena.proofs.ChosenCodes.{wins_first, failures_first, chosen_is_least, chosen_is_greatest, chosen_is_hold}
 use Rattle.frz_arena.proofs.PlyCodes.{at_own, at_other, code_among_free, code_among_all, free_of_code, arm_of_code}
-use Rattle.frz_arena.proofs.UniqueCodes.{empty_list}
+use Rattle.frz_arena.proofs.OnePly.{empty_list}
 
 -- where there is a free move, the side chooses among some codes
 own_some : (cs : List ℕ) (w : ℕ) → Contains cs w → own_code cs ≡ chosen_code is_win is_failure cs

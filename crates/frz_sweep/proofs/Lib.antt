@@ -1,4 +1,3 @@
-pub mod OnePly
 pub mod NextTold
 pub mod Reached
 pub mod WinningLags

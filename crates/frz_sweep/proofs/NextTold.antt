@@ -1,5 +1,5 @@
 -- A code that tells so many plies, and what it is one ply on.
-use Rattle.std.proofs.Common.{◌≡◌, ◌≢◌, ◌≤◌, ◌<◌, ◌+◌, ◌*◌, ◌↔◌, ℕ, List, length, slice_index, inl, inr, sym, ◌∙◌, arith}
+use Rattle.std.proofs.Common.{◌≡◌, ◌≢◌, ◌≤◌, ◌<◌, ◌+◌, ◌*◌, ◌↔◌, ℕ, List, length, slice_index, inl, inr, sym, subst, ◌∙◌, arith}
 use Rattle.std.proofs.lemmas.Bool.{cases_lt}
 use Rattle.std.proofs.lemmas.Bool.Decides.{nat_tests}
 use Rattle.std.proofs.lemmas.List.{get_or_past}
@@ -12,9 +12,9 @@ use Rattle.frz_arena.proofs.NeverBoth.{never_both}
 use Rattle.frz_arena.proofs.OneBound.{broken_never_wins, broken_never_fails}
 use Rattle.frz_arena.proofs.Opposed.{wins_later, fails_later}
 use Rattle.frz_arena.proofs.PlyCodes.{at_broken}
-use Rattle.frz_arena.proofs.UniqueCodes.{broken_of_code, none, hold, win, failure, code_is, as_win, as_failure}
+use Rattle.frz_arena.proofs.OnePly.{TellBefore, broken_of_code, local_tells}
+use Rattle.frz_arena.proofs.UniqueCodes.{none, hold, win, failure, code_is, as_win, as_failure}
 use Rattle.frz_sweep.specs.Told.{IsTold, settled_code}
-use Rattle.frz_sweep.proofs.OnePly.{TellBefore, local_tells, win_at, failure_at}
 
 pub settled_low : (n c : ℕ) → c ≤ 3 + 2 * n → settled_code n c ≡ c
 settled_low n c l = grind (arith, nat_tests)
@@ -29,25 +29,21 @@ pub no_failure : (m c : ℕ) → c ≤ 1 → IsFailureWithin m c → ⊥
 no_failure m c l f = let k = f.0 in grind (arith, nat_tests)
 
 -- settling keeps what a code says of the plies that are reached
-settled_win : (n m c : ℕ) → m ≤ n → IsWinWithin m c ↔ IsWinWithin m (settled_code n c)
-settled_win n m c l =
+settled_says : (Says : ℕ → Type 0) (n c : ℕ) → (Says 1 → ⊥) → (Says c → c ≤ 3 + 2 * n) → Says c ↔ Says (settled_code n c)
+settled_says Says n c open_says few =
     elim (cases_lt (3 + 2 * n) c) [
       | inl high ↦ (
-        λ w. absurd (let k = w.1 in omega arith),
-        λ w. absurd (no_win m 1 (omega arith) (win_at m _ _ (settled_high n c high) w)),
+        λ s. absurd (let k = few s in omega arith),
+        λ s. absurd (open_says (subst Says (settled_high n c high) s)),
       )
-      | inr low ↦ (win_at m _ _ (sym (settled_low n c low)), win_at m _ _ (settled_low n c low))
+      | inr low ↦ (subst Says (sym (settled_low n c low)), subst Says (settled_low n c low))
     ]
 
+settled_win : (n m c : ℕ) → m ≤ n → IsWinWithin m c ↔ IsWinWithin m (settled_code n c)
+settled_win n m c l = settled_says (λ d. IsWinWithin m d) n c (no_win m 1 (omega arith)) (λ w. omega (arith, w.1))
+
 settled_failure : (n m c : ℕ) → m ≤ n → IsFailureWithin m c ↔ IsFailureWithin m (settled_code n c)
-settled_failure n m c l =
-    elim (cases_lt (3 + 2 * n) c) [
-      | inl high ↦ (
-        λ f. absurd (let k = f.1 in omega arith),
-        λ f. absurd (no_failure m 1 (omega arith) (failure_at m _ _ (settled_high n c high) f)),
-      )
-      | inr low ↦ (failure_at m _ _ (sym (settled_low n c low)), failure_at m _ _ (settled_low n c low))
-    ]
+settled_failure n m c l = settled_says (λ d. IsFailureWithin m d) n c (no_failure m 1 (omega arith)) (λ f. omega (arith, f.1))
 
 settled_zero : (n c : ℕ) → settled_code n c ≡ 0 → c ≡ 0
 settled_zero n c e =
