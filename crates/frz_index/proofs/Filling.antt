@@ -16,7 +16,7 @@ use Rattle.frz_combinations.proofs.Ranking.{places_descend}
 use Rattle.frz_combinations.proofs.Selecting.{selection_at-digit}
 use Rattle.frz_combinations.specs.Combinations.{places_below}
 use Rattle.frz_combinations.specs.Selections.{selection_at}
-use Rattle.frz_index.proofs.BoardSquares.{and_both}
+use Rattle.frz_board.proofs.Connectives.{and_both}
 use Rattle.frz_index.specs.Candidates.{no_men, put_group, put_groups, put_man, put_men}
 use Rattle.frz_index.specs.Members.{Member}
 use Rattle.frz_index.specs.Places.{IsWithinCount, digit_of, places, stands}

@@ -10,7 +10,7 @@ use Rattle.std.proofs.lemmas.List.Elements.{All-filter}
 use Rattle.frz_board.specs.Boards.{Board}
 use Rattle.frz_board.specs.Squares.{squares}
 use Rattle.frz_combinations.specs.MixedRadix.{product, value}
-use Rattle.frz_index.proofs.BoardSquares.{get_or-squares, length-squares}
+use Rattle.frz_board.proofs.AllSquares.{get_or-squares, length-squares}
 use Rattle.frz_fide.specs.Valid.{IsValid}
 use Rattle.frz_index.proofs.GroupSteps.{product_some}
 use Rattle.frz_index.proofs.Turns.{or_right}

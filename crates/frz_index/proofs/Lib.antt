@@ -1,5 +1,4 @@
 pub mod Soundness
-pub mod BoardSquares
 pub mod Turns
 pub mod Filling
 pub mod WholeNumbers

@@ -15,8 +15,8 @@ use Rattle.frz_board.specs.declared.man.Colour.{Colour}
 use Rattle.frz_board.specs.declared.man.Colour.TheVariants.{Black, White}
 use Rattle.frz_board.specs.declared.man.Kind.{Kind}
 use Rattle.frz_board.specs.declared.man.Kind.TheVariants.{Bishop, King, Knight, Pawn, Queen, Rook}
-use Rattle.frz_index.proofs.BoardSquares.{and_both}
-use Rattle.frz_index.proofs.BoardSquares.{get_or-squares, length-squares}
+use Rattle.frz_board.proofs.Connectives.{and_both}
+use Rattle.frz_board.proofs.AllSquares.{get_or-squares, length-squares}
 use Rattle.frz_index.specs.Members.{Member}
 use Rattle.frz_index.specs.TurnStates.{mover_at_target, place_of, target_state, turn_in, turn_number}
 use Rattle.frz_rules.specs.Sets.{is_covered, is_possible, is_possible_for, pawn, targets}
