@@ -5,3 +5,4 @@ pub mod Numbers
 pub mod Graph
 pub mod TrueValues
 pub mod Bounded
+pub mod DifferentArms

@@ -1,5 +1,6 @@
 -- The moves of a number, and what they are in an arena.
-use Rattle.std.specs.Prelude.{ℕ, List, [], ◌∷◌, if◌then◌else◌}
+use Rattle.std.specs.Prelude.{◌≡◌, ℕ, List, [], ◌∷◌, Some, if◌then◌else◌}
+use Rattle.std.specs.List.{slice_get}
 use Rattle.frz_rules.specs.declared.exit.Value.{Value}
 use Rattle.frz_arena.specs.Arena as arena
 use Rattle.frz_game.specs.declared.arm.Next.{Next}
@@ -20,3 +21,7 @@ abbrev pub free_among : List Arm → List ℕ → List ℕ
 free_among [] cs = []
 free_among (a ∷ arms) [] = []
 free_among (a ∷ arms) (c ∷ cs) = if a.free then c ∷ free_among arms cs else free_among arms cs
+
+-- the move at this place of the list leads to this number
+abbrev pub LeadsInside : List Arm → ℕ → ℕ → Type 0
+LeadsInside arms k n = (a : Arm) × (slice_get arms k ≡ Some a) × (a.next ≡ Inside n)

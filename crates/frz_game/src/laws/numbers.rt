@@ -10,7 +10,7 @@ ghost use Rattle.frz_index.specs.Members.{Member, Num, HasNumber};
 ghost use Rattle.frz_arena.specs.Arena.{IsLawful};
 ghost use Rattle.frz_arena.specs.Names.{IsNumbering, IsNumbered};
 ghost use Rattle.frz_arena.specs.Plies.{LagsWithin};
-ghost use Rattle.frz_game.specs.Arms.{arm_of};
+ghost use Rattle.frz_game.specs.Arms.{arm_of, LeadsInside};
 ghost use Rattle.frz_game.specs.Games.{arena_by, graph_by, arms_of, node_of};
 ghost use Rattle.frz_game.specs.Membership.{is_member, number_of, position_at, numbers_by};
 ghost use Rattle.frz_game.specs.Stored.{HasSmallLags};
@@ -46,4 +46,11 @@ pub fn graph()
         (graph_by rules value).node i ≡ node_of rules.groups i }
     ensures arms { (rules : RuleLines) (value : Board → Value) (i : ℕ) →
         (graph_by rules value).arms i ≡ map arm_of (arms_of rules value i) }
+{}
+
+/// A number is reached by one move of a number at most: two moves that lead inside lead to two
+/// different numbers.
+pub fn different_arms()
+    ensures { (rules : RuleLines) (value : Board → Value) (i k l n : ℕ) →
+        LeadsInside (arms_of rules value i) k n → LeadsInside (arms_of rules value i) l n → k ≡ l }
 {}
