@@ -3,6 +3,8 @@ pub mod AllSquares
 pub mod CellsOfMen
 pub mod WrittenCells
 pub mod AttackInWords
+pub mod FewerAttacks
+pub mod NoNewCheck
 pub mod Counting
 pub mod EndRanks
 pub mod Neighbours

@@ -14,6 +14,7 @@ use Rattle.frz_board.specs.Moving.{Step, is_promotion}
 use Rattle.frz_board.specs.Shapes.{count_of, men_of, has_kings, has_pawns_inside, has_few_men, is_end}
 use Rattle.frz_board.specs.Squares.{squares, rank_of, files_apart, ranks_apart, is_forward}
 use Rattle.frz_fide.specs.Legal.{advances, goes, promotes, is_last, is_home, passed_over, takes_in_passing, is_target, arrives, beside_on_file, cells_after, target_after, after, after_man, is_legal}
+use Rattle.frz_fide.specs.Exposing.{is_king}
 use Rattle.frz_fide.specs.Valid.{IsValid}
 use Rattle.frz_board.specs.declared.man.Colour.{Colour}
 use Rattle.frz_board.specs.declared.man.Colour.TheVariants.{White, Black}
@@ -28,12 +29,8 @@ use Rattle.frz_fide.proofs.Cells.{cell_then, cell_at}
 use Rattle.frz_fide.proofs.Standing.{on_board, apart, taken, holds_from, arrived, left, arrives_own, arrives_colour, own_colour, stays_by, others_by, beside_apart}
 use Rattle.frz_fide.proofs.Room.{forward_only, few}
 
-abbrev is_king : Kind → Bool
-is_king King = true
-is_king _ = false
-
 -- which cells hold a king, and which a pawn
-king_test : (c : Colour) (k : Kind) (d : Colour) → (cell_of_man (record { colour = c; kind = k }) == cell_of_man (record { colour = d; kind = King })) ≡ (is_king k && same_colour c d)
+pub king_test : (c : Colour) (k : Kind) (d : Colour) → (cell_of_man (record { colour = c; kind = k }) == cell_of_man (record { colour = d; kind = King })) ≡ (is_king k && same_colour c d)
 king_test White King White = refl
 king_test White King Black = refl
 king_test White Queen White = refl
@@ -107,7 +104,7 @@ pawn_forward : (p : Board) (c : Colour) (a b : ℕ) → goes p c Pawn a b ≡ tr
 pawn_forward p c a b = forward_only (files_apart a b == 1) (is_forward c 1 a b) (holds p (other_of c) b) (files_apart a b == 0) (is_empty p b) (is_home c a) (is_forward c 2 a b) (is_empty p b && is_empty p (passed_over a b)) (is_target p.ep b)
 
 -- a king moves as a king, and no other man becomes one
-same_king : (c : Colour) (k : Kind) (b : ℕ) (promo : Option Kind) (d : Colour) → promotes c k b promo ≡ true → is_king (arrives (record { colour = d; kind = k }) promo).kind ≡ is_king k
+pub same_king : (c : Colour) (k : Kind) (b : ℕ) (promo : Option Kind) (d : Colour) → promotes c k b promo ≡ true → is_king (arrives (record { colour = d; kind = k }) promo).kind ≡ is_king k
 same_king c k b None d h = refl
 same_king c King b (Some j) d h = cc
 same_king c Queen b (Some j) d h = cc

@@ -7,6 +7,7 @@ pub mod Facts
 pub mod Standing
 pub mod Different
 pub mod Kept
+pub mod Exposed
 pub mod Skip
 pub mod Listed
 pub mod Targets

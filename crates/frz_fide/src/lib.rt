@@ -3,6 +3,7 @@
 
 mod aftermath;
 mod attack;
+mod exposing;
 mod finish;
 pub mod laws;
 mod moves;

@@ -5,11 +5,12 @@ ghost use Rattle.frz_board.specs.Boards.{man_on, holds};
 ghost use Rattle.frz_board.specs.Men.{same_colour, is_pawn};
 ghost use Rattle.frz_board.specs.Moving.{Step, IsStep, step_cmp};
 ghost use Rattle.frz_fide.specs.Legal.{is_legal, can_go, goes as man_goes, is_last};
+ghost use Rattle.frz_fide.specs.Exposing.{may_expose as man_may_expose};
 ghost use Rattle.frz_fide.specs.Valid.{IsValid};
 ghost use Rattle.frz_fide.specs.Listing.{legal_moves_of};
 ghost use Rattle.frz_fide.specs.SquareBySquare.{legal_between, legal_from, legal_by_squares, chosen};
 
-use super::aftermath::is_safe;
+use super::exposing::{keeps_safe, may_expose};
 use super::ways::{goes, last};
 use arrayvec::ArrayVec;
 use frz_bits::{Bitboards, move_set, next_square, without};
@@ -22,21 +23,30 @@ pub type MoveList = ArrayVec<Move, 1024>;
 
 /// Adds a move that can go, if the king is safe afterwards.
 #[tactic(auto, unfolding(crate::specs::Legal::is_legal))]
-fn add_if_safe(p: &Bitboards, man: Man, m: Move, list: &mut MoveList)
+fn add_if_safe(p: &Bitboards, man: Man, m: Move, exposing: bool, list: &mut MoveList)
     requires man { man_on p.now m.from ≡ Some man }
     requires can { can_go p.now m ≡ true }
+    requires exposing { exposing ≡ man_may_expose p.now man m.from }
     requires room { array_vec_len list.old + length (filter (is_legal p.now) (m ∷ [])) ≤ 1024 }
     ensures { list.new.items ≡ list.old.items ++ filter (is_legal p.now) (m ∷ []) }
 {
-    if is_safe(p, man, m) {
+    if keeps_safe(p, man, m, exposing) {
         list.push(m);
     }
 }
 
 /// Adds the legal moves of a pawn that reaches its last rank.
 #[tactic(auto, unfolding(crate::specs::SquareBySquare::chosen))]
-fn add_choices(p: &Bitboards, man: Man, from: Square, to: Square, list: &mut MoveList)
+fn add_choices(
+    p: &Bitboards,
+    man: Man,
+    from: Square,
+    to: Square,
+    exposing: bool,
+    list: &mut MoveList,
+)
     requires man { man_on p.now from ≡ Some man }
+    requires exposing { exposing ≡ man_may_expose p.now man from }
     requires queen { can_go p.now (record { from = from; to = to; promo = Some Kind.Queen }) ≡ true }
     requires rook { can_go p.now (record { from = from; to = to; promo = Some Kind.Rook }) ≡ true }
     requires bishop { can_go p.now (record { from = from; to = to; promo = Some Kind.Bishop }) ≡ true }
@@ -56,6 +66,7 @@ fn add_choices(p: &Bitboards, man: Man, from: Square, to: Square, list: &mut Mov
             to,
             promo: queen,
         },
+        exposing,
         list,
     );
     add_if_safe(
@@ -66,6 +77,7 @@ fn add_choices(p: &Bitboards, man: Man, from: Square, to: Square, list: &mut Mov
             to,
             promo: rook,
         },
+        exposing,
         list,
     );
     add_if_safe(
@@ -76,6 +88,7 @@ fn add_choices(p: &Bitboards, man: Man, from: Square, to: Square, list: &mut Mov
             to,
             promo: bishop,
         },
+        exposing,
         list,
     );
     add_if_safe(
@@ -86,6 +99,7 @@ fn add_choices(p: &Bitboards, man: Man, from: Square, to: Square, list: &mut Mov
             to,
             promo: knight,
         },
+        exposing,
         list,
     );
 }
@@ -106,18 +120,26 @@ fn must_choose(man: Man, to: Square) -> bool
 
 /// Adds the legal moves of the man on `from` to `to`.
 #[tactic(auto, using(crate::proofs::Skip::skips))]
-fn add_between(p: &Bitboards, man: Man, from: Square, to: Square, list: &mut MoveList)
+fn add_between(
+    p: &Bitboards,
+    man: Man,
+    from: Square,
+    to: Square,
+    exposing: bool,
+    list: &mut MoveList,
+)
     requires man { man_on p.now from ≡ Some man }
     requires own { same_colour man.colour p.now.turn ≡ true }
+    requires exposing { exposing ≡ man_may_expose p.now man from }
     requires room { array_vec_len list.old + length (legal_between p.now from to) ≤ 1024 }
     ensures { list.new.items ≡ list.old.items ++ legal_between p.now from to }
 {
     if is_open(p, man, from, to) {
         if must_choose(man, to) {
-            add_choices(p, man, from, to, list);
+            add_choices(p, man, from, to, exposing, list);
         } else {
             let promo = None;
-            add_if_safe(p, man, Move { from, to, promo }, list);
+            add_if_safe(p, man, Move { from, to, promo }, exposing, list);
         }
     }
 }
@@ -131,10 +153,11 @@ fn add_from(p: &Bitboards, man: Man, from: Square, list: &mut MoveList)
     requires room { array_vec_len list.old + length (legal_from p.now from) ≤ 1024 }
     ensures { list.new.items ≡ list.old.items ++ legal_from p.now from }
 {
+    let exposing = may_expose(p, man, from);
     let targets = without(move_set(man, from), p.side(p.turn()));
     let mut n = 0;
     while let Some(to) = next_square(targets, n) {
-        add_between(p, man, from, to, list);
+        add_between(p, man, from, to, exposing, list);
         n = to.number() + 1;
     }
 }
