@@ -30,7 +30,7 @@ module _ (p : Board) (c : Colour) (b v : ℕ) (own : is_man_of c (man_of_cell v)
 
   -- a cell that passes a test which the new one fails is as it was
   was : (t : ℕ → Bool) → t v ≡ false → (s : ℕ) → t (slice_index filled.cells s) ≡ true → slice_index filled.cells s ≡ slice_index p.cells s
-  was t no s h =
+  was t out s h =
       elim (cases_eq s b) [
         | inr other ↦ get_or-set_other p.cells b s v 0 other
         | inl e ↦ elim (cases_lt b (length p.cells)) [
