@@ -1,5 +1,5 @@
 -- A man that comes to a square, and is no king, leaves its king as safe as it was.
-use Rattle.std.proofs.Common.{◌≡◌, ℕ, ◌<◌, length, Bool, true, false, ◌&&◌, Option, None, Some, slice_index, slice_set, get_or-set_same, get_or-set_other, refl, ap, sym, ◌∙◌, inl, inr}
+use Rattle.std.proofs.Common.{◌≡◌, ℕ, length, Bool, true, false, ◌&&◌, Option, None, Some, slice_index, slice_set, get_or-set_same, get_or-set_other, refl, ap, sym, ◌∙◌, inl, inr}
 use Rattle.std.specs.Prelude.{◌==◌}
 use Rattle.std.proofs.lemmas.Bool.{eqb-true, cases_eq, cases_lt}
 use Rattle.std.proofs.lemmas.List.{set_past}

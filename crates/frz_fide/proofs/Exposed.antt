@@ -2,7 +2,6 @@
 use Rattle.std.proofs.Common.{◌≡◌, ℕ, Bool, true, false, cond, ◌&&◌, not, ap, sym, ◌∙◌, refl, Option, None, Some, slice_set}
 use Rattle.std.specs.Prelude.{◌==◌, is_some}
 use Rattle.std.proofs.lemmas.Bool.{and_right, or_parts}
-use Rattle.frz_board.specs.declared.man.Colour.{Colour}
 use Rattle.frz_board.specs.declared.man.Kind.{Kind}
 use Rattle.frz_board.specs.declared.man.Kind.TheVariants.{King, Queen, Rook, Bishop, Knight, Pawn}
 use Rattle.frz_board.specs.declared.man.Man.{Man}
@@ -13,7 +12,7 @@ use Rattle.frz_board.specs.Moving.{Step}
 use Rattle.frz_board.proofs.Connectives.{and_both}
 use Rattle.frz_board.proofs.NoNewCheck.{no_new_check}
 use Rattle.frz_fide.specs.Exposing.{is_king, moves_apart, is_bared, may_expose}
-use Rattle.frz_fide.specs.Legal.{goes, promotes, is_target, takes_in_passing, arrives, beside_on_file, target_after, can_go, man_goes, after, after_man}
+use Rattle.frz_fide.specs.Legal.{goes, promotes, is_target, arrives, beside_on_file, target_after, can_go, man_goes, after, after_man}
 use Rattle.frz_fide.proofs.Facts.{same_side}
 use Rattle.frz_fide.proofs.Standing.{own_colour, arrives_own, arrives_colour}
 use Rattle.frz_fide.proofs.Kept.{king_test, same_king}
