@@ -3,7 +3,7 @@ ghost use Rattle.std.specs.List.Sorted.{IsStrictlySortedBy};
 ghost use Rattle.arrayvec.specs.ArrayVec.{array_vec_len};
 ghost use Rattle.frz_board.specs.Boards.{man_on, holds};
 ghost use Rattle.frz_board.specs.Men.{same_colour, is_pawn};
-ghost use Rattle.frz_board.specs.Moving.{Step, IsStep, step_cmp};
+ghost use Rattle.frz_board.specs.Moving.{Step, IsStep, is_promotion, step_cmp};
 ghost use Rattle.frz_fide.specs.Legal.{is_legal, can_go, goes as man_goes, is_last};
 ghost use Rattle.frz_fide.specs.Exposing.{may_expose as man_may_expose};
 ghost use Rattle.frz_fide.specs.Valid.{IsValid};
@@ -35,6 +35,18 @@ fn add_if_safe(p: &Bitboards, man: Man, m: Move, exposing: bool, list: &mut Move
     }
 }
 
+/// The move of a pawn that becomes this man.
+fn promotion(from: Square, to: Square, kind: Kind) -> Move
+    requires { is_promotion (Some kind) ≡ true }
+    ensures { result ≡ record { from = from; to = to; promo = Some kind } }
+{
+    Move {
+        from,
+        to,
+        promo: Some(kind),
+    }
+}
+
 /// Adds the legal moves of a pawn that reaches its last rank.
 #[tactic(auto, unfolding(crate::specs::SquareBySquare::chosen))]
 fn add_choices(
@@ -54,54 +66,10 @@ fn add_choices(
     requires room { array_vec_len list.old + length (chosen p.now from to) ≤ 1024 }
     ensures { list.new.items ≡ list.old.items ++ chosen p.now from to }
 {
-    let queen = Some(Kind::Queen);
-    let rook = Some(Kind::Rook);
-    let bishop = Some(Kind::Bishop);
-    let knight = Some(Kind::Knight);
-    add_if_safe(
-        p,
-        man,
-        Move {
-            from,
-            to,
-            promo: queen,
-        },
-        exposing,
-        list,
-    );
-    add_if_safe(
-        p,
-        man,
-        Move {
-            from,
-            to,
-            promo: rook,
-        },
-        exposing,
-        list,
-    );
-    add_if_safe(
-        p,
-        man,
-        Move {
-            from,
-            to,
-            promo: bishop,
-        },
-        exposing,
-        list,
-    );
-    add_if_safe(
-        p,
-        man,
-        Move {
-            from,
-            to,
-            promo: knight,
-        },
-        exposing,
-        list,
-    );
+    add_if_safe(p, man, promotion(from, to, Kind::Queen), exposing, list);
+    add_if_safe(p, man, promotion(from, to, Kind::Rook), exposing, list);
+    add_if_safe(p, man, promotion(from, to, Kind::Bishop), exposing, list);
+    add_if_safe(p, man, promotion(from, to, Kind::Knight), exposing, list);
 }
 
 /// May the man go from `from` to `to`, as far as the way there goes?
