@@ -1,5 +1,5 @@
 -- Which moves the rules forbid a side.
-use Rattle.std.specs.Prelude.{not, ℕ, Bool, true, false, ◌==◌, ◌&&◌, ◌||◌, List, Option, None, Some, is_some}
+use Rattle.std.specs.Prelude.{not, Bool, true, ◌&&◌, ◌||◌, List, is_some}
 use Rattle.std.specs.List.{list_any}
 use Rattle.frz_board.specs.declared.man.Colour.{Colour}
 use Rattle.frz_board.specs.declared.man.Kind.TheVariants.{Pawn}
