@@ -27,6 +27,9 @@ fn headers(rt: HostRuntime) {
 #[test]
 fn unknown_lines(rt: HostRuntime) {
     let alloc = rt.alloc();
+    let third: &[u8] =
+        b"freezer 1\ngroup white 1 K:b6\ngruop white 1 R:h1,h8\ngroup black 1 K:a8,b8\n";
+    refused(&rt, alloc, &[third], 3, RulesCause::UnknownLine);
     for line in [
         b"gruop white 1 R:h1,h8".as_slice(),
         b"Group white 1 Q:a1",
