@@ -1,0 +1,5 @@
+-- Other crates cite the module Lemmas alone.
+pub mod Lemmas
+mod Connectives
+mod AllSquares
+mod Bits

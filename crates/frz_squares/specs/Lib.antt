@@ -1,0 +1,3 @@
+-- Squares by number, and sets of them.
+pub mod Squares
+pub mod SquareSets
