@@ -1,10 +1,10 @@
-pub mod Connectives
-pub mod AllSquares
-pub mod CellsOfMen
-pub mod WrittenCells
-pub mod AttackInWords
-pub mod FewerAttacks
-pub mod NoNewCheck
-pub mod Counting
-pub mod EndRanks
-pub mod Neighbours
+-- Other crates cite the module Lemmas alone.
+pub mod Lemmas
+mod CellsOfMen
+mod WrittenCells
+mod AttackInWords
+mod FewerAttacks
+mod NoNewCheck
+mod Counting
+mod EndRanks
+mod Neighbours

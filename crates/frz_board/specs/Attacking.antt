@@ -37,10 +37,15 @@ pub data Attack (p : Board) (a b : ℕ) : Type 0 where
   -- FIDE 3.3
   rook : (c : Colour) → Stands p c Rook a → IsFileOrRank a b → IsClear p a b → Attack p a b
   -- FIDE 3.4
-  queen : (c : Colour) → Stands p c Queen a → IsFileOrRank a b ⊎ IsDiagonal a b → IsClear p a b → Attack p a b
+  queen : (c : Colour) → Stands p c Queen a → IsFileOrRank a b ⊎ IsDiagonal a b → IsClear p a b →
+      Attack p a b
   -- FIDE 3.6
-  knight : (c : Colour) → Stands p c Knight a → ((files_apart a b ≡ 1) × (ranks_apart a b ≡ 2)) ⊎ ((files_apart a b ≡ 2) × (ranks_apart a b ≡ 1)) → Attack p a b
+  knight : (c : Colour) → Stands p c Knight a →
+      ((files_apart a b ≡ 1) × (ranks_apart a b ≡ 2))
+      ⊎ ((files_apart a b ≡ 2) × (ranks_apart a b ≡ 1)) →
+      Attack p a b
   -- FIDE 3.7
   pawn : (c : Colour) → Stands p c Pawn a → files_apart a b ≡ 1 → IsForward c a b → Attack p a b
   -- FIDE 3.8
-  king : (c : Colour) → Stands p c King a → max (files_apart a b) (ranks_apart a b) ≡ 1 → Attack p a b
+  king : (c : Colour) → Stands p c King a → max (files_apart a b) (ranks_apart a b) ≡ 1 →
+      Attack p a b

@@ -1,3 +1,5 @@
+-- What the contracts of the board speak of.
+pub mod Ranks
 pub mod Squares
 pub mod Lines
 pub mod Men

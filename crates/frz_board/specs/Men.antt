@@ -24,9 +24,41 @@ number_of_kind Pawn = 6
 abbrev pub cell_of_man : Man → ℕ
 cell_of_man m = elim m.colour [ White ↦ number_of_kind m.kind | Black ↦ number_of_kind m.kind + 6 ]
 
+-- the kind of a number from 1 to 6
 abbrev pub kind_of_number : ℕ → Kind
 kind_of_number n =
-    if n == 1 then King else (if n == 2 then Queen else (if n == 3 then Rook else (if n == 4 then Bishop else (if n == 5 then Knight else Pawn))))
+    if n == 1 then King else (if n == 2 then Queen else (if n == 3 then Rook else
+    (if n == 4 then Bishop else (if n == 5 then Knight else Pawn))))
+
+-- the letters of the kinds in English, K Q R B N P (PGN 8.2.3.2, 16.1.3.1)
+abbrev pub letter_of_kind : Kind → ℕ
+letter_of_kind King = 75
+letter_of_kind Queen = 81
+letter_of_kind Rook = 82
+letter_of_kind Bishop = 66
+letter_of_kind Knight = 78
+letter_of_kind Pawn = 80
+
+-- the kind of a letter, where it is one of these
+abbrev pub kind_of_letter : ℕ → Option Kind
+kind_of_letter b =
+    if b == 75 then Some King else (if b == 81 then Some Queen else
+    (if b == 82 then Some Rook else (if b == 66 then Some Bishop else
+    (if b == 78 then Some Knight else (if b == 80 then Some Pawn else None)))))
+
+-- a man's letter: a capital for White, a small one for Black (PGN 16.1.3.1)
+abbrev pub letter_of_man : Man → ℕ
+letter_of_man m =
+    elim m.colour [ White ↦ letter_of_kind m.kind | Black ↦ letter_of_kind m.kind + 32 ]
+
+abbrev pub man_of_kinds : Option Kind → Option Kind → Option Man
+man_of_kinds (Some k) small = Some (record { colour = White; kind = k })
+man_of_kinds None (Some k) = Some (record { colour = Black; kind = k })
+man_of_kinds None None = None
+
+-- the man of a letter, where it is a man's
+abbrev pub man_of_letter : ℕ → Option Man
+man_of_letter b = man_of_kinds (kind_of_letter b) (kind_of_letter (b - 32))
 
 -- the man of a cell: none at 0 and above 12
 abbrev pub man_of_cell : ℕ → Option Man

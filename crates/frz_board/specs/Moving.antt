@@ -35,4 +35,7 @@ promotion_number (Some _) = 5
 
 -- by origin, then destination, then promotion
 abbrev pub step_cmp : Step → Step → Ordering
-step_cmp m n = ordering_then (nat_cmp m.from n.from) (ordering_then (nat_cmp m.to n.to) (nat_cmp (promotion_number m.promo) (promotion_number n.promo)))
+step_cmp m n =
+    ordering_then (nat_cmp m.from n.from)
+    (ordering_then (nat_cmp m.to n.to)
+    (nat_cmp (promotion_number m.promo) (promotion_number n.promo)))

@@ -1,32 +1,4 @@
--- The squares of the board: 0 is a1, 1 is b1, 7 is h1, 63 is h8.
-use Rattle.std.specs.Prelude.{ℕ, ◌+◌, ◌-◌, ◌/◌, ◌%◌, Bool, ◌==◌, List}
-use Rattle.std.specs.List.{range_with_len}
-use Rattle.frz_board.specs.declared.man.Colour.{Colour}
-use Rattle.frz_board.specs.declared.man.Colour.TheVariants.{White, Black}
-
--- the squares in order, 0 to 63 (FIDE 2.1)
-unfoldable pub squares : List ℕ
-squares = range_with_len 0 64
-
--- the file, 0 for a to 7 for h (FIDE 2.4)
-abbrev pub file_of : ℕ → ℕ
-file_of s = s % 8
-
--- the rank less 1, 0 to 7 (FIDE 2.4)
-abbrev pub rank_of : ℕ → ℕ
-rank_of s = s / 8
-
--- how far two numbers are from each other
-abbrev pub apart : ℕ → ℕ → ℕ
-apart m n = (m - n) + (n - m)
-
-abbrev pub files_apart : ℕ → ℕ → ℕ
-files_apart a b = apart (file_of a) (file_of b)
-
-abbrev pub ranks_apart : ℕ → ℕ → ℕ
-ranks_apart a b = apart (rank_of a) (rank_of b)
-
--- b is n ranks forward of a, as the side sees it
-abbrev pub is_forward : Colour → ℕ → ℕ → ℕ → Bool
-is_forward White n a b = rank_of b == rank_of a + n
-is_forward Black n a b = rank_of a == rank_of b + n
+-- The squares of the board, and how two squares lie to each other in files and ranks.
+unfoldable pub use Rattle.frz_squares.specs.Squares.{squares}
+pub use Rattle.frz_squares.specs.Squares.{file_of, rank_of, apart, files_apart, ranks_apart, distance, is_beside}
+pub use Rattle.frz_board.specs.Ranks.{is_forward}

@@ -1,11 +1,13 @@
 //! Squares, men, moves and positions of chess, and the texts of moves.
 #![tactic(auto)]
 
+mod counts;
 pub mod laws;
 mod man;
 mod memory;
 mod passing;
 mod position;
+mod ranks;
 mod shape;
 mod square;
 mod step;

@@ -1,33 +1,31 @@
+//! Pawns that have just passed over a square, and the target of a position.
+
 ghost use Rattle.std.specs.Prelude.{◌≡◌, ◌<◌, ◌≤◌, ◌+◌, ◌-◌, ◌&&◌, nat_lt};
 ghost use Rattle.frz_board.specs.Boards.{has};
 ghost use Rattle.frz_board.specs.Squares.{file_of};
 ghost use Rattle.frz_board.specs.declared.man.Kind.TheVariants.{Pawn};
-ghost use Rattle.frz_board.specs.EnPassant.{has_pawn_beside, ahead, is_passing_rank, has_passed, has_target_in_place};
+ghost use Rattle.frz_board.specs.EnPassant.{has_pawn_beside, is_target, has_passed, has_target_in_place};
 
 use super::man::{Colour, Kind};
 use super::position::Position;
 use super::square::Square;
-
-impl Square {
-    /// The square one rank ahead, as the side sees it.
-    pub fn ahead(self, c: Colour) -> Square
-        requires low { 8 ≤ self }
-        requires high { self < 56 }
-        ensures { result ≡ ahead c self }
-    {
-        match c {
-            Colour::White => Square::at(self.number() + 8),
-            Colour::Black => Square::at(self.number() - 8),
-        }
-    }
-}
 
 impl Position {
     /// Does a pawn of this side stand beside the square, on the same rank?
     pub fn has_pawn_beside(&self, c: Colour, s: Square) -> bool
         ensures { result ≡ has_pawn_beside self.now c s }
     {
-        pawn_before(self, c, s) || pawn_after(self, c, s)
+        has_pawn_before(self, c, s) || has_pawn_after(self, c, s)
+    }
+
+    /// Is the square the target?
+    pub fn is_target(&self, s: Square) -> bool
+        ensures { result ≡ is_target self.now.ep s }
+    {
+        match self.ep() {
+            None => false,
+            Some(t) => t == s,
+        }
     }
 
     /// Has a pawn of this side passed over the square, so that it stands one rank ahead of it, and
@@ -35,7 +33,7 @@ impl Position {
     pub fn has_passed(&self, c: Colour, t: Square) -> bool
         ensures { result ≡ has_passed self.now c t }
     {
-        if !passing_rank(c, t) {
+        if !t.is_passing_rank(c) {
             return false;
         }
         (self.cell(t) == 0 && self.cell(t.ahead(c.other())) == 0)
@@ -59,24 +57,15 @@ pub fn target_in_place(p: &Position) -> bool
 }
 
 /// Does a pawn of this side stand on the next file towards the a-file?
-fn pawn_before(p: &Position, c: Colour, s: Square) -> bool
+fn has_pawn_before(p: &Position, c: Colour, s: Square) -> bool
     ensures { result ≡ (nat_lt 0 (file_of s) && has p.now c Pawn (s - 1)) }
 {
     s.file() > 0 && p.has(c, Kind::Pawn, Square::at(s.number() - 1))
 }
 
 /// Does a pawn of this side stand on the next file towards the h-file?
-fn pawn_after(p: &Position, c: Colour, s: Square) -> bool
+fn has_pawn_after(p: &Position, c: Colour, s: Square) -> bool
     ensures { result ≡ (nat_lt (file_of s) 7 && has p.now c Pawn (s + 1)) }
 {
     s.file() < 7 && p.has(c, Kind::Pawn, Square::at(s.number() + 1))
-}
-
-fn passing_rank(c: Colour, t: Square) -> bool
-    ensures { result ≡ is_passing_rank c t }
-{
-    match c {
-        Colour::White => t.rank() == 2,
-        Colour::Black => t.rank() == 5,
-    }
 }

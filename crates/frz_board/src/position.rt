@@ -1,4 +1,7 @@
-ghost use Rattle.std.specs.Prelude.{All, ◌≡◌, ◌<◌, ◌≤◌, ◌↔◌, IsSome, IfSome, slice_index, slice_set};
+//! Positions: what stands on the squares, who is to move, and the target. Counts of men stand in
+//! `counts`, pawns that have just passed in `passing`, the conditions on a position in `shape`.
+
+ghost use Rattle.std.specs.Prelude.{All, ◌≡◌, ◌<◌, ◌≤◌, ◌↔◌, IsSome, IfSome, replicate, slice_index, slice_set};
 ghost use Rattle.frz_board.specs.Boards.{Board, CellsFit, man_on, holds, has};
 ghost use Rattle.frz_board.specs.Men.{other_of};
 
@@ -37,6 +40,25 @@ impl Position {
             Some(Position { cells, turn, ep })
         } else {
             None
+        }
+    }
+
+    /// The position of cells that are known to fit.
+    pub fn with_cells(cells: [u8; 64], turn: Colour, ep: Option<Square>) -> Position
+        requires { All (λ c. c < 13) cells }
+        ensures { result ≡ record { cells = cells; turn = turn; ep = ep } }
+    {
+        Position { cells, turn, ep }
+    }
+
+    /// A board with no man.
+    pub fn empty(turn: Colour, ep: Option<Square>) -> Position
+        ensures { result ≡ record { cells = replicate 64 0; turn = turn; ep = ep } }
+    {
+        Position {
+            cells: [0; 64],
+            turn,
+            ep,
         }
     }
 
@@ -108,6 +130,15 @@ impl Position {
             turn: self.turn,
             ep: self.ep,
         }
+    }
+
+    /// Puts another cell on the square.
+    pub fn set(&mut self, s: Square, c: u8)
+        requires { c ≤ 12 }
+        ensures on_board { s < 64 }
+        ensures put { self.new ≡ record self.old { cells = slice_set self.old.cells s c } }
+    {
+        self.cells[s.number() as usize] = c;
     }
 
     /// The position with this target.

@@ -1,10 +1,13 @@
+//! Squares, and how two of them lie to each other.
+
 ghost use Rattle.std.specs.Prelude.{◌≡◌, ◌<◌, ℕ, ◌↔◌, IsSome, IfSome};
-ghost use Rattle.frz_board.specs.Squares.{file_of, rank_of};
+ghost use Rattle.frz_board.specs.Squares.{file_of, rank_of, files_apart, ranks_apart, distance, is_beside};
 
 use std::marker::Model;
 
-/// A square, seen as its number: 0 is a1, 1 is b1, 7 is h1, 63 is h8.
-#[derive(Clone, Copy, Debug, Default, PartialEq, Eq, PartialOrd, Ord, Hash)]
+/// A square, seen as its number: 0 is a1, 1 is b1, 7 is h1, 63 is h8. Squares are ordered as their
+/// numbers.
+#[derive(Clone, Copy, Debug, PartialEq, Eq, PartialOrd, Ord)]
 pub struct Square(u8);
 
 impl Model for Square {
@@ -47,7 +50,7 @@ impl Square {
         ensures file { result ≡ file_of self }
         ensures below { result < 8 }
     {
-        self.0 % 8
+        frz_squares::file(self.0)
     }
 
     /// The rank less 1, from 0 to 7.
@@ -55,6 +58,38 @@ impl Square {
         ensures rank { result ≡ rank_of self }
         ensures below { result < 8 }
     {
-        self.0 / 8
+        frz_squares::rank(self.0)
+    }
+
+    /// How many files lie from one square to the other.
+    pub fn files_apart(self, other: Square) -> u8
+        ensures apart { result ≡ files_apart self other }
+        ensures below { result < 8 }
+    {
+        self.file().abs_diff(other.file())
+    }
+
+    /// How many ranks lie from one square to the other.
+    pub fn ranks_apart(self, other: Square) -> u8
+        ensures apart { result ≡ ranks_apart self other }
+        ensures below { result < 8 }
+    {
+        self.rank().abs_diff(other.rank())
+    }
+
+    /// The greater of the files and the ranks between the squares: the moves of a king on an empty
+    /// board.
+    pub fn distance(self, other: Square) -> u8
+        ensures distance { result ≡ distance self other }
+        ensures below { result < 8 }
+    {
+        self.files_apart(other).max(self.ranks_apart(other))
+    }
+
+    /// Do the squares stand side by side on one rank?
+    pub fn is_beside(self, other: Square) -> bool
+        ensures { result ≡ is_beside self other }
+    {
+        self.ranks_apart(other) == 0 && self.files_apart(other) == 1
     }
 }

@@ -1,3 +1,5 @@
+//! Moves.
+
 ghost use Rattle.std.specs.Prelude.{◌≡◌, ◌↔◌, IsSome, IfSome, IsTrue};
 ghost use Rattle.frz_board.specs.Moving.{Step, is_promotion};
 
@@ -7,7 +9,7 @@ use std::marker::Model;
 
 /// A move: from one square to another, and what a pawn becomes. Moves are ordered by origin, then
 /// destination, then promotion: none, queen, rook, bishop, knight.
-#[derive(Clone, Copy, Debug, Default, PartialEq, Eq, PartialOrd, Ord, Hash)]
+#[derive(Clone, Copy, Debug, PartialEq, Eq, PartialOrd, Ord)]
 pub struct Move {
     pub from: Square,
     pub to: Square,
@@ -36,6 +38,21 @@ impl Move {
         match promo {
             Some(Kind::King | Kind::Pawn) => None,
             _ => Some(Move { from, to, promo }),
+        }
+    }
+}
+
+/// What an unused place of a list holds: from a1 to a1.
+impl Default for Move {
+    ghost use Rattle.std.specs.Prelude.{◌≡◌, None};
+
+    ghost is_default = { λ m. m ≡ record { from = 0; to = 0; promo = None } };
+
+    fn default() -> Move {
+        Move {
+            from: Square::at(0),
+            to: Square::at(0),
+            promo: None,
         }
     }
 }

@@ -1,3 +1,5 @@
+//! Positions and moves at the border, and the start of a game.
+
 use super::*;
 use std::test::Fail;
 

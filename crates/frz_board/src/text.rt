@@ -1,9 +1,11 @@
+//! The texts of moves, as `e2e4` or `e7e8q`.
+
 ghost use Rattle.std.specs.Prelude.{ℕ, true, ◌≡◌, ◌+◌, ◌≤◌, ◌<◌, ◌↔◌, ◌++◌, ◌∷◌, [], length};
 ghost use Rattle.arrayvec.specs.ArrayString.{array_string_len};
 ghost use Rattle.frz_board.specs.Moving.{Step, IsStep, is_promotion};
 ghost use Rattle.frz_board.specs.Texts.{text_of, file_letter, rank_digit, promotion_text};
 
-use super::man::Kind;
+use super::man::{Kind, TO_SMALL};
 use super::square::Square;
 use super::step::Move;
 use arrayvec::ArrayString;
@@ -25,18 +27,15 @@ pub fn move_text(m: Move) -> ArrayString<5>
     add(&mut text, b'1' + m.from.rank());
     add(&mut text, b'a' + m.to.file());
     add(&mut text, b'1' + m.to.rank());
-    match m.promo {
-        Some(Kind::Queen) => add(&mut text, b'q'),
-        Some(Kind::Rook) => add(&mut text, b'r'),
-        Some(Kind::Bishop) => add(&mut text, b'b'),
-        Some(Kind::Knight) => add(&mut text, b'n'),
-        _ => {}
+    if let Some(kind) = m.promo {
+        add(&mut text, kind.letter() + TO_SMALL);
     }
     text
 }
 
 fn read_square(file: u8, rank: u8) -> Option<Square>
-    ensures { (s : ℕ) → s < 64 → (result ≡ Some s) ↔ ((file ≡ file_letter s) × (rank ≡ rank_digit s)) }
+    ensures { (s : ℕ) → s < 64
+        → (result ≡ Some s) ↔ ((file ≡ file_letter s) × (rank ≡ rank_digit s)) }
 {
     if b'a' <= file && file <= b'h' && b'1' <= rank && rank <= b'8' {
         Some(Square::at(8 * (rank - b'1') + (file - b'a')))
@@ -47,7 +46,9 @@ fn read_square(file: u8, rank: u8) -> Option<Square>
 
 fn read_parts(a: u8, b: u8, c: u8, d: u8, promo: Option<Kind>) -> Option<Move>
     requires { is_promotion promo ≡ true }
-    ensures { (m : Step) → IsStep m → (result ≡ Some m) ↔ ((a ∷ b ∷ c ∷ d ∷ [] ≡ file_letter m.from ∷ rank_digit m.from ∷ file_letter m.to ∷ rank_digit m.to ∷ []) × (promo ≡ m.promo)) }
+    ensures { (m : Step) → IsStep m → (result ≡ Some m) ↔ ((a ∷ b ∷ c ∷ d ∷ []
+        ≡ file_letter m.from ∷ rank_digit m.from ∷ file_letter m.to ∷ rank_digit m.to ∷ [])
+        × (promo ≡ m.promo)) }
 {
     let from = read_square(a, b)?;
     let to = read_square(c, d)?;
@@ -55,15 +56,16 @@ fn read_parts(a: u8, b: u8, c: u8, d: u8, promo: Option<Kind>) -> Option<Move>
 }
 
 fn read_promotion(byte: u8) -> Option<Kind>
-    ensures kind { (k : Kind) → is_promotion (Some k) ≡ true → (result ≡ Some k) ↔ (byte ∷ [] ≡ promotion_text (Some k)) }
+    ensures kind { (k : Kind) → is_promotion (Some k) ≡ true
+        → (result ≡ Some k) ↔ (byte ∷ [] ≡ promotion_text (Some k)) }
     ensures promotion { is_promotion result ≡ true }
 {
-    match byte {
-        b'q' => Some(Kind::Queen),
-        b'r' => Some(Kind::Rook),
-        b'b' => Some(Kind::Bishop),
-        b'n' => Some(Kind::Knight),
-        _ => None,
+    if byte < TO_SMALL {
+        return None;
+    }
+    match Kind::of_letter(byte - TO_SMALL) {
+        Some(Kind::King | Kind::Pawn) => None,
+        kind => kind,
     }
 }
 

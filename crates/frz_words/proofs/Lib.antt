@@ -1,7 +1,9 @@
-pub mod Splitting
-pub mod Wording
-pub mod Lining
-pub mod Bits
-pub mod Unions
-pub mod Sets
-pub mod Members
+-- Other crates cite the module Lemmas alone.
+pub mod Lemmas
+mod Splitting
+mod Wording
+mod Lining
+mod Gathering
+mod Unions
+mod Sets
+mod Members

@@ -15,7 +15,8 @@ first_some : (b : ℕ) (parts : List (List ℕ)) → HasPart (with_first b parts
 first_some b [] = tt
 first_some b (part ∷ parts) = tt
 
-chosen_some : (c : Bool) (b : ℕ) (parts : List (List ℕ)) → HasPart (cond c ([] ∷ parts) (with_first b parts))
+chosen_some : (c : Bool) (b : ℕ) (parts : List (List ℕ)) →
+    HasPart (cond c ([] ∷ parts) (with_first b parts))
 chosen_some true b parts = tt
 chosen_some false b parts = first_some b parts
 
@@ -31,14 +32,18 @@ pub length-split : (p : ℕ → Bool) (text : List ℕ) → 0 < length (split p 
 length-split p text = some_long (split p text) (split_some p text)
 
 -- a first byte that is no separator belongs to the first part
-split_other : (p : ℕ → Bool) (b : ℕ) (bs : List ℕ) → p b ≡ false → split p (b ∷ bs) ≡ with_first b (split p bs)
+split_other : (p : ℕ → Bool) (b : ℕ) (bs : List ℕ) → p b ≡ false →
+    split p (b ∷ bs) ≡ with_first b (split p bs)
 split_other p b bs e = rw e refl
 
-whole_case : (p : ℕ → Bool) (c : Bool) (b : ℕ) (bs : List ℕ) → p b ≡ c → length (b ∷ bs) ≤ cond (not c) (1 + position_or_len p bs) 0 → (length bs ≤ position_or_len p bs → split p bs ≡ bs ∷ []) → split p (b ∷ bs) ≡ (b ∷ bs) ∷ []
+whole_case : (p : ℕ → Bool) (c : Bool) (b : ℕ) (bs : List ℕ) → p b ≡ c →
+    length (b ∷ bs) ≤ cond (not c) (1 + position_or_len p bs) 0 →
+    (length bs ≤ position_or_len p bs → split p bs ≡ bs ∷ []) → split p (b ∷ bs) ≡ (b ∷ bs) ∷ []
 whole_case p true b bs e l h = absurd (omega arith)
 whole_case p false b bs e l h = split_other p b bs e ∙ ap (with_first b) (h (omega arith))
 
-split_whole : (p : ℕ → Bool) (text : List ℕ) → length text ≤ position_or_len p text → split p text ≡ text ∷ []
+split_whole : (p : ℕ → Bool) (text : List ℕ) → length text ≤ position_or_len p text →
+    split p text ≡ text ∷ []
 split_whole p [] l = refl
 split_whole p (b ∷ bs) l = whole_case p (p b) b bs refl l (split_whole p bs)
 
@@ -46,14 +51,20 @@ split_whole p (b ∷ bs) l = whole_case p (p b) b bs refl l (split_whole p bs)
 abbrev CutsAt : (ℕ → Bool) → List ℕ → ℕ → Type 0
 CutsAt p text n = split p text ≡ take n text ∷ split p (drop (suc n) text)
 
-cuts_later : (p : ℕ → Bool) (b : ℕ) (bs : List ℕ) (n : ℕ) → p b ≡ false → CutsAt p bs n → CutsAt p (b ∷ bs) (suc n)
+cuts_later : (p : ℕ → Bool) (b : ℕ) (bs : List ℕ) (n : ℕ) → p b ≡ false → CutsAt p bs n →
+    CutsAt p (b ∷ bs) (suc n)
 cuts_later p b bs n e h = split_other p b bs e ∙ ap (with_first b) h
 
-cut_case : (p : ℕ → Bool) (c : Bool) (b : ℕ) (bs : List ℕ) → p b ≡ c → cond (not c) (1 + position_or_len p bs) 0 < length (b ∷ bs) → (position_or_len p bs < length bs → CutsAt p bs (position_or_len p bs)) → CutsAt p (b ∷ bs) (cond (not c) (1 + position_or_len p bs) 0)
+cut_case : (p : ℕ → Bool) (c : Bool) (b : ℕ) (bs : List ℕ) → p b ≡ c →
+    cond (not c) (1 + position_or_len p bs) 0 < length (b ∷ bs) →
+    (position_or_len p bs < length bs → CutsAt p bs (position_or_len p bs)) →
+    CutsAt p (b ∷ bs) (cond (not c) (1 + position_or_len p bs) 0)
 cut_case p true b bs e l h = rw e refl
-cut_case p false b bs e l h = let more : suc (position_or_len p bs) ≡ 1 + position_or_len p bs = omega arith in subst (CutsAt p (b ∷ bs)) more (cuts_later p b bs (position_or_len p bs) e (h (omega arith)))
+cut_case p false b bs e l h =
+    let more : suc (position_or_len p bs) ≡ 1 + position_or_len p bs = omega arith in subst (CutsAt p (b ∷ bs)) more (cuts_later p b bs (position_or_len p bs) e (h (omega arith)))
 
-split_cut : (p : ℕ → Bool) (text : List ℕ) → position_or_len p text < length text → CutsAt p text (position_or_len p text)
+split_cut : (p : ℕ → Bool) (text : List ℕ) → position_or_len p text < length text →
+    CutsAt p text (position_or_len p text)
 split_cut p [] l = absurd (omega arith)
 split_cut p (b ∷ bs) l = cut_case p (p b) b bs refl l (split_cut p bs)
 
@@ -62,33 +73,42 @@ abbrev pub from_place : ℕ → List ℕ → List ℕ
 from_place n text = take (length text - n) (drop n text)
 
 pub from_place_drop : (n : ℕ) (text : List ℕ) → from_place n text ≡ drop n text
-from_place_drop n text = subst (λ k. take k (drop n text) ≡ drop n text) (length-drop n text) (take-length (drop n text))
+from_place_drop n text =
+    subst (λ k. take k (drop n text) ≡ drop n text) (length-drop n text) (take-length (drop n text))
 
 -- what `position` answers
 absent_case : (c : Bool) (n len : ℕ) → nat_lt n len ≡ c → None ≡ cond c (Some n) None → len ≤ n
 absent_case true n len e h = absurd cc
 absent_case false n len e h = ltb-false n len e
 
-present_case : (c : Bool) (n len i : ℕ) → nat_lt n len ≡ c → Some i ≡ cond c (Some n) None → (n ≡ i) × (n < len)
+present_case : (c : Bool) (n len i : ℕ) → nat_lt n len ≡ c → Some i ≡ cond c (Some n) None →
+    (n ≡ i) × (n < len)
 present_case true n len i e h = (cc, ltb-true n len e)
 present_case false n len i e h = absurd cc
 
-pub absent : (p : ℕ → Bool) (text : List ℕ) → None ≡ position p text → length text ≤ position_or_len p text
-absent p text h = absent_case (nat_lt (position_or_len p text) (length text)) (position_or_len p text) (length text) refl h
+pub absent : (p : ℕ → Bool) (text : List ℕ) → None ≡ position p text →
+    length text ≤ position_or_len p text
+absent p text h =
+    absent_case (nat_lt (position_or_len p text) (length text)) (position_or_len p text) (length text) refl h
 
-pub present : (p : ℕ → Bool) (text : List ℕ) (i : ℕ) → Some i ≡ position p text → (position_or_len p text ≡ i) × (position_or_len p text < length text)
-present p text i h = present_case (nat_lt (position_or_len p text) (length text)) (position_or_len p text) (length text) i refl h
+pub present : (p : ℕ → Bool) (text : List ℕ) (i : ℕ) → Some i ≡ position p text →
+    (position_or_len p text ≡ i) × (position_or_len p text < length text)
+present p text i h =
+    present_case (nat_lt (position_or_len p text) (length text)) (position_or_len p text) (length text) i refl h
 
-pub split_absent : (p : ℕ → Bool) (text : List ℕ) → None ≡ position p text → split p text ≡ text ∷ []
+pub split_absent : (p : ℕ → Bool) (text : List ℕ) → None ≡ position p text →
+    split p text ≡ text ∷ []
 split_absent p text h = split_whole p text (absent p text h)
 
-pub split_present : (p : ℕ → Bool) (text : List ℕ) (i : ℕ) → Some i ≡ position p text → split p text ≡ take i text ∷ split p (from_place (i + 1) text)
+pub split_present : (p : ℕ → Bool) (text : List ℕ) (i : ℕ) → Some i ≡ position p text →
+    split p text ≡ take i text ∷ split p (from_place (i + 1) text)
 split_present p text i h =
     let f = present p text i h in
     let cut : split p text ≡ take i text ∷ split p (drop (i + 1) text) = rw add-one (subst (CutsAt p text) f.0 (split_cut p text f.1)) in
     cut ∙ ap (λ rest. take i text ∷ split p rest) (sym (from_place_drop (i + 1) text))
 
-pub present_within : (p : ℕ → Bool) (text : List ℕ) (i : ℕ) → Some i ≡ position p text → i < length text
+pub present_within : (p : ℕ → Bool) (text : List ℕ) (i : ℕ) → Some i ≡ position p text →
+    i < length text
 present_within p text i h = let f = present p text i h in let l = f.1 in let e = f.0 in omega arith
 
 pub ruleset splitting = (length-split, split_absent, split_present, present_within)

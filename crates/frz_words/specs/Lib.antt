@@ -1,3 +1,4 @@
+-- What the contracts of texts speak of.
 pub mod Parts
 pub mod Lines
 pub mod Words

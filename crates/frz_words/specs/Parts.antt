@@ -9,4 +9,5 @@ with_first b (part ∷ parts) = (b ∷ part) ∷ parts
 -- the parts between the separators, empty ones too: one more than there are separators
 abbrev pub split : (ℕ → Bool) → List ℕ → List (List ℕ)
 split is_separator [] = [] ∷ []
-split is_separator (b ∷ bs) = if is_separator b then [] ∷ split is_separator bs else with_first b (split is_separator bs)
+split is_separator (b ∷ bs) =
+    if is_separator b then [] ∷ split is_separator bs else with_first b (split is_separator bs)

@@ -1,16 +1,12 @@
 -- Sets of squares, written as squares and rectangles with commas between them.
-use Rattle.std.specs.Prelude.{ℕ, zero, suc, ◌+◌, ◌-◌, ◌*◌, ◌/◌, ◌%◌, ◌^◌, Bool, false, ◌&&◌, ◌==◌, nat_le, List, [], ◌∷◌, map, option_map, Option, None, Some, if◌then◌else◌, codes}
+use Rattle.std.specs.Prelude.{ℕ, ◌+◌, ◌-◌, ◌*◌, Bool, false, ◌&&◌, ◌==◌, nat_le, List, [], ◌∷◌, map, option_map, Option, None, Some, if◌then◌else◌, codes}
 use Rattle.std.specs.List.{list_any}
 use Rattle.std.specs.Str.{bytes_eq}
+pub use Rattle.frz_squares.specs.Squares.{file_of, rank_of}
+pub use Rattle.frz_squares.specs.SquareSets.{has_square}
+unfoldable pub use Rattle.frz_squares.specs.SquareSets.{set_of}
 use Rattle.frz_words.specs.Parts.{split}
 use Rattle.frz_words.specs.declared.squares.Rectangle.{Rectangle}
-
--- squares are numbered from a1, 0, along the ranks to h8, 63; files and ranks from 0
-abbrev pub file_of : ℕ → ℕ
-file_of s = s % 8
-
-abbrev pub rank_of : ℕ → ℕ
-rank_of s = s / 8
 
 -- a letter a to h and a digit 1 to 8
 abbrev pub square_of : ℕ → ℕ → Option ℕ
@@ -29,8 +25,10 @@ between (Some s) (Some t) =
 -- an item: a square, or `all`, or two squares with a hyphen between them
 abbrev pub item_of : List ℕ → Option Rectangle
 item_of (f ∷ r ∷ []) = between (square_of f r) (square_of f r)
-item_of (a ∷ b ∷ c ∷ []) = if bytes_eq (a ∷ b ∷ c ∷ []) (codes "all") then between (Some 0) (Some 63) else None
-item_of (f ∷ r ∷ hyphen ∷ g ∷ s ∷ []) = if hyphen == 45 then between (square_of f r) (square_of g s) else None
+item_of (a ∷ b ∷ c ∷ []) =
+    if bytes_eq (a ∷ b ∷ c ∷ []) (codes "all") then between (Some 0) (Some 63) else None
+item_of (f ∷ r ∷ hyphen ∷ g ∷ s ∷ []) =
+    if hyphen == 45 then between (square_of f r) (square_of g s) else None
 item_of _ = None
 
 abbrev pub covers : Rectangle → ℕ → Bool
@@ -53,18 +51,6 @@ all_items ((Some r) ∷ items) = with_item r (all_items items)
 
 abbrev pub items_of : List ℕ → Option (List Rectangle)
 items_of word = all_items (map item_of (split is_comma word))
-
--- the number whose bits below n are those of the test
-abbrev pub bits_of : (ℕ → Bool) → ℕ → ℕ
-bits_of test zero = 0
-bits_of test (suc n) = bits_of test n + (if test n then 2 ^ n else 0)
-
--- the set of the squares that pass the test, a bit for each
-unfoldable pub set_of : (ℕ → Bool) → ℕ
-set_of test = bits_of test 64
-
-abbrev pub has_square : ℕ → ℕ → Bool
-has_square set s = set / 2 ^ s % 2 == 1
 
 -- one of the items covers the square
 abbrev pub is_covered : List Rectangle → ℕ → Bool

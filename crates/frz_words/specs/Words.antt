@@ -18,7 +18,8 @@ words line = filter has_bytes (split is_blank line)
 -- the word of a number from 1
 abbrev pub word_at : List (List ℕ) → ℕ → Option (List ℕ)
 word_at [] k = None
-word_at (word ∷ others) k = if k == 0 then None else (if k == 1 then Some word else word_at others (k - 1))
+word_at (word ∷ others) k =
+    if k == 0 then None else (if k == 1 then Some word else word_at others (k - 1))
 
 abbrev pub begins_word : List ℕ → Bool
 begins_word [] = false

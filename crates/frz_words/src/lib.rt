@@ -1,4 +1,4 @@
-// Lines, words, numbers and sets of squares of a rules text. Every part is a slice of the text.
+//! Lines, words, numbers and sets of squares of a rules text. Every part is a slice of the text.
 #![tactic(auto)]
 
 mod lines;
@@ -7,10 +7,11 @@ mod parts;
 mod squares;
 mod words;
 
+pub use frz_squares::SquareSet;
 pub use lines::{Line, Lines};
 pub use numbers::read_number;
 pub use parts::cut;
-pub use squares::{SquareSet, read_square, read_squares};
+pub use squares::{read_square, read_squares};
 pub use words::{count_words, is_word, next_word};
 
 #[cfg(test)]

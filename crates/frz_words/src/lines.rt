@@ -1,3 +1,5 @@
+//! The lines of a text.
+
 ghost use Rattle.std.specs.Prelude.{◌≡◌, ◌<◌, ◌≤◌, ◌^◌, ◌+◌, ◌∷◌, ℕ, List, [], MatchOption, IfSome, length, option_map};
 ghost use Rattle.std.specs.List.{AllByRecursion};
 ghost use Rattle.frz_words.specs.Lines.{lines, numbered};
@@ -74,7 +76,8 @@ impl<'a> Lines<'a> {
     /// The next line, and None after the last.
     #[tactic(auto, using(crate::proofs::Lining::lining))]
     pub fn next(&mut self) -> Option<Line<'a>>
-        ensures line { MatchOption result ((self.old ≡ []) × (self.new ≡ [])) (λ l. self.old ≡ (l.number, l.text.now) ∷ self.new) }
+        ensures line { MatchOption result ((self.old ≡ []) × (self.new ≡ []))
+            (λ l. self.old ≡ (l.number, l.text.now) ∷ self.new) }
         ensures short { IfSome result (λ l. length l.text.now < 2 ^ 32) }
     {
         if self.rest.is_empty() {

@@ -1,3 +1,5 @@
+//! Decimal numbers.
+
 ghost use Rattle.std.specs.Prelude.{◌≡◌, ◌≤◌, IfSome};
 ghost use Rattle.frz_words.specs.Numbers.{number_of};
 

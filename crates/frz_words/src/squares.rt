@@ -1,40 +1,18 @@
-ghost use Rattle.std.specs.Prelude.{◌≡◌, ◌<◌, ◌^◌, ℕ, IfSome, option_map};
-ghost use Rattle.frz_words.specs.Squares.{file_of, rank_of, square_of, square_word, between, item_of, covers as covers_square, has_square, set_of, squares_of, is_square_of};
+//! Squares and sets of squares, as words write them.
+
+ghost use Rattle.std.specs.Prelude.{◌≡◌, ◌<◌, ◌^◌, ℕ, IfSome};
+ghost use Rattle.frz_squares.specs.SquareSets.{has_square, set_of};
+ghost use Rattle.frz_words.specs.Squares.{square_of, square_word, between, item_of, covers as covers_square, squares_of, is_square_of};
 
 use crate::parts::cut;
 use crate::words::is_word;
-
-/// A set of squares: the square of number s is in it where bit s is set.
-/// Squares are numbered from 0, a1, along the ranks to 63, h8.
-#[derive(Clone, Copy, Debug, PartialEq, Eq)]
-pub struct SquareSet(pub u64);
-
-impl SquareSet {
-    pub fn has(&self, s: u8) -> bool
-        requires { s < 64 }
-        ensures { result ≡ has_square self.now.0 s }
-    {
-        self.0 / (1 << s) % 2 == 1
-    }
-}
+use frz_squares::{SquareSet, file, rank};
 
 /// The squares from one corner to the other, the first on the lower file and rank.
 #[derive(Clone, Copy)]
 pub struct Rectangle {
     first: u8,
     last: u8,
-}
-
-fn file(s: u8) -> u8
-    ensures { result ≡ file_of s }
-{
-    s % 8
-}
-
-fn rank(s: u8) -> u8
-    ensures { result ≡ rank_of s }
-{
-    s / 8
 }
 
 fn square_at(letter: u8, digit: u8) -> Option<u8>
@@ -91,7 +69,7 @@ impl Rectangle {
     }
 
     /// Its squares, a bit for each.
-    #[tactic(auto, using(crate::proofs::Bits::bits))]
+    #[tactic(auto, using(crate::proofs::Gathering::bits))]
     fn squares(self) -> u64
         ensures { result ≡ set_of (covers_square self) }
     {
@@ -105,7 +83,7 @@ impl Rectangle {
     }
 }
 
-#[tactic(auto, using(crate::proofs::Bits::bits))]
+#[tactic(auto, using(crate::proofs::Gathering::bits))]
 fn bit(s: u8) -> u64
     requires { s < 64 }
     ensures { result ≡ 2 ^ s }
@@ -115,7 +93,7 @@ fn bit(s: u8) -> u64
 
 #[tactic(auto, using(crate::proofs::Sets::sets))]
 fn union_of_items(w: &[u8]) -> Option<SquareSet>
-    ensures { option_map (λ s. s.0) result ≡ squares_of w.now }
+    ensures { result ≡ squares_of w.now }
 {
     let mut rest = w;
     let mut set = 0u64;
@@ -130,8 +108,9 @@ fn union_of_items(w: &[u8]) -> Option<SquareSet>
 /// The union of the items between commas; an item may come again.
 #[tactic(auto, using(crate::proofs::Members::members))]
 pub fn read_squares(w: &[u8]) -> Option<SquareSet>
-    ensures set { option_map (λ s. s.0) result ≡ squares_of w.now }
-    ensures members { IfSome result (λ set. (s : ℕ) → s < 64 → has_square set.0 s ≡ is_square_of w.now s) }
+    ensures set { result ≡ squares_of w.now }
+    ensures members { IfSome result (λ set. (s : ℕ) → s < 64
+        → has_square set s ≡ is_square_of w.now s) }
 {
     union_of_items(w)
 }

@@ -1,6 +1,9 @@
+//! Lines, words, numbers and squares, read from texts.
+
+use crate::SquareSet;
 use crate::lines::Lines;
 use crate::numbers::read_number;
-use crate::squares::{SquareSet, read_square, read_squares};
+use crate::squares::{read_square, read_squares};
 use std::process::Abort;
 
 fn has_squares(rt: &impl Abort, word: &[u8], set: u64) {

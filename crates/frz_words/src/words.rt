@@ -1,3 +1,5 @@
+//! The words of a line.
+
 ghost use Rattle.std.specs.Prelude.{◌≡◌, ◌<◌, ◌≤◌, ◌∷◌, [], not, IsTrue, MatchOption, IfSome, length};
 ghost use Rattle.std.specs.List.{position};
 ghost use Rattle.std.specs.Str.{bytes_eq};
@@ -24,7 +26,8 @@ fn word_end(line: &[u8]) -> Option<usize>
 /// The first word of a line, and what follows it. None where there is no word.
 #[tactic(auto, using(crate::proofs::Wording::wording))]
 pub fn next_word(line: &[u8]) -> Option<(&[u8], &[u8])>
-    ensures word { MatchOption result (words line.now ≡ []) (λ r. words line.now ≡ r.0.now ∷ words r.1.now) }
+    ensures word { MatchOption result (words line.now ≡ [])
+        (λ r. words line.now ≡ r.0.now ∷ words r.1.now) }
     ensures shorter { IfSome result (λ r. length r.1.now < length line.now) }
 {
     match word_start(line) {

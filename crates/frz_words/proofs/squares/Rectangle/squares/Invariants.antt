@@ -1,6 +1,6 @@
 use Rattle.std.proofs.Common.{◌≡◌}
 use Rattle.frz_words.specs.Squares.{covers}
-use Rattle.frz_words.proofs.Bits.{bits_to}
+use Rattle.frz_words.proofs.Gathering.{bits_to}
 use Rattle.frz_words.proofs.squares.Rectangle.squares.Given as goal
 
 abbrev pub invariant-loop-s : goal.invariant-loop-s

@@ -4,20 +4,20 @@ use Rattle.frz_board.specs.declared.man.Colour.TheVariants.{White, Black}
 use Rattle.frz_board.specs.Men.{is_man_of, man_of_cell}
 use Rattle.frz_board.specs.Shapes.{men_of}
 use Rattle.frz_board.proofs.Counting.{count_white, count_black}
-use Rattle.frz_board.proofs.shape.men.Goals as goal
+use Rattle.frz_board.proofs.position.Position.men.Goals as goal
 
-pub returns-in-White : goal.returns-in-White
+pub returns-in-White-clause-men : goal.returns-in-White-clause-men
 unfolding men_of
-returns-in-White c =
-    c.count_between.ensures
+returns-in-White-clause-men c =
+    c.count_between.ensures.count
     ∙ count_white c.cells.result
     ∙ ap (λ xs. count_by (λ x. is_man_of White (man_of_cell x)) xs) c.cells.ensures.cells
-    ∙ ap (λ (k : Colour). count_by (λ x. is_man_of k (man_of_cell x)) c.args.p.now.cells) (sym c.in-White.is)
+    ∙ ap (λ (k : Colour). count_by (λ x. is_man_of k (man_of_cell x)) c.args.self.now.cells) (sym c.in-White.is)
 
-pub returns-in-Black : goal.returns-in-Black
+pub returns-in-Black-clause-men : goal.returns-in-Black-clause-men
 unfolding men_of
-returns-in-Black c =
-    c.count_between-in-Black.ensures
+returns-in-Black-clause-men c =
+    c.count_between-in-Black.ensures.count
     ∙ count_black c.cells-in-Black.result
     ∙ ap (λ xs. count_by (λ x. is_man_of Black (man_of_cell x)) xs) c.cells-in-Black.ensures.cells
-    ∙ ap (λ (k : Colour). count_by (λ x. is_man_of k (man_of_cell x)) c.args.p.now.cells) (sym c.in-Black.is)
+    ∙ ap (λ (k : Colour). count_by (λ x. is_man_of k (man_of_cell x)) c.args.self.now.cells) (sym c.in-Black.is)
