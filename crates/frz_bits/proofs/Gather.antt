@@ -9,64 +9,54 @@ use Rattle.frz_board.specs.declared.man.Kind.TheVariants.{King}
 use Rattle.frz_board.specs.Men.{other_of, cell_of_man, man_of_cell, is_man_of}
 use Rattle.frz_board.specs.Boards.{Board, holds, has}
 use Rattle.frz_board.specs.Attacks.{attacks, is_attacked}
-use Rattle.frz_bits.specs.Words.{word_below, word_of, has_square, IsNext, HasNoneFrom}
+use Rattle.frz_bits.specs.Words.{IsNext, HasNoneFrom}
 use Rattle.frz_bits.specs.Rays.{is_open}
-use Rattle.frz_bits.proofs.Bits.{word_below-small, has-word_of}
-
-pub below-next : (f : ℕ → Bool) (n : ℕ) → word_below f (n + 1) ≡ word_below f n + cond (f n) (2 ^ n) 0
-below-next f n = ap (word_below f) (add-one n)
-
--- the squares between that fail the test add nothing
-pub below-skip : (f : ℕ → Bool) (n j : ℕ) → ((k : ℕ) → n ≤ k → k < n + j → f k ≡ false) → word_below f (n + j) ≡ word_below f n
-below-skip f n zero h = let e : n + zero ≡ n = omega arith in ap (word_below f) e
-below-skip f n (suc j) h =
-    let e : n + suc j ≡ suc (n + j) = omega arith in
-    let rest = below-skip f n j (λ k l m. h k l (omega arith)) in
-    let bit = ap (λ x. cond x (2 ^ (n + j)) 0) (h (n + j) (omega arith) (omega arith)) in
-    ap (word_below f) e ∙ omega (arith, rest, bit)
-
-pub below-jump : (f : ℕ → Bool) (n m : ℕ) → n ≤ m → ((k : ℕ) → n ≤ k → k < m → f k ≡ false) → word_below f m ≡ word_below f n
-below-jump f n m l h =
-    let e : n + (m - n) ≡ m = omega arith in
-    ap (word_below f) (sym e) ∙ below-skip f n (m - n) (λ k i j. h k i (omega arith))
+use Rattle.frz_squares.specs.SquareSets.{bits_below, set_of, has_square}
+use Rattle.frz_squares.proofs.Lemmas.{bits_below-next, bits_below-jump, bits_below-small, has-set_of}
 
 -- the squares below n where a man of the side stands
 unfoldable pub side_below : Board → Colour → ℕ → ℕ
-side_below p c n = word_below (λ s. holds p c s) n
+side_below p c n = bits_below (λ s. holds p c s) n
 
 pub side_below-zero : (p : Board) (c : Colour) → side_below p c 0 ≡ 0
 unfolding side_below
 side_below-zero p c = refl
 
-pub side_below-next : (p : Board) (c : Colour) (n : ℕ) → side_below p c (n + 1) ≡ side_below p c n + cond (holds p c n) (2 ^ n) 0
+pub side_below-next : (p : Board) (c : Colour) (n : ℕ) →
+    side_below p c (n + 1) ≡ side_below p c n + cond (holds p c n) (2 ^ n) 0
 unfolding side_below
-side_below-next p c n = below-next (λ s. holds p c s) n
+side_below-next p c n = bits_below-next (λ s. holds p c s) n
 
 pub side_below-small : (p : Board) (c : Colour) (n : ℕ) → side_below p c n < 2 ^ n
 unfolding side_below
-side_below-small p c n = word_below-small (λ s. holds p c s) n
+side_below-small p c n = bits_below-small (λ s. holds p c s) n
 
-pub side_below-all : (p : Board) (c : Colour) (n : ℕ) → n ≡ 64 → side_below p c n ≡ word_of (λ s. holds p c s)
-unfolding side_below word_of
-side_below-all p c n h = ap (word_below (λ s. holds p c s)) h
+pub side_below-all : (p : Board) (c : Colour) (n : ℕ) → n ≡ 64 →
+    side_below p c n ≡ set_of (λ s. holds p c s)
+unfolding side_below set_of
+side_below-all p c n h = ap (bits_below (λ s. holds p c s)) h
 
 pub ruleset sides = (side_below-zero, side_below-next, side_below-small, side_below-all)
 
 -- a walk over the squares of the word w, which holds all that pass the test f: the squares that pass it are gathered into a word
 module _ (f : ℕ → Bool) (w : ℕ) (all : (k : ℕ) → k < 64 → has_square w k ≡ false → f k ≡ false) where
-  pub walked : (n s : ℕ) → IsNext w n s → word_below f s ≡ word_below f n
-  walked n s next = below-jump f n s next.from (λ k l m. let on = next.on_board in all k (omega arith) (next.first k l m))
+  pub walked : (n s : ℕ) → IsNext w n s → bits_below f s ≡ bits_below f n
+  walked n s next =
+      bits_below-jump f n s next.from (λ k l m. let on = next.on_board in all k (omega arith) (next.first k l m))
 
-  pub walk_room : (n s word : ℕ) → word ≡ word_below f n → IsNext w n s → word < 2 ^ s
-  walk_room n s word e next = let same = walked n s next in let small = word_below-small f s in omega arith
+  pub walk_room : (n s word : ℕ) → word ≡ bits_below f n → IsNext w n s → word < 2 ^ s
+  walk_room n s word e next =
+      let same = walked n s next in let small = bits_below-small f s in omega arith
 
-  pub walk_next : (n s word v : ℕ) (x : Bool) → word ≡ word_below f n → IsNext w n s → v ≡ word + cond x (2 ^ s) 0 → x ≡ f s → v ≡ word_below f (s + 1)
+  pub walk_next : (n s word v : ℕ) (x : Bool) → word ≡ bits_below f n → IsNext w n s →
+      v ≡ word + cond x (2 ^ s) 0 → x ≡ f s → v ≡ bits_below f (s + 1)
   walk_next n s word v x e next made is =
-      made ∙ ap (λ m. m + cond x (2 ^ s) 0) (e ∙ sym (walked n s next)) ∙ ap (λ y. word_below f s + cond y (2 ^ s) 0) is ∙ sym (below-next f s)
+      made ∙ ap (λ m. m + cond x (2 ^ s) 0) (e ∙ sym (walked n s next))
+      ∙ ap (λ y. bits_below f s + cond y (2 ^ s) 0) is ∙ sym (bits_below-next f s)
 
-  pub walk_end : (n word : ℕ) → n ≤ 64 → word ≡ word_below f n → HasNoneFrom w n → word ≡ word_of f
-  unfolding word_of
-  walk_end n word l e none = e ∙ sym (below-jump f n 64 l (λ k i m. all k m (none.none k i m)))
+  pub walk_end : (n word : ℕ) → n ≤ 64 → word ≡ bits_below f n → HasNoneFrom w n → word ≡ set_of f
+  unfolding set_of
+  walk_end n word l e none = e ∙ sym (bits_below-jump f n 64 l (λ k i m. all k m (none.none k i m)))
 
 -- the squares below n of the lines that no occupied square hides
 abbrev pub sees : ℕ → ℕ → ℕ → ℕ → Bool
@@ -76,14 +66,17 @@ sees s lines occupied b = has_square lines b && is_open occupied s b
 abbrev pub hits : Board → ℕ → Colour → ℕ → Bool
 hits p s by a = holds p by a && attacks p a s
 
-pub sees_in : (s lines occupied : ℕ) (k : ℕ) → k < 64 → has_square lines k ≡ false → sees s lines occupied k ≡ false
+pub sees_in : (s lines occupied : ℕ) (k : ℕ) → k < 64 → has_square lines k ≡ false →
+    sees s lines occupied k ≡ false
 sees_in s lines occupied k l h = and_left (has_square lines k) (is_open occupied s k) h
 
 -- a square is in the word of a side where its man stands there
-pub in_side : (p : Board) (c : Colour) (w k : ℕ) → w ≡ word_of (λ s. holds p c s) → k < 64 → has_square w k ≡ holds p c k
-in_side p c w k e l = ap (λ v. has_square v k) e ∙ has-word_of (λ s. holds p c s) k l
+pub in_side : (p : Board) (c : Colour) (w k : ℕ) → w ≡ set_of (λ s. holds p c s) → k < 64 →
+    has_square w k ≡ holds p c k
+in_side p c w k e l = ap (λ v. has_square v k) e ∙ has-set_of (λ s. holds p c s) k l
 
-pub hits_in : (p : Board) (s : ℕ) (by : Colour) (w : ℕ) → w ≡ word_of (λ a. holds p by a) → (k : ℕ) → k < 64 → has_square w k ≡ false → hits p s by k ≡ false
+pub hits_in : (p : Board) (s : ℕ) (by : Colour) (w : ℕ) → w ≡ set_of (λ a. holds p by a) → (k : ℕ) →
+    k < 64 → has_square w k ≡ false → hits p s by k ≡ false
 hits_in p s by w e k l h = and_left (holds p by k) (attacks p k s) (sym (in_side p by w k e l) ∙ h)
 
 -- a king of the side stands on the square, and is attacked
@@ -94,11 +87,15 @@ king_is_man : (c : Colour) (x : ℕ) → is_man_of c (man_of_cell x) ≡ false �
 king_is_man White x h = grind (arith, nat_tests)
 king_is_man Black x h = grind (arith, nat_tests)
 
-pub checks_in : (p : Board) (c : Colour) (w : ℕ) → w ≡ word_of (λ s. holds p c s) → (k : ℕ) → k < 64 → has_square w k ≡ false → checks p c k ≡ false
-checks_in p c w e k l h = and_left (has p c King k) (is_attacked p k (other_of c)) (king_is_man c (slice_index p.cells k) (sym (in_side p c w k e l) ∙ h))
+pub checks_in : (p : Board) (c : Colour) (w : ℕ) → w ≡ set_of (λ s. holds p c s) → (k : ℕ) →
+    k < 64 → has_square w k ≡ false → checks p c k ≡ false
+checks_in p c w e k l h =
+    and_left (has p c King k) (is_attacked p k (other_of c)) (king_is_man c (slice_index p.cells k) (sym (in_side p c w k e l) ∙ h))
 
 -- what fails below n, between n and s, and at s, fails below s + 1
-pub fails_on : (f : ℕ → Bool) (w n s : ℕ) → ((k : ℕ) → k < 64 → has_square w k ≡ false → f k ≡ false) → IsNext w n s → ((k : ℕ) → k < n → f k ≡ false) → f s ≡ false → (k : ℕ) → k < s + 1 → f k ≡ false
+pub fails_on : (f : ℕ → Bool) (w n s : ℕ) →
+    ((k : ℕ) → k < 64 → has_square w k ≡ false → f k ≡ false) → IsNext w n s →
+    ((k : ℕ) → k < n → f k ≡ false) → f s ≡ false → (k : ℕ) → k < s + 1 → f k ≡ false
 fails_on f w n s all next below here k l =
     elim (cases_lt k n) [
       | inl i ↦ below k i
@@ -108,7 +105,9 @@ fails_on f w n s all next below here k l =
       ]
     ]
 
-pub fails_all : (f : ℕ → Bool) (w n : ℕ) → ((k : ℕ) → k < 64 → has_square w k ≡ false → f k ≡ false) → HasNoneFrom w n → ((k : ℕ) → k < n → f k ≡ false) → (k : ℕ) → k < 64 → f k ≡ false
+pub fails_all : (f : ℕ → Bool) (w n : ℕ) →
+    ((k : ℕ) → k < 64 → has_square w k ≡ false → f k ≡ false) → HasNoneFrom w n →
+    ((k : ℕ) → k < n → f k ≡ false) → (k : ℕ) → k < 64 → f k ≡ false
 fails_all f w n all none below k l =
     elim (cases_lt k n) [
       | inl i ↦ below k i

@@ -1,6 +1,7 @@
-pub mod Bits
-pub mod Tables
-pub mod Next
-pub mod Gather
-pub mod Men
-pub mod Put
+-- Other crates cite the module Lemmas alone.
+pub mod Lemmas
+mod Tables
+mod Next
+mod Gather
+mod Men
+mod Put

@@ -8,35 +8,39 @@ use Rattle.frz_board.specs.declared.man.Colour.{Colour}
 use Rattle.frz_board.specs.declared.man.Colour.TheVariants.{White, Black}
 use Rattle.frz_board.specs.Men.{man_of_cell, is_man_of}
 use Rattle.frz_board.specs.Boards.{Board, CellsFit, holds, is_empty}
-use Rattle.frz_bits.specs.Words.{word_of, has_square}
+use Rattle.frz_squares.specs.SquareSets.{set_of, has_square}
+use Rattle.std.proofs.Math.Bool.{not-not}
+use Rattle.frz_squares.proofs.Lemmas.{all_squares-same, apart_sets, has-or, has-set_of, set_of-from, set_of-small}
 use Rattle.frz_bits.specs.Sides.{HasSides}
 use Rattle.frz_board.specs.Lines.{is_between}
 use Rattle.frz_board.specs.Attacks.{is_clear}
-use Rattle.frz_board.proofs.Connectives.{not_not}
-use Rattle.frz_board.proofs.AllSquares.{all_squares-same}
-use Rattle.frz_bits.proofs.Bits.{apart_words, has-or, has-word_of, word_of-from, word_of-small}
 
-either_side : (x : ℕ) → x < 13 → (is_man_of White (man_of_cell x) || is_man_of Black (man_of_cell x)) ≡ not (x == 0)
+either_side : (x : ℕ) → x < 13 →
+    (is_man_of White (man_of_cell x) || is_man_of Black (man_of_cell x)) ≡ not (x == 0)
 either_side x h = grind (arith, nat_tests)
 
 pub cell_fits : (p : Board) → CellsFit p.cells → (s : ℕ) → s < 64 → slice_index p.cells s < 13
-cell_fits p fits s h = let size = fits.size in All-get_or (λ c. c < 13) p.cells s 0 (omega arith) fits.men
+cell_fits p fits s h =
+    let size = fits.size in All-get_or (λ c. c < 13) p.cells s 0 (omega arith) fits.men
 
-side_small : (p : Board) (c : Colour) (w : ℕ) → w ≡ word_of (λ s. holds p c s) → w < 2 ^ 64
-side_small p c w e = let small = word_of-small (λ s. holds p c s) in omega arith
+side_small : (p : Board) (c : Colour) (w : ℕ) → w ≡ set_of (λ s. holds p c s) → w < 2 ^ 64
+side_small p c w e = let small = set_of-small (λ s. holds p c s) in omega arith
 
-pub occupied_is : (p : Board) (white black : ℕ) → HasSides p white black → bit_or white black ≡ word_of (λ s. not (is_empty p s))
+pub occupied_is : (p : Board) (white black : ℕ) → HasSides p white black →
+    bit_or white black ≡ set_of (λ s. not (is_empty p s))
 occupied_is p white black h =
-    word_of-from (bit_or white black) (λ s. not (is_empty p s))
+    set_of-from (bit_or white black) (λ s. not (is_empty p s))
     (or_lt 64 white black (side_small p White white h.of_white) (side_small p Black black h.of_black))
     (λ k l. has-or white black k
-    ∙ ap (λ x. x || has_square black k) (ap (λ w. has_square w k) h.of_white ∙ has-word_of (λ s. holds p White s) k l)
-    ∙ ap (λ x. holds p White k || x) (ap (λ w. has_square w k) h.of_black ∙ has-word_of (λ s. holds p Black s) k l)
+    ∙ ap (λ x. x || has_square black k) (ap (λ w. has_square w k) h.of_white ∙ has-set_of (λ s. holds p White s) k l)
+    ∙ ap (λ x. holds p White k || x) (ap (λ w. has_square w k) h.of_black ∙ has-set_of (λ s. holds p Black s) k l)
     ∙ either_side (slice_index p.cells k) (cell_fits p h.fits k l))
 
 -- no square strictly between is occupied where each is empty
-pub clear_is : (p : Board) (a b : ℕ) → (bit_and (word_of (λ s. is_between a s b)) (word_of (λ s. not (is_empty p s))) == 0) ≡ is_clear p a b
+pub clear_is : (p : Board) (a b : ℕ) →
+    (bit_and (set_of (λ s. is_between a s b)) (set_of (λ s. not (is_empty p s))) == 0)
+    ≡ is_clear p a b
 clear_is p a b =
-    apart_words (λ s. is_between a s b) (word_of (λ s. not (is_empty p s))) (word_of-small (λ s. not (is_empty p s)))
-    ∙ all_squares-same (λ s. not (is_between a s b) || not (has_square (word_of (λ s. not (is_empty p s))) s)) (λ s. not (is_between a s b) || is_empty p s)
-    (λ k l. ap (λ x. not (is_between a k b) || x) (ap not (has-word_of (λ s. not (is_empty p s)) k l) ∙ not_not (is_empty p k)))
+    apart_sets (λ s. is_between a s b) (set_of (λ s. not (is_empty p s))) (set_of-small (λ s. not (is_empty p s)))
+    ∙ all_squares-same (λ s. not (is_between a s b) || not (has_square (set_of (λ s. not (is_empty p s))) s)) (λ s. not (is_between a s b) || is_empty p s)
+    (λ k l. ap (λ x. not (is_between a k b) || x) (ap not (has-set_of (λ s. not (is_empty p s)) k l) ∙ not-not (is_empty p k)))

@@ -5,18 +5,21 @@ use Rattle.std.specs.Int.{bit_at, trailing_zeros}
 use Rattle.std.proofs.lemmas.Nat.{shr_le}
 use Rattle.std.proofs.lemmas.Nat.Bits.{bit_at-trailing_zeros, bit_at_above}
 use Rattle.std.proofs.lemmas.Bool.{eq-eqb, cases_lt}
-use Rattle.frz_bits.specs.Words.{has_square, HasNoneFrom, IsNext}
-use Rattle.frz_bits.proofs.Bits.{has-zero}
+use Rattle.frz_bits.specs.Words.{HasNoneFrom, IsNext}
+use Rattle.frz_squares.specs.SquareSets.{has_square}
+use Rattle.frz_squares.proofs.Lemmas.{has-zero}
 
 has-shifted : (w n k : ℕ) → has_square (w / 2 ^ n) k ≡ has_square w (n + k)
 has-shifted w n k = ap (λ v. v % 2 == 1) (shr-shr w n k)
 
 -- the bits from n on, as those of the shifted word
 moved : (w n k : ℕ) → n ≤ k → has_square w k ≡ has_square (w / 2 ^ n) (k - n)
-moved w n k l = let e : n + (k - n) ≡ k = omega arith in ap (has_square w) (sym e) ∙ sym (has-shifted w n (k - n))
+moved w n k l =
+    let e : n + (k - n) ≡ k = omega arith in ap (has_square w) (sym e) ∙ sym (has-shifted w n (k - n))
 
 pub none_left : (w n : ℕ) → w / 2 ^ n ≡ 0 → HasNoneFrom w n
-none_left w n e = record { none = λ k l m. moved w n k l ∙ ap (λ v. has_square v (k - n)) e ∙ has-zero (k - n) }
+none_left w n e =
+    record { none = λ k l m. moved w n k l ∙ ap (λ v. has_square v (k - n)) e ∙ has-zero (k - n) }
 
 -- a set bit is below 64
 inside : (w k : ℕ) → w < 2 ^ 64 → bit_at w k ≡ 1 → k < 64
@@ -26,7 +29,8 @@ inside w k small b =
       | inr l ↦ absurd (let none = bit_at_above w 64 k small l in omega arith)
     ]
 
-pub next_is : (w n : ℕ) → w < 2 ^ 64 → w / 2 ^ n ≢ 0 → IsNext w n (n + trailing_zeros w64 (w / 2 ^ n))
+pub next_is : (w n : ℕ) → w < 2 ^ 64 → w / 2 ^ n ≢ 0 →
+    IsNext w n (n + trailing_zeros w64 (w / 2 ^ n))
 next_is w n small some =
     let rest = w / 2 ^ n in
     let low : rest < 2 ^ 64 = omega (arith, shr_le w n) in

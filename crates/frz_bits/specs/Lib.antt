@@ -1,3 +1,4 @@
+-- What the contracts of words speak of.
 pub mod Words
 pub mod Rays
 pub mod Sides

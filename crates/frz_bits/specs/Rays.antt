@@ -3,7 +3,7 @@ use Rattle.std.specs.Prelude.{ℕ, Bool, not, ◌&&◌, ◌||◌}
 use Rattle.std.specs.List.{list_all}
 use Rattle.frz_board.specs.Squares.{squares}
 use Rattle.frz_board.specs.Lines.{is_rook_line, is_bishop_line, is_between}
-use Rattle.frz_bits.specs.Words.{has_square}
+use Rattle.frz_squares.specs.SquareSets.{has_square}
 
 -- no square strictly between is in the word
 abbrev pub is_open : ℕ → ℕ → ℕ → Bool

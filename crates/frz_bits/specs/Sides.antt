@@ -1,10 +1,11 @@
+-- A board with words of its men.
 use Rattle.std.specs.Prelude.{ℕ, ◌≡◌}
 use Rattle.frz_board.specs.declared.man.Colour.TheVariants.{White, Black}
 use Rattle.frz_board.specs.Boards.{Board, CellsFit, holds}
-use Rattle.frz_bits.specs.Words.{word_of}
+use Rattle.frz_squares.specs.SquareSets.{set_of}
 
 -- the words of the squares where a man of each side stands
 pub record HasSides (p : Board) (white black : ℕ) : Type 0 where
   pub fits : CellsFit p.cells
-  pub of_white : white ≡ word_of (holds p White)
-  pub of_black : black ≡ word_of (holds p Black)
+  pub of_white : white ≡ set_of (holds p White)
+  pub of_black : black ≡ set_of (holds p Black)

@@ -8,7 +8,9 @@ use Rattle.frz_board.specs.Lines.{is_knight_jump, is_king_step, is_rook_line, is
 
 -- one rank forward on the same or an adjoining file, or two ranks forward on the same file
 abbrev pub is_pawn_way : Colour → ℕ → ℕ → Bool
-is_pawn_way c a b = (nat_le (files_apart a b) 1 && is_forward c 1 a b) || (files_apart a b == 0 && is_forward c 2 a b)
+is_pawn_way c a b =
+    (nat_le (files_apart a b) 1 && is_forward c 1 a b)
+    || (files_apart a b == 0 && is_forward c 2 a b)
 
 -- on some board a man of this colour and kind goes from a to b
 abbrev pub may_go : Colour → Kind → ℕ → ℕ → Bool

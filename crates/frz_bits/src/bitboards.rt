@@ -1,9 +1,11 @@
-ghost use Rattle.std.specs.Prelude.{◌≡◌, ◌<◌, ◌≤◌, ◌^◌, ◌&&◌, not, slice_set, if◌then◌else◌, ◌+◌};
+//! A position with words of its men, and what attacks what in it.
+
+ghost use Rattle.std.specs.Prelude.{◌≡◌, ◌<◌, ◌≤◌, ◌^◌, ◌&&◌, not, replicate, slice_set, if◌then◌else◌, ◌+◌};
 ghost use Rattle.frz_board.specs.Men.{is_man_of, man_of_cell, other_of};
 ghost use Rattle.frz_board.specs.Boards.{Board, is_empty, man_on, holds, has};
 ghost use Rattle.frz_board.specs.EnPassant.{has_pawn_beside};
-ghost use Rattle.frz_board.specs.Attacks.{is_clear, reaches as man_reaches, attacks as man_attacks, is_attacked, is_in_check};
-ghost use Rattle.frz_bits.specs.Words.{word_of};
+ghost use Rattle.frz_board.specs.Attacks.{is_clear, reaches, attacks, is_attacked, is_in_check};
+ghost use Rattle.frz_squares.specs.SquareSets.{set_of};
 
 use super::sets::{between, bishop_lines, king_set, knight_set, pawn_set, rook_lines};
 use super::word::{contains, next_square, replaced, with_square};
@@ -52,8 +54,10 @@ impl Bitboards {
         let mut black = 0;
         for n in 0..64 {
             let cell = cells[n as usize];
-            white = with_square(white, Square::at(n), is_white(cell));
-            black = with_square(black, Square::at(n), is_black(cell));
+            if cell != 0 {
+                white = with_square(white, Square::at(n), is_white(cell));
+                black = with_square(black, Square::at(n), is_black(cell));
+            }
         }
         Bitboards {
             position: *p,
@@ -62,9 +66,30 @@ impl Bitboards {
         }
     }
 
+    /// A board with no man.
+    pub fn empty(turn: Colour, ep: Option<Square>) -> Bitboards
+        ensures { result ≡ record { cells = replicate 64 0; turn = turn; ep = ep } }
+    {
+        Bitboards {
+            position: Position::empty(turn, ep),
+            white: 0,
+            black: 0,
+        }
+    }
+
+    /// Puts another cell on the square.
+    pub fn set(&mut self, s: Square, c: u8)
+        requires { c ≤ 12 }
+        ensures { self.new ≡ record self.old { cells = slice_set self.old.cells s c } }
+    {
+        self.position.set(s, c);
+        self.white = replaced(self.white, s, is_white(c));
+        self.black = replaced(self.black, s, is_black(c));
+    }
+
     /// The squares where a man of the side stands.
     pub fn side(&self, c: Colour) -> u64
-        ensures { result ≡ word_of (λ s. holds self.now c s) }
+        ensures { result ≡ set_of (λ s. holds self.now c s) }
     {
         match c {
             Colour::White => self.white,
@@ -74,7 +99,7 @@ impl Bitboards {
 
     /// The squares where a man stands.
     pub fn occupied(&self) -> u64
-        ensures { result ≡ word_of (λ s. not (is_empty self.now s)) }
+        ensures { result ≡ set_of (λ s. not (is_empty self.now s)) }
     {
         self.white | self.black
     }
@@ -98,6 +123,24 @@ impl Bitboards {
         ensures { result ≡ self.now.ep }
     {
         self.position.ep()
+    }
+
+    /// The position.
+    pub fn as_position(&self) -> &Position
+        ensures { result.now ≡ self.now }
+    {
+        &self.position
+    }
+
+    /// The position with the other side to move, and this target.
+    pub fn hand_over(&self, ep: Option<Square>) -> Bitboards
+        ensures { result ≡ record self.now { turn = other_of self.now.turn; ep = ep } }
+    {
+        Bitboards {
+            position: self.position.hand_over(ep),
+            white: self.white,
+            black: self.black,
+        }
     }
 
     /// The position without its words.
@@ -148,9 +191,9 @@ impl Bitboards {
     }
 
     /// Would this man on `a` attack `b`?
-    #[tactic(auto, using(crate::proofs::Bits::reading))]
+    #[tactic(auto, using(frz_squares::proofs::Lemmas::set_reading))]
     pub fn reaches(&self, man: Man, a: Square, b: Square) -> bool
-        ensures { result ≡ man_reaches self.now man.colour man.kind a b }
+        ensures { result ≡ reaches self.now man.colour man.kind a b }
     {
         match man.kind {
             Kind::King => contains(king_set(a), b),
@@ -166,7 +209,7 @@ impl Bitboards {
 
     /// Does the man on `a` attack `b`?
     pub fn attacks(&self, a: Square, b: Square) -> bool
-        ensures { result ≡ man_attacks self.now a b }
+        ensures { result ≡ attacks self.now a b }
     {
         match self.man(a) {
             None => false,
@@ -176,7 +219,7 @@ impl Bitboards {
 
     /// The squares from which a man of the side attacks the square.
     pub fn attackers(&self, s: Square, by: Colour) -> u64
-        ensures { result ≡ word_of (λ a. holds self.now by a && man_attacks self.now a s) }
+        ensures { result ≡ set_of (λ a. holds self.now by a && attacks self.now a s) }
     {
         let men = self.side(by);
         let mut word = 0;
@@ -226,7 +269,7 @@ impl Bitboards {
 
 /// The squares from which a man of the side attacks the square.
 pub fn attackers(p: &Position, s: Square, by: Colour) -> u64
-    ensures { result ≡ word_of (λ a. holds p.now by a && man_attacks p.now a s) }
+    ensures { result ≡ set_of (λ a. holds p.now by a && attacks p.now a s) }
 {
     Bitboards::of(p).attackers(s, by)
 }

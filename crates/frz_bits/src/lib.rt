@@ -1,4 +1,4 @@
-// Words of 64 bits, one for each set of squares.
+//! Words of 64 bits, one for each set of squares.
 #![tactic(auto)]
 
 mod bitboards;
@@ -16,4 +16,4 @@ pub use bitboards::{Bitboards, attackers};
 pub use rays::{bishop_rays, rook_rays};
 pub use sets::{between, bishop_lines, king_set, knight_set, pawn_set, rook_lines};
 pub use ways::move_set;
-pub use word::{contains, next_square, with_square, without};
+pub use word::{both, contains, next_square, replaced, with_square, without};

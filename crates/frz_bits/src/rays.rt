@@ -1,5 +1,7 @@
+//! The words of what a rook or a bishop attacks among men.
+
 ghost use Rattle.std.specs.Prelude.{◌≡◌, ◌&&◌};
-ghost use Rattle.frz_bits.specs.Words.{word_of, has_square};
+ghost use Rattle.frz_squares.specs.SquareSets.{set_of, has_square};
 ghost use Rattle.frz_bits.specs.Rays.{is_open, is_rook_ray, is_bishop_ray};
 
 use super::sets::{between, bishop_lines, rook_lines};
@@ -8,7 +10,7 @@ use frz_board::Square;
 
 /// The squares of some lines through `s` that no occupied square hides from it.
 fn seen(s: Square, lines: u64, occupied: u64) -> u64
-    ensures { result ≡ word_of (λ b. has_square lines b && is_open occupied s b) }
+    ensures { result ≡ set_of (λ b. has_square lines b && is_open occupied s b) }
 {
     let mut word = 0;
     let mut n = 0;
@@ -22,7 +24,7 @@ fn seen(s: Square, lines: u64, occupied: u64) -> u64
 /// The squares that a rook attacks where these squares are occupied: along each rank and file up to
 /// the first occupied square, and that square too.
 pub fn rook_rays(s: Square, occupied: u64) -> u64
-    ensures { result ≡ word_of (λ b. is_rook_ray occupied s b) }
+    ensures { result ≡ set_of (λ b. is_rook_ray occupied s b) }
 {
     seen(s, rook_lines(s), occupied)
 }
@@ -30,7 +32,7 @@ pub fn rook_rays(s: Square, occupied: u64) -> u64
 /// The squares that a bishop attacks where these squares are occupied: along each diagonal up to
 /// the first occupied square, and that square too.
 pub fn bishop_rays(s: Square, occupied: u64) -> u64
-    ensures { result ≡ word_of (λ b. is_bishop_ray occupied s b) }
+    ensures { result ≡ set_of (λ b. is_bishop_ray occupied s b) }
 {
     seen(s, bishop_lines(s), occupied)
 }

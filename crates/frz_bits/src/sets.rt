@@ -1,7 +1,9 @@
+//! The words of what men attack on an empty board, and of the squares between two.
+
 ghost use Rattle.std.specs.Prelude.{◌≡◌, ◌*◌, ◌+◌, ◌^◌};
 ghost use Rattle.frz_board.specs.Lines.{is_knight_jump, is_king_step, is_rook_line, is_bishop_line, is_between};
 ghost use Rattle.frz_board.specs.Attacks.{pawn_reaches};
-ghost use Rattle.frz_bits.specs.Words.{word_of};
+ghost use Rattle.frz_squares.specs.SquareSets.{set_of};
 
 use super::lines::{BETWEEN_HIGH, BETWEEN_LOW};
 use super::pawns::{BLACK_PAWN, WHITE_PAWN};
@@ -11,7 +13,7 @@ use frz_board::{Colour, Square};
 /// The squares that a knight attacks.
 #[tactic(auto, using(crate::proofs::Tables::knight_at))]
 pub fn knight_set(s: Square) -> u64
-    ensures { result ≡ word_of (λ b. is_knight_jump s b) }
+    ensures { result ≡ set_of (λ b. is_knight_jump s b) }
 {
     KNIGHT[s.number() as usize]
 }
@@ -19,7 +21,7 @@ pub fn knight_set(s: Square) -> u64
 /// The squares that a king attacks.
 #[tactic(auto, using(crate::proofs::Tables::king_at))]
 pub fn king_set(s: Square) -> u64
-    ensures { result ≡ word_of (λ b. is_king_step s b) }
+    ensures { result ≡ set_of (λ b. is_king_step s b) }
 {
     KING[s.number() as usize]
 }
@@ -27,7 +29,7 @@ pub fn king_set(s: Square) -> u64
 /// The squares that a pawn of the side attacks.
 #[tactic(auto, using(crate::proofs::Tables::white_pawn_at, crate::proofs::Tables::black_pawn_at))]
 pub fn pawn_set(c: Colour, s: Square) -> u64
-    ensures { result ≡ word_of (λ b. pawn_reaches c s b) }
+    ensures { result ≡ set_of (λ b. pawn_reaches c s b) }
 {
     match c {
         Colour::White => WHITE_PAWN[s.number() as usize],
@@ -38,7 +40,7 @@ pub fn pawn_set(c: Colour, s: Square) -> u64
 /// The squares of the same rank or file.
 #[tactic(auto, using(crate::proofs::Tables::rook_at))]
 pub fn rook_lines(s: Square) -> u64
-    ensures { result ≡ word_of (λ b. is_rook_line s b) }
+    ensures { result ≡ set_of (λ b. is_rook_line s b) }
 {
     ROOK[s.number() as usize]
 }
@@ -46,7 +48,7 @@ pub fn rook_lines(s: Square) -> u64
 /// The squares of the same diagonals.
 #[tactic(auto, using(crate::proofs::Tables::bishop_at))]
 pub fn bishop_lines(s: Square) -> u64
-    ensures { result ≡ word_of (λ b. is_bishop_line s b) }
+    ensures { result ≡ set_of (λ b. is_bishop_line s b) }
 {
     BISHOP[s.number() as usize]
 }
@@ -60,7 +62,7 @@ fn joined(high: u32, low: u32) -> u64
 /// The squares strictly between two squares of one line, and none for others.
 #[tactic(auto, using(crate::proofs::Tables::between_at))]
 pub fn between(a: Square, b: Square) -> u64
-    ensures { result ≡ word_of (λ s. is_between a s b) }
+    ensures { result ≡ set_of (λ s. is_between a s b) }
 {
     let i = 64 * a.number() as usize + b.number() as usize;
     joined(BETWEEN_HIGH[i], BETWEEN_LOW[i])

@@ -1,3 +1,5 @@
+//! Words of attacks on boards with few men.
+
 use super::{
     Bitboards, attackers, between, bishop_rays, king_set, knight_set, move_set, next_square,
     pawn_set, rook_rays,

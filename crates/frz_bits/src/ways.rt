@@ -1,6 +1,8 @@
+//! The words of where men go on some board.
+
 ghost use Rattle.std.specs.Prelude.{◌≡◌, ◌||◌};
 ghost use Rattle.frz_board.specs.Lines.{is_rook_line, is_bishop_line};
-ghost use Rattle.frz_bits.specs.Words.{word_of};
+ghost use Rattle.frz_squares.specs.SquareSets.{set_of};
 ghost use Rattle.frz_bits.specs.Ways.{is_pawn_way, may_go};
 
 use super::pawns::{BLACK_PAWN_WAYS, WHITE_PAWN_WAYS};
@@ -9,7 +11,7 @@ use frz_board::{Colour, Kind, Man, Square};
 
 #[tactic(auto, using(crate::proofs::Tables::white_pawn_way_at, crate::proofs::Tables::black_pawn_way_at))]
 fn pawn_ways(c: Colour, s: Square) -> u64
-    ensures { result ≡ word_of (λ b. is_pawn_way c s b) }
+    ensures { result ≡ set_of (λ b. is_pawn_way c s b) }
 {
     match c {
         Colour::White => WHITE_PAWN_WAYS[s.number() as usize],
@@ -18,7 +20,7 @@ fn pawn_ways(c: Colour, s: Square) -> u64
 }
 
 fn queen_lines(s: Square) -> u64
-    ensures { result ≡ word_of (λ b. is_rook_line s b || is_bishop_line s b) }
+    ensures { result ≡ set_of (λ b. is_rook_line s b || is_bishop_line s b) }
 {
     rook_lines(s) | bishop_lines(s)
 }
@@ -26,7 +28,7 @@ fn queen_lines(s: Square) -> u64
 /// The squares that the man goes to on some board: those of its lines, steps or jumps, and the
 /// squares that a pawn advances to or captures on.
 pub fn move_set(man: Man, s: Square) -> u64
-    ensures { result ≡ word_of (λ b. may_go man.colour man.kind s b) }
+    ensures { result ≡ set_of (λ b. may_go man.colour man.kind s b) }
 {
     match man.kind {
         Kind::King => king_set(s),

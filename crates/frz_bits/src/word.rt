@@ -1,5 +1,8 @@
+//! Words of 64 bits, read and written square by square.
+
 ghost use Rattle.std.specs.Prelude.{ℕ, ◌≡◌, ◌&&◌, not, ◌==◌, ◌+◌, ◌≤◌, ◌<◌, ◌^◌, MatchOption, if◌then◌else◌};
-ghost use Rattle.frz_bits.specs.Words.{has_square, HasNoneFrom, IsNext};
+ghost use Rattle.frz_squares.specs.SquareSets.{has_square};
+ghost use Rattle.frz_bits.specs.Words.{HasNoneFrom, IsNext};
 
 use frz_board::Square;
 
@@ -26,7 +29,8 @@ pub fn with_square(word: u64, s: Square, put_in: bool) -> u64
 
 /// The word with this square put in or taken out, whatever it was.
 pub fn replaced(word: u64, s: Square, put_in: bool) -> u64
-    ensures { (k : ℕ) → k < 64 → has_square result k ≡ (if k == s then put_in else has_square word k) }
+    ensures { (k : ℕ) → k < 64 →
+        has_square result k ≡ (if k == s then put_in else has_square word k) }
 {
     let bit = 1 << s.number();
     if put_in { word | bit } else { word & !bit }
@@ -34,9 +38,17 @@ pub fn replaced(word: u64, s: Square, put_in: bool) -> u64
 
 /// The squares of the one word that are not in the other.
 pub fn without(word: u64, other: u64) -> u64
-    ensures { (k : ℕ) → k < 64 → has_square result k ≡ (has_square word k && not (has_square other k)) }
+    ensures { (k : ℕ) → k < 64 →
+        has_square result k ≡ (has_square word k && not (has_square other k)) }
 {
     word & !other
+}
+
+/// The squares that are in both words.
+pub fn both(word: u64, other: u64) -> u64
+    ensures { (k : ℕ) → k < 64 → has_square result k ≡ (has_square word k && has_square other k) }
+{
+    word & other
 }
 
 /// The first square of the word whose number is `n` or above.

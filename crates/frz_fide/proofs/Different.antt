@@ -11,7 +11,7 @@ use Rattle.frz_board.specs.declared.man.Colour.{Colour}
 use Rattle.frz_board.specs.declared.man.Kind.{Kind}
 use Rattle.frz_board.specs.declared.man.Kind.TheVariants.{King, Queen, Rook, Bishop, Knight, Pawn}
 use Rattle.frz_board.specs.declared.man.Man.{Man}
-use Rattle.frz_board.proofs.Connectives.{and_both}
+use Rattle.std.proofs.lemmas.Bool.{and_parts}
 use Rattle.frz_fide.proofs.Facts.{Move, facts}
 use Rattle.frz_fide.proofs.Cells.{cell_then}
 use Rattle.frz_fide.proofs.Standing.{after_at, stays, arrived, left, none_comes, arrived_own, arrives_own, holds_from}
@@ -19,7 +19,8 @@ use Rattle.frz_fide.proofs.Standing.{after_at, stays, arrived, left, none_comes,
 module _ (p : Board) (m n : Step) (v : IsValid p) (lm : m.to < 64) (ln : n.to < 64) (f : Move p m) (g : Move p n) (e : after p m ≡ after p n) where
   -- the two moves leave the same on each square
   same_cells : (s : ℕ) → cell_then p f.man m s ≡ cell_then p g.man n s
-  same_cells s = sym (after_at p m v lm f s) ∙ ap (λ q. slice_index q.cells s) e ∙ after_at p n v ln g s
+  same_cells s =
+      sym (after_at p m v lm f s) ∙ ap (λ q. slice_index q.cells s) e ∙ after_at p n v ln g s
 
   same_from : m.from ≡ n.from
   same_from =
@@ -59,9 +60,11 @@ no_pawn : (c : Colour) (x : Option Kind) → is_promotion x ≡ true → x ≡ S
 no_pawn c None h e = cc
 no_pawn c (Some k) h e = let same = ap is_promotion e in cc
 
-promo_by : (man : Man) (x y : Option Kind) → (x ≡ Some Pawn → ⊥) → (y ≡ Some Pawn → ⊥) → man.kind ≡ Pawn → arrives man x ≡ arrives man y → x ≡ y
+promo_by : (man : Man) (x y : Option Kind) → (x ≡ Some Pawn → ⊥) → (y ≡ Some Pawn → ⊥) →
+    man.kind ≡ Pawn → arrives man x ≡ arrives man y → x ≡ y
 promo_by man None None hx hy k e = refl
-promo_by man None (Some y) hx hy k e = absurd (hy (ap (λ (w : Man). Some w.kind) (sym e) ∙ ap Some k))
+promo_by man None (Some y) hx hy k e =
+    absurd (hy (ap (λ (w : Man). Some w.kind) (sym e) ∙ ap Some k))
 promo_by man (Some x) None hx hy k e = absurd (hx (ap (λ (w : Man). Some w.kind) e ∙ ap Some k))
 promo_by man (Some x) (Some y) hx hy k e = ap (λ (w : Man). Some w.kind) e
 
@@ -70,11 +73,12 @@ none_of None None hx hy = refl
 none_of None (Some y) hx hy = cc
 none_of (Some x) y hx hy = cc
 
-same_promo : (man : Man) (c : Colour) (k : Kind) (b : ℕ) (x y : Option Kind) → man.kind ≡ k → promotes c k b x ≡ true → promotes c k b y ≡ true → arrives man x ≡ arrives man y → x ≡ y
+same_promo : (man : Man) (c : Colour) (k : Kind) (b : ℕ) (x y : Option Kind) → man.kind ≡ k →
+    promotes c k b x ≡ true → promotes c k b y ≡ true → arrives man x ≡ arrives man y → x ≡ y
 same_promo man c Pawn b x y k hx hy e =
     promo_by man x y
-    (no_pawn c x (and_both (is_promotion x) (if is_last c b then is_some x else is_none x) hx).0)
-    (no_pawn c y (and_both (is_promotion y) (if is_last c b then is_some y else is_none y) hy).0) k e
+    (no_pawn c x (and_parts (is_promotion x) (if is_last c b then is_some x else is_none x) hx).0)
+    (no_pawn c y (and_parts (is_promotion y) (if is_last c b then is_some y else is_none y) hy).0) k e
 same_promo man c King b x y k hx hy e = none_of x y hx hy
 same_promo man c Queen b x y k hx hy e = none_of x y hx hy
 same_promo man c Rook b x y k hx hy e = none_of x y hx hy
@@ -84,9 +88,11 @@ same_promo man c Knight b x y k hx hy e = none_of x y hx hy
 same_parts : (m n : Step) → m.from ≡ n.from → m.to ≡ n.to → m.promo ≡ n.promo → m ≡ n
 same_parts m n from to promo =
     let made : ℕ → ℕ → Option Kind → Step = λ a b k. record { from = a; to = b; promo = k } in
-    ap (λ a. made a m.to m.promo) from ∙ ap (λ b. made n.from b m.promo) to ∙ ap (made n.from n.to) promo
+    ap (λ a. made a m.to m.promo) from ∙ ap (λ b. made n.from b m.promo) to
+    ∙ ap (made n.from n.to) promo
 
-same_by : (p : Board) (m n : Step) → IsValid p → m.to < 64 → n.to < 64 → Move p m → Move p n → after p m ≡ after p n → m ≡ n
+same_by : (p : Board) (m n : Step) → IsValid p → m.to < 64 → n.to < 64 → Move p m → Move p n →
+    after p m ≡ after p n → m ≡ n
 same_by p m n v lm ln f g e =
     let from = same_from p m n v lm ln f g e in
     let to = same_to p m n v lm ln f g e in
@@ -96,5 +102,6 @@ same_by p m n v lm ln f g e =
     let promo : m.promo ≡ n.promo = same_promo f.man f.man.colour f.man.kind m.to m.promo n.promo refl f.promo second (arrival ∙ ap (λ w. arrives w n.promo) (sym man)) in
     same_parts m n from to promo
 
-pub same_move : (p : Board) (m n : Step) → IsValid p → IsStep m → IsStep n → is_legal p m ≡ true → is_legal p n ≡ true → after p m ≡ after p n → m ≡ n
+pub same_move : (p : Board) (m n : Step) → IsValid p → IsStep m → IsStep n → is_legal p m ≡ true →
+    is_legal p n ≡ true → after p m ≡ after p n → m ≡ n
 same_move p m n v sm sn hm hn e = same_by p m n v sm.to sn.to (facts p m hm) (facts p n hn) e

@@ -1,7 +1,7 @@
 -- A man that may not expose its king moves safely.
 use Rattle.std.proofs.Common.{◌≡◌, ℕ, Bool, true, false, cond, ◌&&◌, not, ap, sym, ◌∙◌, refl, Option, None, Some, slice_set}
 use Rattle.std.specs.Prelude.{◌==◌, is_some}
-use Rattle.std.proofs.lemmas.Bool.{and_right, or_parts}
+use Rattle.std.proofs.lemmas.Bool.{and_right, or_parts, and_parts}
 use Rattle.frz_board.specs.declared.man.Kind.{Kind}
 use Rattle.frz_board.specs.declared.man.Kind.TheVariants.{King, Queen, Rook, Bishop, Knight, Pawn}
 use Rattle.frz_board.specs.declared.man.Man.{Man}
@@ -9,8 +9,7 @@ use Rattle.frz_board.specs.Men.{other_of, same_colour, is_man_of, man_of_cell, c
 use Rattle.frz_board.specs.Boards.{Board, man_on, holds}
 use Rattle.frz_board.specs.Attacks.{pawn_reaches, is_in_check}
 use Rattle.frz_board.specs.Moving.{Step}
-use Rattle.frz_board.proofs.Connectives.{and_both}
-use Rattle.frz_board.proofs.NoNewCheck.{no_new_check}
+use Rattle.frz_board.proofs.Lemmas.{no_new_check}
 use Rattle.frz_fide.specs.Exposing.{is_king, moves_apart, is_bared, may_expose}
 use Rattle.frz_fide.specs.Legal.{goes, promotes, is_target, arrives, beside_on_file, target_after, can_go, man_goes, after, after_man}
 use Rattle.frz_fide.proofs.Facts.{same_side}
@@ -18,7 +17,8 @@ use Rattle.frz_fide.proofs.Standing.{own_colour, arrives_own, arrives_colour}
 use Rattle.frz_fide.proofs.Kept.{king_test, same_king}
 
 -- without a target nothing is captured en passant
-no_taking : (k : Kind) (target : Option ℕ) (x : Bool) (b : ℕ) → (is_pawn k && is_some target) ≡ false → (is_pawn k && (x && is_target target b)) ≡ false
+no_taking : (k : Kind) (target : Option ℕ) (x : Bool) (b : ℕ) →
+    (is_pawn k && is_some target) ≡ false → (is_pawn k && (x && is_target target b)) ≡ false
 no_taking k None x b h = and_right (is_pawn k) (x && false) (and_right x false refl)
 no_taking Pawn (Some t) x b h = cc
 no_taking King (Some t) x b h = refl
@@ -27,14 +27,15 @@ no_taking Rook (Some t) x b h = refl
 no_taking Bishop (Some t) x b h = refl
 no_taking Knight (Some t) x b h = refl
 
-pub leaves_safely : (p : Board) (man : Man) (m : Step) → man_on p m.from ≡ Some man → can_go p m ≡ true → may_expose p man m.from ≡ false → is_in_check (after p m) p.turn ≡ false
+pub leaves_safely : (p : Board) (man : Man) (m : Step) → man_on p m.from ≡ Some man →
+    can_go p m ≡ true → may_expose p man m.from ≡ false → is_in_check (after p m) p.turn ≡ false
 leaves_safely p man m on can hidden =
     let parts = or_parts (moves_apart p man) (is_bared p m.from) hidden in
     let apart = or_parts (is_king man.kind) (is_pawn man.kind && is_some p.ep) parts.0 in
-    let way = and_both (holds p p.turn m.from && not (holds p p.turn m.to)) (man_goes p (man_on p m.from) m) can in
-    let own : same_colour man.colour p.turn ≡ true = ap (is_man_of p.turn) (sym on) ∙ (and_both (holds p p.turn m.from) (not (holds p p.turn m.to)) way.0).0 in
+    let way = and_parts (holds p p.turn m.from && not (holds p p.turn m.to)) (man_goes p (man_on p m.from) m) can in
+    let own : same_colour man.colour p.turn ≡ true = ap (is_man_of p.turn) (sym on) ∙ (and_parts (holds p p.turn m.from) (not (holds p p.turn m.to)) way.0).0 in
     let side = same_side man.colour p.turn own in
-    let promo = (and_both (goes p man.colour man.kind m.from m.to) (promotes man.colour man.kind m.to m.promo) (ap (λ o. man_goes p o m) (sym on) ∙ way.1)).1 in
+    let promo = (and_parts (goes p man.colour man.kind m.from m.to) (promotes man.colour man.kind m.to m.promo) (ap (λ o. man_goes p o m) (sym on) ∙ way.1)).1 in
     let arrival = cell_of_man (arrives man m.promo) in
     let comes : is_man_of p.turn (man_of_cell arrival) ≡ true =
     ap (is_man_of p.turn) (arrives_own man m.promo) ∙ ap (λ c. same_colour c p.turn) (arrives_colour man m.promo ∙ side) ∙ own_colour p.turn in

@@ -1,6 +1,6 @@
 -- What a legal move is.
 use Rattle.std.proofs.Common.{◌≡◌, refl, true, false, ◌&&◌, not, Option, None, Some}
-use Rattle.std.proofs.lemmas.Bool.{not-true}
+use Rattle.std.proofs.lemmas.Bool.{not-true, and_parts}
 use Rattle.frz_board.specs.Attacks.{is_in_check}
 use Rattle.frz_board.specs.Boards.{Board, man_on, holds}
 use Rattle.frz_board.specs.Men.{is_man_of, same_colour}
@@ -9,7 +9,6 @@ use Rattle.frz_fide.specs.Legal.{is_legal, can_go, man_goes, goes, promotes, aft
 use Rattle.frz_board.specs.declared.man.Colour.{Colour}
 use Rattle.frz_board.specs.declared.man.Colour.TheVariants.{White, Black}
 use Rattle.frz_board.specs.declared.man.Man.{Man}
-use Rattle.frz_board.proofs.Connectives.{and_both}
 
 pub same_side : (c d : Colour) → same_colour c d ≡ true → c ≡ d
 same_side White White h = refl
@@ -26,12 +25,14 @@ pub record Move (p : Board) (m : Step) : Type 0 where
   pub promo : promotes man.colour man.kind m.to m.promo ≡ true
   pub safe : is_in_check (after p m) p.turn ≡ false
 
-facts_of : (p : Board) (m : Step) (o : Option Man) → man_on p m.from ≡ o → ((is_man_of p.turn o && not (holds p p.turn m.to)) && man_goes p o m) ≡ true → is_in_check (after p m) p.turn ≡ false → Move p m
+facts_of : (p : Board) (m : Step) (o : Option Man) → man_on p m.from ≡ o →
+    ((is_man_of p.turn o && not (holds p p.turn m.to)) && man_goes p o m) ≡ true →
+    is_in_check (after p m) p.turn ≡ false → Move p m
 facts_of p m None e h s = absurd cc
 facts_of p m (Some man) e h s =
-    let parts = and_both (same_colour man.colour p.turn && not (holds p p.turn m.to)) (goes p man.colour man.kind m.from m.to && promotes man.colour man.kind m.to m.promo) h in
-    let sides = and_both (same_colour man.colour p.turn) (not (holds p p.turn m.to)) parts.0 in
-    let ways = and_both (goes p man.colour man.kind m.from m.to) (promotes man.colour man.kind m.to m.promo) parts.1 in
+    let parts = and_parts (same_colour man.colour p.turn && not (holds p p.turn m.to)) (goes p man.colour man.kind m.from m.to && promotes man.colour man.kind m.to m.promo) h in
+    let sides = and_parts (same_colour man.colour p.turn) (not (holds p p.turn m.to)) parts.0 in
+    let ways = and_parts (goes p man.colour man.kind m.from m.to) (promotes man.colour man.kind m.to m.promo) parts.1 in
     record {
       man = man;
       on = e;
@@ -45,5 +46,5 @@ facts_of p m (Some man) e h s =
 pub facts : (p : Board) (m : Step) → is_legal p m ≡ true → Move p m
 unfolding is_legal
 facts p m h =
-    let parts = and_both (can_go p m) (not (is_in_check (after p m) p.turn)) h in
+    let parts = and_parts (can_go p m) (not (is_in_check (after p m) p.turn)) h in
     facts_of p m (man_on p m.from) refl parts.0 (not-true (is_in_check (after p m) p.turn) parts.1)

@@ -1,14 +1,17 @@
-pub mod Squares
-pub mod Order
-pub mod Together
-pub mod Room
-pub mod Cells
-pub mod Facts
-pub mod Standing
-pub mod Different
-pub mod Kept
-pub mod Exposed
-pub mod Skip
-pub mod Listed
-pub mod Targets
-pub mod InWords
+-- Other crates cite the module Lemmas alone.
+pub mod Lemmas
+mod Squares
+mod Order
+mod Together
+mod Room
+mod Cells
+mod Facts
+mod Standing
+mod Different
+mod Kept
+mod Exposed
+mod Skip
+mod Listed
+mod Targets
+mod Checking
+mod InWords

@@ -18,21 +18,27 @@ use Rattle.frz_fide.specs.Listing.{steps_between, every_step, legal_moves_of}
 use Rattle.frz_board.specs.declared.man.Kind.{Kind}
 use Rattle.frz_board.specs.declared.man.Kind.TheVariants.{King, Queen, Rook, Bishop, Knight, Pawn}
 
-All_weaker : {X : Type 0} (P Q : X → Type 0) → ((x : X) → P x → Q x) → (xs : List X) → AllByRecursion P xs → AllByRecursion Q xs
+All_weaker : {X : Type 0} (P Q : X → Type 0) → ((x : X) → P x → Q x) → (xs : List X) →
+    AllByRecursion P xs → AllByRecursion Q xs
 All_weaker P Q h [] a = tt
 All_weaker P Q h (x ∷ xs) a = (h x a.0, All_weaker P Q h xs a.1)
 
-All_append : {X : Type 0} (P : X → Type 0) (xs ys : List X) → AllByRecursion P xs → AllByRecursion P ys → AllByRecursion P (xs ++ ys)
+All_append : {X : Type 0} (P : X → Type 0) (xs ys : List X) → AllByRecursion P xs →
+    AllByRecursion P ys → AllByRecursion P (xs ++ ys)
 All_append P [] ys a b = b
 All_append P (x ∷ xs) ys a b = (a.0, All_append P xs ys a.1 b)
 
-sorted_append : {X : Type 0} (c : X → X → Ordering) (xs ys : List X) → IsStrictlySortedBy c xs → IsStrictlySortedBy c ys → AllByRecursion (λ x. AllByRecursion (λ y. c x y ≡ Less) ys) xs → IsStrictlySortedBy c (xs ++ ys)
+sorted_append : {X : Type 0} (c : X → X → Ordering) (xs ys : List X) → IsStrictlySortedBy c xs →
+    IsStrictlySortedBy c ys → AllByRecursion (λ x. AllByRecursion (λ y. c x y ≡ Less) ys) xs →
+    IsStrictlySortedBy c (xs ++ ys)
 unfolding IsStrictlySortedBy
 sorted_append c [] ys s t a = t
-sorted_append c (x ∷ xs) ys s t a = (All_append (λ y. c x y ≡ Less) xs ys s.0 a.0, sorted_append c xs ys s.1 t a.1)
+sorted_append c (x ∷ xs) ys s t a =
+    (All_append (λ y. c x y ≡ Less) xs ys s.0 a.0, sorted_append c xs ys s.1 t a.1)
 
 module _ {X : Type 0} (c : X → X → Ordering) (f : ℕ → List X) (Q : ℕ → X → Type 0) (pieces : (a : ℕ) → IsStrictlySortedBy c (f a)) (mine : (a : ℕ) → AllByRecursion (Q a) (f a)) (below : (i j : ℕ) (x y : X) → i < j → Q i x → Q j y → c x y ≡ Less) where
-  later : (b a n : ℕ) → b < a → AllByRecursion (λ y. (j : ℕ) × (b < j) × Q j y) (flat_map f (range_with_len a n))
+  later : (b a n : ℕ) → b < a →
+      AllByRecursion (λ y. (j : ℕ) × (b < j) × Q j y) (flat_map f (range_with_len a n))
   later b a zero h = tt
   later b a (suc n) h =
       All_append (λ y. (j : ℕ) × (b < j) × Q j y) (f a) (flat_map f (range_with_len (a + 1) n))
@@ -48,7 +54,8 @@ module _ {X : Type 0} (c : X → X → Ordering) (f : ℕ → List X) (Q : ℕ �
       (λ x q. All_weaker (λ y. (j : ℕ) × (a < j) × Q j y) (λ y. c x y ≡ Less) (λ y w. below a w.0 x y w.1 q w.2) (flat_map f (range_with_len (a + 1) n)) (later a (a + 1) n (omega arith)))
       (f a) (mine a))
 
-All_flat : {X : Type 0} (P : X → Type 0) (f : ℕ → List X) → ((a : ℕ) → AllByRecursion P (f a)) → (xs : List ℕ) → AllByRecursion P (flat_map f xs)
+All_flat : {X : Type 0} (P : X → Type 0) (f : ℕ → List X) → ((a : ℕ) → AllByRecursion P (f a)) →
+    (xs : List ℕ) → AllByRecursion P (flat_map f xs)
 All_flat P f h [] = tt
 All_flat P f h (x ∷ xs) = All_append P (f x) (flat_map f xs) (h x) (All_flat P f h xs)
 
@@ -68,7 +75,8 @@ between_sorted a b =
 from_and_to : (a b : ℕ) → AllByRecursion (λ m. (m.from ≡ a) × (m.to ≡ b)) (steps_between a b)
 from_and_to a b = ((refl, refl), ((refl, refl), ((refl, refl), ((refl, refl), ((refl, refl), tt)))))
 
-to_below : (a i j : ℕ) (x y : Step) → i < j → ((x.from ≡ a) × (x.to ≡ i)) → ((y.from ≡ a) × (y.to ≡ j)) → step_cmp x y ≡ Less
+to_below : (a i j : ℕ) (x y : Step) → i < j → ((x.from ≡ a) × (x.to ≡ i)) →
+    ((y.from ≡ a) × (y.to ≡ j)) → step_cmp x y ≡ Less
 to_below a i j x y h q r =
     let from : nat_cmp x.from y.from ≡ Equal = ap (λ k. nat_cmp k y.from) (q.0 ∙ sym r.0) ∙ same_number y.from in
     let to : nat_cmp x.to y.to ≡ Less = less_number x.to y.to (omega arith) in
@@ -104,12 +112,15 @@ in_right : {X : Type 0} (xs ys : List X) (x : X) → IsIn ys x → IsIn (xs ++ y
 in_right [] ys x h = h
 in_right (y ∷ xs) ys x h = inr (in_right xs ys x h)
 
-in_flat : {X : Type 0} (f : ℕ → List X) (a : ℕ) (x : X) → IsIn (f a) x → (bs : List ℕ) → IsIn bs a → IsIn (flat_map f bs) x
+in_flat : {X : Type 0} (f : ℕ → List X) (a : ℕ) (x : X) → IsIn (f a) x → (bs : List ℕ) → IsIn bs a →
+    IsIn (flat_map f bs) x
 in_flat f a x h [] w = absurd w
-in_flat f a x h (b ∷ bs) (inl w) = in_left (f b) (flat_map f bs) x (subst (λ k. IsIn (f k) x) (sym w) h)
+in_flat f a x h (b ∷ bs) (inl w) =
+    in_left (f b) (flat_map f bs) x (subst (λ k. IsIn (f k) x) (sym w) h)
 in_flat f a x h (b ∷ bs) (inr w) = in_right (f b) (flat_map f bs) x (in_flat f a x h bs w)
 
-kept_by : {X : Type 0} (b : Bool) (xs : List X) (y x : X) → b ≡ true → y ≡ x → IsIn (cond b (y ∷ xs) xs) x
+kept_by : {X : Type 0} (b : Bool) (xs : List X) (y x : X) → b ≡ true → y ≡ x →
+    IsIn (cond b (y ∷ xs) xs) x
 kept_by true xs y x h e = inl e
 kept_by false xs y x h e = cc
 
@@ -117,7 +128,8 @@ past : {X : Type 0} (b : Bool) (xs : List X) (y x : X) → IsIn xs x → IsIn (c
 past true xs y x h = inr h
 past false xs y x h = h
 
-in_filter : {X : Type 0} (t : X → Bool) (x : X) → t x ≡ true → (xs : List X) → IsIn xs x → IsIn (filter t xs) x
+in_filter : {X : Type 0} (t : X → Bool) (x : X) → t x ≡ true → (xs : List X) → IsIn xs x →
+    IsIn (filter t xs) x
 in_filter t x e [] h = absurd h
 in_filter t x e (y ∷ xs) (inl h) = kept_by (t y) (filter t xs) y x (ap t h ∙ e) h
 in_filter t x e (y ∷ xs) (inr h) = past (t y) (filter t xs) y x (in_filter t x e xs h)
@@ -155,7 +167,9 @@ listed p m s h =
     (in_flat (λ a. flat_map (λ b. steps_between a b) squares) m.from m
     (in_flat (λ b. steps_between m.from b) m.to m (in_between m.from m.to m.promo s.promo) squares (in_squares m.to s.to)) squares (in_squares m.from s.from)))
 
-filter_head : {X : Type 0} (t : X → Bool) (P : X → Type 0) (x : X) (ys : List X) → P x → AllByRecursion (λ y. P y × (t y ≡ true)) ys → (b : Bool) → t x ≡ b → AllByRecursion (λ y. P y × (t y ≡ true)) (cond b (x ∷ ys) ys)
+filter_head : {X : Type 0} (t : X → Bool) (P : X → Type 0) (x : X) (ys : List X) → P x →
+    AllByRecursion (λ y. P y × (t y ≡ true)) ys → (b : Bool) → t x ≡ b →
+    AllByRecursion (λ y. P y × (t y ≡ true)) (cond b (x ∷ ys) ys)
 filter_head t P x ys h a true e = ((h, e), a)
 filter_head t P x ys h a false e = a
 
@@ -163,7 +177,8 @@ small_range : (a n : ℕ) → a + n ≤ 64 → AllByRecursion (λ k. k < 64) (ra
 small_range a zero h = tt
 small_range a (suc n) h = (omega arith, small_range (a + 1) n (omega arith))
 
-All_filter : {X : Type 0} (t : X → Bool) (P : X → Type 0) (xs : List X) → AllByRecursion P xs → AllByRecursion (λ x. P x × (t x ≡ true)) (filter t xs)
+All_filter : {X : Type 0} (t : X → Bool) (P : X → Type 0) (xs : List X) → AllByRecursion P xs →
+    AllByRecursion (λ x. P x × (t x ≡ true)) (filter t xs)
 All_filter t P [] a = tt
 All_filter t P (x ∷ xs) a = filter_head t P x (filter t xs) a.0 (All_filter t P xs a.1) (t x) refl
 
@@ -171,9 +186,12 @@ squares_small : AllByRecursion (λ k. k < 64) squares
 unfolding squares
 squares_small = small_range 0 64 (omega arith)
 
-All_flat_in : {X : Type 0} (P : X → Type 0) (Q : ℕ → Type 0) (f : ℕ → List X) → ((a : ℕ) → Q a → AllByRecursion P (f a)) → (xs : List ℕ) → AllByRecursion Q xs → AllByRecursion P (flat_map f xs)
+All_flat_in : {X : Type 0} (P : X → Type 0) (Q : ℕ → Type 0) (f : ℕ → List X) →
+    ((a : ℕ) → Q a → AllByRecursion P (f a)) → (xs : List ℕ) → AllByRecursion Q xs →
+    AllByRecursion P (flat_map f xs)
 All_flat_in P Q f h [] q = tt
-All_flat_in P Q f h (x ∷ xs) q = All_append P (f x) (flat_map f xs) (h x q.0) (All_flat_in P Q f h xs q.1)
+All_flat_in P Q f h (x ∷ xs) q =
+    All_append P (f x) (flat_map f xs) (h x q.0) (All_flat_in P Q f h xs q.1)
 
 every_step_is : AllByRecursion IsStep every_step
 unfolding every_step
@@ -185,7 +203,8 @@ every_step_is =
     squares squares_small)
     squares squares_small
 
-pub only_legal : (p : Board) (m : Step) → Contains (legal_moves_of p) m → IsStep m × (is_legal p m ≡ true)
+pub only_legal : (p : Board) (m : Step) → Contains (legal_moves_of p) m →
+    IsStep m × (is_legal p m ≡ true)
 only_legal p m h =
     All-contains (λ x. IsStep x × (is_legal p x ≡ true)) (legal_moves_of p) m
     (All-from_recursion (λ x. IsStep x × (is_legal p x ≡ true)) (legal_moves_of p) (All_filter (is_legal p) IsStep every_step every_step_is)) h

@@ -4,7 +4,7 @@ use Rattle.std.specs.Prelude.{nat_le, is_some, is_none, count_by, sum_by, if◌t
 use Rattle.std.specs.List.{list_all}
 use Rattle.std.proofs.lemmas.List.Sums.{length-filter, sum_by-cons, sum_by-le-sum_by}
 use Rattle.std.proofs.lemmas.List.Concat.{length-flat_map}
-use Rattle.frz_board.proofs.Connectives.{and_both}
+use Rattle.std.proofs.lemmas.Bool.{and_parts}
 use Rattle.frz_board.specs.Attacks.{is_in_check}
 use Rattle.frz_board.specs.Boards.{Board, holds, man_on, is_empty}
 use Rattle.frz_board.specs.Men.{other_of, same_colour, is_man_of, man_of_cell}
@@ -33,7 +33,8 @@ le_from_test m n h = grind (arith, nat_tests)
 
 -- the table
 abbrev pub fits_rank : ℕ → Bool
-fits_rank a = nat_le (sum_by (pawn_room White a) squares) 64 && nat_le (sum_by (pawn_room Black a) squares) 64
+fits_rank a =
+    nat_le (sum_by (pawn_room White a) squares) 64 && nat_le (sum_by (pawn_room Black a) squares) 64
 
 pub table : list_all fits_rank squares ≡ true
 unfolding squares
@@ -49,14 +50,16 @@ man_room t None a b = 0
 man_room t (Some man) a b = cond (same_colour man.colour t) (kind_room man.colour man.kind a b) 0
 
 -- a man that is no pawn has one move to a square
-one_way : (s n r : Bool) → count_by (λ (k : Option Kind). (s && n) && (r && is_none k)) (None ∷ Some Queen ∷ Some Rook ∷ Some Bishop ∷ Some Knight ∷ []) ≤ cond s 1 0
+one_way : (s n r : Bool) →
+    count_by (λ (k : Option Kind). (s && n) && (r && is_none k)) (None ∷ Some Queen ∷ Some Rook ∷ Some Bishop ∷ Some Knight ∷ []) ≤ cond s 1 0
 one_way true true true = omega arith
 one_way true true false = omega arith
 one_way true false r = omega arith
 one_way false n r = omega arith
 
 -- a pawn has one, or four on its last rank
-pawn_ways : (s n g last w : Bool) → (g ≡ true → w ≡ true) → count_by (λ (k : Option Kind). (s && n) && (g && (is_promotion k && (if last then is_some k else is_none k)))) (None ∷ Some Queen ∷ Some Rook ∷ Some Bishop ∷ Some Knight ∷ []) ≤ cond s (cond w 4 0) 0
+pawn_ways : (s n g last w : Bool) → (g ≡ true → w ≡ true) →
+    count_by (λ (k : Option Kind). (s && n) && (g && (is_promotion k && (if last then is_some k else is_none k)))) (None ∷ Some Queen ∷ Some Rook ∷ Some Bishop ∷ Some Knight ∷ []) ≤ cond s (cond w 4 0) 0
 pawn_ways true true true true true h = omega arith
 pawn_ways true true true false true h = omega arith
 pawn_ways true true true last false h = absurd (cc (h refl))
@@ -65,7 +68,9 @@ pawn_ways true false g last w h = omega arith
 pawn_ways false n g last w h = omega arith
 
 -- a pawn that goes from a to b goes one or two ranks forward
-pub forward_only : (d1 f1 x f0 e h f2 y z : Bool) → ((((d1 && f1) && x) || ((f0 && f1) && e)) || (((h && (f0 && f2)) && y) || ((d1 && f1) && z))) ≡ true → (f1 || f2) ≡ true
+pub forward_only : (d1 f1 x f0 e h f2 y z : Bool) →
+    ((((d1 && f1) && x) || ((f0 && f1) && e)) || (((h && (f0 && f2)) && y) || ((d1 && f1) && z)))
+    ≡ true → (f1 || f2) ≡ true
 forward_only d1 true x f0 e h f2 y z g = refl
 forward_only d1 false x f0 e h true y z g = refl
 forward_only true false x true e true false y z g = cc
@@ -80,7 +85,8 @@ forward_only false false x false e false false y z g = cc
 abbrev pub promotions : List (Option Kind)
 promotions = None ∷ Some Queen ∷ Some Rook ∷ Some Bishop ∷ Some Knight ∷ []
 
-kind_ways : (p : Board) (c : Colour) (k : Kind) (s n : Bool) (a b : ℕ) → count_by (λ promo. (s && n) && (goes p c k a b && promotes c k b promo)) promotions ≤ cond s (kind_room c k a b) 0
+kind_ways : (p : Board) (c : Colour) (k : Kind) (s n : Bool) (a b : ℕ) →
+    count_by (λ promo. (s && n) && (goes p c k a b && promotes c k b promo)) promotions ≤ cond s (kind_room c k a b) 0
 kind_ways p c King s n a b = one_way s n (goes p c King a b)
 kind_ways p c Queen s n a b = one_way s n (goes p c Queen a b)
 kind_ways p c Rook s n a b = one_way s n (goes p c Rook a b)
@@ -99,7 +105,8 @@ and_fewer true true = omega arith
 and_fewer true false = omega arith
 and_fewer false y = omega arith
 
-between_room : (p : Board) (a b : ℕ) → length (legal_between p a b) ≤ man_room p.turn (man_on p a) a b
+between_room : (p : Board) (a b : ℕ) →
+    length (legal_between p a b) ≤ man_room p.turn (man_on p a) a b
 unfolding legal_between is_legal
 between_room p a b =
     let legal = length-filter (is_legal p) (steps_between a b) in
@@ -115,31 +122,35 @@ ones : sum_by (λ (b : ℕ). 1) squares ≤ 64
 unfolding squares
 ones = omega arith
 
-room_sum : (a : ℕ) → fits_rank a ≡ true → (s : Bool) (c : Colour) (k : Kind) → sum_by (λ b. cond s (kind_room c k a b) 0) squares ≤ cond s 64 0
+room_sum : (a : ℕ) → fits_rank a ≡ true → (s : Bool) (c : Colour) (k : Kind) →
+    sum_by (λ b. cond s (kind_room c k a b) 0) squares ≤ cond s 64 0
 room_sum a fits false c k = zeros
 room_sum a fits true c King = ones
 room_sum a fits true c Queen = ones
 room_sum a fits true c Rook = ones
 room_sum a fits true c Bishop = ones
 room_sum a fits true c Knight = ones
-room_sum a fits true White Pawn = le_from_test _ _ (and_both _ _ fits).0
-room_sum a fits true Black Pawn = le_from_test _ _ (and_both _ _ fits).1
+room_sum a fits true White Pawn = le_from_test _ _ (and_parts _ _ fits).0
+room_sum a fits true Black Pawn = le_from_test _ _ (and_parts _ _ fits).1
 
-man_room_sum : (a : ℕ) → fits_rank a ≡ true → (t : Colour) (o : Option Man) → sum_by (λ b. man_room t o a b) squares ≤ cond (is_man_of t o) 64 0
+man_room_sum : (a : ℕ) → fits_rank a ≡ true → (t : Colour) (o : Option Man) →
+    sum_by (λ b. man_room t o a b) squares ≤ cond (is_man_of t o) 64 0
 man_room_sum a fits t None = zeros
 man_room_sum a fits t (Some man) = room_sum a fits (same_colour man.colour t) man.colour man.kind
 
-from_room : (p : Board) (a : ℕ) → fits_rank a ≡ true → length (legal_from p a) ≤ cond (holds p p.turn a) 64 0
+from_room : (p : Board) (a : ℕ) → fits_rank a ≡ true →
+    length (legal_from p a) ≤ cond (holds p p.turn a) 64 0
 unfolding legal_from
 from_room p a fits =
     let whole = length-flat_map (λ b. legal_between p a b) squares in
     let fewer = sum_by-le-sum_by (λ b. length (legal_between p a b)) (λ b. man_room p.turn (man_on p a) a b) squares (λ b. between_room p a b) in
     omega (arith, whole, fewer, man_room_sum a fits p.turn (man_on p a))
 
-sum_tested : (f g : ℕ → ℕ) (t : ℕ → Bool) → ((x : ℕ) → t x ≡ true → f x ≤ g x) → (xs : List ℕ) → list_all t xs ≡ true → sum_by f xs ≤ sum_by g xs
+sum_tested : (f g : ℕ → ℕ) (t : ℕ → Bool) → ((x : ℕ) → t x ≡ true → f x ≤ g x) → (xs : List ℕ) →
+    list_all t xs ≡ true → sum_by f xs ≤ sum_by g xs
 sum_tested f g t h [] e = omega arith
 sum_tested f g t h (x ∷ xs) e =
-    let both = and_both (t x) (list_all t xs) e in
+    let both = and_parts (t x) (list_all t xs) e in
     omega (arith, sum_by-cons f x xs, sum_by-cons g x xs, h x both.0, sum_tested f g t h xs both.1)
 
 sixty_four : (q : Bool) → cond q 64 0 ≡ 64 * cond q 1 0
@@ -152,7 +163,7 @@ times_count q (x ∷ xs) =
     omega (arith, sum_by-cons (λ y. cond (q y) 64 0) x xs, sum_by-cons (λ y. cond (q y) 1 0) x xs, times_count q xs, sixty_four (q x))
 
 -- the cells, read square by square
-reads : (xs : List ℕ) → length xs ≡ 64 → map (λ s. slice_index xs s) squares ≡ xs
+pub reads : (xs : List ℕ) → length xs ≡ 64 → map (λ s. slice_index xs s) squares ≡ xs
 unfolding squares
 reads xs h =
     same_number_lists _ _ (length-map-range_with_len (λ s. slice_index xs s) 0 64 ∙ sym h)
@@ -160,16 +171,20 @@ reads xs h =
 
 sum_by-map : (g : ℕ → ℕ) (f : ℕ → ℕ) (xs : List ℕ) → sum_by g (map f xs) ≡ sum_by (λ x. g (f x)) xs
 sum_by-map g f [] = refl
-sum_by-map g f (x ∷ xs) = omega (arith, sum_by-cons g (f x) (map f xs), sum_by-cons (λ y. g (f y)) x xs, sum_by-map g f xs)
+sum_by-map g f (x ∷ xs) =
+    omega (arith, sum_by-cons g (f x) (map f xs), sum_by-cons (λ y. g (f y)) x xs, sum_by-map g f xs)
 
 pub few : (p : Board) (c : Colour) → has_few_men p ≡ true → men_of p c ≤ 16
 unfolding has_few_men
-few p White h = le_from_test _ _ (and_both _ _ h).0
-few p Black h = le_from_test _ _ (and_both _ _ h).1
+few p White h = le_from_test _ _ (and_parts _ _ h).0
+few p Black h = le_from_test _ _ (and_parts _ _ h).1
 
-men_by_squares : (p : Board) (c : Colour) → length p.cells ≡ 64 → count_by (λ s. holds p c s) squares ≡ men_of p c
+men_by_squares : (p : Board) (c : Colour) → length p.cells ≡ 64 →
+    count_by (λ s. holds p c s) squares ≡ men_of p c
 unfolding men_of
-men_by_squares p c h = sym (sum_by-map (λ x. cond (is_man_of c (man_of_cell x)) 1 0) (λ s. slice_index p.cells s) squares) ∙ ap (λ xs. count_by (λ x. is_man_of c (man_of_cell x)) xs) (reads p.cells h)
+men_by_squares p c h =
+    sym (sum_by-map (λ x. cond (is_man_of c (man_of_cell x)) 1 0) (λ s. slice_index p.cells s) squares)
+    ∙ ap (λ xs. count_by (λ x. is_man_of c (man_of_cell x)) xs) (reads p.cells h)
 
 pub legal_room : (p : Board) → IsValid p → length (legal_by_squares p) ≤ 1024
 unfolding legal_by_squares

@@ -29,11 +29,14 @@ no_promo true true false pr s h = refl
 no_promo true false g pr s h = refl
 no_promo false n g pr s h = refl
 
-filter_none : (t : Step → Bool) (r : Option Kind → Step) → ((k : Option Kind) → t (r k) ≡ false) → (ks : List (Option Kind)) → filter t (map r ks) ≡ []
+filter_none : (t : Step → Bool) (r : Option Kind → Step) → ((k : Option Kind) → t (r k) ≡ false) →
+    (ks : List (Option Kind)) → filter t (map r ks) ≡ []
 filter_none t r h [] = refl
-filter_none t r h (k ∷ ks) = ap (λ x. cond x (r k ∷ filter t (map r ks)) (filter t (map r ks))) (h k) ∙ filter_none t r h ks
+filter_none t r h (k ∷ ks) =
+    ap (λ x. cond x (r k ∷ filter t (map r ks)) (filter t (map r ks))) (h k) ∙ filter_none t r h ks
 
-must_choose : (c : Colour) (k : Kind) (b : ℕ) → (is_pawn k && is_last c b) ≡ true → promotes c k b None ≡ false
+must_choose : (c : Colour) (k : Kind) (b : ℕ) → (is_pawn k && is_last c b) ≡ true →
+    promotes c k b None ≡ false
 must_choose c Pawn b h = ap (λ x. true && (if x then false else true)) h
 must_choose c King b h = cc
 must_choose c Queen b h = cc
@@ -41,23 +44,29 @@ must_choose c Rook b h = cc
 must_choose c Bishop b h = cc
 must_choose c Knight b h = cc
 
-cannot_choose : (c : Colour) (k : Kind) (b : ℕ) (j : Kind) → (is_pawn k && is_last c b) ≡ false → promotes c k b (Some j) ≡ false
-cannot_choose c Pawn b j h = ap (λ x. is_promotion (Some j) && (if x then true else false)) h ∙ and_right (is_promotion (Some j)) false refl
+cannot_choose : (c : Colour) (k : Kind) (b : ℕ) (j : Kind) → (is_pawn k && is_last c b) ≡ false →
+    promotes c k b (Some j) ≡ false
+cannot_choose c Pawn b j h =
+    ap (λ x. is_promotion (Some j) && (if x then true else false)) h
+    ∙ and_right (is_promotion (Some j)) false refl
 cannot_choose c King b j h = refl
 cannot_choose c Queen b j h = refl
 cannot_choose c Rook b j h = refl
 cannot_choose c Bishop b j h = refl
 cannot_choose c Knight b j h = refl
 
-pub promote : (c : Colour) (b : ℕ) (k : Kind) (j : Kind) → (is_pawn k && is_last c b) ≡ true → is_promotion (Some j) ≡ true → promotes c k b (Some j) ≡ true
-promote c b Pawn j h i = ap (λ x. is_promotion (Some j) && (if x then true else false)) h ∙ ap (λ x. x && true) i
+pub promote : (c : Colour) (b : ℕ) (k : Kind) (j : Kind) → (is_pawn k && is_last c b) ≡ true →
+    is_promotion (Some j) ≡ true → promotes c k b (Some j) ≡ true
+promote c b Pawn j h i =
+    ap (λ x. is_promotion (Some j) && (if x then true else false)) h ∙ ap (λ x. x && true) i
 promote c b King j h i = cc
 promote c b Queen j h i = cc
 promote c b Rook j h i = cc
 promote c b Bishop j h i = cc
 promote c b Knight j h i = cc
 
-pub stay : (c : Colour) (b : ℕ) (k : Kind) → (is_pawn k && is_last c b) ≡ false → promotes c k b None ≡ true
+pub stay : (c : Colour) (b : ℕ) (k : Kind) → (is_pawn k && is_last c b) ≡ false →
+    promotes c k b None ≡ true
 stay c b Pawn h = ap (λ x. true && (if x then false else true)) h
 stay c b King h = refl
 stay c b Queen h = refl
@@ -65,25 +74,35 @@ stay c b Rook h = refl
 stay c b Bishop h = refl
 stay c b Knight h = refl
 
-all_four : (s h g q : Bool) → s ≡ true → h ≡ false → g ≡ true → q ≡ true → ((s && not h) && (g && q)) ≡ true
+all_four : (s h g q : Bool) → s ≡ true → h ≡ false → g ≡ true → q ≡ true →
+    ((s && not h) && (g && q)) ≡ true
 all_four s h g q hs hh hg hq = rw (hs, hh, hg, hq)
 
-filter_some_none : (t : Step → Bool) (r : Option Kind → Step) → ((k : Kind) → t (r (Some k)) ≡ false) → (ks : List Kind) → filter t (map r (map (λ k. Some k) ks)) ≡ []
+filter_some_none : (t : Step → Bool) (r : Option Kind → Step) →
+    ((k : Kind) → t (r (Some k)) ≡ false) → (ks : List Kind) →
+    filter t (map r (map (λ k. Some k) ks)) ≡ []
 filter_some_none t r h [] = refl
-filter_some_none t r h (k ∷ ks) = ap (λ x. cond x (r (Some k) ∷ filter t (map r (map (λ k. Some k) ks))) (filter t (map r (map (λ k. Some k) ks)))) (h k) ∙ filter_some_none t r h ks
+filter_some_none t r h (k ∷ ks) =
+    ap (λ x. cond x (r (Some k) ∷ filter t (map r (map (λ k. Some k) ks))) (filter t (map r (map (λ k. Some k) ks)))) (h k)
+    ∙ filter_some_none t r h ks
 
 module _ (p : Board) (a b : ℕ) (man : Man) (on : man_on p a ≡ Some man) where
   abbrev step : Option Kind → Step
   step k = record { from = a; to = b; promo = k }
 
-  opened : (k : Option Kind) → is_legal p (step k) ≡ (((same_colour man.colour p.turn && not (holds p p.turn b)) && (goes p man.colour man.kind a b && promotes man.colour man.kind b k)) && not (is_in_check (after p (step k)) p.turn))
+  opened : (k : Option Kind) →
+      is_legal p (step k)
+      ≡ (((same_colour man.colour p.turn && not (holds p p.turn b)) && (goes p man.colour man.kind a b && promotes man.colour man.kind b k)) && not (is_in_check (after p (step k)) p.turn))
   unfolding is_legal
-  opened k = ap (λ o. ((is_man_of p.turn o && not (holds p p.turn b)) && man_goes p o (step k)) && not (is_in_check (after p (step k)) p.turn)) on
+  opened k =
+      ap (λ o. ((is_man_of p.turn o && not (holds p p.turn b)) && man_goes p o (step k)) && not (is_in_check (after p (step k)) p.turn)) on
 
   -- where the man does not go
-  pub no_way : (not (holds p p.turn b) && goes p man.colour man.kind a b) ≡ false → legal_between p a b ≡ []
+  pub no_way : (not (holds p p.turn b) && goes p man.colour man.kind a b) ≡ false →
+      legal_between p a b ≡ []
   unfolding legal_between
-  no_way h = filter_none (is_legal p) step (λ k. opened k ∙ four (same_colour man.colour p.turn) (not (holds p p.turn b)) (goes p man.colour man.kind a b) (promotes man.colour man.kind b k) (not (is_in_check (after p (step k)) p.turn)) h) promotions
+  no_way h =
+      filter_none (is_legal p) step (λ k. opened k ∙ four (same_colour man.colour p.turn) (not (holds p p.turn b)) (goes p man.colour man.kind a b) (promotes man.colour man.kind b k) (not (is_in_check (after p (step k)) p.turn)) h) promotions
 
   -- where it becomes nothing else
   pub no_choice : (is_pawn man.kind && is_last man.colour b) ≡ false → legal_between p a b ≡ filter (is_legal p) (record { from = a; to = b; promo = None } ∷ [])
@@ -94,7 +113,8 @@ module _ (p : Board) (a b : ℕ) (man : Man) (on : man_on p a ≡ Some man) wher
       ap (λ r. cond (t (step None)) (step None ∷ r) r) none
 
   -- where it must become something else
-  pub choices : (is_pawn man.kind && is_last man.colour b) ≡ true → legal_between p a b ≡ chosen p a b
+  pub choices : (is_pawn man.kind && is_last man.colour b) ≡ true →
+      legal_between p a b ≡ chosen p a b
   unfolding legal_between chosen
   choices h =
       let t = is_legal p in
@@ -103,7 +123,9 @@ module _ (p : Board) (a b : ℕ) (man : Man) (on : man_on p a ≡ Some man) wher
 
   -- the man may go
   pub may_go : (k : Option Kind) → same_colour man.colour p.turn ≡ true → holds p p.turn b ≡ false → goes p man.colour man.kind a b ≡ true → promotes man.colour man.kind b k ≡ true → can_go p (record { from = a; to = b; promo = k }) ≡ true
-  may_go k own free way promo = ap (λ o. (is_man_of p.turn o && not (holds p p.turn b)) && man_goes p o (step k)) on ∙ all_four (same_colour man.colour p.turn) (holds p p.turn b) (goes p man.colour man.kind a b) (promotes man.colour man.kind b k) own free way promo
+  may_go k own free way promo =
+      ap (λ o. (is_man_of p.turn o && not (holds p p.turn b)) && man_goes p o (step k)) on
+      ∙ all_four (same_colour man.colour p.turn) (holds p p.turn b) (goes p man.colour man.kind a b) (promotes man.colour man.kind b k) own free way promo
 
   open_free : (h g : Bool) → (not h && g) ≡ true → (h ≡ false) × (g ≡ true)
   open_free true g e = cc
@@ -111,13 +133,16 @@ module _ (p : Board) (a b : ℕ) (man : Man) (on : man_on p a ≡ Some man) wher
 
   -- where it goes
   pub may_choose : (j : Kind) → same_colour man.colour p.turn ≡ true → (not (holds p p.turn b) && goes p man.colour man.kind a b) ≡ true → (is_pawn man.kind && is_last man.colour b) ≡ true → is_promotion (Some j) ≡ true → can_go p (record { from = a; to = b; promo = Some j }) ≡ true
-  may_choose j own way last fits = let parts = open_free (holds p p.turn b) (goes p man.colour man.kind a b) way in may_go (Some j) own parts.0 parts.1 (promote man.colour b man.kind j last fits)
+  may_choose j own way last fits =
+      let parts = open_free (holds p p.turn b) (goes p man.colour man.kind a b) way in may_go (Some j) own parts.0 parts.1 (promote man.colour b man.kind j last fits)
 
   pub may_stay : same_colour man.colour p.turn ≡ true → (not (holds p p.turn b) && goes p man.colour man.kind a b) ≡ true → (is_pawn man.kind && is_last man.colour b) ≡ false → can_go p (record { from = a; to = b; promo = None }) ≡ true
-  may_stay own way last = let parts = open_free (holds p p.turn b) (goes p man.colour man.kind a b) way in may_go None own parts.0 parts.1 (stay man.colour b man.kind last)
+  may_stay own way last =
+      let parts = open_free (holds p p.turn b) (goes p man.colour man.kind a b) way in may_go None own parts.0 parts.1 (stay man.colour b man.kind last)
 
 -- where no man of the mover stands
-no_man : (o : Option Man) (t : Colour) (n g s : Bool) → is_man_of t o ≡ false → (((is_man_of t o && n) && g) && s) ≡ false
+no_man : (o : Option Man) (t : Colour) (n g s : Bool) → is_man_of t o ≡ false →
+    (((is_man_of t o && n) && g) && s) ≡ false
 no_man o t n g s h = ap (λ x. ((x && n) && g) && s) h
 
 none_between : (p : Board) (a b : ℕ) → holds p p.turn a ≡ false → legal_between p a b ≡ []

@@ -11,10 +11,11 @@ use Rattle.frz_board.specs.Lines.{is_rook_line, is_bishop_line}
 use Rattle.frz_board.specs.Men.{other_of}
 use Rattle.frz_board.specs.Boards.{Board, man_on, holds, is_empty}
 use Rattle.frz_board.specs.Attacks.{is_clear}
-use Rattle.frz_bits.specs.Words.{word_of, has_square, IsNext, HasNoneFrom}
+use Rattle.frz_bits.specs.Words.{IsNext, HasNoneFrom}
 use Rattle.frz_bits.specs.Ways.{may_go}
-use Rattle.frz_bits.proofs.Bits.{has-word_of}
-use Rattle.frz_bits.proofs.Gather.{in_side}
+use Rattle.frz_squares.specs.SquareSets.{set_of, has_square}
+use Rattle.frz_squares.proofs.Lemmas.{has-set_of}
+use Rattle.frz_bits.proofs.Lemmas.{in_side}
 use Rattle.frz_fide.specs.Legal.{goes, is_home, passed_over, is_target}
 use Rattle.frz_fide.specs.SquareBySquare.{legal_between, legal_from, legal_by_squares}
 use Rattle.frz_board.specs.Moving.{Step}
@@ -40,9 +41,11 @@ pawn_way false true le false x e false false y z i j g = cc
 pawn_way false false le false x e true f2 y z i j g = cc
 pawn_way false false le false x e false f2 y z i j g = cc
 
-goes_somewhere : (p : Board) (c : Colour) (k : Kind) (a b : ℕ) → goes p c k a b ≡ true → may_go c k a b ≡ true
+pub goes_somewhere : (p : Board) (c : Colour) (k : Kind) (a b : ℕ) → goes p c k a b ≡ true →
+    may_go c k a b ≡ true
 goes_somewhere p c King a b h = h
-goes_somewhere p c Queen a b h = (and_parts (is_rook_line a b || is_bishop_line a b) (is_clear p a b) h).0
+goes_somewhere p c Queen a b h =
+    (and_parts (is_rook_line a b || is_bishop_line a b) (is_clear p a b) h).0
 goes_somewhere p c Rook a b h = (and_parts (is_rook_line a b) (is_clear p a b) h).0
 goes_somewhere p c Bishop a b h = (and_parts (is_bishop_line a b) (is_clear p a b) h).0
 goes_somewhere p c Knight a b h = h
@@ -59,34 +62,49 @@ stays_out false true n i h = let w : false ≡ true = i refl in cc
 stays_out false false n i h = and_right n false refl
 
 -- no legal move of the man leads to a square that is not among the targets
-pub off_target : (p : Board) (man : Man) (a targets moves own : ℕ) (t : Colour) → man_on p a ≡ Some man → moves ≡ word_of (λ b. may_go man.colour man.kind a b) → own ≡ word_of (λ s. holds p t s) → t ≡ p.turn →
+pub off_target : (p : Board) (man : Man) (a targets moves own : ℕ) (t : Colour) →
+    man_on p a ≡ Some man → moves ≡ set_of (λ b. may_go man.colour man.kind a b) →
+    own ≡ set_of (λ s. holds p t s) → t ≡ p.turn →
     ((k : ℕ) → k < 64 → has_square targets k ≡ (has_square moves k && not (has_square own k))) → (k : ℕ) → k < 64 → has_square targets k ≡ false → legal_between p a k ≡ []
 off_target p man a targets moves own t on em eo et h k l out =
-    let may : has_square moves k ≡ may_go man.colour man.kind a k = ap (λ w. has_square w k) em ∙ has-word_of (λ b. may_go man.colour man.kind a b) k l in
+    let may : has_square moves k ≡ may_go man.colour man.kind a k = ap (λ w. has_square w k) em ∙ has-set_of (λ b. may_go man.colour man.kind a b) k l in
     let held : has_square own k ≡ holds p p.turn k = in_side p t own k eo l ∙ ap (λ u. holds p u k) et in
     no_way p a k man on
     (stays_out (may_go man.colour man.kind a k) (goes p man.colour man.kind a k) (not (holds p p.turn k)) (goes_somewhere p man.colour man.kind a k)
     (ap (λ x. may_go man.colour man.kind a k && not x) (sym held) ∙ ap (λ x. x && not (has_square own k)) (sym may) ∙ sym (h k l) ∙ out))
 
 -- no legal move begins on a square without a man of the side to move
-pub off_side : (p : Board) (own : ℕ) (t : Colour) → own ≡ word_of (λ s. holds p t s) → t ≡ p.turn → (k : ℕ) → k < 64 → has_square own k ≡ false → legal_from p k ≡ []
-off_side p own t e et k l out = none_here p k (ap (λ u. holds p u k) (sym et) ∙ sym (in_side p t own k e l) ∙ out)
+pub off_side : (p : Board) (own : ℕ) (t : Colour) → own ≡ set_of (λ s. holds p t s) → t ≡ p.turn →
+    (k : ℕ) → k < 64 → has_square own k ≡ false → legal_from p k ≡ []
+off_side p own t e et k l out =
+    none_here p k (ap (λ u. holds p u k) (sym et) ∙ sym (in_side p t own k e l) ∙ out)
 
-pub on_side : (p : Board) (own : ℕ) (t : Colour) → own ≡ word_of (λ s. holds p t s) → t ≡ p.turn → (k : ℕ) → k < 64 → has_square own k ≡ true → holds p p.turn k ≡ true
+pub on_side : (p : Board) (own : ℕ) (t : Colour) → own ≡ set_of (λ s. holds p t s) → t ≡ p.turn →
+    (k : ℕ) → k < 64 → has_square own k ≡ true → holds p p.turn k ≡ true
 on_side p own t e et k l h = ap (λ u. holds p u k) (sym et) ∙ sym (in_side p t own k e l) ∙ h
 
 -- a walk over the targets of a man collects its moves
 module _ (start : List Step) (p : Board) (a w : ℕ) (out : (k : ℕ) → k < 64 → has_square w k ≡ false → legal_between p a k ≡ []) where
-  pub from_next : (n s : ℕ) (list : List Step) → list ≡ from_below start p a n → IsNext w n s → list ≡ from_below start p a s
-  from_next n s list e next = let on = next.on_board in e ∙ sym (from_below-jump start p a n s next.from (omega arith) (λ k i m. out k (omega arith) (next.first k i m)))
+  pub from_next : (n s : ℕ) (list : List Step) → list ≡ from_below start p a n → IsNext w n s →
+      list ≡ from_below start p a s
+  from_next n s list e next =
+      let on = next.on_board in e ∙ sym (from_below-jump start p a n s next.from (omega arith) (λ k i m. out k (omega arith) (next.first k i m)))
 
-  pub from_end : (n : ℕ) (list : List Step) → n ≤ 64 → list ≡ from_below start p a n → HasNoneFrom w n → list ≡ start ++ legal_from p a
-  from_end n list l e none = e ∙ sym (from_below-jump start p a n 64 l (omega arith) (λ k i m. out k m (none.none k i m))) ∙ from_below-all start p a 64 (omega arith)
+  pub from_end : (n : ℕ) (list : List Step) → n ≤ 64 → list ≡ from_below start p a n →
+      HasNoneFrom w n → list ≡ start ++ legal_from p a
+  from_end n list l e none =
+      e ∙ sym (from_below-jump start p a n 64 l (omega arith) (λ k i m. out k m (none.none k i m)))
+      ∙ from_below-all start p a 64 (omega arith)
 
 -- a walk over the men of the side to move collects all moves
 module _ (p : Board) (w : ℕ) (out : (k : ℕ) → k < 64 → has_square w k ≡ false → legal_from p k ≡ []) where
-  pub all_next : (n s : ℕ) (list : List Step) → list ≡ all_below p n → IsNext w n s → list ≡ all_below p s
-  all_next n s list e next = let on = next.on_board in e ∙ sym (all_below-jump p n s next.from (omega arith) (λ k i m. out k (omega arith) (next.first k i m)))
+  pub all_next : (n s : ℕ) (list : List Step) → list ≡ all_below p n → IsNext w n s →
+      list ≡ all_below p s
+  all_next n s list e next =
+      let on = next.on_board in e ∙ sym (all_below-jump p n s next.from (omega arith) (λ k i m. out k (omega arith) (next.first k i m)))
 
-  pub all_end : (n : ℕ) (list : List Step) → n ≤ 64 → list ≡ all_below p n → HasNoneFrom w n → list ≡ legal_by_squares p
-  all_end n list l e none = e ∙ sym (all_below-jump p n 64 l (omega arith) (λ k i m. out k m (none.none k i m))) ∙ all_below-all p 64 (omega arith)
+  pub all_end : (n : ℕ) (list : List Step) → n ≤ 64 → list ≡ all_below p n → HasNoneFrom w n →
+      list ≡ legal_by_squares p
+  all_end n list l e none =
+      e ∙ sym (all_below-jump p n 64 l (omega arith) (λ k i m. out k m (none.none k i m)))
+      ∙ all_below-all p 64 (omega arith)

@@ -1,3 +1,5 @@
+-- What the contracts of the rules of chess speak of.
+pub mod Checks
 pub mod Legal
 pub mod Listing
 pub mod Exposing

@@ -24,4 +24,7 @@ legal_by_squares p = flat_map (λ a. legal_from p a) squares
 unfoldable pub chosen : Board → ℕ → ℕ → List Step
 chosen p a b =
     filter (is_legal p)
-    (record { from = a; to = b; promo = Some Queen } ∷ record { from = a; to = b; promo = Some Rook } ∷ record { from = a; to = b; promo = Some Bishop } ∷ record { from = a; to = b; promo = Some Knight } ∷ [])
+    (record { from = a; to = b; promo = Some Queen }
+    ∷ record { from = a; to = b; promo = Some Rook }
+    ∷ record { from = a; to = b; promo = Some Bishop }
+    ∷ record { from = a; to = b; promo = Some Knight } ∷ [])

@@ -9,7 +9,8 @@ use Rattle.frz_board.specs.Shapes.{has_kings, has_pawns_inside, has_few_men, sha
 use Rattle.frz_fide.specs.declared.validity.Invalid.{Invalid}
 use Rattle.frz_fide.specs.declared.validity.Invalid.TheVariants.{Shape as OfShape, OpponentInCheck}
 
--- a valid position: five conditions, the last that the side not to move is not in check (FIDE 3.9.2)
+-- a valid position: five conditions, the last that the side not to move is not in check
+-- (FIDE 3.9.2)
 pub record IsValid (p : Board) : Type 0 where
   pub fits : CellsFit p.cells
   pub kings : has_kings p ≡ true

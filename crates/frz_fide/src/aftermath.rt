@@ -1,3 +1,5 @@
+//! The position after a move, and whether its king is safe.
+
 ghost use Rattle.std.specs.Prelude.{◌≡◌, not, Some};
 ghost use Rattle.frz_board.specs.Boards.{man_on};
 ghost use Rattle.frz_board.specs.Attacks.{is_in_check};
@@ -30,12 +32,12 @@ fn arriving(man: Man, promo: Option<Kind>) -> Man
 fn moved(p: &Bitboards, man: Man, m: Move) -> Bitboards
     ensures { result ≡ record p.now { cells = cells_after p.now man m } }
 {
-    let q = p.put(m.from, 0).put(m.to, cell_of(arriving(man, m.promo)));
+    let mut q = p.put(m.from, 0);
+    q.set(m.to, cell_of(arriving(man, m.promo)));
     if man.kind == Kind::Pawn && takes_passing(p, man.colour, m.from, m.to) {
-        q.put(beside(m.from, m.to), 0)
-    } else {
-        q
+        q.set(beside(m.from, m.to), 0);
     }
+    q
 }
 
 fn new_target(p: &Bitboards, man: Man, m: Move) -> Option<Square>
@@ -51,12 +53,12 @@ fn new_target(p: &Bitboards, man: Man, m: Move) -> Option<Square>
 }
 
 /// The position after the move: of the man on its origin, if there is one.
-pub fn after(p: &Bitboards, m: Move) -> Position
+pub fn boards_after(p: &Bitboards, m: Move) -> Bitboards
     ensures { result ≡ board_after p.now m }
 {
     match p.man(m.from) {
-        None => p.position(),
-        Some(man) => moved(p, man, m).position().hand_over(new_target(p, man, m)),
+        None => Bitboards::of(&p.position()),
+        Some(man) => moved(p, man, m).hand_over(new_target(p, man, m)),
     }
 }
 

@@ -1,3 +1,5 @@
+//! Attack and check on a position.
+
 ghost use Rattle.std.specs.Prelude.{◌≡◌, Ok};
 ghost use Rattle.frz_board.specs.Attacks.{is_attacked, is_in_check};
 ghost use Rattle.frz_board.specs.Shapes.{shape_of};

@@ -1,3 +1,5 @@
+//! Men that may expose their king by leaving their square.
+
 ghost use Rattle.std.specs.Prelude.{◌≡◌, not, true, Some};
 ghost use Rattle.frz_board.specs.Attacks.{is_in_check};
 ghost use Rattle.frz_board.specs.Boards.{man_on};

@@ -1,3 +1,6 @@
+//! Whether a game has ended, told from its legal moves. The language allows no function `ending`
+//! and type `Ending` in one module: the type stands in `outcome`.
+
 ghost use Rattle.std.specs.Prelude.{◌≡◌, ◌↔◌};
 ghost use Rattle.frz_fide.specs.Valid.{IsValid};
 ghost use Rattle.frz_fide.specs.Listing.{legal_moves_of};

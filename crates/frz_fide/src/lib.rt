@@ -16,7 +16,7 @@ mod ways;
 
 pub use attack::{attacked, in_check};
 pub use finish::ending;
-pub use moves::{MoveList, legal_moves};
+pub use moves::{MoveList, legal_moves, put_legal_moves};
 pub use outcome::Ending;
-pub use playing::play;
-pub use validity::{Invalid, valid};
+pub use playing::{after, leads, play};
+pub use validity::{Invalid, valid, valid_boards};

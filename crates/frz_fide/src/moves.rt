@@ -1,17 +1,19 @@
+//! The list of legal moves.
+
 ghost use Rattle.std.specs.Prelude.{Contains, ◌↔◌, ◌≡◌, ◌+◌, ◌≤◌, ◌++◌, ◌∷◌, [], length, filter, true, ◌&&◌, not, Some};
 ghost use Rattle.std.specs.List.Sorted.{IsStrictlySortedBy};
 ghost use Rattle.arrayvec.specs.ArrayVec.{array_vec_len};
 ghost use Rattle.frz_board.specs.Boards.{man_on, holds};
 ghost use Rattle.frz_board.specs.Men.{same_colour, is_pawn};
 ghost use Rattle.frz_board.specs.Moving.{Step, IsStep, is_promotion, step_cmp};
-ghost use Rattle.frz_fide.specs.Legal.{is_legal, can_go, goes as man_goes, is_last};
+ghost use Rattle.frz_fide.specs.Legal.{is_legal, can_go, goes, is_last};
 ghost use Rattle.frz_fide.specs.Exposing.{may_expose as man_may_expose};
 ghost use Rattle.frz_fide.specs.Valid.{IsValid};
 ghost use Rattle.frz_fide.specs.Listing.{legal_moves_of};
 ghost use Rattle.frz_fide.specs.SquareBySquare.{legal_between, legal_from, legal_by_squares, chosen};
 
 use super::exposing::{keeps_safe, may_expose};
-use super::ways::{goes, last};
+use super::ways::is_way;
 use arrayvec::ArrayVec;
 use frz_bits::{Bitboards, move_set, next_square, without};
 use frz_board::{Kind, Man, Move, Position, Square};
@@ -59,10 +61,13 @@ fn add_choices(
 )
     requires man { man_on p.now from ≡ Some man }
     requires exposing { exposing ≡ man_may_expose p.now man from }
-    requires queen { can_go p.now (record { from = from; to = to; promo = Some Kind.Queen }) ≡ true }
+    requires queen { can_go p.now (record { from = from; to = to; promo = Some Kind.Queen })
+        ≡ true }
     requires rook { can_go p.now (record { from = from; to = to; promo = Some Kind.Rook }) ≡ true }
-    requires bishop { can_go p.now (record { from = from; to = to; promo = Some Kind.Bishop }) ≡ true }
-    requires knight { can_go p.now (record { from = from; to = to; promo = Some Kind.Knight }) ≡ true }
+    requires bishop { can_go p.now (record { from = from; to = to; promo = Some Kind.Bishop })
+        ≡ true }
+    requires knight { can_go p.now (record { from = from; to = to; promo = Some Kind.Knight })
+        ≡ true }
     requires room { array_vec_len list.old + length (chosen p.now from to) ≤ 1024 }
     ensures { list.new.items ≡ list.old.items ++ chosen p.now from to }
 {
@@ -74,16 +79,17 @@ fn add_choices(
 
 /// May the man go from `from` to `to`, as far as the way there goes?
 fn is_open(p: &Bitboards, man: Man, from: Square, to: Square) -> bool
-    ensures { result ≡ (not (holds p.now p.now.turn to) && man_goes p.now man.colour man.kind from to) }
+    ensures { result ≡ (not (holds p.now p.now.turn to)
+        && goes p.now man.colour man.kind from to) }
 {
-    !p.holds(p.turn(), to) && goes(p, man, from, to)
+    !p.holds(p.turn(), to) && is_way(p, man, from, to)
 }
 
 /// Must the man become another one on `to`?
 fn must_choose(man: Man, to: Square) -> bool
     ensures { result ≡ (is_pawn man.kind && is_last man.colour to) }
 {
-    man.kind == Kind::Pawn && last(man.colour, to)
+    man.kind == Kind::Pawn && to.is_last_rank(man.colour)
 }
 
 /// Adds the legal moves of the man on `from` to `to`.
@@ -141,20 +147,30 @@ fn add_square(p: &Bitboards, from: Square, list: &mut MoveList)
     }
 }
 
-/// All legal moves: it goes over the squares of the side to move.
+/// Puts all legal moves into the list: it goes over the squares of the side to move.
 #[tactic(auto, using(crate::proofs::Order::loops))]
-fn all_moves(p: &Bitboards) -> MoveList
+fn put_all(p: &Bitboards, list: &mut MoveList)
     requires { length (legal_by_squares p.now) ≤ 1024 }
-    ensures { result.items ≡ legal_by_squares p.now }
+    ensures { list.new.items ≡ legal_by_squares p.now }
 {
     let own = p.side(p.turn());
-    let mut list = MoveList::new();
+    list.clear();
     let mut n = 0;
     while let Some(from) = next_square(own, n) {
-        add_square(p, from, &mut list);
+        add_square(p, from, list);
         n = from.number() + 1;
     }
-    list
+}
+
+/// Puts all legal moves into the list, in move order, and drops what was there. It is one step.
+#[tactic(auto, using(crate::proofs::Together::by_squares, crate::proofs::Room::legal_room))]
+pub fn put_legal_moves<L: Ledger>(p: &Bitboards, list: &mut MoveList, steps: &mut Steps<L>)
+    requires { IsValid p.now }
+    ensures moves { list.new.items ≡ legal_moves_of p.now }
+    ensures step { steps.new ≡ steps.old + 1 }
+{
+    steps.tick();
+    put_all(p, list);
 }
 
 /// All legal moves, in move order. It is one step.
@@ -166,6 +182,7 @@ pub fn legal_moves<L: Ledger>(p: &Position, steps: &mut Steps<L>) -> MoveList
     ensures order { IsStrictlySortedBy step_cmp result.items }
     ensures step { steps.new ≡ steps.old + 1 }
 {
-    steps.tick();
-    all_moves(&Bitboards::of(p))
+    let mut list = MoveList::new();
+    put_legal_moves(&Bitboards::of(p), &mut list, steps);
+    list
 }

@@ -1,3 +1,5 @@
+//! How a game stands for the side to move.
+
 /// How a game stands for the side to move.
 #[derive(Clone, Copy, Debug, PartialEq, Eq)]
 pub enum Ending {

@@ -1,11 +1,13 @@
-ghost use Rattle.std.specs.Prelude.{◌≡◌, Some, IfSome, not, ◌&&◌};
+//! Playing a move.
+
+ghost use Rattle.std.specs.Prelude.{◌≡◌, ◌↔◌, Some, IfSome, IsTrue, not, ◌&&◌, true};
 ghost use Rattle.frz_board.specs.Boards.{man_on, holds};
 ghost use Rattle.frz_board.specs.Men.{same_colour};
-ghost use Rattle.frz_fide.specs.Legal.{can_go, goes as man_goes, promotes as man_promotes, is_legal, played};
+ghost use Rattle.frz_fide.specs.Legal.{can_go, is_legal, played, after as board_after};
 ghost use Rattle.frz_fide.specs.Valid.{IsValid};
 
-use super::aftermath::{after, is_safe};
-use super::ways::{goes, promotes};
+use super::aftermath::{boards_after, is_safe};
+use super::ways::{is_right_promotion, is_way};
 use frz_bits::Bitboards;
 use frz_board::{Man, Move, Position};
 
@@ -15,7 +17,7 @@ fn may_make(p: &Bitboards, man: Man, m: Move) -> bool
     ensures { result ≡ can_go p.now m }
 {
     (man.colour == p.turn() && !p.holds(p.turn(), m.to))
-        && (goes(p, man, m.from, m.to) && promotes(man.colour, man.kind, m.to, m.promo))
+        && (is_way(p, man, m.from, m.to) && is_right_promotion(man.colour, man.kind, m.to, m.promo))
 }
 
 #[tactic(auto, unfolding(crate::specs::Legal::is_legal))]
@@ -37,8 +39,37 @@ pub fn play(p: &Position, m: Move) -> Option<Position>
     let boards = Bitboards::of(p);
     let _to = m.to.number();
     if is_legal_move(&boards, m) {
-        Some(after(&boards, m))
+        Some(boards_after(&boards, m).position())
     } else {
         None
+    }
+}
+
+/// The position after a legal move, which is valid.
+pub fn after(p: &Bitboards, m: Move) -> Bitboards
+    requires valid { IsValid p.now }
+    requires legal { is_legal p.now m ≡ true }
+    ensures position { result ≡ board_after p.now m }
+    ensures valid { IsValid result }
+{
+    let _to = m.to.number();
+    boards_after(p, m)
+}
+
+fn is_same(p: &Position, q: &Position) -> bool
+    ensures { IsTrue result ↔ (p.now ≡ q.now) }
+{
+    (p.turn() == q.turn() && p.ep() == q.ep()) && p.cells() == q.cells()
+}
+
+/// Is the move legal, and does it lead to this valid position?
+#[tactic(auto, unfolding(crate::specs::Legal::is_legal))]
+pub fn leads(p: &Bitboards, m: Move, q: &Position) -> bool
+    requires { IsValid q.now }
+    ensures { IsTrue result ↔ ((is_legal p.now m ≡ true) × (board_after p.now m ≡ q.now)) }
+{
+    match p.man(m.from) {
+        None => false,
+        Some(man) => may_make(p, man, m) && is_same(boards_after(p, m).as_position(), q),
     }
 }

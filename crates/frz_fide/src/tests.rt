@@ -1,3 +1,5 @@
+//! Moves in positions known to every chess program, and ends of games.
+
 ghost use Rattle.std.specs.Prelude.{◌≡◌, ◌<◌};
 ghost use Rattle.frz_fide.specs.Valid.{IsValid};
 

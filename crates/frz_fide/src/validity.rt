@@ -1,4 +1,6 @@
-ghost use Rattle.std.specs.Prelude.{◌≡◌, OnOk};
+//! Valid positions.
+
+ghost use Rattle.std.specs.Prelude.{◌≡◌, ◌↔◌, IsTrue, OnOk};
 ghost use Rattle.frz_fide.specs.Valid.{IsValid, validity_of};
 
 use frz_bits::Bitboards;
@@ -14,18 +16,27 @@ pub enum Invalid {
 }
 
 /// Is the position valid, and if not, which condition fails first?
-pub fn valid(p: &Position) -> Result<(), Invalid>
+pub fn valid_boards(p: &Bitboards) -> Result<(), Invalid>
     ensures answer { result ≡ validity_of p.now }
     ensures valid { OnOk result (IsValid p.now) }
 {
-    match p.shape() {
+    let position = p.as_position();
+    match position.shape() {
         Err(fault) => Err(Invalid::Shape(fault)),
         Ok(()) => {
-            if Bitboards::of(p).is_in_check(p.turn().other()) {
+            if p.is_in_check(position.turn().other()) {
                 Err(Invalid::OpponentInCheck)
             } else {
                 Ok(())
             }
         }
     }
+}
+
+/// Is the position valid, and if not, which condition fails first?
+pub fn valid(p: &Position) -> Result<(), Invalid>
+    ensures answer { result ≡ validity_of p.now }
+    ensures valid { OnOk result (IsValid p.now) }
+{
+    valid_boards(&Bitboards::of(p))
 }

@@ -10,4 +10,5 @@ pub at-requires : goal.at-requires
 at-requires c = (next_is c.args.word c.args.n c.ranges.word.fits c.if-rest-eq0.false).on_board
 
 pub returns : goal.returns
-returns c = let P : ℕ → Type 0 = λ s. IsNext c.args.word c.args.n s in subst P (sym c.at.ensures) (next_is c.args.word c.args.n c.ranges.word.fits c.if-rest-eq0.false)
+returns c =
+    let P : ℕ → Type 0 = λ s. IsNext c.args.word c.args.n s in subst P (sym c.at.ensures) (next_is c.args.word c.args.n c.ranges.word.fits c.if-rest-eq0.false)

@@ -1,7 +1,7 @@
 use Rattle.std.proofs.Common.{◌<◌, arith, ◌*◌, ◌%◌, ◌^◌, ◌∙◌, ap, sym, bit_and, bit_or, w64}
 use Rattle.std.specs.Prelude.{◌==◌, if◌then◌else◌}
 use Rattle.std.specs.Int.{bit_not}
-use Rattle.frz_bits.specs.Words.{has_square}
+use Rattle.frz_squares.specs.SquareSets.{has_square}
 use Rattle.frz_bits.proofs.Put.{put_in, taken_out}
 use Rattle.frz_bits.proofs.word.replaced.Goals as goal
 

@@ -1,4 +1,4 @@
-use Rattle.frz_bits.proofs.Bits.{has-without}
+use Rattle.frz_squares.proofs.Lemmas.{has-without}
 use Rattle.frz_bits.proofs.word.without.Goals as goal
 
 pub returns : goal.returns

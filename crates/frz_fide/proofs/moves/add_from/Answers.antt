@@ -23,7 +23,8 @@ loop-to-preserved c =
     (off_target c.args.p.now c.args.man c.args.from c.without-targets.result c.move_set.result c.side.result c.turn.result c.requires.man c.move_set.ensures c.side.ensures c.turn.ensures c.without-targets.ensures)
     c.loop-to.n c.in-Some.to c.loop-to.list.items c.loop-to.invariant.1 next in (
       omega arith,
-      c.add_between.ensures ∙ ap (λ xs. xs ++ legal_between c.args.p.now c.args.from c.in-Some.to) here
+      c.add_between.ensures
+          ∙ ap (λ xs. xs ++ legal_between c.args.p.now c.args.from c.in-Some.to) here
           ∙ sym (from_below-next c.args.list.now.items c.args.p.now c.args.from c.in-Some.to next.on_board)
           ∙ ap (λ n. from_below c.args.list.now.items c.args.p.now c.args.from (n + 1)) (sym c.number-n.ensures.number),
     )

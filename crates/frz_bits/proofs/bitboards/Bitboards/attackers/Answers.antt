@@ -1,6 +1,7 @@
 use Rattle.std.proofs.Common.{◌+◌, ◌∙◌, ◌&&◌, ap, sym, arith}
+use Rattle.frz_squares.specs.SquareSets.{bits_below}
 use Rattle.frz_board.specs.Attacks.{attacks}
-use Rattle.frz_bits.specs.Words.{word_below, IsNext}
+use Rattle.frz_bits.specs.Words.{IsNext}
 use Rattle.frz_bits.proofs.Gather.{hits, hits_in, in_side, walk_room, walk_next, walk_end}
 use Rattle.frz_bits.proofs.bitboards.Bitboards.attackers.Goals as goal
 
@@ -16,8 +17,9 @@ loop-a-preserved c =
       omega arith,
       walk_next (hits c.args.self.now c.args.s c.args.by) c.side-men.result (hits_in c.args.self.now c.args.s c.args.by c.side-men.result c.side-men.ensures) c.loop-a.n c.in-Some.a c.loop-a.word c.with_square-word.result c.attacks.result
           c.loop-a.invariant.1 next c.with_square-word.ensures (c.attacks.ensures ∙ ap (λ x. x && attacks c.args.self.now c.in-Some.a c.args.s) (sym own))
-          ∙ ap (λ n. word_below (hits c.args.self.now c.args.s c.args.by) (n + 1)) (sym c.number-n.ensures.number),
+          ∙ ap (λ n. bits_below (hits c.args.self.now c.args.s c.args.by) (n + 1)) (sym c.number-n.ensures.number),
     )
 
 pub returns : goal.returns
-returns c = walk_end (hits c.args.self.now c.args.s c.args.by) c.side-men.result (hits_in c.args.self.now c.args.s c.args.by c.side-men.result c.side-men.ensures) c.loop-a.n c.loop-a.word c.loop-a.invariant.0 c.loop-a.invariant.1 c.in_default.ensures
+returns c =
+    walk_end (hits c.args.self.now c.args.s c.args.by) c.side-men.result (hits_in c.args.self.now c.args.s c.args.by c.side-men.result c.side-men.ensures) c.loop-a.n c.loop-a.word c.loop-a.invariant.0 c.loop-a.invariant.1 c.in_default.ensures

@@ -1,6 +1,6 @@
 use Rattle.std.proofs.Common.{◌∙◌, sym, arith}
 use Rattle.frz_bits.specs.Words.{IsNext}
-use Rattle.frz_board.proofs.AllSquares.{any_square, no_square}
+use Rattle.frz_squares.proofs.Lemmas.{any_square, no_square}
 use Rattle.frz_bits.proofs.Gather.{checks, checks_in, fails_on, fails_all}
 use Rattle.frz_bits.proofs.bitboards.Bitboards.is_in_check.Goals as goal
 

@@ -3,7 +3,7 @@ use Rattle.frz_bits.specs.Words.{IsNext}
 use Rattle.frz_fide.specs.SquareBySquare.{legal_from}
 use Rattle.frz_fide.proofs.Order.{all_below, all_below-next, all_below-room}
 use Rattle.frz_fide.proofs.Targets.{off_side, on_side, all_next, all_end}
-use Rattle.frz_fide.proofs.moves.all_moves.Goals as goal
+use Rattle.frz_fide.proofs.moves.put_all.Goals as goal
 
 pub add_square-requires-clause-own : goal.add_square-requires-clause-own
 add_square-requires-clause-own c =
@@ -30,4 +30,5 @@ loop-from-preserved c =
     )
 
 pub returns : goal.returns
-returns c = all_end c.args.p.now c.side-own.result (off_side c.args.p.now c.side-own.result c.turn.result c.side-own.ensures c.turn.ensures) c.loop-from.n c.loop-from.list.items c.loop-from.invariant.0 c.loop-from.invariant.1 c.in_default.ensures
+returns c =
+    all_end c.args.p.now c.side-own.result (off_side c.args.p.now c.side-own.result c.turn.result c.side-own.ensures c.turn.ensures) c.loop-from.n c.loop-from.list.items c.loop-from.invariant.0 c.loop-from.invariant.1 c.in_default.ensures

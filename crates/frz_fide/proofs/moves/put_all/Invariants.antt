@@ -1,6 +1,6 @@
 use Rattle.std.proofs.Common.{◌≡◌, ◌≤◌, ◌-◌}
 use Rattle.frz_fide.proofs.Order.{all_below}
-use Rattle.frz_fide.proofs.moves.all_moves.Given as goal
+use Rattle.frz_fide.proofs.moves.put_all.Given as goal
 
 abbrev pub invariant-loop-from : goal.invariant-loop-from
 invariant-loop-from l = (l.n ≤ 64) × (l.list.items ≡ all_below l.p l.n)
