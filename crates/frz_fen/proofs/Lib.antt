@@ -1,3 +1,4 @@
+-- The proofs of FEN.
 pub mod Fielding
 pub mod RankCells
 pub mod Placing

@@ -1,21 +1,24 @@
 -- The ranks of a placement, from rank 8 down.
-use Rattle.std.proofs.Common.{◌≡◌, ℕ, zero, suc, ◌+◌, ◌*◌, ◌-◌, ◌<◌, Bool, true, false, List, [], ◌∷◌, ◌++◌, length, drop, reverse, None, Some, refl, ap, sym, ◌∙◌, arith, append_assoc}
+use Rattle.std.proofs.Common.{◌≡◌, ℕ, zero, suc, ◌+◌, ◌*◌, ◌-◌, ◌<◌, Bool, true, false, List, [], ◌∷◌, ◌++◌, length, drop, reverse, Option, None, Some, refl, ap, sym, ◌∙◌, arith, append_assoc}
 use Rattle.std.specs.List.{flat_map, All}
 use Rattle.std.proofs.lemmas.Grind.{flat_map-append}
 use Rattle.std.proofs.lemmas.List.{reverse-append, append-nil}
-use Rattle.std.specs.Prelude.{◌==◌, nat_lt, unwrap_or, cond, replicate}
-use Rattle.std.specs.List.{position_or_len}
+use Rattle.std.specs.Prelude.{◌==◌, unwrap_or, option_map, cond, replicate}
 use Rattle.std.proofs.Common.{lit<}
-use Rattle.std.proofs.lemmas.Bool.{ltb-true}
 use Rattle.std.proofs.lemmas.List.Elements.{All-append, All-cons, All-nil, All-replicate}
-use Rattle.frz_fen.specs.Placement.{is_rank, rank_cells, wrong_rank, board_cells, letters, place_of_letter, cells_of, is_gap}
+use Rattle.frz_board.specs.declared.man.Man.{Man}
+use Rattle.frz_board.specs.Men.{cell_of_man, man_of_letter}
+use Rattle.frz_board.proofs.Lemmas.{cell-small}
+use Rattle.frz_fen.specs.Placement.{is_rank, rank_cells, wrong_rank, board_cells, cell_of_letter, cells_of, is_gap}
 
-pub wrong_rank-step : (n : ℕ) (part : List ℕ) (parts : List (List ℕ)) → 0 < n → is_rank part ≡ true → wrong_rank n (part ∷ parts) ≡ wrong_rank (n - 1) parts
+pub wrong_rank-step : (n : ℕ) (part : List ℕ) (parts : List (List ℕ)) → 0 < n →
+    is_rank part ≡ true → wrong_rank n (part ∷ parts) ≡ wrong_rank (n - 1) parts
 unfolding wrong_rank
 wrong_rank-step zero part parts l h = absurd (omega arith)
 wrong_rank-step (suc n) part parts l h = rw h (ap (λ k. wrong_rank k parts) (omega arith))
 
-pub wrong_rank-here : (n : ℕ) (part : List ℕ) (parts : List (List ℕ)) → 0 < n → is_rank part ≡ false → wrong_rank n (part ∷ parts) ≡ Some n
+pub wrong_rank-here : (n : ℕ) (part : List ℕ) (parts : List (List ℕ)) → 0 < n →
+    is_rank part ≡ false → wrong_rank n (part ∷ parts) ≡ Some n
 unfolding wrong_rank
 wrong_rank-here zero part parts l h = absurd (omega arith)
 wrong_rank-here (suc n) part parts l h = rw h refl
@@ -34,14 +37,18 @@ unfolding wrong_rank
 wrong_rank-further [] l = absurd (omega arith)
 wrong_rank-further (part ∷ parts) l = refl
 
-pub board_cells-cons : (part : List ℕ) (parts : List (List ℕ)) → board_cells (part ∷ parts) ≡ board_cells parts ++ rank_cells part
+pub board_cells-cons : (part : List ℕ) (parts : List (List ℕ)) →
+    board_cells (part ∷ parts) ≡ board_cells parts ++ rank_cells part
 board_cells-cons part parts =
     ap (flat_map rank_cells) (reverse-append (part ∷ []) parts)
     ∙ flat_map-append rank_cells (reverse parts) (part ∷ [])
     ∙ ap (λ xs. board_cells parts ++ xs) (append-nil (rank_cells part))
 
 -- a rank is put in front of those after it
-pub board_step : (all rest : List (List ℕ)) (part row old new : List ℕ) (r : ℕ) → 0 < r → board_cells all ≡ board_cells (part ∷ rest) ++ drop (8 * r) old → row ≡ rank_cells part → drop (8 * (r - 1)) new ≡ row ++ drop (8 * (r - 1) + 8) old → board_cells all ≡ board_cells rest ++ drop (8 * (r - 1)) new
+pub board_step : (all rest : List (List ℕ)) (part row old new : List ℕ) (r : ℕ) → 0 < r →
+    board_cells all ≡ board_cells (part ∷ rest) ++ drop (8 * r) old → row ≡ rank_cells part →
+    drop (8 * (r - 1)) new ≡ row ++ drop (8 * (r - 1) + 8) old →
+    board_cells all ≡ board_cells rest ++ drop (8 * (r - 1)) new
 board_step all rest part row old new r l e h k =
     let place : 8 * (r - 1) + 8 ≡ 8 * r = omega arith in
     e ∙ ap (λ xs. xs ++ drop (8 * r) old) (board_cells-cons part rest)
@@ -51,26 +58,31 @@ board_step all rest part row old new r l e h k =
     ∙ ap (λ xs. board_cells rest ++ xs) (sym k)
 
 -- each cell that a placement stands for is empty or a man's
-letter_fits : (c : Bool) (n : ℕ) → nat_lt n 12 ≡ c → unwrap_or (cond c (Some n) None) 0 + 1 < 13
-letter_fits true n e = let h : n < 12 = ltb-true n 12 e in omega arith
-letter_fits false n e = omega arith
+man_fits : (o : Option Man) → unwrap_or (option_map cell_of_man o) 1 < 13
+man_fits None = lit< tt
+man_fits (Some m) = cell-small m.colour m.kind
 
-place_fits : (b : ℕ) → unwrap_or (place_of_letter b) 0 + 1 < 13
-place_fits b = letter_fits (nat_lt (position_or_len (λ l. l == b) letters) 12) (position_or_len (λ l. l == b) letters) refl
+letter_fits : (b : ℕ) → unwrap_or (cell_of_letter b) 1 < 13
+letter_fits b = man_fits (man_of_letter b)
 
-byte_fits : (c : Bool) (b : ℕ) → All (λ x. x < 13) (cond c (replicate (b - 48) 0) ((unwrap_or (place_of_letter b) 0 + 1) ∷ []))
+byte_fits : (c : Bool) (b : ℕ) →
+    All (λ x. x < 13) (cond c (replicate (b - 48) 0) (unwrap_or (cell_of_letter b) 1 ∷ []))
 byte_fits true b = All-replicate (λ x. x < 13) (b - 48) 0 (lit< tt)
-byte_fits false b = All-cons (λ x. x < 13) (unwrap_or (place_of_letter b) 0 + 1) [] (place_fits b) (All-nil (λ x. x < 13))
+byte_fits false b =
+    All-cons (λ x. x < 13) (unwrap_or (cell_of_letter b) 1) [] (letter_fits b) (All-nil (λ x. x < 13))
 
 pub rank_fits : (part : List ℕ) → All (λ x. x < 13) (rank_cells part)
 rank_fits [] = All-nil (λ x. x < 13)
-rank_fits (b ∷ bs) = All-append (λ x. x < 13) (cells_of b) (rank_cells bs) (byte_fits (is_gap b) b) (rank_fits bs)
+rank_fits (b ∷ bs) =
+    All-append (λ x. x < 13) (cells_of b) (rank_cells bs) (byte_fits (is_gap b) b) (rank_fits bs)
 
 ranks_fit : (parts : List (List ℕ)) → All (λ x. x < 13) (flat_map rank_cells parts)
 ranks_fit [] = All-nil (λ x. x < 13)
-ranks_fit (part ∷ parts) = All-append (λ x. x < 13) (rank_cells part) (flat_map rank_cells parts) (rank_fits part) (ranks_fit parts)
+ranks_fit (part ∷ parts) =
+    All-append (λ x. x < 13) (rank_cells part) (flat_map rank_cells parts) (rank_fits part) (ranks_fit parts)
 
 pub board_fits : (parts : List (List ℕ)) → All (λ x. x < 13) (board_cells parts)
 board_fits parts = ranks_fit (reverse parts)
 
-pub ruleset placing = (wrong_rank-step, wrong_rank-here, wrong_rank-missing, wrong_rank-done, wrong_rank-further, board_cells-cons)
+pub ruleset placing =
+    (wrong_rank-step, wrong_rank-here, wrong_rank-missing, wrong_rank-done, wrong_rank-further, board_cells-cons)

@@ -9,13 +9,16 @@ use Rattle.std.proofs.lemmas.List.Folds.{list_all_at, list_all_more, length-flat
 use Rattle.std.proofs.lemmas.Bool.Decides.{eqb_tells}
 use Rattle.frz_fen.specs.Placement.{cells_of, rank_cells, is_gap_or_man, is_rank}
 
-pub rank_cells-take : (part : List ℕ) (i : ℕ) → i < length part → rank_cells (take (i + 1) part) ≡ rank_cells (take i part) ++ cells_of (get_or part i 0)
+pub rank_cells-take : (part : List ℕ) (i : ℕ) → i < length part →
+    rank_cells (take (i + 1) part) ≡ rank_cells (take i part) ++ cells_of (get_or part i 0)
 rank_cells-take part i l =
     ap rank_cells (take_more part i 0 l)
     ∙ flat_map-append cells_of (take i part) (get_or part i 0 ∷ [])
     ∙ ap (λ xs. rank_cells (take i part) ++ xs) (append-nil (cells_of (get_or part i 0)))
 
-pub bytes-take : (part : List ℕ) (i : ℕ) → i < length part → list_all is_gap_or_man (take i part) ≡ true → is_gap_or_man (get_or part i 0) ≡ true → list_all is_gap_or_man (take (i + 1) part) ≡ true
+pub bytes-take : (part : List ℕ) (i : ℕ) → i < length part →
+    list_all is_gap_or_man (take i part) ≡ true → is_gap_or_man (get_or part i 0) ≡ true →
+    list_all is_gap_or_man (take (i + 1) part) ≡ true
 bytes-take part i l h k = list_all_more is_gap_or_man part i 0 l ∙ rw (h, k) refl
 
 both_false : (x y : Bool) → x ≡ false → (x && y) ≡ false
@@ -31,11 +34,15 @@ not_eight n l = elim (eqb_tells n 8) [ inl w ↦ (let e = w.1 in absurd (omega a
 other_length : (n : ℕ) → (n ≡ 8 → ⊥) → (n == 8) ≡ false
 other_length n h = elim (eqb_tells n 8) [ inl w ↦ absurd (h w.1) | inr w ↦ w.0 ]
 
-pub wrong_byte : (part : List ℕ) (i : ℕ) → i < length part → is_gap_or_man (get_or part i 0) ≡ false → is_rank part ≡ false
+pub wrong_byte : (part : List ℕ) (i : ℕ) → i < length part →
+    is_gap_or_man (get_or part i 0) ≡ false → is_rank part ≡ false
 unfolding is_rank
-wrong_byte part i l h = both_false (list_all is_gap_or_man part) (length (rank_cells part) == 8) (list_all_at is_gap_or_man part i 0 l h)
+wrong_byte part i l h =
+    both_false (list_all is_gap_or_man part) (length (rank_cells part) == 8) (list_all_at is_gap_or_man part i 0 l h)
 
-pub too_wide : (part : List ℕ) (i n cell : ℕ) → i < length part → cells_of (get_or part i 0) ≡ replicate n cell → 8 < length (rank_cells (take i part)) + n → is_rank part ≡ false
+pub too_wide : (part : List ℕ) (i n cell : ℕ) → i < length part →
+    cells_of (get_or part i 0) ≡ replicate n cell → 8 < length (rank_cells (take i part)) + n →
+    is_rank part ≡ false
 unfolding is_rank
 too_wide part i n cell l e h =
     second_false (list_all is_gap_or_man part) (length (rank_cells part) == 8)
@@ -44,18 +51,22 @@ too_wide part i n cell l e h =
     let m : length (cells_of (get_or part i 0)) ≡ n = ap length e ∙ length-replicate n cell in
     omega arith))
 
-whole_rank : (part : List ℕ) → list_all is_gap_or_man part ≡ true → length (rank_cells part) ≡ 8 → is_rank part ≡ true
+whole_rank : (part : List ℕ) → list_all is_gap_or_man part ≡ true → length (rank_cells part) ≡ 8 →
+    is_rank part ≡ true
 unfolding is_rank
 whole_rank part h e = rw (h, e) refl
 
 -- after the last byte
-pub ends_whole : (part row : List ℕ) (i : ℕ) → length part ≤ i → row ≡ rank_cells (take i part) → list_all is_gap_or_man (take i part) ≡ true → length row ≡ 8 → (is_rank part ≡ true) × (row ≡ rank_cells part)
+pub ends_whole : (part row : List ℕ) (i : ℕ) → length part ≤ i → row ≡ rank_cells (take i part) →
+    list_all is_gap_or_man (take i part) ≡ true → length row ≡ 8 →
+    (is_rank part ≡ true) × (row ≡ rank_cells part)
 ends_whole part row i l e h k =
     let all : take i part ≡ part = take_all i part l in
     let same : row ≡ rank_cells part = e ∙ ap rank_cells all in
     (whole_rank part (ap (list_all is_gap_or_man) (sym all) ∙ h) (ap length (sym same) ∙ k), same)
 
-pub ends_short : (part row : List ℕ) (i : ℕ) → length part ≤ i → row ≡ rank_cells (take i part) → (length row ≡ 8 → ⊥) → is_rank part ≡ false
+pub ends_short : (part row : List ℕ) (i : ℕ) → length part ≤ i → row ≡ rank_cells (take i part) →
+    (length row ≡ 8 → ⊥) → is_rank part ≡ false
 unfolding is_rank
 ends_short part row i l e h =
     let same : row ≡ rank_cells part = e ∙ ap rank_cells (take_all i part l) in
@@ -63,7 +74,11 @@ ends_short part row i l e h =
     (other_length (length (rank_cells part)) (λ k. h (ap length same ∙ k)))
 
 -- the cells with one more byte
-pub row_more : (part row : List ℕ) (i n cell : ℕ) → i < length part → row ≡ rank_cells (take i part) → cells_of (get_or part i 0) ≡ replicate n cell → row ++ replicate n cell ≡ rank_cells (take (i + 1) part)
-row_more part row i n cell l e k = ap (λ xs. xs ++ replicate n cell) e ∙ (ap (λ xs. rank_cells (take i part) ++ xs) (sym k) ∙ sym (rank_cells-take part i l))
+pub row_more : (part row : List ℕ) (i n cell : ℕ) → i < length part →
+    row ≡ rank_cells (take i part) → cells_of (get_or part i 0) ≡ replicate n cell →
+    row ++ replicate n cell ≡ rank_cells (take (i + 1) part)
+row_more part row i n cell l e k =
+    ap (λ xs. xs ++ replicate n cell) e
+    ∙ (ap (λ xs. rank_cells (take i part) ++ xs) (sym k) ∙ sym (rank_cells-take part i l))
 
 pub ruleset reading_rank = (wrong_byte, too_wide, ends_whole, ends_short, row_more, bytes-take)

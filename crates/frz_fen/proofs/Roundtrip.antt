@@ -2,7 +2,7 @@
 use Rattle.std.proofs.Common.{◌≡◌, ℕ, ◌+◌, ◌-◌, ◌*◌, ◌<◌, Bool, true, false, cond, not, List, [], ◌∷◌, Option, None, Some, refl, ap, sym, subst, ◌∙◌, arith}
 use Rattle.std.specs.Prelude.{Ok, Err, codes, ◌==◌, ◌&&◌, nat_le}
 use Rattle.std.specs.Str.{bytes_eq}
-use Rattle.std.proofs.lemmas.Bool.{eqb-true, le-leb}
+use Rattle.std.proofs.lemmas.Bool.{eqb-true, le-leb, and_parts, and_from}
 use Rattle.frz_board.specs.declared.man.Colour.{Colour}
 use Rattle.frz_board.specs.declared.man.Colour.TheVariants.{White, Black}
 use Rattle.frz_board.specs.Squares.{rank_of}
@@ -12,12 +12,14 @@ use Rattle.frz_board.specs.declared.man.Kind.TheVariants.{Pawn}
 use Rattle.frz_board.specs.EnPassant.{ahead, has_passed, has_pawn_beside, has_target_in_place, is_passed, is_passing_rank, target_stands}
 use Rattle.frz_board.specs.Shapes.{shape_of, has_kings, has_pawns_inside, has_few_men}
 use Rattle.frz_board.specs.Texts.{file_letter, rank_digit}
-use Rattle.frz_board.proofs.Connectives.{and_both, both_and, same_not}
+use Rattle.frz_board.proofs.Lemmas.{other_other}
+use Rattle.frz_squares.proofs.Lemmas.{same_not}
 use Rattle.frz_fide.specs.declared.validity.Invalid.TheVariants.{OpponentInCheck}
 use Rattle.frz_fide.specs.Valid.{IsValid, safety_of, validity_of}
 use Rattle.frz_words.specs.Squares.{square_word}
 use Rattle.frz_fen.specs.declared.fault.FenFault.TheVariants.{EpSquare as WrongSquare}
-use Rattle.frz_fen.specs.Fields.{FieldTexts, has_bytes, named, named_fields}
+use Rattle.frz_fen.specs.Fields.{FieldTexts, named, named_fields}
+use Rattle.frz_words.specs.Words.{has_bytes}
 use Rattle.frz_fen.specs.Placement.{ranks}
 use Rattle.frz_fen.specs.Reading.{accepted, checked, fen_of, kept, placed, placement_of, target_of, target_on, turn_of, with_kept}
 use Rattle.frz_fen.specs.Writing.{fen_text, placement_text, target_text, turn_text}
@@ -51,9 +53,9 @@ two_are_no_dash x y = never_both (x == 45)
 square_read : (t : ℕ) → t < 64 → square_word (file_letter t ∷ rank_digit t ∷ []) ≡ Some t
 square_read t l =
     ap (λ (x : Bool). cond x (Some (8 * (rank_digit t - 49) + (file_letter t - 97))) None)
-    (both_and (nat_le 97 (file_letter t) && nat_le (file_letter t) 104) (nat_le 49 (rank_digit t) && nat_le (rank_digit t) 56)
-    (both_and (nat_le 97 (file_letter t)) (nat_le (file_letter t) 104) (le-leb 97 (file_letter t) (omega arith)) (le-leb (file_letter t) 104 (omega arith)))
-    (both_and (nat_le 49 (rank_digit t)) (nat_le (rank_digit t) 56) (le-leb 49 (rank_digit t) (omega arith)) (le-leb (rank_digit t) 56 (omega arith))))
+    (and_from (nat_le 97 (file_letter t) && nat_le (file_letter t) 104) (nat_le 49 (rank_digit t) && nat_le (rank_digit t) 56)
+    (and_from (nat_le 97 (file_letter t)) (nat_le (file_letter t) 104) (le-leb 97 (file_letter t) (omega arith)) (le-leb (file_letter t) 104 (omega arith)))
+    (and_from (nat_le 49 (rank_digit t)) (nat_le (rank_digit t) 56) (le-leb 49 (rank_digit t) (omega arith)) (le-leb (rank_digit t) 56 (omega arith))))
     ∙ ap (λ (n : ℕ). Some n) (back t l)
   where
     back : (k : ℕ) → k < 64 → 8 * (rank_digit k - 49) + (file_letter k - 97) ≡ k
@@ -65,11 +67,12 @@ passing_on_board Black t h = let e = eqb-true (rank_of t) 5 h in omega arith
 
 passed_rank : (p : Board) (c : Colour) (t : ℕ) → is_passed p c t ≡ true → is_passing_rank c t ≡ true
 passed_rank p c t h =
-    (and_both (is_passing_rank c t) (is_empty p t && is_empty p (ahead (other_of c) t))
-    (and_both (is_passing_rank c t && (is_empty p t && is_empty p (ahead (other_of c) t))) (has p c Pawn (ahead c t))
-    (and_both (has_passed p c t) (has_pawn_beside p (other_of c) (ahead c t)) h).0).0).0
+    (and_parts (is_passing_rank c t) (is_empty p t && is_empty p (ahead (other_of c) t))
+    (and_parts (is_passing_rank c t && (is_empty p t && is_empty p (ahead (other_of c) t))) (has p c Pawn (ahead c t))
+    (and_parts (has_passed p c t) (has_pawn_beside p (other_of c) (ahead c t)) h).0).0).0
 
-target_read : (p : Board) (o : Option ℕ) → target_stands p o ≡ true → Ok o ≡ target_of p.turn (target_text o)
+target_read : (p : Board) (o : Option ℕ) → target_stands p o ≡ true →
+    Ok o ≡ target_of p.turn (target_text o)
 target_read p None h = refl
 target_read p (Some t) h =
     let rank = passed_rank p (other_of p.turn) t h in
@@ -81,19 +84,15 @@ target_read p (Some t) h =
 target_lacks : (o : Option ℕ) → lacks 32 (target_text o) ≡ true
 target_lacks None = refl
 target_lacks (Some t) =
-    both_and (not (file_letter t == 32)) (lacks 32 (rank_digit t ∷ []))
+    and_from (not (file_letter t == 32)) (lacks 32 (rank_digit t ∷ []))
     (same_not (file_letter t) 32 (λ e. omega arith))
-    (both_and (not (rank_digit t == 32)) true (same_not (rank_digit t) 32 (λ e. omega arith)) refl)
+    (and_from (not (rank_digit t == 32)) true (same_not (rank_digit t) 32 (λ e. omega arith)) refl)
 
 target_bytes : (o : Option ℕ) → has_bytes (target_text o) ≡ true
 target_bytes None = refl
 target_bytes (Some t) = refl
 
 -- a target in place is kept
-other_twice : (c : Colour) → other_of (other_of c) ≡ c
-other_twice White = refl
-other_twice Black = refl
-
 kept_busy : (x : Bool) (t : ℕ) → cond (x && false) None (Some t) ≡ Some t
 kept_busy true t = refl
 kept_busy false t = refl
@@ -101,9 +100,9 @@ kept_busy false t = refl
 kept_same : (p : Board) (o : Option ℕ) → target_stands p o ≡ true → kept p o ≡ o
 kept_same p None h = refl
 kept_same p (Some t) h =
-    let parts = and_both (has_passed p (other_of p.turn) t) (has_pawn_beside p (other_of (other_of p.turn)) (ahead (other_of p.turn) t)) h in
+    let parts = and_parts (has_passed p (other_of p.turn) t) (has_pawn_beside p (other_of (other_of p.turn)) (ahead (other_of p.turn) t)) h in
     let beside : has_pawn_beside p p.turn (ahead (other_of p.turn) t) ≡ true =
-    subst (λ (c : Colour). has_pawn_beside p c (ahead (other_of p.turn) t) ≡ true) (other_twice p.turn) parts.1 in
+    subst (λ (c : Colour). has_pawn_beside p c (ahead (other_of p.turn) t) ≡ true) (other_other p.turn) parts.1 in
     ap (λ (x : Bool). cond (has_passed p (other_of p.turn) t && not x) None (Some t)) beside
     ∙ kept_busy (has_passed p (other_of p.turn) t) t
 
@@ -112,7 +111,8 @@ unfolding has_target_in_place
 stands p h = h
 
 -- a valid position is accepted
-shape_ok : (p : Board) → has_kings p ≡ true → has_pawns_inside p ≡ true → has_few_men p ≡ true → has_target_in_place p ≡ true → shape_of p ≡ Ok tt
+shape_ok : (p : Board) → has_kings p ≡ true → has_pawns_inside p ≡ true → has_few_men p ≡ true →
+    has_target_in_place p ≡ true → shape_of p ≡ Ok tt
 shape_ok p k w m t = rw (k, w, m, t) refl
 
 valid_ok : (p : Board) → IsValid p → validity_of p ≡ Ok tt

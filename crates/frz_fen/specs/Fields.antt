@@ -1,10 +1,7 @@
 -- The fields of a FEN text (PGN 16.1.3).
-use Rattle.std.specs.Prelude.{ℕ, Bool, true, false, ◌==◌, List, [], ◌∷◌, filter, Option, None, Some}
+use Rattle.std.specs.Prelude.{ℕ, ◌==◌, List, [], ◌∷◌, filter, Option, None, Some}
 use Rattle.frz_words.specs.Parts.{split}
-
-abbrev pub has_bytes : List ℕ → Bool
-has_bytes [] = false
-has_bytes (b ∷ bs) = true
+use Rattle.frz_words.specs.Words.{has_bytes}
 
 -- the longest runs of bytes other than the space
 unfoldable pub fields : List ℕ → List (List ℕ)
@@ -22,9 +19,23 @@ pub record FieldTexts : Type 0 where
 -- four fields or six
 unfoldable pub named : List (List ℕ) → Option FieldTexts
 named (a ∷ b ∷ c ∷ d ∷ []) =
-    Some (record { placement = a; turn = b; castling = c; target = d; halfmove = None; fullmove = None })
+    Some (record {
+      placement = a;
+      turn = b;
+      castling = c;
+      target = d;
+      halfmove = None;
+      fullmove = None;
+    })
 named (a ∷ b ∷ c ∷ d ∷ e ∷ f ∷ []) =
-    Some (record { placement = a; turn = b; castling = c; target = d; halfmove = Some e; fullmove = Some f })
+    Some (record {
+      placement = a;
+      turn = b;
+      castling = c;
+      target = d;
+      halfmove = Some e;
+      fullmove = Some f;
+    })
 named _ = None
 
 abbrev pub named_fields : List ℕ → Option FieldTexts

@@ -1,15 +1,12 @@
 -- What a placement stands for (PGN 16.1.3.1): the ranks 8 down to 1, each from file a to file h.
-use Rattle.std.specs.Prelude.{ℕ, zero, suc, ◌+◌, ◌-◌, Bool, ◌==◌, ◌&&◌, ◌||◌, nat_le, List, [], ◌∷◌, length, reverse, replicate, Option, None, Some, is_some, unwrap_or, codes, if◌then◌else◌}
-use Rattle.std.specs.List.{list_all, flat_map, position}
+use Rattle.std.specs.Prelude.{ℕ, zero, suc, ◌+◌, ◌-◌, Bool, ◌==◌, ◌&&◌, ◌||◌, nat_le, List, [], ◌∷◌, length, reverse, replicate, Option, None, Some, is_some, unwrap_or, option_map, if◌then◌else◌}
+use Rattle.std.specs.List.{list_all, flat_map}
+use Rattle.frz_board.specs.Men.{cell_of_man, man_of_letter}
 use Rattle.frz_words.specs.Parts.{split}
 
--- the men's letters, in the order of the numbers of their cells, from 1
-abbrev pub letters : List ℕ
-letters = codes "KQRBNPkqrbnp"
-
--- where a man's letter stands among them
-abbrev pub place_of_letter : ℕ → Option ℕ
-place_of_letter b = position (λ l. l == b) letters
+-- the cell of the man of a letter
+abbrev pub cell_of_letter : ℕ → Option ℕ
+cell_of_letter b = option_map cell_of_man (man_of_letter b)
 
 -- a digit 1 to 8: that many empty squares
 abbrev pub is_gap : ℕ → Bool
@@ -17,14 +14,14 @@ is_gap b = nat_le 49 b && nat_le b 56
 
 -- the cells that a byte stands for
 abbrev pub cells_of : ℕ → List ℕ
-cells_of b = if is_gap b then replicate (b - 48) 0 else (unwrap_or (place_of_letter b) 0 + 1) ∷ []
+cells_of b = if is_gap b then replicate (b - 48) 0 else unwrap_or (cell_of_letter b) 1 ∷ []
 
 -- the cells of a rank, from its text
 abbrev pub rank_cells : List ℕ → List ℕ
 rank_cells part = flat_map cells_of part
 
 abbrev pub is_gap_or_man : ℕ → Bool
-is_gap_or_man b = is_gap b || is_some (place_of_letter b)
+is_gap_or_man b = is_gap b || is_some (cell_of_letter b)
 
 -- digits and men's letters that fill the eight squares of a rank
 unfoldable pub is_rank : List ℕ → Bool
@@ -39,7 +36,8 @@ abbrev pub ranks_left : Option (List ℕ) → List (List ℕ)
 ranks_left None = []
 ranks_left (Some field) = ranks field
 
--- the first of the ranks n to 1 whose text is not right or is missing, and 0 where further texts follow
+-- the first of the ranks n to 1 whose text is not right or is missing, and 0 where further texts
+-- follow
 unfoldable pub wrong_rank : ℕ → List (List ℕ) → Option ℕ
 wrong_rank zero [] = None
 wrong_rank zero (part ∷ parts) = Some 0

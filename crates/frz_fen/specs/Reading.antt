@@ -18,7 +18,8 @@ use Rattle.frz_fen.specs.Fields.{FieldTexts, named_fields}
 use Rattle.frz_fen.specs.Placement.{ranks, wrong_rank, board_cells}
 
 -- the value, where there is no fault before it, and what it leads to
-abbrev pub and_then : {A B : Type 0} → Result A FenFault → (A → Result B FenFault) → Result B FenFault
+abbrev pub and_then : {A B : Type 0} →
+    Result A FenFault → (A → Result B FenFault) → Result B FenFault
 and_then (Err fault) next = Err fault
 and_then (Ok value) next = next value
 
@@ -60,11 +61,14 @@ abbrev pub has_clock : Option (List ℕ) → Bool
 has_clock field = option_map_or is_clock field true
 
 abbrev pub clocks_of : Option (List ℕ) → Option (List ℕ) → Result (Unit {0}) FenFault
-clocks_of halfmove fullmove = if has_clock halfmove && has_clock fullmove then Ok tt else Err WrongClock
+clocks_of halfmove fullmove =
+    if has_clock halfmove && has_clock fullmove then Ok tt else Err WrongClock
 
 -- a pawn has passed over the target, and no pawn of the side to move stands beside it
 abbrev pub is_idle : Board → ℕ → Bool
-is_idle p t = has_passed p (other_of p.turn) t && not (has_pawn_beside p p.turn (ahead (other_of p.turn) t))
+is_idle p t =
+    has_passed p (other_of p.turn) t
+    && not (has_pawn_beside p p.turn (ahead (other_of p.turn) t))
 
 -- a target that no pawn could capture is dropped
 abbrev pub kept : Board → Option ℕ → Option ℕ

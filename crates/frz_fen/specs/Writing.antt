@@ -1,15 +1,17 @@
 -- The text of a position with the fewest digits.
-use Rattle.std.specs.Prelude.{ℕ, zero, suc, ◌+◌, ◌-◌, ◌*◌, ◌==◌, List, [], ◌∷◌, ◌++◌, take, drop, Option, None, Some, slice_index, codes, if◌then◌else◌}
+use Rattle.std.specs.Prelude.{ℕ, zero, suc, ◌+◌, ◌-◌, ◌*◌, ◌==◌, List, [], ◌∷◌, ◌++◌, take, drop, Option, None, Some, codes, if◌then◌else◌}
 use Rattle.std.specs.List.{join_with_byte}
+use Rattle.std.specs.Option.{option_map_or}
 use Rattle.frz_board.specs.declared.man.Colour.{Colour}
 use Rattle.frz_board.specs.declared.man.Colour.TheVariants.{White, Black}
+use Rattle.frz_board.specs.Men.{man_of_cell, letter_of_man}
 use Rattle.frz_board.specs.Boards.{Board}
 use Rattle.frz_board.specs.Texts.{file_letter, rank_digit}
-use Rattle.frz_fen.specs.Placement.{letters, is_gap}
+use Rattle.frz_fen.specs.Placement.{is_gap}
 
 -- the letter of a cell that holds a man
 abbrev pub letter_of : ℕ → ℕ
-letter_of cell = slice_index letters (cell - 1)
+letter_of cell = option_map_or letter_of_man (man_of_cell cell) 0
 
 -- the digit of a gap, and nothing where there is none
 abbrev pub gap_text : ℕ → List ℕ
@@ -22,7 +24,8 @@ with_gap (b ∷ bs) = if is_gap b then (b + 1) ∷ bs else 49 ∷ b ∷ bs
 
 abbrev pub rank_text : List ℕ → List ℕ
 rank_text [] = []
-rank_text (cell ∷ cells) = if cell == 0 then with_gap (rank_text cells) else letter_of cell ∷ rank_text cells
+rank_text (cell ∷ cells) =
+    if cell == 0 then with_gap (rank_text cells) else letter_of cell ∷ rank_text cells
 
 -- the cells of a rank, counted from 0
 abbrev pub row : List ℕ → ℕ → List ℕ
@@ -48,4 +51,5 @@ target_text (Some t) = file_letter t ∷ rank_digit t ∷ []
 unfoldable pub fen_text : Board → List ℕ
 fen_text p =
     join_with_byte 32
-    (placement_text p.cells ∷ turn_text p.turn ∷ codes "-" ∷ target_text p.ep ∷ codes "0" ∷ codes "1" ∷ [])
+    (placement_text p.cells ∷ turn_text p.turn ∷ codes "-"
+    ∷ target_text p.ep ∷ codes "0" ∷ codes "1" ∷ [])

@@ -1,3 +1,5 @@
+//! The faults of a FEN text.
+
 use frz_fide::Invalid;
 
 /// Why a text is no FEN. A text with several faults has the first of this order.

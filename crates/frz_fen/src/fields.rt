@@ -1,3 +1,5 @@
+//! The fields of a FEN text.
+
 ghost use Rattle.std.specs.Prelude.{◌≡◌, ◌∷◌, [], MatchOption, option_map};
 ghost use Rattle.frz_fen.specs.Fields.{fields, named_fields as names_of};
 
@@ -17,7 +19,14 @@ pub struct Fields<'a> {
 /// The four or six fields of a text, and `None` where there are fewer, five or more.
 #[tactic(auto, using(crate::proofs::Fielding::naming))]
 pub fn named_fields(text: &[u8]) -> Option<Fields<'_>>
-    ensures { MatchOption result (names_of text.now ≡ None) (λ f. names_of text.now ≡ Some (record { placement = f.placement.now; turn = f.turn.now; castling = f.castling.now; target = f.target.now; halfmove = option_map (λ t. t.now) f.halfmove; fullmove = option_map (λ t. t.now) f.fullmove })) }
+    ensures { MatchOption result (names_of text.now ≡ None) (λ f. names_of text.now ≡ Some (record {
+      placement = f.placement.now;
+      turn = f.turn.now;
+      castling = f.castling.now;
+      target = f.target.now;
+      halfmove = option_map (λ t. t.now) f.halfmove;
+      fullmove = option_map (λ t. t.now) f.fullmove;
+    })) }
 {
     let (placement, rest) = next_field(text)?;
     let (turn, rest) = next_field(rest)?;
@@ -48,7 +57,8 @@ pub fn named_fields(text: &[u8]) -> Option<Fields<'_>>
 /// The first field, and what follows it.
 #[tactic(auto, using(crate::proofs::Fielding::fielding))]
 fn next_field(text: &[u8]) -> Option<(&[u8], &[u8])>
-    ensures { MatchOption result (fields text.now ≡ []) (λ r. fields text.now ≡ r.0.now ∷ fields r.1.now) }
+    ensures { MatchOption result (fields text.now ≡ [])
+        (λ r. fields text.now ≡ r.0.now ∷ fields r.1.now) }
 {
     let mut rest = text;
     while let Some((part, after)) = cut(rest, b' ') {

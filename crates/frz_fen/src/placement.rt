@@ -1,15 +1,15 @@
+//! The placement of a FEN text is read rank by rank.
+
 ghost use Rattle.std.specs.Prelude.{◌≡◌, ◌≤◌, ◌<◌, ◌+◌, ◌*◌, ◌++◌, ◌∷◌, true, false, replicate, drop, length, MatchOption, IfSome, IfOk, option_map};
 ghost use Rattle.arrayvec.specs.ArrayVec.{array_vec_len};
 ghost use Rattle.frz_board.specs.Boards.{CellsFit};
-ghost use Rattle.frz_fen.specs.Placement.{cells_of, is_gap_or_man, is_rank, place_of_letter, rank_cells, ranks, ranks_left};
+ghost use Rattle.frz_fen.specs.Placement.{cells_of, is_gap_or_man, is_rank, rank_cells, ranks, ranks_left};
 ghost use Rattle.frz_fen.specs.Reading.{placement_of};
 
 use super::fault::FenFault;
 use arrayvec::ArrayVec;
+use frz_board::{Man, cell_of};
 use frz_words::cut;
-
-/// The men's letters, in the order of the numbers of their cells, from 1.
-pub const LETTERS: [u8; 12] = *b"KQRBNPkqrbnp";
 
 /// The cells that a placement stands for, a1 first.
 #[tactic(auto, using(crate::proofs::Placing::placing))]
@@ -60,7 +60,8 @@ fn put_row(cells: &mut [u8; 64], at: usize, row: &[u8])
 /// The cells of a rank, from file a to file h.
 #[tactic(auto, using(crate::proofs::RankCells::reading_rank))]
 fn read_rank(part: &[u8]) -> Option<ArrayVec<u8, 8>>
-    ensures right { MatchOption result (is_rank part.now ≡ false) (λ row. (is_rank part.now ≡ true) × (row.items ≡ rank_cells part.now)) }
+    ensures right { MatchOption result (is_rank part.now ≡ false)
+        (λ row. (is_rank part.now ≡ true) × (row.items ≡ rank_cells part.now)) }
     ensures whole { IfSome result (λ row. length row.items ≡ 8) }
 {
     let mut row = ArrayVec::new();
@@ -87,19 +88,13 @@ fn push_run(row: &mut ArrayVec<u8, 8>, cell: u8, count: usize)
 /// The cell that a byte stands for and how many squares have it: a digit stands for empty squares,
 /// a letter for a man.
 fn run_of(byte: u8) -> Option<(u8, usize)>
-    ensures run { MatchOption result (is_gap_or_man byte ≡ false) (λ r. (is_gap_or_man byte ≡ true) × (cells_of byte ≡ replicate r.1 r.0)) }
+    ensures run { MatchOption result (is_gap_or_man byte ≡ false)
+        (λ r. (is_gap_or_man byte ≡ true) × (cells_of byte ≡ replicate r.1 r.0)) }
     ensures few { IfSome result (λ r. r.1 ≤ 8) }
 {
     if b'1' <= byte && byte <= b'8' {
         return Some((0, (byte - b'0') as usize));
     }
-    let place = place_of(byte)?;
-    Some((place as u8 + 1, 1))
-}
-
-fn place_of(letter: u8) -> Option<usize>
-    ensures place { result ≡ place_of_letter letter }
-    ensures within { IfSome result (λ place. place < 12) }
-{
-    LETTERS.iter().position(|l| *l == letter)
+    let man = Man::of_letter(byte)?;
+    Some((cell_of(man), 1))
 }

@@ -1,3 +1,5 @@
+//! A FEN text is read field by field, up to its first fault.
+
 ghost use Rattle.std.specs.Prelude.{◌≡◌, IfOk, option_map};
 ghost use Rattle.std.specs.List.{list_all};
 ghost use Rattle.frz_words.specs.Numbers.{is_digit};
@@ -26,9 +28,10 @@ pub fn read_fen(text: &[u8]) -> Result<Position, FenFault>
     read_castling(fields.castling)?;
     let target = read_target(fields.target, turn)?;
     read_clocks(fields.halfmove, fields.fullmove)?;
-    checked(Position::new(cells, turn, target).unwrap())
+    checked(Position::with_cells(cells, turn, target))
 }
 
+/// `w` or `b`.
 fn read_turn(field: &[u8]) -> Result<Colour, FenFault>
     ensures { result ≡ turn_of field.now }
 {
@@ -41,6 +44,7 @@ fn read_turn(field: &[u8]) -> Result<Colour, FenFault>
     }
 }
 
+/// No castling right is taken.
 fn read_castling(field: &[u8]) -> Result<(), FenFault>
     ensures { result ≡ castling_of field.now }
 {
@@ -51,6 +55,7 @@ fn read_castling(field: &[u8]) -> Result<(), FenFault>
     }
 }
 
+/// Is the field `-`?
 fn dash(field: &[u8]) -> bool
     ensures { result ≡ is_dash field.now }
 {
@@ -73,11 +78,7 @@ fn read_target(field: &[u8], turn: Colour) -> Result<Option<Square>, FenFault>
 fn target_on_rank(s: Square, turn: Colour) -> Result<Option<Square>, FenFault>
     ensures { result ≡ target_on turn (Some s) }
 {
-    let rank = match turn {
-        Colour::White => 5,
-        Colour::Black => 2,
-    };
-    if s.rank() == rank {
+    if s.is_passing_rank(turn.other()) {
         Ok(Some(s))
     } else {
         Err(FenFault::EpSquare)
@@ -85,7 +86,8 @@ fn target_on_rank(s: Square, turn: Colour) -> Result<Option<Square>, FenFault>
 }
 
 fn read_clocks(halfmove: Option<&[u8]>, fullmove: Option<&[u8]>) -> Result<(), FenFault>
-    ensures { result ≡ clocks_of (option_map (λ t. t.now) halfmove.entry) (option_map (λ t. t.now) fullmove.entry) }
+    ensures { result ≡ clocks_of (option_map (λ t. t.now) halfmove.entry)
+        (option_map (λ t. t.now) fullmove.entry) }
 {
     if clock_or_none(halfmove) && clock_or_none(fullmove) {
         Ok(())

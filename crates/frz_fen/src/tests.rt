@@ -1,3 +1,5 @@
+//! FEN texts that are right, and faults of each sort.
+
 use super::*;
 use frz_board::{Colour, Shape, Square};
 use frz_fide::Invalid;

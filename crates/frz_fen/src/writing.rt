@@ -1,12 +1,13 @@
+//! A position is written as a FEN text.
+
 ghost use Rattle.std.specs.Prelude.{All, ◌≡◌, ◌≤◌, ◌<◌, ◌+◌, ◌++◌, ◌∷◌, ℕ, List, [], replicate, length};
 ghost use Rattle.arrayvec.specs.ArrayString.{array_string_len};
 ghost use Rattle.frz_fide.specs.Valid.{IsValid};
 ghost use Rattle.frz_fen.specs.Reading.{fen_of};
 ghost use Rattle.frz_fen.specs.Writing.{fen_text, gap_text, letter_of, placement_text, rank_text, target_text, turn_text};
 
-use super::placement::LETTERS;
 use arrayvec::ArrayString;
-use frz_board::{Colour, Position, Square};
+use frz_board::{Colour, Position, Square, man_of};
 
 /// The FEN of a valid position with the fewest digits, with no castling right and the clocks 0 and
 /// 1.
@@ -67,7 +68,8 @@ fn write_square(cell: u8, gap: u8, text: &mut ArrayString<100>) -> u8
     requires cell { cell < 13 }
     requires gap { gap < 8 }
     requires room { array_string_len text.old + gap + 1 ≤ 100 }
-    ensures text { (cells : List ℕ) → text.old.bytes ++ rank_text (replicate gap 0 ++ cell ∷ cells) ≡ text.new.bytes ++ rank_text (replicate result 0 ++ cells) }
+    ensures text { (cells : List ℕ) → text.old.bytes ++ rank_text (replicate gap 0 ++ cell ∷ cells)
+        ≡ text.new.bytes ++ rank_text (replicate result 0 ++ cells) }
     ensures gap { result ≤ gap + 1 }
     ensures short { array_string_len text.new + result ≤ array_string_len text.old + gap + 1 }
 {
@@ -98,7 +100,7 @@ fn letter(cell: u8) -> u8
     ensures letter { result ≡ letter_of cell }
     ensures ascii { result < 128 }
 {
-    LETTERS[cell as usize - 1]
+    man_of(cell).unwrap().letter()
 }
 
 fn write_turn(turn: Colour, text: &mut ArrayString<100>)

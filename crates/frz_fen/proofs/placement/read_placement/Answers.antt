@@ -1,7 +1,7 @@
 use Rattle.std.proofs.Common.{◌≡◌, ◌∙◌, ◌++◌, ◌*◌, ◌<◌, List, ℕ, Bor, Option, drop, sym, ap, subst, arith, Some, option_map}
 use Rattle.std.specs.Prelude.{◌==◌}
 use Rattle.std.specs.List.{All}
-use Rattle.frz_words.proofs.Splitting.{length-split}
+use Rattle.frz_words.proofs.Lemmas.{length-split}
 use Rattle.frz_fen.specs.Placement.{ranks, ranks_left, wrong_rank, board_cells}
 use Rattle.frz_fen.specs.Reading.{placed}
 use Rattle.frz_fen.proofs.Placing.{wrong_rank-step, wrong_rank-further, board_step, board_fits}

@@ -6,8 +6,10 @@ abbrev pub invariant-loop-rank : goal.invariant-loop-rank
 invariant-loop-rank l = record {
   few : l.rank ≤ 8;
   size : length l.cells ≡ 64;
-  wrong : wrong_rank 8 (ranks l.fn.field) ≡ wrong_rank l.rank (ranks_left (option_map (λ t. t.now) l.rest));
-  board : board_cells (ranks l.fn.field) ≡ board_cells (ranks_left (option_map (λ t. t.now) l.rest)) ++ drop (8 * l.rank) l.cells;
+  wrong : wrong_rank 8 (ranks l.fn.field)
+      ≡ wrong_rank l.rank (ranks_left (option_map (λ t. t.now) l.rest));
+  board : board_cells (ranks l.fn.field)
+      ≡ board_cells (ranks_left (option_map (λ t. t.now) l.rest)) ++ drop (8 * l.rank) l.cells;
 }
 
 abbrev pub decreases-loop-rank : goal.decreases-loop-rank
