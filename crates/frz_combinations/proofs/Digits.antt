@@ -39,10 +39,13 @@ pub value-digits : (bs : List ℕ) (n : ℕ) → n < product bs → value bs (di
 value-digits [] n h = omega arith
 value-digits (b ∷ bs) n h =
     let some : 0 < product bs = pos_from_product b (product bs) n h in
-    ap (λ x. n / product bs * product bs + x) (value-digits bs (n % product bs) (mod_below n (product bs) some)) ∙ div-add-mod' n (product bs)
+    ap (λ x. n / product bs * product bs + x) (value-digits bs (n % product bs) (mod_below n (product bs) some))
+    ∙ div-add-mod' n (product bs)
 
 -- from the first digit on
-pub value_onto-value : (n : ℕ) (bs ds : List ℕ) → AreDigits bs ds → value_onto n bs ds ≡ n * product bs + value bs ds
+pub value_onto-value : (n : ℕ) (bs ds : List ℕ) → AreDigits bs ds →
+    value_onto n bs ds ≡ n * product bs + value bs ds
 value_onto-value n [] ds h = omega arith
 value_onto-value n (b ∷ bs) [] h = absurd h
-value_onto-value n (b ∷ bs) (d ∷ ds) h = value_onto-value (n * b + d) bs ds h.1 ∙ spread n b d (product bs) (value bs ds)
+value_onto-value n (b ∷ bs) (d ∷ ds) h =
+    value_onto-value (n * b + d) bs ds h.1 ∙ spread n b d (product bs) (value bs ds)

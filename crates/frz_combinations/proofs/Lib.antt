@@ -1,3 +1,4 @@
+pub mod Lemmas
 pub mod Pascals
 pub mod Ranking
 pub mod Selecting

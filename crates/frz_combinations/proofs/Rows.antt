@@ -18,14 +18,17 @@ abbrev pub number_below : List ℕ → ℕ → ℕ
 number_below row zero = 1
 number_below row (suc k) = min (slice_index row (suc k) + slice_index row k) (2 ^ 64 - 1)
 
-pub number_below_at : (row : List ℕ) (k : ℕ) → 1 ≤ k → min (slice_index row k + slice_index row (k - 1)) (2 ^ 64 - 1) ≡ number_below row k
+pub number_below_at : (row : List ℕ) (k : ℕ) → 1 ≤ k →
+    min (slice_index row k + slice_index row (k - 1)) (2 ^ 64 - 1) ≡ number_below row k
 number_below_at row zero h = absurd (omega arith)
-number_below_at row (suc k) h = let e : suc k - 1 ≡ k = omega arith in ap (λ j. min (slice_index row (suc k) + slice_index row j) (2 ^ 64 - 1)) e
+number_below_at row (suc k) h =
+    let e : suc k - 1 ≡ k = omega arith in ap (λ j. min (slice_index row (suc k) + slice_index row j) (2 ^ 64 - 1)) e
 
 capped_sum : (a b : ℕ) → capped (capped a + capped b) ≡ capped (a + b)
 capped_sum a b = omega arith
 
-next_number : (n : ℕ) (row : List ℕ) → IsRow n row → (k : ℕ) → k < 17 → number_below row k ≡ capped (choose (suc n) k)
+next_number : (n : ℕ) (row : List ℕ) → IsRow n row → (k : ℕ) → k < 17 →
+    number_below row k ≡ capped (choose (suc n) k)
 next_number n row r zero h = ap capped (sym (choose-zero (suc n)))
 next_number n row r (suc k) h =
     ap (λ x. min (x + slice_index row k) (2 ^ 64 - 1)) (r.numbers (suc k) h)
@@ -34,7 +37,9 @@ next_number n row r (suc k) h =
     ∙ ap capped (sym (choose-suc n k))
 
 -- a list of the numbers below a row is the next row
-pub row_next : (row next : List ℕ) → length next ≡ 17 → ((k : ℕ) → k < 17 → slice_index next k ≡ number_below row k) → (n : ℕ) → IsRow n row → IsRow (n + 1) next
+pub row_next : (row next : List ℕ) → length next ≡ 17 →
+    ((k : ℕ) → k < 17 → slice_index next k ≡ number_below row k) → (n : ℕ) → IsRow n row →
+    IsRow (n + 1) next
 row_next row next e below n r =
     subst (λ m. IsRow m next) (sym (add-one n)) (record { width = e; numbers = λ k h. below k h ∙ next_number n row r k h })
 
@@ -45,7 +50,8 @@ rows_none rows e n h = absurd (omega arith)
 none_past : (i : ℕ) → i - i ≡ 0
 none_past i = omega arith
 
-pub rows_more : (rows : List (List ℕ)) (row : List ℕ) → AreRows rows → IsRow (length rows) row → AreRows (rows ++ row ∷ [])
+pub rows_more : (rows : List (List ℕ)) (row : List ℕ) → AreRows rows → IsRow (length rows) row →
+    AreRows (rows ++ row ∷ [])
 unfolding AreRows
 rows_more rows row h r n k =
     elim (cases_lt n (length rows)) [
@@ -56,11 +62,13 @@ rows_more rows row h r n k =
           subst (IsRow n) (sym read) (subst (λ m. IsRow m row) (sym at) r)
     ]
 
-pub row_at : (rows : List (List ℕ)) (n : ℕ) → AreRows rows → n < length rows → IsRow n (get_or rows n [])
+pub row_at : (rows : List (List ℕ)) (n : ℕ) → AreRows rows → n < length rows →
+    IsRow n (get_or rows n [])
 unfolding AreRows
 row_at rows n h k = h n k
 
 -- so far as the first number
-pub numbers_first : (row : List ℕ) (i : ℕ) → i < 1 → get_or (replicate 17 1) i 0 ≡ number_below row i
+pub numbers_first : (row : List ℕ) (i : ℕ) → i < 1 →
+    get_or (replicate 17 1) i 0 ≡ number_below row i
 numbers_first row zero h = refl
 numbers_first row (suc i) h = absurd (omega arith)

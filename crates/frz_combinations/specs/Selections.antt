@@ -19,7 +19,8 @@ digit s l cs = choices s l (length cs - l) + rank cs
 -- the number of places of the selection with number r, from l on and at most n more, and its rank among those of as many
 abbrev pub count_and_rank : ℕ → ℕ → ℕ → ℕ → ℕ × ℕ
 count_and_rank s l zero r = (l, r)
-count_and_rank s l (suc n) r = if nat_lt r (choose s l) then (l, r) else count_and_rank s (suc l) n (r - choose s l)
+count_and_rank s l (suc n) r =
+    if nat_lt r (choose s l) then (l, r) else count_and_rank s (suc l) n (r - choose s l)
 
 -- the selection of l to m among s with number d
 abbrev pub selection_at : ℕ → ℕ → ℕ → ℕ → List ℕ

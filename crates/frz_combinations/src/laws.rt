@@ -18,18 +18,26 @@ pub fn combinations()
     ensures below { (s : ℕ) (cs : List ℕ) → AreDescending s cs → rank cs < choose s (length cs) }
 
     // The last place is the greatest whose binomial is not above the rank, and so it is found again.
-    ensures last { (c : ℕ) (cs : List ℕ) → AreDescending c cs → rank (c ∷ cs) < choose (c + 1) (length (c ∷ cs)) }
-    ensures greatest { (s j r c : ℕ) → c < s → choose c (j + 1) ≤ r → ((x : ℕ) → c < x → x < s → r < choose x (j + 1)) → unrank s (j + 1) r ≡ c ∷ unrank c j (r - choose c (j + 1)) }
-    ensures found_again { (s : ℕ) (cs : List ℕ) → AreDescending s cs → unrank s (length cs) (rank cs) ≡ cs }
+    ensures last { (c : ℕ) (cs : List ℕ) → AreDescending c cs →
+        rank (c ∷ cs) < choose (c + 1) (length (c ∷ cs)) }
+    ensures greatest { (s j r c : ℕ) → c < s → choose c (j + 1) ≤ r →
+        ((x : ℕ) → c < x → x < s → r < choose x (j + 1)) →
+        unrank s (j + 1) r ≡ c ∷ unrank c j (r - choose c (j + 1)) }
+    ensures found_again { (s : ℕ) (cs : List ℕ) → AreDescending s cs →
+        unrank s (length cs) (rank cs) ≡ cs }
     ensures each { (s j r : ℕ) → r < choose s j → IsRanked s j r (unrank s j r) }
-    ensures once { (s t : ℕ) (cs ds : List ℕ) → AreDescending s cs → AreDescending t ds → length cs ≡ length ds → rank cs ≡ rank ds → cs ≡ ds }
-    ensures ordered { (s t : ℕ) (cs ds : List ℕ) → AreDescending s cs → AreDescending t ds → length cs ≡ length ds → IsBefore cs ds → rank cs < rank ds }
+    ensures once { (s t : ℕ) (cs ds : List ℕ) → AreDescending s cs → AreDescending t ds →
+        length cs ≡ length ds → rank cs ≡ rank ds → cs ≡ ds }
+    ensures ordered { (s t : ℕ) (cs ds : List ℕ) → AreDescending s cs → AreDescending t ds →
+        length cs ≡ length ds → IsBefore cs ds → rank cs < rank ds }
 {}
 
 /// The numbers of the selections of l to m among s are below the radix, and each is of one alone.
 pub fn selections()
-    ensures below { (s l m : ℕ) (cs : List ℕ) → AreDescending s cs → l ≤ length cs → length cs ≤ m → digit s l cs < radix s l m }
-    ensures found_again { (s l m : ℕ) (cs : List ℕ) → AreDescending s cs → l ≤ length cs → length cs ≤ m → selection_at s l m (digit s l cs) ≡ cs }
+    ensures below { (s l m : ℕ) (cs : List ℕ) → AreDescending s cs → l ≤ length cs → length cs ≤ m →
+        digit s l cs < radix s l m }
+    ensures found_again { (s l m : ℕ) (cs : List ℕ) → AreDescending s cs → l ≤ length cs →
+        length cs ≤ m → selection_at s l m (digit s l cs) ≡ cs }
 {}
 
 /// Digits and their number, both ways.
@@ -37,5 +45,6 @@ pub fn mixed_radix()
     ensures below { (bs ds : List ℕ) → AreDigits bs ds → value bs ds < product bs }
     ensures found_again { (bs ds : List ℕ) → AreDigits bs ds → digits bs (value bs ds) ≡ ds }
     ensures each { (bs : List ℕ) (n : ℕ) → n < product bs → value bs (digits bs n) ≡ n }
-    ensures onto { (n : ℕ) (bs ds : List ℕ) → AreDigits bs ds → value_onto n bs ds ≡ n * product bs + value bs ds }
+    ensures onto { (n : ℕ) (bs ds : List ℕ) → AreDigits bs ds →
+        value_onto n bs ds ≡ n * product bs + value bs ds }
 {}

@@ -1,3 +1,4 @@
+//! Binomial numbers, and rows of Pascal's triangle that are kept.
 ghost use Rattle.std.specs.Prelude.{◌≡◌, ◌<◌, ◌≤◌, ◌+◌, ℕ, IfOk};
 ghost use Rattle.frz_combinations.specs.Binomials.{choose, capped, IsRow};
 
@@ -78,6 +79,9 @@ impl Triangle {
         requires k { k ≤ 16 }
         ensures { result ≡ capped (choose n k) }
     {
+        if k == 1 {
+            return u64::from(n);
+        }
         self.rows[n as usize][k as usize]
     }
 }

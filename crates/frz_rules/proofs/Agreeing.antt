@@ -8,12 +8,12 @@ use Rattle.frz_board.specs.declared.man.Colour.{Colour}
 use Rattle.frz_board.specs.declared.man.Kind.{Kind}
 use Rattle.frz_words.specs.Numbers.{number_of}
 use Rattle.frz_words.specs.Squares.{squares_of}
-use Rattle.frz_rules.specs.declared.forbid.Only.{Only}
-use Rattle.frz_rules.specs.declared.forbid.Only.TheVariants.{Capture, Promotion}
-use Rattle.frz_rules.specs.declared.forbid.Forbid.{Forbid}
-use Rattle.frz_rules.specs.declared.exit.Value.{Value}
-use Rattle.frz_rules.specs.declared.exit.Value.TheVariants.{Draw, Unknown}
-use Rattle.frz_rules.specs.Views.{Condition}
+use Rattle.frz_sets.specs.declared.forbid.Only.{Only}
+use Rattle.frz_sets.specs.declared.forbid.Only.TheVariants.{Capture, Promotion}
+use Rattle.frz_sets.specs.declared.forbid.Forbid.{Forbid}
+use Rattle.frz_sets.specs.declared.exit.Value.{Value}
+use Rattle.frz_sets.specs.declared.exit.Value.TheVariants.{Draw, Unknown}
+use Rattle.frz_sets.specs.Views.{Condition}
 use Rattle.frz_rules.specs.Classes.{is, colour_of, kind_of, count_of, place_of, lag_of}
 use Rattle.frz_rules.specs.Conditions.{cond_of}
 use Rattle.frz_rules.specs.Lines.{wins, wins_in, holds}
@@ -40,7 +40,8 @@ stops B p f w ws e = (rw e refl, rw e (omega arith))
 
 taken_agrees : {A B : Type 0} (class : List ℕ → Option A) (f : Form) (k : A × List (List ℕ) → Result B (List (List ℕ))) (w : List ℕ) (ws : List (List ℕ)) (o : Option A) → class w ≡ o → ((x : A) (vs : List (List ℕ)) → Agrees f vs (k (x, vs))) → Agrees (Then (has class) f) (w ∷ ws) (taken o w ws >>= k)
 taken_agrees {B} class f k w ws None e a = stops B (has class) f w ws (ap is_some e)
-taken_agrees class f k w ws (Some x) e a = goes_on (has class) f w ws (k (x, ws)) (ap is_some e) (a x ws)
+taken_agrees class f k w ws (Some x) e a =
+    goes_on (has class) f w ws (k (x, ws)) (ap is_some e) (a x ws)
 
 slot_agrees : {A B : Type 0} (class : List ℕ → Option A) (f : Form) (k : A × List (List ℕ) → Result B (List (List ℕ))) → ((x : A) (vs : List (List ℕ)) → Agrees f vs (k (x, vs))) → (ws : List (List ℕ)) → Agrees (Then (has class) f) ws (slot class ws >>= k)
 slot_agrees class f k a [] = (refl, refl)
@@ -55,7 +56,8 @@ literal_agrees text f k a [] = (refl, refl)
 literal_agrees text f k a (w ∷ ws) = chosen_agrees text f k w ws (bytes_eq w text) refl a
 
 -- the rest of a line, word by word
-abbrev pub AgreesAll : {A : Type 0} → (List ℕ → Bool) → List (List ℕ) → Result (List A) (List (List ℕ)) → Type 0
+abbrev pub AgreesAll : {A : Type 0} → (List ℕ → Bool) → List (List ℕ) →
+    Result (List A) (List (List ℕ)) → Type 0
 AgreesAll p ws (Ok xs) = list_all p ws ≡ true
 AgreesAll p ws (Err rest) = (list_all p ws ≡ false) × (length ws ≡ reach (Many p) ws + length rest)
 
@@ -64,9 +66,11 @@ more_agrees class w ws None r e a = (rw e refl, rw e (omega arith))
 more_agrees class w ws (Some x) (Ok xs) e a = rw e a
 more_agrees class w ws (Some x) (Err rest) e a = let l = a.1 in (rw e a.0, rw e (omega arith))
 
-all_agrees : {A : Type 0} (class : List ℕ → Option A) (ws : List (List ℕ)) → AgreesAll (has class) ws (each_of class ws)
+all_agrees : {A : Type 0} (class : List ℕ → Option A) (ws : List (List ℕ)) →
+    AgreesAll (has class) ws (each_of class ws)
 all_agrees class [] = refl
-all_agrees class (w ∷ ws) = more_agrees class w ws (class w) (each_of class ws) refl (all_agrees class ws)
+all_agrees class (w ∷ ws) =
+    more_agrees class w ws (class w) (each_of class ws) refl (all_agrees class ws)
 
 some_agrees : {A B : Type 0} (class : List ℕ → Option A) (h : List A → B) (w : List ℕ) (ws : List (List ℕ)) (o : Option A) (r : Result (List A) (List (List ℕ))) → class w ≡ o → AgreesAll (has class) ws r → Agrees (Many (has class)) (w ∷ ws) ((more_of o w ws r >>= at_least_one) >>= λ ps. Ok (h ps))
 some_agrees class h w ws None r e a = (rw e refl, rw e (omega arith))
@@ -75,7 +79,8 @@ some_agrees class h w ws (Some x) (Err rest) e a = let l = a.1 in (rw e a.0, rw 
 
 many_agrees : {A B : Type 0} (class : List ℕ → Option A) (h : List A → B) (ws : List (List ℕ)) → Agrees (Many (has class)) ws (one_or_more class ws >>= λ ps. Ok (h ps))
 many_agrees class h [] = (refl, refl)
-many_agrees class h (w ∷ ws) = some_agrees class h w ws (class w) (each_of class ws) refl (all_agrees class ws)
+many_agrees class h (w ∷ ws) =
+    some_agrees class h w ws (class w) (each_of class ws) refl (all_agrees class ws)
 
 pub group_agrees : (ws : List (List ℕ)) → Agrees group_form ws (group_words ws)
 unfolding group_words
@@ -85,7 +90,9 @@ group_agrees ws =
     many_agrees place_of (λ ps. (c, n, ps)) us) vs) ws
 
 -- forbid
-only_one : (w : List ℕ) (b c : Bool) → bytes_eq w (codes "capture") ≡ b → bytes_eq w (codes "promotion") ≡ c → Agrees only_form (w ∷ []) (cond b (Ok Capture) (cond c (Ok Promotion) (Err (w ∷ []))))
+only_one : (w : List ℕ) (b c : Bool) → bytes_eq w (codes "capture") ≡ b →
+    bytes_eq w (codes "promotion") ≡ c →
+    Agrees only_form (w ∷ []) (cond b (Ok Capture) (cond c (Ok Promotion) (Err (w ∷ []))))
 only_one w true c e f = rw e refl
 only_one w false true e f = rw (e, f) refl
 only_one w false false e f = (rw (e, f) refl, rw (e, f) refl)
@@ -98,15 +105,18 @@ only_two w v vs false false e f = (rw (e, f) refl, rw (e, f) (omega arith))
 
 only_agrees : (ws : List (List ℕ)) → Agrees only_form ws (only_words ws)
 only_agrees [] = refl
-only_agrees (w ∷ []) = only_one w (bytes_eq w (codes "capture")) (bytes_eq w (codes "promotion")) refl refl
-only_agrees (w ∷ v ∷ vs) = only_two w v vs (bytes_eq w (codes "capture")) (bytes_eq w (codes "promotion")) refl refl
+only_agrees (w ∷ []) =
+    only_one w (bytes_eq w (codes "capture")) (bytes_eq w (codes "promotion")) refl refl
+only_agrees (w ∷ v ∷ vs) =
+    only_two w v vs (bytes_eq w (codes "capture")) (bytes_eq w (codes "promotion")) refl refl
 
 map_agrees : {A B : Type 0} (h : A → B) (f : Form) (ws : List (List ℕ)) (r : Result A (List (List ℕ))) → Agrees f ws r → Agrees f ws (r >>= λ x. Ok (h x))
 map_agrees h f ws (Ok x) a = a
 map_agrees h f ws (Err rest) a = a
 
 made : Colour → Kind → ℕ → ℕ → Only → Forbid
-made c k a b o = record { colour = c; kind = k; from = record { 0 = a }; to = record { 0 = b }; only = o }
+made c k a b o =
+    record { colour = c; kind = k; from = a; to = b; only = o }
 
 pub forbid_agrees : (ws : List (List ℕ)) → Agrees forbid_form ws (forbid_words ws)
 unfolding forbid_words made
@@ -120,11 +130,13 @@ forbid_agrees ws =
     map_agrees (λ o. made c k a b o) only_form v6 (only_words v6) (only_agrees v6)) v5) v4) v3) v2) v1) ws
 
 -- exit
-or_left : {A : Type 0} (f g : Form) (ws : List (List ℕ)) (r : Result A (List (List ℕ))) → fits g ws ≡ false → reach g ws ≡ 0 → Agrees f ws r → Agrees (Or f g) ws r
+or_left : {A : Type 0} (f g : Form) (ws : List (List ℕ)) (r : Result A (List (List ℕ))) →
+    fits g ws ≡ false → reach g ws ≡ 0 → Agrees f ws r → Agrees (Or f g) ws r
 or_left f g ws (Ok x) e z a = rw a refl
 or_left f g ws (Err rest) e z a = let l = a.1 in (rw (a.0, e) refl, omega arith)
 
-or_right : {A : Type 0} (f g : Form) (ws : List (List ℕ)) (r : Result A (List (List ℕ))) → fits f ws ≡ false → reach f ws ≡ 0 → Agrees g ws r → Agrees (Or f g) ws r
+or_right : {A : Type 0} (f g : Form) (ws : List (List ℕ)) (r : Result A (List (List ℕ))) →
+    fits f ws ≡ false → reach f ws ≡ 0 → Agrees g ws r → Agrees (Or f g) ws r
 or_right f g ws (Ok x) e z a = rw (e, a) refl
 or_right f g ws (Err rest) e z a = let l = a.1 in (rw (a.0, e) refl, omega arith)
 
@@ -132,8 +144,10 @@ abbrev conds_then : Value × List (List ℕ) → Result (Value × List Condition
 conds_then v = one_or_more cond_of v.1 >>= λ conds. Ok (v.0, conds)
 
 if_chosen : (v : Value) (w : List ℕ) (ws : List (List ℕ)) (b : Bool) → bytes_eq w (codes "if") ≡ b → Agrees if_form (w ∷ ws) ((cond b (Ok ws) (Err (w ∷ ws)) >>= λ rest. Ok (v, rest)) >>= conds_then)
-if_chosen v w ws true e = goes_on (is (codes "if")) (Many (has cond_of)) w ws (conds_then (v, ws)) e (many_agrees cond_of (λ conds. (v, conds)) ws)
-if_chosen v w ws false e = stops (Value × List Condition) (is (codes "if")) (Many (has cond_of)) w ws e
+if_chosen v w ws true e =
+    goes_on (is (codes "if")) (Many (has cond_of)) w ws (conds_then (v, ws)) e (many_agrees cond_of (λ conds. (v, conds)) ws)
+if_chosen v w ws false e =
+    stops (Value × List Condition) (is (codes "if")) (Many (has cond_of)) w ws e
 
 if_agrees : (v : Value) (ws : List (List ℕ)) → Agrees if_form ws (then_if v ws >>= conds_then)
 if_agrees v [] = (refl, refl)
@@ -144,12 +158,15 @@ lag_form = Then (has lag_of) if_form
 
 lag_case : (c : Colour) (w : List ℕ) (ws : List (List ℕ)) (o : Option ℕ) → lag_of w ≡ o → Agrees lag_form (w ∷ ws) (lagged c o w ws >>= conds_then)
 lag_case c w ws None e = stops (Value × List Condition) (has lag_of) if_form w ws (ap is_some e)
-lag_case c w ws (Some n) e = goes_on (has lag_of) if_form w ws (then_if (wins_in c n) ws >>= conds_then) (ap is_some e) (if_agrees (wins_in c n) ws)
+lag_case c w ws (Some n) e =
+    goes_on (has lag_of) if_form w ws (then_if (wins_in c n) ws >>= conds_then) (ap is_some e) (if_agrees (wins_in c n) ws)
 
-not_fits : (p : List ℕ → Bool) (f : Form) (w : List ℕ) (ws : List (List ℕ)) → p w ≡ false → fits (Then p f) (w ∷ ws) ≡ false
+not_fits : (p : List ℕ → Bool) (f : Form) (w : List ℕ) (ws : List (List ℕ)) → p w ≡ false →
+    fits (Then p f) (w ∷ ws) ≡ false
 not_fits p f w ws e = rw e refl
 
-not_reach : (p : List ℕ → Bool) (f : Form) (w : List ℕ) (ws : List (List ℕ)) → p w ≡ false → reach (Then p f) (w ∷ ws) ≡ 0
+not_reach : (p : List ℕ → Bool) (f : Form) (w : List ℕ) (ws : List (List ℕ)) → p w ≡ false →
+    reach (Then p f) (w ∷ ws) ≡ 0
 not_reach p f w ws e = rw e refl
 
 no_lag : lag_of (codes "if") ≡ None
@@ -186,11 +203,14 @@ verb_case c w ws false false e h =
 
 verb_agrees : (c : Colour) (ws : List (List ℕ)) → Agrees verb_form ws (after_colour c ws >>= conds_then)
 verb_agrees c [] = (refl, refl)
-verb_agrees c (w ∷ ws) = verb_case c w ws (bytes_eq w (codes "wins")) (bytes_eq w (codes "holds")) refl refl
+verb_agrees c (w ∷ ws) =
+    verb_case c w ws (bytes_eq w (codes "wins")) (bytes_eq w (codes "holds")) refl refl
 
 side_agrees : (w : List ℕ) (ws : List (List ℕ)) (o : Option Colour) → colour_of w ≡ o → Agrees side_form (w ∷ ws) ((taken o w ws >>= λ c. after_colour c.0 c.1) >>= conds_then)
-side_agrees w ws None e = stops (Value × List Condition) (has colour_of) verb_form w ws (ap is_some e)
-side_agrees w ws (Some c) e = goes_on (has colour_of) verb_form w ws (after_colour c ws >>= conds_then) (ap is_some e) (verb_agrees c ws)
+side_agrees w ws None e =
+    stops (Value × List Condition) (has colour_of) verb_form w ws (ap is_some e)
+side_agrees w ws (Some c) e =
+    goes_on (has colour_of) verb_form w ws (after_colour c ws >>= conds_then) (ap is_some e) (verb_agrees c ws)
 
 abbrev unknown_form : Form
 unknown_form = Then (is (codes "unknown")) if_form
@@ -221,4 +241,5 @@ first_case w ws false false e h =
 pub exit_agrees : (ws : List (List ℕ)) → Agrees exit_form ws (exit_words ws)
 unfolding exit_words value_words
 exit_agrees [] = (refl, refl)
-exit_agrees (w ∷ ws) = first_case w ws (bytes_eq w (codes "draw")) (bytes_eq w (codes "unknown")) refl refl
+exit_agrees (w ∷ ws) =
+    first_case w ws (bytes_eq w (codes "draw")) (bytes_eq w (codes "unknown")) refl refl

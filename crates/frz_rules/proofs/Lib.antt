@@ -1,3 +1,4 @@
+pub mod Lemmas
 pub mod Parts
 pub mod Many
 pub mod Counting
@@ -6,6 +7,6 @@ pub mod Agreeing
 pub mod Reaches
 pub mod Saying
 pub mod LineReading
-pub mod Sizes
-pub mod SoundGroups
+pub mod SoundBehind
+pub mod KnownLines
 pub mod Sounding

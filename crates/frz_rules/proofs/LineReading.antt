@@ -3,7 +3,7 @@ use Rattle.std.proofs.Common.{◌≡◌, ℕ, ◌+◌, ◌-◌, true, false, Lis
 use Rattle.std.specs.Prelude.{is_some, codes, option_map}
 use Rattle.frz_rules.specs.declared.fault.RulesCause.{RulesCause}
 use Rattle.frz_rules.specs.declared.fault.RulesCause.TheVariants as causes
-use Rattle.frz_rules.specs.Views.{RuleLines}
+use Rattle.frz_sets.specs.Views.{RuleLines}
 use Rattle.frz_rules.specs.Classes.{is}
 use Rattle.frz_rules.specs.Lines.{group_of, forbid_of, exit_of}
 use Rattle.frz_rules.specs.Grammar.{Form, fits, reach, line_form, group_form, forbid_form, exit_form}
@@ -31,19 +31,31 @@ same_option (Some x) = refl
 forbid_says : (ws : List (List ℕ)) → forbid_of ws ≡ option_map (λ f. f) (ok_of (forbid_words ws))
 forbid_says ws = forbid_said ws ∙ same_option (ok_of (forbid_words ws))
 
-pub group_reads : (r : RuleLines) (line : List (List ℕ)) (w : List ℕ) (ws : List (List ℕ)) → line ≡ w ∷ ws → is (codes "group") w ≡ true → read_to (λ r g. add_group r (read_group g)) r (length line) (group_words ws) ≡ line_of r line
+pub group_reads : (r : RuleLines) (line : List (List ℕ)) (w : List ℕ) (ws : List (List ℕ)) →
+    line ≡ w ∷ ws → is (codes "group") w ≡ true →
+    read_to (λ r g. add_group r (read_group g)) r (length line) (group_words ws) ≡ line_of r line
 unfolding line_of line_form
-group_reads r line w ws s e = reads read_group add_group group_form (codes "group") (group_words ws) (group_of ws) r line w ws s e (omega arith) (group_agrees ws) (group_said ws) (rw e refl)
+group_reads r line w ws s e =
+    reads read_group add_group group_form (codes "group") (group_words ws) (group_of ws) r line w ws s e (omega arith) (group_agrees ws) (group_said ws) (rw e refl)
 
-pub forbid_reads : (r : RuleLines) (line : List (List ℕ)) (w : List ℕ) (ws : List (List ℕ)) → line ≡ w ∷ ws → is (codes "group") w ≡ false → is (codes "forbid") w ≡ true → read_to add_forbid r (length line) (forbid_words ws) ≡ line_of r line
+pub forbid_reads : (r : RuleLines) (line : List (List ℕ)) (w : List ℕ) (ws : List (List ℕ)) →
+    line ≡ w ∷ ws → is (codes "group") w ≡ false → is (codes "forbid") w ≡ true →
+    read_to add_forbid r (length line) (forbid_words ws) ≡ line_of r line
 unfolding line_of line_form
-forbid_reads r line w ws s g e = reads (λ f. f) add_forbid forbid_form (codes "forbid") (forbid_words ws) (forbid_of ws) r line w ws s e (omega arith) (forbid_agrees ws) (forbid_says ws) (rw (g, e) refl)
+forbid_reads r line w ws s g e =
+    reads (λ f. f) add_forbid forbid_form (codes "forbid") (forbid_words ws) (forbid_of ws) r line w ws s e (omega arith) (forbid_agrees ws) (forbid_says ws) (rw (g, e) refl)
 
-pub exit_reads : (r : RuleLines) (line : List (List ℕ)) (w : List ℕ) (ws : List (List ℕ)) → line ≡ w ∷ ws → is (codes "group") w ≡ false → is (codes "forbid") w ≡ false → is (codes "exit") w ≡ true → read_to (λ r e. add_exit r (read_exit e)) r (length line) (exit_words ws) ≡ line_of r line
+pub exit_reads : (r : RuleLines) (line : List (List ℕ)) (w : List ℕ) (ws : List (List ℕ)) →
+    line ≡ w ∷ ws → is (codes "group") w ≡ false → is (codes "forbid") w ≡ false →
+    is (codes "exit") w ≡ true →
+    read_to (λ r e. add_exit r (read_exit e)) r (length line) (exit_words ws) ≡ line_of r line
 unfolding line_of line_form
-exit_reads r line w ws s g f e = reads read_exit add_exit exit_form (codes "exit") (exit_words ws) (exit_of ws) r line w ws s e (omega arith) (exit_agrees ws) (exit_said ws) (rw (g, f, e) refl)
+exit_reads r line w ws s g f e =
+    reads read_exit add_exit exit_form (codes "exit") (exit_words ws) (exit_of ws) r line w ws s e (omega arith) (exit_agrees ws) (exit_said ws) (rw (g, f, e) refl)
 
-pub unknown_reads : (r : RuleLines) (line : List (List ℕ)) (w : List ℕ) (ws : List (List ℕ)) → line ≡ w ∷ ws → is (codes "group") w ≡ false → is (codes "forbid") w ≡ false → is (codes "exit") w ≡ false → line_of r line ≡ Err causes.UnknownLine
+pub unknown_reads : (r : RuleLines) (line : List (List ℕ)) (w : List ℕ) (ws : List (List ℕ)) →
+    line ≡ w ∷ ws → is (codes "group") w ≡ false → is (codes "forbid") w ≡ false →
+    is (codes "exit") w ≡ false → line_of r line ≡ Err causes.UnknownLine
 unfolding line_of
 unknown_reads r line w ws s g f e = ap (line_of r) s ∙ rw (g, f, e) refl
 
@@ -57,10 +69,16 @@ form_case h f ws (Ok x) agrees = agrees
 form_case h f ws (Err rest) agrees = agrees.0
 
 pub group_fits : (ws : List (List ℕ)) → fits group_form ws ≡ is_some (group_of ws)
-group_fits ws = form_case read_group group_form ws (group_words ws) (group_agrees ws) ∙ ap is_some (sym (group_said ws))
+group_fits ws =
+    form_case read_group group_form ws (group_words ws) (group_agrees ws)
+    ∙ ap is_some (sym (group_said ws))
 
 pub forbid_fits : (ws : List (List ℕ)) → fits forbid_form ws ≡ is_some (forbid_of ws)
-forbid_fits ws = form_case (λ f. f) forbid_form ws (forbid_words ws) (forbid_agrees ws) ∙ ap is_some (sym (forbid_says ws))
+forbid_fits ws =
+    form_case (λ f. f) forbid_form ws (forbid_words ws) (forbid_agrees ws)
+    ∙ ap is_some (sym (forbid_says ws))
 
 pub exit_fits : (ws : List (List ℕ)) → fits exit_form ws ≡ is_some (exit_of ws)
-exit_fits ws = form_case read_exit exit_form ws (exit_words ws) (exit_agrees ws) ∙ ap is_some (sym (exit_said ws))
+exit_fits ws =
+    form_case read_exit exit_form ws (exit_words ws) (exit_agrees ws)
+    ∙ ap is_some (sym (exit_said ws))

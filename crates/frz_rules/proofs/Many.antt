@@ -4,7 +4,8 @@ use Rattle.frz_rules.specs.Text.{◌>>=◌}
 use Rattle.frz_rules.specs.Reading.{each_of, more_of}
 
 -- the values so far, and those of the rest
-abbrev pub with_values : {A : Type 0} → List A → Result (List A) (List (List ℕ)) → Result (List A) (List (List ℕ))
+abbrev pub with_values : {A : Type 0} → List A → Result (List A) (List (List ℕ)) →
+    Result (List A) (List (List ℕ))
 with_values xs (Ok ys) = Ok (xs ++ ys)
 with_values xs (Err e) = Err e
 
@@ -17,7 +18,9 @@ many_start (Ok ys) = refl
 many_start (Err e) = refl
 
 pub many_next : {A : Type 0} (class : List ℕ → Option A) (xs : List A) (x : A) (w : List ℕ) (ws : List (List ℕ)) → Some x ≡ class w → with_values xs (each_of class (w ∷ ws)) ≡ with_values (xs ++ x ∷ []) (each_of class ws)
-many_next class xs x w ws e = ap (λ o. with_values xs (more_of o w ws (each_of class ws))) (sym e) ∙ joins xs x (each_of class ws)
+many_next class xs x w ws e =
+    ap (λ o. with_values xs (more_of o w ws (each_of class ws))) (sym e)
+    ∙ joins xs x (each_of class ws)
 
 pub many_stop : {A : Type 0} (class : List ℕ → Option A) (xs : List A) (w : List ℕ) (ws : List (List ℕ)) → None ≡ class w → with_values xs (each_of class (w ∷ ws)) ≡ Err (w ∷ ws)
 many_stop class xs w ws e = ap (λ o. with_values xs (more_of o w ws (each_of class ws))) (sym e)

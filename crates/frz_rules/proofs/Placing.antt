@@ -6,13 +6,9 @@ use Rattle.std.proofs.lemmas.List.{append-nil}
 use Rattle.std.proofs.lemmas.List.FromFn.{filter_of_map_range_with_len_more}
 use Rattle.frz_board.specs.declared.man.Kind.{Kind}
 use Rattle.frz_board.specs.Men.{number_of_kind}
-use Rattle.frz_words.specs.declared.squares.SquareSet.{SquareSet}
 use Rattle.frz_words.specs.Squares.{has_square}
-use Rattle.frz_rules.specs.Groups.{is_placed, state_at, states_of}
-
-pub is_placed_map : (ps : List (Kind × SquareSet)) (s : Kind × ℕ) → is_placed (map (λ p. (p.0, p.1.0)) ps) s ≡ list_any (λ p. number_of_kind p.0 == number_of_kind s.0 && has_square p.1.0 s.1) ps
-is_placed_map [] s = refl
-is_placed_map (p ∷ ps) s = grind (arith, is_placed_map ps s)
+use Rattle.frz_sets.specs.Groups.{state_at}
+use Rattle.frz_rules.specs.States.{is_placed, states_of}
 
 -- the states with numbers below n, of those that the places have
 unfoldable pub states_below : List (Kind × ℕ) → ℕ → List (Kind × ℕ)
@@ -22,18 +18,23 @@ pub states_start : (places : List (Kind × ℕ)) → states_below places 0 ≡ [
 unfolding states_below
 states_start places = refl
 
-pub states_yes : (places : List (Kind × ℕ)) (n : ℕ) → is_placed places (state_at n) ≡ true → states_below places (n + 1) ≡ states_below places n ++ state_at n ∷ []
+pub states_yes : (places : List (Kind × ℕ)) (n : ℕ) → is_placed places (state_at n) ≡ true →
+    states_below places (n + 1) ≡ states_below places n ++ state_at n ∷ []
 unfolding states_below
-states_yes places n e = filter_of_map_range_with_len_more (is_placed places) state_at 0 n n (omega arith) ∙ ap (λ b. filter (is_placed places) (map state_at (range_with_len 0 n)) ++ cond b (state_at n ∷ []) []) e
+states_yes places n e =
+    filter_of_map_range_with_len_more (is_placed places) state_at 0 n n (omega arith)
+    ∙ ap (λ b. filter (is_placed places) (map state_at (range_with_len 0 n)) ++ cond b (state_at n ∷ []) []) e
 
-pub states_no : (places : List (Kind × ℕ)) (n : ℕ) → is_placed places (state_at n) ≡ false → states_below places (n + 1) ≡ states_below places n
+pub states_no : (places : List (Kind × ℕ)) (n : ℕ) → is_placed places (state_at n) ≡ false →
+    states_below places (n + 1) ≡ states_below places n
 unfolding states_below
 states_no places n e =
     filter_of_map_range_with_len_more (is_placed places) state_at 0 n n (omega arith)
     ∙ ap (λ b. filter (is_placed places) (map state_at (range_with_len 0 n)) ++ cond b (state_at n ∷ []) []) e
     ∙ append-nil (filter (is_placed places) (map state_at (range_with_len 0 n)))
 
-pub states_end : (places : List (Kind × ℕ)) (n : ℕ) → n ≡ 384 → states_below places n ≡ states_of places
+pub states_end : (places : List (Kind × ℕ)) (n : ℕ) → n ≡ 384 →
+    states_below places n ≡ states_of places
 unfolding states_below states_of
 states_end places n e = ap (λ m. filter (is_placed places) (map state_at (range_with_len 0 m))) e
 

@@ -5,6 +5,7 @@ use Rattle.frz_board.specs.declared.man.Colour.{Colour}
 use Rattle.frz_board.specs.declared.man.Colour.TheVariants.{White, Black}
 use Rattle.frz_board.specs.declared.man.Kind.{Kind}
 use Rattle.frz_board.specs.declared.man.Kind.TheVariants.{King, Queen, Rook, Bishop, Knight, Pawn}
+use Rattle.frz_sets.specs.declared.limits.TheConstants.{MOST_MEN, MOST_PLIES}
 use Rattle.frz_words.specs.Parts.{split}
 use Rattle.frz_words.specs.Numbers.{number_of}
 use Rattle.frz_words.specs.Squares.{squares_of}
@@ -39,8 +40,8 @@ abbrev pub is_colon : ℕ → Bool
 is_colon b = b == 58
 
 abbrev pub least_and_most : List (List ℕ) → Option (ℕ × ℕ)
-least_and_most (n ∷ []) = both (number_of n 16) (number_of n 16)
-least_and_most (m ∷ n ∷ []) = both (number_of m 16) (number_of n 16)
+least_and_most (n ∷ []) = both (number_of n MOST_MEN) (number_of n MOST_MEN)
+least_and_most (m ∷ n ∷ []) = both (number_of m MOST_MEN) (number_of n MOST_MEN)
 least_and_most _ = None
 
 -- a number of men, or two with a hyphen between them; one alone is both the least and the most
@@ -65,4 +66,4 @@ place_of word = kind_and_squares (split is_colon word)
 
 -- a number of plies, at most 1,000
 abbrev pub lag_of : List ℕ → Option ℕ
-lag_of word = number_of word 1000
+lag_of word = number_of word MOST_PLIES

@@ -2,9 +2,9 @@
 use Rattle.std.specs.Prelude.{ℕ, Bool, true, false, ◌==◌, List, [], ◌∷◌, Option, None, Some, if◌then◌else◌, codes}
 use Rattle.frz_board.specs.declared.man.Colour.{Colour}
 use Rattle.frz_board.specs.declared.man.Kind.{Kind}
-use Rattle.frz_rules.specs.declared.exit.Test.{Test}
-use Rattle.frz_rules.specs.declared.exit.Test.TheVariants.{Turn, Count, On, Distance, Check, Always}
-use Rattle.frz_rules.specs.Views.{Condition}
+use Rattle.frz_sets.specs.declared.exit.Test.{Test}
+use Rattle.frz_sets.specs.declared.exit.Test.TheVariants.{Turn, Count, On, Distance, Check, Always}
+use Rattle.frz_sets.specs.Views.{Condition}
 use Rattle.frz_rules.specs.Classes.{is, colour_of, kind_of, range_of, is_colon}
 use Rattle.frz_words.specs.Parts.{split}
 use Rattle.frz_words.specs.Squares.{square_word, squares_of}
@@ -21,7 +21,7 @@ count_test _ _ _ = None
 
 -- on:COLOUR:KIND:SQUARES
 abbrev pub on_test : Option Colour → Option Kind → Option ℕ → Option Test
-on_test (Some c) (Some k) (Some set) = Some (On c k (record { 0 = set }))
+on_test (Some c) (Some k) (Some set) = Some (On c k set)
 on_test _ _ _ = None
 
 -- distance:COLOUR:SQUARE:RANGE
@@ -31,7 +31,8 @@ distance_test _ _ _ = None
 
 -- a test, by its parts between colons
 abbrev pub test_of : List (List ℕ) → Option Test
-test_of (t ∷ []) = if is (codes "check") t then Some Check else (if is (codes "always") t then Some Always else None)
+test_of (t ∷ []) =
+    if is (codes "check") t then Some Check else (if is (codes "always") t then Some Always else None)
 test_of (t ∷ c ∷ []) = if is (codes "turn") t then turn_test (colour_of c) else None
 test_of (t ∷ c ∷ x ∷ r ∷ []) =
     if is (codes "count") t then count_test (colour_of c) (kind_of x) (range_of r) else

@@ -56,12 +56,15 @@ abbrev pub wins_form : Form
 wins_form = Or if_form (Then (has lag_of) if_form)
 
 abbrev pub side_form : Form
-side_form = Then (has colour_of) (Or (Then (is (codes "holds")) if_form) (Then (is (codes "wins")) wins_form))
+side_form =
+    Then (has colour_of) (Or (Then (is (codes "holds")) if_form) (Then (is (codes "wins")) wins_form))
 
 -- VALUE if COND ..
 abbrev pub exit_form : Form
-exit_form = Or (Then (is (codes "draw")) if_form) (Or (Then (is (codes "unknown")) if_form) side_form)
+exit_form =
+    Or (Then (is (codes "draw")) if_form) (Or (Then (is (codes "unknown")) if_form) side_form)
 
 -- a line behind the header
 unfoldable pub line_form : Form
-line_form = Or (Then (is (codes "group")) group_form) (Or (Then (is (codes "forbid")) forbid_form) (Then (is (codes "exit")) exit_form))
+line_form =
+    Or (Then (is (codes "group")) group_form) (Or (Then (is (codes "forbid")) forbid_form) (Then (is (codes "exit")) exit_form))

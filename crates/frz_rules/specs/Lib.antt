@@ -1,11 +1,9 @@
-pub mod Views
 pub mod Classes
 pub mod Conditions
 pub mod Lines
 pub mod Grammar
-pub mod Begins
-pub mod Groups
-pub mod Sets
+pub mod Fronts
+pub mod States
+pub mod Causes
 pub mod Text
-pub mod Sound
 pub mod Reading

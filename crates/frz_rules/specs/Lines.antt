@@ -4,15 +4,15 @@ use Rattle.std.specs.List.{before_first, after_first}
 use Rattle.frz_board.specs.declared.man.Colour.{Colour}
 use Rattle.frz_board.specs.declared.man.Colour.TheVariants.{White, Black}
 use Rattle.frz_board.specs.declared.man.Kind.{Kind}
-use Rattle.frz_rules.specs.declared.forbid.Only.{Only}
-use Rattle.frz_rules.specs.declared.forbid.Only.TheVariants.{Any, Capture, Promotion}
-use Rattle.frz_rules.specs.declared.forbid.Forbid.{Forbid}
-use Rattle.frz_rules.specs.declared.exit.Value.{Value}
-use Rattle.frz_rules.specs.declared.exit.Value.TheVariants.{WhiteWins, BlackWins, Draw, WhiteHolds, BlackHolds, Unknown, WhiteWinsIn, BlackWinsIn}
-use Rattle.frz_rules.specs.Views.{Condition, GroupLine, ExitLine}
+use Rattle.frz_sets.specs.declared.forbid.Only.{Only}
+use Rattle.frz_sets.specs.declared.forbid.Only.TheVariants.{Any, Capture, Promotion}
+use Rattle.frz_sets.specs.declared.forbid.Forbid.{Forbid}
+use Rattle.frz_sets.specs.declared.exit.Value.{Value}
+use Rattle.frz_sets.specs.declared.exit.Value.TheVariants.{WhiteWins, BlackWins, Draw, WhiteHolds, BlackHolds, Unknown, WhiteWinsIn, BlackWinsIn}
+use Rattle.frz_sets.specs.Views.{Condition, GroupLine, ExitLine}
 use Rattle.frz_rules.specs.Classes.{is, colour_of, kind_of, count_of, place_of, lag_of}
 use Rattle.frz_rules.specs.Conditions.{cond_of}
-use Rattle.frz_rules.specs.Groups.{states_of}
+use Rattle.frz_rules.specs.States.{states_of}
 use Rattle.frz_words.specs.Squares.{squares_of}
 
 abbrev pub with_first : {A : Type 0} → Option A → Option (List A) → Option (List A)
@@ -31,7 +31,8 @@ some_of class [] = None
 some_of class (w ∷ ws) = all_of class (w ∷ ws)
 
 abbrev pub group_from : Option Colour → Option (ℕ × ℕ) → Option (List (Kind × ℕ)) → Option GroupLine
-group_from (Some c) (Some n) (Some places) = Some (record { colour = c; least = n.0; most = n.1; states = states_of places })
+group_from (Some c) (Some n) (Some places) =
+    Some (record { colour = c; least = n.0; most = n.1; states = states_of places })
 group_from _ _ _ = None
 
 -- COLOUR COUNT PLACE ..
@@ -42,11 +43,14 @@ group_of _ = None
 -- nothing, `capture` or `promotion`
 abbrev pub only_of : List (List ℕ) → Option Only
 only_of [] = Some Any
-only_of (w ∷ []) = if is (codes "capture") w then Some Capture else (if is (codes "promotion") w then Some Promotion else None)
+only_of (w ∷ []) =
+    if is (codes "capture") w then Some Capture else (if is (codes "promotion") w then Some Promotion else None)
 only_of _ = None
 
-abbrev pub forbid_from : Option Colour → Option Kind → Option ℕ → Option ℕ → Option Only → Option Forbid
-forbid_from (Some c) (Some k) (Some s) (Some t) (Some o) = Some (record { colour = c; kind = k; from = record { 0 = s }; to = record { 0 = t }; only = o })
+abbrev pub forbid_from : Option Colour → Option Kind → Option ℕ → Option ℕ → Option Only →
+    Option Forbid
+forbid_from (Some c) (Some k) (Some s) (Some t) (Some o) =
+    Some (record { colour = c; kind = k; from = s; to = t; only = o })
 forbid_from _ _ _ _ _ = None
 
 -- COLOUR KIND from SQUARES to SQUARES, then nothing, `capture` or `promotion`
@@ -70,7 +74,8 @@ wins_in Black n = BlackWinsIn n
 
 abbrev pub won_or_held : Option Colour → List ℕ → Option Value
 won_or_held None verb = None
-won_or_held (Some c) verb = if is (codes "wins") verb then Some (wins c) else (if is (codes "holds") verb then Some (holds c) else None)
+won_or_held (Some c) verb =
+    if is (codes "wins") verb then Some (wins c) else (if is (codes "holds") verb then Some (holds c) else None)
 
 abbrev pub won_in : Option Colour → Option ℕ → Option Value
 won_in (Some c) (Some n) = Some (wins_in c n)
@@ -78,9 +83,11 @@ won_in _ _ = None
 
 -- VALUE: `draw` or `unknown`; COLOUR and `wins` or `holds`; COLOUR, `wins` and LAG
 abbrev pub value_of : List (List ℕ) → Option Value
-value_of (w ∷ []) = if is (codes "draw") w then Some Draw else (if is (codes "unknown") w then Some Unknown else None)
+value_of (w ∷ []) =
+    if is (codes "draw") w then Some Draw else (if is (codes "unknown") w then Some Unknown else None)
 value_of (c ∷ verb ∷ []) = won_or_held (colour_of c) verb
-value_of (c ∷ verb ∷ n ∷ []) = if is (codes "wins") verb then won_in (colour_of c) (lag_of n) else None
+value_of (c ∷ verb ∷ n ∷ []) =
+    if is (codes "wins") verb then won_in (colour_of c) (lag_of n) else None
 value_of _ = None
 
 abbrev pub exit_from : Option Value → Option (List Condition) → Option ExitLine
@@ -89,4 +96,5 @@ exit_from _ _ = None
 
 -- VALUE if COND ..
 unfoldable pub exit_of : List (List ℕ) → Option ExitLine
-exit_of ws = exit_from (value_of (before_first (is (codes "if")) ws)) (some_of cond_of (after_first (is (codes "if")) ws))
+exit_of ws =
+    exit_from (value_of (before_first (is (codes "if")) ws)) (some_of cond_of (after_first (is (codes "if")) ws))

@@ -1,22 +1,23 @@
--- What the functions of the reader give, word by word: a value, or the words from the first that does not fit.
+-- What the private functions of the reader give, word by word: a value, or the words from the first that does not fit.
 use Rattle.std.specs.Prelude.{ℕ, ◌+◌, ◌-◌, List, [], ◌∷◌, ◌≡◌, length, Option, None, Some, Result, Ok, Err, if◌then◌else◌, codes}
 use Rattle.frz_board.specs.declared.man.Colour.{Colour}
 use Rattle.frz_board.specs.declared.man.Kind.{Kind}
 use Rattle.frz_rules.specs.declared.fault.RulesCause.{RulesCause}
 use Rattle.frz_rules.specs.declared.fault.RulesCause.TheVariants as causes
-use Rattle.frz_rules.specs.declared.forbid.Only.{Only}
-use Rattle.frz_rules.specs.declared.forbid.Only.TheVariants.{Any, Capture, Promotion}
-use Rattle.frz_rules.specs.declared.forbid.Forbid.{Forbid}
-use Rattle.frz_rules.specs.declared.exit.Value.{Value}
-use Rattle.frz_rules.specs.declared.exit.Value.TheVariants.{Draw, Unknown}
+use Rattle.frz_sets.specs.declared.forbid.Only.{Only}
+use Rattle.frz_sets.specs.declared.forbid.Only.TheVariants.{Any, Capture, Promotion}
+use Rattle.frz_sets.specs.declared.forbid.Forbid.{Forbid}
+use Rattle.frz_sets.specs.declared.exit.Value.{Value}
+use Rattle.frz_sets.specs.declared.exit.Value.TheVariants.{Draw, Unknown}
 use Rattle.frz_rules.specs.declared.stop.Stop.{Stop}
 use Rattle.frz_rules.specs.declared.stop.Stop.TheVariants as stops
-use Rattle.frz_rules.specs.declared.stop.Refusal.{Refusal}
-use Rattle.frz_rules.specs.declared.stop.Refusal.TheVariants as refusals
-use Rattle.frz_rules.specs.Views.{Condition, GroupLine, ExitLine, RuleLines}
+use Rattle.frz_rules.specs.declared.stop.Left.{Left}
+use Rattle.frz_rules.specs.declared.stop.LineError.{LineError}
+use Rattle.frz_rules.specs.declared.stop.LineError.TheVariants as refusals
+use Rattle.frz_sets.specs.Views.{Condition, GroupLine, ExitLine, RuleLines}
 use Rattle.frz_rules.specs.Classes.{is, colour_of, kind_of, count_of, place_of, lag_of}
 use Rattle.frz_rules.specs.Conditions.{cond_of}
-use Rattle.frz_rules.specs.Groups.{states_of}
+use Rattle.frz_rules.specs.States.{states_of}
 use Rattle.frz_rules.specs.Lines.{wins, holds, wins_in}
 use Rattle.frz_rules.specs.Text.{◌>>=◌}
 use Rattle.frz_words.specs.Words.{words}
@@ -35,6 +36,11 @@ abbrev pub Gives : {X Y : Type 0} → (X → Y) → Result X Stop → Read Y →
 Gives view (Ok x) read = read ≡ Ok (view x)
 Gives view (Err e) read = Stops e read
 
+-- the same of a function that wants no memory
+abbrev pub Leaves : {X Y : Type 0} → (X → Y) → Result X Left → Read Y → Type 0
+Leaves view (Ok x) read = read ≡ Ok (view x)
+Leaves view (Err left) read = read ≡ Err (words left.0.now)
+
 abbrev pub taken : {A : Type 0} → Option A → List ℕ → List (List ℕ) → Read (A × List (List ℕ))
 taken None w ws = Err (w ∷ ws)
 taken (Some x) w ws = Ok (x, ws)
@@ -50,7 +56,8 @@ literal text [] = Err []
 literal text (w ∷ ws) = if is text w then Ok ws else Err (w ∷ ws)
 
 -- words of a class to the end
-abbrev pub more_of : {A : Type 0} → Option A → List ℕ → List (List ℕ) → Read (List A) → Read (List A)
+abbrev pub more_of : {A : Type 0} → Option A → List ℕ → List (List ℕ) → Read (List A) →
+    Read (List A)
 more_of None w ws others = Err (w ∷ ws)
 more_of (Some x) w ws others = others >>= λ xs. Ok (x ∷ xs)
 
@@ -74,8 +81,10 @@ group_words ws = do
 
 abbrev pub only_words : List (List ℕ) → Read Only
 only_words [] = Ok Any
-only_words (w ∷ []) = if is (codes "capture") w then Ok Capture else (if is (codes "promotion") w then Ok Promotion else Err (w ∷ []))
-only_words (w ∷ v ∷ vs) = if is (codes "capture") w then Err (v ∷ vs) else (if is (codes "promotion") w then Err (v ∷ vs) else Err (w ∷ v ∷ vs))
+only_words (w ∷ []) =
+    if is (codes "capture") w then Ok Capture else (if is (codes "promotion") w then Ok Promotion else Err (w ∷ []))
+only_words (w ∷ v ∷ vs) =
+    if is (codes "capture") w then Err (v ∷ vs) else (if is (codes "promotion") w then Err (v ∷ vs) else Err (w ∷ v ∷ vs))
 
 unfoldable pub forbid_words : List (List ℕ) → Read Forbid
 forbid_words ws = do
@@ -86,7 +95,7 @@ forbid_words ws = do
   after_to ← literal (codes "to") a.1
   b ← slot squares_of after_to
   o ← only_words b.1
-  Ok (record { colour = c.0; kind = k.0; from = record { 0 = a.0 }; to = record { 0 = b.0 }; only = o })
+  Ok (record { colour = c.0; kind = k.0; from = a.0; to = b.0; only = o })
 
 -- the word `if`, behind a value
 abbrev pub then_if : Value → List (List ℕ) → Read (Value × List (List ℕ))
@@ -104,7 +113,8 @@ after_wins c (w ∷ ws) = if is (codes "if") w then Ok (wins c, ws) else lagged 
 -- what follows a colour
 abbrev pub after_colour : Colour → List (List ℕ) → Read (Value × List (List ℕ))
 after_colour c [] = Err []
-after_colour c (w ∷ ws) = if is (codes "wins") w then after_wins c ws else (if is (codes "holds") w then then_if (holds c) ws else Err (w ∷ ws))
+after_colour c (w ∷ ws) =
+    if is (codes "wins") w then after_wins c ws else (if is (codes "holds") w then then_if (holds c) ws else Err (w ∷ ws))
 
 -- a value and `if`
 unfoldable pub value_words : List (List ℕ) → Read (Value × List (List ℕ))
@@ -131,15 +141,16 @@ abbrev pub read_exit : Value × List Condition → ExitLine
 read_exit e = record { value = e.0; conds = e.1 }
 
 -- the rules with a line of n words, or why it is bad
-abbrev pub read_to : {A : Type 0} → (RuleLines → A → Result RuleLines RulesCause) → RuleLines → ℕ → Read A → Result RuleLines RulesCause
+abbrev pub read_to : {A : Type 0} → (RuleLines → A → Result RuleLines RulesCause) → RuleLines → ℕ →
+    Read A → Result RuleLines RulesCause
 read_to add r n (Err rest) = Err (place n rest)
 read_to add r n (Ok x) = add r x
 
-abbrev pub Refuses : Refusal → Result RuleLines RulesCause → Type 0
+abbrev pub Refuses : LineError → Result RuleLines RulesCause → Type 0
 Refuses refusals.Memory read = Unit {0}
 Refuses (refusals.Cause c) read = read ≡ Err c
 
 -- what a function returned is what reading a line gives, unless memory ran out
-abbrev pub Reads : Result RuleLines Refusal → Result RuleLines RulesCause → Type 0
+abbrev pub Reads : Result RuleLines LineError → Result RuleLines RulesCause → Type 0
 Reads (Ok r) read = read ≡ Ok r
 Reads (Err e) read = Refuses e read

@@ -4,18 +4,21 @@ use Rattle.frz_board.specs.declared.man.Colour.TheVariants.{White, Black}
 use Rattle.frz_combinations.specs.Binomials.{capped}
 use Rattle.frz_words.specs.Lines.{lines, numbered}
 use Rattle.frz_words.specs.Words.{words}
-use Rattle.frz_rules.specs.declared.forbid.Forbid.{Forbid}
+use Rattle.frz_sets.specs.declared.forbid.Forbid.{Forbid}
 use Rattle.frz_rules.specs.declared.fault.RulesCause.{RulesCause}
 use Rattle.frz_rules.specs.declared.fault.RulesCause.TheVariants as causes
 use Rattle.frz_rules.specs.declared.fault.RulesFault.{RulesFault}
 use Rattle.frz_rules.specs.declared.fault.RulesError.{RulesError}
 use Rattle.frz_rules.specs.declared.fault.RulesError.TheVariants as errors
-use Rattle.frz_rules.specs.Views.{GroupLine, ExitLine, RuleLines}
+use Rattle.frz_sets.specs.declared.limits.TheConstants.{MOST_CONDS, MOST_EXITS, MOST_FORBIDS, MOST_NUMBERS}
+use Rattle.frz_rules.specs.declared.fault.TheConstants.{LONGEST_TEXT}
+use Rattle.frz_sets.specs.Views.{GroupLine, ExitLine, RuleLines}
 use Rattle.frz_rules.specs.Classes.{is}
 use Rattle.frz_rules.specs.Lines.{group_of, forbid_of, exit_of}
 use Rattle.frz_rules.specs.Grammar.{reach, line_form}
-use Rattle.frz_rules.specs.Groups.{cause_of_group, has_king_group}
-use Rattle.frz_rules.specs.Sets.{size_of}
+use Rattle.frz_sets.specs.Groups.{has_king_group}
+use Rattle.frz_rules.specs.Causes.{cause_of_group}
+use Rattle.frz_sets.specs.Sets.{size_of}
 
 -- the line has no form: the word behind its longest front that begins a line of some form
 abbrev pub unreadable : List (List ℕ) → RulesCause
@@ -26,19 +29,21 @@ unless None r = Ok r
 unless (Some c) r = Err c
 
 abbrev pub add_group : RuleLines → GroupLine → Result RuleLines RulesCause
-add_group r g = unless (cause_of_group r.groups g) (record { groups = r.groups ++ g ∷ []; forbids = r.forbids; exits = r.exits })
+add_group r g =
+    unless (cause_of_group r.groups g) (record { groups = r.groups ++ g ∷ []; forbids = r.forbids; exits = r.exits })
 
 abbrev pub add_forbid : RuleLines → Forbid → Result RuleLines RulesCause
 add_forbid r f =
-    if nat_le 64 (length r.forbids) then Err causes.TooManyLines
+    if nat_le MOST_FORBIDS (length r.forbids) then Err causes.TooManyLines
     else Ok (record { groups = r.groups; forbids = r.forbids ++ f ∷ []; exits = r.exits })
 
 abbrev pub add_exit : RuleLines → ExitLine → Result RuleLines RulesCause
 add_exit r e =
-    if nat_le 128 (length r.exits) || nat_le 9 (length e.conds) then Err causes.TooManyLines
+    if nat_le MOST_EXITS (length r.exits) || nat_lt MOST_CONDS (length e.conds) then Err causes.TooManyLines
     else Ok (record { groups = r.groups; forbids = r.forbids; exits = r.exits ++ e ∷ [] })
 
-abbrev pub with_line : {A : Type 0} → (RuleLines → A → Result RuleLines RulesCause) → RuleLines → List (List ℕ) → Option A → Result RuleLines RulesCause
+abbrev pub with_line : {A : Type 0} → (RuleLines → A → Result RuleLines RulesCause) → RuleLines →
+    List (List ℕ) → Option A → Result RuleLines RulesCause
 with_line add r line None = Err (unreadable line)
 with_line add r line (Some x) = add r x
 
@@ -49,6 +54,11 @@ line_of r (w ∷ ws) =
     if is (codes "group") w then with_line add_group r (w ∷ ws) (group_of ws) else
     (if is (codes "forbid") w then with_line add_forbid r (w ∷ ws) (forbid_of ws) else
     (if is (codes "exit") w then with_line add_exit r (w ∷ ws) (exit_of ws) else Err causes.UnknownLine))
+
+-- the first word is one of those that a line may begin with
+abbrev pub begins_known : List (List ℕ) → Bool
+begins_known [] = false
+begins_known (w ∷ ws) = is (codes "group") w || (is (codes "forbid") w || is (codes "exit") w)
 
 abbrev pub at_line : ℕ → Result RuleLines RulesCause → Result RuleLines RulesFault
 at_line n (Ok r) = Ok r
@@ -77,7 +87,8 @@ is_skipped (w ∷ ws) = begins_hash w
 -- the lines that count, as words
 abbrev pub significant : List (ℕ × List ℕ) → List (ℕ × List (List ℕ))
 significant [] = []
-significant (l ∷ ls) = if is_skipped (words l.1) then significant ls else (l.0, words l.1) ∷ significant ls
+significant (l ∷ ls) =
+    if is_skipped (words l.1) then significant ls else (l.0, words l.1) ∷ significant ls
 
 abbrev pub no_rules : RuleLines
 no_rules = record { groups = []; forbids = []; exits = [] }
@@ -90,11 +101,12 @@ is_header _ = false
 abbrev pub whole : RuleLines → Result RuleLines RulesFault
 whole r =
     if not (has_king_group r.groups White && has_king_group r.groups Black) then Err (record { line = 0; cause = causes.KingGroup }) else
-    (if nat_lt 134217728 (size_of r.groups) then Err (record { line = 0; cause = causes.SetTooBig (capped (size_of r.groups)) }) else Ok r)
+    (if nat_lt MOST_NUMBERS (size_of r.groups) then Err (record { line = 0; cause = causes.SetTooBig (capped (size_of r.groups)) }) else Ok r)
 
 abbrev pub after_header : List (ℕ × List (List ℕ)) → Result RuleLines RulesFault
 after_header [] = Err (record { line = 0; cause = causes.Header })
-after_header (l ∷ ls) = if is_header l.1 then lines_of no_rules ls >>= whole else Err (record { line = l.0; cause = causes.Header })
+after_header (l ∷ ls) =
+    if is_header l.1 then lines_of no_rules ls >>= whole else Err (record { line = l.0; cause = causes.Header })
 
 -- more than 65,536 bytes
 abbrev pub too_long : Result RuleLines RulesFault
@@ -102,8 +114,21 @@ too_long = Err (record { line = 0; cause = causes.TooLong })
 
 unfoldable pub rules_of : List ℕ → Result RuleLines RulesFault
 rules_of text =
-    if nat_lt 65536 (length text) then too_long
+    if nat_lt LONGEST_TEXT (length text) then too_long
     else after_header (significant (numbered 1 (lines text)))
+
+abbrev pub first_known : List (ℕ × List (List ℕ)) → Bool
+first_known [] = false
+first_known (l ∷ ls) = begins_known l.1
+
+abbrev pub has_known_line : List (ℕ × List (List ℕ)) → Bool
+has_known_line [] = false
+has_known_line (l ∷ ls) = is_header l.1 && first_known ls
+
+-- want of memory: only where the text is within its limit, the header is right, and the first line behind it begins with a known word
+unfoldable pub may_want_memory : List ℕ → Bool
+may_want_memory text =
+    nat_le (length text) LONGEST_TEXT && has_known_line (significant (numbered 1 (lines text)))
 
 abbrev pub Fails : RulesError → Result RuleLines RulesFault → Type 0
 Fails errors.NoMemory read = Unit {0}

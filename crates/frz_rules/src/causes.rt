@@ -1,20 +1,19 @@
+//! What is wrong with a group behind the earlier ones.
 ghost use Rattle.std.specs.Prelude.{◌≡◌, ◌≤◌, ◌&&◌, length};
 ghost use Rattle.std.specs.List.{list_any};
 ghost use Rattle.frz_board.specs.Men.{same_colour};
-ghost use Rattle.frz_rules.specs.Groups.{is_king, is_bad_count, has_king_group, is_bad_king, shares, overlaps, men_of, cause_of_group};
+ghost use Rattle.frz_sets.specs.Groups.{is_king, is_bad_count, has_king_group, is_bad_king, shares, overlaps, most_men_of};
+ghost use Rattle.frz_rules.specs.Causes.{cause_of_group};
 
 use crate::fault::RulesCause;
-use crate::group::Group;
 use crate::states::{has_end_pawn, has_king, has_other_than_king, share};
 use frz_board::Colour;
+use frz_sets::{Group, MOST_GROUPS, MOST_MEN};
 
 pub fn is_same_colour(a: Colour, b: Colour) -> bool
     ensures { result ≡ same_colour a b }
 {
-    match (a, b) {
-        (Colour::White, Colour::White) | (Colour::Black, Colour::Black) => true,
-        _ => false,
-    }
+    a == b
 }
 
 fn is_king_group(g: &Group, c: Colour) -> bool
@@ -59,8 +58,8 @@ fn has_overlap(earlier: &[Group], g: &Group) -> bool
 /// The most men of the colour's groups together.
 #[tactic(auto, using(crate::proofs::Counting::men_all))]
 fn men(groups: &[Group], c: Colour) -> u32
-    requires { length groups.now ≤ 32 }
-    ensures value { result ≡ men_of groups.now c }
+    requires { length groups.now ≤ MOST_GROUPS }
+    ensures value { result ≡ most_men_of groups.now c }
     ensures bound { result ≤ 8160 }
 {
     let mut total = 0;
@@ -74,7 +73,7 @@ fn men(groups: &[Group], c: Colour) -> u32
 
 /// The first thing that is wrong with a group behind the earlier ones.
 pub fn group_cause(earlier: &[Group], g: &Group) -> Option<RulesCause>
-    requires { length earlier.now ≤ 32 }
+    requires { length earlier.now ≤ MOST_GROUPS }
     ensures { result ≡ cause_of_group earlier.now g.now }
 {
     if has_end_pawn(&g.states) {
@@ -85,9 +84,9 @@ pub fn group_cause(earlier: &[Group], g: &Group) -> Option<RulesCause>
         Some(RulesCause::KingGroup)
     } else if has_overlap(earlier, g) {
         Some(RulesCause::Overlap)
-    } else if men(earlier, g.colour) + g.most as u32 > 16 {
+    } else if men(earlier, g.colour) + g.most as u32 > MOST_MEN {
         Some(RulesCause::TooManyMen)
-    } else if earlier.len() >= 32 {
+    } else if earlier.len() >= MOST_GROUPS {
         Some(RulesCause::TooManyLines)
     } else {
         None

@@ -1,4 +1,8 @@
+//! What can be wrong with a rules text.
 use thiserror::Error;
+
+/// How many bytes a rules text has at most.
+pub const LONGEST_TEXT: usize = 65_536;
 
 /// What is wrong with a rules text, or with a line of it.
 #[derive(Clone, Copy, Debug, PartialEq, Eq)]

@@ -1,14 +1,14 @@
+//! The parts of a group line, a forbid line and an exit line, behind the first word.
 ghost use Rattle.std.specs.Prelude.{◌≡◌, map};
 ghost use Rattle.frz_words.specs.Words.{words};
 ghost use Rattle.frz_rules.specs.Lines.{wins as wins_of, holds as holds_of, wins_in as wins_in_of};
-ghost use Rattle.frz_rules.specs.Reading.{Gives, group_words, only_words, forbid_words, then_if, after_wins, after_colour, value_words, exit_words};
+ghost use Rattle.frz_rules.specs.Reading.{Gives, Leaves, group_words, only_words, forbid_words, then_if, after_wins, after_colour, value_words, exit_words};
 
-use crate::exit::{Cond, Value};
-use crate::forbid::{Forbid, Only};
 use crate::slots::{colour_at, conds_at, count_at, kind_at, literal_at, places_at, squares_at};
-use crate::stop::Stop;
+use crate::stop::{Left, Stop};
 use crate::words::colour;
 use frz_board::{Colour, Kind};
+use frz_sets::{Cond, Forbid, MOST_PLIES, Only, Value};
 use frz_words::{SquareSet, is_word, next_word, read_number};
 use std::alloc::Global;
 
@@ -17,7 +17,8 @@ pub fn group_parts(
     alloc: Global,
     line: &[u8],
 ) -> Result<(Colour, (u8, u8), Vec<(Kind, SquareSet)>), Stop<'_>>
-    ensures { Gives (λ x. (x.0, x.1, map (λ p. (p.0, p.1.0)) x.2.items)) result (group_words (words line.now)) }
+    ensures { Gives (λ x. (x.0, x.1, x.2.items)) result
+        (group_words (words line.now)) }
 {
     let (colour, rest) = colour_at(line)?;
     let (count, rest) = count_at(rest)?;
@@ -25,8 +26,8 @@ pub fn group_parts(
     Ok((colour, count, places))
 }
 
-fn only(line: &[u8]) -> Result<Only, Stop<'_>>
-    ensures { Gives (λ x. x) result (only_words (words line.now)) }
+fn only(line: &[u8]) -> Result<Only, Left<'_>>
+    ensures { Leaves (λ x. x) result (only_words (words line.now)) }
 {
     let Some((w, rest)) = next_word(line) else {
         return Ok(Only::Any);
@@ -34,28 +35,34 @@ fn only(line: &[u8]) -> Result<Only, Stop<'_>>
     if is_word(w, b"capture") {
         match next_word(rest) {
             None => Ok(Only::Capture),
-            Some(_) => Err(Stop::At(rest)),
+            Some(_) => Err(Left(rest)),
         }
     } else if is_word(w, b"promotion") {
         match next_word(rest) {
             None => Ok(Only::Promotion),
-            Some(_) => Err(Stop::At(rest)),
+            Some(_) => Err(Left(rest)),
         }
     } else {
-        Err(Stop::At(line))
+        Err(Left(line))
     }
 }
 
 #[tactic(auto, unfolding(crate::specs::Reading::forbid_words))]
-pub fn forbid_parts(line: &[u8]) -> Result<Forbid, Stop<'_>>
-    ensures { Gives (λ x. x) result (forbid_words (words line.now)) }
+pub fn forbid_parts(line: &[u8]) -> Result<Forbid, Left<'_>>
+    ensures { Leaves (λ x. x) result (forbid_words (words line.now)) }
 {
     let (colour, rest) = colour_at(line)?;
     let (kind, rest) = kind_at(rest)?;
     let rest = literal_at(b"from", rest)?;
-    let (from, rest) = squares_at(rest)?;
+    let (from, rest) = match squares_at(rest) {
+        Ok(slot) => slot,
+        Err(stop) => return Err(stop),
+    };
     let rest = literal_at(b"to", rest)?;
-    let (to, rest) = squares_at(rest)?;
+    let (to, rest) = match squares_at(rest) {
+        Ok(slot) => slot,
+        Err(stop) => return Err(stop),
+    };
     let only = only(rest)?;
     Ok(Forbid {
         colour,
@@ -66,8 +73,8 @@ pub fn forbid_parts(line: &[u8]) -> Result<Forbid, Stop<'_>>
     })
 }
 
-fn value_if(v: Value, line: &[u8]) -> Result<(Value, &[u8]), Stop<'_>>
-    ensures { Gives (λ x. (x.0, words x.1.now)) result (then_if v (words line.now)) }
+fn value_if(v: Value, line: &[u8]) -> Result<(Value, &[u8]), Left<'_>>
+    ensures { Leaves (λ x. (x.0, words x.1.now)) result (then_if v (words line.now)) }
 {
     let rest = literal_at(b"if", line)?;
     Ok((v, rest))
@@ -100,42 +107,42 @@ fn holds(c: Colour) -> Value
     }
 }
 
-fn wins_at(c: Colour, line: &[u8]) -> Result<(Value, &[u8]), Stop<'_>>
-    ensures { Gives (λ x. (x.0, words x.1.now)) result (after_wins c (words line.now)) }
+fn wins_at(c: Colour, line: &[u8]) -> Result<(Value, &[u8]), Left<'_>>
+    ensures { Leaves (λ x. (x.0, words x.1.now)) result (after_wins c (words line.now)) }
 {
     let Some((w, rest)) = next_word(line) else {
-        return Err(Stop::At(line));
+        return Err(Left(line));
     };
     if is_word(w, b"if") {
         return Ok((wins(c), rest));
     }
-    match read_number(w, 1000) {
-        None => Err(Stop::At(line)),
+    match read_number(w, MOST_PLIES) {
+        None => Err(Left(line)),
         Some(n) => value_if(wins_in(c, n), rest),
     }
 }
 
-fn verb_at(c: Colour, line: &[u8]) -> Result<(Value, &[u8]), Stop<'_>>
-    ensures { Gives (λ x. (x.0, words x.1.now)) result (after_colour c (words line.now)) }
+fn verb_at(c: Colour, line: &[u8]) -> Result<(Value, &[u8]), Left<'_>>
+    ensures { Leaves (λ x. (x.0, words x.1.now)) result (after_colour c (words line.now)) }
 {
     let Some((w, rest)) = next_word(line) else {
-        return Err(Stop::At(line));
+        return Err(Left(line));
     };
     if is_word(w, b"wins") {
         wins_at(c, rest)
     } else if is_word(w, b"holds") {
         value_if(holds(c), rest)
     } else {
-        Err(Stop::At(line))
+        Err(Left(line))
     }
 }
 
 #[tactic(auto, unfolding(crate::specs::Reading::value_words))]
-fn value(line: &[u8]) -> Result<(Value, &[u8]), Stop<'_>>
-    ensures { Gives (λ x. (x.0, words x.1.now)) result (value_words (words line.now)) }
+fn value(line: &[u8]) -> Result<(Value, &[u8]), Left<'_>>
+    ensures { Leaves (λ x. (x.0, words x.1.now)) result (value_words (words line.now)) }
 {
     let Some((w, rest)) = next_word(line) else {
-        return Err(Stop::At(line));
+        return Err(Left(line));
     };
     if is_word(w, b"draw") {
         return value_if(Value::Draw, rest);
@@ -144,7 +151,7 @@ fn value(line: &[u8]) -> Result<(Value, &[u8]), Stop<'_>>
         return value_if(Value::Unknown, rest);
     }
     match colour(w) {
-        None => Err(Stop::At(line)),
+        None => Err(Left(line)),
         Some(c) => verb_at(c, rest),
     }
 }

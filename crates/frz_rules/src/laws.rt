@@ -1,8 +1,11 @@
+//! What holds of rules texts, whatever the code.
 ghost use Rattle.std.specs.Prelude.{ℕ, List, ◌≡◌, ◌<◌, length, is_some};
 ghost use Rattle.frz_rules.specs.Lines.{group_of, forbid_of, exit_of};
 ghost use Rattle.frz_rules.specs.Grammar.{fits, reach, line_form, group_form, forbid_form, exit_form};
 ghost use Rattle.frz_rules.specs.Text.{rules_of, too_long};
-ghost use Rattle.frz_rules.specs.Begins.{IsGreatestFront};
+ghost use Rattle.frz_rules.specs.Fronts.{IsGreatestFront};
+
+use crate::fault::LONGEST_TEXT;
 
 /// A line's reach is the greatest number of its first words that begin a line of some form.
 pub fn line_places()
@@ -18,5 +21,5 @@ pub fn line_forms()
 
 /// A text of more than 65,536 bytes is too long, whatever its bytes are.
 pub fn long_texts()
-    ensures { (text : List ℕ) → 65536 < length text → rules_of text ≡ too_long }
+    ensures { (text : List ℕ) → LONGEST_TEXT < length text → rules_of text ≡ too_long }
 {}

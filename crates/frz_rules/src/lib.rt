@@ -2,30 +2,20 @@
 #![tactic(auto)]
 
 mod causes;
-mod conditions;
-mod exit;
+mod cond_words;
 mod fault;
-mod forbid;
 mod forms;
-mod group;
 pub mod laws;
 mod line;
-mod rules;
-mod size;
 mod slots;
 mod states;
 mod stop;
-mod targets;
 mod text;
 mod words;
 
-pub use exit::{Cond, Exit, Test, Value};
-pub use fault::{RulesCause, RulesError, RulesFault};
-pub use forbid::{Forbid, Only};
+pub use fault::{LONGEST_TEXT, RulesCause, RulesError, RulesFault};
 pub use frz_combinations::binomial;
-pub use group::Group;
-pub use rules::Rules;
-pub use size::set_size;
+pub use frz_sets::{Cond, Exit, Forbid, Group, Only, Rules, Test, Value, set_size};
 pub use text::read_rules;
 
 #[cfg(test)]

@@ -1,63 +1,65 @@
+//! The words of a line in turn, each of its class.
 ghost use Rattle.std.specs.Prelude.{map};
 ghost use Rattle.frz_words.specs.Words.{words};
 ghost use Rattle.frz_words.specs.Squares.{squares_of};
 ghost use Rattle.frz_rules.specs.Classes.{colour_of, kind_of, count_of, place_of};
 ghost use Rattle.frz_rules.specs.Conditions.{cond_of};
-ghost use Rattle.frz_rules.specs.Reading.{Gives, slot, literal, one_or_more};
+ghost use Rattle.frz_rules.specs.Reading.{Gives, Leaves, slot, literal, one_or_more};
 
-use crate::conditions::cond;
-use crate::exit::Cond;
-use crate::stop::Stop;
+use crate::cond_words::cond;
+use crate::stop::{Left, Stop};
 use crate::words::{colour, count, kind, place};
 use frz_board::{Colour, Kind};
+use frz_sets::Cond;
 use frz_words::{SquareSet, is_word, next_word, read_squares};
 use std::alloc::Global;
 
-pub fn colour_at(line: &[u8]) -> Result<(Colour, &[u8]), Stop<'_>>
-    ensures { Gives (λ x. (x.0, words x.1.now)) result (slot colour_of (words line.now)) }
+pub fn colour_at(line: &[u8]) -> Result<(Colour, &[u8]), Left<'_>>
+    ensures { Leaves (λ x. (x.0, words x.1.now)) result (slot colour_of (words line.now)) }
 {
-    let (w, rest) = next_word(line).ok_or(Stop::At(line))?;
-    let colour = colour(w).ok_or(Stop::At(line))?;
+    let (w, rest) = next_word(line).ok_or(Left(line))?;
+    let colour = colour(w).ok_or(Left(line))?;
     Ok((colour, rest))
 }
 
-pub fn kind_at(line: &[u8]) -> Result<(Kind, &[u8]), Stop<'_>>
-    ensures { Gives (λ x. (x.0, words x.1.now)) result (slot kind_of (words line.now)) }
+pub fn kind_at(line: &[u8]) -> Result<(Kind, &[u8]), Left<'_>>
+    ensures { Leaves (λ x. (x.0, words x.1.now)) result (slot kind_of (words line.now)) }
 {
-    let (w, rest) = next_word(line).ok_or(Stop::At(line))?;
-    let kind = kind(w).ok_or(Stop::At(line))?;
+    let (w, rest) = next_word(line).ok_or(Left(line))?;
+    let kind = kind(w).ok_or(Left(line))?;
     Ok((kind, rest))
 }
 
-pub fn count_at(line: &[u8]) -> Result<((u8, u8), &[u8]), Stop<'_>>
-    ensures { Gives (λ x. (x.0, words x.1.now)) result (slot count_of (words line.now)) }
+pub fn count_at(line: &[u8]) -> Result<((u8, u8), &[u8]), Left<'_>>
+    ensures { Leaves (λ x. (x.0, words x.1.now)) result (slot count_of (words line.now)) }
 {
-    let (w, rest) = next_word(line).ok_or(Stop::At(line))?;
-    let count = count(w).ok_or(Stop::At(line))?;
+    let (w, rest) = next_word(line).ok_or(Left(line))?;
+    let count = count(w).ok_or(Left(line))?;
     Ok((count, rest))
 }
 
-pub fn squares_at(line: &[u8]) -> Result<(SquareSet, &[u8]), Stop<'_>>
-    ensures { Gives (λ x. (x.0.0, words x.1.now)) result (slot squares_of (words line.now)) }
+pub fn squares_at(line: &[u8]) -> Result<(SquareSet, &[u8]), Left<'_>>
+    ensures { Leaves (λ x. (x.0, words x.1.now)) result (slot squares_of (words line.now)) }
 {
-    let (w, rest) = next_word(line).ok_or(Stop::At(line))?;
-    let set = read_squares(w).ok_or(Stop::At(line))?;
+    let (w, rest) = next_word(line).ok_or(Left(line))?;
+    let set = read_squares(w).ok_or(Left(line))?;
     Ok((set, rest))
 }
 
-pub fn literal_at<'a>(text: &[u8], line: &'a [u8]) -> Result<&'a [u8], Stop<'a>>
-    ensures { Gives (λ x. words x.now) result (literal text.now (words line.now)) }
+pub fn literal_at<'a>(text: &[u8], line: &'a [u8]) -> Result<&'a [u8], Left<'a>>
+    ensures { Leaves (λ x. words x.now) result (literal text.now (words line.now)) }
 {
     match next_word(line) {
         Some((w, rest)) if is_word(w, text) => Ok(rest),
-        _ => Err(Stop::At(line)),
+        _ => Err(Left(line)),
     }
 }
 
 /// One place or more, to the end of the line.
 #[tactic(auto, using(crate::proofs::Many::manying))]
 pub fn places_at(alloc: Global, line: &[u8]) -> Result<Vec<(Kind, SquareSet)>, Stop<'_>>
-    ensures { Gives (λ v. map (λ p. (p.0, p.1.0)) v.items) result (one_or_more place_of (words line.now)) }
+    ensures { Gives (λ v. v.items) result
+        (one_or_more place_of (words line.now)) }
 {
     let mut found = Vec::new(alloc);
     let mut rest = line;

@@ -1,25 +1,14 @@
+//! The states of a group line's places.
 ghost use Rattle.std.specs.Prelude.{◌≡◌, ◌<◌, ◌==◌, ◌&&◌, not, map, IfOk};
 ghost use Rattle.std.specs.List.{list_any};
 ghost use Rattle.frz_board.specs.Men.{number_of_kind, is_pawn as is_pawn_kind};
 ghost use Rattle.frz_words.specs.Squares.{has_square};
-ghost use Rattle.frz_rules.specs.Groups.{state_at as state_of_number, same_state, is_placed, states_of, is_king as is_king_state, is_end_pawn as is_end_pawn_state, shares};
+ghost use Rattle.frz_sets.specs.Groups.{state_at as state_of_number, same_state, is_king as is_king_state, is_end_pawn as is_end_pawn_state, shares};
+ghost use Rattle.frz_rules.specs.States.{is_placed, states_of};
 
 use frz_board::{Kind, Square};
 use frz_words::SquareSet;
 use std::alloc::{AllocError, Global};
-
-fn number(kind: Kind) -> u8
-    ensures { result ≡ number_of_kind kind }
-{
-    match kind {
-        Kind::King => 1,
-        Kind::Queen => 2,
-        Kind::Rook => 3,
-        Kind::Bishop => 4,
-        Kind::Knight => 5,
-        Kind::Pawn => 6,
-    }
-}
 
 pub fn is_pawn(kind: Kind) -> bool
     ensures { result ≡ is_pawn_kind kind }
@@ -35,33 +24,20 @@ fn state_at(n: u16) -> (Kind, Square)
     requires { n < 384 }
     ensures { result ≡ state_of_number n }
 {
-    let kind = match n / 64 {
-        0 => Kind::King,
-        1 => Kind::Queen,
-        2 => Kind::Rook,
-        3 => Kind::Bishop,
-        4 => Kind::Knight,
-        _ => Kind::Pawn,
-    };
+    let kind = Kind::of_number((n / 64) as u8 + 1);
     (kind, Square::at((n % 64) as u8))
 }
 
 fn place_has(place: &(Kind, SquareSet), s: &(Kind, Square)) -> bool
-    ensures { result ≡ (number_of_kind place.now.0 == number_of_kind s.now.0 && has_square place.now.1.0 s.now.1) }
+    ensures { result ≡ (number_of_kind place.now.0 == number_of_kind s.now.0 && has_square place.now.1 s.now.1) }
 {
-    number(place.0) == number(s.0) && place.1.has(s.1.number())
-}
-
-fn some_place_has(places: &[(Kind, SquareSet)], s: &(Kind, Square)) -> bool
-    ensures { result ≡ list_any (λ p. number_of_kind p.0 == number_of_kind s.now.0 && has_square p.1.0 s.now.1) places.now }
-{
-    places.iter().any(|p| place_has(p, s))
+    place.0.number() == s.0.number() && place.1.has(s.1.number())
 }
 
 fn is_in_place(places: &[(Kind, SquareSet)], s: &(Kind, Square)) -> bool
-    ensures { result ≡ is_placed (map (λ p. (p.0, p.1.0)) places.now) s.now }
+    ensures { result ≡ is_placed places.now s.now }
 {
-    some_place_has(places, s)
+    places.iter().any(|p| place_has(p, s))
 }
 
 /// The states of the places, in order and each once.
@@ -70,7 +46,7 @@ pub fn states(
     alloc: Global,
     places: &[(Kind, SquareSet)],
 ) -> Result<Vec<(Kind, Square)>, AllocError>
-    ensures { IfOk result (λ v. v.items ≡ states_of (map (λ p. (p.0, p.1.0)) places.now)) }
+    ensures { IfOk result (λ v. v.items ≡ states_of places.now) }
 {
     let mut found = Vec::new(alloc);
     for n in 0..384u16 {
@@ -85,7 +61,7 @@ pub fn states(
 fn is_king(s: &(Kind, Square)) -> bool
     ensures { result ≡ is_king_state s.now }
 {
-    number(s.0) == 1
+    s.0.number() == 1
 }
 
 fn is_end_pawn(s: &(Kind, Square)) -> bool
@@ -115,7 +91,7 @@ pub fn has_end_pawn(states: &[(Kind, Square)]) -> bool
 fn has_state(states: &[(Kind, Square)], s: &(Kind, Square)) -> bool
     ensures { result ≡ list_any (same_state s.now) states.now }
 {
-    states.iter().any(|t| number(s.0) == number(t.0) && s.1.number() == t.1.number())
+    states.iter().any(|t| s.0.number() == t.0.number() && s.1.number() == t.1.number())
 }
 
 /// Is one of the states among the others?

@@ -1,9 +1,14 @@
+//! Why reading stops, with and without want of memory.
 ghost use Rattle.std.specs.Prelude.{◌≡◌};
 ghost use Rattle.frz_rules.specs.declared.stop.Stop.TheVariants as stops;
-ghost use Rattle.frz_rules.specs.declared.stop.Refusal.TheVariants as refusals;
+ghost use Rattle.frz_rules.specs.declared.stop.LineError.TheVariants as refusals;
 
 use crate::fault::RulesCause;
 use std::alloc::{AllocError, AllocFailed};
+
+/// The bytes of a line from the first word on that no line of its form has there.
+#[derive(Clone, Copy)]
+pub struct Left<'a>(pub &'a [u8]);
 
 /// Why a line was not read: no memory, or from these bytes on it has no form.
 #[derive(Drop)]
@@ -28,25 +33,33 @@ impl<'a, T: Drop> From<AllocFailed<T>> for Stop<'a> {
     }
 }
 
+impl<'a> From<Left<'a>> for Stop<'a> {
+    ghost from_gives = { λ left e. e ≡ stops.At left.0 };
+
+    fn from(left: Left<'a>) -> Stop<'a> {
+        Stop::At(left.0)
+    }
+}
+
 /// Why a line was not added to the rules.
 #[derive(Drop)]
-pub enum Refusal {
+pub enum LineError {
     Memory,
     Cause(RulesCause),
 }
 
-impl From<AllocError> for Refusal {
+impl From<AllocError> for LineError {
     ghost from_gives = { λ _ e. e ≡ refusals.Memory };
 
-    fn from(_e: AllocError) -> Refusal {
-        Refusal::Memory
+    fn from(_e: AllocError) -> LineError {
+        LineError::Memory
     }
 }
 
-impl<T: Drop> From<AllocFailed<T>> for Refusal {
+impl<T: Drop> From<AllocFailed<T>> for LineError {
     ghost from_gives = { λ _ e. e ≡ refusals.Memory };
 
-    fn from(_e: AllocFailed<T>) -> Refusal {
-        Refusal::Memory
+    fn from(_e: AllocFailed<T>) -> LineError {
+        LineError::Memory
     }
 }

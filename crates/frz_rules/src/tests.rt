@@ -1,16 +1,16 @@
 //! What the reader answers, with values worked out by hand from the format of rules texts.
 ghost use Rattle.std.specs.Prelude.{IfOk};
-ghost use Rattle.frz_rules.specs.Sound.{IsSound};
+ghost use Rattle.frz_sets.specs.Sound.{IsSound};
 
 use crate::fault::{RulesCause, RulesError, RulesFault};
-use crate::rules::Rules;
-use crate::size::set_size;
 use crate::text::read_rules;
+use frz_sets::{Rules, set_size};
 use std::alloc::Global;
 use std::process::Abort;
 
 mod causes;
 mod contents;
+mod limits;
 mod places;
 mod sizes;
 mod texts;

@@ -1,16 +1,17 @@
-ghost use Rattle.std.specs.Prelude.{◌≡◌, ◌≤◌, ◌<◌, ◌∷◌, [], length, IfOk, IfSome, MatchOption};
+//! The reader of rules texts.
+ghost use Rattle.std.specs.Prelude.{◌≡◌, ◌≤◌, ◌<◌, ◌∷◌, [], true, false, length, IfOk, IfSome, MatchOption};
 ghost use Rattle.std.specs.List.{AllByRecursion};
 ghost use Rattle.frz_words.specs.Words.{words};
-ghost use Rattle.frz_rules.specs.Sound.{AreSoundLines, IsSound};
-ghost use Rattle.frz_rules.specs.Text.{Answers, lines_of, begins_hash as begins_with_hash, is_skipped as is_skipped_line, significant, no_rules, is_header as is_header_line, whole as whole_of, rules_of};
+ghost use Rattle.frz_sets.specs.Sound.{AreSoundLines, IsSound};
+ghost use Rattle.frz_rules.specs.Text.{Answers, lines_of, begins_hash as begins_with_hash, is_skipped as is_skipped_line, significant, no_rules, is_header as is_header_line, whole as whole_of, first_known, may_want_memory, rules_of};
+ghost use Rattle.frz_rules.specs.declared.fault.RulesError.TheVariants as errors;
 
 use crate::causes::some_king_group;
-use crate::fault::{RulesCause, RulesError, RulesFault};
+use crate::fault::{LONGEST_TEXT, RulesCause, RulesError, RulesFault};
 use crate::line::read_line;
-use crate::rules::Rules;
-use crate::size::set_size;
-use crate::stop::Refusal;
+use crate::stop::LineError;
 use frz_board::Colour;
+use frz_sets::{MOST_NUMBERS, Rules, set_size};
 use frz_words::{Line, Lines, is_word, next_word};
 use std::alloc::Global;
 
@@ -47,11 +48,13 @@ fn is_header(line: &[u8]) -> bool
 
 /// The next line that counts.
 fn next_line<'a>(lines: &mut Lines<'a>) -> Option<Line<'a>>
-    requires { AllByRecursion (λ l. length l.1 ≤ 65536) lines.old }
-    ensures next { MatchOption result (significant lines.old ≡ []) (λ l. significant lines.old ≡ (l.number, words l.text.now) ∷ significant lines.new) }
+    requires { AllByRecursion (λ l. length l.1 ≤ LONGEST_TEXT) lines.old }
+    ensures next { MatchOption result (significant lines.old ≡ [])
+        (λ l. significant lines.old ≡ (l.number, words l.text.now) ∷ significant lines.new) }
+    ensures counts { IfSome result (λ l. is_skipped_line (words l.text.now) ≡ false) }
     ensures shorter { IfSome result (λ l. length lines.new < length lines.old) }
-    ensures short { IfSome result (λ l. length l.text.now ≤ 65536) }
-    ensures rest { AllByRecursion (λ l. length l.1 ≤ 65536) lines.new }
+    ensures short { IfSome result (λ l. length l.text.now ≤ LONGEST_TEXT) }
+    ensures rest { AllByRecursion (λ l. length l.1 ≤ LONGEST_TEXT) lines.new }
 {
     while let Some(line) = lines.next() {
         if !is_skipped(line.text) {
@@ -69,8 +72,9 @@ fn fault(line: u32, cause: RulesCause) -> RulesError
 
 /// The lines behind the header.
 fn read_lines(alloc: Global, mut lines: Lines<'_>) -> Result<Rules, RulesError>
-    requires { AllByRecursion (λ l. length l.1 ≤ 65536) lines }
-    ensures { Answers result (lines_of no_rules (significant lines.entry)) }
+    requires { AllByRecursion (λ l. length l.1 ≤ LONGEST_TEXT) lines }
+    ensures read { Answers result (lines_of no_rules (significant lines.entry)) }
+    ensures memory { result ≡ Err errors.NoMemory → first_known (significant lines.entry) ≡ true }
 {
     let mut rules = Rules {
         groups: Vec::new(alloc),
@@ -80,35 +84,42 @@ fn read_lines(alloc: Global, mut lines: Lines<'_>) -> Result<Rules, RulesError>
     while let Some(line) = next_line(&mut lines) {
         match read_line(alloc, rules, line.text) {
             Ok(more) => rules = more,
-            Err(Refusal::Memory) => return Err(RulesError::NoMemory),
-            Err(Refusal::Cause(cause)) => return Err(fault(line.number, cause)),
+            Err(LineError::Memory) => return Err(RulesError::NoMemory),
+            Err(LineError::Cause(cause)) => return Err(fault(line.number, cause)),
         }
     }
     Ok(rules)
 }
 
 /// The causes of the whole text.
-fn whole(rules: Rules) -> Result<Rules, RulesError>
+fn whole(rules: Rules) -> Result<Rules, RulesFault>
     requires { AreSoundLines rules }
-    ensures { Answers result (whole_of rules) }
+    ensures { result ≡ whole_of rules }
 {
     if !(some_king_group(&rules.groups, Colour::White)
         && some_king_group(&rules.groups, Colour::Black))
     {
-        return Err(fault(0, RulesCause::KingGroup));
+        return Err(RulesFault {
+            line: 0,
+            cause: RulesCause::KingGroup,
+        });
     }
     let size = set_size(&rules);
-    if size > 134_217_728 {
-        return Err(fault(0, RulesCause::SetTooBig(size)));
+    if size > u64::from(MOST_NUMBERS) {
+        return Err(RulesFault {
+            line: 0,
+            cause: RulesCause::SetTooBig(size),
+        });
     }
     Ok(rules)
 }
 
 #[tactic(auto, unfolding(crate::specs::Text::rules_of))]
 fn read_text(alloc: Global, text: &[u8]) -> Result<Rules, RulesError>
-    ensures { Answers result (rules_of text.now) }
+    ensures exact { Answers result (rules_of text.now) }
+    ensures memory { result ≡ Err errors.NoMemory → may_want_memory text.now ≡ true }
 {
-    if text.len() > 65536 {
+    if text.len() > LONGEST_TEXT {
         return Err(fault(0, RulesCause::TooLong));
     }
     let mut lines = Lines::new(text);
@@ -120,7 +131,7 @@ fn read_text(alloc: Global, text: &[u8]) -> Result<Rules, RulesError>
     }
     match read_lines(alloc, lines) {
         Err(e) => Err(e),
-        Ok(rules) => whole(rules),
+        Ok(rules) => whole(rules).map_err(|f| RulesError::Bad(f)),
     }
 }
 
@@ -128,6 +139,7 @@ fn read_text(alloc: Global, text: &[u8]) -> Result<Rules, RulesError>
 pub fn read_rules(alloc: Global, text: &[u8]) -> Result<Rules, RulesError>
     ensures exact { Answers result (rules_of text.now) }
     ensures sound { IfOk result IsSound }
+    ensures memory { result ≡ Err errors.NoMemory → may_want_memory text.now ≡ true }
 {
     read_text(alloc, text)
 }

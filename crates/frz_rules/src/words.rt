@@ -1,9 +1,11 @@
+//! The classes of single words.
 ghost use Rattle.std.specs.Prelude.{◌≡◌, option_map};
 ghost use Rattle.frz_rules.specs.Classes.{colour_of, kind_of, count_of, range_of, place_of};
 ghost use Rattle.frz_words.specs.Numbers.{number_of};
 ghost use Rattle.frz_words.specs.Squares.{square_word};
 
 use frz_board::{Colour, Kind, Square};
+use frz_sets::MOST_MEN;
 use frz_words::{SquareSet, cut, is_word, read_number, read_square, read_squares};
 
 /// `white` or `black`.
@@ -41,9 +43,9 @@ pub fn kind(w: &[u8]) -> Option<Kind>
 }
 
 fn men(w: &[u8]) -> Option<u8>
-    ensures { result ≡ number_of w.now 16 }
+    ensures { result ≡ number_of w.now MOST_MEN }
 {
-    match read_number(w, 16) {
+    match read_number(w, MOST_MEN) {
         None => None,
         Some(n) => Some(n as u8),
     }
@@ -92,7 +94,7 @@ pub fn square(w: &[u8]) -> Option<Square>
 /// A kind and its squares, with a colon between them.
 #[tactic(auto, using(crate::proofs::Parts::place_many))]
 pub fn place(w: &[u8]) -> Option<(Kind, SquareSet)>
-    ensures { option_map (λ p. (p.0, p.1.0)) result ≡ place_of w.now }
+    ensures { result ≡ place_of w.now }
 {
     match cut(w, b':') {
         None => None,

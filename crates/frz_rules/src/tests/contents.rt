@@ -1,9 +1,7 @@
 //! What the lines of an accepted text say.
 use super::{A, read};
-use crate::exit::{Test, Value};
-use crate::forbid::{Forbid, Only};
-use crate::rules::Rules;
 use frz_board::{Colour, Kind, Square};
+use frz_sets::{Forbid, Only, Rules, Test, Value};
 use frz_words::SquareSet;
 use std::alloc::Global;
 use std::process::Abort;

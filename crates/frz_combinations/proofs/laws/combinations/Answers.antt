@@ -4,7 +4,9 @@ use Rattle.frz_combinations.specs.Combinations.{unrank}
 use Rattle.frz_combinations.proofs.Ranking.{rank_below, rank_last, rank_once, rank_ordered, rank-unrank, unrank-greatest, unrank-rank}
 use Rattle.frz_combinations.proofs.laws.combinations.Goals as goal
 
-greatest : (s j r c : ℕ) → c < s → choose c (j + 1) ≤ r → ((x : ℕ) → c < x → x < s → r < choose x (j + 1)) → unrank s (j + 1) r ≡ c ∷ unrank c j (r - choose c (j + 1))
+greatest : (s j r c : ℕ) → c < s → choose c (j + 1) ≤ r →
+    ((x : ℕ) → c < x → x < s → r < choose x (j + 1)) →
+    unrank s (j + 1) r ≡ c ∷ unrank c j (r - choose c (j + 1))
 greatest s j r c h fits above =
     let one = add-one j in
     ap (λ n. unrank s n r) one

@@ -2,4 +2,5 @@ use Rattle.frz_combinations.proofs.Digits.{digits-value, value-digits, value_bel
 use Rattle.frz_combinations.proofs.laws.mixed_radix.Goals as goal
 
 pub returns : goal.returns
-returns c = record { below = value_below; found_again = digits-value; each = value-digits; onto = value_onto-value }
+returns c =
+    record { below = value_below; found_again = digits-value; each = value-digits; onto = value_onto-value }

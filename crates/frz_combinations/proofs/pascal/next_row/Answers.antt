@@ -16,4 +16,5 @@ loop-k-preserved c = record {
 }
 
 pub returns : goal.returns
-returns c = row_next c.args.row.now c.loop-k.next c.loop-k.invariant.size (λ k h. c.loop-k.invariant.numbers k (omega arith))
+returns c =
+    row_next c.args.row.now c.loop-k.next c.loop-k.invariant.size (λ k h. c.loop-k.invariant.numbers k (omega arith))

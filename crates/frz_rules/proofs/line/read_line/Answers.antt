@@ -5,7 +5,8 @@ use Rattle.frz_rules.proofs.LineReading.{group_reads, forbid_reads, exit_reads, 
 use Rattle.frz_rules.proofs.line.read_line.Goals as goal
 
 pub returns-in_default-clause-read : goal.returns-in_default-clause-read
-returns-in_default-clause-read c = nothing_reads c.args.rules (words c.args.line.now) c.in_default.ensures.word
+returns-in_default-clause-read c =
+    nothing_reads c.args.rules (words c.args.line.now) c.in_default.ensures.word
 
 pub returns-then-is_word-clause-read : goal.returns-then-is_word-clause-read
 returns-then-is_word-clause-read c =

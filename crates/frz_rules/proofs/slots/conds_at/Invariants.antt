@@ -6,7 +6,8 @@ use Rattle.frz_rules.proofs.Many.{with_values}
 use Rattle.frz_rules.proofs.slots.conds_at.Given as goal
 
 abbrev pub invariant-loop-w : goal.invariant-loop-w
-invariant-loop-w l = with_values l.found.items (each_of cond_of (words l.rest)) ≡ each_of cond_of (words l.line)
+invariant-loop-w l =
+    with_values l.found.items (each_of cond_of (words l.rest)) ≡ each_of cond_of (words l.line)
 
 abbrev pub decreases-loop-w : goal.decreases-loop-w
 decreases-loop-w l = length l.rest

@@ -1,5 +1,4 @@
 use Rattle.std.proofs.Common.{◌≡◌, length}
-use Rattle.std.specs.Prelude.{map}
 use Rattle.frz_words.specs.Words.{words}
 use Rattle.frz_rules.specs.Classes.{place_of}
 use Rattle.frz_rules.specs.Reading.{each_of}
@@ -7,7 +6,8 @@ use Rattle.frz_rules.proofs.Many.{with_values}
 use Rattle.frz_rules.proofs.slots.places_at.Given as goal
 
 abbrev pub invariant-loop-w : goal.invariant-loop-w
-invariant-loop-w l = with_values (map (λ p. (p.0, p.1.0)) l.found.items) (each_of place_of (words l.rest)) ≡ each_of place_of (words l.line)
+invariant-loop-w l =
+    with_values l.found.items (each_of place_of (words l.rest)) ≡ each_of place_of (words l.line)
 
 abbrev pub decreases-loop-w : goal.decreases-loop-w
 decreases-loop-w l = length l.rest

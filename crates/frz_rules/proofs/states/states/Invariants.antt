@@ -1,7 +1,6 @@
 use Rattle.std.proofs.Common.{◌≡◌}
-use Rattle.std.specs.Prelude.{map}
 use Rattle.frz_rules.proofs.Placing.{states_below}
 use Rattle.frz_rules.proofs.states.states.Given as goal
 
 abbrev pub invariant-loop-n : goal.invariant-loop-n
-invariant-loop-n l = l.found.items ≡ states_below (map (λ p. (p.0, p.1.0)) l.places) l.n
+invariant-loop-n l = l.found.items ≡ states_below l.places l.n

@@ -1,16 +1,17 @@
+//! How many numbers a set has.
 ghost use Rattle.std.specs.Prelude.{◌≡◌};
 ghost use Rattle.frz_combinations.specs.Binomials.{capped};
-ghost use Rattle.frz_rules.specs.Sets.{radix_of, size_of};
-ghost use Rattle.frz_rules.specs.Sound.{AreSoundLines, AreCounted, IsCounted};
+ghost use Rattle.frz_sets.specs.Sets.{radix_of, size_of};
+ghost use Rattle.frz_sets.specs.Sound.{AreSoundLines, AreCounted, IsCounted};
 
 use crate::group::Group;
 use crate::rules::Rules;
 use crate::targets::target_count;
 use frz_combinations::binomial;
 
-/// How many choices of men and squares the group has.
+/// How many choices of men and squares the group has, or the greatest number of 64 bits.
 #[tactic(auto, using(crate::proofs::Sizes::sums))]
-fn radix(g: &Group) -> u64
+pub fn radix(g: &Group) -> u64
     requires { IsCounted g.now }
     ensures { result ≡ capped (radix_of g.now) }
 {

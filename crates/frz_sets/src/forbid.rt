@@ -1,5 +1,6 @@
+//! A forbid line: moves that a side renounces.
 use frz_board::{Colour, Kind};
-use frz_words::SquareSet;
+use frz_squares::SquareSet;
 
 /// Which of the moves a forbid line covers.
 #[derive(Clone, Copy, Debug, PartialEq, Eq)]

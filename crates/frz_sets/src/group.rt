@@ -1,3 +1,4 @@
+//! A group: men of one colour and the states in which they may stand.
 use frz_board::{Colour, Kind, Square};
 use std::marker::Model;
 
@@ -12,7 +13,7 @@ pub struct Group {
 }
 
 impl Model for Group {
-    ghost use Rattle.frz_rules.specs.Views.{GroupLine};
+    ghost use Rattle.frz_sets.specs.Views.{GroupLine};
 
     ghost Value = { GroupLine };
 

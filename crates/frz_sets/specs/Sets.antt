@@ -4,20 +4,21 @@ use Rattle.std.specs.List.{list_any}
 use Rattle.frz_board.specs.declared.man.Colour.{Colour}
 use Rattle.frz_board.specs.declared.man.Colour.TheVariants.{White, Black}
 use Rattle.frz_board.specs.declared.man.Kind.TheVariants.{Pawn}
-use Rattle.frz_board.specs.Squares.{squares, files_apart, ranks_apart}
+use Rattle.frz_squares.specs.Squares.{is_beside, squares}
 use Rattle.frz_board.specs.Men.{cell_of_man, other_of}
-use Rattle.frz_board.specs.EnPassant.{is_passing_rank, ahead}
+use Rattle.frz_board.specs.Ranks.{is_passing_rank, ahead}
 use Rattle.frz_combinations.specs.Selections.{radix}
 use Rattle.frz_combinations.specs.MixedRadix.{product}
-use Rattle.frz_rules.specs.Views.{GroupLine}
+use Rattle.frz_sets.specs.Views.{GroupLine}
 
 -- the group has the man of this cell on this square as a state
 abbrev pub is_state : ℕ → ℕ → GroupLine → Bool
-is_state cell s g = list_any (λ state. cell_of_man (record { colour = g.colour; kind = state.0 }) == cell && state.1 == s) g.states
+is_state cell s g =
+    list_any (λ state. cell_of_man (record { colour = g.colour; kind = state.0 }) == cell && state.1 == s) g.states
 
 -- some group has it
-abbrev pub is_covered : List GroupLine → ℕ → ℕ → Bool
-is_covered gs cell s = list_any (is_state cell s) gs
+abbrev pub has_state : List GroupLine → ℕ → ℕ → Bool
+has_state gs cell s = list_any (is_state cell s) gs
 
 -- the cell of a pawn of this side
 abbrev pub pawn : Colour → ℕ
@@ -26,8 +27,8 @@ pawn c = cell_of_man (record { colour = c; kind = Pawn })
 -- a pawn of c can stand on b, and one of the other side beside it
 abbrev pub is_pair : List GroupLine → Colour → ℕ → Bool
 is_pair gs c b =
-    is_covered gs (pawn c) b
-    && list_any (λ s. (ranks_apart s b == 0 && files_apart s b == 1) && is_covered gs (pawn (other_of c)) s) squares
+    has_state gs (pawn c) b
+    && list_any (λ s. is_beside s b && has_state gs (pawn (other_of c)) s) squares
 
 -- a pawn of c can stand ahead of t as if it had just come over t, with one of the other side beside it
 abbrev pub is_possible_for : List GroupLine → Colour → ℕ → Bool

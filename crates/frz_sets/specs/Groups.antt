@@ -1,14 +1,11 @@
--- The states of a group, and what is wrong with a group line.
+-- The states of a group, and what can be wrong with a group behind earlier ones.
 use Rattle.std.specs.Prelude.{ℕ, ◌+◌, ◌-◌, ◌*◌, ◌/◌, ◌%◌, Bool, not, ◌&&◌, ◌||◌, ◌==◌, nat_le, nat_lt, List, [], ◌∷◌, map, filter, length, Option, None, Some, if◌then◌else◌}
 use Rattle.std.specs.List.{list_any, range_with_len}
 use Rattle.frz_board.specs.declared.man.Colour.{Colour}
 use Rattle.frz_board.specs.declared.man.Kind.{Kind}
 use Rattle.frz_board.specs.Squares.{rank_of}
 use Rattle.frz_board.specs.Men.{number_of_kind, kind_of_number, same_colour, is_pawn}
-use Rattle.frz_words.specs.Squares.{has_square}
-use Rattle.frz_rules.specs.declared.fault.RulesCause.{RulesCause}
-use Rattle.frz_rules.specs.declared.fault.RulesCause.TheVariants as causes
-use Rattle.frz_rules.specs.Views.{GroupLine}
+use Rattle.frz_sets.specs.Views.{GroupLine}
 
 -- the states in order, by kind, then square: 64 of each of the six kinds
 abbrev pub state_at : ℕ → Kind × ℕ
@@ -19,14 +16,6 @@ state_number s = 64 * (number_of_kind s.0 - 1) + s.1
 
 abbrev pub same_state : Kind × ℕ → Kind × ℕ → Bool
 same_state s t = number_of_kind s.0 == number_of_kind t.0 && s.1 == t.1
-
--- one of the places, a kind and its squares, has the state
-abbrev pub is_placed : List (Kind × ℕ) → Kind × ℕ → Bool
-is_placed places s = list_any (λ p. number_of_kind p.0 == number_of_kind s.0 && has_square p.1 s.1) places
-
--- the states of the places, in order and each once
-unfoldable pub states_of : List (Kind × ℕ) → List (Kind × ℕ)
-states_of places = filter (is_placed places) (map state_at (range_with_len 0 384))
 
 abbrev pub is_king : Kind × ℕ → Bool
 is_king s = number_of_kind s.0 == 1
@@ -53,19 +42,10 @@ shares states others = list_any (λ s. list_any (same_state s) others) states
 
 -- an earlier group of the colour has one of the states
 abbrev pub overlaps : List GroupLine → GroupLine → Bool
-overlaps earlier g = list_any (λ e. same_colour e.colour g.colour && shares e.states g.states) earlier
+overlaps earlier g =
+    list_any (λ e. same_colour e.colour g.colour && shares e.states g.states) earlier
 
 -- the most men of the groups of this colour together
-abbrev pub men_of : List GroupLine → Colour → ℕ
-men_of [] c = 0
-men_of (g ∷ groups) c = (if same_colour g.colour c then g.most else 0) + men_of groups c
-
--- the first cause of a group line behind the earlier ones
-abbrev pub cause_of_group : List GroupLine → GroupLine → Option RulesCause
-cause_of_group earlier g =
-    if list_any is_end_pawn g.states then Some causes.PawnSquare else
-    (if is_bad_count g then Some causes.Count else
-    (if is_bad_king earlier g then Some causes.KingGroup else
-    (if overlaps earlier g then Some causes.Overlap else
-    (if nat_lt 16 (men_of earlier g.colour + g.most) then Some causes.TooManyMen else
-    (if nat_le 32 (length earlier) then Some causes.TooManyLines else None)))))
+abbrev pub most_men_of : List GroupLine → Colour → ℕ
+most_men_of [] c = 0
+most_men_of (g ∷ groups) c = (if same_colour g.colour c then g.most else 0) + most_men_of groups c

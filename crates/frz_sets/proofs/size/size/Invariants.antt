@@ -1,7 +1,7 @@
 use Rattle.std.proofs.Common.{◌≡◌, ◌<◌, ◌^◌}
-use Rattle.frz_rules.specs.Sets.{size_of}
-use Rattle.frz_rules.proofs.Sizes.{held, times_from}
-use Rattle.frz_rules.proofs.size.size.Given as goal
+use Rattle.frz_sets.specs.Sets.{size_of}
+use Rattle.frz_sets.proofs.Sizes.{held, times_from}
+use Rattle.frz_sets.proofs.size.size.Given as goal
 
 abbrev pub invariant-loop-g : goal.invariant-loop-g
 invariant-loop-g l = record {

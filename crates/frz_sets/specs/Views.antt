@@ -2,9 +2,9 @@
 use Rattle.std.specs.Prelude.{ℕ, Bool, List}
 use Rattle.frz_board.specs.declared.man.Colour.{Colour}
 use Rattle.frz_board.specs.declared.man.Kind.{Kind}
-use Rattle.frz_rules.specs.declared.exit.Test.{Test}
-use Rattle.frz_rules.specs.declared.exit.Value.{Value}
-use Rattle.frz_rules.specs.declared.forbid.Forbid.{Forbid}
+use Rattle.frz_sets.specs.declared.exit.Test.{Test}
+use Rattle.frz_sets.specs.declared.exit.Value.{Value}
+use Rattle.frz_sets.specs.declared.forbid.Forbid.{Forbid}
 
 pub record Condition : Type 0 where
   pub negated : Bool

@@ -1,5 +1,6 @@
+//! What an exit line says: a value where conditions hold.
 use frz_board::{Colour, Kind, Square};
-use frz_words::SquareSet;
+use frz_squares::SquareSet;
 use std::marker::Model;
 
 /// What a condition asks of a position.
@@ -27,7 +28,7 @@ pub struct Cond {
 }
 
 impl Model for Cond {
-    ghost use Rattle.frz_rules.specs.Views.{Condition};
+    ghost use Rattle.frz_sets.specs.Views.{Condition};
 
     ghost Value = { Condition };
 
@@ -56,7 +57,7 @@ pub struct Exit {
 }
 
 impl Model for Exit {
-    ghost use Rattle.frz_rules.specs.Views.{ExitLine};
+    ghost use Rattle.frz_sets.specs.Views.{ExitLine};
 
     ghost Value = { ExitLine };
 

@@ -1,11 +1,12 @@
+//! The words of conditions.
 ghost use Rattle.std.specs.Prelude.{◌≡◌, ◌∷◌, []};
 ghost use Rattle.frz_words.specs.Parts.{split};
 ghost use Rattle.frz_words.specs.Squares.{square_word, squares_of};
 ghost use Rattle.frz_rules.specs.Classes.{colour_of, kind_of, range_of, is_colon};
 ghost use Rattle.frz_rules.specs.Conditions.{test_of, cond_of, count_test, on_test, distance_test, with_sign};
 
-use crate::exit::{Cond, Test};
 use crate::words::{colour, kind, range, square};
+use frz_sets::{Cond, Test};
 use frz_words::{cut, is_word, read_squares};
 
 fn one_part(t: &[u8]) -> Option<Test>

@@ -3,11 +3,11 @@ use Rattle.std.specs.Prelude.{ℕ, true, List, ◌++◌, ◌≡◌, ◌≤◌, t
 use Rattle.frz_rules.specs.Grammar.{Form, fits}
 
 -- the first n words begin a line of the form
-abbrev pub Begins : Form → List (List ℕ) → ℕ → Type 0
-Begins f ws n = (rest : List (List ℕ)) × (fits f (take n ws ++ rest) ≡ true)
+abbrev pub FrontFits : Form → List (List ℕ) → ℕ → Type 0
+FrontFits f ws n = (rest : List (List ℕ)) × (fits f (take n ws ++ rest) ≡ true)
 
 -- and no more of them do
 pub record IsGreatestFront (f : Form) (ws : List (List ℕ)) (n : ℕ) : Type 0 where
   pub within : n ≤ length ws
-  pub begins : Begins f ws n
-  pub greatest : (m : ℕ) → m ≤ length ws → Begins f ws m → m ≤ n
+  pub begins : FrontFits f ws n
+  pub greatest : (m : ℕ) → m ≤ length ws → FrontFits f ws m → m ≤ n

@@ -1,3 +1,4 @@
+//! The rules: all lines of a text.
 use crate::exit::Exit;
 use crate::forbid::Forbid;
 use crate::group::Group;
@@ -12,7 +13,7 @@ pub struct Rules {
 }
 
 impl Model for Rules {
-    ghost use Rattle.frz_rules.specs.Views.{RuleLines};
+    ghost use Rattle.frz_sets.specs.Views.{RuleLines};
 
     ghost Value = { RuleLines };
 

@@ -1,0 +1,4 @@
+pub mod Views
+pub mod Groups
+pub mod Sets
+pub mod Sound

@@ -1,0 +1,57 @@
+//! The possible targets of a set.
+ghost use Rattle.std.specs.Prelude.{◌≡◌, ◌&&◌, ◌≤◌, length};
+ghost use Rattle.std.specs.List.{list_any};
+ghost use Rattle.frz_squares.specs.Squares.{is_beside, squares};
+ghost use Rattle.frz_sets.specs.Sets.{has_state as some_has_state, pawn as pawn_cell, is_pair, is_possible_for, is_possible, targets};
+
+use crate::group::Group;
+use crate::having::has_state;
+use frz_board::{Colour, Kind, Man, Square, cell_of};
+
+fn pawn(colour: Colour) -> u8
+    ensures { result ≡ pawn_cell colour }
+{
+    cell_of(Man {
+        colour,
+        kind: Kind::Pawn,
+    })
+}
+
+/// Can a pawn of the colour stand beside the square?
+#[tactic(auto, unfolding(frz_board::specs::Squares::squares))]
+fn have_pawn_beside(groups: &[Group], colour: Colour, b: Square) -> bool
+    ensures { result ≡
+        list_any (λ s. is_beside s b && some_has_state groups.now (pawn_cell colour) s) squares }
+{
+    (0..64u8).any(|s| Square::at(s).is_beside(b) && has_state(groups, pawn(colour), Square::at(s)))
+}
+
+fn has_pair(groups: &[Group], colour: Colour, b: Square) -> bool
+    ensures { result ≡ is_pair groups.now colour b }
+{
+    has_state(groups, pawn(colour), b) && have_pawn_beside(groups, colour.other(), b)
+}
+
+fn is_target_of(groups: &[Group], colour: Colour, t: Square) -> bool
+    ensures { result ≡ is_possible_for groups.now colour t }
+{
+    t.is_passing_rank(colour) && has_pair(groups, colour, t.ahead(colour))
+}
+
+/// Can the square be a target in the set?
+pub fn is_target(groups: &[Group], t: Square) -> bool
+    ensures { result ≡ is_possible groups.now t }
+{
+    is_target_of(groups, Colour::White, t) || is_target_of(groups, Colour::Black, t)
+}
+
+/// How many squares can be a target in the set.
+#[tactic(auto, unfolding(frz_board::specs::Squares::squares))]
+pub fn target_count(groups: &[Group]) -> usize
+    ensures count { result ≡ length (targets groups.now) }
+    ensures few { result ≤ 64 }
+{
+    (0..64u8)
+        .filter(|t| is_target(groups, Square::at(*t)))
+        .count()
+}
