@@ -1,3 +1,6 @@
-pub mod Classes
-pub mod FirstLines
-pub mod SoundLags
+-- Other crates cite the module Lemmas alone.
+pub mod Lemmas
+mod Classes
+mod FirstLines
+mod SmallLags
+mod SoundLags

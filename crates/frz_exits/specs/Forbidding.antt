@@ -7,11 +7,11 @@ use Rattle.frz_board.specs.Men.{same_colour}
 use Rattle.frz_board.specs.Boards.{Board, is_empty, has}
 use Rattle.frz_board.specs.Moving.{Step}
 use Rattle.frz_fide.specs.Legal.{takes_in_passing}
-use Rattle.frz_words.specs.Squares.{has_square}
-use Rattle.frz_rules.specs.declared.forbid.Only.{Only}
-use Rattle.frz_rules.specs.declared.forbid.Only.TheVariants.{Any, Capture, Promotion}
-use Rattle.frz_rules.specs.declared.forbid.Forbid.{Forbid}
-use Rattle.frz_rules.specs.Views.{RuleLines}
+use Rattle.frz_squares.specs.SquareSets.{has_square}
+use Rattle.frz_sets.specs.declared.forbid.Only.{Only}
+use Rattle.frz_sets.specs.declared.forbid.Only.TheVariants.{Any, Capture, Promotion}
+use Rattle.frz_sets.specs.declared.forbid.Forbid.{Forbid}
+use Rattle.frz_sets.specs.Views.{RuleLines}
 
 -- a pawn captures the one that has just passed its square (FIDE 3.7)
 abbrev pub is_en_passant : Board → Step → Bool
@@ -23,21 +23,23 @@ abbrev pub is_capture : Board → Step → Bool
 is_capture p m = not (is_empty p m.to) || is_en_passant p m
 
 -- the move is of the kind that the line names
-abbrev pub fits : Only → Board → Step → Bool
-fits Any p m = true
-fits Capture p m = is_capture p m
-fits Promotion p m = is_some m.promo
+abbrev pub is_such : Only → Board → Step → Bool
+is_such Any p m = true
+is_such Capture p m = is_capture p m
+is_such Promotion p m = is_some m.promo
 
 -- the move is of such a man, from the first squares to the second
 unfoldable pub covers : Forbid → Board → Step → Bool
 covers line p m =
     has p line.colour line.kind m.from
-    && ((has_square line.from.0 m.from && has_square line.to.0 m.to) && fits line.only p m)
+    && (has_square line.from m.from && has_square line.to m.to)
+    && is_such line.only p m
 
--- one of the lines is of the side and covers the move
-abbrev pub is_covered : List Forbid → Colour → Board → Step → Bool
-is_covered lines side p m = list_any (λ line. same_colour line.colour side && covers line p m) lines
+-- one of the lines is of the side and covers the move: it forbids the side the move
+abbrev pub is_forbidden : List Forbid → Colour → Board → Step → Bool
+is_forbidden lines side p m =
+    list_any (λ line. same_colour line.colour side && covers line p m) lines
 
 -- no forbid line of the side covers the move
 abbrev pub is_free : RuleLines → Colour → Board → Step → Bool
-is_free rules side p m = not (is_covered rules.forbids side p m)
+is_free rules side p m = not (is_forbidden rules.forbids side p m)

@@ -1,5 +1,5 @@
+-- What the values outside the set and the forbidden moves are.
 pub mod Values
 pub mod Forbidding
 pub mod Conditions
 pub mod Books
-pub mod SmallLags

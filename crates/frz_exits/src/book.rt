@@ -1,15 +1,16 @@
-ghost use Rattle.std.specs.Prelude.{◌≡◌, ◌≤◌, All};
+//! The values of positions outside the set: a book of them, and the book of a rules text.
+
+ghost use Rattle.std.specs.Prelude.{◌≡◌, ◌≤◌};
 ghost use Rattle.frz_board.specs.Boards.{Board};
 ghost use Rattle.frz_fide.specs.Valid.{IsValid};
-ghost use Rattle.frz_rules.specs.declared.exit.Value.{Value};
-ghost use Rattle.frz_rules.specs.Sound.{IsSound};
+ghost use Rattle.frz_sets.specs.declared.exit.Value.{Value};
+ghost use Rattle.frz_sets.specs.Sound.{IsSound};
 ghost use Rattle.frz_exits.specs.Values.{lag_of};
 ghost use Rattle.frz_exits.specs.Books.{value_by, first_value};
-ghost use Rattle.frz_exits.specs.SmallLags.{first_value_small};
 
 use crate::conditions::all_hold;
 use frz_board::Position;
-use frz_rules::{Exit, Rules, Value};
+use frz_sets::{Exit, Rules, Value};
 
 /// What gives a value to each position outside the set.
 pub trait ExitBook {
@@ -29,7 +30,7 @@ pub trait ExitBook {
 #[derive(Clone, Copy)]
 pub struct RuleBook<'a> {
     pub rules: &'a Rules,
-    pub ghost small: { All (λ line. lag_of line.value ≤ 1000) rules.now.exits },
+    pub ghost small: { (q : Board) → IsValid q → lag_of (value_by rules.now q) ≤ 1000 },
 }
 
 impl<'a> RuleBook<'a> {
@@ -45,7 +46,7 @@ impl<'a> RuleBook<'a> {
 impl ExitBook for RuleBook<'_> {
     ghost value_at = { λ book q. value_by book.rules.now q };
 
-    ghost small = { λ book q valid. first_value_small book.rules.now.exits book.small q };
+    ghost small = { λ book q valid. book.small q valid };
 
     fn value(&self, q: &Position) -> Value {
         let rules = self.rules;

@@ -1,9 +1,11 @@
+//! What a value is worth to a side.
+
 ghost use Rattle.std.specs.Prelude.{◌≡◌};
 ghost use Rattle.frz_exits.specs.Values.{class_of, lag_of};
 
 use frz_arena::Class;
 use frz_board::Colour;
-use frz_rules::Value;
+use frz_sets::Value;
 
 /// What the value is worth to the side.
 pub fn class(v: Value, side: Colour) -> Class

@@ -1,0 +1,3 @@
+-- The lemmas on values that other crates cite.
+pub use Rattle.frz_exits.proofs.Classes.{opposed}
+pub use Rattle.frz_exits.proofs.SoundLags.{sound_lags, small_values}
