@@ -7,18 +7,20 @@ use Rattle.std.proofs.lemmas.Option.{slice_get_read, same_Some}
 use Rattle.frz_board.specs.Men.{cell_of_man}
 use Rattle.frz_board.specs.declared.man.Colour.{Colour}
 use Rattle.frz_board.specs.declared.man.Kind.{Kind}
-use Rattle.frz_combinations.proofs.Selecting.{digit_below}
+use Rattle.frz_combinations.proofs.Lemmas.{digit_below}
 use Rattle.frz_combinations.specs.Binomials.{capped, choose}
 use Rattle.frz_combinations.specs.Combinations.{AreDescending, rank, unrank}
 use Rattle.frz_combinations.specs.Selections.{choices, count_and_rank, digit, radix}
 use Rattle.frz_board.specs.Boards.{Board}
-use Rattle.frz_combinations.proofs.Ranking.{places_descend}
-use Rattle.frz_rules.specs.Views.{GroupLine}
-use Rattle.frz_rules.specs.Sets.{radix_of}
+use Rattle.frz_combinations.proofs.Lemmas.{places_descend}
+use Rattle.frz_sets.specs.Views.{GroupLine}
+use Rattle.frz_sets.specs.Sets.{radix_of}
 use Rattle.frz_index.specs.Places.{IsWithinCount, digit_of, places, places_among, stands}
 use Rattle.frz_index.specs.Candidates.{put_man}
 
-pub offset_step : (s i n sum : ℕ) → i < n → capped (capped (sum + capped (choose s i)) + choices s (i + 1) (n - (i + 1))) ≡ capped (sum + choices s i (n - i))
+pub offset_step : (s i n sum : ℕ) → i < n →
+    capped (capped (sum + capped (choose s i)) + choices s (i + 1) (n - (i + 1)))
+    ≡ capped (sum + choices s i (n - i))
 offset_step s i n sum h =
     let e : n - i ≡ suc (n - (i + 1)) = omega arith in
     let one : i + 1 ≡ suc i = omega arith in
@@ -26,18 +28,23 @@ offset_step s i n sum h =
     omega (arith, all)
 
 pub offset_done : (s i n sum : ℕ) → n ≤ i → capped (sum + choices s i (n - i)) ≡ capped sum
-offset_done s i n sum h = let e : n - i ≡ 0 = omega arith in ap (λ k. capped (sum + choices s i k)) e ∙ ap capped (omega arith)
+offset_done s i n sum h =
+    let e : n - i ≡ 0 = omega arith in ap (λ k. capped (sum + choices s i k)) e ∙ ap capped (omega arith)
 
-pub offset_end : (s i n sum : ℕ) → sum ≤ 18446744073709551615 → n ≤ i → sum ≡ capped (sum + choices s i (n - i))
+pub offset_end : (s i n sum : ℕ) → sum ≤ 18446744073709551615 → n ≤ i →
+    sum ≡ capped (sum + choices s i (n - i))
 offset_end s i n sum fits h = let e = offset_done s i n sum h in omega arith
 
-pub digit_exact : (s l m : ℕ) (cs : List ℕ) → AreDescending s cs → l ≤ length cs → length cs ≤ m → radix s l m ≤ 134217728 → (a b : ℕ) → a ≡ capped (choices s l (length cs - l)) → b ≡ capped (rank cs) → (a + b ≡ digit s l cs) × (a + b < 134217728)
+pub digit_exact : (s l m : ℕ) (cs : List ℕ) → AreDescending s cs → l ≤ length cs → length cs ≤ m →
+    radix s l m ≤ 134217728 → (a b : ℕ) → a ≡ capped (choices s l (length cs - l)) →
+    b ≡ capped (rank cs) → (a + b ≡ digit s l cs) × (a + b < 134217728)
 digit_exact s l m cs d lo hi size a b e f =
     let below = digit_below s l m cs d lo hi in
     (omega arith, omega arith)
 
 -- the number of men, step by step
-pub men_step : (s j m r : ℕ) → j < m → choose s j ≤ r → count_and_rank s (j + 1) (m - (j + 1)) (r - choose s j) ≡ count_and_rank s j (m - j) r
+pub men_step : (s j m r : ℕ) → j < m → choose s j ≤ r →
+    count_and_rank s (j + 1) (m - (j + 1)) (r - choose s j) ≡ count_and_rank s j (m - j) r
 men_step s j m r h k =
     let e : m - j ≡ suc (m - (j + 1)) = omega arith in
     let one : j + 1 ≡ suc j = omega arith in
@@ -71,17 +78,8 @@ put_read c states k cells a b s v h ea eb ev' es' =
     let at_a = slice_get_read states (length states) k a refl h ea in
     let at_b = slice_get_read states (length states) k b refl h eb in
     let same : a ≡ b = same_Some a b (sym at_a ∙ at_b) in
-    ap (λ x. slice_set cells x v) (es ∙ ap (λ (y : Kind × ℕ). y.1) (sym same)) ∙ ap (λ x. slice_set cells a.1 x) ev ∙ sym (ap (λ o. put_man c o cells) at_a)
-
--- the sum with its last number
-sizes_last : (s l n : ℕ) → choices s l (suc n) ≡ choices s l n + choose s (l + n)
-sizes_last s l zero = let e : l ≡ l + 0 = omega arith in omega (arith, ap (choose s) e)
-sizes_last s l (suc n) = let e : suc l + n ≡ l + suc n = omega arith in omega (arith, sizes_last s (suc l) n, ap (choose s) e)
-
-pub radix_capped : (s l m a b : ℕ) → l ≤ m → a ≡ capped (choices s l (m - l)) → b ≡ capped (choose s m) → capped (a + b) ≡ capped (radix s l m)
-radix_capped s l m a b h e f =
-    let at : choose s (l + (m - l)) ≡ choose s m = ap (choose s) (let x : l + (m - l) ≡ m = omega arith in x) in
-    omega (arith, sizes_last s l (m - l), at, e, f)
+    ap (λ x. slice_set cells x v) (es ∙ ap (λ (y : Kind × ℕ). y.1) (sym same))
+    ∙ ap (λ x. slice_set cells a.1 x) ev ∙ sym (ap (λ o. put_man c o cells) at_a)
 
 -- the sum of two capped parts is the group's digit
 pub record IsDigit (p : Board) (g : GroupLine) (sum : ℕ) : Type 0 where
@@ -95,7 +93,9 @@ IsCount p c states most x =
     let cs = places_among p c states (length states) in
     (x.0 ≡ length cs) × (x.0 ≤ most) × (x.1 ≡ capped (rank cs))
 
-digit_at : (p : Board) (g : GroupLine) (n a b : ℕ) → radix_of g ≤ 134217728 → IsCount p g.colour g.states g.most (n, b) → g.least ≤ n → a ≡ capped (choices (length g.states) g.least (n - g.least)) → IsDigit p g (a + b)
+digit_at : (p : Board) (g : GroupLine) (n a b : ℕ) → radix_of g ≤ 134217728 →
+    IsCount p g.colour g.states g.most (n, b) → g.least ≤ n →
+    a ≡ capped (choices (length g.states) g.least (n - g.least)) → IsDigit p g (a + b)
 digit_at p g n a b size h lo e =
     let least : g.least ≤ length (places p g) = omega (arith, h.0) in
     let most : length (places p g) ≤ g.most = omega (arith, h.0, h.1) in
@@ -104,22 +104,16 @@ digit_at p g n a b size h lo e =
     record { counted = record { least = least; most = most }; sum_is = f.0; small = f.1 }
 
 -- the same of a group whose fields were read
-pub digit_read : (p : Board) (v g : GroupLine) (slice : List (Kind × ℕ)) (n a b : ℕ) → v ≡ g → slice ≡ v.states → radix_of g ≤ 134217728 → IsCount p v.colour slice v.most (n, b) → v.least ≤ n → a ≡ capped (choices (length v.states) v.least (n - v.least)) → IsDigit p g (a + b)
+pub digit_read : (p : Board) (v g : GroupLine) (slice : List (Kind × ℕ)) (n a b : ℕ) → v ≡ g →
+    slice ≡ v.states → radix_of g ≤ 134217728 → IsCount p v.colour slice v.most (n, b) →
+    v.least ≤ n → a ≡ capped (choices (length v.states) v.least (n - v.least)) → IsDigit p g (a + b)
 digit_read p v g slice n a b same read size h lo e =
     let Count : List (Kind × ℕ) → Type 0 = λ states. IsCount p v.colour states v.most (n, b) in
     let Size : GroupLine → Type 0 = λ x. radix_of x ≤ 134217728 in
     let Goal : GroupLine → Type 0 = λ x. IsDigit p x (a + b) in
     subst Goal same (digit_at p v n a b (subst Size (sym same) size) (subst Count read h) lo e)
 
-pub count_read : (p : Board) (v g : GroupLine) (slice : List (Kind × ℕ)) → v ≡ g → slice ≡ v.states → places_among p v.colour slice (length slice) ≡ places p g
-count_read p v g slice same read = ap (λ states. places_among p v.colour states (length states)) read ∙ ap (places p) same
-
--- how many digits a group has, whose fields were read
-pub radix_read : (v g : GroupLine) (s a b : ℕ) → v ≡ g → s ≡ length v.states → g.least ≤ g.most → a ≡ capped (choices s v.least (v.most - v.least)) → b ≡ capped (choose s v.most) → capped (a + b) ≡ capped (radix_of g)
-radix_read v g s a b same read order e f =
-    let Order : GroupLine → Type 0 = λ x. x.least ≤ x.most in
-    let Goal : GroupLine → Type 0 = λ x. capped (a + b) ≡ capped (radix_of x) in
-    subst Goal same
-    (radix_capped (length v.states) v.least v.most a b (subst Order (sym same) order)
-    (e ∙ ap (λ n. capped (choices n v.least (v.most - v.least))) read)
-    (f ∙ ap (λ n. capped (choose n v.most)) read))
+pub count_read : (p : Board) (v g : GroupLine) (slice : List (Kind × ℕ)) → v ≡ g →
+    slice ≡ v.states → places_among p v.colour slice (length slice) ≡ places p g
+count_read p v g slice same read =
+    ap (λ states. places_among p v.colour states (length states)) read ∙ ap (places p) same

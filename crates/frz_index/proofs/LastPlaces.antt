@@ -2,14 +2,15 @@
 use Rattle.std.proofs.Common.{◌≡◌, ℕ, zero, suc, ◌-◌, ◌<◌, ◌≤◌, min, ◌∷◌, ap, sym, ◌∙◌, arith}
 use Rattle.frz_combinations.specs.Binomials.{choose}
 use Rattle.frz_combinations.specs.Combinations.{unrank}
-use Rattle.frz_combinations.proofs.Pascals.{choose-one, choose-past, choose_wider}
-use Rattle.frz_combinations.proofs.Ranking.{unrank-greatest}
+use Rattle.frz_combinations.proofs.Lemmas.{choose-one, choose-past, choose_wider}
+use Rattle.frz_combinations.proofs.Lemmas.{unrank-greatest}
 
 -- the rank of one place is the place
 pub one_fits : (end k r m : ℕ) → k ≡ 1 → m ≡ min r (end - 1) → choose m k ≤ r
 one_fits end k r m one e = omega (arith, ap (choose m) one, choose-one m, e)
 
-pub one_greatest : (end k r m : ℕ) → k ≡ 1 → m ≡ min r (end - 1) → (x : ℕ) → m < x → x < end → r < choose x k
+pub one_greatest : (end k r m : ℕ) → k ≡ 1 → m ≡ min r (end - 1) → (x : ℕ) → m < x → x < end →
+    r < choose x k
 one_greatest end k r m one e x h l = omega (arith, ap (choose x) one, choose-one x, e)
 
 -- there is always a place that fits
@@ -21,7 +22,9 @@ pub above_later : (end k r m : ℕ) → r < choose m k → (x : ℕ) → m ≤ x
 above_later end k r m h x l k' = omega (arith, choose_wider m x k l)
 
 -- the greatest place that fits is the last, and the others are those of what is left
-pub unrank_next : (s k r c : ℕ) → 0 < k → c < s → choose c k ≤ r → ((x : ℕ) → c < x → x < s → r < choose x k) → unrank s k r ≡ c ∷ unrank c (k - 1) (r - choose c k)
+pub unrank_next : (s k r c : ℕ) → 0 < k → c < s → choose c k ≤ r →
+    ((x : ℕ) → c < x → x < s → r < choose x k) →
+    unrank s k r ≡ c ∷ unrank c (k - 1) (r - choose c k)
 unrank_next s zero r c h l fits above = absurd (omega arith)
 unrank_next s (suc j) r c h l fits above =
     let e : suc j - 1 ≡ j = omega arith in

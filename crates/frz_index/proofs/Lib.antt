@@ -1,3 +1,4 @@
+pub mod Lemmas
 pub mod Soundness
 pub mod Turns
 pub mod Filling
@@ -7,3 +8,7 @@ pub mod GroupDigits
 pub mod GroupSteps
 pub mod KnownCells
 pub mod AtNumbers
+pub mod Membership
+pub mod Charting
+pub mod Counting
+pub mod RoomForMen

@@ -2,7 +2,7 @@
 use Rattle.std.proofs.Common.{◌≡◌, ℕ, suc, ◌+◌, ◌<◌, Bool, true, false, ◌&&◌, ◌||◌, cond, Option, None, Some, List, [], ◌∷◌, length, filter, slice_index, get_or, ◌≢◌, lit<, refl, ap, sym, ◌∙◌, arith, inl, inr}
 use Rattle.std.specs.Prelude.{◌==◌}
 use Rattle.std.specs.List.{list_any, slice_get}
-use Rattle.std.proofs.lemmas.Bool.{eqb-true, eq-eqb, cases_lt}
+use Rattle.std.proofs.lemmas.Bool.{eqb-true, eq-eqb, cases_lt, and_parts}
 use Rattle.std.proofs.lemmas.Map.Views.{any-filter_same}
 use Rattle.std.proofs.lemmas.List.Folds.{list_any_at}
 use Rattle.std.proofs.lemmas.List.{get_or_past}
@@ -15,29 +15,34 @@ use Rattle.frz_board.specs.declared.man.Colour.{Colour}
 use Rattle.frz_board.specs.declared.man.Colour.TheVariants.{Black, White}
 use Rattle.frz_board.specs.declared.man.Kind.{Kind}
 use Rattle.frz_board.specs.declared.man.Kind.TheVariants.{Bishop, King, Knight, Pawn, Queen, Rook}
-use Rattle.frz_board.proofs.Connectives.{and_both}
-use Rattle.frz_board.proofs.AllSquares.{get_or-squares, length-squares}
+use Rattle.frz_squares.proofs.Lemmas.{get_or-squares, length-squares}
 use Rattle.frz_index.specs.Members.{Member}
 use Rattle.frz_index.specs.TurnStates.{mover_at_target, place_of, target_state, turn_in, turn_number}
-use Rattle.frz_rules.specs.Sets.{is_covered, is_possible, is_possible_for, pawn, targets}
-use Rattle.frz_rules.specs.Views.{GroupLine}
+use Rattle.frz_sets.specs.Sets.{has_state, is_possible, is_possible_for, pawn, targets}
+use Rattle.frz_sets.specs.Views.{GroupLine}
 
-place_at : (x y : ℕ) (ys : List ℕ) (b : Bool) → (x == y) ≡ b → place_of x (y ∷ ys) ≡ cond b 0 (suc (place_of x ys))
+place_at : (x y : ℕ) (ys : List ℕ) (b : Bool) → (x == y) ≡ b →
+    place_of x (y ∷ ys) ≡ cond b 0 (suc (place_of x ys))
 place_at x y ys b e = ap (λ b. cond b 0 (suc (place_of x ys))) e
 
 -- what is among them is found at its place
-pub place_found : (x : ℕ) (ys : List ℕ) → list_any (λ y. x == y) ys ≡ true → slice_get ys (place_of x ys) ≡ Some x
+pub place_found : (x : ℕ) (ys : List ℕ) → list_any (λ y. x == y) ys ≡ true →
+    slice_get ys (place_of x ys) ≡ Some x
 place_found x [] h = absurd cc
 place_found x (y ∷ ys) h =
     let by : (b : Bool) → (x == y) ≡ b → slice_get (y ∷ ys) (place_of x (y ∷ ys)) ≡ Some x =
     λ b. elim b as (λ b. (x == y) ≡ b → slice_get (y ∷ ys) (place_of x (y ∷ ys)) ≡ Some x) [
-      | true ↦ λ e. ap (slice_get (y ∷ ys)) (place_at x y ys true e) ∙ ap Some (sym (eqb-true x y e))
-      | false ↦ λ e. ap (slice_get (y ∷ ys)) (place_at x y ys false e) ∙ place_found x ys (ap (λ b. b || list_any (λ y. x == y) ys) (sym e) ∙ h)
+      | true ↦
+          λ e. ap (slice_get (y ∷ ys)) (place_at x y ys true e) ∙ ap Some (sym (eqb-true x y e))
+      | false ↦
+          λ e. ap (slice_get (y ∷ ys)) (place_at x y ys false e)
+          ∙ place_found x ys (ap (λ b. b || list_any (λ y. x == y) ys) (sym e) ∙ h)
     ] in
     by (x == y) refl
 
 -- the turn state is found again
-pub turn_back : (gs : List GroupLine) (c : Colour) (o : Option ℕ) → ((t : ℕ) → o ≡ Some t → (list_any (λ y. t == y) (targets gs) ≡ true) × (mover_at_target t ≡ c)) → turn_in (targets gs) (turn_number gs c o) ≡ (c, o)
+pub turn_back : (gs : List GroupLine) (c : Colour) (o : Option ℕ) →
+    ((t : ℕ) → o ≡ Some t → (list_any (λ y. t == y) (targets gs) ≡ true) × (mover_at_target t ≡ c)) → turn_in (targets gs) (turn_number gs c o) ≡ (c, o)
 turn_back gs c (Some t) h =
     let f = h t refl in
     ap target_state (place_found t (targets gs) f.0) ∙ ap (λ d. (d, Some t)) f.1
@@ -48,19 +53,25 @@ turn_back gs Black None h = refl
 place_below : (x : ℕ) (ys : List ℕ) → list_any (λ y. x == y) ys ≡ true → place_of x ys < length ys
 place_below x ys h = slice_get_within ys (place_of x ys) x (place_found x ys h)
 
-pub turn_below : (gs : List GroupLine) (c : Colour) (o : Option ℕ) → ((t : ℕ) → o ≡ Some t → list_any (λ y. t == y) (targets gs) ≡ true) → turn_number gs c o < 2 + length (targets gs)
+pub turn_below : (gs : List GroupLine) (c : Colour) (o : Option ℕ) →
+    ((t : ℕ) → o ≡ Some t → list_any (λ y. t == y) (targets gs) ≡ true) →
+    turn_number gs c o < 2 + length (targets gs)
 turn_below gs c (Some t) h = omega (arith, place_below t (targets gs) (h t refl))
 turn_below gs White None h = omega arith
 turn_below gs Black None h = omega arith
 
 -- what a filter keeps
-among_filter : (f : ℕ → Bool) (x : ℕ) (xs : List ℕ) → f x ≡ true → list_any (λ y. x == y) xs ≡ true → list_any (λ y. x == y) (filter f xs) ≡ true
-among_filter f x xs e h = any-filter_same (λ y. x == y) f true (λ y k. ap f (sym (eqb-true x y k)) ∙ e) xs ∙ h
+among_filter : (f : ℕ → Bool) (x : ℕ) (xs : List ℕ) → f x ≡ true →
+    list_any (λ y. x == y) xs ≡ true → list_any (λ y. x == y) (filter f xs) ≡ true
+among_filter f x xs e h =
+    any-filter_same (λ y. x == y) f true (λ y k. ap f (sym (eqb-true x y k)) ∙ e) xs ∙ h
 
 square_among : (s : ℕ) → s < 64 → list_any (λ y. s == y) squares ≡ true
-square_among s h = list_any_at (λ y. s == y) squares s 0 (omega (arith, length-squares)) (eq-eqb s (get_or squares s 0) (sym (get_or-squares s h)))
+square_among s h =
+    list_any_at (λ y. s == y) squares s 0 (omega (arith, length-squares)) (eq-eqb s (get_or squares s 0) (sym (get_or-squares s h)))
 
-pub is_target_in : (gs : List GroupLine) (t : ℕ) → t < 64 → is_possible gs t ≡ true → list_any (λ y. t == y) (targets gs) ≡ true
+pub is_target_in : (gs : List GroupLine) (t : ℕ) → t < 64 → is_possible gs t ≡ true →
+    list_any (λ y. t == y) (targets gs) ≡ true
 is_target_in gs t h e = among_filter (is_possible gs) t squares e (square_among t h)
 
 -- a man of the board has a state
@@ -78,7 +89,7 @@ cell_some Black Bishop = lit< tt
 cell_some Black Knight = lit< tt
 cell_some Black Pawn = lit< tt
 
-pub covered_from : (gs : List GroupLine) (p : Board) → Member gs p → (c : Colour) (k : Kind) (s : ℕ) → has p c k s ≡ true → is_covered gs (cell_of_man (record { colour = c; kind = k })) s ≡ true
+pub covered_from : (gs : List GroupLine) (p : Board) → Member gs p → (c : Colour) (k : Kind) (s : ℕ) → has p c k s ≡ true → has_state gs (cell_of_man (record { colour = c; kind = k })) s ≡ true
 covered_from gs p m c k s h =
     let e = eqb-true (slice_index p.cells s) (cell_of_man (record { colour = c; kind = k })) h in
     let some = cell_some c k in
@@ -88,17 +99,20 @@ covered_from gs p m c k s h =
       | inr past ↦ absurd (let none = get_or_past p.cells s 0 (omega (arith, m.valid.fits.size)) in omega arith)
     ] in
     let there : slice_index p.cells s ≢ 0 = λ none. omega arith in
-    ap (λ cell. is_covered gs cell s) (sym e) ∙ m.men s low there
+    ap (λ cell. has_state gs cell s) (sym e) ∙ m.men s low there
 
-or_more : (a b c d : Bool) → (a ≡ true → b ≡ true) → (c ≡ true → d ≡ true) → (a || c) ≡ true → (b || d) ≡ true
+or_more : (a b c d : Bool) → (a ≡ true → b ≡ true) → (c ≡ true → d ≡ true) → (a || c) ≡ true →
+    (b || d) ≡ true
 or_more true b c d f g h = ap (λ x. x || d) (f refl)
 or_more false true c d f g h = refl
 or_more false false c d f g h = g h
 
 -- a test that holds where another does
-any_more : (f g : ℕ → Bool) → ((x : ℕ) → f x ≡ true → g x ≡ true) → (xs : List ℕ) → list_any f xs ≡ true → list_any g xs ≡ true
+any_more : (f g : ℕ → Bool) → ((x : ℕ) → f x ≡ true → g x ≡ true) → (xs : List ℕ) →
+    list_any f xs ≡ true → list_any g xs ≡ true
 any_more f g h [] e = absurd cc
-any_more f g h (x ∷ xs) e = or_more (f x) (g x) (list_any f xs) (list_any g xs) (h x) (any_more f g h xs) e
+any_more f g h (x ∷ xs) e =
+    or_more (f x) (g x) (list_any f xs) (list_any g xs) (h x) (any_more f g h xs) e
 
 both : (x y : Bool) → x ≡ true → y ≡ true → (x && y) ≡ true
 both x y h k = ap (λ b. b && y) h ∙ k
@@ -107,34 +121,42 @@ pub or_right : (x y : Bool) → y ≡ true → (x || y) ≡ true
 or_right true y h = refl
 or_right false y h = h
 
-possible_from : (gs : List GroupLine) (c : Colour) (t : ℕ) → is_possible_for gs c t ≡ true → is_possible gs t ≡ true
+possible_from : (gs : List GroupLine) (c : Colour) (t : ℕ) → is_possible_for gs c t ≡ true →
+    is_possible gs t ≡ true
 possible_from gs White t h = ap (λ b. b || is_possible_for gs Black t) h
 possible_from gs Black t h = or_right (is_possible_for gs White t) (is_possible_for gs Black t) h
 
-mover_is : (d : Colour) (t : ℕ) → is_passing_rank (other_of d) t ≡ true → (mover_at_target t ≡ d) × (t < 64)
-mover_is White t h = let e = eqb-true (rank_of t) 5 h in (ap (λ r. cond (r == 2) Black White) e, omega arith)
-mover_is Black t h = let e = eqb-true (rank_of t) 2 h in (ap (λ r. cond (r == 2) Black White) e, omega arith)
+mover_is : (d : Colour) (t : ℕ) → is_passing_rank (other_of d) t ≡ true →
+    (mover_at_target t ≡ d) × (t < 64)
+mover_is White t h =
+    let e = eqb-true (rank_of t) 5 h in (ap (λ r. cond (r == 2) Black White) e, omega arith)
+mover_is Black t h =
+    let e = eqb-true (rank_of t) 2 h in (ap (λ r. cond (r == 2) Black White) e, omega arith)
 
-beside_possible : (gs : List GroupLine) (p : Board) → Member gs p → (c : Colour) (b : ℕ) → has_pawn_beside p c b ≡ true → list_any (λ s. (ranks_apart s b == 0 && files_apart s b == 1) && is_covered gs (pawn c) s) squares ≡ true
+beside_possible : (gs : List GroupLine) (p : Board) → Member gs p → (c : Colour) (b : ℕ) →
+    has_pawn_beside p c b ≡ true →
+    list_any (λ s. (ranks_apart s b == 0 && files_apart s b == 1) && has_state gs (pawn c) s) squares ≡ true
 beside_possible gs p m c b h =
-    any_more (λ s. (ranks_apart s b == 0 && files_apart s b == 1) && has p c Pawn s) (λ s. (ranks_apart s b == 0 && files_apart s b == 1) && is_covered gs (pawn c) s)
-    (λ s k. let parts = and_both (ranks_apart s b == 0 && files_apart s b == 1) (has p c Pawn s) k in
-    both (ranks_apart s b == 0 && files_apart s b == 1) (is_covered gs (pawn c) s) parts.0 (covered_from gs p m c Pawn s parts.1))
+    any_more (λ s. (ranks_apart s b == 0 && files_apart s b == 1) && has p c Pawn s) (λ s. (ranks_apart s b == 0 && files_apart s b == 1) && has_state gs (pawn c) s)
+    (λ s k. let parts = and_parts (ranks_apart s b == 0 && files_apart s b == 1) (has p c Pawn s) k in
+    both (ranks_apart s b == 0 && files_apart s b == 1) (has_state gs (pawn c) s) parts.0 (covered_from gs p m c Pawn s parts.1))
     squares h
 
-passed_possible : (gs : List GroupLine) (p : Board) → Member gs p → (c : Colour) (t : ℕ) → is_passed p c t ≡ true → (is_passing_rank c t ≡ true) × (is_possible_for gs c t ≡ true)
+passed_possible : (gs : List GroupLine) (p : Board) → Member gs p → (c : Colour) (t : ℕ) →
+    is_passed p c t ≡ true → (is_passing_rank c t ≡ true) × (is_possible_for gs c t ≡ true)
 passed_possible gs p m c t h =
-    let parts = and_both (has_passed p c t) (has_pawn_beside p (other_of c) (ahead c t)) h in
-    let pawns = and_both (is_passing_rank c t && (is_empty p t && is_empty p (ahead (other_of c) t))) (has p c Pawn (ahead c t)) parts.0 in
-    let place = and_both (is_passing_rank c t) (is_empty p t && is_empty p (ahead (other_of c) t)) pawns.0 in
-    let beside = list_any (λ s. (ranks_apart s (ahead c t) == 0 && files_apart s (ahead c t) == 1) && is_covered gs (pawn (other_of c)) s) squares in (
+    let parts = and_parts (has_passed p c t) (has_pawn_beside p (other_of c) (ahead c t)) h in
+    let pawns = and_parts (is_passing_rank c t && (is_empty p t && is_empty p (ahead (other_of c) t))) (has p c Pawn (ahead c t)) parts.0 in
+    let place = and_parts (is_passing_rank c t) (is_empty p t && is_empty p (ahead (other_of c) t)) pawns.0 in
+    let beside = list_any (λ s. (ranks_apart s (ahead c t) == 0 && files_apart s (ahead c t) == 1) && has_state gs (pawn (other_of c)) s) squares in (
       place.0,
-      both (is_passing_rank c t) (is_covered gs (pawn c) (ahead c t) && beside) place.0
-          (both (is_covered gs (pawn c) (ahead c t)) beside (covered_from gs p m c Pawn (ahead c t) pawns.1) (beside_possible gs p m (other_of c) (ahead c t) parts.1)),
+      both (is_passing_rank c t) (has_state gs (pawn c) (ahead c t) && beside) place.0
+          (both (has_state gs (pawn c) (ahead c t)) beside (covered_from gs p m c Pawn (ahead c t) pawns.1) (beside_possible gs p m (other_of c) (ahead c t) parts.1)),
     )
 
 -- the target of a position of the set is possible
-pub target_possible : (gs : List GroupLine) (p : Board) → Member gs p → (t : ℕ) → p.ep ≡ Some t → (list_any (λ y. t == y) (targets gs) ≡ true) × (mover_at_target t ≡ p.turn)
+pub target_possible : (gs : List GroupLine) (p : Board) → Member gs p → (t : ℕ) → p.ep ≡ Some t →
+    (list_any (λ y. t == y) (targets gs) ≡ true) × (mover_at_target t ≡ p.turn)
 unfolding has_target_in_place
 target_possible gs p m t e =
     let stands : is_passed p (other_of p.turn) t ≡ true = ap (target_stands p) (sym e) ∙ m.valid.target in

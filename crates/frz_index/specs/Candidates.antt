@@ -7,14 +7,15 @@ use Rattle.frz_board.specs.Men.{cell_of_man}
 use Rattle.frz_board.specs.Boards.{Board}
 use Rattle.frz_combinations.specs.Selections.{selection_at}
 use Rattle.frz_combinations.specs.MixedRadix.{product, digits}
-use Rattle.frz_rules.specs.Views.{GroupLine}
-use Rattle.frz_rules.specs.Sets.{radix_of, targets}
+use Rattle.frz_sets.specs.Views.{GroupLine}
+use Rattle.frz_sets.specs.Sets.{radix_of, targets}
 use Rattle.frz_index.specs.TurnStates.{turn_in}
 
 -- the man of a state is put on its square
 abbrev pub put_man : Colour → Option (Kind × ℕ) → List ℕ → List ℕ
 put_man c None cells = cells
-put_man c (Some state) cells = slice_set cells state.1 (cell_of_man (record { colour = c; kind = state.0 }))
+put_man c (Some state) cells =
+    slice_set cells state.1 (cell_of_man (record { colour = c; kind = state.0 }))
 
 -- the men of these places
 abbrev pub put_men : Colour → List (Kind × ℕ) → List ℕ → List ℕ → List ℕ
@@ -23,7 +24,8 @@ put_men c states (k ∷ ks) cells = put_men c states ks (put_man c (slice_get st
 
 -- the men of a group's digit
 abbrev pub put_group : GroupLine → ℕ → List ℕ → List ℕ
-put_group g d cells = put_men g.colour g.states (selection_at (length g.states) g.least g.most d) cells
+put_group g d cells =
+    put_men g.colour g.states (selection_at (length g.states) g.least g.most d) cells
 
 -- the men of the digits of all groups
 abbrev pub put_groups : List GroupLine → List ℕ → List ℕ → List ℕ

@@ -1,15 +1,19 @@
 -- What a set keeps of its groups.
-use Rattle.std.specs.Prelude.{ℕ, suc, ◌≡◌, ◌<◌, ◌≤◌, ◌/◌, ◌%◌, Bool, false, ◌||◌, ◌==◌, List, drop, length, map, slice_index, slice_index_or}
+use Rattle.std.specs.Prelude.{ℕ, suc, ◌+◌, ◌≡◌, ◌<◌, ◌≤◌, ◌/◌, ◌%◌, Bool, false, ◌||◌, ◌==◌, List, drop, length, map, slice_index, slice_index_or}
 use Rattle.frz_combinations.specs.MixedRadix.{product}
-use Rattle.frz_rules.specs.Views.{GroupLine}
-use Rattle.frz_rules.specs.Sound.{AreCounted}
-use Rattle.frz_rules.specs.Sets.{is_covered, radix_of, size_of, targets}
+use Rattle.frz_sets.specs.Views.{GroupLine}
+use Rattle.frz_sets.specs.Sound.{AreCounted}
+use Rattle.frz_sets.specs.declared.limits.TheConstants.{MOST_GROUPS, MOST_NUMBERS, MOST_STATES}
+use Rattle.frz_index.specs.declared.plan.Plan.{Plan}
+use Rattle.frz_index.specs.declared.plan.TheConstants.{CELLS}
+use Rattle.frz_index.specs.Charts.{AreCharts}
+use Rattle.frz_sets.specs.Sets.{has_state, radix_of, size_of, targets}
 
 -- what numbers need of the groups
 pub record AreNumberable (gs : List GroupLine) : Type 0 where
   pub groups : AreCounted gs
-  pub few : length gs ≤ 32
-  pub size : size_of gs ≤ 134217728
+  pub few : length gs ≤ MOST_GROUPS
+  pub size : size_of gs ≤ MOST_NUMBERS
 
 -- how many numbers the groups from the one at i on have
 abbrev pub product_from : List GroupLine → ℕ → ℕ
@@ -22,18 +26,19 @@ pub record AreWeights (gs : List GroupLine) (ws : List ℕ) : Type 0 where
 
 -- no man, or a man that has a state
 abbrev pub is_known : List GroupLine → ℕ → ℕ → Bool
-is_known gs cell s = cell == 0 || is_covered gs cell s
+is_known gs cell s = cell == 0 || has_state gs cell s
 
 -- of each cell on each square, whether it is known
 pub record AreKnown (gs : List GroupLine) (known_cells : List Bool) : Type 0 where
-  pub size : length known_cells ≡ 832
-  pub known : (i : ℕ) → i < 832 → slice_index_or known_cells i false ≡ is_known gs (i / 64) (i % 64)
+  pub size : length known_cells ≡ CELLS
+  pub known : (i : ℕ) → i < CELLS → slice_index_or known_cells i false ≡ is_known gs (i / 64) (i % 64)
 
--- the fields of a set: its groups, their weights and the numbers of them all, the targets, the known cells, and how many rows of binomials
-pub record IsSet (gs : List GroupLine) (ws : List ℕ) (whole : ℕ) (ts : List ℕ) (known_cells : List Bool) (rows : ℕ) : Type 0 where
-  pub numberable : AreNumberable gs
-  pub weights : AreWeights gs ws
-  pub whole_is : whole ≡ product_from gs 0
-  pub targets_are : ts ≡ targets gs
-  pub known_are : AreKnown gs known_cells
-  pub rows_are : rows ≡ 385
+-- what is kept is right: the weights, the numbers of all groups, the targets, the known cells, the charts, and the rows of binomials up to 384
+pub record IsPlan (plan : Plan) : Type 0 where
+  pub numberable : AreNumberable plan.groups.items
+  pub weights_are : AreWeights plan.groups.items plan.weights.items
+  pub whole_is : plan.whole ≡ product_from plan.groups.items 0
+  pub targets_are : plan.targets.items ≡ targets plan.groups.items
+  pub known_are : AreKnown plan.groups.items plan.known_cells.items
+  pub charts_are : AreCharts plan.groups.items plan.charts.items
+  pub rows_are : plan.triangle ≡ MOST_STATES + 1

@@ -4,15 +4,16 @@ use Rattle.std.specs.List.{AllByRecursion}
 use Rattle.frz_board.specs.Boards.{Board}
 use Rattle.frz_fide.specs.Valid.{IsValid}
 use Rattle.frz_combinations.specs.MixedRadix.{value}
-use Rattle.frz_rules.specs.Views.{GroupLine}
-use Rattle.frz_rules.specs.Sets.{is_covered, radices}
+use Rattle.frz_sets.specs.Views.{GroupLine}
+use Rattle.frz_sets.specs.Sets.{has_state, radices}
 use Rattle.frz_index.specs.Places.{IsWithinCount, digit_of}
 use Rattle.frz_index.specs.TurnStates.{turn_number}
 
 -- a position of the set: it is valid, each man has a state of a group of its colour, and each group has neither too few men nor too many
 pub record Member (gs : List GroupLine) (p : Board) : Type 0 where
   pub valid : IsValid p
-  pub men : (s : ℕ) → s < 64 → slice_index p.cells s ≢ 0 → is_covered gs (slice_index p.cells s) s ≡ true
+  pub men : (s : ℕ) → s < 64 → slice_index p.cells s ≢ 0 →
+      has_state gs (slice_index p.cells s) s ≡ true
   pub counts : AllByRecursion (IsWithinCount p) gs
 
 -- a position's number: the turn state, then each group's digit, in mixed radix

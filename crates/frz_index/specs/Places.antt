@@ -6,7 +6,7 @@ use Rattle.frz_board.specs.declared.man.Kind.{Kind}
 use Rattle.frz_board.specs.Boards.{Board, has}
 use Rattle.frz_combinations.specs.Combinations.{places_below}
 use Rattle.frz_combinations.specs.Selections.{digit}
-use Rattle.frz_rules.specs.Views.{GroupLine}
+use Rattle.frz_sets.specs.Views.{GroupLine}
 
 -- a man of this colour stands as the state says
 abbrev pub stands : Board → Colour → Option (Kind × ℕ) → Bool

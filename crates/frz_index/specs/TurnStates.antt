@@ -4,8 +4,8 @@ use Rattle.std.specs.List.{slice_get}
 use Rattle.frz_board.specs.declared.man.Colour.{Colour}
 use Rattle.frz_board.specs.declared.man.Colour.TheVariants.{White, Black}
 use Rattle.frz_board.specs.Squares.{rank_of}
-use Rattle.frz_rules.specs.Views.{GroupLine}
-use Rattle.frz_rules.specs.Sets.{targets}
+use Rattle.frz_sets.specs.Views.{GroupLine}
+use Rattle.frz_sets.specs.Sets.{targets}
 
 -- the place of the first x among these
 abbrev pub place_of : ℕ → List ℕ → ℕ

@@ -1,19 +1,33 @@
 //! What holds of the numbers of a set, whatever the code.
-ghost use Rattle.std.specs.Prelude.{◌≡◌, ◌<◌, List, map};
+ghost use Rattle.std.specs.Prelude.{◌≡◌, ◌<◌, ◌↔◌, ℕ, List, Some, map, true};
 ghost use Rattle.frz_board.specs.Boards.{Board};
 ghost use Rattle.frz_combinations.specs.MixedRadix.{value_onto};
-ghost use Rattle.frz_rules.specs.Views.{GroupLine};
-ghost use Rattle.frz_rules.specs.Sets.{radix_of, size_of};
+ghost use Rattle.frz_sets.specs.Views.{GroupLine};
+ghost use Rattle.frz_sets.specs.Sets.{radix_of, size_of};
 ghost use Rattle.frz_index.specs.Places.{digit_of};
 ghost use Rattle.frz_index.specs.TurnStates.{turn_number};
-ghost use Rattle.frz_index.specs.Members.{Member, Num};
+ghost use Rattle.frz_index.specs.Members.{HasNumber, Member, Num};
+ghost use Rattle.frz_index.specs.Membership.{is_member, number_of, position_at};
 ghost use Rattle.frz_index.specs.Candidates.{candidate};
 
 /// The number of a position of a set is below the size, and no other position has it. It starts with
 /// the turn state, is multiplied by each group's radix in order, and the group's digit is added.
 pub fn numbers()
     ensures below { (gs : List GroupLine) (p : Board) → Member gs p → Num gs p < size_of gs }
-    ensures found_again { (gs : List GroupLine) (p : Board) → Member gs p → candidate gs (Num gs p) ≡ p }
-    ensures once { (gs : List GroupLine) (p q : Board) → Member gs p → Member gs q → Num gs p ≡ Num gs q → p ≡ q }
-    ensures formula { (gs : List GroupLine) (p : Board) → Member gs p → Num gs p ≡ value_onto (turn_number gs p.turn p.ep) (map radix_of gs) (map (digit_of p) gs) }
+    ensures found_again { (gs : List GroupLine) (p : Board) → Member gs p →
+        candidate gs (Num gs p) ≡ p }
+    ensures once { (gs : List GroupLine) (p q : Board) → Member gs p → Member gs q →
+        Num gs p ≡ Num gs q → p ≡ q }
+    ensures formula { (gs : List GroupLine) (p : Board) → Member gs p →
+        Num gs p ≡ value_onto (turn_number gs p.turn p.ep) (map radix_of gs) (map (digit_of p) gs) }
+{}
+
+/// The test of membership is membership, and the functions between positions and numbers are what
+/// the relations say.
+pub fn membership()
+    ensures member { (gs : List GroupLine) (p : Board) → (is_member gs p ≡ true) ↔ Member gs p }
+    ensures number { (gs : List GroupLine) (p : Board) (i : ℕ) →
+        (number_of gs p ≡ Some i) ↔ HasNumber gs i p }
+    ensures position { (gs : List GroupLine) (i : ℕ) (p : Board) →
+        (position_at gs i ≡ Some p) ↔ HasNumber gs i p }
 {}

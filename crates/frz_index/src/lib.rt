@@ -2,15 +2,15 @@
 //! have the same.
 #![tactic(auto)]
 
+mod chart;
 mod digit;
+mod digits;
+mod known;
 pub mod laws;
 mod placing;
 mod plan;
+mod room;
 mod set;
-mod sums;
 mod turn;
 
 pub use set::Set;
-
-#[cfg(test)]
-mod tests;

@@ -3,12 +3,14 @@ ghost use Rattle.std.specs.Prelude.{◌≡◌, ◌<◌, ◌≤◌, ◌-◌, ℕ,
 ghost use Rattle.frz_combinations.specs.Binomials.{choose};
 ghost use Rattle.frz_combinations.specs.Combinations.{unrank};
 ghost use Rattle.frz_combinations.specs.Selections.{count_and_rank};
+ghost use Rattle.frz_sets.specs.declared.limits.TheConstants.{MOST_STATES};
 ghost use Rattle.frz_index.specs.Candidates.{put_group, put_men};
-ghost use Rattle.frz_rules.specs.Sound.{IsCounted};
+ghost use Rattle.frz_sets.specs.Sound.{IsCounted};
 
+use frz_bits::Bitboards;
 use frz_board::{Colour, Kind, Man, Square, cell_of};
 use frz_combinations::Triangle;
-use frz_rules::Group;
+use frz_sets::Group;
 
 /// How many men a digit stands for, and the rank of their places.
 fn men_of(triangle: &Triangle, states: u32, least: u32, most: u32, digit: u32) -> (u32, u64)
@@ -61,7 +63,7 @@ fn last_place(triangle: &Triangle, end: u32, count: u32, rank: u64) -> u32
 
 /// Puts so many men on the board, at the places of this rank.
 fn put_ranked(
-    cells: &mut [u8; 64],
+    p: &mut Bitboards,
     triangle: &Triangle,
     colour: Colour,
     states: &[(Kind, Square)],
@@ -70,9 +72,10 @@ fn put_ranked(
 )
     requires few { count ≤ 16 }
     requires small { rank < 4294967296 }
-    requires short { length states.now ≤ 384 }
+    requires short { length states.now ≤ MOST_STATES }
     requires rows { length states.now < triangle.now }
-    ensures { cells.new ≡ put_men colour states.now (unrank (length states.now) count rank) cells.old }
+    ensures { p.new ≡
+        record p.old { cells = put_men colour states.now (unrank (length states.now) count rank) p.old.cells } }
 {
     let mut end = states.len() as u32;
     let mut left = count;
@@ -82,15 +85,15 @@ fn put_ranked(
         rest -= triangle.binomial(end, left);
         left -= 1;
         let (kind, square) = states[end as usize];
-        cells[square.number() as usize] = cell_of(Man { colour, kind });
+        p.set(square, cell_of(Man { colour, kind }));
     }
 }
 
 /// Puts the men of a group's digit on the board.
-pub(crate) fn put(cells: &mut [u8; 64], triangle: &Triangle, group: &Group, digit: u32)
+pub(crate) fn put(p: &mut Bitboards, triangle: &Triangle, group: &Group, digit: u32)
     requires numberable { IsCounted group.now }
     requires rows { length group.now.states < triangle.now }
-    ensures { cells.new ≡ put_group group.now digit cells.old }
+    ensures { p.new ≡ record p.old { cells = put_group group.now digit p.old.cells } }
 {
     let states = group.states.len() as u32;
     let (count, rank) = men_of(
@@ -100,5 +103,5 @@ pub(crate) fn put(cells: &mut [u8; 64], triangle: &Triangle, group: &Group, digi
         group.most as u32,
         digit,
     );
-    put_ranked(cells, triangle, group.colour, &group.states, count, rank);
+    put_ranked(p, triangle, group.colour, &group.states, count, rank);
 }

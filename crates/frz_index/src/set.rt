@@ -1,21 +1,26 @@
 //! The set of positions that the groups of some rules describe.
 ghost use Rattle.std.specs.Prelude.{◌≡◌, ◌↔◌, ◌≤◌, IfOk, IfSome, IsNone, IsSome, IsTrue, MatchOption, None, Some};
-ghost use Rattle.frz_board.specs.Boards.{Board, CellsFit};
+ghost use Rattle.frz_board.specs.Boards.{Board};
 ghost use Rattle.frz_fide.specs.Valid.{IsValid};
-ghost use Rattle.frz_rules.specs.Sets.{size_of};
-ghost use Rattle.frz_rules.specs.Sound.{IsSound};
+ghost use Rattle.frz_sets.specs.Sets.{size_of, targets};
+ghost use Rattle.frz_sets.specs.Sound.{IsSound};
+ghost use Rattle.frz_sets.specs.declared.limits.TheConstants.{MOST_NUMBERS};
 ghost use Rattle.frz_index.specs.Members.{Broken, HasNumber, Member, Num};
+ghost use Rattle.frz_index.specs.Membership.{number_of, position_at};
 ghost use Rattle.frz_index.specs.Candidates.{candidate, no_men};
-ghost use Rattle.frz_index.specs.Kept.{IsSet};
+ghost use Rattle.frz_index.specs.Kept.{IsPlan, is_known};
+ghost use Rattle.frz_index.specs.Room.{has_room};
 
-use crate::plan::{copies_of, known_cells_of, product_from, targets_of, weights_of};
-use crate::sums::{all_known, number_of_digits, put_all};
+use crate::digits::{number_of_digits, put_all};
+use crate::known::all_known;
+use crate::plan::{Plan, plan_of};
+use crate::room::any_takes_one_more;
 use crate::turn::{turn_at, turn_number};
-use frz_board::{NoMemory, Position};
-use frz_combinations::Triangle;
-use frz_fide::valid;
-use frz_rules::{Group, Rules};
-use std::alloc::{AllocError, Global};
+use frz_bits::Bitboards;
+use frz_board::{Colour, Man, NoMemory, Position, Square, cell_of};
+use frz_fide::valid_boards;
+use frz_sets::Rules;
+use std::alloc::Global;
 use std::marker::Model;
 
 /// The positions that the groups of some rules describe, seen as the list of these groups.
@@ -24,93 +29,58 @@ use std::marker::Model;
 /// position has is called broken: two men would stand on one square, or the position is not valid.
 #[derive(Drop)]
 pub struct Set {
-    groups: Vec<Group>,
-    weights: Vec<u32>,
-    whole: u32,
-    targets: Vec<u8>,
-    known_cells: Vec<bool>,
-    triangle: Triangle,
+    plan: Plan,
 }
 
 impl Model for Set {
     ghost use Rattle.std.specs.Prelude.{List};
-    ghost use Rattle.frz_rules.specs.Views.{GroupLine};
-    ghost use Rattle.frz_index.specs.Kept.{IsSet};
+    ghost use Rattle.frz_sets.specs.Views.{GroupLine};
+    ghost use Rattle.frz_index.specs.Kept.{IsPlan};
 
     ghost Value = { List GroupLine };
 
-    ghost view = { λ s. s.groups.items };
+    ghost view = { λ s. s.plan.groups.items };
 
-    ghost invariant = { λ s. IsSet s.groups.items s.weights.items s.whole s.targets.items s.known_cells.items s.triangle };
+    ghost invariant = { λ s. IsPlan s.plan };
 }
 
-/// The number of a position, if it is in the set of these fields.
-fn number_in(
-    p: &Position,
-    groups: &[Group],
-    weights: &[u32],
-    whole: u32,
-    targets: &[u8],
-    known_cells: &[bool],
-    triangle: &Triangle,
-) -> Option<u32>
+/// The number of a position, if it is in the set.
+fn number_in(plan: &Plan, p: &Bitboards) -> Option<u32>
     requires valid { IsValid p.now }
-    requires set { IsSet groups.now weights.now whole targets.now known_cells.now triangle.now }
-    ensures { MatchOption result (Member groups.now p.now → ⊥) (λ n. Member groups.now p.now × (n ≡ Num groups.now p.now)) }
+    requires plan { IsPlan plan.now }
+    ensures { let gs = plan.now.groups.items in
+        MatchOption result (Member gs p.now → ⊥) (λ n. Member gs p.now × (n ≡ Num gs p.now)) }
 {
-    if !all_known(known_cells, p) {
+    if !all_known(&plan.known_cells, p) {
         return None;
     }
-    let digits = number_of_digits(triangle, p, groups, weights)?;
-    let turn = turn_number(targets, p.turn(), p.ep());
-    Some(turn * whole + digits)
+    let digits = number_of_digits(&plan.triangle, p, &plan.groups, &plan.charts, &plan.weights)?;
+    let turn = turn_number(&plan.targets, p.turn(), p.ep());
+    Some(turn * plan.whole + digits)
 }
 
 #[tactic(auto, unfolding(crate::specs::Candidates::no_men))]
-fn empty_board() -> [u8; 64]
-    ensures { result ≡ no_men }
+fn empty_board(turn: Colour, ep: Option<Square>) -> Bitboards
+    ensures { result ≡ record { cells = no_men; turn = turn; ep = ep } }
 {
-    [0; 64]
+    Bitboards::empty(turn, ep)
 }
 
-/// The only position that may have this number, unless it has a cell of no man.
-fn candidate_in(
-    i: u32,
-    groups: &[Group],
-    weights: &[u32],
-    whole: u32,
-    targets: &[u8],
-    known_cells: &[bool],
-    triangle: &Triangle,
-) -> Option<Position>
-    requires { IsSet groups.now weights.now whole targets.now known_cells.now triangle.now }
-    ensures { MatchOption result (CellsFit (candidate groups.now i).cells → ⊥) (λ p. p ≡ candidate groups.now i) }
+/// The only position that may have this number.
+fn candidate_in(plan: &Plan, i: u32) -> Bitboards
+    requires { IsPlan plan.now }
+    ensures { result ≡ candidate plan.now.groups.items i }
 {
-    let _ = known_cells;
-    let mut cells = empty_board();
-    put_all(&mut cells, triangle, groups, weights, i % whole);
-    let (turn, ep) = turn_at(targets, i / whole);
-    Position::new(cells, turn, ep)
-}
-
-fn set_of(alloc: Global, r: &Rules) -> Result<Set, AllocError>
-    requires { IsSound r.now }
-    ensures { IfOk result (λ s. s ≡ r.now.groups) }
-{
-    let groups = copies_of(alloc, &r.groups)?;
-    let triangle = Triangle::new(alloc, 384)?;
-    let weights = weights_of(alloc, &triangle, &groups)?;
-    let whole = product_from(&triangle, &groups, 0);
-    let targets = targets_of(alloc, &groups)?;
-    let known_cells = known_cells_of(alloc, &groups)?;
-    Ok(Set {
-        groups,
-        weights,
-        whole,
-        targets,
-        known_cells,
-        triangle,
-    })
+    let (turn, ep) = turn_at(&plan.targets, i / plan.whole);
+    let mut p = empty_board(turn, ep);
+    put_all(
+        &mut p,
+        &plan.triangle,
+        &plan.groups,
+        &plan.weights,
+        i % plan.whole,
+    );
+    p
 }
 
 impl Set {
@@ -119,8 +89,8 @@ impl Set {
         requires { IsSound r.now }
         ensures { IfOk result (λ s. s ≡ r.now.groups) }
     {
-        match set_of(alloc, r) {
-            Ok(set) => Ok(set),
+        match plan_of(alloc, r) {
+            Ok(plan) => Ok(Set { plan }),
             Err(_) => Err(NoMemory),
         }
     }
@@ -129,9 +99,39 @@ impl Set {
     pub fn size(&self) -> u32
         ensures size { result ≡ size_of self.now }
         ensures some { 1 ≤ result }
-        ensures bounded { result ≤ 134217728 }
+        ensures bounded { result ≤ MOST_NUMBERS }
     {
-        (self.targets.len() as u32 + 2) * self.whole
+        (self.plan.targets.len() as u32 + 2) * self.plan.whole
+    }
+
+    /// Is the cell empty, or a man that may stand on the square in a position of the set?
+    pub fn knows(&self, cell: u8, s: Square) -> bool
+        requires { cell ≤ 12 }
+        ensures { result ≡ is_known self.now cell s }
+    {
+        self.plan.known_cells[cell as usize * 64 + s.number() as usize]
+    }
+
+    /// Has a group that has this man on the square as a state fewer than its most men on the board?
+    pub fn has_room(&self, p: &Bitboards, man: Man, s: Square) -> bool
+        ensures { result ≡ has_room self.now p.now man s }
+    {
+        self.knows(cell_of(man), s)
+            && any_takes_one_more(
+                &self.plan.triangle,
+                p,
+                &self.plan.groups,
+                &self.plan.charts,
+                man,
+                s,
+            )
+    }
+
+    /// The possible targets in order.
+    pub fn targets(&self) -> &[u8]
+        ensures { result.now ≡ targets self.now }
+    {
+        &self.plan.targets
     }
 
     /// The number of a position, and `None` exactly where the position is outside the set.
@@ -139,38 +139,48 @@ impl Set {
         requires { IsValid p.now }
         ensures member { IsSome result ↔ Member self.now p.now }
         ensures number { IfSome result (λ n. n ≡ Num self.now p.now) }
+        ensures function { result ≡ number_of self.now p.now }
     {
-        number_in(
-            p,
-            &self.groups,
-            &self.weights,
-            self.whole,
-            &self.targets,
-            &self.known_cells,
-            &self.triangle,
-        )
+        self.number_on(&Bitboards::of(p))
     }
 
-    fn candidate(&self, i: u32) -> Option<Position>
-        ensures { MatchOption result (CellsFit (candidate self.now i).cells → ⊥) (λ p. p ≡ candidate self.now i) }
+    /// The number of a position, and `None` exactly where the position is outside the set.
+    pub fn number_on(&self, p: &Bitboards) -> Option<u32>
+        requires { IsValid p.now }
+        ensures member { IsSome result ↔ Member self.now p.now }
+        ensures number { IfSome result (λ n. n ≡ Num self.now p.now) }
+        ensures function { result ≡ number_of self.now p.now }
     {
-        candidate_in(
-            i,
-            &self.groups,
-            &self.weights,
-            self.whole,
-            &self.targets,
-            &self.known_cells,
-            &self.triangle,
-        )
+        number_in(&self.plan, p)
     }
 
-    fn has_number(&self, p: &Position, i: u32) -> bool
+    fn candidate(&self, i: u32) -> Bitboards
+        ensures { result ≡ candidate self.now i }
+    {
+        candidate_in(&self.plan, i)
+    }
+
+    fn has_number(&self, p: &Bitboards, i: u32) -> bool
         ensures { IsTrue result ↔ HasNumber self.now i p.now }
     {
-        match valid(p) {
+        match valid_boards(p) {
             Err(_) => false,
-            Ok(()) => self.number(p) == Some(i),
+            Ok(()) => self.number_on(p) == Some(i),
+        }
+    }
+
+    /// The position of the set with this number, and `None` exactly where the number is broken.
+    pub fn boards_at(&self, i: u32) -> Option<Bitboards>
+        ensures exact { (p : Board) → (result ≡ Some p) ↔ HasNumber self.now i p }
+        ensures broken { IsNone result ↔ Broken self.now i }
+        ensures function { result ≡ position_at self.now i }
+        ensures valid { IfSome result IsValid }
+    {
+        let p = self.candidate(i);
+        if self.has_number(&p, i) {
+            Some(p)
+        } else {
+            None
         }
     }
 
@@ -178,16 +188,12 @@ impl Set {
     pub fn at(&self, i: u32) -> Option<Position>
         ensures exact { (p : Board) → (result ≡ Some p) ↔ HasNumber self.now i p }
         ensures broken { IsNone result ↔ Broken self.now i }
+        ensures function { result ≡ position_at self.now i }
+        ensures valid { IfSome result IsValid }
     {
-        match self.candidate(i) {
+        match self.boards_at(i) {
             None => None,
-            Some(p) => {
-                if self.has_number(&p, i) {
-                    Some(p)
-                } else {
-                    None
-                }
-            }
+            Some(boards) => Some(boards.position()),
         }
     }
 }

@@ -1,12 +1,6 @@
-use Rattle.std.proofs.Common.{◌≡◌, ◌≤◌, length}
-use Rattle.frz_combinations.specs.Binomials.{capped}
-use Rattle.frz_combinations.specs.Combinations.{rank}
-use Rattle.frz_index.specs.Places.{places_among}
+use Rattle.std.proofs.Common.{◌*◌, slice_index}
+use Rattle.frz_index.specs.Charts.{IsCounted}
 use Rattle.frz_index.proofs.digit.count_and_rank.Given as goal
 
-abbrev pub invariant-loop-k : goal.invariant-loop-k
-invariant-loop-k l = record {
-  count : l.count ≡ length (places_among l.p l.colour l.states l.k);
-  few : l.count ≤ l.most;
-  sum : l.sum ≡ capped (rank (places_among l.p l.colour l.states l.k));
-}
+abbrev pub invariant-loop-i : goal.invariant-loop-i
+invariant-loop-i l = IsCounted l.p l.group (slice_index l.chart.cuts (64 * l.i)) l.counted

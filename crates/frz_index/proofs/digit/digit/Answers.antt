@@ -1,13 +1,17 @@
-use Rattle.std.proofs.Common.{arith, ◌∙◌, ◌+◌, ◌-◌, ap, length, sym}
+use Rattle.std.proofs.Common.{arith, ◌∙◌, ◌+◌, ◌-◌, ap, length, sym, subst, refl}
 use Rattle.frz_combinations.specs.Binomials.{capped}
 use Rattle.frz_combinations.specs.Selections.{choices}
+use Rattle.frz_sets.specs.Views.{GroupLine}
+use Rattle.frz_index.specs.Charts.{IsCounted}
 use Rattle.frz_index.proofs.GroupDigits.{IsDigit, digit_read}
 use Rattle.frz_index.proofs.digit.digit.Goals as goal
 
-all : (c : goal.After-smaller-first) → IsDigit c.args.p.now c.args.group.now (c.smaller-first.result + c.in_ok-count.rank)
+all : (c : goal.After-smaller-first) →
+    IsDigit c.args.p.now c.args.group.now (c.smaller-first.result + c.in_ok-count.rank)
 all c =
-    let states = c.len-states.ensures ∙ sym c.deref.ensures.len ∙ ap length c.deref.ensures.value in
-    digit_read c.args.p.now _ c.args.group.now c.deref.result.now c.in_ok-count.count c.smaller-first.result c.in_ok-count.rank c.group.view_is c.deref.ensures.value c.requires.size c.in_ok-count.ensures c.if-count-group.false
+    let states = ap length c.as_slice.ensures.value in
+    let counted = subst (λ (g : GroupLine). IsCounted c.args.p.now g (length g.states) (c.in_ok-count.count, c.in_ok-count.rank)) (sym c.group.view_is) c.in_ok-count.ensures in
+    digit_read c.args.p.now _ c.args.group.now _ c.in_ok-count.count c.smaller-first.result c.in_ok-count.rank c.group.view_is refl c.requires.size counted c.if-count-group.false
     (c.smaller-first.ensures ∙ ap (λ s. capped (choices s c.group.inside.least (c.in_ok-count.count - c.group.inside.least))) states)
 
 pub overflow_add-result : goal.overflow_add-result

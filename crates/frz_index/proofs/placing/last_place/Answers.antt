@@ -4,10 +4,12 @@ use Rattle.frz_index.proofs.LastPlaces.{above_later, first_fits, one_fits, one_g
 use Rattle.frz_index.proofs.placing.last_place.Goals as goal
 
 pub returns-then-count-eq1-clause-fits : goal.returns-then-count-eq1-clause-fits
-returns-then-count-eq1-clause-fits c = one_fits c.args.end c.args.count c.args.rank c.min.result c.if-count-eq1.true c.min.ensures
+returns-then-count-eq1-clause-fits c =
+    one_fits c.args.end c.args.count c.args.rank c.min.result c.if-count-eq1.true c.min.ensures
 
 pub returns-then-count-eq1-clause-greatest : goal.returns-then-count-eq1-clause-greatest
-returns-then-count-eq1-clause-greatest c = one_greatest c.args.end c.args.count c.args.rank c.min.result c.if-count-eq1.true c.min.ensures
+returns-then-count-eq1-clause-greatest c =
+    one_greatest c.args.end c.args.count c.args.rank c.min.result c.if-count-eq1.true c.min.ensures
 
 pub loop-high-init : goal.loop-high-init
 loop-high-init c = record {

@@ -6,7 +6,8 @@ abbrev pub invariant-loop-count : goal.invariant-loop-count
 invariant-loop-count l = record {
   most : l.count ≤ l.most;
   small : l.rest ≤ l.digit;
-  rest : count_and_rank l.states l.count (l.most - l.count) l.rest ≡ count_and_rank l.states l.least (l.most - l.least) l.digit;
+  rest : count_and_rank l.states l.count (l.most - l.count) l.rest
+      ≡ count_and_rank l.states l.least (l.most - l.least) l.digit;
 }
 
 abbrev pub decreases-loop-count : goal.decreases-loop-count

@@ -1,17 +1,21 @@
-use Rattle.frz_index.proofs.AtNumbers.{at_found, at_misfit, at_other, none_broken}
+use Rattle.std.proofs.Common.{◌≡◌, Some, sym, subst}
+use Rattle.std.specs.Prelude.{◌↔◌, IfSome, IsNone}
+use Rattle.frz_board.specs.Boards.{Board}
+use Rattle.frz_fide.specs.Valid.{IsValid}
+use Rattle.frz_index.specs.Members.{Broken, HasNumber}
+use Rattle.frz_index.specs.Membership.{position_at}
 use Rattle.frz_index.proofs.set.Set.at.Goals as goal
 
 pub returns-in-None : goal.returns-in-None
-returns-in-None c =
-    let e = at_misfit c.args.self.now c.args.i c.in-None.ensures in
-    record { exact = e; broken = none_broken c.args.self.now c.args.i _ e }
+returns-in-None c = c.in-None.ensures
 
-pub returns-then-has_number : goal.returns-then-has_number
-returns-then-has_number c =
-    let e = at_found c.args.self.now c.args.i c.in-Some.p c.in-Some.ensures (c.has_number.ensures.0 c.if-has_number.true) in
-    record { exact = e; broken = none_broken c.args.self.now c.args.i _ e }
-
-pub returns-else-has_number : goal.returns-else-has_number
-returns-else-has_number c =
-    let e = at_other c.args.self.now c.args.i c.in-Some.p c.in-Some.ensures (λ h. let t = c.has_number.ensures.1 h in let f = c.if-has_number.false in absurd cc) in
-    record { exact = e; broken = none_broken c.args.self.now c.args.i _ e }
+pub returns-in-Some : goal.returns-in-Some
+returns-in-Some c = record {
+  exact =
+      λ p. subst (λ (q : Board). (Some q ≡ Some p) ↔ HasNumber c.args.self.now c.args.i p) (sym c.position.ensures) (c.in-Some.ensures.exact p);
+  broken =
+      subst (λ (q : Board). IsNone (Some q) ↔ Broken c.args.self.now c.args.i) (sym c.position.ensures) c.in-Some.ensures.broken;
+  function =
+      subst (λ (q : Board). Some q ≡ position_at c.args.self.now c.args.i) (sym c.position.ensures) c.in-Some.ensures.function;
+  valid = subst IsValid (sym c.position.ensures) c.in-Some.ensures.valid;
+}

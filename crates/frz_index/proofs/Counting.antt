@@ -1,0 +1,225 @@
+-- The men of one kind, counted over the squares of a word.
+use Rattle.std.proofs.Common.{◌≡◌, ℕ, zero, suc, ◌+◌, ◌-◌, ◌*◌, ◌<◌, ◌≤◌, Bool, true, false, cond, ◌&&◌, min, List, ◌∷◌, length, slice_index, Some, refl, ap, sym, ◌∙◌, subst, arith, inl, inr, add-one}
+use Rattle.std.specs.List.{slice_get}
+use Rattle.std.proofs.lemmas.Option.{slice_get_within}
+use Rattle.std.proofs.lemmas.Bool.{cases_lt, eqb-true}
+use Rattle.frz_board.specs.declared.man.Colour.{Colour}
+use Rattle.frz_board.specs.declared.man.Colour.TheVariants.{White, Black}
+use Rattle.frz_board.specs.declared.man.Kind.{Kind}
+use Rattle.frz_board.specs.Boards.{Board, has, holds}
+use Rattle.frz_board.specs.Men.{cell_of_man, is_man_of, kind_of_number, man_of_cell, number_of_kind, same_colour}
+use Rattle.frz_board.proofs.Lemmas.{cell_forth}
+use Rattle.frz_bits.specs.Words.{HasNoneFrom, IsNext}
+use Rattle.frz_squares.specs.SquareSets.{has_square, set_of}
+use Rattle.frz_squares.proofs.Lemmas.{has-set_of}
+use Rattle.frz_combinations.proofs.Lemmas.{place_counts}
+use Rattle.frz_combinations.specs.Binomials.{capped, choose}
+use Rattle.frz_combinations.specs.Combinations.{places_below, rank}
+use Rattle.frz_sets.specs.Groups.{state_number}
+use Rattle.frz_sets.specs.Views.{GroupLine}
+use Rattle.frz_index.specs.declared.chart.Chart.{Chart}
+use Rattle.frz_index.specs.Charts.{IsChart, IsCounted, IsCut}
+use Rattle.frz_index.specs.Places.{places, places_among, stands}
+use Rattle.frz_index.proofs.Charting.{cut_at, cut_here, cut_once, cut_order, kind_numbers, some_at, state_low}
+
+-- places at which nothing holds change nothing
+pub skip : (f : ℕ → Bool) (a b : ℕ) → a ≤ b → ((j : ℕ) → a ≤ j → j < b → f j ≡ false) →
+    places_below f b ≡ places_below f a
+skip f a zero h none = let e : zero ≡ a = omega arith in ap (places_below f) e
+skip f a (suc b) h none =
+    elim (cases_lt b a) [
+      | inl less ↦ let e : suc b ≡ a = omega arith in ap (places_below f) e
+      | inr more ↦
+          ap (λ x. cond x (b ∷ places_below f b) (places_below f b)) (none b more (omega arith))
+          ∙ skip f a b more (λ j l m. none j l (omega arith))
+    ]
+
+pub place_on : (f : ℕ → Bool) (k : ℕ) → f k ≡ true → places_below f (k + 1) ≡ k ∷ places_below f k
+place_on f k e =
+    ap (places_below f) (add-one k) ∙ ap (λ x. cond x (k ∷ places_below f k) (places_below f k)) e
+
+pub place_off : (f : ℕ → Bool) (k : ℕ) → f k ≡ false → places_below f (k + 1) ≡ places_below f k
+place_off f k e =
+    ap (places_below f) (add-one k) ∙ ap (λ x. cond x (k ∷ places_below f k) (places_below f k)) e
+
+own : (c : Colour) → same_colour c c ≡ true
+own White = refl
+own Black = refl
+
+has_holds : (p : Board) (c : Colour) (k : Kind) (s : ℕ) → has p c k s ≡ true → holds p c s ≡ true
+has_holds p c k s h =
+    ap (λ x. is_man_of c (man_of_cell x)) (eqb-true (slice_index p.cells s) (cell_of_man (record { colour = c; kind = k })) h)
+    ∙ ap (is_man_of c) (cell_forth c k) ∙ own c
+
+off : (p : Board) (c : Colour) (k : Kind) (s : ℕ) → holds p c s ≡ false → has p c k s ≡ false
+off p c k s h =
+    let by : (b : Bool) → has p c k s ≡ b → has p c k s ≡ false =
+    λ b. elim b as (λ b. has p c k s ≡ b → has p c k s ≡ false) [
+      | true ↦ λ e. let wrong : true ≡ false = sym (has_holds p c k s e) ∙ h in cc
+      | false ↦ λ e. e
+    ] in
+    by (has p c k s) refl
+
+and_off : (a b : Bool) → (a && b) ≡ false → b ≡ true → a ≡ false
+and_off false b h e = refl
+and_off true b h e = let wrong : true ≡ false = sym e ∙ h in cc
+
+pub number_back : (i : ℕ) → i < 6 → number_of_kind (kind_of_number (i + 1)) ≡ i + 1
+number_back zero h = refl
+number_back (suc zero) h = refl
+number_back (suc (suc zero)) h = refl
+number_back (suc (suc (suc zero))) h = refl
+number_back (suc (suc (suc (suc zero)))) h = refl
+number_back (suc (suc (suc (suc (suc zero))))) h = refl
+number_back (suc (suc (suc (suc (suc (suc i)))))) h = absurd (omega arith)
+
+-- the men of the colour on the squares of the kind's states
+pub record AreMen (p : Board) (g : GroupLine) (chart : Chart) (i men : ℕ) : Type 0 where
+  pub charted : IsChart g.states chart
+  pub kind : i < 6
+  pub there : (s : ℕ) → s < 64 →
+      has_square men s ≡ (holds p g.colour s && has_square (slice_index chart.words i) s)
+
+abbrev pub before : Board → GroupLine → Chart → ℕ → ℕ → List ℕ
+before p g chart i n = places_among p g.colour g.states (slice_index chart.cuts (64 * i + n))
+
+abbrev pub on : Board → GroupLine → ℕ → Bool
+on p g k = stands p g.colour (slice_get g.states k)
+
+cut : (p : Board) (g : GroupLine) (chart : Chart) (i men n : ℕ) → AreMen p g chart i men → n ≤ 64 →
+    IsCut g.states (64 * i + n) (slice_index chart.cuts (64 * i + n))
+cut p g chart i men n h l = h.charted.cuts_are.cut (64 * i + n) (let k = h.kind in omega arith)
+
+parts : (i n s m a : ℕ) → 64 * i + n ≤ 64 * (m - 1) + a → 64 * (m - 1) + a < 64 * i + s → s ≤ 64 →
+    a < 64 → 1 ≤ m → (m - 1 ≡ i) × (n ≤ a) × (a < s)
+parts i n s m a h l t low some = (omega arith, omega arith, omega arith)
+
+-- no man stands on the squares from n to s
+pub past : (p : Board) (g : GroupLine) (chart : Chart) (i men n s : ℕ) → AreMen p g chart i men →
+    n ≤ s → s ≤ 64 → ((q : ℕ) → n ≤ q → q < s → has_square men q ≡ false) →
+    before p g chart i s ≡ before p g chart i n
+past p g chart i men n s h l low none =
+    let from = cut p g chart i men n h (omega arith) in
+    let to = cut p g chart i men s h low in
+    skip (on p g) (slice_index chart.cuts (64 * i + n)) (slice_index chart.cuts (64 * i + s)) (cut_order g.states (64 * i + n) (64 * i + s) _ _ (omega arith) from to)
+    (λ j a b.
+    let found = some_at g.states j (omega (arith, to.within)) in
+    let st = found.0 in
+    let square = (state_low 0 g.states j st h.charted.in_order.increasing found.1).1 in
+    let here = parts i n s (number_of_kind st.0) st.1 (from.from j st a found.1) (to.before j st b found.1) low square (kind_numbers st.0).0 in
+    let word : has_square (slice_index chart.words i) st.1 ≡ true = ap (λ x. has_square (slice_index chart.words x) st.1) (sym here.0) ∙ h.charted.words_are.all j st found.1 in
+    let empty : holds p g.colour st.1 ≡ false = and_off (holds p g.colour st.1) (has_square (slice_index chart.words i) st.1) (sym (h.there st.1 square) ∙ none st.1 here.1 here.2) word in
+    ap (stands p g.colour) found.1 ∙ off p g.colour st.0 st.1 empty)
+
+-- the state of a square of the word
+pub record Met (p : Board) (g : GroupLine) (chart : Chart) (i s : ℕ) : Type 0 where
+  pub state : slice_get g.states (slice_index chart.cuts (64 * i + s))
+      ≡ Some (kind_of_number (i + 1), s)
+  pub next : slice_index chart.cuts (64 * i + (s + 1)) ≡ slice_index chart.cuts (64 * i + s) + 1
+
+and_second : (a b : Bool) → (a && b) ≡ true → b ≡ true
+and_second true b h = h
+and_second false b h = cc
+
+pub met : (p : Board) (g : GroupLine) (chart : Chart) (i men s : ℕ) → AreMen p g chart i men →
+    s < 64 → has_square men s ≡ true → Met p g chart i s
+met p g chart i men s h l t =
+    let word = and_second (holds p g.colour s) (has_square (slice_index chart.words i) s) (sym (h.there s l) ∙ t) in
+    let found = h.charted.words_are.only i s h.kind l word in
+    let st : Kind × ℕ = (kind_of_number (i + 1), s) in
+    let number : state_number st ≡ 64 * i + s = let k = number_back i h.kind in omega arith in
+    let here = cut p g chart i men s h (omega arith) in
+    let at = cut_at g.states (64 * i + s) (slice_index chart.cuts (64 * i + s)) found.0 st h.charted.in_order here found.1 number in
+    let state : slice_get g.states (slice_index chart.cuts (64 * i + s)) ≡ Some st = ap (slice_get g.states) (sym at) ∙ found.1 in
+    let sum : 64 * i + s + 1 ≡ 64 * i + (s + 1) = omega arith in
+    record {
+      state = state;
+      next = cut_once g.states (64 * i + (s + 1)) _ _ (cut p g chart i men (s + 1) h (omega arith)) (subst (λ x. IsCut g.states x (slice_index chart.cuts (64 * i + s) + 1)) sum (cut_here g.states (64 * i + s) (slice_index chart.cuts (64 * i + s)) st h.charted.in_order here state number));
+    }
+
+-- the man of the group's kind stands there
+pub counts : (p : Board) (g : GroupLine) (chart : Chart) (i men n s : ℕ) → AreMen p g chart i men →
+    IsNext men n s → has p g.colour (kind_of_number (i + 1)) s ≡ true →
+    before p g chart i (s + 1) ≡ slice_index chart.cuts (64 * i + s) ∷ before p g chart i n
+counts p g chart i men n s h next is =
+    let m = met p g chart i men s h next.on_board next.there in
+    ap (places_among p g.colour g.states) m.next
+    ∙ place_on (on p g) (slice_index chart.cuts (64 * i + s)) (ap (stands p g.colour) m.state ∙ is)
+    ∙ ap (λ ks. slice_index chart.cuts (64 * i + s) ∷ ks) (past p g chart i men n s h next.from (omega (arith, next.on_board)) next.first)
+
+-- another man stands there
+pub passes : (p : Board) (g : GroupLine) (chart : Chart) (i men n s : ℕ) → AreMen p g chart i men →
+    IsNext men n s → has p g.colour (kind_of_number (i + 1)) s ≡ false →
+    before p g chart i (s + 1) ≡ before p g chart i n
+passes p g chart i men n s h next is =
+    let m = met p g chart i men s h next.on_board next.there in
+    ap (places_among p g.colour g.states) m.next
+    ∙ place_off (on p g) (slice_index chart.cuts (64 * i + s)) (ap (stands p g.colour) m.state ∙ is)
+    ∙ past p g chart i men n s h next.from (omega (arith, next.on_board)) next.first
+
+-- no man is left
+pub ends : (p : Board) (g : GroupLine) (chart : Chart) (i men n : ℕ) → AreMen p g chart i men →
+    n ≤ 64 → HasNoneFrom men n →
+    places_among p g.colour g.states (slice_index chart.cuts (64 * (i + 1))) ≡ before p g chart i n
+ends p g chart i men n h low none =
+    let e : 64 * (i + 1) ≡ 64 * i + 64 = omega arith in
+    ap (λ x. places_among p g.colour g.states (slice_index chart.cuts x)) e
+    ∙ past p g chart i men n 64 h low (omega arith) none.none
+
+-- a man more than the most
+pub too_many : (p : Board) (g : GroupLine) (chart : Chart) (i men n s : ℕ) →
+    AreMen p g chart i men → IsNext men n s → has p g.colour (kind_of_number (i + 1)) s ≡ true →
+    length (before p g chart i n) < length (places p g)
+too_many p g chart i men n s h next is =
+    let m = met p g chart i men s h next.on_board next.there in
+    let k = slice_index chart.cuts (64 * i + s) in
+    let skipped = past p g chart i men n s h next.from (omega (arith, next.on_board)) next.first in
+    omega (arith, ap length skipped, place_counts (on p g) k (length g.states) (slice_get_within g.states k _ m.state) (ap (stands p g.colour) m.state ∙ is))
+
+-- the place is in the triangle
+pub place_low : (p : Board) (g : GroupLine) (chart : Chart) (i men s : ℕ) → AreMen p g chart i men →
+    s < 64 → slice_index chart.cuts (64 * i + s) ≤ length g.states
+place_low p g chart i men s h l = (cut p g chart i men s h (omega arith)).within
+
+-- the count and the sum go on
+pub counted_on : (p : Board) (g : GroupLine) (place : ℕ) (a b : ℕ) (count sum ways v : ℕ) →
+    places_among p g.colour g.states b ≡ place ∷ places_among p g.colour g.states a →
+    count < g.most → IsCounted p g a (count, sum) → ways ≡ capped (choose place (count + 1)) →
+    v ≡ min (sum + ways) 18446744073709551615 → IsCounted p g b (count + 1, v)
+counted_on p g place a b count sum ways v e few h ew ev =
+    let ks = places_among p g.colour g.states a in
+    let size : count + 1 ≡ suc (length ks) = omega (arith, h.0) in (
+      omega (arith, h.0, ap length e),
+      omega arith,
+      (let w : ways ≡ capped (choose place (suc (length ks))) = ew ∙ ap (λ n. capped (choose place n)) size in
+          let r = ap rank e in
+          omega (arith, w, ev, h.2, r)),
+    )
+
+-- the word that the code makes
+pub men_of : (p : Board) (g : GroupLine) (chart : Chart) (i men side : ℕ) (c : Colour) →
+    IsChart g.states chart → i < 6 → side ≡ set_of (λ s. holds p c s) → c ≡ g.colour →
+    ((k : ℕ) → k < 64 → has_square men k ≡ (has_square side k && has_square (slice_index chart.words i) k)) → AreMen p g chart i men
+men_of p g chart i men side c h low e same both = record {
+  charted = h;
+  kind = low;
+  there = λ s l.
+      let held : has_square side s ≡ holds p g.colour s = ap (λ w. has_square w s) e ∙ has-set_of (λ s. holds p c s) s l ∙ ap (λ c. holds p c s) same in
+      both s l ∙ ap (λ b. b && has_square (slice_index chart.words i) s) held;
+}
+
+-- the test that the code makes
+pub has_read : (p : Board) (g : GroupLine) (c : Colour) (k : Kind) (i s : ℕ) (b : Bool) →
+    c ≡ g.colour → k ≡ kind_of_number (i + 1) → b ≡ has p c k s →
+    has p g.colour (kind_of_number (i + 1)) s ≡ b
+has_read p g c k i s b ec ek e =
+    sym (e ∙ ap (λ c. has p c k s) ec ∙ ap (λ k. has p g.colour k s) ek)
+
+pub counted_is : (p : Board) (g : GroupLine) (n count sum m v : ℕ) → IsCounted p g n (count, sum) →
+    m ≡ count → v ≡ sum → IsCounted p g n (m, v)
+counted_is p g n count sum m v h em ev = (em ∙ h.0, omega (arith, em, h.1), ev ∙ h.2)
+
+pub counted_at : (p : Board) (g : GroupLine) (a b : ℕ) (x : ℕ × ℕ) →
+    places_among p g.colour g.states b ≡ places_among p g.colour g.states a → IsCounted p g a x →
+    IsCounted p g b x
+counted_at p g a b x e h = (h.0 ∙ sym (ap length e), h.1, h.2 ∙ sym (ap (λ ks. capped (rank ks)) e))

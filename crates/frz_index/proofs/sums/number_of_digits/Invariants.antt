@@ -1,5 +1,0 @@
-use Rattle.frz_index.proofs.GroupSteps.{Left}
-use Rattle.frz_index.proofs.sums.number_of_digits.Given as goal
-
-abbrev pub invariant-loop-i : goal.invariant-loop-i
-invariant-loop-i l = Left l.p l.groups l.i l.total

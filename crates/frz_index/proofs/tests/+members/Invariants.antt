@@ -1,5 +1,0 @@
-use Rattle.std.proofs.Common.{◌-◌}
-use Rattle.frz_index.proofs.tests.+members.Given as goal
-
-abbrev pub decreases-members : goal.decreases-members
-decreases-members l = 64 - l.square

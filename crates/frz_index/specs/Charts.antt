@@ -1,0 +1,58 @@
+-- The chart of a group: where its states stand among all 384 states, which are in order by kind, then square.
+use Rattle.std.specs.Prelude.{ℕ, ◌+◌, ◌-◌, ◌*◌, ◌<◌, ◌≤◌, ◌≡◌, true, List, length, slice_index, Some}
+use Rattle.std.specs.List.{slice_get}
+use Rattle.frz_board.specs.declared.man.Kind.{Kind}
+use Rattle.frz_board.specs.Men.{kind_of_number, number_of_kind}
+use Rattle.frz_board.specs.Boards.{Board}
+use Rattle.frz_squares.specs.SquareSets.{has_square}
+use Rattle.frz_combinations.specs.Binomials.{capped}
+use Rattle.frz_combinations.specs.Combinations.{rank}
+use Rattle.frz_sets.specs.Groups.{state_number}
+use Rattle.frz_sets.specs.Sound.{AreStates}
+use Rattle.frz_sets.specs.Views.{GroupLine}
+use Rattle.frz_index.specs.declared.chart.Chart.{Chart}
+use Rattle.frz_index.specs.Places.{places_among}
+
+-- k states have a number below x: the place of the first state whose number is x or above
+pub record IsCut (states : List (Kind × ℕ)) (x k : ℕ) : Type 0 where
+  pub within : k ≤ length states
+  pub before : (j : ℕ) (s : Kind × ℕ) → j < k → slice_get states j ≡ Some s → state_number s < x
+  pub from : (j : ℕ) (s : Kind × ℕ) → k ≤ j → slice_get states j ≡ Some s → x ≤ state_number s
+
+-- the state at the place k has the number x
+abbrev pub IsAt : List (Kind × ℕ) → ℕ → ℕ → Type 0
+IsAt states k x = (s : Kind × ℕ) × (slice_get states k ≡ Some s) × (state_number s ≡ x)
+
+-- how many states have a number below each
+pub record AreCuts (states : List (Kind × ℕ)) (cuts : List ℕ) : Type 0 where
+  pub size : length cuts ≡ 385
+  pub cut : (x : ℕ) → x ≤ 384 → IsCut states x (slice_index cuts x)
+
+-- a word for each kind, with the squares of its states
+pub record AreWords (states : List (Kind × ℕ)) (words : List ℕ) : Type 0 where
+  pub size : length words ≡ 6
+  pub only : (i s : ℕ) → i < 6 → s < 64 → has_square (slice_index words i) s ≡ true →
+      (j : ℕ) × (slice_get states j ≡ Some (kind_of_number (i + 1), s))
+  pub all : (j : ℕ) (s : Kind × ℕ) → slice_get states j ≡ Some s →
+      has_square (slice_index words (number_of_kind s.0 - 1)) s.1 ≡ true
+
+-- the chart of these states: none stands before its first kind, and none after its last
+pub record IsChart (states : List (Kind × ℕ)) (chart : Chart) : Type 0 where
+  pub in_order : AreStates states
+  pub words_are : AreWords states chart.words
+  pub cuts_are : AreCuts states chart.cuts
+  pub order : chart.first ≤ chart.end
+  pub kinds : chart.end ≤ 6
+  pub none_before : slice_index chart.cuts (64 * chart.first) ≡ 0
+  pub none_after : slice_index chart.cuts (64 * chart.end) ≡ length states
+
+-- one chart for each group
+pub record AreCharts (gs : List GroupLine) (charts : List Chart) : Type 0 where
+  pub size : length charts ≡ length gs
+  pub each : (i : ℕ) (g : GroupLine) (chart : Chart) → slice_get gs i ≡ Some g →
+      slice_get charts i ≡ Some chart → IsChart g.states chart
+
+-- how many of the group's men stand at its first n places, and the rank of their places
+abbrev pub IsCounted : Board → GroupLine → ℕ → ℕ × ℕ → Type 0
+IsCounted p g n x =
+    (x.0 ≡ length (places_among p g.colour g.states n)) × (x.0 ≤ g.most) × (x.1 ≡ capped (rank (places_among p g.colour g.states n)))

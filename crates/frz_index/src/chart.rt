@@ -1,0 +1,144 @@
+//! The chart of a group: where its states stand among all states.
+ghost use Rattle.std.specs.Prelude.{◌≡◌, ◌<◌, ◌≤◌, ◌+◌, ◌-◌, ◌*◌, length, slice_index, vec_len, ◌↔◌, IsTrue, IfOk};
+ghost use Rattle.frz_board.specs.Men.{kind_of_number, number_of_kind};
+ghost use Rattle.frz_sets.specs.Groups.{state_number as number_of_state};
+ghost use Rattle.frz_sets.specs.Sound.{AreStates};
+ghost use Rattle.frz_index.specs.Charts.{AreCuts, AreWords, IsAt, IsChart};
+
+use frz_bits::replaced;
+use frz_board::{Kind, Square};
+
+/// Where the states of a group stand among all 384 states, which are in order by kind, then square.
+#[derive(Clone, Copy)]
+pub struct Chart {
+    /// Of each kind, the squares of its states.
+    pub words: [u64; 6],
+    /// How many states have a number below each.
+    pub cuts: [u16; 385],
+    /// The first kind that has states.
+    pub first: u8,
+    /// The kind behind the last that has states.
+    pub end: u8,
+}
+
+/// The kinds in order, from 0.
+pub(crate) fn kind_number(kind: Kind) -> u8
+    ensures number { result ≡ number_of_kind kind - 1 }
+    ensures small { result < 6 }
+{
+    match kind {
+        Kind::King => 0,
+        Kind::Queen => 1,
+        Kind::Rook => 2,
+        Kind::Bishop => 3,
+        Kind::Knight => 4,
+        Kind::Pawn => 5,
+    }
+}
+
+/// The kind of a number.
+pub(crate) fn kind_at(i: u8) -> Kind
+    requires { i < 6 }
+    ensures { result ≡ kind_of_number (i + 1) }
+{
+    match i {
+        0 => Kind::King,
+        1 => Kind::Queen,
+        2 => Kind::Rook,
+        3 => Kind::Bishop,
+        4 => Kind::Knight,
+        _ => Kind::Pawn,
+    }
+}
+
+fn state_number(kind: Kind, square: Square) -> u16
+    ensures { result ≡ number_of_state (kind, square) }
+{
+    64 * u16::from(kind_number(kind)) + u16::from(square.number())
+}
+
+/// Is there a state at the place, and has it this number?
+fn is_at(states: &[(Kind, Square)], k: u16, x: u16) -> bool
+    ensures { IsTrue result ↔ IsAt states.now k x }
+{
+    if k as usize >= states.len() {
+        return false;
+    }
+    let (kind, square) = states[k as usize];
+    state_number(kind, square) == x
+}
+
+/// How many of the states have a number below each.
+fn cuts_of(states: &[(Kind, Square)]) -> [u16; 385]
+    requires { AreStates states.now }
+    ensures { AreCuts states.now result }
+{
+    let mut cuts = [0; 385];
+    let mut k = 0u16;
+    for x in 0..384u16 {
+        cuts[x as usize] = k;
+        if is_at(states, k, x) {
+            k += 1;
+        }
+    }
+    cuts[384] = k;
+    cuts
+}
+
+/// The squares of the states of each kind.
+fn words_of(states: &[(Kind, Square)]) -> [u64; 6]
+    requires { AreStates states.now }
+    ensures { AreWords states.now result }
+{
+    let mut words = [0; 6];
+    for k in 0..states.len() {
+        let (kind, square) = states[k];
+        let i = kind_number(kind) as usize;
+        words[i] = replaced(words[i], square, true);
+    }
+    words
+}
+
+/// The first kind that has states, as these cuts say.
+fn first_kind(cuts: &[u16; 385]) -> u8
+    requires { slice_index cuts.now 0 ≡ 0 }
+    ensures none_before { slice_index cuts.now (64 * result) ≡ 0 }
+    ensures small { result < 6 }
+{
+    let mut first = 0;
+    while first < 5 && cuts[64 * (first as usize + 1)] == 0 {
+        first += 1;
+    }
+    first
+}
+
+/// The kind behind the last that has states, from `first` on.
+fn end_kind(cuts: &[u16; 385], first: u8) -> u8
+    requires { first < 6 }
+    ensures none_after { slice_index cuts.now (64 * result) ≡ slice_index cuts.now 384 }
+    ensures order { first ≤ result }
+    ensures small { result ≤ 6 }
+{
+    let mut end = 6;
+    while first < end && cuts[64 * (end as usize - 1)] == cuts[384] {
+        end -= 1;
+    }
+    end
+}
+
+/// The chart of these states.
+pub(crate) fn chart_of(states: &[(Kind, Square)]) -> Chart
+    requires { AreStates states.now }
+    ensures { IsChart states.now result }
+{
+    let words = words_of(states);
+    let cuts = cuts_of(states);
+    let first = first_kind(&cuts);
+    let end = end_kind(&cuts, first);
+    Chart {
+        words,
+        cuts,
+        first,
+        end,
+    }
+}

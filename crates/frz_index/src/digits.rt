@@ -1,0 +1,64 @@
+//! The digits of all groups, to a number and back.
+ghost use Rattle.std.specs.Prelude.{◌≡◌, ◌<◌, ◌+◌, MatchOption, map};
+ghost use Rattle.std.specs.List.{AllByRecursion};
+ghost use Rattle.frz_combinations.specs.MixedRadix.{digits, value};
+ghost use Rattle.frz_sets.specs.Sets.{radix_of};
+ghost use Rattle.frz_index.specs.Places.{IsWithinCount, digit_of};
+ghost use Rattle.frz_index.specs.Candidates.{put_groups};
+ghost use Rattle.frz_index.specs.Charts.{AreCharts};
+ghost use Rattle.frz_index.specs.Kept.{AreNumberable, AreWeights};
+ghost use Rattle.frz_sets.specs.declared.limits.TheConstants.{MOST_STATES};
+
+use crate::chart::Chart;
+use crate::digit::digit;
+use crate::placing::put;
+use frz_bits::Bitboards;
+use frz_combinations::Triangle;
+use frz_sets::Group;
+
+/// The groups' digits as one number, unless a group has too few men or too many.
+pub(crate) fn number_of_digits(
+    triangle: &Triangle,
+    p: &Bitboards,
+    groups: &[Group],
+    charts: &[Chart],
+    weights: &[u32],
+) -> Option<u32>
+    requires numberable { AreNumberable groups.now }
+    requires charts { AreCharts groups.now charts.now }
+    requires weights { AreWeights groups.now weights.now }
+    requires rows { triangle.now ≡ MOST_STATES + 1 }
+    ensures { let counted = AllByRecursion (IsWithinCount p.now) groups.now in
+        MatchOption result (counted → ⊥) (λ d. counted × (d ≡ value (map radix_of groups.now) (map (digit_of p.now) groups.now))) }
+{
+    let mut total: u32 = 0;
+    for i in 0..groups.len() {
+        let group = &groups[i];
+        let digit = digit(triangle, p, group, &charts[i])?;
+        total += digit * weights[i];
+    }
+    Some(total)
+}
+
+/// Puts the men of the groups' digits on the board.
+pub(crate) fn put_all(
+    p: &mut Bitboards,
+    triangle: &Triangle,
+    groups: &[Group],
+    weights: &[u32],
+    number: u32,
+)
+    requires numberable { AreNumberable groups.now }
+    requires weights { AreWeights groups.now weights.now }
+    requires rows { triangle.now ≡ MOST_STATES + 1 }
+    ensures { p.new ≡
+        record p.old { cells = put_groups groups.now (digits (map radix_of groups.now) number) p.old.cells } }
+{
+    let mut rest = number;
+    for i in 0..groups.len() {
+        let group = &groups[i];
+        let weight = weights[i];
+        put(p, triangle, group, rest / weight);
+        rest %= weight;
+    }
+}
