@@ -1,28 +1,9 @@
-pub mod Members
-pub mod NodeKinds
-pub mod Later
-pub mod Opposed
-pub mod NeverBoth
-pub mod ChosenCodes
-pub mod Tallied
-pub mod PlyCodes
-pub mod CodesByPlies
-pub mod OnePly
-pub mod UniqueCodes
-pub mod Witnessed
-pub mod OneBound
-pub mod Decided
-pub mod BoundsExist
-pub mod FewPlies
-pub mod Stable
-pub mod NextPlies
-pub mod WinsForced
-pub mod OneForces
-pub mod TrueWins
-pub mod HoldsSafe
-pub mod LawfulGame
-pub mod SameUnderNames
-pub mod NumbersAreNames
-pub mod OneTable
-pub mod TablesExist
-pub mod StoredCodes
+pub mod Lemmas
+mod Lists
+mod Plies
+mod LocalCodes
+mod Bounds
+mod Forcing
+mod Names
+mod Tables
+mod Ways

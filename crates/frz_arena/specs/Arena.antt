@@ -1,35 +1,33 @@
 -- A graph of positions in which two sides move in turn, and which some moves leave.
-use Rattle.std.specs.Prelude.{◌≡◌, ◌≢◌, ℕ, Bool, List, []}
-use Rattle.std.specs.List.{Contains}
+use Rattle.std.specs.Prelude.{◌≡◌, ◌≢◌, ℕ, List, [], Some}
+use Rattle.std.specs.List.{Contains, slice_get}
 use Rattle.frz_board.specs.declared.man.Colour.{Colour}
 use Rattle.frz_board.specs.Men.{other_of}
+use Rattle.frz_arena.specs.declared.arm.Arm.{Arm}
+use Rattle.frz_arena.specs.declared.arm.Next.TheVariants.{Inside}
 use Rattle.frz_arena.specs.declared.class.Class.{Class}
 use Rattle.frz_arena.specs.declared.class.Class.TheVariants.{Good, Bad}
 use Rattle.frz_arena.specs.declared.node.Node.{Node}
 use Rattle.frz_arena.specs.declared.node.Node.TheVariants.{Going}
 
--- where a move leads: to a position of the graph, or out of it to a value
-pub data Next (N V : Type 0) : Type 0 where
-  Inside : (position : N) → Next N V
-  Outside : (value : V) → Next N V
-
--- a legal move: whether it is free, that is, allowed to the mover, and where it leads
-pub record Arm (N V : Type 0) : Type 0 where
-  pub free : Bool
-  pub next : Next N V
-
--- what each position is, its moves, and what each value is worth to a side, with its lag in plies
-pub record Arena (N V : Type 0) : Type 0 where
+-- what each position is, its legal moves, and what each value is worth to a side, with its lag in plies
+pub record Arena (M N V : Type 0) : Type 0 where
   pub node : N → Node
-  pub arms : N → List (Arm N V)
+  pub arms : N → List (Arm M N V)
   pub class : V → Colour → Class
   pub lag : V → ℕ
 
 -- the arm is one of the position's
-abbrev pub IsArm : {N V : Type 0} → Arena N V → N → Arm N V → Type 0
+abbrev pub IsArm : {M N V : Type 0} → Arena M N V → N → Arm M N V → Type 0
 IsArm arena p a = Contains (arena.arms p) a
 
+-- the arm at this place of the list leads to this position
+abbrev pub LeadsInside : {M N V : Type 0} → List (Arm M N V) → ℕ → N → Type 0
+LeadsInside {M} {N} {V} arms k q =
+    (a : Arm M N V) × (slice_get arms k ≡ Some a) × (a.next ≡ Inside q)
+
 -- a position at which the game goes on has a move, and a value that is good for a side is bad for the other
-pub record IsLawful {N V : Type 0} (arena : Arena N V) : Type 0 where
+pub record IsLawful {M N V : Type 0} (arena : Arena M N V) : Type 0 where
   pub goes_on : (p : N) (mover : Colour) → arena.node p ≡ Going mover → arena.arms p ≢ []
-  pub opposed : (v : V) (side : Colour) → arena.class v side ≡ Good → arena.class v (other_of side) ≡ Bad
+  pub opposed : (v : V) (side : Colour) → arena.class v side ≡ Good →
+      arena.class v (other_of side) ≡ Bad

@@ -9,7 +9,7 @@ use Rattle.frz_arena.specs.Codes.{code_of}
 use Rattle.frz_arena.specs.Plies.{WinsWithin, FailsWithin}
 
 -- the least plies of a win, else the least plies of a failure, else a hold
-abbrev pub IsBound : {N V : Type 0} → Arena N V → Colour → N → Bound → Type 0
+abbrev pub IsBound : {M N V : Type 0} → Arena M N V → Colour → N → Bound → Type 0
 IsBound arena side p (Wins n) =
     WinsWithin arena side n p × ((k : ℕ) → k < n → WinsWithin arena side k p → ⊥)
 IsBound arena side p Holds =
@@ -18,7 +18,7 @@ IsBound arena side p (Fails m) =
     FailsWithin arena side m p × ((k : ℕ) → k < m → FailsWithin arena side k p → ⊥)
 
 -- 0 where the position is broken, else the code of the bound
-abbrev pub IsCodeAt : {N V : Type 0} → Arena N V → Colour → N → ℕ → Type 0
+abbrev pub IsCodeAt : {M N V : Type 0} → Arena M N V → Colour → N → ℕ → Type 0
 IsCodeAt arena side p c =
     ((arena.node p ≡ Broken) × (c ≡ 0))
     ⊎ ((arena.node p ≢ Broken) × ((b : Bound) × (c ≡ code_of b) × IsBound arena side p b))

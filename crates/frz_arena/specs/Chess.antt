@@ -25,6 +25,15 @@ SomeMove {P} {M} chess F p = (m : M) × Contains (chess.moves p) m × F (chess.p
 abbrev pub EachMove : {P M : Type 0} → Chess P M → (P → Type 0) → P → Type 0
 EachMove {P} {M} chess F p = (m : M) → Contains (chess.moves p) m → F (chess.play p m)
 
+-- the side is to move, and one of its legal moves leads to a position with F
+abbrev pub OwnMoveTo : {P M : Type 0} → Chess P M → Colour → (P → Type 0) → P → Type 0
+OwnMoveTo chess side F p = (chess.turn p ≡ side) × SomeMove chess F p
+
+-- its opponent is to move and has a legal move, and each of them leads to a position with F
+abbrev pub EveryReplyTo : {P M : Type 0} → Chess P M → Colour → (P → Type 0) → P → Type 0
+EveryReplyTo chess side F p =
+    (chess.turn p ≡ other_of side) × (chess.moves p ≢ []) × EachMove chess F p
+
 -- within n plies the side forces mate, or a goal with its lag counted, against every legal reply;
 -- goal gives the lag of each goal
 abbrev pub Forces : {P M : Type 0} → Chess P M → (P → Option ℕ) → Colour → ℕ → P → Type 0
@@ -32,8 +41,8 @@ Forces chess goal side zero p = (goal p ≡ Some 0) ⊎ IsMated chess (other_of 
 Forces chess goal side (suc n) p =
     Forces chess goal side n p
     ⊎ ((goal p ≡ Some (suc n))
-    ⊎ (((chess.turn p ≡ side) × SomeMove chess (Forces chess goal side n) p)
-    ⊎ ((chess.turn p ≡ other_of side) × (chess.moves p ≢ []) × EachMove chess (Forces chess goal side n) p)))
+    ⊎ (OwnMoveTo chess side (Forces chess goal side n) p
+    ⊎ EveryReplyTo chess side (Forces chess goal side n) p))
 
 -- no goal but mate
 abbrev pub mate_alone : {P : Type 0} → P → Option ℕ

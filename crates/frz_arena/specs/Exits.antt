@@ -23,7 +23,8 @@ pub record IsTrueAt {P M V : Type 0} (game : Game P M V) (v : V) (q : P) : Type 
       (n : ℕ) × ForcesMate game.chess side n q
   pub wins_in : (side : Colour) → game.class v side ≡ Good → game.numbered v ≡ true →
       ForcesMate game.chess side (game.lag v) q
-  pub holds : (side : Colour) → game.class v side ≡ Safe → NeverForcesMate game.chess (other_of side) q
+  pub holds : (side : Colour) → game.class v side ≡ Safe →
+      NeverForcesMate game.chess (other_of side) q
 
 -- the value of each exit is true there
 abbrev pub TrueExits : {P M V : Type 0} → Game P M V → Type 0

@@ -5,7 +5,10 @@ use Rattle.frz_arena.specs.declared.class.Class.{Class}
 use Rattle.frz_arena.specs.declared.class.Class.TheVariants.{Good, Safe, Bad}
 use Rattle.frz_arena.specs.declared.node.Node.{Node}
 use Rattle.frz_arena.specs.declared.node.Node.TheVariants.{Broken, Mate, Stalemate, Going}
-use Rattle.frz_arena.specs.Arena.{Arena, Arm, Next, Inside, Outside}
+use Rattle.frz_arena.specs.declared.arm.Arm.{Arm}
+use Rattle.frz_arena.specs.declared.arm.Next.{Next}
+use Rattle.frz_arena.specs.declared.arm.Next.TheVariants.{Inside, Outside}
+use Rattle.frz_arena.specs.Arena.{Arena}
 use Rattle.frz_arena.specs.Chess.{Chess}
 
 -- the set, the free moves, and the value of each position outside, which may have a number for its lag
@@ -31,15 +34,16 @@ next_by true q v = Inside q
 next_by false q v = Outside v
 
 -- the arm of a legal move
-abbrev pub arm_of : {P M V : Type 0} → Game P M V → P → M → Arm P V
+abbrev pub arm_of : {P M V : Type 0} → Game P M V → P → M → Arm M P V
 arm_of game p m =
     let q = game.chess.play p m in
-    record { free = game.free p m; next = next_by (game.member q) q (game.value q) }
+    record { mv = m; free = game.free p m; next = next_by (game.member q) q (game.value q) }
 
 -- the restricted game as an arena: one arm a legal move, in the order of the moves
-abbrev pub arena_of : {P M V : Type 0} → Game P M V → Arena P V
+abbrev pub arena_of : {P M V : Type 0} → Game P M V → Arena M P V
 arena_of game = record {
-  node = λ p. node_by (game.member p) (game.chess.moves p) (game.chess.in_check p) (game.chess.turn p);
+  node =
+      λ p. node_by (game.member p) (game.chess.moves p) (game.chess.in_check p) (game.chess.turn p);
   arms = λ p. map (arm_of game p) (game.chess.moves p);
   class = game.class;
   lag = game.lag;
@@ -54,4 +58,5 @@ goal_by false Bad lag = None
 
 -- the goals of a side: the positions outside the set whose value is good for it, with their lags
 abbrev pub goals_of : {P M V : Type 0} → Game P M V → Colour → P → Option ℕ
-goals_of game side q = goal_by (game.member q) (game.class (game.value q) side) (game.lag (game.value q))
+goals_of game side q =
+    goal_by (game.member q) (game.class (game.value q) side) (game.lag (game.value q))

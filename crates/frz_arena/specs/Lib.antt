@@ -9,3 +9,9 @@ pub mod Games
 pub mod Exits
 pub mod Names
 pub mod Tables
+pub mod Chosen
+pub mod Inputs
+pub mod WayEnds
+pub mod Turns
+pub mod Ways
+pub mod Choices

@@ -5,7 +5,10 @@ use Rattle.frz_board.specs.declared.man.Colour.{Colour}
 use Rattle.frz_board.specs.Men.{same_colour}
 use Rattle.frz_arena.specs.declared.node.Node.{Node}
 use Rattle.frz_arena.specs.declared.node.Node.TheVariants.{Broken, Mate, Stalemate, Going}
-use Rattle.frz_arena.specs.Arena.{Arena, Arm, Next, Inside, Outside}
+use Rattle.frz_arena.specs.declared.arm.Arm.{Arm}
+use Rattle.frz_arena.specs.declared.arm.Next.{Next}
+use Rattle.frz_arena.specs.declared.arm.Next.TheVariants.{Inside, Outside}
+use Rattle.frz_arena.specs.Arena.{Arena}
 use Rattle.frz_arena.specs.Codes.{is_win, is_failure, exit_code}
 
 -- the least of some codes, and 0 of none
@@ -40,32 +43,37 @@ abbrev pub node_code : Colour → Node → (free all : List ℕ) → ℕ
 node_code side Broken free all = 0
 node_code side (Mate mover) free all = if same_colour mover side then 3 else 2
 node_code side (Stalemate mover) free all = 1
-node_code side (Going mover) free all = if same_colour mover side then own_code free else other_code all
+node_code side (Going mover) free all =
+    if same_colour mover side then own_code free else other_code all
 
--- the code of where a move leads, with the entries of the side at the positions
-abbrev pub next_code : {N V : Type 0} → Arena N V → Colour → (N → ℕ) → Next N V → ℕ
-next_code arena side entry (Inside q) = entry q
-next_code arena side entry (Outside v) = exit_code (arena.class v side) (arena.lag v)
+-- the code of where a move leads, by the entries of the positions and the codes of the values
+abbrev pub code_by : {N V : Type 0} → (N → ℕ) → (V → ℕ) → Next N V → ℕ
+code_by entry code (Inside q) = entry q
+code_by entry code (Outside v) = code v
+
+-- the same with the entries of the side at the positions of the arena
+abbrev pub next_code : {M N V : Type 0} → Arena M N V → Colour → (N → ℕ) → Next N V → ℕ
+next_code arena side entry = code_by entry (λ v. exit_code (arena.class v side) (arena.lag v))
 
 -- the code of a move
-abbrev pub arm_code : {N V : Type 0} → Arena N V → Colour → (N → ℕ) → Arm N V → ℕ
+abbrev pub arm_code : {M N V : Type 0} → Arena M N V → Colour → (N → ℕ) → Arm M N V → ℕ
 arm_code arena side entry a = next_code arena side entry a.next
 
-abbrev pub codes_of : {N V : Type 0} → Arena N V → Colour → (N → ℕ) → List (Arm N V) → List ℕ
+abbrev pub codes_of : {M N V : Type 0} → Arena M N V → Colour → (N → ℕ) → List (Arm M N V) → List ℕ
 codes_of arena side entry arms = map (arm_code arena side entry) arms
 
 -- the codes of the free moves, and of all moves
-abbrev pub free_codes : {N V : Type 0} → Arena N V → Colour → (N → ℕ) → N → List ℕ
+abbrev pub free_codes : {M N V : Type 0} → Arena M N V → Colour → (N → ℕ) → N → List ℕ
 free_codes arena side entry p = codes_of arena side entry (filter (λ a. a.free) (arena.arms p))
 
-abbrev pub all_codes : {N V : Type 0} → Arena N V → Colour → (N → ℕ) → N → List ℕ
+abbrev pub all_codes : {M N V : Type 0} → Arena M N V → Colour → (N → ℕ) → N → List ℕ
 all_codes arena side entry p = codes_of arena side entry (arena.arms p)
 
 -- the code that the entries give the position
-abbrev pub local_code : {N V : Type 0} → Arena N V → Colour → (N → ℕ) → N → ℕ
+abbrev pub local_code : {M N V : Type 0} → Arena M N V → Colour → (N → ℕ) → N → ℕ
 local_code arena side entry p =
     node_code side (arena.node p) (free_codes arena side entry p) (all_codes arena side entry p)
 
 -- each entry is its local code
-abbrev pub MeetsEquations : {N V : Type 0} → Arena N V → Colour → (N → ℕ) → Type 0
-MeetsEquations {N} arena side entry = (p : N) → entry p ≡ local_code arena side entry p
+abbrev pub MeetsEquations : {M N V : Type 0} → Arena M N V → Colour → (N → ℕ) → Type 0
+MeetsEquations {M} {N} arena side entry = (p : N) → entry p ≡ local_code arena side entry p

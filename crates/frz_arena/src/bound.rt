@@ -1,3 +1,5 @@
+//! The bound of a side, and its code.
+
 ghost use Rattle.std.specs.Prelude.{◌≡◌, ◌≢◌, ◌+◌, ◌≤◌, ◌^◌, ◌-◌, ◌↔◌, IfSome, IsNone};
 
 /// What a side reaches at least in the restricted game. Plies are counted to the mate.

@@ -1,3 +1,5 @@
+//! What a value is worth to a side, and the code of an exit.
+
 ghost use Rattle.std.specs.Prelude.{◌≡◌, ◌≤◌};
 ghost use Rattle.frz_arena.specs.Codes as codes;
 

@@ -1,3 +1,5 @@
+//! Which codes stand for wins and for failures.
+
 ghost use Rattle.std.specs.Prelude.{◌≡◌};
 ghost use Rattle.frz_arena.specs.Codes as words;
 

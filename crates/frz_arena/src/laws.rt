@@ -3,7 +3,10 @@
 pub mod bounds;
 pub mod codes;
 pub mod forcing;
+pub mod lines;
 pub mod local;
 pub mod names;
 pub mod plies;
+pub mod sessions;
 pub mod tables;
+pub mod ways;

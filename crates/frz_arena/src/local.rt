@@ -1,3 +1,5 @@
+//! The local code.
+
 ghost use Rattle.std.specs.Prelude.{◌≡◌, ◌+◌, ◌||◌, ◌&&◌, ◌↔◌, if◌then◌else◌, min, max, [], ℕ, Bool};
 ghost use Rattle.frz_arena.specs.Codes as codes;
 ghost use Rattle.frz_arena.specs.LocalCodes as local_codes;

@@ -1,3 +1,5 @@
+//! What a position of a graph is.
+
 use frz_board::Colour;
 
 /// What a position of the set is, with the side to move.

@@ -1,3 +1,5 @@
+//! Codes of bounds and local codes, worked by hand, and a law that is called.
+
 ghost use Rattle.std.specs.Prelude.{ℕ};
 ghost use Rattle.frz_board.specs.declared.man.Colour.{Colour};
 ghost use Rattle.frz_board.specs.Men.{other_of};
@@ -10,10 +12,10 @@ use frz_board::Colour::{Black, White};
 
 /// A law at numbers, by a call.
 fn one_winner_at_numbers()
-    ensures { (arena : Arena ℕ ℕ) → IsLawful arena → (side : Colour) (n m : ℕ) (p : ℕ) →
+    ensures { (arena : Arena ℕ ℕ ℕ) → IsLawful arena → (side : Colour) (n m : ℕ) (p : ℕ) →
         WinsWithin arena side n p → WinsWithin arena (other_of side) m p → ⊥ }
 {
-    one_winner::<u32, u32>();
+    one_winner::<u32, u32, u32>();
 }
 
 #[test]

@@ -12,10 +12,10 @@ ghost use Rattle.frz_arena.specs.Names.{IsNumbered};
 ghost use Rattle.frz_arena.specs.Plies.{LagsWithin};
 
 /// A position has one bound, and so one code.
-pub fn one_bound<N, V>()
-    ensures bound { (arena : Arena N V) (side : Colour) (p : N) (b c : Bound) →
+pub fn one_bound<M, N, V>()
+    ensures bound { (arena : Arena M N V) (side : Colour) (p : N) (b c : Bound) →
         IsBound arena side p b → IsBound arena side p c → b ≡ c }
-    ensures code { (arena : Arena N V) (side : Colour) (p : N) (c d : ℕ) →
+    ensures code { (arena : Arena M N V) (side : Colour) (p : N) (c d : ℕ) →
         IsCodeAt arena side p c → IsCodeAt arena side p d → c ≡ d }
 {}
 
@@ -25,21 +25,21 @@ pub fn codes_differ()
 {}
 
 /// Where the bound of one side is a win, that of the other is a failure of no more plies.
-pub fn opposed_bounds<N, V>()
-    ensures { (arena : Arena N V) → IsLawful arena → (side : Colour) (p : N) (n : ℕ) (c : Bound) →
+pub fn opposed_bounds<M, N, V>()
+    ensures { (arena : Arena M N V) → IsLawful arena → (side : Colour) (p : N) (n : ℕ) (c : Bound) →
         IsBound arena side p (Wins n) → IsBound arena (other_of side) p c →
         (m : ℕ) × (m ≤ n) × (c ≡ Fails m) }
 {}
 
 /// Each position of a finite arena has a bound. Its plies are at most the size, and for a win the
 /// size and the greatest lag.
-pub fn bounds_exist<V>()
-    ensures bound { (arena : Arena ℕ V) → IsLawful arena → (size : ℕ) → IsNumbered arena size →
+pub fn bounds_exist<M, V>()
+    ensures bound { (arena : Arena M ℕ V) → IsLawful arena → (size : ℕ) → IsNumbered arena size →
         (side : Colour) (most : ℕ) → LagsWithin arena side most →
         (p : ℕ) → (b : Bound) × IsBound arena side p b }
-    ensures win { (arena : Arena ℕ V) → IsLawful arena → (size : ℕ) → IsNumbered arena size →
+    ensures win { (arena : Arena M ℕ V) → IsLawful arena → (size : ℕ) → IsNumbered arena size →
         (side : Colour) (most : ℕ) → LagsWithin arena side most →
         (n p : ℕ) → IsBound arena side p (Wins n) → n ≤ size + most }
-    ensures failure { (arena : Arena ℕ V) → IsLawful arena → (size : ℕ) → IsNumbered arena size →
+    ensures failure { (arena : Arena M ℕ V) → IsLawful arena → (size : ℕ) → IsNumbered arena size →
         (side : Colour) (n p : ℕ) → IsBound arena side p (Fails n) → n ≤ size }
 {}

@@ -4,56 +4,57 @@ ghost use Rattle.std.specs.Prelude.{◌≡◌, ◌≤◌, ◌+◌, ℕ, true, fa
 ghost use Rattle.frz_board.specs.declared.man.Colour.{Colour};
 ghost use Rattle.frz_board.specs.Men.{other_of};
 ghost use Rattle.frz_arena.specs.declared.node.Node.TheVariants.{Going};
-ghost use Rattle.frz_arena.specs.Arena.{Arena, Arm, IsArm};
+ghost use Rattle.frz_arena.specs.declared.arm.Arm.{Arm};
+ghost use Rattle.frz_arena.specs.Arena.{Arena, IsArm};
 ghost use Rattle.frz_arena.specs.Codes.{is_win, is_failure};
 ghost use Rattle.frz_arena.specs.LocalCodes.{arm_code, local_code};
 
 /// Where the side is to move: the free win of the fewest plies, else the longest of free failures
 /// alone, else a hold; and a failure at once where no move is free.
-pub fn own_codes<N, V>()
-    ensures win { (arena : Arena N V) (side : Colour) (entry : N → ℕ) (p : N) → arena.node p ≡ Going side →
-        (a : Arm N V) → IsArm arena p a → a.free ≡ true →
+pub fn own_codes<M, N, V>()
+    ensures win { (arena : Arena M N V) (side : Colour) (entry : N → ℕ) (p : N) → arena.node p ≡ Going side →
+        (a : Arm M N V) → IsArm arena p a → a.free ≡ true →
         is_win (arm_code arena side entry a) ≡ true →
-        ((b : Arm N V) → IsArm arena p b → b.free ≡ true →
+        ((b : Arm M N V) → IsArm arena p b → b.free ≡ true →
         is_win (arm_code arena side entry b) ≡ true →
         arm_code arena side entry a ≤ arm_code arena side entry b) →
         local_code arena side entry p ≡ arm_code arena side entry a + 2 }
-    ensures failure { (arena : Arena N V) (side : Colour) (entry : N → ℕ) (p : N) → arena.node p ≡ Going side →
-        (a : Arm N V) → IsArm arena p a → a.free ≡ true →
-        ((b : Arm N V) → IsArm arena p b → b.free ≡ true →
+    ensures failure { (arena : Arena M N V) (side : Colour) (entry : N → ℕ) (p : N) → arena.node p ≡ Going side →
+        (a : Arm M N V) → IsArm arena p a → a.free ≡ true →
+        ((b : Arm M N V) → IsArm arena p b → b.free ≡ true →
         (is_failure (arm_code arena side entry b) ≡ true)
         × (arm_code arena side entry b ≤ arm_code arena side entry a)) →
         local_code arena side entry p ≡ arm_code arena side entry a + 2 }
-    ensures hold { (arena : Arena N V) (side : Colour) (entry : N → ℕ) (p : N) → arena.node p ≡ Going side →
-        (a : Arm N V) → IsArm arena p a → a.free ≡ true →
+    ensures hold { (arena : Arena M N V) (side : Colour) (entry : N → ℕ) (p : N) → arena.node p ≡ Going side →
+        (a : Arm M N V) → IsArm arena p a → a.free ≡ true →
         is_failure (arm_code arena side entry a) ≡ false →
-        ((b : Arm N V) → IsArm arena p b → b.free ≡ true →
+        ((b : Arm M N V) → IsArm arena p b → b.free ≡ true →
         is_win (arm_code arena side entry b) ≡ false) →
         local_code arena side entry p ≡ 1 }
-    ensures none { (arena : Arena N V) (side : Colour) (entry : N → ℕ) (p : N) → arena.node p ≡ Going side →
-        ((a : Arm N V) → IsArm arena p a → a.free ≡ true → ⊥) →
+    ensures none { (arena : Arena M N V) (side : Colour) (entry : N → ℕ) (p : N) → arena.node p ≡ Going side →
+        ((a : Arm M N V) → IsArm arena p a → a.free ≡ true → ⊥) →
         local_code arena side entry p ≡ 3 }
 {}
 
 /// Where the opponent is to move: the failure of the fewest plies, else the longest of wins alone,
 /// else a hold.
-pub fn opponent_codes<N, V>()
-    ensures failure { (arena : Arena N V) (side : Colour) (entry : N → ℕ) (p : N) →
+pub fn opponent_codes<M, N, V>()
+    ensures failure { (arena : Arena M N V) (side : Colour) (entry : N → ℕ) (p : N) →
         arena.node p ≡ Going (other_of side) →
-        (a : Arm N V) → IsArm arena p a → is_failure (arm_code arena side entry a) ≡ true →
-        ((b : Arm N V) → IsArm arena p b → is_failure (arm_code arena side entry b) ≡ true →
+        (a : Arm M N V) → IsArm arena p a → is_failure (arm_code arena side entry a) ≡ true →
+        ((b : Arm M N V) → IsArm arena p b → is_failure (arm_code arena side entry b) ≡ true →
         arm_code arena side entry a ≤ arm_code arena side entry b) →
         local_code arena side entry p ≡ arm_code arena side entry a + 2 }
-    ensures win { (arena : Arena N V) (side : Colour) (entry : N → ℕ) (p : N) →
+    ensures win { (arena : Arena M N V) (side : Colour) (entry : N → ℕ) (p : N) →
         arena.node p ≡ Going (other_of side) →
-        (a : Arm N V) → IsArm arena p a →
-        ((b : Arm N V) → IsArm arena p b →
+        (a : Arm M N V) → IsArm arena p a →
+        ((b : Arm M N V) → IsArm arena p b →
         (is_win (arm_code arena side entry b) ≡ true)
         × (arm_code arena side entry b ≤ arm_code arena side entry a)) →
         local_code arena side entry p ≡ arm_code arena side entry a + 2 }
-    ensures hold { (arena : Arena N V) (side : Colour) (entry : N → ℕ) (p : N) →
+    ensures hold { (arena : Arena M N V) (side : Colour) (entry : N → ℕ) (p : N) →
         arena.node p ≡ Going (other_of side) →
-        (a : Arm N V) → IsArm arena p a → is_win (arm_code arena side entry a) ≡ false →
-        ((b : Arm N V) → IsArm arena p b → is_failure (arm_code arena side entry b) ≡ false) →
+        (a : Arm M N V) → IsArm arena p a → is_win (arm_code arena side entry a) ≡ false →
+        ((b : Arm M N V) → IsArm arena p b → is_failure (arm_code arena side entry b) ≡ false) →
         local_code arena side entry p ≡ 1 }
 {}

@@ -7,40 +7,40 @@ ghost use Rattle.frz_arena.specs.Arena.{Arena, IsLawful};
 ghost use Rattle.frz_arena.specs.Plies.{WinsWithin, FailsWithin, LagsWithin};
 
 /// A side never wins and fails at one position.
-pub fn never_both<N, V>()
-    ensures { (arena : Arena N V) (side : Colour) (n m : ℕ) (p : N) →
+pub fn never_both<M, N, V>()
+    ensures { (arena : Arena M N V) (side : Colour) (n m : ℕ) (p : N) →
         WinsWithin arena side n p → FailsWithin arena side m p → ⊥ }
 {}
 
 /// Where a side wins, its opponent fails in no more plies.
-pub fn opponent_fails<N, V>()
-    ensures { (arena : Arena N V) → IsLawful arena → (side : Colour) (n : ℕ) (p : N) →
+pub fn opponent_fails<M, N, V>()
+    ensures { (arena : Arena M N V) → IsLawful arena → (side : Colour) (n : ℕ) (p : N) →
         WinsWithin arena side n p → FailsWithin arena (other_of side) n p }
 {}
 
 /// Both sides never win at one position.
-pub fn one_winner<N, V>()
-    ensures { (arena : Arena N V) → IsLawful arena → (side : Colour) (n m : ℕ) (p : N) →
+pub fn one_winner<M, N, V>()
+    ensures { (arena : Arena M N V) → IsLawful arena → (side : Colour) (n m : ℕ) (p : N) →
         WinsWithin arena side n p → WinsWithin arena (other_of side) m p → ⊥ }
 {
-    opponent_fails::<N, V>();
-    never_both::<N, V>();
+    opponent_fails::<M, N, V>();
+    never_both::<M, N, V>();
 }
 
 /// Plies can be added: a win within fewer plies is one within more, and so is a failure.
-pub fn later<N, V>()
-    ensures wins { (arena : Arena N V) (side : Colour) (n k : ℕ) (p : N) →
+pub fn later<M, N, V>()
+    ensures wins { (arena : Arena M N V) (side : Colour) (n k : ℕ) (p : N) →
         n ≤ k → WinsWithin arena side n p → WinsWithin arena side k p }
-    ensures fails { (arena : Arena N V) (side : Colour) (n k : ℕ) (p : N) →
+    ensures fails { (arena : Arena M N V) (side : Colour) (n k : ℕ) (p : N) →
         n ≤ k → FailsWithin arena side n p → FailsWithin arena side k p }
 {}
 
 /// Where one more ply changes nothing, and no exit still waits for its lag, no further ply does.
-pub fn stable<N, V>()
-    ensures wins { (arena : Arena N V) (side : Colour) (k : ℕ) → LagsWithin arena side k →
+pub fn stable<M, N, V>()
+    ensures wins { (arena : Arena M N V) (side : Colour) (k : ℕ) → LagsWithin arena side k →
         ((p : N) → WinsWithin arena side (k + 1) p → WinsWithin arena side k p) →
         (n : ℕ) (p : N) → WinsWithin arena side n p → WinsWithin arena side k p }
-    ensures fails { (arena : Arena N V) (side : Colour) (k : ℕ) →
+    ensures fails { (arena : Arena M N V) (side : Colour) (k : ℕ) →
         ((p : N) → FailsWithin arena side (k + 1) p → FailsWithin arena side k p) →
         (n : ℕ) (p : N) → FailsWithin arena side n p → FailsWithin arena side k p }
 {}

@@ -2,7 +2,7 @@ use Rattle.std.proofs.Common.{get_or, take, sym, subst}
 use Rattle.std.proofs.lemmas.List.{take_more}
 use Rattle.frz_arena.specs.Codes.{is_win, is_failure}
 use Rattle.frz_arena.specs.Tallies.{IsTally}
-use Rattle.frz_arena.proofs.Tallied.{tally_with}
+use Rattle.frz_arena.proofs.LocalCodes.Tallied.{tally_with}
 use Rattle.frz_arena.proofs.local.other_code.Goals as goal
 
 pub loop-code-init : goal.loop-code-init

@@ -2,7 +2,7 @@ use Rattle.std.proofs.Common.{◌≡◌, ◌∙◌, get_or, take, sym, subst}
 use Rattle.std.proofs.lemmas.List.{take_more, take_all}
 use Rattle.frz_arena.specs.Codes.{is_win, is_failure}
 use Rattle.frz_arena.specs.Tallies.{IsTally}
-use Rattle.frz_arena.proofs.Tallied.{tally_with, some_code, own_from_tally}
+use Rattle.frz_arena.proofs.LocalCodes.Tallied.{tally_with, some_code, own_from_tally}
 use Rattle.frz_arena.proofs.local.own_code.Goals as goal
 
 pub loop-code-init : goal.loop-code-init
@@ -19,4 +19,5 @@ pub returns : goal.returns
 returns c =
     let all : take c.loop-code.code-index c.args.free.now ≡ c.args.free.now = take_all c.loop-code.code-index c.args.free.now c.loop-code-test.false in
     let whole : IsTally is_win is_failure c.args.free.now c.loop-code.tally = subst (λ xs. IsTally is_win is_failure xs c.loop-code.tally) all c.loop-code.invariant in
-    c.code.ensures ∙ sym (own_from_tally c.args.free.now c.loop-code.tally (some_code c.args.free.now (sym c.is_empty.ensures ∙ c.if-is_empty.false)) whole)
+    c.code.ensures
+    ∙ sym (own_from_tally c.args.free.now c.loop-code.tally (some_code c.args.free.now (sym c.is_empty.ensures ∙ c.if-is_empty.false)) whole)

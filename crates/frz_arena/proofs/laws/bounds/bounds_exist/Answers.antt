@@ -1,4 +1,4 @@
-use Rattle.frz_arena.proofs.BoundsExist.{bound_exists, win_plies_few, failure_plies_few}
+use Rattle.frz_arena.proofs.Bounds.BoundsExist.{bound_exists, win_plies_few, failure_plies_few}
 use Rattle.frz_arena.proofs.laws.bounds.bounds_exist.Goals as goal
 
 pub returns-clause-bound : goal.returns-clause-bound

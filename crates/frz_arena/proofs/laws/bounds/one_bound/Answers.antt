@@ -1,4 +1,4 @@
-use Rattle.frz_arena.proofs.OneBound as lemma
+use Rattle.frz_arena.proofs.Bounds.OneBound as lemma
 use Rattle.frz_arena.proofs.laws.bounds.one_bound.Goals as goal
 
 pub returns-clause-bound : goal.returns-clause-bound

@@ -1,4 +1,4 @@
-use Rattle.frz_arena.proofs.OneBound as lemma
+use Rattle.frz_arena.proofs.Bounds.OneBound as lemma
 use Rattle.frz_arena.proofs.laws.bounds.opposed_bounds.Goals as goal
 
 pub returns : goal.returns

@@ -1,4 +1,4 @@
-use Rattle.frz_arena.proofs.NextPlies.{other_win_arms, other_win_arm, other_hold_arms, other_hold_arm}
+use Rattle.frz_arena.proofs.Plies.NextPlies.{other_win_arms, other_win_arm, other_hold_arms, other_hold_arm}
 use Rattle.frz_arena.proofs.laws.codes.opponent_plies.Goals as goal
 
 pub returns-clause-each_win : goal.returns-clause-each_win

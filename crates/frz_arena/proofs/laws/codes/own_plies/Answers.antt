@@ -1,4 +1,4 @@
-use Rattle.frz_arena.proofs.NextPlies.{own_win_arm, own_hold_arm}
+use Rattle.frz_arena.proofs.Plies.NextPlies.{own_win_arm, own_hold_arm}
 use Rattle.frz_arena.proofs.laws.codes.own_plies.Goals as goal
 
 pub returns-clause-win : goal.returns-clause-win

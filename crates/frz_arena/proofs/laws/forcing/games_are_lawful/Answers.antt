@@ -1,4 +1,4 @@
-use Rattle.frz_arena.proofs.LawfulGame.{game_is_lawful}
+use Rattle.frz_arena.proofs.Forcing.LawfulGame.{game_is_lawful}
 use Rattle.frz_arena.proofs.laws.forcing.games_are_lawful.Goals as goal
 
 pub returns : goal.returns

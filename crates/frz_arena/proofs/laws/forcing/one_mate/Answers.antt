@@ -1,4 +1,4 @@
-use Rattle.frz_arena.proofs.OneForces.{one_forces}
+use Rattle.frz_arena.proofs.Forcing.OneForces.{one_forces}
 use Rattle.frz_arena.proofs.laws.forcing.one_mate.Goals as goal
 
 pub returns : goal.returns

@@ -1,5 +1,5 @@
-use Rattle.frz_arena.proofs.WinsForced.{wins_forces}
-use Rattle.frz_arena.proofs.TrueWins.{wins_mates, wins_mates_in}
+use Rattle.frz_arena.proofs.Forcing.WinsForced.{wins_forces}
+use Rattle.frz_arena.proofs.Forcing.TrueWins.{wins_mates, wins_mates_in}
 use Rattle.frz_arena.proofs.laws.forcing.wins_are_forced.Goals as goal
 
 pub returns-clause-goals : goal.returns-clause-goals

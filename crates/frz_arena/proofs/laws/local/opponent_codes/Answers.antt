@@ -1,4 +1,4 @@
-use Rattle.frz_arena.proofs.Witnessed.{other_failure_is, other_win_is, other_hold_is}
+use Rattle.frz_arena.proofs.LocalCodes.Witnessed.{other_failure_is, other_win_is, other_hold_is}
 use Rattle.frz_arena.proofs.laws.local.opponent_codes.Goals as goal
 
 pub returns-clause-failure : goal.returns-clause-failure

@@ -1,4 +1,4 @@
-use Rattle.frz_arena.proofs.Witnessed.{own_win_is, own_failure_is, own_hold_is, own_none_is}
+use Rattle.frz_arena.proofs.LocalCodes.Witnessed.{own_win_is, own_failure_is, own_hold_is, own_none_is}
 use Rattle.frz_arena.proofs.laws.local.own_codes.Goals as goal
 
 pub returns-clause-win : goal.returns-clause-win

@@ -1,4 +1,4 @@
-use Rattle.frz_arena.proofs.NumbersAreNames.{naming, numbered_is, numbers_lawful}
+use Rattle.frz_arena.proofs.Names.NumbersAreNames.{naming, numbered_is, numbers_lawful}
 use Rattle.frz_arena.proofs.laws.names.numbers_are_names.Goals as goal
 
 pub returns-clause-naming : goal.returns-clause-naming

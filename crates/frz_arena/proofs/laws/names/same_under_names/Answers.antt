@@ -1,4 +1,4 @@
-use Rattle.frz_arena.proofs.SameUnderNames.{same_wins, same_fails, same_bounds}
+use Rattle.frz_arena.proofs.Names.SameUnderNames.{same_wins, same_fails, same_bounds}
 use Rattle.frz_arena.proofs.laws.names.same_under_names.Goals as goal
 
 pub returns-clause-wins : goal.returns-clause-wins

@@ -1,4 +1,4 @@
-use Rattle.frz_arena.proofs.Opposed.{wins_later, fails_later}
+use Rattle.frz_arena.proofs.Plies.Opposed.{wins_later, fails_later}
 use Rattle.frz_arena.proofs.laws.plies.later.Goals as goal
 
 pub returns-clause-wins : goal.returns-clause-wins

@@ -1,4 +1,4 @@
-use Rattle.frz_arena.proofs.NeverBoth as lemma
+use Rattle.frz_arena.proofs.Plies.NeverBoth as lemma
 use Rattle.frz_arena.proofs.laws.plies.never_both.Goals as goal
 
 pub returns : goal.returns

@@ -1,4 +1,4 @@
-use Rattle.frz_arena.proofs.OneTable as lemma
+use Rattle.frz_arena.proofs.Tables.OneTable as lemma
 use Rattle.frz_arena.proofs.laws.tables.exact_codes.Goals as goal
 
 pub returns : goal.returns

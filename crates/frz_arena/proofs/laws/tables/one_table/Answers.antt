@@ -1,6 +1,6 @@
-use Rattle.frz_arena.proofs.OneTable as lemma
-use Rattle.frz_arena.proofs.OneTable.{exact_is_table, table_is_exact, plies_small}
-use Rattle.frz_arena.proofs.TablesExist.{table_exists}
+use Rattle.frz_arena.proofs.Tables.OneTable as lemma
+use Rattle.frz_arena.proofs.Tables.OneTable.{exact_is_table, table_is_exact, plies_small}
+use Rattle.frz_arena.proofs.Tables.TablesExist.{table_exists}
 use Rattle.frz_arena.proofs.laws.tables.one_table.Goals as goal
 
 pub returns-clause-table : goal.returns-clause-table

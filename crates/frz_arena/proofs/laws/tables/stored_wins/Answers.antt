@@ -1,4 +1,4 @@
-use Rattle.frz_arena.proofs.StoredCodes.{stored_win, stored_mate, stored_mate_in}
+use Rattle.frz_arena.proofs.Tables.StoredCodes.{stored_win, stored_mate, stored_mate_in}
 use Rattle.frz_arena.proofs.laws.tables.stored_wins.Goals as goal
 
 pub returns-clause-goals : goal.returns-clause-goals

@@ -1,0 +1,3 @@
+-- The bound of a side.
+pub mod OneBound
+pub mod BoundsExist

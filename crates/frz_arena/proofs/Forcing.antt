@@ -1,0 +1,6 @@
+-- What a win says of chess.
+pub mod WinsForced
+pub mod OneForces
+pub mod TrueWins
+pub mod HoldsSafe
+pub mod LawfulGame

@@ -1,0 +1,102 @@
+-- From the restricted game to chess.
+use Rattle.std.proofs.Common.{◌≡◌, ◌≢◌, ◌≤◌, ℕ, zero, suc, ◌⊎◌, inl, inr, Bool, true, false, List, [], ◌∷◌, Option, Some, refl, sym, subst}
+use Rattle.std.specs.List.{Contains}
+use Rattle.frz_board.specs.declared.man.Colour.{Colour}
+use Rattle.frz_arena.specs.declared.class.Class.{Class}
+use Rattle.frz_arena.specs.declared.class.Class.TheVariants.{Good}
+use Rattle.frz_board.specs.Men.{other_of}
+use Rattle.frz_arena.specs.declared.node.Node.TheVariants.{Mate, Going}
+use Rattle.frz_arena.specs.declared.arm.Arm.{Arm}
+use Rattle.frz_arena.specs.Arena.{IsArm}
+use Rattle.frz_arena.specs.Plies.{LeadsTo, IsGoodExit, WinsWithin}
+use Rattle.frz_arena.specs.Chess.{Chess, Forces}
+use Rattle.frz_arena.specs.Games.{Game, next_by, node_by, arm_of, arena_of, goal_by, goals_of}
+use Rattle.frz_arena.proofs.Plies.Later.{later}
+use Rattle.frz_arena.proofs.LocalCodes.PlyCodes.{mapped_in, from_mapped}
+
+pub forces_later : {P M : Type 0} (chess : Chess P M) (goal : P → Option ℕ) (side : Colour) (n k : ℕ) (p : P) → n ≤ k → Forces chess goal side n p → Forces chess goal side k p
+forces_later chess goal side n k p h f =
+    later (λ i. Forces chess goal side i p) (λ _ v. inl v) n k h f
+
+-- a goal within its lag
+pub forces_goal : {P M : Type 0} (chess : Chess P M) (goal : P → Option ℕ) (side : Colour) (n : ℕ) (p : P) → goal p ≡ Some n → Forces chess goal side n p
+forces_goal chess goal side zero p e = inl e
+forces_goal chess goal side (suc n) p e = inr (inl e)
+
+-- positions
+pub is_mate : {M : Type 0} (i : Bool) (ms : List M) (check : Bool) (turn side : Colour) →
+    node_by i ms check turn ≡ Mate side → (i ≡ true) × (ms ≡ []) × (check ≡ true) × (turn ≡ side)
+is_mate false ms check turn side e = absurd (cc)
+is_mate true (m ∷ ms) check turn side e = absurd (cc)
+is_mate true [] true turn side e = (refl, refl, refl, cc)
+is_mate true [] false turn side e = absurd (cc)
+
+pub is_going : {M : Type 0} (i : Bool) (ms : List M) (check : Bool) (turn side : Colour) →
+    node_by i ms check turn ≡ Going side → (i ≡ true) × (ms ≢ []) × (turn ≡ side)
+is_going false ms check turn side e = absurd (cc)
+is_going true (m ∷ ms) check turn side e = (refl, λ h. cc, cc)
+is_going true [] true turn side e = absurd (cc)
+is_going true [] false turn side e = absurd (cc)
+
+pub goes : {M : Type 0} (i : Bool) (ms : List M) (check : Bool) (turn : Colour) → i ≡ true →
+    ms ≢ [] → node_by i ms check turn ≡ Going turn
+goes false ms check turn e h = absurd (cc)
+goes true [] check turn e h = absurd (h refl)
+goes true (m ∷ ms) check turn e h = refl
+
+pub mated_by : {M : Type 0} (i : Bool) (ms : List M) (check : Bool) (turn : Colour) → i ≡ true →
+    ms ≡ [] → check ≡ true → node_by i ms check turn ≡ Mate turn
+mated_by i ms check turn e h k = rw (e, h, k) refl
+
+-- where an arm leads
+pub leads_by : {P V : Type 0} (F : P → Type 0) (Q : V → Type 0) (i : Bool) (q : P) (v : V) →
+    LeadsTo F Q (next_by i q v) → ((i ≡ true) × F q) ⊎ ((i ≡ false) × Q v)
+leads_by F Q true q v h = inl (refl, h)
+leads_by F Q false q v h = inr (refl, h)
+
+pub leads_inside : {P V : Type 0} (F : P → Type 0) (Q : V → Type 0) (i : Bool) (q : P) (v : V) →
+    (i ≡ true → F q) → (i ≡ false → Q v) → LeadsTo F Q (next_by i q v)
+leads_inside F Q true q v h k = h refl
+leads_inside F Q false q v h k = k refl
+
+-- the move of an arm
+pub move_of : {P M V : Type 0} (game : Game P M V) (p : P) (a : Arm M P V) →
+    IsArm (arena_of game) p a → (m : M) × Contains (game.chess.moves p) m × (arm_of game p m ≡ a)
+move_of game p a h = from_mapped (arm_of game p) (game.chess.moves p) a h
+
+pub arm_at : {P M V : Type 0} (game : Game P M V) (p : P) (m : M) →
+    Contains (game.chess.moves p) m → IsArm (arena_of game) p (arm_of game p m)
+arm_at game p m h = mapped_in (arm_of game p) (game.chess.moves p) m h
+
+-- a good exit is a goal
+goal_by_class : (i : Bool) (c : Class) (lag : ℕ) → i ≡ false → c ≡ Good → goal_by i c lag ≡ Some lag
+goal_by_class i c lag e h = rw (e, h) refl
+
+-- what is good at n is forced within n
+good_is_forced : {P M V : Type 0} (game : Game P M V) (side : Colour) (n : ℕ) →
+    ((q : P) → WinsWithin (arena_of game) side n q → Forces game.chess (goals_of game side) side n q) → (q : P) → LeadsTo (WinsWithin (arena_of game) side n) (IsGoodExit (arena_of game) side n) (next_by (game.member q) q (game.value q)) → Forces game.chess (goals_of game side) side n q
+good_is_forced game side n ih q h =
+    elim (leads_by (WinsWithin (arena_of game) side n) (IsGoodExit (arena_of game) side n) (game.member q) q (game.value q) h) [
+      | inl w ↦ ih q w.1
+      | inr w ↦
+          forces_later game.chess (goals_of game side) side (game.lag (game.value q)) n q w.1.1
+          (forces_goal game.chess (goals_of game side) side (game.lag (game.value q)) q (goal_by_class (game.member q) (game.class (game.value q) side) (game.lag (game.value q)) w.0 w.1.0))
+    ]
+
+-- the restricted game's win is forced in chess
+pub wins_forces : {P M V : Type 0} (game : Game P M V) (side : Colour) (n : ℕ) (p : P) →
+    WinsWithin (arena_of game) side n p → Forces game.chess (goals_of game side) side n p
+wins_forces game side zero p w =
+    let h = is_mate (game.member p) (game.chess.moves p) (game.chess.in_check p) (game.chess.turn p) (other_of side) w in
+    inr (record { to_move = h.3; no_move = h.1; attacked = h.2 })
+wins_forces game side (suc n) p (inl w) = inl (wins_forces game side n p w)
+wins_forces game side (suc n) p (inr (inl w)) =
+    let g = is_going (game.member p) (game.chess.moves p) (game.chess.in_check p) (game.chess.turn p) side w.0 in
+    let m = move_of game p w.1.0 w.1.1 in
+    let F = WinsWithin (arena_of game) side n in
+    let Q = IsGoodExit (arena_of game) side n in
+    let h = subst (λ a. LeadsTo F Q a.next) (sym m.2) w.1.3 in
+    inr (inr (inl (g.2, (m.0, m.1, good_is_forced game side n (wins_forces game side n) (game.chess.play p m.0) h))))
+wins_forces game side (suc n) p (inr (inr w)) =
+    let g = is_going (game.member p) (game.chess.moves p) (game.chess.in_check p) (game.chess.turn p) (other_of side) w.0 in
+    inr (inr (inr (g.2, g.1, λ m i. good_is_forced game side n (wins_forces game side n) (game.chess.play p m) (w.2 (arm_of game p m) (arm_at game p m i)))))

@@ -1,0 +1,3 @@
+-- Lists of arms.
+pub mod Members
+pub mod FirstOnes

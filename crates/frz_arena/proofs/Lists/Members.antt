@@ -1,0 +1,35 @@
+-- Membership, by recursion on the list.
+use Rattle.std.proofs.Common.{◌≡◌, zero, suc, ◌⊎◌, inl, inr, Bool, true, false, List, [], ◌∷◌, refl, arith}
+use Rattle.std.specs.List.{Contains}
+use Rattle.std.proofs.lemmas.List.Elements.{Contains-append_right}
+
+pub none_in_empty : {X : Type 0} (x : X) → Contains [] x → ⊥
+none_in_empty x h = omega (arith, h.1)
+
+pub first_in : {X : Type 0} (x : X) (xs : List X) → Contains (x ∷ xs) x
+first_in x xs = (zero, omega arith, refl)
+
+pub later_in : {X : Type 0} (y : X) (xs : List X) (x : X) → Contains xs x → Contains (y ∷ xs) x
+later_in y xs x h = Contains-append_right (y ∷ []) xs x h
+
+pub in_cases : {X : Type 0} (y : X) (xs : List X) (x : X) → Contains (y ∷ xs) x →
+    (y ≡ x) ⊎ Contains xs x
+in_cases y xs x (zero, h, e) = inl e
+in_cases y xs x (suc k, h, e) = inr (k, omega (arith, h), e)
+
+pub true_or_false : (b : Bool) → (b ≡ true) ⊎ (b ≡ false)
+true_or_false true = inl refl
+true_or_false false = inr refl
+
+-- some element passes the test, or none does
+pub passes_or_none : {X : Type 0} (test : X → Bool) (xs : List X) →
+    ((x : X) × Contains xs x × (test x ≡ true)) ⊎ ((x : X) → Contains xs x → test x ≡ true → ⊥)
+passes_or_none test [] = inr (λ x h _. none_in_empty x h)
+passes_or_none {X} test (y ∷ xs) =
+    elim (true_or_false (test y)) [
+      | inl t ↦ inl (y, first_in y xs, t)
+      | inr f ↦ elim (passes_or_none test xs) [
+        | inl r ↦ inl (r.0, later_in y xs r.0 r.1, r.2)
+        | inr none ↦ inr (λ x h t. elim (in_cases y xs x h) [ inl e ↦ absurd (cc) | inr i ↦ none x i t ])
+      ]
+    ]

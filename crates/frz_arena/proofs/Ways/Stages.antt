@@ -1,0 +1,70 @@
+-- What is due at a position of a way, by cases.
+use Rattle.std.proofs.Common.{◌≡◌, ◌==◌, ◌&&◌, ℕ, inl, inr, Bool, true, false, refl, arith}
+use Rattle.std.proofs.lemmas.Bool.Decides.{nat_tests}
+use Rattle.frz_board.specs.declared.man.Colour.{Colour}
+use Rattle.frz_arena.specs.declared.node.Node.{Node}
+use Rattle.frz_arena.specs.declared.node.Node.TheVariants.{Broken, Mate, Stalemate, Going}
+use Rattle.frz_arena.specs.Codes.{is_failure}
+use Rattle.frz_arena.specs.LocalCodes.{local_code}
+use Rattle.frz_arena.specs.WayEnds.{Wrong, NoBound, Mated, Stalemated, Cut}
+use Rattle.frz_arena.specs.Ways.{Player, Stage, Over, Moves, is_cut, stage_of, stage}
+use Rattle.frz_arena.proofs.Lists.Members.{true_or_false}
+
+pub same_number : (a b : ℕ) → (a == b) ≡ true → a ≡ b
+same_number a b e = grind (arith, nat_tests)
+
+pub number_same : (a b : ℕ) → a ≡ b → (a == b) ≡ true
+number_same a b e = grind (arith, nat_tests)
+
+-- the kept code is the local one, and a start does not fail
+pub record IsSound {M N V S R : Type 0} (player : Player M N V S R) (plies : ℕ) (p : N) : Type 0 where
+  pub agrees : player.entry p ≡ local_code player.arena player.side player.entry p
+  pub starts : ((plies == 0) && is_failure (player.entry p)) ≡ false
+
+pub data StageIs {M N V S R : Type 0} (player : Player M N V S R) (plies : ℕ) (p : N) (x : Stage N V R) : Type 0 where
+  wrong : (player.entry p ≡ local_code player.arena player.side player.entry p → ⊥) →
+      x ≡ Over (Wrong p (player.entry p) (local_code player.arena player.side player.entry p)) →
+      StageIs player plies p x
+  fails : player.entry p ≡ local_code player.arena player.side player.entry p →
+      is_failure (player.entry p) ≡ true → x ≡ Over NoBound → StageIs player plies p x
+  broken : IsSound player plies p → player.arena.node p ≡ Broken →
+      x ≡ Over (Wrong p (player.entry p) 0) → StageIs player plies p x
+  mated : IsSound player plies p → (mover : Colour) → player.arena.node p ≡ Mate mover →
+      x ≡ Over (Mated mover) → StageIs player plies p x
+  stale : IsSound player plies p → (mover : Colour) → player.arena.node p ≡ Stalemate mover →
+      x ≡ Over (Stalemated mover) → StageIs player plies p x
+  cut : IsSound player plies p → (mover : Colour) → player.arena.node p ≡ Going mover →
+      is_cut player.opponent plies (player.entry p) ≡ true → x ≡ Over Cut → StageIs player plies p x
+  moves : IsSound player plies p → (mover : Colour) → player.arena.node p ≡ Going mover →
+      is_cut player.opponent plies (player.entry p) ≡ false → x ≡ Moves mover →
+      StageIs player plies p x
+
+stage_of_is : {M N V S R : Type 0} (player : Player M N V S R) (plies : ℕ) (p : N) →
+    IsSound player plies p → (node : Node) → player.arena.node p ≡ node →
+    StageIs player plies p (stage_of player plies p node)
+stage_of_is player plies p sound Broken e = broken sound e refl
+stage_of_is player plies p sound (Mate mover) e = mated sound mover e refl
+stage_of_is player plies p sound (Stalemate mover) e = stale sound mover e refl
+stage_of_is player plies p sound (Going mover) e =
+    elim (true_or_false (is_cut player.opponent plies (player.entry p))) [
+      | inl t ↦ cut sound mover e t (rw t refl)
+      | inr f ↦ moves sound mover e f (rw f refl)
+    ]
+
+and_second : (a b : Bool) → (a && b) ≡ true → b ≡ true
+and_second true b h = h
+and_second false b h = absurd (cc)
+
+pub stage_is : {M N V S R : Type 0} (player : Player M N V S R) (plies : ℕ) (p : N) →
+    StageIs player plies p (stage player plies p)
+stage_is player plies p =
+    elim (true_or_false (player.entry p == local_code player.arena player.side player.entry p)) [
+      | inr f ↦ wrong (λ e. (let t = number_same (player.entry p) (local_code player.arena player.side player.entry p) e in cc)) (rw f refl)
+      | inl t ↦ (let e = same_number (player.entry p) (local_code player.arena player.side player.entry p) t in
+          elim (true_or_false ((plies == 0) && is_failure (player.entry p))) [
+            | inl s ↦
+                fails e (and_second (plies == 0) (is_failure (player.entry p)) s) (rw (t, s) refl)
+            | inr n ↦
+                rw (t, n) (stage_of_is player plies p (record { agrees = e; starts = n }) (player.arena.node p) refl)
+          ])
+    ]

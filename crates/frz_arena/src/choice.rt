@@ -1,0 +1,49 @@
+//! The move that a kept code asks for.
+
+ghost use Rattle.std.specs.Prelude.{◌≡◌, ◌≤◌, ◌<◌, ℕ, IfSome, IsNone, true, false};
+ghost use Rattle.std.specs.List.{Contains};
+ghost use Rattle.frz_arena.specs.Codes as codes;
+ghost use Rattle.frz_arena.specs.Chosen.{IsFirst, IsFound};
+
+use super::codes::is_win;
+
+/// A move as a player who goes by codes sees it.
+#[derive(Clone, Copy, Debug, PartialEq, Eq)]
+pub struct Choice {
+    /// Whether the mover may take it.
+    pub allowed: bool,
+    /// The code behind it.
+    pub code: u32,
+}
+
+ghost use Rattle.frz_arena.specs.Choices.{has_code};
+
+/// The place of the first allowed move with the code.
+fn first_with(choices: &[Choice], code: u32) -> Option<usize>
+    ensures some { IfSome result (λ i. (x : Choice) × IsFirst (has_code code) choices.now i x) }
+    ensures none { IsNone result → (x : Choice) → Contains choices.now x → has_code code x ≡ false }
+{
+    for place in 0..choices.len() {
+        let choice = choices[place];
+        if choice.allowed && choice.code == code {
+            return Some(place);
+        }
+    }
+    None
+}
+
+/// The place of the move that the kept code asks for: from a win the first with one ply less, else the
+/// first that holds, and where none holds the first with code 0.
+pub fn choose(choices: &[Choice], kept: u32) -> Option<usize>
+    ensures some { IfSome result (λ i. (x : Choice) × IsFound has_code (codes.is_win kept) kept choices.now i x) }
+    ensures none { IsNone result → (i : ℕ) (x : Choice) →
+        IsFound has_code (codes.is_win kept) kept choices.now i x → ⊥ }
+{
+    if is_win(kept) {
+        return first_with(choices, kept - 2);
+    }
+    match first_with(choices, 1) {
+        Some(place) => Some(place),
+        None => first_with(choices, 0),
+    }
+}
