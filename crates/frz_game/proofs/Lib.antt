@@ -1,8 +1,8 @@
-pub mod Filled
-pub mod Membership
-pub mod Endings
-pub mod Numbers
-pub mod Graph
-pub mod TrueValues
-pub mod Bounded
-pub mod DifferentArms
+pub mod Lemmas
+mod Endings
+mod Numbers
+mod Graph
+mod TrueValues
+mod Bounded
+mod DifferentArms
+mod NoExits

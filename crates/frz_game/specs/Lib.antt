@@ -1,7 +1,5 @@
-pub mod Arms
-pub mod Entering
-pub mod Graphs
-pub mod Membership
+pub mod Numbers
 pub mod Games
 pub mod Values
-pub mod Stored
+pub mod SmallLags
+pub mod Bounds

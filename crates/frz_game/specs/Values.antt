@@ -6,12 +6,12 @@ use Rattle.frz_board.specs.Boards.{Board}
 use Rattle.frz_board.specs.Moving.{Step}
 use Rattle.frz_fide.specs.Legal.{after}
 use Rattle.frz_fide.specs.Listing.{legal_moves_of}
-use Rattle.frz_rules.specs.declared.exit.Value.{Value}
-use Rattle.frz_rules.specs.declared.exit.Value.TheVariants.{WhiteWins, BlackWins, Draw, WhiteHolds, BlackHolds, Unknown, WhiteWinsIn, BlackWinsIn}
-use Rattle.frz_rules.specs.Views.{RuleLines}
+use Rattle.frz_sets.specs.declared.exit.Value.{Value}
+use Rattle.frz_sets.specs.declared.exit.Value.TheVariants.{WhiteWins, BlackWins, Draw, WhiteHolds, BlackHolds, Unknown, WhiteWinsIn, BlackWinsIn}
+use Rattle.frz_sets.specs.Views.{RuleLines}
 use Rattle.frz_arena.specs.Chess.{ForcesMate, NeverForcesMate}
 use Rattle.frz_game.specs.Games.{chess}
-use Rattle.frz_game.specs.Membership.{is_member}
+use Rattle.frz_game.specs.Numbers.{is_member}
 
 -- who wins forces mate, within the number if there is one; who holds is never mated by force
 abbrev pub IsTrueValue : Value → Board → Type 0

@@ -1,49 +1,69 @@
-ghost use Rattle.std.specs.Prelude.{◌≡◌, ◌≤◌, ◌+◌, IfSome, map, true};
+//! The restricted game over numbers.
+
+ghost use Rattle.std.specs.Prelude.{◌≡◌, ◌≤◌, ◌+◌, IfSome, map, true, ⊤};
 ghost use Rattle.frz_arena.specs.declared.node.Node.TheVariants.{Broken};
-ghost use Rattle.frz_fide.specs.Legal.{is_legal, after};
+ghost use Rattle.frz_arena.specs.Games.{node_by, next_by};
+ghost use Rattle.frz_arena.specs.Names.{named_next, name_in};
+ghost use Rattle.frz_board.specs.Attacks.{is_in_check};
+ghost use Rattle.frz_fide.specs.Legal.{is_legal, after as board_after};
 ghost use Rattle.frz_fide.specs.Listing.{legal_moves_of};
 ghost use Rattle.frz_fide.specs.Valid.{IsValid};
-ghost use Rattle.frz_game.specs.Membership.{number_of, position_at};
-ghost use Rattle.frz_game.specs.Games.{arm_at, arms_of, next_by, node_at, node_of};
+ghost use Rattle.frz_game.specs.Numbers.{is_member, number_of, numbers_by, position_at};
+ghost use Rattle.frz_game.specs.Games.{arm_at, graph_by};
 
-use crate::arm::{Arm, Next, NextList};
 use frz_arena::Node;
+use frz_bits::Bitboards;
 use frz_board::{Move, Position};
 use frz_exits::{ExitBook, allowed};
-use frz_fide::{Ending, MoveList, ending, legal_moves, play};
+use frz_fide::{Ending, MoveList, after, ending, put_legal_moves};
+use frz_graph::{Arm, Next, NextList};
 use frz_index::Set;
-use frz_rules::Rules;
+use frz_sets::Rules;
 use frz_steps::Steps;
+use std::alloc::AllocError;
 use std::sync::ledger::Ledger;
 
 /// The restricted game of rules, over the numbers of their set, with the values of a book outside.
-#[derive_where(Clone, Copy)]
+/// Its type keeps that the groups of the set are those of the rules.
 pub struct Game<'a, B: ExitBook> {
     pub set: &'a Set,
     pub rules: &'a Rules,
     pub book: &'a B,
+    pub ghost fits: { set.now ≡ rules.now.groups },
+}
+
+impl<B: ExitBook> Copy for Game<'_, B> {}
+
+impl<B: ExitBook> Clone for Game<'_, B> {
+    ghost is_clone = { λ game other. (other.set.now ≡ game.set.now) × (other.rules.now ≡ game.rules.now) × (other.book.now ≡ game.book.now) };
+
+    ghost is_infallible = { λ _. ⊤ };
+
+    fn clone(&self) -> Result<Self, AllocError> {
+        Ok(*self)
+    }
 }
 
 /// The number of a position, as the set gives it.
-fn number(set: &Set, q: &Position) -> Option<u32>
+fn number(set: &Set, q: &Bitboards) -> Option<u32>
     requires { IsValid q.now }
     ensures { result ≡ number_of set.now q.now }
 {
-    set.number(q)
+    set.number_on(q)
 }
 
 /// The position of a number, as the set gives it.
-fn position(set: &Set, i: u32) -> Option<Position>
+fn position(set: &Set, i: u32) -> Option<Bitboards>
     ensures position { result ≡ position_at set.now i }
     ensures valid { IfSome result IsValid }
 {
-    set.at(i)
+    set.boards_at(i)
 }
 
 fn node(p: &Position, moves: &MoveList) -> Node
     requires valid { IsValid p.now }
     requires moves { moves.now.items ≡ legal_moves_of p.now }
-    ensures { result ≡ node_at p.now }
+    ensures { result ≡ node_by true (legal_moves_of p.now) (is_in_check p.now p.now.turn) p.now.turn }
 {
     match ending(p, moves) {
         Ending::Mate => Node::Mate(p.turn()),
@@ -54,39 +74,36 @@ fn node(p: &Position, moves: &MoveList) -> Node
 
 impl<B: ExitBook> Game<'_, B> {
     /// Where a legal move leads.
-    fn next(&self, p: &Position, m: Move) -> Next
+    fn next(&self, p: &Bitboards, m: Move) -> Next
         requires valid { IsValid p.now }
         requires legal { is_legal p.now m ≡ true }
-        requires set { self.now.set.now ≡ self.now.rules.now.groups }
-        ensures { result ≡ next_by (number_of self.now.rules.now.groups (after p.now m)) (B.value_at self.now.book.now (after p.now m)) }
+        ensures { let groups = self.now.rules.now.groups in
+            let q = board_after p.now m in
+            result ≡ named_next (name_in (numbers_by groups)) (next_by (is_member groups q) q (B.value_at self.now.book.now q)) }
     {
-        match play(p, m) {
-            None => unreachable!(),
-            Some(q) => match number(self.set, &q) {
-                Some(n) => Next::Inside(n),
-                None => Next::Outside(self.book.value(&q)),
-            },
+        let q = after(p, m);
+        match number(self.set, &q) {
+            Some(n) => Next::Inside(n),
+            None => Next::Outside(self.book.value(q.as_position())),
         }
     }
 
-    fn arm(&self, p: &Position, m: Move) -> Arm
+    fn arm(&self, p: &Bitboards, m: Move) -> Arm
         requires valid { IsValid p.now }
         requires legal { is_legal p.now m ≡ true }
-        requires set { self.now.set.now ≡ self.now.rules.now.groups }
         ensures { result ≡ arm_at self.now.rules.now (B.value_at self.now.book.now) p.now m }
     {
         Arm {
             mv: m,
-            free: allowed(self.rules, p.turn(), p, m),
+            free: allowed(self.rules, p.turn(), p.as_position(), m),
             next: self.next(p, m),
         }
     }
 
     /// Puts the arms of the legal moves into the list.
-    fn put_arms(&self, p: &Position, moves: &MoveList, list: &mut NextList)
+    fn put_arms(&self, p: &Bitboards, moves: &MoveList, list: &mut NextList)
         requires valid { IsValid p.now }
         requires moves { moves.now.items ≡ legal_moves_of p.now }
-        requires set { self.now.set.now ≡ self.now.rules.now.groups }
         ensures { list.new.items ≡ map (arm_at self.now.rules.now (B.value_at self.now.book.now) p.now) moves.now.items }
     {
         list.clear();
@@ -95,13 +112,18 @@ impl<B: ExitBook> Game<'_, B> {
         }
     }
 
-    /// What the number is. The list then has one arm for each of its legal moves, in move order, and
-    /// none where the number is broken.
-    pub fn nexts<L: Ledger>(&self, i: u32, list: &mut NextList, steps: &mut Steps<L>) -> Node
-        requires { self.now.set.now ≡ self.now.rules.now.groups }
-        ensures node { result ≡ node_of self.now.rules.now.groups i }
-        ensures arms { list.new.items ≡ arms_of self.now.rules.now (B.value_at self.now.book.now) i }
+    /// `nexts` by a list of moves that is kept from call to call.
+    pub fn nexts_by<L: Ledger>(
+        &self,
+        i: u32,
+        moves: &mut MoveList,
+        list: &mut NextList,
+        steps: &mut Steps<L>,
+    ) -> Node
+        ensures node { result ≡ (graph_by self.now.rules.now (B.value_at self.now.book.now)).node i }
+        ensures arms { list.new.items ≡ (graph_by self.now.rules.now (B.value_at self.now.book.now)).arms i }
         ensures step { steps.new ≤ steps.old + 1 }
+        ensures later { steps.old ≤ steps.new }
         ensures broken { result ≡ Broken → steps.new ≡ steps.old }
     {
         match position(self.set, i) {
@@ -110,10 +132,22 @@ impl<B: ExitBook> Game<'_, B> {
                 Node::Broken
             }
             Some(p) => {
-                let moves = legal_moves(&p, steps);
-                self.put_arms(&p, &moves, list);
-                node(&p, &moves)
+                put_legal_moves(&p, moves, steps);
+                self.put_arms(&p, moves, list);
+                node(p.as_position(), moves)
             }
         }
+    }
+
+    /// What the number is. The list then has one arm for each of its legal moves, in move order, and
+    /// none where the number is broken.
+    pub fn nexts<L: Ledger>(&self, i: u32, list: &mut NextList, steps: &mut Steps<L>) -> Node
+        ensures node { result ≡ (graph_by self.now.rules.now (B.value_at self.now.book.now)).node i }
+        ensures arms { list.new.items ≡ (graph_by self.now.rules.now (B.value_at self.now.book.now)).arms i }
+        ensures step { steps.new ≤ steps.old + 1 }
+        ensures broken { result ≡ Broken → steps.new ≡ steps.old }
+    {
+        let mut moves = MoveList::new();
+        self.nexts_by(i, &mut moves, list, steps)
     }
 }

@@ -1,21 +1,15 @@
-//! The restricted game over the numbers of a set: the moves of a number, codes and local codes.
+//! The restricted game over the numbers of a set.
 #![tactic(auto)]
 
-mod arm;
-mod codes;
-mod entries;
 mod game;
 pub mod laws;
-mod local_code;
+mod numbered;
 mod wrong;
 
-pub use arm::{Arm, Next, NextList};
-pub use codes::exit_code;
-pub use entries::{CodeList, Entries, Pair, fill};
 pub use frz_arena::{Bound, Node, bound_of, code};
+pub use frz_graph::{
+    Arm, CodeList, Entries, Lists, Next, NextList, NumberedGame, Pair, exit_code, fill, local,
+    local_by,
+};
 pub use game::Game;
-pub use local_code::local;
 pub use wrong::Wrong;
-
-#[cfg(test)]
-mod tests;

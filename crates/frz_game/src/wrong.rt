@@ -1,3 +1,5 @@
+//! An entry that a check refuses.
+
 use frz_board::Colour;
 
 /// An entry that is not its local code: the side and the number, the code that is kept there and

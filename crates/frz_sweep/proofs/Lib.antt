@@ -1,4 +1,4 @@
 pub mod NextTold
 pub mod Reached
-pub mod WinningLags
-pub mod GameNumbers
+pub mod ExitLags
+pub mod BoundCodes

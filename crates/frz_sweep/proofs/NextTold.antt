@@ -7,13 +7,7 @@ use Rattle.frz_board.specs.declared.man.Colour.{Colour}
 use Rattle.frz_arena.specs.Arena.{Arena, IsLawful}
 use Rattle.frz_arena.specs.Codes.{IsWinWithin, IsFailureWithin}
 use Rattle.frz_arena.specs.LocalCodes.{local_code}
-use Rattle.frz_arena.proofs.ChosenCodes.{win_and_failure}
-use Rattle.frz_arena.proofs.NeverBoth.{never_both}
-use Rattle.frz_arena.proofs.OneBound.{broken_never_wins, broken_never_fails}
-use Rattle.frz_arena.proofs.Opposed.{wins_later, fails_later}
-use Rattle.frz_arena.proofs.PlyCodes.{at_broken}
-use Rattle.frz_arena.proofs.OnePly.{TellBefore, broken_of_code, local_tells}
-use Rattle.frz_arena.proofs.UniqueCodes.{none, hold, win, failure, code_is, as_win, as_failure}
+use Rattle.frz_arena.proofs.Lemmas.{win_and_failure, never_both, broken_never_wins, broken_never_fails, wins_later, fails_later, at_broken, TellBefore, broken_of_code, local_tells, none, hold, win, failure, code_is, as_win, as_failure}
 use Rattle.frz_sweep.specs.Told.{IsTold, settled_code}
 
 pub settled_low : (n c : ℕ) → c ≤ 3 + 2 * n → settled_code n c ≡ c
@@ -29,7 +23,8 @@ pub no_failure : (m c : ℕ) → c ≤ 1 → IsFailureWithin m c → ⊥
 no_failure m c l f = let k = f.0 in grind (arith, nat_tests)
 
 -- settling keeps what a code says of the plies that are reached
-settled_says : (Says : ℕ → Type 0) (n c : ℕ) → (Says 1 → ⊥) → (Says c → c ≤ 3 + 2 * n) → Says c ↔ Says (settled_code n c)
+settled_says : (Says : ℕ → Type 0) (n c : ℕ) → (Says 1 → ⊥) → (Says c → c ≤ 3 + 2 * n) →
+    Says c ↔ Says (settled_code n c)
 settled_says Says n c open_says few =
     elim (cases_lt (3 + 2 * n) c) [
       | inl high ↦ (
@@ -40,10 +35,12 @@ settled_says Says n c open_says few =
     ]
 
 settled_win : (n m c : ℕ) → m ≤ n → IsWinWithin m c ↔ IsWinWithin m (settled_code n c)
-settled_win n m c l = settled_says (λ d. IsWinWithin m d) n c (no_win m 1 (omega arith)) (λ w. omega (arith, w.1))
+settled_win n m c l =
+    settled_says (λ d. IsWinWithin m d) n c (no_win m 1 (omega arith)) (λ w. omega (arith, w.1))
 
 settled_failure : (n m c : ℕ) → m ≤ n → IsFailureWithin m c ↔ IsFailureWithin m (settled_code n c)
-settled_failure n m c l = settled_says (λ d. IsFailureWithin m d) n c (no_failure m 1 (omega arith)) (λ f. omega (arith, f.1))
+settled_failure n m c l =
+    settled_says (λ d. IsFailureWithin m d) n c (no_failure m 1 (omega arith)) (λ f. omega (arith, f.1))
 
 settled_zero : (n c : ℕ) → settled_code n c ≡ 0 → c ≡ 0
 settled_zero n c e =
@@ -60,7 +57,8 @@ settled_few n c =
     ]
 
 -- a local code is told one ply more
-pub local_told : {V : Type 0} (arena : Arena ℕ V) → IsLawful arena → (side : Colour) (n : ℕ) (entry : ℕ → ℕ) → TellBefore arena side n entry →
+pub local_told : {M V : Type 0} (arena : Arena M ℕ V) → IsLawful arena →
+    (side : Colour) (n : ℕ) (entry : ℕ → ℕ) → TellBefore arena side n entry →
     (i : ℕ) → IsTold arena side (n + 1) i (settled_code n (local_code arena side entry i))
 local_told arena law side n entry told i =
     let next = local_tells arena law side n entry told in
@@ -80,7 +78,8 @@ local_told arena law side n entry told i =
     }
 
 -- a code that is settled tells each further ply
-pub settled_told : {V : Type 0} (arena : Arena ℕ V) (side : Colour) (n i c : ℕ) → IsTold arena side n i c → c ≢ 1 → IsTold arena side (n + 1) i c
+pub settled_told : {M V : Type 0} (arena : Arena M ℕ V) (side : Colour) (n i c : ℕ) →
+    IsTold arena side n i c → c ≢ 1 → IsTold arena side (n + 1) i c
 settled_told arena side n i c told ne =
     elim (code_is c) [
       | none e ↦ (
@@ -101,7 +100,8 @@ settled_told arena side n i c told ne =
             broken = λ _ b. absurd (broken_never_wins arena side k i b w);
             wins = λ m l. elim (cases_lt m n) [
               | inl below ↦ told.wins m below
-              | inr above ↦ (λ _. ((as_win c k e).0, omega arith), λ _. wins_later arena side k m i (omega arith) w)
+              | inr above ↦
+                  (λ _. ((as_win c k e).0, omega arith), λ _. wins_later arena side k m i (omega arith) w)
             ];
             fails = λ m l. (
               λ f. absurd (never_both arena side k m i w f),
@@ -121,30 +121,35 @@ settled_told arena side n i c told ne =
             );
             fails = λ m l. elim (cases_lt m n) [
               | inl below ↦ told.fails m below
-              | inr above ↦ (λ _. ((as_failure c k e).0, omega arith), λ _. fails_later arena side k m i (omega arith) f)
+              | inr above ↦
+                  (λ _. ((as_failure c k e).0, omega arith), λ _. fails_later arena side k m i (omega arith) f)
             ];
             within = omega arith;
           })
     ]
 
 -- a number that was open has no code of fewer plies
-pub late_code : {V : Type 0} (arena : Arena ℕ V) (side : Colour) (n i c : ℕ) → 0 < n → IsTold arena side n i 1 → IsTold arena side (n + 1) i c → c ≢ 1 → 2 + 2 * n ≤ c
+pub late_code : {M V : Type 0} (arena : Arena M ℕ V) (side : Colour) (n i c : ℕ) → 0 < n →
+    IsTold arena side n i 1 → IsTold arena side (n + 1) i c → c ≢ 1 → 2 + 2 * n ≤ c
 late_code arena side n i c some open_one told ne =
     elim (code_is c) [
       | none e ↦ absurd (let k = open_one.broken some (told.zero e) in omega arith)
       | hold e ↦ absurd (ne e)
       | win k e ↦ elim (cases_lt k n) [
-        | inl below ↦ absurd (no_win k 1 (omega arith) ((open_one.wins k below).0 ((told.wins k (omega arith)).1 (as_win c k e))))
+        | inl below ↦
+            absurd (no_win k 1 (omega arith) ((open_one.wins k below).0 ((told.wins k (omega arith)).1 (as_win c k e))))
         | inr above ↦ omega arith
       ]
       | failure k e ↦ elim (cases_lt k n) [
-        | inl below ↦ absurd (no_failure k 1 (omega arith) ((open_one.fails k below).0 ((told.fails k (omega arith)).1 (as_failure c k e))))
+        | inl below ↦
+            absurd (no_failure k 1 (omega arith) ((open_one.fails k below).0 ((told.fails k (omega arith)).1 (as_failure c k e))))
         | inr above ↦ omega arith
       ]
     ]
 
 -- in the middle of a ply, where the numbers below i are told it, the next one is told it by its local code
-pub next_told : {V : Type 0} (arena : Arena ℕ V) → IsLawful arena → (side : Colour) (n i : ℕ) (codes : List ℕ) →
+pub next_told : {M V : Type 0} (arena : Arena M ℕ V) → IsLawful arena →
+    (side : Colour) (n i : ℕ) (codes : List ℕ) →
     ((p : ℕ) → p < i → IsTold arena side (n + 1) p (slice_index codes p)) →
     ((p : ℕ) → i ≤ p → IsTold arena side n p (slice_index codes p)) →
     IsTold arena side (n + 1) i (settled_code n (local_code arena side (λ k. slice_index codes k) i))
@@ -157,7 +162,8 @@ next_told arena law side n i codes before after =
     i
 
 -- past the numbers of the arena all is told
-pub past_told : {V : Type 0} (arena : Arena ℕ V) (side : Colour) (n i : ℕ) (codes : List ℕ) → length codes ≤ i →
+pub past_told : {M V : Type 0} (arena : Arena M ℕ V) (side : Colour) (n i : ℕ) (codes : List ℕ) →
+    length codes ≤ i →
     IsTold arena side n i (slice_index codes i) → IsTold arena side (n + 1) i (slice_index codes i)
 past_told arena side n i codes l told =
     settled_told arena side n i (slice_index codes i) told (λ e. (let k = get_or_past codes i 0 l in omega arith))

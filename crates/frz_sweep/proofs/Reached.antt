@@ -3,22 +3,19 @@ use Rattle.std.proofs.Common.{◌≡◌, ◌≤◌, ◌<◌, ◌+◌, ◌*◌, �
 use Rattle.std.proofs.lemmas.Bool.{cases_lt}
 use Rattle.std.proofs.lemmas.Bool.Decides.{nat_tests}
 use Rattle.frz_board.specs.declared.man.Colour.{Colour}
+use Rattle.frz_sets.specs.declared.exit.Value.{Value}
 use Rattle.frz_arena.specs.declared.bound.Bound.TheVariants.{Wins, Fails}
 use Rattle.frz_arena.specs.Arena.{Arena}
 use Rattle.frz_arena.specs.Plies.{WinsWithin, FailsWithin, LagsWithin}
 use Rattle.frz_arena.specs.Codes.{IsWinWithin, IsFailureWithin}
 use Rattle.frz_arena.specs.Bounds.{IsBound, IsCodeAt}
-use Rattle.frz_arena.proofs.BoundsExist.{win_plies_few, failure_plies_few}
-use Rattle.frz_arena.proofs.CodesByPlies.{AreCodes}
-use Rattle.frz_arena.proofs.OneBound.{codes_of_bounds}
-use Rattle.frz_arena.proofs.Opposed.{wins_later, fails_later}
-use Rattle.frz_arena.proofs.Stable.{wins_stay, fails_stay}
-use Rattle.frz_arena.proofs.UniqueCodes.{none, hold, win, failure, code_is, as_win, as_failure}
-use Rattle.frz_sweep.specs.Finite.{IsFinite}
+use Rattle.frz_arena.proofs.Lemmas.{win_plies_few, failure_plies_few, AreCodes, codes_of_bounds, wins_later, fails_later, wins_stay, fails_stay, none, hold, win, failure, code_is, as_win, as_failure}
+use Rattle.frz_graph.specs.Finite.{IsFinite}
 use Rattle.frz_sweep.specs.Told.{IsTold, AreTold}
 
 -- a code of a later ply than all before is that of a bound, so the plies are few
-pub few_plies : {V : Type 0} (arena : Arena ℕ V) (size : ℕ) → IsFinite arena size → (side : Colour) (most : ℕ) → LagsWithin arena side most →
+pub few_plies : {M : Type 0} (arena : Arena M ℕ Value) (size : ℕ) → IsFinite arena size →
+    (side : Colour) (most : ℕ) → LagsWithin arena side most →
     (n i c : ℕ) → IsTold arena side (n + 1) i c → 2 + 2 * n ≤ c → n ≤ size + most
 few_plies arena size finite side most lags n i c told late =
     let within = told.within in
@@ -48,7 +45,8 @@ earlier_failure : (n c : ℕ) → c ≤ 3 + 2 * n → (m : ℕ) → IsFailureWit
 earlier_failure n c l m f = (f.0, l)
 
 -- the codes after a ply that changed nothing, with no lag to come, tell all
-reached : {V : Type 0} (arena : Arena ℕ V) (side : Colour) (n : ℕ) → LagsWithin arena side n → (codes : List ℕ) →
+reached : {M V : Type 0} (arena : Arena M ℕ V) (side : Colour) (n : ℕ) → LagsWithin arena side n →
+    (codes : List ℕ) →
     AreTold arena side (n + 1) codes → AreTold arena side (n + 2) codes → AreCodes arena side (λ i. slice_index codes i)
 reached arena side n lags codes before after =
     let still : (p : ℕ) → WinsWithin arena side (suc n) p → WinsWithin arena side n p =
@@ -79,11 +77,13 @@ reached arena side n lags codes before after =
       ];
     }
 
-lags_later : {V : Type 0} (arena : Arena ℕ V) (side : Colour) (n most : ℕ) → most ≤ n → LagsWithin arena side most → LagsWithin arena side n
+lags_later : {M V : Type 0} (arena : Arena M ℕ V) (side : Colour) (n most : ℕ) → most ≤ n →
+    LagsWithin arena side most → LagsWithin arena side n
 lags_later arena side n most l lags p a v i e good = let h = lags p a v i e good in omega arith
 
 -- where a ply above 0 changes nothing, and each lag is below it, the codes are those of the bounds
-pub reached_codes : {V : Type 0} (arena : Arena ℕ V) (side : Colour) (ply most : ℕ) → most < ply → LagsWithin arena side most → (codes : List ℕ) →
+pub reached_codes : {M V : Type 0} (arena : Arena M ℕ V) (side : Colour) (ply most : ℕ) →
+    most < ply → LagsWithin arena side most → (codes : List ℕ) →
     AreTold arena side ply codes → AreTold arena side (ply + 1) codes → (i : ℕ) → IsCodeAt arena side i (slice_index codes i)
 reached_codes arena side zero most l lags codes before after i = absurd (omega arith)
 reached_codes arena side (suc n) most l lags codes before after i =

@@ -1,4 +1,2 @@
-pub mod Finite
 pub mod Told
 pub mod Winning
-pub mod FiniteGames

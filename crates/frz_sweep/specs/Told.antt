@@ -8,7 +8,7 @@ use Rattle.frz_arena.specs.Codes.{IsWinWithin, IsFailureWithin}
 
 -- the code tells the wins and failures of the number within fewer plies than n, and no others;
 -- it is 0 only where the number is broken, and there from the first ply on
-pub record IsTold {V : Type 0} (arena : Arena ℕ V) (side : Colour) (n i code : ℕ) : Type 0 where
+pub record IsTold {M V : Type 0} (arena : Arena M ℕ V) (side : Colour) (n i code : ℕ) : Type 0 where
   pub zero : code ≡ 0 → arena.node i ≡ Broken
   pub broken : 0 < n → arena.node i ≡ Broken → code ≡ 0
   pub wins : (m : ℕ) → m < n → WinsWithin arena side m i ↔ IsWinWithin m code
@@ -16,7 +16,7 @@ pub record IsTold {V : Type 0} (arena : Arena ℕ V) (side : Colour) (n i code :
   pub within : code ≤ 1 + 2 * n
 
 -- the codes of all numbers do
-abbrev pub AreTold : {V : Type 0} → Arena ℕ V → Colour → ℕ → List ℕ → Type 0
+abbrev pub AreTold : {M V : Type 0} → Arena M ℕ V → Colour → ℕ → List ℕ → Type 0
 AreTold arena side n codes = (i : ℕ) → IsTold arena side n i (slice_index codes i)
 
 -- a code once its plies are reached, and 1 before

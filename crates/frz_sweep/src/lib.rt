@@ -1,14 +1,10 @@
 //! A slow solver of the restricted game: forwards, ply by ply, until nothing changes.
 #![tactic(auto)]
 
-mod numbered;
-mod over_game;
+mod one_side;
 mod passes;
 mod plies;
 mod tables;
 mod winning;
 
 pub use tables::sweep;
-
-#[cfg(test)]
-mod tests;

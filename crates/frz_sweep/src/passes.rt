@@ -5,22 +5,30 @@ ghost use Rattle.frz_arena.specs.Bounds.{IsCodeAt};
 ghost use Rattle.frz_arena.specs.Plies.{LagsWithin};
 ghost use Rattle.frz_sweep.specs.Told.{AreTold};
 
-use crate::numbered::NumberedGame;
 use crate::plies::{OPEN, settle_all};
+use crate::winning::greatest_winning_lag;
 use frz_board::{Colour, NoMemory};
+use frz_graph::{Lists, NumberedGame};
 use frz_steps::Steps;
 use std::alloc::Global;
 use std::sync::ledger::Ledger;
 
 /// The greatest lag of the exits that win for the side, in plies.
-fn greatest_lag<G: NumberedGame<L>, L: Ledger>(game: &G, side: Colour, steps: &mut Steps<L>) -> u32
+fn greatest_lag<G: NumberedGame<L>, L: Ledger>(
+    game: &G,
+    side: Colour,
+    lists: &mut Lists,
+    steps: &mut Steps<L>,
+) -> u32
     requires { G.sound game.now }
     ensures within { LagsWithin (G.arena game.now) side result }
     ensures small { result ≤ 1000 }
+    ensures later { steps.old ≤ steps.new }
 {
     let mut most = 0;
     for i in 0..game.size() {
-        most = game.lag(side, i, steps).max(most);
+        let _ = game.nexts_by(i, lists, steps);
+        most = greatest_winning_lag(side, lists.nexts.as_slice()).max(most);
     }
     most
 }
@@ -31,6 +39,7 @@ fn settle_from_first<G: NumberedGame<L>, L: Ledger>(
     side: Colour,
     lag: u32,
     codes: &mut [u32],
+    lists: &mut Lists,
     steps: &mut Steps<L>,
 )
     requires sound { G.sound game.now }
@@ -38,16 +47,36 @@ fn settle_from_first<G: NumberedGame<L>, L: Ledger>(
     requires within { LagsWithin (G.arena game.now) side lag }
     requires small { lag ≤ 1000 }
     requires told { AreTold (G.arena game.now) side 1 codes.old }
-    ensures { (i : ℕ) → IsCodeAt (G.arena game.now) side i (slice_index codes.new i) }
+    ensures codes { (i : ℕ) → IsCodeAt (G.arena game.now) side i (slice_index codes.new i) }
+    ensures later { steps.old ≤ steps.new }
 {
     let mut ply = 1;
     'plies: loop {
-        let changed = settle_all(game, side, ply, codes, steps);
+        let changed = settle_all(game, side, ply, codes, lists, steps);
         if !changed && lag < ply {
             return;
         }
         ply += 1;
     }
+}
+
+/// Settles all numbers, from the first ply on.
+fn settle_from_none<G: NumberedGame<L>, L: Ledger>(
+    game: &G,
+    side: Colour,
+    codes: &mut [u32],
+    steps: &mut Steps<L>,
+)
+    requires sound { G.sound game.now }
+    requires many { length codes.old ≡ G.count game.now }
+    requires told { AreTold (G.arena game.now) side 0 codes.old }
+    ensures codes { (i : ℕ) → IsCodeAt (G.arena game.now) side i (slice_index codes.new i) }
+    ensures later { steps.old ≤ steps.new }
+{
+    let mut lists = Lists::new();
+    let _ = settle_all(game, side, 0, codes, &mut lists, steps);
+    let lag = greatest_lag(game, side, &mut lists, steps);
+    settle_from_first(game, side, lag, codes, &mut lists, steps);
 }
 
 /// The codes of the bounds of a side, one for each number.
@@ -60,13 +89,12 @@ pub fn solve<G: NumberedGame<L>, L: Ledger>(
     requires { G.sound game.now }
     ensures many { IfOk result (λ codes. length codes.items ≡ G.count game.now) }
     ensures codes { IfOk result (λ codes. (i : ℕ) → IsCodeAt (G.arena game.now) side i (slice_index codes.items i)) }
+    ensures later { steps.old ≤ steps.new }
 {
     let size = game.size() as usize;
     let Ok(mut codes) = vec![in alloc; OPEN; size] else {
         return Err(NoMemory);
     };
-    let _ = settle_all(game, side, 0, &mut codes, steps);
-    let lag = greatest_lag(game, side, steps);
-    settle_from_first(game, side, lag, &mut codes, steps);
+    settle_from_none(game, side, &mut codes, steps);
     Ok(codes)
 }

@@ -4,8 +4,9 @@ ghost use Rattle.std.specs.Prelude.{◌≡◌, ◌≢◌, ◌≤◌, ◌<◌, �
 ghost use Rattle.frz_arena.specs.LocalCodes.{local_code};
 ghost use Rattle.frz_sweep.specs.Told.{AreTold, IsTold, settled_code};
 
-use crate::numbered::NumberedGame;
+use crate::one_side::OneSide;
 use frz_board::Colour;
+use frz_graph::{Lists, NumberedGame, local_at};
 use frz_steps::Steps;
 use std::sync::ledger::Ledger;
 
@@ -19,15 +20,17 @@ fn settled<G: NumberedGame<L>, L: Ledger>(
     ply: u32,
     i: u32,
     codes: &[u32],
+    lists: &mut Lists,
     steps: &mut Steps<L>,
 ) -> u32
     requires sound { G.sound game.now }
     requires few { ply ≤ 1000000000 }
     requires inside { i < G.count game.now }
     requires many { length codes.now ≡ G.count game.now }
-    ensures { result ≡ settled_code ply (local_code (G.arena game.now) side (λ k. slice_index codes.now k) i) }
+    ensures code { result ≡ settled_code ply (local_code (G.arena game.now) side (λ k. slice_index codes.now k) i) }
+    ensures later { steps.old ≤ steps.new }
 {
-    let code = game.local(side, i, codes, steps);
+    let code = local_at(game, side, i, &OneSide { codes }, lists, steps);
     if code <= u64::from(3 + 2 * ply) {
         code as u32
     } else {
@@ -42,6 +45,7 @@ fn settle<G: NumberedGame<L>, L: Ledger>(
     ply: u32,
     i: u32,
     codes: &mut [u32],
+    lists: &mut Lists,
     steps: &mut Steps<L>,
 ) -> bool
     requires sound { G.sound game.now }
@@ -54,11 +58,12 @@ fn settle<G: NumberedGame<L>, L: Ledger>(
     ensures others { (p : ℕ) → p ≢ i → slice_index codes.new p ≡ slice_index codes.old p }
     ensures same { result ≡ false → codes.new ≡ codes.old }
     ensures late { result ≡ true → 0 < ply → 2 + 2 * ply ≤ slice_index codes.new i }
+    ensures later { steps.old ≤ steps.new }
 {
     if codes[i as usize] != OPEN {
         return false;
     }
-    let code = settled(game, side, ply, i, codes, steps);
+    let code = settled(game, side, ply, i, codes, lists, steps);
     if code == OPEN {
         return false;
     }
@@ -72,6 +77,7 @@ pub fn settle_all<G: NumberedGame<L>, L: Ledger>(
     side: Colour,
     ply: u32,
     codes: &mut [u32],
+    lists: &mut Lists,
     steps: &mut Steps<L>,
 ) -> bool
     requires sound { G.sound game.now }
@@ -81,10 +87,11 @@ pub fn settle_all<G: NumberedGame<L>, L: Ledger>(
     ensures told { AreTold (G.arena game.now) side (ply + 1) codes.new }
     ensures same { result ≡ false → codes.new ≡ codes.old }
     ensures late { result ≡ true → 0 < ply → (p : ℕ) × (2 + 2 * ply ≤ slice_index codes.new p) }
+    ensures later { steps.old ≤ steps.new }
 {
     let mut changed = false;
     for i in 0..game.size() {
-        let settles = settle(game, side, ply, i, codes, steps);
+        let settles = settle(game, side, ply, i, codes, lists, steps);
         changed = changed || settles;
     }
     changed

@@ -1,6 +1,8 @@
-ghost use Rattle.std.specs.Prelude.{◌≡◌, IfOk};
-ghost use Rattle.frz_rules.specs.Sound.{IsSound};
-ghost use Rattle.frz_game.specs.Stored.{IsTableOf};
+//! The table of a side, by the slow solver.
+
+ghost use Rattle.std.specs.Prelude.{◌≡◌, ◌≤◌, IfOk};
+ghost use Rattle.frz_sets.specs.Sound.{IsSound};
+ghost use Rattle.frz_game.specs.Bounds.{IsTableOf};
 
 use crate::passes::solve;
 use frz_board::{Colour, NoMemory};
@@ -18,9 +20,9 @@ pub fn sweep<B: ExitBook, L: Ledger>(
     side: Colour,
     steps: &mut Steps<L>,
 ) -> Result<Vec<u32>, NoMemory>
-    requires sound { IsSound game.now.rules.now }
-    requires set { game.now.set.now ≡ game.now.rules.now.groups }
-    ensures { IfOk result (λ codes. IsTableOf game.now.rules.now (B.value_at game.now.book.now) side codes.items) }
+    requires { IsSound game.now.rules.now }
+    ensures table { IfOk result (λ codes. IsTableOf game.now.rules.now (B.value_at game.now.book.now) side codes.items) }
+    ensures later { steps.old ≤ steps.new }
 {
     solve(alloc, game, side, steps)
 }

@@ -5,7 +5,7 @@ ghost use Rattle.frz_sweep.specs.Winning.{HasSmallLag, WinsIn};
 
 use frz_board::Colour;
 use frz_exits::{Class, class, lag};
-use frz_game::{Arm, Next};
+use frz_graph::{Arm, Next};
 
 /// The lag of the move's exit where that wins for the side, and 0 elsewhere.
 fn winning_lag(side: Colour, next: Next) -> u32

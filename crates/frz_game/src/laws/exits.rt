@@ -1,17 +1,18 @@
 //! What bounds say of chess.
 
-ghost use Rattle.std.specs.Prelude.{ℕ};
+ghost use Rattle.std.specs.Prelude.{◌≡◌, ℕ, []};
 ghost use Rattle.frz_board.specs.declared.man.Colour.{Colour};
 ghost use Rattle.frz_board.specs.Men.{other_of};
 ghost use Rattle.frz_board.specs.Boards.{Board};
-ghost use Rattle.frz_rules.specs.declared.exit.Value.{Value};
-ghost use Rattle.frz_rules.specs.Views.{RuleLines};
+ghost use Rattle.frz_sets.specs.declared.exit.Value.{Value};
+ghost use Rattle.frz_sets.specs.Views.{RuleLines};
 ghost use Rattle.frz_index.specs.Members.{Member};
 ghost use Rattle.frz_arena.specs.declared.bound.Bound.TheVariants.{Wins, Holds};
 ghost use Rattle.frz_arena.specs.Chess.{ForcesMate, NeverForcesMate};
 ghost use Rattle.frz_arena.specs.Exits.{TrueExits, AllNumbered, IsTrueAt};
+ghost use Rattle.frz_exits.specs.Books.{value_by};
 ghost use Rattle.frz_game.specs.Games.{chess, game_of};
-ghost use Rattle.frz_game.specs.Stored.{ForcesWin, IsBoundAt};
+ghost use Rattle.frz_game.specs.Bounds.{ForcesWin, IsBoundAt};
 ghost use Rattle.frz_game.specs.Values.{AreTrueExits, IsTrueValue};
 
 /// A value is true where it is, by the words of the arena.
@@ -43,4 +44,12 @@ pub fn holds()
     ensures win { (rules : RuleLines) (value : Board → Value) → AreTrueExits rules value →
         (side : Colour) (n : ℕ) (p : Board) → Member rules.groups p →
         IsBoundAt rules value side p (Wins n) → NeverForcesMate chess (other_of side) p }
+{}
+
+/// Without an exit line each value outside the set is unknown: the exits are true, and no value wins
+/// without a number.
+pub fn no_exit_line()
+    ensures true_exits { (rules : RuleLines) → rules.exits ≡ [] → AreTrueExits rules (value_by rules) }
+    ensures numbered { (rules : RuleLines) → rules.exits ≡ [] →
+        (side : Colour) → AllNumbered (game_of rules (value_by rules)) side }
 {}

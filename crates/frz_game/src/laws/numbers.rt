@@ -1,19 +1,20 @@
 //! Numbers of a set, and the game over them.
 
-ghost use Rattle.std.specs.Prelude.{◌≡◌, ◌↔◌, ℕ, List, map, true, Some, None};
+ghost use Rattle.std.specs.Prelude.{◌≡◌, ◌≤◌, ◌^◌, ◌↔◌, ℕ, List, true, Some, None};
 ghost use Rattle.frz_board.specs.declared.man.Colour.{Colour};
 ghost use Rattle.frz_board.specs.Boards.{Board};
-ghost use Rattle.frz_rules.specs.declared.exit.Value.{Value};
-ghost use Rattle.frz_rules.specs.Sets.{size_of};
-ghost use Rattle.frz_rules.specs.Views.{GroupLine, RuleLines};
+ghost use Rattle.frz_sets.specs.declared.exit.Value.{Value};
+ghost use Rattle.frz_sets.specs.Sets.{size_of};
+ghost use Rattle.frz_sets.specs.Views.{GroupLine, RuleLines};
 ghost use Rattle.frz_index.specs.Members.{Member, Num, HasNumber};
 ghost use Rattle.frz_arena.specs.Arena.{IsLawful};
 ghost use Rattle.frz_arena.specs.Names.{IsNumbering, IsNumbered};
 ghost use Rattle.frz_arena.specs.Plies.{LagsWithin};
-ghost use Rattle.frz_game.specs.Arms.{arm_of, LeadsInside};
-ghost use Rattle.frz_game.specs.Games.{arena_by, graph_by, arms_of, node_of};
-ghost use Rattle.frz_game.specs.Membership.{is_member, number_of, position_at, numbers_by};
-ghost use Rattle.frz_game.specs.Stored.{HasSmallLags};
+ghost use Rattle.frz_arena.specs.Arena.{LeadsInside};
+ghost use Rattle.frz_graph.specs.Finite.{IsFinite};
+ghost use Rattle.frz_game.specs.Games.{arena_by, graph_by};
+ghost use Rattle.frz_game.specs.Numbers.{is_member, number_of, position_at, numbers_by};
+ghost use Rattle.frz_game.specs.SmallLags.{HasSmallLags};
 
 /// The test of membership is membership, and numbers go both ways.
 pub fn membership()
@@ -38,19 +39,14 @@ pub fn numbered()
         IsNumbered (graph_by rules value) (size_of rules.groups) }
     ensures lags { (rules : RuleLines) (value : Board → Value) → HasSmallLags value →
         (side : Colour) → LagsWithin (graph_by rules value) side 1000 }
-{}
-
-/// What `Game::nexts` gives is the node and the arms of the game over numbers.
-pub fn graph()
-    ensures node { (rules : RuleLines) (value : Board → Value) (i : ℕ) →
-        (graph_by rules value).node i ≡ node_of rules.groups i }
-    ensures arms { (rules : RuleLines) (value : Board → Value) (i : ℕ) →
-        (graph_by rules value).arms i ≡ map arm_of (arms_of rules value i) }
+    ensures finite { (rules : RuleLines) (value : Board → Value) → HasSmallLags value →
+        size_of rules.groups ≤ 2 ^ 27 → IsFinite (graph_by rules value) (size_of rules.groups) }
 {}
 
 /// A number is reached by one move of a number at most: two moves that lead inside lead to two
 /// different numbers.
 pub fn different_arms()
     ensures { (rules : RuleLines) (value : Board → Value) (i k l n : ℕ) →
-        LeadsInside (arms_of rules value i) k n → LeadsInside (arms_of rules value i) l n → k ≡ l }
+        LeadsInside ((graph_by rules value).arms i) k n →
+        LeadsInside ((graph_by rules value).arms i) l n → k ≡ l }
 {}

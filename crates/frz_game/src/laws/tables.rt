@@ -4,16 +4,17 @@ ghost use Rattle.std.specs.Prelude.{◌≡◌, ◌≤◌, ◌+◌, ◌*◌, ℕ,
 ghost use Rattle.frz_board.specs.declared.man.Colour.{Colour};
 ghost use Rattle.frz_board.specs.Men.{other_of};
 ghost use Rattle.frz_board.specs.Boards.{Board};
-ghost use Rattle.frz_rules.specs.declared.exit.Value.{Value};
-ghost use Rattle.frz_rules.specs.Sets.{size_of};
-ghost use Rattle.frz_rules.specs.Views.{RuleLines};
+ghost use Rattle.frz_sets.specs.declared.exit.Value.{Value};
+ghost use Rattle.frz_sets.specs.Sets.{size_of};
+ghost use Rattle.frz_sets.specs.Views.{RuleLines};
 ghost use Rattle.frz_index.specs.Members.{Member, Num};
 ghost use Rattle.frz_arena.specs.declared.bound.Bound.{Bound};
 ghost use Rattle.frz_arena.specs.declared.bound.Bound.TheVariants.{Wins, Fails};
 ghost use Rattle.frz_arena.specs.Codes.{code_of};
 ghost use Rattle.frz_arena.specs.Tables.{IsExact};
 ghost use Rattle.frz_game.specs.Games.{graph_by};
-ghost use Rattle.frz_game.specs.Stored.{HasSmallLags, IsBoundAt, IsTableOf};
+ghost use Rattle.frz_game.specs.Bounds.{IsBoundAt, IsTableOf};
+ghost use Rattle.frz_game.specs.SmallLags.{HasSmallLags};
 
 /// A list of codes is the table of the side exactly where each code is its local code. There is one
 /// such table, and its codes have few plies.

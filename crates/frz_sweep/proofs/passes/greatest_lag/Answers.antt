@@ -1,8 +1,13 @@
-use Rattle.std.proofs.Common.{◌≡◌, inl, inr, subst, arith}
+use Rattle.std.proofs.Common.{◌≡◌, ◌∙◌, inl, inr, subst, arith}
 use Rattle.std.proofs.lemmas.Bool.{cases_lt}
 use Rattle.std.specs.List.{Contains}
-use Rattle.frz_arena.proofs.Members.{none_in_empty}
+use Rattle.frz_sweep.proofs.ExitLags.{small_lags, lags_at}
 use Rattle.frz_sweep.proofs.passes.greatest_lag.Goals as goal
+
+pub greatest_winning_lag-requires : goal.greatest_winning_lag-requires
+greatest_winning_lag-requires g c =
+    small_lags (g.G.NumberedGame.arena c.args.game.now) (g.G.NumberedGame.count c.args.game.now) (g.met.G.NumberedGame.finite c.args.game.now c.requires) c.loop-i.i c.as_slice.result.now
+    (c.as_slice.ensures.value ∙ c.nexts_by.ensures.arms)
 
 pub loop-i-preserved : goal.loop-i-preserved
 loop-i-preserved g c = record {
@@ -10,15 +15,24 @@ loop-i-preserved g c = record {
     | inl below ↦ (let h = c.loop-i.invariant.within p below a v i e good in omega arith)
     | inr above ↦ (
         let same : p ≡ c.loop-i.i = omega arith in
-        let h = c.lag.ensures.within a v (subst (λ z. Contains ((g.G.NumberedGame.arena c.args.game.now).arms z) a) same i) e good in
+        let A = g.G.NumberedGame.arena c.args.game.now in
+        let finite = g.met.G.NumberedGame.finite c.args.game.now c.requires in
+        let within = lags_at A (g.G.NumberedGame.count c.args.game.now) finite c.args.side c.loop-i.i c.greatest_winning_lag.result c.as_slice.result.now
+        (c.as_slice.ensures.value ∙ c.nexts_by.ensures.arms) c.greatest_winning_lag.ensures.within in
+        let h = within a v (subst (λ z. Contains ((g.G.NumberedGame.arena c.args.game.now).arms z) a) same i) e good in
         omega arith)
   ];
   small = omega arith;
+  later = omega (arith, c.loop-i.invariant.later, c.nexts_by.ensures.later);
 }
 
 pub returns-clause-within : goal.returns-clause-within
 returns-clause-within g c p a v i e good =
     elim (cases_lt p c.loop-i.i) [
       | inl below ↦ c.loop-i.invariant.within p below a v i e good
-      | inr above ↦ absurd (none_in_empty a (subst (λ z. Contains z a) ((g.met.G.NumberedGame.finite c.args.game.now c.requires).still p (omega arith)) i))
+      | inr above ↦ absurd (
+          let finite = g.met.G.NumberedGame.finite c.args.game.now c.requires in
+          let going = finite.going p a i in
+          let broken = finite.numbered.past p (omega arith) in
+          cc)
     ]

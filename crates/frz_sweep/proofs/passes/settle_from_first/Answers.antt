@@ -3,8 +3,8 @@ use Rattle.frz_sweep.specs.Told.{AreTold}
 use Rattle.frz_sweep.proofs.Reached.{reached_codes, few_plies}
 use Rattle.frz_sweep.proofs.passes.settle_from_first.Goals as goal
 
-pub returns-then-lag-ply : goal.returns-then-lag-ply
-returns-then-lag-ply g c i =
+pub returns-then-lag-ply-clause-codes : goal.returns-then-lag-ply-clause-codes
+returns-then-lag-ply-clause-codes g c i =
     let A = g.G.NumberedGame.arena c.args.game.now in
     let codes = c.settle_all-changed.new.codes in
     let same : codes ≡ c.plies.codes = c.settle_all-changed.ensures.same c.if-not-changed.true in
@@ -16,6 +16,7 @@ pub plies-preserved : goal.plies-preserved
 plies-preserved g c = record {
   told = c.settle_all-changed.ensures.told;
   some = omega arith;
+  later = omega (arith, c.plies.invariant.later, c.settle_all-changed.ensures.later);
   few = elim c.else-not-changed.either [
     | inl waits ↦ (let l = waits.1 in omega arith)
     | inr changes ↦ (

@@ -7,6 +7,7 @@ abbrev pub invariant-plies : goal.invariant-plies
 invariant-plies g l = record {
   told : AreTold (g.G.NumberedGame.arena l.game) l.side l.ply l.codes;
   some : 0 < l.ply;
+  later : l.fn.steps ≤ l.steps;
   few : l.ply ≤ g.G.NumberedGame.count l.game + l.lag + 1;
 }
 

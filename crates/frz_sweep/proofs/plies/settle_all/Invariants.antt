@@ -5,8 +5,12 @@ use Rattle.frz_sweep.proofs.plies.settle_all.Given as goal
 -- the numbers below i are told the ply, the others what came before it
 abbrev pub invariant-loop-i : goal.invariant-loop-i
 invariant-loop-i g l = record {
-  before : (p : ℕ) → p < l.i → IsTold (g.G.NumberedGame.arena l.game) l.side (l.ply + 1) p (slice_index l.codes p);
-  after : (p : ℕ) → l.i ≤ p → IsTold (g.G.NumberedGame.arena l.game) l.side l.ply p (slice_index l.codes p);
+  before : (p : ℕ) → p < l.i →
+      IsTold (g.G.NumberedGame.arena l.game) l.side (l.ply + 1) p (slice_index l.codes p);
+  after : (p : ℕ) → l.i ≤ p →
+      IsTold (g.G.NumberedGame.arena l.game) l.side l.ply p (slice_index l.codes p);
   same : l.changed ≡ false → l.codes ≡ l.fn.codes;
-  late : l.changed ≡ true → 0 < l.ply → (p : ℕ) × (p < l.i) × (2 + 2 * l.ply ≤ slice_index l.codes p);
+  later : l.fn.steps ≤ l.steps;
+  late : l.changed ≡ true → 0 < l.ply →
+      (p : ℕ) × (p < l.i) × (2 + 2 * l.ply ≤ slice_index l.codes p);
 }

@@ -15,3 +15,6 @@ returns-clause-graph_numbered c = lemma.graph_numbered
 
 pub returns-clause-lags : goal.returns-clause-lags
 returns-clause-lags c = lemma.lags
+
+pub returns-clause-finite : goal.returns-clause-finite
+returns-clause-finite c = lemma.finite

@@ -1,4 +1,4 @@
-use Rattle.frz_arena.proofs.OneBound.{one_bound, opposed_bounds}
+use Rattle.frz_arena.proofs.Lemmas.{one_bound, opposed_bounds}
 use Rattle.frz_game.specs.Games.{arena_by}
 use Rattle.frz_game.proofs.Graph.{lawful}
 use Rattle.frz_game.proofs.Bounded.{bound_there}

@@ -1,0 +1,55 @@
+-- The codes of the free moves among those of all moves.
+use Rattle.std.proofs.Common.{◌≡◌, ◌<◌, ◌+◌, ◌++◌, ℕ, zero, suc, true, false, List, [], ◌∷◌, map, refl, ap, ◌∙◌, if◌then◌else◌, inl, inr, length, take, get_or, arith, add-one, rules}
+use Rattle.std.specs.List.{filter}
+use Rattle.std.proofs.lemmas.Grind.{common_steps}
+use Rattle.frz_board.specs.Moving.{Step}
+use Rattle.frz_sets.specs.declared.exit.Value.{Value}
+use Rattle.frz_arena.specs.declared.arm.Arm.{Arm}
+use Rattle.frz_arena.proofs.Lemmas.{true_or_false}
+use Rattle.frz_graph.specs.FreeCodes.{free_among}
+
+-- where the codes are those of the moves
+pub free_mapped : (code : Arm Step ℕ Value → ℕ) (arms : List (Arm Step ℕ Value)) →
+    free_among arms (map code arms) ≡ map code (filter (λ a. a.free) arms)
+free_mapped code [] = refl
+free_mapped code (x ∷ xs) =
+    elim (true_or_false x.free) [
+      | inl t ↦ rw (t, free_mapped code xs) refl
+      | inr f ↦ rw (f, free_mapped code xs) refl
+    ]
+
+-- one move more
+free_push : (arms : List (Arm Step ℕ Value)) (cs : List ℕ) (i : ℕ) (a : Arm Step ℕ Value) →
+    i < length arms → length arms ≡ length cs →
+    free_among (take (suc i) arms) (take (suc i) cs)
+    ≡ free_among (take i arms) (take i cs) ++ (if (get_or arms i a).free then get_or cs i 0 ∷ [] else [])
+free_push [] cs i a h e = absurd (omega arith)
+free_push (b ∷ arms) [] i a h e = absurd (omega arith)
+free_push (b ∷ arms) (c ∷ cs) zero a h e = refl
+free_push (b ∷ arms) (c ∷ cs) (suc i) a h e =
+    let k = free_push arms cs i a (omega arith) (omega arith) in
+    elim (true_or_false b.free) [
+      | inl t ↦ (rw t (ap (λ xs. c ∷ xs) k))
+      | inr f ↦ (rw f k)
+    ]
+
+free_next : (arms : List (Arm Step ℕ Value)) (cs : List ℕ) (i : ℕ) (a : Arm Step ℕ Value) →
+    i < length arms → length arms ≡ length cs →
+    free_among (take (i + 1) arms) (take (i + 1) cs)
+    ≡ free_among (take i arms) (take i cs) ++ (if (get_or arms i a).free then get_or cs i 0 ∷ [] else [])
+free_next arms cs i a h e = rw add-one (free_push arms cs i a h e)
+
+append_none : (xs : List ℕ) → xs ++ [] ≡ xs
+append_none xs = search (rules, common_steps)
+
+pub free_one : (arms : List (Arm Step ℕ Value)) (cs : List ℕ) (i : ℕ) (a : Arm Step ℕ Value) →
+    (get_or arms i a).free ≡ true → i < length arms → length arms ≡ length cs →
+    free_among (take (i + 1) arms) (take (i + 1) cs)
+    ≡ free_among (take i arms) (take i cs) ++ get_or cs i 0 ∷ []
+free_one arms cs i a t h e = free_next arms cs i a h e ∙ (rw t refl)
+
+pub free_none : (arms : List (Arm Step ℕ Value)) (cs : List ℕ) (i : ℕ) (a : Arm Step ℕ Value) →
+    (get_or arms i a).free ≡ false → i < length arms → length arms ≡ length cs →
+    free_among (take (i + 1) arms) (take (i + 1) cs) ≡ free_among (take i arms) (take i cs)
+free_none arms cs i a f h e =
+    free_next arms cs i a h e ∙ (rw f (append_none (free_among (take i arms) (take i cs))))

@@ -1,0 +1,2 @@
+pub mod FreeCodes
+pub mod LocalCodes

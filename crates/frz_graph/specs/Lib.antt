@@ -1,0 +1,3 @@
+pub mod EntryCodes
+pub mod FreeCodes
+pub mod Finite

@@ -1,0 +1,14 @@
+//! The moves of a number.
+
+use arrayvec::ArrayVec;
+use frz_board::Move;
+use frz_sets::Value;
+
+/// Where a move leads: to the number of a position of the set, or out of the set to a value.
+pub type Next = frz_arena::Next<u32, Value>;
+
+/// A legal move of a number: whether it is allowed to the mover, and where it leads.
+pub type Arm = frz_arena::Arm<Move, u32, Value>;
+
+/// The moves of one number, in move order.
+pub type NextList = ArrayVec<Arm, 1024>;

@@ -1,0 +1,26 @@
+//! The lists that a solver keeps.
+
+use crate::arm::NextList;
+use crate::entries::CodeList;
+use frz_fide::MoveList;
+
+/// Lists that a solver keeps from number to number, so that none is made anew.
+#[derive(Drop)]
+pub struct Lists {
+    pub moves: MoveList,
+    pub nexts: NextList,
+    pub codes: CodeList,
+    pub free: CodeList,
+}
+
+impl Lists {
+    /// Empty lists.
+    pub fn new() -> Lists {
+        Lists {
+            moves: MoveList::new(),
+            nexts: NextList::new(),
+            codes: CodeList::new(),
+            free: CodeList::new(),
+        }
+    }
+}

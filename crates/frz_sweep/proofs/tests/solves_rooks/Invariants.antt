@@ -1,5 +1,0 @@
--- The brand stands for the blank ledger of the test.
-use Rattle.frz_sweep.proofs.tests.solves_rooks.Given as goal
-
-abbrev pub ghosts-solve_rooks : goal.ghosts-solve_rooks
-ghosts-solve_rooks g a = record { name = a.blank.name; parts = a.blank.parts }
