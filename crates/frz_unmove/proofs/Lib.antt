@@ -1,0 +1,9 @@
+pub mod Adding
+pub mod Undone
+pub mod Ways
+pub mod Coming
+pub mod Names
+pub mod Begins
+pub mod Movers
+pub mod EarlierTargets
+pub mod Whole

@@ -1,0 +1,4 @@
+pub mod Pairs
+pub mod Earlier
+pub mod Adding
+pub mod Gathering

@@ -1,0 +1,58 @@
+//! The squares from which a man may have come.
+ghost use Rattle.std.specs.Prelude.{ℕ, ◌≡◌, ◌<◌, ◌&&◌};
+ghost use Rattle.frz_squares.specs.SquareSets.{has_square};
+ghost use Rattle.frz_bits.specs.Ways.{may_go};
+ghost use Rattle.frz_board.specs.Boards.{is_empty};
+ghost use Rattle.frz_board.specs.Men.{cell_of_man, other_of};
+ghost use Rattle.frz_fide.specs.Valid.{IsValid};
+ghost use Rattle.frz_index.specs.Room.{has_room};
+ghost use Rattle.frz_unmove.specs.Earlier.{mover_cell};
+ghost use Rattle.frz_unmove.specs.Gathering.{HasOrigins};
+
+use frz_bits::{Bitboards, move_set, next_square, replaced, without};
+use frz_board::{Kind, Man, Square};
+use frz_index::Set;
+
+/// The empty squares that an opponent's man of this kind goes to from here on some board: a man
+/// comes from where one of the other side would go.
+#[tactic(auto, using(frz_squares::proofs::Lemmas::set_reading))]
+fn ways_back(q: &Bitboards, man: Man, to: Square) -> u64
+    ensures { (a : ℕ) → a < 64 →
+        has_square result a ≡ (may_go (other_of man.colour) man.kind to a && is_empty q.now a) }
+{
+    let back = Man {
+        colour: man.colour.other(),
+        kind: man.kind,
+    };
+    without(move_set(back, to), q.occupied())
+}
+
+/// Those of the squares on which the set has room for the man.
+fn with_room(set: &Set, p: &Bitboards, man: Man, word: u64) -> u64
+    ensures { (a : ℕ) → a < 64 →
+        has_square result a ≡ (has_square word a && has_room set.now p.now man a) }
+{
+    let mut kept = word;
+    let mut n = 0;
+    while let Some(s) = next_square(word, n) {
+        kept = replaced(kept, s, set.has_room(p, man, s));
+        n = s.number() + 1;
+    }
+    kept
+}
+
+/// The squares from which this man may have come to the square. Where it promoted, it counts as a
+/// pawn in place of the man that it has become.
+pub(crate) fn origins(set: &Set, q: &Bitboards, to: Square, promo: Option<Kind>, man: Man) -> u64
+    requires mover { (a : ℕ) →
+        mover_cell q.now (record { from = a; to = to; promo = promo }) ≡ cell_of_man man }
+    requires valid { IsValid q.now }
+    ensures { HasOrigins set.now q.now to promo result }
+{
+    let ways = ways_back(q, man, to);
+    if promo.is_some() {
+        with_room(set, &q.put(to, 0), man, ways)
+    } else {
+        ways
+    }
+}

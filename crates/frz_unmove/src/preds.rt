@@ -1,0 +1,65 @@
+//! The numbers from which moves lead to one number, in a list that has room for all of them.
+ghost use Rattle.std.specs.Prelude.{◌≡◌, ◌<◌, [], ◌∷◌, ◌++◌, length, IfOk};
+
+use frz_board::{Move, NoMemory};
+use std::alloc::Global;
+use std::marker::Model;
+
+/// A number, and a move from its position.
+#[derive(Clone, Copy, Debug, PartialEq, Eq)]
+pub struct Pred {
+    pub number: u32,
+    pub mv: Move,
+}
+
+/// A list of moves to one position, with room for all that there can be.
+#[derive(Drop)]
+pub struct Preds {
+    list: Vec<Pred>,
+}
+
+impl Model for Preds {
+    ghost use Rattle.std.specs.Prelude.{List, ◌≤◌};
+    ghost use Rattle.std.specs.Vec.{vec_capacity};
+    ghost use Rattle.frz_unmove.specs.declared.preds.Pred.{Pred};
+
+    ghost Value = { List Pred };
+
+    ghost view = { λ p. p.list.items };
+
+    ghost invariant = { λ p. 131072 ≤ vec_capacity p.list };
+}
+
+impl Preds {
+    /// An empty list, which has room for 131,072 items.
+    pub fn new(alloc: Global) -> Result<Preds, NoMemory>
+        ensures { IfOk result (λ p. p ≡ []) }
+    {
+        match Vec::with_capacity(alloc, 131_072) {
+            Ok(list) => Ok(Preds { list }),
+            Err(_) => Err(NoMemory),
+        }
+    }
+
+    /// The items, in no particular order.
+    pub fn items(&self) -> &[Pred]
+        ensures { result.now ≡ self.now }
+    {
+        &self.list
+    }
+
+    /// Takes all items out.
+    pub fn clear(&mut self)
+        ensures { self.new ≡ [] }
+    {
+        self.list.clear();
+    }
+
+    /// Puts one behind the others, in the room that there is.
+    pub fn push(&mut self, pred: Pred)
+        requires { length self.old < 131072 }
+        ensures { self.new ≡ self.old ++ pred ∷ [] }
+    {
+        self.list.push_reserved(pred);
+    }
+}
