@@ -1,0 +1,72 @@
+-- Each way on from a pair.
+use Rattle.std.proofs.Common.{◌≡◌, ℕ, Bool, true, false, not, ◌+◌, ◌-◌, ◌<◌, ◌≤◌, List, sym, ◌∙◌, ap, arith, inl, inr, get_or, set, length}
+use Rattle.std.proofs.lemmas.Bool.{true≢false}
+use Rattle.frz_board.specs.Men.{same_colour}
+use Rattle.frz_retro.specs.Kinds.{is_of}
+use Rattle.frz_retro.specs.Shape.{Shape, IsGraph, In, counts_for}
+use Rattle.frz_retro.specs.Work.{Work, Meeting, Meets, bar_at}
+use Rattle.frz_board.specs.declared.man.Colour.{Colour}
+use Rattle.frz_arena.specs.declared.node.Node.TheVariants.{Going}
+use Rattle.frz_retro.specs.Graphs.{Arm}
+use Rattle.frz_unmove.specs.declared.preds.Pred.{Pred}
+use Rattle.frz_retro.proofs.CodeFacts.{of_some}
+use Rattle.frz_retro.proofs.WorkFacts.{going_at, meet_uncounted, meet_decides, meet_last, meet_less, meet_waits, room_for}
+
+-- what the calls of the graph have told
+pub record Told (B : Shape) (side : Colour) (p : Pred) (own counted : Bool) : Type 0 where
+  pub own_is : (c : Colour) → B.arena.node p.number ≡ Going c → own ≡ same_colour c side
+  pub counted_is : (a : Arm) → In a (B.arena.arms p.number) → a.mv ≡ p.mv →
+      counted ≡ counts_for own a
+
+module _ {B : Shape} {side : Colour} {k mid : ℕ} {done : ℕ → ℕ → Bool} {E C L Q : List ℕ} {tail q : ℕ} {p : Pred} (g : IsGraph B) (m : Meeting B side k mid done E C L Q tail q p) (own counted : Bool) (told : Told B side p own counted) where
+  going : (c : Colour) × (B.arena.node p.number ≡ Going c)
+  going = going_at B side k mid done E C L Q tail q p g m
+
+  own_as : same_colour going.0 side ≡ own
+  own_as = sym (told.own_is going.0 going.1)
+
+  counts_as : (b : Bool) → counted ≡ b → counts_for (same_colour going.0 side) m.leads.arm ≡ b
+  counts_as b e =
+      ap (λ w. counts_for w m.leads.arm) own_as
+      ∙ (sym (told.counted_is m.leads.arm m.leads.there m.leads.move) ∙ e)
+
+  kind_as : is_of own (get_or E q 0) ≡ true → is_of (same_colour going.0 side) (get_or E q 0) ≡ true
+  kind_as e = ap (λ w. is_of w (get_or E q 0)) own_as ∙ e
+
+  other_as : is_of own (get_or E q 0) ≡ false →
+      is_of (not (same_colour going.0 side)) (get_or E q 0) ≡ true
+  other_as e =
+      ap (λ w. is_of (not w) (get_or E q 0)) own_as ∙ elim (of_some own (get_or E q 0) m.settled) [ inl t ↦ absurd (true≢false (sym t ∙ e)) | inr t ↦ t ]
+
+  pub exit_uncounted : {more : ℕ → ℕ → Bool} → Meets done more p.number q → counted ≡ false →
+      Work B side k mid (bar_at k B.size) more E C L Q tail
+  exit_uncounted {more} t e =
+      meet_uncounted B side k mid done more E C L Q tail q p g m t going.0 going.1 (counts_as false e)
+
+  pub exit_decides : {more : ℕ → ℕ → Bool} → Meets done more p.number q → counted ≡ true →
+      get_or E p.number 0 ≡ 1 → is_of own (get_or E q 0) ≡ true →
+      Work B side k mid (bar_at k B.size) more (set E p.number (get_or E q 0 + 2)) C L (set Q tail p.number) (tail + 1)
+  exit_decides {more} t e one kind =
+      meet_decides B side k mid done more E C L Q tail q p m t going.0 going.1 one (counts_as true e) (kind_as kind)
+
+  pub exit_waits : counted ≡ true → get_or E p.number 0 ≡ 1 → is_of own (get_or E q 0) ≡ false →
+      0 < get_or C p.number 0
+  exit_waits e one kind =
+      meet_waits B side k mid done E C L Q tail q p g m going.0 going.1 one (counts_as true e) (other_as kind)
+
+  pub exit_less : {more : ℕ → ℕ → Bool} → Meets done more p.number q → counted ≡ true →
+      get_or E p.number 0 ≡ 1 → is_of own (get_or E q 0) ≡ false →
+      (get_or C p.number 0 - 1 ≡ 0 → get_or E q 0 + 2 < get_or L p.number 0) →
+      Work B side k mid (bar_at k B.size) more E (set C p.number (get_or C p.number 0 - 1)) L Q tail
+  exit_less {more} t e one kind late = let pos = exit_waits e one kind in
+      meet_less B side k mid done more E C L Q tail q p g m t going.0 going.1 one (counts_as true e) (other_as kind) (get_or C p.number 0 - 1) (omega (arith, pos)) late
+
+  pub exit_last : {more : ℕ → ℕ → Bool} → Meets done more p.number q → counted ≡ true →
+      get_or E p.number 0 ≡ 1 → is_of own (get_or E q 0) ≡ false → get_or C p.number 0 - 1 ≡ 0 →
+      get_or L p.number 0 ≤ get_or E q 0 + 2 →
+      Work B side k mid (bar_at k B.size) more (set E p.number (get_or E q 0 + 2)) (set C p.number (get_or C p.number 0 - 1)) L (set Q tail p.number) (tail + 1)
+  exit_last {more} t e one kind zero short = let pos = exit_waits e one kind in
+      meet_last B side k mid done more E C L Q tail q p g m t going.0 going.1 one (counts_as true e) (other_as kind) (omega (arith, pos, zero)) short (get_or C p.number 0 - 1)
+
+  pub exit_room : get_or E p.number 0 ≡ 1 → tail < length Q
+  exit_room one = room_for k mid E Q tail p.number m.work.queue one

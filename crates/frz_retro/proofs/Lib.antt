@@ -1,0 +1,14 @@
+pub mod CodeFacts
+pub mod Laws
+pub mod GameMoves
+pub mod Lesser
+pub mod Settled
+pub mod Counting
+pub mod StateFacts
+pub mod Choices
+pub mod Starts
+pub mod WorkFacts
+pub mod Exits
+pub mod PassSteps
+pub mod DueNumbers
+pub mod Begins

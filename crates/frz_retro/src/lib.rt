@@ -1,0 +1,20 @@
+//! A fast solver of the restricted game over any graph of numbers: backwards, pass by pass, from
+//! the numbers that are settled to those that lead to them.
+#![tactic(auto)]
+
+mod beginning;
+mod due;
+mod game_graph;
+mod graph;
+mod kinds;
+mod local;
+mod meeting;
+mod moves;
+mod passes;
+mod settling;
+mod start;
+mod workshop;
+
+pub use game_graph::GameGraph;
+pub use graph::Graph;
+pub use workshop::Workshop;

@@ -1,0 +1,117 @@
+//! The lists of the solver, and a run over them.
+
+ghost use Rattle.std.specs.Prelude.{◌≡◌, ◌+◌, ◌*◌, ◌≤◌, length, vec_len, IfOk};
+ghost use Rattle.frz_sets.specs.Sets.{size_of};
+ghost use Rattle.frz_sets.specs.Sound.{IsSound};
+ghost use Rattle.frz_arena.specs.Tables.{IsExact};
+ghost use Rattle.frz_game.specs.Bounds.{IsTableOf};
+
+use crate::game_graph::GameGraph;
+use crate::graph::Graph;
+use crate::passes::solve;
+use frz_board::{Colour, NoMemory};
+use frz_exits::ExitBook;
+use frz_game::Game;
+use frz_game::laws::tables::tables;
+use frz_graph::Lists;
+use frz_steps::Steps;
+use frz_unmove::Preds;
+use std::alloc::Global;
+use std::marker::Model;
+use std::sync::ledger::Ledger;
+
+/// The lists of a solver, each exactly as long as the numbers are many. One workshop serves both
+/// sides in turn, and any game of its size.
+#[derive(Drop)]
+pub struct Workshop {
+    codes: Vec<u32>,
+    counts: Vec<u32>,
+    queue: Vec<u32>,
+    later: Vec<u32>,
+    lists: Lists,
+    preds: Preds,
+}
+
+impl Model for Workshop {
+    ghost use Rattle.std.specs.Prelude.{List, ℕ, ◌≡◌, vec_len, vec_items};
+
+    ghost Value = { List ℕ };
+
+    ghost view = { λ w. vec_items w.codes };
+
+    ghost invariant = { λ w. (vec_len w.counts ≡ vec_len w.codes)
+        × (vec_len w.queue ≡ vec_len w.codes)
+        × (vec_len w.later ≡ vec_len w.codes) };
+}
+
+/// A list of so many zeros.
+fn zeros(alloc: Global, size: u32) -> Result<Vec<u32>, NoMemory>
+    ensures { IfOk result (λ list. vec_len list ≡ size) }
+{
+    match vec![in alloc; 0; size as usize] {
+        Ok(list) => Ok(list),
+        Err(_) => Err(NoMemory),
+    }
+}
+
+impl Workshop {
+    /// A workshop for so many numbers, which takes 16 bytes for each of them and those of
+    /// [`Preds`].
+    pub fn new(alloc: Global, size: u32) -> Result<Workshop, NoMemory>
+        ensures { IfOk result (λ w. length w ≡ size) }
+    {
+        Ok(Workshop {
+            codes: zeros(alloc, size)?,
+            counts: zeros(alloc, size)?,
+            queue: zeros(alloc, size)?,
+            later: zeros(alloc, size)?,
+            lists: Lists::new(),
+            preds: Preds::new(alloc)?,
+        })
+    }
+
+    /// Solves the game for the side: each entry becomes the side's local code of its number by
+    /// these entries. It takes no memory, and nothing of an earlier run is left.
+    pub fn run<G: Graph<L>, L: Ledger>(&mut self, graph: &G, side: Colour, steps: &mut Steps<L>)
+        requires sound { G.sound graph.now }
+        requires size { length self.old ≡ G.count graph.now }
+        ensures exact { IsExact (G.arena graph.now) side (G.count graph.now) self.new }
+        ensures cost { steps.new ≤ steps.old + 2 * G.count graph.now }
+    {
+        solve(
+            graph,
+            side,
+            &mut self.codes,
+            &mut self.counts,
+            &mut self.queue,
+            &mut self.later,
+            &mut self.lists,
+            &mut self.preds,
+            steps,
+        );
+    }
+
+    /// Solves the game of sound rules for the side: the entries become the codes of its bounds, and
+    /// 0 at broken numbers. It takes no memory, and nothing of an earlier run is left.
+    pub fn run_game<B: ExitBook, L: Ledger>(
+        &mut self,
+        game: &Game<'_, B>,
+        side: Colour,
+        steps: &mut Steps<L>,
+    )
+        requires sound { IsSound game.now.rules.now }
+        requires size { length self.old ≡ size_of game.now.rules.now.groups }
+        ensures table { IsTableOf game.now.rules.now (B.value_at game.now.book.now) side self.new }
+        ensures cost { steps.new ≤ steps.old + 2 * size_of game.now.rules.now.groups }
+    {
+        tables();
+        self.run(&GameGraph::new(game), side, steps);
+    }
+
+    /// The entries, one for each number.
+    pub fn entries(&self) -> &[u32]
+        ensures { result.now ≡ self.now }
+    {
+        self.codes.as_slice()
+    }
+}
