@@ -1,0 +1,10 @@
+pub mod Taking
+pub mod Parts
+pub mod Rivals
+pub mod Telling
+pub mod Signs
+pub mod Found
+pub mod SignsInWords
+pub mod RivalsInWords
+pub mod Leaving
+pub mod Lemmas

@@ -1,0 +1,16 @@
+//! Algebraic notation of moves (FIDE appendix C, as PGN exports it): written, and read.
+#![tactic(auto)]
+
+pub mod laws;
+mod origin;
+mod reading;
+mod sign;
+#[cfg(test)]
+mod tests;
+mod text;
+mod unsigned;
+mod writing;
+
+pub use reading::read_san;
+pub use text::San;
+pub use writing::{san, san_among};
