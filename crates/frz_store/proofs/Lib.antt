@@ -1,2 +1,4 @@
 pub mod PutLaws
 pub mod ShelfFiles
+pub mod Writes
+pub mod Lemmas

@@ -1,6 +1,7 @@
 -- Which calls of an object in memory fail.
 use Rattle.std.specs.Prelude.{ℕ, ◌+◌, ◌-◌, ◌^◌, min, Bool, true, false, ◌&&◌, ◌==◌, List, Option, Some, None, find, take}
 use Rattle.std.specs.Option.{option_map}
+use Rattle.frz_store.specs.Outside.{counted}
 use Rattle.frz_store.specs.declared.fails.FailOn.{FailOn}
 use Rattle.frz_store.specs.declared.fails.FailOn.TheVariants.{Call, Size, Read, Create, Append}
 use Rattle.frz_store.specs.declared.fails.Fail.{Fail}
@@ -13,10 +14,6 @@ pub record Plan : Type 0 where
   pub reads : ℕ
   pub creates : ℕ
   pub appends : ℕ
-
--- one more, up to the greatest number of 64 bits
-abbrev pub counted : ℕ → ℕ
-counted n = min (n + 1) (2 ^ 64 - 1)
 
 -- a plan before the first call
 abbrev pub new_plan : List Fail → Plan

@@ -1,5 +1,7 @@
 pub mod Outside
 pub mod Files
+pub mod Told
+pub mod Writes
 pub mod Shelf
 pub mod Fails
 pub mod MemStore

@@ -1,6 +1,7 @@
 -- A sink in memory, and what a write makes of it.
 use Rattle.std.specs.Prelude.{ℕ, List, length, take, nat_lt, Bool, ◌||◌, is_some, if◌then◌else◌}
-use Rattle.frz_store.specs.Fails.{Plan, counted, due_of, kept}
+use Rattle.frz_store.specs.Outside.{counted}
+use Rattle.frz_store.specs.Fails.{Plan, due_of, kept}
 use Rattle.frz_store.specs.declared.fails.FailOn.TheVariants.{Call}
 use Rattle.frz_store.specs.declared.mem_sink.MemSink.{MemSink}
 

@@ -1,6 +1,7 @@
 -- A source in memory, and what a read makes of it.
 use Rattle.std.specs.Prelude.{ℕ, List, Bool, is_some, drop, if◌then◌else◌}
-use Rattle.frz_store.specs.Fails.{Plan, counted, due_of, after}
+use Rattle.frz_store.specs.Outside.{counted}
+use Rattle.frz_store.specs.Fails.{Plan, due_of, after}
 use Rattle.frz_store.specs.declared.fails.FailOn.TheVariants.{Call}
 use Rattle.frz_store.specs.declared.mem_source.MemSource.{MemSource}
 

@@ -1,6 +1,7 @@
 -- A store in memory, and what a call makes of it.
 use Rattle.std.specs.Prelude.{◌≡◌, ℕ, ◌+◌, ◌-◌, ◌^◌, min, Bool, List, Option, is_some, if◌then◌else◌}
-use Rattle.frz_store.specs.Fails.{Plan, counted, due_of, after}
+use Rattle.frz_store.specs.Outside.{counted}
+use Rattle.frz_store.specs.Fails.{Plan, due_of, after}
 use Rattle.frz_store.specs.Files.{Files}
 use Rattle.frz_store.specs.Shelf.{files_of, last_of, room_of}
 use Rattle.frz_store.specs.declared.fails.FailOn.{FailOn}
@@ -21,6 +22,10 @@ room store = room_of store.shelf
 -- the bytes that all reads asked for
 abbrev pub asked : MemStore → ℕ
 asked store = store.asked
+
+-- how often the store was called
+abbrev pub calls : MemStore → ℕ
+calls store = store.plan.calls
 
 abbrev pub faults : MemStore → ℕ
 faults store = store.faults

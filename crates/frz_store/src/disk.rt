@@ -14,6 +14,7 @@ pub struct DiskStore<R: Files + Drop> {
     newest: Option<R::File>,
     faults: Count,
     asked: Count,
+    calls: Count,
     room: u64,
 }
 
@@ -22,6 +23,7 @@ impl<R: Files + Drop> DiskStore<R> {
     pub fn new(rt: R) -> DiskStore<R>
         ensures faults { result.faults ≡ 0 }
         ensures asked { result.asked ≡ 0 }
+        ensures calls { result.calls ≡ 0 }
         ensures room { result.room ≡ 0 }
     {
         DiskStore {
@@ -29,6 +31,7 @@ impl<R: Files + Drop> DiskStore<R> {
             newest: None,
             faults: Count::new(),
             asked: Count::new(),
+            calls: Count::new(),
             room: 0,
         }
     }
@@ -73,20 +76,25 @@ impl<R: Files + Drop> Store for DiskStore<R> {
 
     ghost asked = { λ store. store.asked };
 
+    ghost calls = { λ store. store.calls };
+
     ghost room = { λ store. store.room };
 
     fn size(&mut self, name: &str) -> Result<Option<u64>, StoreFault> {
+        self.calls.add(1);
         let size = size_of(&self.rt, name);
         self.faults.or_fault(size, StoreFault::Failed)
     }
 
     fn read(&mut self, name: &str, at: u64, into: &mut [u8]) -> Result<(), StoreFault> {
+        self.calls.add(1);
         self.asked.add(into.len() as u64);
         let done = read_at(&self.rt, name, at, into);
         self.faults.or_fault(done, StoreFault::Failed)
     }
 
     fn create(&mut self, name: &str, due: u64) -> Result<(), StoreFault> {
+        self.calls.add(1);
         self.room = 0;
         let created = fs::create(&self.rt, name);
         let file = self.faults.or_fault(created, StoreFault::Failed)?;
@@ -96,6 +104,7 @@ impl<R: Files + Drop> Store for DiskStore<R> {
     }
 
     fn append(&mut self, piece: &[u8]) -> Result<(), Failed> {
+        self.calls.add(1);
         self.room -= piece.len() as u64;
         let done = write_to(&mut self.newest, piece);
         self.faults.or_fault(done, Failed)

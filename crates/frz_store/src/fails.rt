@@ -1,5 +1,6 @@
 //! The calls that an object in memory is told to fail.
 ghost use Rattle.std.specs.Prelude.{◌≡◌};
+ghost use Rattle.frz_store.specs.Outside.{IsNext};
 ghost use Rattle.frz_store.specs.Fails.{counts, next_number, names, due_of, after, new_plan};
 
 use crate::count::Count;
@@ -36,6 +37,7 @@ pub struct FailPlan {
 }
 
 impl Model for FailPlan {
+    ghost use Rattle.frz_store.specs.Outside.{IsNext};
     ghost use Rattle.frz_store.specs.Fails.{Plan};
 
     ghost Value = { Plan };
@@ -68,6 +70,7 @@ impl FailPlan {
     pub fn next(&mut self, on: FailOn) -> Option<u64>
         ensures due { result ≡ due_of self.old on }
         ensures after { self.new ≡ after self.old on }
+        ensures calls { IsNext self.old.calls self.new.calls }
     {
         let due = self.due(on);
         self.count(on);
@@ -102,7 +105,8 @@ impl FailPlan {
     }
 
     fn count(&mut self, on: FailOn)
-        ensures { self.new ≡ after self.old on }
+        ensures after { self.new ≡ after self.old on }
+        ensures calls { IsNext self.old.calls self.new.calls }
     {
         self.calls.add(1);
         match on {

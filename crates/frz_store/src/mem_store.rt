@@ -4,8 +4,9 @@ ghost use Rattle.std.specs.Option.{option_copied, option_map};
 ghost use Rattle.std.specs.Result.{IsErrOf};
 ghost use Rattle.frz_store.specs.Fails.{new_plan, kept};
 ghost use Rattle.frz_store.specs.Files.{no_files, put, grown, Covers};
-ghost use Rattle.frz_store.specs.MemStore.{files, last, room, asked, faults, plan, due, fails_next, called, asked_for, IsCalled};
-ghost use Rattle.frz_store.specs.Outside.{StoreCauses, FreeCauses, HasCause};
+ghost use Rattle.frz_store.specs.MemStore.{files, last, room, asked, calls, faults, plan, due, fails_next, called, asked_for, IsCalled};
+ghost use Rattle.frz_store.specs.Outside.{StoreCauses, FreeCauses, HasCause, IsNext};
+ghost use Rattle.frz_store.specs.Told.{store_of, IsPut};
 ghost use Rattle.frz_store.specs.Shelf.{files_of, last_of, room_of};
 
 use crate::count::Count;
@@ -33,6 +34,7 @@ impl MemStore {
         ensures faults { ⟦<MemStore as Store>⟧.faults result ≡ 0 }
         ensures wants { ⟦<MemStore as Store>⟧.wants result ≡ 0 }
         ensures asked { ⟦<MemStore as Store>⟧.asked result ≡ 0 }
+        ensures calls { ⟦<MemStore as Store>⟧.calls result ≡ 0 }
         ensures room { ⟦<MemStore as Store>⟧.room result ≡ 0 }
         ensures plan { plan result ≡ new_plan fails.items }
     {
@@ -63,21 +65,8 @@ impl MemStore {
     /// Makes the name hold these bytes. It is no call of the trait, so it counts as none.
     pub fn put(&mut self, name: &str, bytes: &[u8]) -> Result<(), StoreFault>
         requires { ⟦<MemStore as Store>⟧.room self.old ≡ 0 }
-        ensures files { OnOk result (⟦<MemStore as Store>⟧.files self.new
-            ≡ option_map (λ m. put m name.now bytes.now) (⟦<MemStore as Store>⟧.files self.old)) }
-        ensures no_memory { OnErr result (⟦<MemStore as Store>⟧.files self.new
-            ≡ ⟦<MemStore as Store>⟧.files self.old) }
-        ensures never_failed { IsErrOf result StoreFault.Failed → ⊥ }
-        ensures last { ⟦<MemStore as Store>⟧.last self.new
-            ≡ ⟦<MemStore as Store>⟧.last self.old }
-        ensures faults { ⟦<MemStore as Store>⟧.faults self.new
-            ≡ ⟦<MemStore as Store>⟧.faults self.old }
-        ensures wants { ⟦<MemStore as Store>⟧.wants self.new
-            ≡ ⟦<MemStore as Store>⟧.wants self.old }
-        ensures asked { ⟦<MemStore as Store>⟧.asked self.new
-            ≡ ⟦<MemStore as Store>⟧.asked self.old }
-        ensures room { ⟦<MemStore as Store>⟧.room self.new
-            ≡ ⟦<MemStore as Store>⟧.room self.old }
+        ensures put { IsPut name.now bytes.now result
+            (store_of ⟦<MemStore as Store>⟧ self.old) (store_of ⟦<MemStore as Store>⟧ self.new) }
         ensures plan { plan self.new ≡ plan self.old }
     {
         match self.shelf.put(self.alloc, name, bytes) {
@@ -98,12 +87,15 @@ impl Store for MemStore {
 
     ghost asked = { λ store. store.asked };
 
+    ghost calls = { λ store. store.plan.calls };
+
     ghost room = { λ store. room_of store.shelf };
 
     fn size(&mut self, name: &str) -> Result<Option<u64>, StoreFault>
         ensures result { result ≡ if fails_next self.old FailOn.Size then Err StoreFault.Failed
             else Ok (option_map length (files self.old name.now)) }
         ensures store { self.new ≡ called self.old FailOn.Size }
+        ensures calls { IsNext (calls self.old) (calls self.new) }
         ensures causes { StoreCauses (faults self.old) (faults self.new) 0 0 result }
     {
         if self.plan.next(FailOn::Size).is_some() {
@@ -121,6 +113,7 @@ impl Store for MemStore {
             (λ bytes. into.new ≡ take (length into.old) (drop at bytes))) }
         ensures store { self.new ≡ asked_for (called self.old FailOn.Read) (length into.old) }
         ensures asked_grows { asked self.old ≤ asked self.new }
+        ensures calls { IsNext (calls self.old) (calls self.new) }
         ensures causes { StoreCauses (faults self.old) (faults self.new) 0 0 result }
     {
         self.asked.add(into.len() as u64);
@@ -144,6 +137,7 @@ impl Store for MemStore {
         ensures no_memory_room { IsErrOf result StoreFault.NoMemory
             → room self.new ≡ room self.old }
         ensures store { IsCalled self.old FailOn.Create self.new }
+        ensures calls { IsNext (calls self.old) (calls self.new) }
         ensures causes { FreeCauses (faults self.old) (faults self.new) 0 0 result }
     {
         if self.plan.next(FailOn::Create).is_some() {
@@ -166,6 +160,7 @@ impl Store for MemStore {
         ensures last { last self.new ≡ last self.old }
         ensures room { room self.new ≡ room self.old - length piece.now }
         ensures store { IsCalled self.old FailOn.Append self.new }
+        ensures calls { IsNext (calls self.old) (calls self.new) }
         ensures cause { HasCause (faults self.old) (faults self.new) result }
     {
         if let Some(keep) = self.plan.next(FailOn::Append) {

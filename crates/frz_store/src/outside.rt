@@ -5,7 +5,7 @@ ghost use Rattle.std.specs.Option.{option_map};
 ghost use Rattle.std.specs.Result.{IsErrOf};
 ghost use Rattle.std.specs.Io.KnownBytes.{append_known};
 ghost use Rattle.frz_store.specs.Files.{Files, put, grown, Covers};
-ghost use Rattle.frz_store.specs.Outside.{StoreCauses, FreeCauses, HasCause, Took};
+ghost use Rattle.frz_store.specs.Outside.{StoreCauses, FreeCauses, HasCause, Took, IsNext};
 
 /// The object failed, and its count of faults rose.
 #[derive(Clone, Copy, Debug, PartialEq, Eq, Drop)]
@@ -20,7 +20,8 @@ pub enum StoreFault {
     NoMemory,
 }
 
-/// Named files, read at any place and written from front to back, one file at a time.
+/// Named files, read at any place and written from front to back, one file at a time. A call that
+/// succeeds leaves the counts of faults and wants.
 pub trait Store {
     /// What each name holds.
     ghost files: { Self → Option Files };
@@ -36,6 +37,9 @@ pub trait Store {
     /// The bytes that all reads asked for, up to the greatest number of 64 bits.
     ghost asked: { Self → ℕ };
 
+    /// How often the store was called, up to the greatest number of 64 bits.
+    ghost calls: { Self → ℕ };
+
     /// How many bytes may still be appended.
     ghost room: { Self → ℕ };
 
@@ -47,6 +51,7 @@ pub trait Store {
         ensures last { last self.new ≡ last self.old }
         ensures room { room self.new ≡ room self.old }
         ensures asked { asked self.new ≡ asked self.old }
+        ensures calls { IsNext (calls self.old) (calls self.new) }
         ensures causes { StoreCauses (faults self.old) (faults self.new)
             (wants self.old) (wants self.new) result };
 
@@ -61,6 +66,7 @@ pub trait Store {
         ensures room { room self.new ≡ room self.old }
         ensures asked { asked self.new ≡ min (asked self.old + length into.old) (2 ^ 64 - 1) }
         ensures asked_grows { asked self.old ≤ asked self.new }
+        ensures calls { IsNext (calls self.old) (calls self.new) }
         ensures causes { StoreCauses (faults self.old) (faults self.new)
             (wants self.old) (wants self.new) result };
 
@@ -72,6 +78,7 @@ pub trait Store {
         ensures room { OnOk result (room self.new ≡ due) }
         ensures err_last { OnErr result (last self.new ≡ last self.old) }
         ensures asked { asked self.new ≡ asked self.old }
+        ensures calls { IsNext (calls self.old) (calls self.new) }
         ensures causes { FreeCauses (faults self.old) (faults self.new)
             (wants self.old) (wants self.new) result }
 
@@ -102,7 +109,8 @@ pub trait Store {
         ensures last { last self.new ≡ last self.old }
         ensures room { room self.new ≡ room self.old - length piece.now }
         ensures asked { asked self.new ≡ asked self.old }
-        ensures wants { wants self.old ≤ wants self.new }
+        ensures calls { IsNext (calls self.old) (calls self.new) }
+        ensures wants { wants self.new ≡ wants self.old }
         ensures cause { HasCause (faults self.old) (faults self.new) result };
 }
 
@@ -113,7 +121,8 @@ pub trait Source {
 
     ghost faults: { Self → ℕ };
 
-    /// Takes bytes into the front of the slice and answers how many; 0 is the end.
+    /// Takes bytes into the front of the slice and answers how many; 0 is the end. Behind them, and
+    /// after a failure, the slice may hold anything.
     fn read(&mut self, into: &mut [u8]) -> Result<usize, Failed>
         requires { 0 < length into.old }
         ensures count { IfOk result (λ n. n ≤ length into.new) }

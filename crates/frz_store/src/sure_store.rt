@@ -3,6 +3,7 @@ ghost use Rattle.std.specs.Prelude.{◌≡◌, ◌+◌, ◌≤◌, ℕ, List, []
 ghost use Rattle.std.specs.Option.{option_copied, option_map};
 ghost use Rattle.std.specs.Result.{IsErrOf};
 ghost use Rattle.frz_store.specs.Files.{no_files, put};
+ghost use Rattle.frz_store.specs.Told.{store_of, IsPut};
 ghost use Rattle.frz_store.specs.Shelf.{files_of, last_of, room_of};
 
 use crate::count::Count;
@@ -16,6 +17,7 @@ pub struct SureStore {
     alloc: Global,
     shelf: Shelf,
     asked: Count,
+    calls: Count,
 }
 
 impl SureStore {
@@ -26,12 +28,14 @@ impl SureStore {
         ensures faults { ⟦<SureStore as Store>⟧.faults result ≡ 0 }
         ensures wants { ⟦<SureStore as Store>⟧.wants result ≡ 0 }
         ensures asked { ⟦<SureStore as Store>⟧.asked result ≡ 0 }
+        ensures calls { ⟦<SureStore as Store>⟧.calls result ≡ 0 }
         ensures room { ⟦<SureStore as Store>⟧.room result ≡ 0 }
     {
         SureStore {
             alloc,
             shelf: Shelf::new(alloc),
             asked: Count::new(),
+            calls: Count::new(),
         }
     }
 
@@ -53,21 +57,8 @@ impl SureStore {
     /// Makes the name hold these bytes. It is no call of the trait, so it counts as none.
     pub fn put(&mut self, name: &str, bytes: &[u8]) -> Result<(), StoreFault>
         requires { ⟦<SureStore as Store>⟧.room self.old ≡ 0 }
-        ensures files { OnOk result (⟦<SureStore as Store>⟧.files self.new
-            ≡ option_map (λ m. put m name.now bytes.now) (⟦<SureStore as Store>⟧.files self.old)) }
-        ensures no_memory { OnErr result (⟦<SureStore as Store>⟧.files self.new
-            ≡ ⟦<SureStore as Store>⟧.files self.old) }
-        ensures never_failed { IsErrOf result StoreFault.Failed → ⊥ }
-        ensures last { ⟦<SureStore as Store>⟧.last self.new
-            ≡ ⟦<SureStore as Store>⟧.last self.old }
-        ensures faults { ⟦<SureStore as Store>⟧.faults self.new
-            ≡ ⟦<SureStore as Store>⟧.faults self.old }
-        ensures wants { ⟦<SureStore as Store>⟧.wants self.new
-            ≡ ⟦<SureStore as Store>⟧.wants self.old }
-        ensures asked { ⟦<SureStore as Store>⟧.asked self.new
-            ≡ ⟦<SureStore as Store>⟧.asked self.old }
-        ensures room { ⟦<SureStore as Store>⟧.room self.new
-            ≡ ⟦<SureStore as Store>⟧.room self.old }
+        ensures put { IsPut name.now bytes.now result
+            (store_of ⟦<SureStore as Store>⟧ self.old) (store_of ⟦<SureStore as Store>⟧ self.new) }
     {
         match self.shelf.put(self.alloc, name, bytes) {
             Ok(()) => Ok(()),
@@ -87,19 +78,24 @@ impl Store for SureStore {
 
     ghost asked = { λ store. store.asked };
 
+    ghost calls = { λ store. store.calls };
+
     ghost room = { λ store. room_of store.shelf };
 
     fn size(&mut self, name: &str) -> Result<Option<u64>, StoreFault> {
+        self.calls.add(1);
         Ok(self.shelf.size(name))
     }
 
     fn read(&mut self, name: &str, at: u64, into: &mut [u8]) -> Result<(), StoreFault> {
+        self.calls.add(1);
         self.asked.add(into.len() as u64);
         self.shelf.read(name, at, into);
         Ok(())
     }
 
     fn create(&mut self, name: &str, due: u64) -> Result<(), StoreFault> {
+        self.calls.add(1);
         match self.shelf.create(self.alloc, name, due) {
             Ok(()) => Ok(()),
             Err(_) => Err(StoreFault::NoMemory),
@@ -107,6 +103,7 @@ impl Store for SureStore {
     }
 
     fn append(&mut self, piece: &[u8]) -> Result<(), Failed> {
+        self.calls.add(1);
         self.shelf.append(piece);
         Ok(())
     }

@@ -147,6 +147,19 @@ fn the_disk_keeps_files(rt: HostRuntime) -> Result<(), TestFail> {
     Ok(())
 }
 
+#[test]
+fn the_disk_reads_at_a_place_and_leaves_the_file(rt: HostRuntime) -> Result<(), TestFail> {
+    let mut store = DiskStore::new(rt.clone()?);
+    fs::write(&rt, "kept", b"abcdef")?;
+    let mut into = [0; 3];
+    assert!(rt; store.size("kept") == Ok(Some(6)));
+    assert!(rt; store.read("kept", 2, &mut into) == Ok(()));
+    assert_eq!(rt; into, *b"cde");
+    assert!(rt; fs::read_to_string(&rt, "kept")?.as_str() == "abcdef");
+    fs::remove_file(&rt, "kept")?;
+    Ok(())
+}
+
 /// Gives at most two bytes a read, but fails at the second.
 #[derive(Drop)]
 struct FaultyReader {
@@ -201,6 +214,11 @@ fn the_output_takes_whole_pieces(rt: HostRuntime) -> Result<(), TestFail> {
     assert!(rt; sink.write(b"abc") == Ok(()));
     assert!(rt; sink.write(b"") == Ok(()));
     assert!(rt; sink.write(b"de") == Err(Failed));
+    let mut filed = OutputSink::new(fs::create(&rt, "taken")?);
+    assert!(rt; filed.write(b"ab") == Ok(()));
+    assert!(rt; filed.write(b"c\n") == Ok(()));
+    assert!(rt; fs::read_to_string(&rt, "taken")?.as_str() == "abc\n");
+    fs::remove_file(&rt, "taken")?;
     let mut real = OutputSink::new(rt.stdout());
     assert!(rt; real.write(b"a line\n") == Ok(()));
     Ok(())

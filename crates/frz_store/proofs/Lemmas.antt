@@ -1,0 +1,3 @@
+-- The lemmas that the crates above cite.
+pub use Rattle.frz_store.proofs.PutLaws.{grown-put, put-at, put-off, put-same}
+pub use Rattle.frz_store.proofs.Writes.{all_written, later_store, nothing_written}
