@@ -1,135 +1,214 @@
--- The ends of a command: at a fault or without memory before it wrote anything, with its only line, with the last of its lines,
--- or within its text.
-use Rattle.std.proofs.Common.{◌≡◌, inl, inr, refl, sym, ap, subst, ◌∙◌, ℕ, List, [], ◌++◌, take, drop, Option, arith, append_assoc}
+-- The ends of a command: at a fault before it wrote anything, or with the last of its lines.
+use Rattle.std.proofs.Common.{◌≡◌, ◌⊎◌, inl, inr, refl, sym, ap, subst, ◌∙◌, ℕ, ◌≤◌, List, [], ◌++◌, take, drop, false, IsTrue, Option, arith, append_assoc}
 use Rattle.std.specs.Option.{option_map}
 use Rattle.std.proofs.lemmas.List.{take-append-drop}
 use Rattle.std.specs.Io.KnownBytes.{append_known}
 use Rattle.frz_store.specs.Files.{Files}
+use Rattle.frz_store.specs.Outside.{Rose}
+use Rattle.frz_store.specs.Told.{SinkTold, Unwritten}
 use Rattle.frz_store.specs.declared.outside.StoreFault.{StoreFault}
-use Rattle.frz_store.specs.declared.outside.StoreFault.TheVariants as faults
+use Rattle.frz_store.specs.declared.outside.StoreFault.TheVariants as refusals
+use Rattle.frz_answer.specs.declared.status.Status.{Status}
+use Rattle.frz_answer.specs.declared.fault.Fault.{Fault}
+use Rattle.frz_answer.specs.declared.fault.Fault.TheVariants as faults
 use Rattle.frz_answer.specs.declared.end.End.{End}
-use Rattle.frz_answer.specs.declared.end.End.TheVariants as ends
-use Rattle.frz_answer.specs.Outside.{Outside, outside}
-use Rattle.frz_answer.specs.Answers.{Answer, says, Begins, Cuts}
-use Rattle.frz_answer.specs.Ends.{IsOwn, Same, Said, Ran}
-use Rattle.frz_answer.specs.Faults.{end_of_fault}
-use Rattle.frz_answer.proofs.Telling.{drop_none, append_nothing, append_twice}
+use Rattle.frz_answer.specs.declared.end.End.TheVariants.{Done, SinkFault, Stopped}
+use Rattle.frz_answer.specs.Statuses.{OneOf, end_of_fault}
+use Rattle.frz_answer.specs.World.{World, Agrees, Later, Fine, Quiet}
+use Rattle.frz_answer.specs.Answers.{Answer, says, SomeAnswer, held, NoMore}
+use Rattle.frz_answer.specs.Jobs.{Job, Sees, Never, WithinCosts}
+use Rattle.frz_answer.specs.Ends.{MayMeet, MayHaveWritten, WritesOnly, Answered, Ran, Says, Said}
+use Rattle.frz_answer.proofs.Telling.{agreed, drop_none, append_nothing, append_twice}
+use Rattle.frz_answer.proofs.Worlds.{fine_on, only_unwritten, risen_later, given_part}
+
+-- some files and some input that agree with what is told; what the job does not look at is as it was given
+pub record Found (job : Job) (free_files : Files) (free_input : List ℕ) (old : World) : Type 0 where
+  pub files : Files
+  pub input : List ℕ
+  pub agrees : Agrees old files input
+  pub free : job.needs.reads ≡ Never → files ≡ free_files
+  pub untaken : job.needs.input ≡ false → input ≡ free_input
+
+-- those that were given
+abbrev pub as_given : (job : Job) (files : Files) (input : List ℕ) (old : World) → Agrees old files input → Found job files input old
+as_given job files input old agrees = record { files = files; input = input; agrees = agrees; free = λ _. refl; untaken = λ _. refl }
+
+-- an answer over them with some text, of which no more was done than it says
+pub record Doing (job : Job) (files : Files) (input : List ℕ) (old new : World) : Type 0 where
+  pub found : Found job files input old
+  pub some : SomeAnswer (job.answers found.files found.input)
+  pub others : NoMore some.a old new
+  pub costs : WithinCosts (job.costs found.files found.input some.a) old new
+
+-- a fault before any text was written
+pub stopped_doing : (job : Job) (fault : Fault) (old new : World) → Later old new → MayMeet job fault old new → WritesOnly job.writes old.store new.store
+    → ((MayHaveWritten (Stopped fault) → ⊥) → Unwritten old.store new.store) → new.out.taken ≡ old.out.taken
+    → (Sees job.needs.reads old → (files : Files) (input : List ℕ) → Agrees old files input → Doing job files input old new) → Ran job (Stopped fault) old new
+stopped_doing job fault old new later meets only unwritten same doing =
+    let text : new.out.taken ≡ append_known old.out.taken [] = same ∙ append_nothing old.out.taken in
+    record {
+      later = later;
+      may = meets;
+      lines = (record { lines = []; whole = inl refl; text = text }, λ _. same);
+      only = only;
+      unwritten = unwritten;
+      answered = λ sees files input agrees.
+          let here = doing sees files input agrees in
+          let a = here.some.a in record {
+            files = here.found.files;
+            input = here.found.input;
+            agrees = here.found.agrees;
+            free = here.found.free;
+            untaken = here.found.untaken;
+            a = a;
+            answer = here.some.answer;
+            leaves = record {
+              lines = [];
+              rest = a.text;
+              whole = inl refl;
+              begins = refl;
+              more = here.some.text;
+              text = text;
+              others = here.others;
+            };
+            costs = here.costs;
+          };
+    }
+
+-- an answer over them with some text, where nothing but steps and calls was spent so far
+pub record Begun (job : Job) (files : Files) (input : List ℕ) (old new : World) : Type 0 where
+  pub found : Found job files input old
+  pub some : SomeAnswer (job.answers found.files found.input)
+  pub costs : WithinCosts (job.costs found.files found.input some.a) old new
+
+nothing_done : (a : Answer) (old new : World) → Quiet old new → NoMore a old new
+nothing_done a old new quiet = record {
+  files = λ name. inl (ap (λ (o : Option Files). held o name) quiet.store.files);
+  left = (0, omega arith, quiet.left ∙ drop_none old.input.left);
+}
+
+-- a fault before anything was written
+pub stopped : (job : Job) (fault : Fault) (old new : World) → Quiet old new → MayMeet job fault old new
+    → (Sees job.needs.reads old → (files : Files) (input : List ℕ) → Agrees old files input → Begun job files input old new) → Ran job (Stopped fault) old new
+stopped job fault old new quiet meets begun =
+    stopped_doing job fault old new quiet.later meets (only_unwritten job.writes old.store new.store quiet.store) (λ _. quiet.store) quiet.taken
+    (λ sees files input agrees.
+    let here = begun sees files input agrees in
+    record { found = here.found; some = here.some; others = nothing_done here.some.a old new quiet; costs = here.costs })
+
+-- a refusal of the store before anything was written
+pub refused : (job : Job) (refusal : StoreFault) (end : End) (old new : World) → end ≡ end_of_fault refusal → Quiet old new
+    → IsTrue job.needs.store → IsTrue job.needs.memory → (refusal ≡ refusals.Failed → Rose old.store.faults new.store.faults)
+    → (Sees job.needs.reads old → (files : Files) (input : List ℕ) → Agrees old files input → Begun job files input old new) → Ran job end old new
+refused job refusals.Failed end old new e quiet asks wants rose begun =
+    subst (λ (x : End). Ran job x old new) (sym e) (stopped job faults.Store old new quiet (asks, rose refl) begun)
+refused job refusals.NoMemory end old new e quiet asks wants rose begun =
+    subst (λ (x : End). Ran job x old new) (sym e) (stopped job faults.NoMemory old new quiet wants begun)
 
 -- an answer whose text is what was written before, and then this line
-pub record Closes (R : Answer → Type 0) (status : ℕ) (line : List ℕ) (files_old files_new : Option Files) (left_old left_new taken_old taken_mid : Option (List ℕ)) : Type 0 where
+pub record Closes (job : Job) (status : Status) (line : List ℕ) (files : Files) (input : List ℕ) (old mid : World) : Type 0 where
+  pub found : Found job files input old
   pub a : Answer
-  pub lines : List ℕ
-  pub answer : R a
+  pub answer : job.answers found.files found.input a
   pub status_is : a.status ≡ status
-  pub files : files_new ≡ option_map (λ _. a.files) files_old
-  pub left : left_new ≡ option_map (drop a.taken) left_old
-  pub before : taken_mid ≡ append_known taken_old lines
+  pub given : mid.store.files ≡ option_map (λ _. a.files) old.store.files
+  pub left : mid.input.left ≡ option_map (drop a.taken) old.input.left
+  pub lines : List ℕ
+  pub before : mid.out.taken ≡ append_known old.out.taken lines
   pub text : lines ++ line ≡ a.text
+  pub costs : WithinCosts (job.costs found.files found.input a) old mid
 
--- nothing was written yet
-nothing_yet : (a : Answer) (files_old files_new : Option Files) (left taken : Option (List ℕ)) → Begins a [] (outside files_old left taken) (outside files_new left taken)
-nothing_yet a files_old files_new left taken = record {
-  lines = [];
-  rest = a.text;
-  whole = inl refl;
-  begins = refl;
-  text = append_nothing taken;
-  left = (0, omega arith, drop_none left);
-}
+module _ (job : Job) (status : Status) (line : List ℕ) (old mid : World) (out : SinkTold) where
+  no_more : (a : Answer) → mid.store.files ≡ option_map (λ _. a.files) old.store.files
+      → mid.input.left ≡ option_map (drop a.taken) old.input.left → NoMore a old (record mid { out = out })
+  no_more a files left = record { files = λ name. given_part a name old.store.files mid.store.files files; left = (a.taken, omega arith, left) }
 
-module _ (enough : Type 0) (R : Answer → Type 0) (May : Option Files → Option Files → Type 0) where
-  pub at_no_memory : (files_old files_new : Option Files) (left taken : Option (List ℕ))
-      → May files_old files_new → Same files_old files_new → (enough → (a : Answer) × R a)
-      → Ran enough R May ends.NoMemory (outside files_old left taken) (outside files_new left taken)
-  at_no_memory files_old files_new left taken may same some = record {
-    status = tt;
-    files = may;
-    same = λ _. same;
-    answer = λ en. let here = some en in (here.0, here.1, nothing_yet here.0 files_old files_new left taken);
-  }
+  -- the line ends the text of an answer, whose files were written and whose input was taken before
+  pub closed : (end : End) → Later old mid → Fine old mid → WritesOnly job.writes old.store mid.store
+      → ((MayHaveWritten (Done status) → ⊥) → Unwritten old.store mid.store) → OneOf status job.statuses → Said status line end mid.out out
+      → (Sees job.needs.reads old → (files : Files) (input : List ℕ) → Agrees old files input → Closes job status line files input old mid) → Ran job end old (record mid { out = out })
+  closed end later fine only unwritten one said closes = by_end said.says
+    where
+      later_new : Later old (record mid { out = out })
+      later_new = record { store = later.store; input = later.input; out = (let a = later.out in let b = said.later in omega (arith, a, b)); steps = later.steps }
 
-  at_store_fault : (files_old files_new : Option Files) (left taken : Option (List ℕ))
-      → May files_old files_new → (enough → (a : Answer) × R a)
-      → Ran enough R May ends.StoreFault (outside files_old left taken) (outside files_new left taken)
-  at_store_fault files_old files_new left taken may some = record {
-    status = tt;
-    files = may;
-    same = λ h. absurd h;
-    answer = λ en. let here = some en in (here.0, here.1, nothing_yet here.0 files_old files_new left taken);
-  }
-
-  pub at_fault : (fault : StoreFault) (end : End) (files_old files_new : Option Files) (left taken : Option (List ℕ))
-      → end ≡ end_of_fault fault → May files_old files_new → (fault ≡ faults.NoMemory → Same files_old files_new) → (enough → (a : Answer) × R a)
-      → Ran enough R May end (outside files_old left taken) (outside files_new left taken)
-  at_fault faults.Failed end files_old files_new left taken e may same some =
-      subst (λ x. Ran enough R May x (outside files_old left taken) (outside files_new left taken)) (sym e) (at_store_fault files_old files_new left taken may some)
-  at_fault faults.NoMemory end files_old files_new left taken e may same some =
-      subst (λ x. Ran enough R May x (outside files_old left taken) (outside files_new left taken)) (sym e) (at_no_memory files_old files_new left taken may (same refl) some)
-
-  -- a text that begins an answer's was written, and then the sink failed
-  pub at_cut : (end : End) (files_old files_new : Option Files) (left_old left_new taken_old taken_new : Option (List ℕ))
-      → end ≡ ends.SinkFault → May files_old files_new
-      → (enough → (a : Answer) × R a × Cuts a (outside files_old left_old taken_old) (outside files_new left_new taken_new))
-      → Ran enough R May end (outside files_old left_old taken_old) (outside files_new left_new taken_new)
-  at_cut end files_old files_new left_old left_new taken_old taken_new e may cut =
-      subst (λ x. Ran enough R May x (outside files_old left_old taken_old) (outside files_new left_new taken_new)) (sym e)
-      (record { status = tt; files = may; same = λ h. absurd h; answer = cut })
-
-  -- the line ends an answer's text, after what was written before
-  pub at_end : (status : ℕ) (line : List ℕ) (end : End) (files_old files_new : Option Files) (left_old left_new taken_old taken_mid taken_new : Option (List ℕ))
-      → IsOwn status → Said status line end taken_mid taken_new → May files_old files_new
-      → (enough → Closes R status line files_old files_new left_old left_new taken_old taken_mid)
-      → Ran enough R May end (outside files_old left_old taken_old) (outside files_new left_new taken_new)
-  at_end status line end files_old files_new left_old left_new taken_old taken_mid taken_new own (inl done) may closes =
-      subst (λ x. Ran enough R May x (outside files_old left_old taken_old) (outside files_new left_new taken_new)) (sym done.0) (record {
-        status = own;
-        files = may;
-        same = λ h. absurd h;
-        answer = λ en.
-            let here = closes en in
-            let text : taken_new ≡ append_known taken_old here.a.text =
-            done.1 ∙ ap (λ o. append_known o line) here.before ∙ append_twice taken_old here.lines line ∙ ap (append_known taken_old) here.text in
-            (here.a, here.answer, (here.status_is, record { files = here.files; left = here.left; text = text }));
+      by_end : Says status line end mid.out out → Ran job end old (record mid { out = out })
+      by_end (inl done) = subst (λ e. Ran job e old (record mid { out = out })) (sym done.0) (record {
+        later = later_new;
+        may = (one, record { store = fine.store; input = fine.input; out = done.1 ∙ fine.out });
+        lines = tt;
+        only = only;
+        unwritten = unwritten;
+        answered = λ sees files input agrees.
+            let here = closes sees files input agrees in record {
+              files = here.found.files;
+              input = here.found.input;
+              agrees = here.found.agrees;
+              free = here.found.free;
+              untaken = here.found.untaken;
+              a = here.a;
+              answer = here.answer;
+              leaves = (
+                here.status_is,
+                record {
+                  files = here.given;
+                  left = here.left;
+                  text = done.2 ∙ ap (λ o. append_known o line) here.before ∙ append_twice old.out.taken here.lines line ∙ ap (append_known old.out.taken) here.text;
+                },
+              );
+              costs = record { steps = here.costs.steps; calls = here.costs.calls; asked = here.costs.asked };
+            };
       })
-  at_end status line end files_old files_new left_old left_new taken_old taken_mid taken_new own (inr cut) may closes =
-      at_cut end files_old files_new left_old left_new taken_old taken_new cut.0 may (λ en.
-      let here = closes en in
-      let part = cut.1 in (
-        here.a,
-        here.answer,
-        record {
-          written = here.lines ++ take part.0 line;
-          rest = drop part.0 line;
-          begins = append_assoc here.lines (take part.0 line) (drop part.0 line) ∙ ap (λ (l : List ℕ). here.lines ++ l) (take-append-drop part.0 line) ∙ here.text;
-          text = part.1 ∙ ap (λ o. append_known o (take part.0 line)) here.before ∙ append_twice taken_old here.lines (take part.0 line);
-          left = (here.a.taken, omega arith, here.left);
-        },
-      ))
+      by_end (inr cut) =
+          let k = cut.2.0 in
+          subst (λ e. Ran job e old (record mid { out = out })) (sym cut.0) (record {
+            later = later_new;
+            may = risen_later old.out.faults mid.out.faults out.faults later.out cut.1;
+            lines = tt;
+            only = only;
+            unwritten = λ none. absurd (none tt);
+            answered = λ sees files input agrees.
+                let here = closes sees files input agrees in record {
+                  files = here.found.files;
+                  input = here.found.input;
+                  agrees = here.found.agrees;
+                  free = here.found.free;
+                  untaken = here.found.untaken;
+                  a = here.a;
+                  answer = here.answer;
+                  leaves = record {
+                    written = here.lines ++ take k line;
+                    rest = drop k line;
+                    begins = append_assoc here.lines (take k line) (drop k line) ∙ ap (λ (l : List ℕ). here.lines ++ l) (take-append-drop k line) ∙ here.text;
+                    text = cut.2.1 ∙ ap (λ o. append_known o (take k line)) here.before ∙ append_twice old.out.taken here.lines (take k line);
+                    others = no_more here.a here.given here.left;
+                  };
+                  costs = record { steps = here.costs.steps; calls = here.costs.calls; asked = here.costs.asked };
+                };
+          })
 
-  -- the line is an answer's text, and these are its files
-  pub at_last : (status : ℕ) (line : List ℕ) (end : End) (files_old files_new : Option Files) (left taken_old taken_new : Option (List ℕ))
-      → IsOwn status → Said status line end taken_old taken_new → May files_old files_new
-      → (enough → (m : Files) × R (says status line m) × (files_new ≡ option_map (λ _. m) files_old))
-      → Ran enough R May end (outside files_old left taken_old) (outside files_new left taken_new)
-  at_last status line end files_old files_new left taken_old taken_new own said may answers =
-      at_end status line end files_old files_new left left taken_old taken_old taken_new own said may (λ en.
-      let here = answers en in record {
-        a = says status line here.0;
-        lines = [];
-        answer = here.1;
-        status_is = refl;
-        files = here.2;
-        left = drop_none left;
-        before = append_nothing taken_old;
-        text = refl;
-      })
+-- an answer over them that is one text, and says that no file changes
+pub record SaysAll (job : Job) (status : Status) (line : List ℕ) (files : Files) (input : List ℕ) (old mid : World) : Type 0 where
+  pub found : Found job files input old
+  pub answer : job.answers found.files found.input (says status line found.files)
+  pub costs : WithinCosts (job.costs found.files found.input (says status line found.files)) old mid
 
--- what was done by some answers was done by others that all of them are, where more is told
-pub through : (more enough : Type 0) (R S : Answer → Type 0) (May : Option Files → Option Files → Type 0) (end : End) (old new : Outside)
-    → (more → enough) → (more → (a : Answer) → R a → S a) → Ran enough R May end old new → Ran more S May end old new
-through more enough R S May end old new told are ran = record {
-  status = ran.status;
-  files = ran.files;
-  same = ran.same;
-  answer = λ m. let here = ran.answer (told m) in (here.0, are m here.0 here.1, here.2);
-}
+-- the line is the whole text, and nothing was written before
+pub said : (job : Job) (status : Status) (line : List ℕ) (end : End) (old mid : World) (out : SinkTold) → Quiet old mid → Fine old mid → OneOf status job.statuses
+    → Said status line end mid.out out
+    → (Sees job.needs.reads old → (files : Files) (input : List ℕ) → Agrees old files input → SaysAll job status line files input old mid) → Ran job end old (record mid { out = out })
+said job status line end old mid out quiet fine one says_it answers =
+    closed job status line old mid out end quiet.later fine (only_unwritten job.writes old.store mid.store quiet.store) (λ _. quiet.store) one says_it
+    (λ sees files input agrees.
+    let here = answers sees files input agrees in record {
+      found = here.found;
+      a = says status line here.found.files;
+      answer = here.answer;
+      status_is = refl;
+      given = quiet.store.files ∙ agreed old.store.files here.found.files here.found.agrees.store;
+      left = quiet.left ∙ drop_none old.input.left;
+      lines = [];
+      before = quiet.taken ∙ append_nothing old.out.taken;
+      text = refl;
+      costs = here.costs;
+    })

@@ -1,126 +1,248 @@
 -- What a whole call gives, from what its command has done and the line that names its fault.
-use Rattle.std.proofs.Common.{◌≡◌, ◌⊎◌, inl, inr, ⊎_elim, refl, sym, ap, subst, ◌∙◌, ℕ, ◌<◌, List, [], ◌++◌, take, Option, arith, append-nil}
+use Rattle.std.proofs.Common.{◌≡◌, ◌≢◌, ◌⊎◌, inl, inr, refl, sym, ap, subst, ◌∙◌, ℕ, ◌≤◌, List, [], ◌++◌, take, Option, Some, None, Bool, true, false, IsTrue, ◌==◌, ◌||◌, if◌then◌else◌, arith, append-nil}
+use Rattle.std.specs.Prelude.{IfSome}
+use Rattle.std.specs.Option.{unwrap_or}
 use Rattle.std.specs.Io.KnownBytes.{append_known}
-use Rattle.frz_store.specs.Files.{Files}
+use Rattle.frz_store.specs.Files.{Files, no_files}
+use Rattle.frz_store.specs.Outside.{Rose}
+use Rattle.frz_answer.specs.declared.status.Status.{Status}
+use Rattle.frz_answer.specs.declared.status.Status.TheVariants as statuses
+use Rattle.frz_answer.specs.declared.fault.Fault.{Fault}
+use Rattle.frz_answer.specs.declared.fault.Fault.TheVariants as faults
 use Rattle.frz_answer.specs.declared.end.End.{End}
-use Rattle.frz_answer.specs.declared.end.End.TheVariants.{Done, StoreFault, SinkFault, SourceFault, NoMemory}
-use Rattle.frz_answer.specs.Outside.{Outside, outside}
-use Rattle.frz_answer.specs.Answers.{Answer, Begins}
-use Rattle.frz_answer.specs.Ends.{IsOwn, Same, Ran}
-use Rattle.frz_answer.specs.Outcomes.{fault_line, IsNamed, NamesFault, Finished, IsCutOff, IsHonest, IsComplete, KeepsLines, IsCut, KeepsFiles}
+use Rattle.frz_answer.specs.declared.end.End.TheVariants.{Done, SinkFault, Stopped}
+use Rattle.frz_answer.specs.Statuses.{code_of, fault_code, sink_code, fault_line}
+use Rattle.frz_store.specs.Told.{SinkTold, Unwritten}
+use Rattle.frz_answer.specs.World.{World, Agrees, Later, Fine}
+use Rattle.frz_answer.specs.Answers.{Answer, Gives, TookLines, NoMore, Begins, Cuts}
+use Rattle.frz_answer.specs.Jobs.{Job, Sees, WithinCosts}
+use Rattle.frz_answer.specs.Ends.{MayMeet, MayHaveWritten, Answered, Ran}
+use Rattle.frz_answer.specs.Outcomes.{NamesFault, Gave, Finished, HasStatus, Answering, IsComplete, Whole, Halted, CutOff, Outcome}
 use Rattle.frz_answer.proofs.Telling.{append_twice}
+use Rattle.frz_answer.proofs.Worlds.{still_risen, risen_later}
 
--- a line more
-extend : (a : Answer) (line : List ℕ) (old : Outside) (files : Option Files) (left taken_mid taken_new : Option (List ℕ))
-    → Begins a [] old (outside files left taken_mid) → taken_new ≡ append_known taken_mid line → Begins a line old (outside files left taken_new)
-extend a line old files left taken_mid taken_new so_far e = record {
-  lines = so_far.lines;
-  rest = so_far.rest;
-  whole = so_far.whole;
-  begins = so_far.begins;
-  text = e ∙ ap (λ o. append_known o line) so_far.text ∙ append_twice old.taken (so_far.lines ++ []) line ∙ ap (λ (l : List ℕ). append_known old.taken (l ++ line)) (append-nil so_far.lines);
-  left = so_far.left;
+-- the codes of statuses and of faults differ, and none is 9
+abbrev stops : ℕ → Bool
+stops n = (n == 8) || (n == 9) || (n == 10) || (n == 11)
+
+own_goes : (s : Status) → stops (code_of s) ≡ false
+own_goes statuses.Success = refl
+own_goes statuses.Words = refl
+own_goes statuses.Rules = refl
+own_goes statuses.Fen = refl
+own_goes statuses.Table = refl
+own_goes statuses.Wrong = refl
+own_goes statuses.Outside = refl
+own_goes statuses.Missing = refl
+own_goes statuses.Limit = refl
+own_goes statuses.NoMove = refl
+
+fault_stops : (fault : Fault) → stops (fault_code fault) ≡ true
+fault_stops faults.Store = refl
+fault_stops faults.Input = refl
+fault_stops faults.NoMemory = refl
+
+own_stops : {A : Type 0} (s : Status) (n : ℕ) → n ≡ code_of s → stops n ≡ true → A
+own_stops s n e stop = let no : true ≡ false = sym stop ∙ ap stops e ∙ own_goes s in cc
+
+own_fault : {A : Type 0} (s : Status) (fault : Fault) (n : ℕ) → n ≡ code_of s → n ≡ fault_code fault → A
+own_fault s fault n e f = own_stops s n e (ap stops f ∙ fault_stops fault)
+
+own_nine : {A : Type 0} (s : Status) (n : ℕ) → n ≡ code_of s → n ≡ sink_code → A
+own_nine s n e f = own_stops s n e (ap stops f)
+
+nine_fault : {A : Type 0} (fault : Fault) (n : ℕ) → n ≡ sink_code → n ≡ fault_code fault → A
+nine_fault faults.Store n e f = let no : ◌≡◌ {A = ℕ} 9 8 = sym e ∙ f in cc
+nine_fault faults.Input n e f = let no : ◌≡◌ {A = ℕ} 9 10 = sym e ∙ f in cc
+nine_fault faults.NoMemory n e f = let no : ◌≡◌ {A = ℕ} 9 11 = sym e ∙ f in cc
+
+abbrev fault_of : ℕ → Fault
+fault_of n = if n == 8 then faults.Store else (if n == 10 then faults.Input else faults.NoMemory)
+
+fault_back : (fault : Fault) → fault_of (fault_code fault) ≡ fault
+fault_back faults.Store = refl
+fault_back faults.Input = refl
+fault_back faults.NoMemory = refl
+
+one_fault : (f g : Fault) (n : ℕ) → n ≡ fault_code f → n ≡ fault_code g → f ≡ g
+one_fault f g n e h = sym (fault_back f) ∙ ap fault_of (sym e ∙ h) ∙ fault_back g
+
+text_on : (line lines : List ℕ) (old mid new : Option (List ℕ)) → mid ≡ append_known old (lines ++ []) → new ≡ append_known mid line → new ≡ append_known old (lines ++ line)
+text_on line lines old mid new h e =
+    e ∙ ap (λ o. append_known o line) h ∙ append_twice old (lines ++ []) line ∙ ap (λ (l : List ℕ). append_known old (l ++ line)) (append-nil lines)
+
+lines_on : (line : List ℕ) (old mid new : SinkTold) → TookLines [] old mid → new.taken ≡ append_known mid.taken line → TookLines line old new
+lines_on line old mid new h e = record {
+  lines = h.lines;
+  whole = h.whole;
+  text = text_on line h.lines old.taken mid.taken new.taken h.text e;
 }
 
-nine_unnamed : IsNamed 9 → ⊥
-nine_unnamed h = ⊎_elim (λ e. omega arith) (λ h. ⊎_elim (λ e. omega arith) (λ e. omega arith) h) h
+-- the ends at which something may have been written, by the status
+written_own : (s : Status) (n : ℕ) → n ≡ code_of s → n ≢ code_of statuses.Success → MayHaveWritten (Done s) → ⊥
+written_own statuses.Success n e other h = other e
+written_own statuses.Words n e other h = h
+written_own statuses.Rules n e other h = h
+written_own statuses.Fen n e other h = h
+written_own statuses.Table n e other h = h
+written_own statuses.Wrong n e other h = h
+written_own statuses.Outside n e other h = h
+written_own statuses.Missing n e other h = h
+written_own statuses.Limit n e other h = h
+written_own statuses.NoMove n e other h = h
 
-own_unnamed : (s : ℕ) → IsOwn s → IsNamed s → ⊥
-own_unnamed s own named = ⊎_elim (λ h. not_low s h named) (λ h. not_high s h named) own
-  where
-    not_low : (s : ℕ) → s < 8 → IsNamed s → ⊥
-    not_low s h (inl e) = omega arith
-    not_low s h (inr (inl e)) = omega arith
-    not_low s h (inr (inr e)) = omega arith
+named_not : (fault : Fault) (n : ℕ) (old new : SinkTold) → NamesFault fault n old new → n ≢ fault_code faults.Store → n ≢ sink_code → MayHaveWritten (Stopped fault) → ⊥
+named_not faults.Store n old new (inl h) not8 not9 w = not8 h.0
+named_not faults.Store n old new (inr h) not8 not9 w = not9 h.0
+named_not faults.Input n old new h not8 not9 w = w
+named_not faults.NoMemory n old new h not8 not9 w = w
 
-    not_high : (s : ℕ) → 11 < s → IsNamed s → ⊥
-    not_high s h (inl e) = omega arith
-    not_high s h (inr (inl e)) = omega arith
-    not_high s h (inr (inr e)) = omega arith
+-- what is told agrees with itself
+told_agrees : {A : Type 0} (o : Option A) (d : A) → IfSome o (λ m. m ≡ unwrap_or o d)
+told_agrees None d = tt
+told_agrees (Some x) d = refl
 
-own_not_nine : (s : ℕ) → IsOwn s → s ≡ 9 → ⊥
-own_not_nine s (inl h) e = omega arith
-own_not_nine s (inr h) e = omega arith
+agrees_told : (w : World) → Agrees w (unwrap_or w.store.files no_files) (unwrap_or w.input.left [])
+agrees_told w = record { store = told_agrees w.store.files no_files; source = told_agrees w.input.left [] }
 
--- a fault is not told of by a status of one's own
-named_not_own : (code status : ℕ) (old new : Option (List ℕ)) → IsNamed code → NamesFault code status old new → IsOwn status → ⊥
-named_not_own code status old new named (inl h) own = own_unnamed code (subst IsOwn h.0 own) named
-named_not_own code status old new named (inr h) own = own_not_nine status own h.0
+module _ (job : Job) (status : ℕ) (old mid : World) (out : SinkTold) where
+  abbrev new : World
+  new = record mid { out = out }
 
-module _ (enough : Type 0) (R : Answer → Type 0) (May : Option Files → Option Files → Type 0)
-    (old : Outside) (files : Option Files) (left taken_mid taken_new : Option (List ℕ)) (status : ℕ) where
-  told_line : (code : ℕ) (a : Answer) → NamesFault code status taken_mid taken_new → IsNamed status
-      → Begins a [] old (outside files left taken_mid) → Begins a (fault_line status) old (outside files left taken_new)
-  told_line code a (inl h) named so_far =
-      subst (λ s. Begins a (fault_line s) old (outside files left taken_new)) (sym h.0) (extend a (fault_line code) old files left taken_mid taken_new so_far h.1)
-  told_line code a (inr h) named so_far = absurd (nine_unnamed (subst IsNamed h.0 named))
+  -- the answer over what is told, or over some files and input where nothing is
+  abbrev told_answer : (end : End) → Ran job end old mid → Sees job.needs.reads old → Answered job (unwrap_or old.store.files no_files) (unwrap_or old.input.left []) end old mid
+  told_answer end ran sees = ran.answered sees _ _ (agrees_told old)
 
-  cut_line : (code : ℕ) (a : Answer) → NamesFault code status taken_mid taken_new → IsNamed code → status ≡ 9
-      → Begins a [] old (outside files left taken_mid) → IsCutOff a old (outside files left taken_new)
-  cut_line code a (inl h) named nine so_far = absurd (nine_unnamed (subst IsNamed (sym h.0 ∙ nine) named))
-  cut_line code a (inr h) named nine so_far =
-      inr (code, named, (h.1.0, extend a (take h.1.0 (fault_line code)) old files left taken_mid taken_new so_far h.1.1))
+  abbrev answering : (end : End) (files : Files) (input : List ℕ) → ((f : Files) (i : List ℕ) (a : Answer) → job.answers f i a → job.means f i a)
+      → Answered job files input end old mid → Answering job old new
+  answering end files input law here = record {
+    files = here.files;
+    input = here.input;
+    agrees = here.agrees;
+    a = here.a;
+    answer = here.answer;
+    meant = law here.files here.input here.a here.answer;
+    costs = record { steps = here.costs.steps; calls = here.costs.calls; asked = here.costs.asked };
+  }
 
-  pub is_honest : (end : End) → Ran enough R May end old (outside files left taken_mid) → Finished end status taken_mid taken_new
-      → IsHonest enough R status old (outside files left taken_new)
-  is_honest (Done s) ran fin own en =
-      let here = ran.answer en in
-      (here.0, here.1, here.2.0 ∙ sym fin.0, record { files = here.2.1.files; left = here.2.1.left; text = fin.1 ∙ here.2.1.text })
-  is_honest StoreFault ran fin own en = absurd (named_not_own 8 status taken_mid taken_new (inl refl) fin own)
-  is_honest SinkFault ran fin own en = absurd (own_not_nine status own fin.0)
-  is_honest SourceFault ran fin own en = absurd (named_not_own 10 status taken_mid taken_new (inr (inl refl)) fin own)
-  is_honest NoMemory ran fin own en = absurd (named_not_own 11 status taken_mid taken_new (inr (inr refl)) fin own)
+  no_more : (a : Answer) → NoMore a old mid → NoMore a old new
+  no_more a h = record { files = h.files; left = h.left }
 
-  pub is_complete : (store sink source : Type 0) (end : End) → Ran enough R May end old (outside files left taken_mid) → Finished end status taken_mid taken_new
-      → (end ≡ StoreFault → store) → (status ≡ 9 → sink) → (end ≡ SourceFault → source)
-      → IsComplete enough R status store sink source
-  is_complete store sink source (Done s) ran fin st si so no_st no_si no_so en =
-      let here = ran.answer en in inl (here.0, here.1, here.2.0 ∙ sym fin.0)
-  is_complete store sink source StoreFault ran fin st si so no_st no_si no_so en = absurd (no_st (st refl))
-  is_complete store sink source SinkFault ran fin st si so no_st no_si no_so en = absurd (no_si (si fin.0))
-  is_complete store sink source SourceFault ran fin st si so no_st no_si no_so en = absurd (no_so (so refl))
-  is_complete store sink source NoMemory ran fin st si so no_st no_si no_so en = ⊎_elim (λ h. inr h.0) (λ h. absurd (no_si (si h.0))) fin
+  extend : (a : Answer) (line : List ℕ) → Begins a [] old mid → out.taken ≡ append_known mid.out.taken line → Begins a line old new
+  extend a line h e = record {
+    lines = h.lines;
+    rest = h.rest;
+    whole = h.whole;
+    begins = h.begins;
+    more = h.more;
+    text = text_on line h.lines old.out.taken mid.out.taken out.taken h.text e;
+    others = no_more a h.others;
+  }
 
-  pub keeps_lines : (end : End) → Ran enough R May end old (outside files left taken_mid) → Finished end status taken_mid taken_new
-      → KeepsLines enough R status old (outside files left taken_new)
-  keeps_lines (Done s) ran fin named en = absurd (own_unnamed s ran.status (subst IsNamed fin.0 named))
-  keeps_lines StoreFault ran fin named en = let here = ran.answer en in (here.0, here.1, told_line 8 here.0 fin named here.2)
-  keeps_lines SinkFault ran fin named en = absurd (nine_unnamed (subst IsNamed fin.0 named))
-  keeps_lines SourceFault ran fin named en = let here = ran.answer en in (here.0, here.1, told_line 10 here.0 fin named here.2)
-  keeps_lines NoMemory ran fin named en = let here = ran.answer en in (here.0, here.1, told_line 11 here.0 fin named here.2)
+  meets_on : (fault : Fault) → MayMeet job fault old mid → MayMeet job fault old new
+  meets_on faults.Store h = h
+  meets_on faults.Input h = h
+  meets_on faults.NoMemory h = h
 
-  pub is_cut : (end : End) → Ran enough R May end old (outside files left taken_mid) → Finished end status taken_mid taken_new
-      → IsCut enough R status old (outside files left taken_new)
-  is_cut (Done s) ran fin nine en = absurd (own_not_nine s ran.status (sym fin.0 ∙ nine))
-  is_cut StoreFault ran fin nine en = let here = ran.answer en in (here.0, here.1, cut_line 8 here.0 fin (inl refl) nine here.2)
-  is_cut SinkFault ran fin nine en =
-      let here = ran.answer en in
-      (here.0, here.1, inl (record { written = here.2.written; rest = here.2.rest; begins = here.2.begins; text = fin.1 ∙ here.2.text; left = here.2.left }))
-  is_cut SourceFault ran fin nine en = let here = ran.answer en in (here.0, here.1, cut_line 10 here.0 fin (inr (inl refl)) nine here.2)
-  is_cut NoMemory ran fin nine en = let here = ran.answer en in (here.0, here.1, cut_line 11 here.0 fin (inr (inr refl)) nine here.2)
+  unwritten_by : (end : End) → Gave end status mid.out out → status ≢ code_of statuses.Success → status ≢ fault_code faults.Store → status ≢ sink_code → MayHaveWritten end → ⊥
+  unwritten_by (Done s) gave not0 not8 not9 w = written_own s status gave.0 not0 w
+  unwritten_by SinkFault gave not0 not8 not9 w = not9 gave.0
+  unwritten_by (Stopped fault) gave not0 not8 not9 w = named_not fault status mid.out out gave not8 not9 w
 
-  late_status : (code : ℕ) → NamesFault code status taken_mid taken_new → code ≡ 8 → (status ≡ 10) ⊎ (status ≡ 11) → ⊥
-  late_status code (inl h) e (inl f) = omega arith
-  late_status code (inl h) e (inr f) = omega arith
-  late_status code (inr h) e (inl f) = omega arith
-  late_status code (inr h) e (inr f) = omega arith
+  module _ (later : mid.out.faults ≤ out.faults) where
+    can : (end : End) → Ran job end old mid → Gave end status mid.out out → HasStatus job status old new
+    can (Done s) ran gave =
+        let fine = ran.may.1 in
+        inl (s, ran.may.0, gave.0, record { store = fine.store; input = fine.input; out = ap (λ (o : SinkTold). o.faults) gave.1 ∙ fine.out })
+    can SinkFault ran gave = inr (inr (still_risen old.out.faults mid.out.faults out.faults ran.may later, gave.0))
+    can (Stopped fault) ran (inl h) = inr (inl (fault, meets_on fault ran.may, h.0))
+    can (Stopped fault) ran (inr h) = let so_far = ran.later.out in inr (inr (risen_later old.out.faults mid.out.faults out.faults so_far h.1, h.0))
 
-  own_late : (s : ℕ) → IsOwn s → (s ≡ 10) ⊎ (s ≡ 11) → ⊥
-  own_late s own (inl e) = own_unnamed s own (inr (inl e))
-  own_late s own (inr e) = own_unnamed s own (inr (inr e))
+    names : (end : End) → Ran job end old mid → Gave end status mid.out out → (fault : Fault) → status ≡ fault_code fault → TookLines (fault_line fault) old.out out
+    names (Done s) ran gave fault e = own_fault s fault status gave.0 e
+    names SinkFault ran gave fault e = nine_fault fault status gave.0 e
+    names (Stopped met) ran (inl h) fault e =
+        subst (λ f. TookLines (fault_line f) old.out out) (one_fault met fault status h.0 e) (lines_on (fault_line met) old.out mid.out out ran.lines.0 h.1)
+    names (Stopped met) ran (inr h) fault e = nine_fault fault status h.0 e
 
-  nine_late : status ≡ 9 → (status ≡ 10) ⊎ (status ≡ 11) → ⊥
-  nine_late e (inl f) = omega arith
-  nine_late e (inr f) = omega arith
+    alone : (end : End) → Ran job end old mid → Gave end status mid.out out → (fault : Fault) → status ≡ fault_code fault → job.speaks ≡ false
+        → out.taken ≡ append_known old.out.taken (fault_line fault)
+    alone (Done s) ran gave fault e quiet = own_fault s fault status gave.0 e
+    alone SinkFault ran gave fault e quiet = nine_fault fault status gave.0 e
+    alone (Stopped met) ran (inl h) fault e quiet =
+        subst (λ f. out.taken ≡ append_known old.out.taken (fault_line f)) (one_fault met fault status h.0 e) (h.1 ∙ ap (λ o. append_known o (fault_line met)) (ran.lines.1 quiet))
+    alone (Stopped met) ran (inr h) fault e quiet = nine_fault fault status h.0 e
 
-  same_files : (end : End) → Ran enough R May end old (outside files left taken_mid) → Finished end status taken_mid taken_new
-      → (status ≡ 10) ⊎ (status ≡ 11) → Same old.files files
-  same_files (Done s) ran fin h = absurd (own_late s ran.status (subst (λ n. (n ≡ 10) ⊎ (n ≡ 11)) fin.0 h))
-  same_files StoreFault ran fin h = absurd (late_status 8 fin refl h)
-  same_files SinkFault ran fin h = absurd (nine_late fin.0 h)
-  same_files SourceFault ran fin h = ran.same tt
-  same_files NoMemory ran fin h = ran.same tt
+    module _ (law : (f : Files) (i : List ℕ) (a : Answer) → job.answers f i a → job.means f i a) where
+      honest : (end : End) → Ran job end old mid → Gave end status mid.out out → (s : Status) → status ≡ code_of s → Sees job.needs.reads old → Whole job status old new
+      honest (Done t) ran gave s e sees =
+          let here = told_answer (Done t) ran sees in
+          let files : Files = unwrap_or old.store.files no_files in
+          let input : List ℕ = unwrap_or old.input.left [] in
+          record {
+            of = answering (Done t) files input law here;
+            status_is = gave.0 ∙ ap code_of (sym here.leaves.0);
+            gives = record {
+              files = here.leaves.1.files;
+              left = here.leaves.1.left;
+              text = ap (λ (o : SinkTold). o.taken) gave.1 ∙ here.leaves.1.text;
+            };
+          }
+      honest SinkFault ran gave s e sees = own_nine s status e gave.0
+      honest (Stopped met) ran (inl h) s e sees = own_fault s met status e h.0
+      honest (Stopped met) ran (inr h) s e sees = own_nine s status e h.0
 
-  pub keeps_files : (end : End) → Ran enough R May end old (outside files left taken_mid) → Finished end status taken_mid taken_new
-      → KeepsFiles May status old.files files
-  keeps_files end ran fin = record { may = ran.files; same = same_files end ran fin }
+      halted : (end : End) → Ran job end old mid → Gave end status mid.out out → (fault : Fault) → status ≡ fault_code fault → Sees job.needs.reads old → Halted job fault old new
+      halted (Done s) ran gave fault e sees = own_fault s fault status gave.0 e
+      halted SinkFault ran gave fault e sees = nine_fault fault status gave.0 e
+      halted (Stopped met) ran (inl h) fault e sees =
+          subst (λ f. Halted job f old new) (one_fault met fault status h.0 e)
+          (let here = told_answer (Stopped met) ran sees in
+          record { of = answering (Stopped met) _ _ law here; begins = extend here.a (fault_line met) here.leaves h.1 })
+      halted (Stopped met) ran (inr h) fault e sees = nine_fault fault status h.0 e
+
+      cut : (end : End) → Ran job end old mid → Gave end status mid.out out → status ≡ sink_code → Sees job.needs.reads old → CutOff job old new
+      cut (Done s) ran gave e sees = own_nine s status gave.0 e
+      cut SinkFault ran gave e sees =
+          let here = told_answer SinkFault ran sees in record {
+            of = answering SinkFault _ _ law here;
+            cut = inl (record {
+              written = here.leaves.written;
+              rest = here.leaves.rest;
+              begins = here.leaves.begins;
+              text = ap (λ (o : SinkTold). o.taken) gave.1 ∙ here.leaves.text;
+              others = no_more here.a here.leaves.others;
+            });
+          }
+      cut (Stopped met) ran (inl h) e sees = nine_fault met status e h.0
+      cut (Stopped met) ran (inr h) e sees =
+          let here = told_answer (Stopped met) ran sees in record {
+            of = answering (Stopped met) _ _ law here;
+            cut = inr (met, meets_on met ran.may, (h.2.0, extend here.a (take h.2.0 (fault_line met)) here.leaves h.2.1));
+          }
+
+  complete : Sees job.needs.reads old → ((s : Status) → status ≡ code_of s → Sees job.needs.reads old → Whole job status old new) → HasStatus job status old new → IsComplete job status old new
+  complete sees whole (inl own) no_store no_input no_out = inl (whole own.0 own.2 sees)
+  complete sees whole (inr (inl h)) no_store no_input no_out = by_fault h.0 h.1 h.2
+    where
+      by_fault : (fault : Fault) → MayMeet job fault old new → status ≡ fault_code fault → Whole job status old new ⊎ (IsTrue job.needs.memory × (status ≡ fault_code faults.NoMemory))
+      by_fault faults.Store m e = absurd (no_store m.1)
+      by_fault faults.Input m e = absurd (no_input m.1)
+      by_fault faults.NoMemory m e = inr (m, e)
+  complete sees whole (inr (inr h)) no_store no_input no_out = absurd (no_out h.0)
+
+  -- what the program gives, where the command ended so and the line of its fault was written
+  pub outcome : (end : End) → ((f : Files) (i : List ℕ) (a : Answer) → job.answers f i a → job.means f i a) → Ran job end old mid → Finished end status mid.out out
+      → Outcome job status old (record mid { out = out })
+  outcome end law ran finished = record {
+    later = record { store = ran.later.store; input = ran.later.input; out = (let a = ran.later.out in let b = finished.later in omega (arith, a, b)); steps = ran.later.steps };
+    can = can finished.later end ran finished.gave;
+    only = ran.only;
+    unwritten = λ not0 not8 not9. ran.unwritten (unwritten_by end finished.gave not0 not8 not9);
+    names = names finished.later end ran finished.gave;
+    alone = alone finished.later end ran finished.gave;
+    honest = honest finished.later law end ran finished.gave;
+    halted = halted finished.later law end ran finished.gave;
+    cut = cut finished.later law end ran finished.gave;
+    complete = λ sees. complete sees (honest finished.later law end ran finished.gave) (can finished.later end ran finished.gave);
+  }

@@ -1,4 +1,11 @@
 pub mod Telling
+pub mod Worlds
 pub mod Pieces
+pub mod Writing
 pub mod Ending
+pub mod Naming
+pub mod Stages
 pub mod Finishing
+pub mod Lawful
+pub mod Calling
+pub mod Lemmas

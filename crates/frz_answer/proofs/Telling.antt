@@ -1,11 +1,9 @@
 -- What optional bytes and files do where nothing, or one thing after the other, is put to them.
-use Rattle.std.proofs.Common.{◌≡◌, refl, ap, ℕ, List, [], ◌++◌, take, drop, Option, Some, None, rules, append_assoc}
-use Rattle.std.specs.Option.{option_map, unwrap_or}
+use Rattle.std.proofs.Common.{◌≡◌, refl, ap, ℕ, ◌+◌, List, [], ◌++◌, take, drop, Option, Some, None, rules, append_assoc}
+use Rattle.std.proofs.lemmas.List.{drop-drop}
+use Rattle.std.specs.Prelude.{IfSome}
+use Rattle.std.specs.Option.{option_map}
 use Rattle.std.specs.Io.KnownBytes.{append_known}
-
-pub unwrap_same : {A : Type 0} (o : Option A) (d : A) → o ≡ option_map (λ _. unwrap_or o d) o
-unwrap_same None d = refl
-unwrap_same (Some x) d = refl
 
 pub drop_none : (o : Option (List ℕ)) → o ≡ option_map (drop 0) o
 drop_none None = refl
@@ -24,3 +22,12 @@ with_line o x y e = ap (append_known o) e
 
 pub with_start : (o : Option (List ℕ)) (k : ℕ) (x y : List ℕ) → x ≡ y → append_known o (take k x) ≡ append_known o (take k y)
 with_start o k x y e = ap (λ (l : List ℕ). append_known o (take k l)) e
+
+pub drop_twice : (o : Option (List ℕ)) (i j : ℕ) → option_map (drop j) (option_map (drop i) o) ≡ option_map (drop (i + j)) o
+drop_twice None i j = refl
+drop_twice (Some x) i j = ap Some (drop-drop j i x)
+
+-- what is told, where it agrees
+pub agreed : {A : Type 0} (o : Option A) (x : A) → IfSome o (λ told. told ≡ x) → o ≡ option_map (λ _. x) o
+agreed None x e = refl
+agreed {A} (Some told) x e = ap (λ (y : A). Some y) e

@@ -1,52 +1,84 @@
--- How a command ends, beside the answers that are defined for it.
-use Rattle.std.specs.Prelude.{◌≡◌, ◌⊎◌, ℕ, ◌<◌, ◌≤◌, List, [], take, Option, ⊤}
+-- How a command ends, beside what it is to do.
+use Rattle.std.specs.Prelude.{◌≡◌, ◌≢◌, ◌⊎◌, ℕ, ◌≤◌, List, [], take, IsTrue, Bool, false, Option, Some, None, ⊤}
 use Rattle.std.specs.Io.KnownBytes.{append_known}
 use Rattle.frz_store.specs.Files.{Files}
 use Rattle.frz_store.specs.Outside.{Rose}
+use Rattle.frz_store.specs.Told.{StoreTold, SinkTold, Unwritten}
+use Rattle.frz_answer.specs.declared.status.Status.{Status}
+use Rattle.frz_answer.specs.declared.status.Status.TheVariants.{Success}
+use Rattle.frz_answer.specs.declared.fault.Fault.{Fault}
+use Rattle.frz_answer.specs.declared.fault.Fault.TheVariants.{Store, Input, NoMemory}
 use Rattle.frz_answer.specs.declared.end.End.{End}
-use Rattle.frz_answer.specs.declared.end.End.TheVariants.{Done, SinkFault, SourceFault, NoMemory}
-use Rattle.frz_answer.specs.Outside.{Outside}
-use Rattle.frz_answer.specs.Answers.{Answer, Gives, Begins, Cuts}
+use Rattle.frz_answer.specs.declared.end.End.TheVariants.{Done, SinkFault, Stopped}
+use Rattle.frz_answer.specs.Statuses.{OneOf}
+use Rattle.frz_answer.specs.World.{World, Agrees, Later, Fine}
+use Rattle.frz_answer.specs.Answers.{Answer, Gives, Begins, Cuts, TookLines, held}
+use Rattle.frz_answer.specs.Jobs.{Job, Never, Sees, WithinCosts}
 
--- a status that tells of no fault
-abbrev pub IsOwn : ℕ → Type 0
-IsOwn status = (status < 8) ⊎ (11 < status)
+-- the job may meet this fault, and has met its cause
+abbrev pub MayMeet : Job → Fault → World → World → Type 0
+MayMeet job Store old new = IsTrue job.needs.store × Rose old.store.faults new.store.faults
+MayMeet job Input old new = IsTrue job.needs.input × Rose old.input.faults new.input.faults
+MayMeet job NoMemory old new = IsTrue job.needs.memory
 
-abbrev pub HasOwnStatus : End → Type 0
-HasOwnStatus (Done status) = IsOwn status
-HasOwnStatus end = ⊤
+-- the job may end so; with a status of its own, no object has failed
+abbrev pub MayEnd : Job → End → World → World → Type 0
+MayEnd job (Done status) old new = OneOf status job.statuses × Fine old new
+MayEnd job SinkFault old new = Rose old.out.faults new.out.faults
+MayEnd job (Stopped fault) old new = MayMeet job fault old new
 
--- the input failed, or there was no memory
-abbrev pub IsEarly : End → Type 0
-IsEarly SourceFault = ⊤
-IsEarly NoMemory = ⊤
-IsEarly end = ⊥
+-- the ends at which something may have been written to the store
+abbrev pub MayHaveWritten : End → Type 0
+MayHaveWritten (Done Success) = ⊤
+MayHaveWritten (Done status) = ⊥
+MayHaveWritten SinkFault = ⊤
+MayHaveWritten (Stopped Store) = ⊤
+MayHaveWritten (Stopped fault) = ⊥
+
+-- where a fault stopped the command, whole lines were written, or nothing
+abbrev pub EndsInLines : Bool → End → SinkTold → SinkTold → Type 0
+EndsInLines speaks (Stopped fault) old new = TookLines [] old new × (speaks ≡ false → new.taken ≡ old.taken)
+EndsInLines speaks end old new = ⊤
+
+-- no other name was written
+abbrev pub WritesOnly : Option (List ℕ) → StoreTold → StoreTold → Type 0
+WritesOnly None old new = Unwritten old new
+WritesOnly (Some name) old new = (q : List ℕ) → q ≢ name → held new.files q ≡ held old.files q
 
 -- how much of an answer is given where a command ends so
-abbrev pub Leaves : End → Answer → Outside → Outside → Type 0
+abbrev pub Leaves : End → Answer → World → World → Type 0
 Leaves (Done status) a old new = (a.status ≡ status) × Gives a old new
 Leaves SinkFault a old new = Cuts a old new
-Leaves end a old new = Begins a [] old new
+Leaves (Stopped fault) a old new = Begins a [] old new
 
--- no file has changed
-abbrev pub Same : Option Files → Option Files → Type 0
-Same old new = new ≡ old
+-- an answer of the job over some files and some input that agree with what is told, and so much of it was given, within
+-- its costs. What the job does not look at is free
+pub record Answered (job : Job) (free_files : Files) (free_input : List ℕ) (end : End) (old new : World) : Type 0 where
+  pub files : Files
+  pub input : List ℕ
+  pub agrees : Agrees old files input
+  pub free : job.needs.reads ≡ Never → files ≡ free_files
+  pub untaken : job.needs.input ≡ false → input ≡ free_input
+  pub a : Answer
+  pub answer : job.answers files input a
+  pub leaves : Leaves end a old new
+  pub costs : WithinCosts (job.costs files input a) old new
 
--- what a command has done where it ends so. `enough` says that the objects tell what its answers depend on, `R` gives its
--- answers, and `May` says what may have become of the files
-pub record Ran (enough : Type 0) (R : Answer → Type 0) (May : Option Files → Option Files → Type 0) (end : End) (old new : Outside) : Type 0 where
-  pub status : HasOwnStatus end
-  pub files : May old.files new.files
-  pub same : IsEarly end → Same old.files new.files
-  pub answer : enough → (a : Answer) × R a × Leaves end a old new
+-- the job was done rightly, and ends so
+pub record Ran (job : Job) (end : End) (old new : World) : Type 0 where
+  pub later : Later old new
+  pub may : MayEnd job end old new
+  pub lines : EndsInLines job.speaks end old.out new.out
+  pub only : WritesOnly job.writes old.store new.store
+  pub unwritten : (MayHaveWritten end → ⊥) → Unwritten old.store new.store
+  pub answered : Sees job.needs.reads old → (files : Files) (input : List ℕ) → Agrees old files input → Answered job files input end old new
 
 -- the last piece of a text was written, or the sink failed within it
-abbrev pub Said : ℕ → List ℕ → End → Option (List ℕ) → Option (List ℕ) → Type 0
-Said status piece end old new =
-    ((end ≡ Done status) × (new ≡ append_known old piece))
-    ⊎ ((end ≡ SinkFault) × ((k : ℕ) × (new ≡ append_known old (take k piece))))
+abbrev pub Says : Status → List ℕ → End → SinkTold → SinkTold → Type 0
+Says status piece end old new =
+    ((end ≡ Done status) × (new.faults ≡ old.faults) × (new.taken ≡ append_known old.taken piece))
+    ⊎ ((end ≡ SinkFault) × Rose old.faults new.faults × ((k : ℕ) × (new.taken ≡ append_known old.taken (take k piece))))
 
--- a count has not fallen, and has risen if `fault` is how the command ends
-pub record Caused (end fault : End) (before now : ℕ) : Type 0 where
-  pub later : before ≤ now
-  pub rose : end ≡ fault → Rose before now
+pub record Said (status : Status) (piece : List ℕ) (end : End) (old new : SinkTold) : Type 0 where
+  pub later : old.faults ≤ new.faults
+  pub says : Says status piece end old new

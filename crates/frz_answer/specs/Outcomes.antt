@@ -1,60 +1,96 @@
 -- What a whole call gives: the end of its command, and then the line that names a fault.
-use Rattle.std.specs.Prelude.{◌≡◌, ◌⊎◌, ℕ, List, take, Option, ◌==◌, if◌then◌else◌}
+use Rattle.std.specs.Prelude.{◌≡◌, ◌≢◌, ◌⊎◌, ℕ, ◌≤◌, List, take, false, IsTrue}
 use Rattle.std.specs.Io.KnownBytes.{append_known}
-use lib.Chars.{codes}
 use Rattle.frz_store.specs.Files.{Files}
+use Rattle.frz_store.specs.Outside.{Rose}
+use Rattle.frz_store.specs.Told.{SinkTold, Unwritten}
+use Rattle.frz_answer.specs.declared.status.Status.{Status}
+use Rattle.frz_answer.specs.declared.status.Status.TheVariants.{Success}
+use Rattle.frz_answer.specs.declared.fault.Fault.{Fault}
+use Rattle.frz_answer.specs.declared.fault.Fault.TheVariants.{Store, NoMemory}
 use Rattle.frz_answer.specs.declared.end.End.{End}
-use Rattle.frz_answer.specs.declared.end.End.TheVariants.{Done, StoreFault, SinkFault, SourceFault, NoMemory}
-use Rattle.frz_answer.specs.Outside.{Outside}
-use Rattle.frz_answer.specs.Answers.{Answer, Gives, Begins, Cuts}
-use Rattle.frz_answer.specs.Ends.{IsOwn, Same}
+use Rattle.frz_answer.specs.declared.end.End.TheVariants.{Done, SinkFault, Stopped}
+use Rattle.frz_answer.specs.Statuses.{code_of, fault_code, sink_code, fault_line, OneOf}
+use Rattle.frz_answer.specs.World.{World, Agrees, Later, Fine}
+use Rattle.frz_answer.specs.Answers.{Answer, Gives, Begins, Cuts, TookLines}
+use Rattle.frz_answer.specs.Jobs.{Job, Sees, WithinCosts}
+use Rattle.frz_answer.specs.Ends.{MayMeet, WritesOnly}
 
--- the line that names a fault, by the status
-abbrev pub fault_line : ℕ → List ℕ
-fault_line status = if status == 8 then codes "store fault\n" else (if status == 10 then codes "input fault\n" else codes "no memory\n")
-
--- a fault that a line names
-abbrev pub IsNamed : ℕ → Type 0
-IsNamed status = (status ≡ 8) ⊎ ((status ≡ 10) ⊎ (status ≡ 11))
-
--- the status and the line of a fault were given, or the sink failed within the line
-abbrev pub NamesFault : ℕ → ℕ → Option (List ℕ) → Option (List ℕ) → Type 0
-NamesFault code status old new =
-    ((status ≡ code) × (new ≡ append_known old (fault_line code)))
-    ⊎ ((status ≡ 9) × ((k : ℕ) × (new ≡ append_known old (take k (fault_line code)))))
+-- the line of a fault was written and its status given, or the sink failed within the line
+abbrev pub NamesFault : Fault → ℕ → SinkTold → SinkTold → Type 0
+NamesFault fault status old new =
+    ((status ≡ fault_code fault) × (new.taken ≡ append_known old.taken (fault_line fault)))
+    ⊎ ((status ≡ sink_code) × Rose old.faults new.faults × ((k : ℕ) × (new.taken ≡ append_known old.taken (take k (fault_line fault)))))
 
 -- the status that a command's end gives, and what the sink takes then
-abbrev pub Finished : End → ℕ → Option (List ℕ) → Option (List ℕ) → Type 0
-Finished (Done s) status old new = (status ≡ s) × (new ≡ old)
-Finished SinkFault status old new = (status ≡ 9) × (new ≡ old)
-Finished StoreFault status old new = NamesFault 8 status old new
-Finished SourceFault status old new = NamesFault 10 status old new
-Finished NoMemory status old new = NamesFault 11 status old new
+abbrev pub Gave : End → ℕ → SinkTold → SinkTold → Type 0
+Gave (Done s) status old new = (status ≡ code_of s) × (new ≡ old)
+Gave SinkFault status old new = (status ≡ sink_code) × (new ≡ old)
+Gave (Stopped fault) status old new = NamesFault fault status old new
 
--- a text that begins the answer's text, or whole lines that begin it and a part of the line of a fault
-abbrev pub IsCutOff : Answer → Outside → Outside → Type 0
-IsCutOff a old new =
-    Cuts a old new ⊎ ((code : ℕ) × IsNamed code × ((k : ℕ) × Begins a (take k (fault_line code)) old new))
+pub record Finished (end : End) (status : ℕ) (old new : SinkTold) : Type 0 where
+  pub later : old.faults ≤ new.faults
+  pub gave : Gave end status old new
 
-module _ (enough : Type 0) (R : Answer → Type 0) where
-  -- with a status that tells of no fault, an answer was given whole
-  abbrev pub IsHonest : ℕ → Outside → Outside → Type 0
-  IsHonest status old new = IsOwn status → enough → (a : Answer) × R a × (a.status ≡ status) × Gives a old new
+-- the status is one that the job can have: one of its own, and then no object has failed; or that of a fault, which has
+-- its cause in this call
+abbrev pub HasStatus : Job → ℕ → World → World → Type 0
+HasStatus job status old new =
+    ((s : Status) × OneOf s job.statuses × (status ≡ code_of s) × Fine old new)
+    ⊎ ((fault : Fault) × MayMeet job fault old new × (status ≡ fault_code fault))
+    ⊎ (Rose old.out.faults new.out.faults × (status ≡ sink_code))
 
-  -- where no count rose, the status is an answer's, or there was no memory
-  abbrev pub IsComplete : ℕ → Type 0 → Type 0 → Type 0 → Type 0
-  IsComplete status store_rose sink_rose source_rose =
-      (store_rose → ⊥) → (sink_rose → ⊥) → (source_rose → ⊥) → enough → ((a : Answer) × R a × (a.status ≡ status)) ⊎ (status ≡ 11)
+-- an answer of the job over some files and some input that agree with what is told, within its costs
+pub record Answering (job : Job) (old new : World) : Type 0 where
+  pub files : Files
+  pub input : List ℕ
+  pub agrees : Agrees old files input
+  pub a : Answer
+  pub answer : job.answers files input a
+  pub meant : job.means files input a
+  pub costs : WithinCosts (job.costs files input a) old new
 
-  -- with a fault that a line names, whole lines of an answer and then that line
-  abbrev pub KeepsLines : ℕ → Outside → Outside → Type 0
-  KeepsLines status old new = IsNamed status → enough → (a : Answer) × R a × Begins a (fault_line status) old new
+-- an answer was given whole
+pub record Whole (job : Job) (status : ℕ) (old new : World) : Type 0 where
+  pub of : Answering job old new
+  pub status_is : status ≡ code_of of.a.status
+  pub gives : Gives of.a old new
 
-  -- with a fault of the sink, an answer cut off
-  abbrev pub IsCut : ℕ → Outside → Outside → Type 0
-  IsCut status old new = status ≡ 9 → enough → (a : Answer) × R a × IsCutOff a old new
+-- whole lines of an answer were given, and then the line of this fault
+pub record Halted (job : Job) (fault : Fault) (old new : World) : Type 0 where
+  pub of : Answering job old new
+  pub begins : Begins of.a (fault_line fault) old new
 
--- the files are as they may be, and as before where the input failed or there was no memory
-pub record KeepsFiles (May : Option Files → Option Files → Type 0) (status : ℕ) (old new : Option Files) : Type 0 where
-  pub may : May old new
-  pub same : (status ≡ 10) ⊎ (status ≡ 11) → Same old new
+-- a text that begins the answer's text, or whole lines that begin it and a part of the line of a fault that the job may meet
+abbrev pub IsCutOff : Job → Answer → World → World → Type 0
+IsCutOff job a old new =
+    Cuts a old new
+    ⊎ ((fault : Fault) × MayMeet job fault old new × ((k : ℕ) × Begins a (take k (fault_line fault)) old new))
+
+pub record CutOff (job : Job) (old new : World) : Type 0 where
+  pub of : Answering job old new
+  pub cut : IsCutOff job of.a old new
+
+-- where no count of faults rose, the status is an answer's, or there was no memory
+abbrev pub IsComplete : Job → ℕ → World → World → Type 0
+IsComplete job status old new =
+    (Rose old.store.faults new.store.faults → ⊥) → (Rose old.input.faults new.input.faults → ⊥) → (Rose old.out.faults new.out.faults → ⊥) →
+    Whole job status old new ⊎ (IsTrue job.needs.memory × (status ≡ fault_code NoMemory))
+
+-- what the program gives for a job, whatever the objects tell
+pub record Outcome (job : Job) (status : ℕ) (old new : World) : Type 0 where
+  -- no count has fallen, and the status is one that the job can have
+  pub later : Later old new
+  pub can : HasStatus job status old new
+  -- no name but the one that the job writes is changed, and nothing is written but with success or a fault of the store or the sink
+  pub only : WritesOnly job.writes old.store new.store
+  pub unwritten : status ≢ code_of Success → status ≢ fault_code Store → status ≢ sink_code → Unwritten old.store new.store
+  -- with the status of a fault, the sink took whole lines and then the fault's line, or that line alone
+  pub names : (fault : Fault) → status ≡ fault_code fault → TookLines (fault_line fault) old.out new.out
+  pub alone : (fault : Fault) → status ≡ fault_code fault → job.speaks ≡ false → new.out.taken ≡ append_known old.out.taken (fault_line fault)
+  -- with a status of its own, all is as an answer says, and the answer means what it is to mean
+  pub honest : (s : Status) → status ≡ code_of s → Sees job.needs.reads old → Whole job status old new
+  -- with that of a fault, whole lines begin an answer, and then comes the fault's line; where the sink failed, an answer is cut off
+  pub halted : (fault : Fault) → status ≡ fault_code fault → Sees job.needs.reads old → Halted job fault old new
+  pub cut : status ≡ sink_code → Sees job.needs.reads old → CutOff job old new
+  pub complete : Sees job.needs.reads old → IsComplete job status old new

@@ -1,16 +1,20 @@
+//! How a command ends.
 ghost use Rattle.std.specs.Prelude.{◌≡◌};
-ghost use Rattle.frz_answer.specs.Faults.{end_of_fault};
+ghost use Rattle.frz_answer.specs.Statuses.{end_of_fault};
 
+use crate::fault::Fault;
+use crate::status::Status;
 use frz_store::StoreFault;
+
+/// The status where the sink failed: no line can name it.
+pub const SINK_FAULT: u8 = 9;
 
 /// How a command ends: with a status of its own and all of its text, or at its first fault.
 #[derive(Clone, Copy, Debug, PartialEq, Eq, Drop)]
 pub enum End {
-    Done(u8),
-    StoreFault,
+    Done(Status),
     SinkFault,
-    SourceFault,
-    NoMemory,
+    Stopped(Fault),
 }
 
 impl From<StoreFault> for End {
@@ -18,8 +22,8 @@ impl From<StoreFault> for End {
 
     fn from(fault: StoreFault) -> End {
         match fault {
-            StoreFault::Failed => End::StoreFault,
-            StoreFault::NoMemory => End::NoMemory,
+            StoreFault::Failed => End::Stopped(Fault::Store),
+            StoreFault::NoMemory => End::Stopped(Fault::NoMemory),
         }
     }
 }

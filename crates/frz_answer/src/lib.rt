@@ -3,10 +3,18 @@
 #![tactic(auto)]
 
 mod end;
+mod fault;
 pub mod laws;
+mod refusing;
 mod saying;
+mod status;
 #[cfg(test)]
 mod tests;
+mod words;
 
 pub use end::End;
+pub use fault::Fault;
+pub use refusing::refuse;
 pub use saying::{finish, say};
+pub use status::Status;
+pub use words::{Refusal, one_word, three_words, two_words};

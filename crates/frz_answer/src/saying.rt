@@ -1,15 +1,16 @@
-ghost use Rattle.std.specs.Prelude.{◌≡◌, ◌⊎◌, ◌≤◌};
-ghost use Rattle.frz_store.specs.Outside.{Rose};
-ghost use Rattle.frz_answer.specs.Ends.{Said, Caused};
+//! The last piece of a text, and the line that names a fault.
+ghost use Rattle.std.specs.Prelude.{◌≡◌};
+ghost use Rattle.frz_store.specs.Told.{sink_of};
+ghost use Rattle.frz_answer.specs.Ends.{Said};
 ghost use Rattle.frz_answer.specs.Outcomes.{Finished};
 
-use crate::end::End;
+use crate::end::{End, SINK_FAULT};
+use crate::status::Status;
 use frz_store::Sink;
 
 /// Writes the last piece of a command's text, and ends with this status.
-pub fn say<O: Sink>(status: u8, line: &[u8], out: &mut O) -> End
-    ensures said { Said status line.now result (O.taken out.old) (O.taken out.new) }
-    ensures sink { Caused result End.SinkFault (O.faults out.old) (O.faults out.new) }
+pub fn say<O: Sink>(status: Status, line: &[u8], out: &mut O) -> End
+    ensures { Said status line.now result (sink_of O.Sink out.old) (sink_of O.Sink out.new) }
 {
     match out.write(line) {
         Ok(()) => End::Done(status),
@@ -19,19 +20,15 @@ pub fn say<O: Sink>(status: u8, line: &[u8], out: &mut O) -> End
 
 /// Writes the line that names a fault, where there is one, and gives the status.
 pub fn finish<O: Sink>(end: End, out: &mut O) -> u8
-    ensures finished { Finished end result (O.taken out.old) (O.taken out.new) }
-    ensures later { O.faults out.old ≤ O.faults out.new }
-    ensures rose { result ≡ 9 → (end ≡ End.SinkFault) ⊎ Rose (O.faults out.old) (O.faults out.new) ⊎ (end ≡ End.Done 9) }
+    ensures { Finished end result (sink_of O.Sink out.old) (sink_of O.Sink out.new) }
 {
-    let (status, line): (u8, &[u8]) = match end {
-        End::Done(status) => return status,
-        End::SinkFault => return 9,
-        End::StoreFault => (8, b"store fault\n"),
-        End::SourceFault => (10, b"input fault\n"),
-        End::NoMemory => (11, b"no memory\n"),
+    let fault = match end {
+        End::Done(status) => return status.code(),
+        End::SinkFault => return SINK_FAULT,
+        End::Stopped(fault) => fault,
     };
-    match out.write(line) {
-        Ok(()) => status,
-        Err(_) => 9,
+    match out.write(fault.line()) {
+        Ok(()) => fault.code(),
+        Err(_) => SINK_FAULT,
     }
 }

@@ -1,5 +1,5 @@
 //! What the sink takes at each end, over a sink in memory.
-use crate::{End, finish, say};
+use crate::{End, Fault, Status, finish, say};
 use frz_store::{Fail, FailOn, MemSink};
 use std::alloc::Global;
 use std::test::Fail as TestFail;
@@ -11,9 +11,9 @@ fn sink(alloc: Global, room: usize) -> Result<MemSink, TestFail> {
 #[test]
 fn a_line_names_the_fault(rt: HostRuntime) -> Result<(), TestFail> {
     let mut out = sink(rt.alloc(), 40)?;
-    assert_eq!(rt; finish(End::StoreFault, &mut out), 8);
-    assert_eq!(rt; finish(End::SourceFault, &mut out), 10);
-    assert_eq!(rt; finish(End::NoMemory, &mut out), 11);
+    assert_eq!(rt; finish(End::Stopped(Fault::Store), &mut out), 8);
+    assert_eq!(rt; finish(End::Stopped(Fault::Input), &mut out), 10);
+    assert_eq!(rt; finish(End::Stopped(Fault::NoMemory), &mut out), 11);
     assert_eq!(rt;
         out.taken(),
         b"store fault\ninput fault\nno memory\n".as_slice()
@@ -24,7 +24,7 @@ fn a_line_names_the_fault(rt: HostRuntime) -> Result<(), TestFail> {
 #[test]
 fn a_status_of_its_own_needs_no_line(rt: HostRuntime) -> Result<(), TestFail> {
     let mut out = sink(rt.alloc(), 20)?;
-    let end = say(7, b"outside\n", &mut out);
+    let end = say(Status::Outside, b"outside\n", &mut out);
     assert_eq!(rt; finish(end, &mut out), 7);
     assert_eq!(rt; out.taken(), b"outside\n".as_slice());
     Ok(())
@@ -33,7 +33,7 @@ fn a_status_of_its_own_needs_no_line(rt: HostRuntime) -> Result<(), TestFail> {
 #[test]
 fn a_full_sink_takes_a_part(rt: HostRuntime) -> Result<(), TestFail> {
     let mut out = sink(rt.alloc(), 3)?;
-    assert_eq!(rt; finish(End::NoMemory, &mut out), 9);
+    assert_eq!(rt; finish(End::Stopped(Fault::NoMemory), &mut out), 9);
     assert_eq!(rt; out.taken(), b"no ".as_slice());
     Ok(())
 }
@@ -48,7 +48,7 @@ fn a_failed_write_ends_the_command(rt: HostRuntime) -> Result<(), TestFail> {
         keep: 0,
     })?;
     let mut out = MemSink::new(alloc, 20, fails).or(Err("sink"))?;
-    let end = say(0, b"mate\n", &mut out);
+    let end = say(Status::Success, b"mate\n", &mut out);
     assert_eq!(rt; finish(end, &mut out), 9);
     assert_eq!(rt; out.taken(), b"".as_slice());
     Ok(())

@@ -1,0 +1,75 @@
+-- What a command is to do, all in one record: its answers and what they mean, which statuses and faults it may meet, what it writes, and what it costs.
+use Rattle.std.specs.Prelude.{◌≡◌, ℕ, ◌+◌, ◌≤◌, List, [], Bool, true, false, Option, Some, None, IsSome, ⊤}
+use Rattle.frz_store.specs.Files.{Files}
+use Rattle.frz_answer.specs.declared.status.Status.{Status}
+use Rattle.frz_answer.specs.World.{World}
+use Rattle.frz_answer.specs.Answers.{Answer}
+
+-- how a job reads the store: not at all; each place once; or some place again, where a store that does not tell may have changed its mind
+pub data Reads : Type 0 where
+  Never : Reads
+  Once : Reads
+  Again : Reads
+
+-- what a job uses of the outside beside the sink
+pub record Needs : Type 0 where
+  -- it calls the store
+  pub store : Bool
+  pub reads : Reads
+  pub input : Bool
+  pub memory : Bool
+
+abbrev pub nothing : Needs
+nothing = record { store = false; reads = Never; input = false; memory = false }
+
+-- at most so many steps, calls of the store and bytes asked of it; where there is none, nothing is said
+pub record Costs : Type 0 where
+  pub steps : Option ℕ
+  pub calls : Option ℕ
+  pub asked : Option ℕ
+
+-- no more than so many steps, and no call of the store
+abbrev pub steps_alone : Option ℕ → Costs
+steps_alone steps = record { steps = steps; calls = Some 0; asked = Some 0 }
+
+pub record Job : Type 1 where
+  -- its answers, over the files and the input
+  pub answers : Files → List ℕ → Answer → Type 0
+  -- what an answer means
+  pub means : Files → List ℕ → Answer → Type 0
+  -- the statuses of its own that it can have
+  pub statuses : List Status
+  pub needs : Needs
+  -- lines of its text may stand before the line of a fault; else the text is written whole or not at all
+  pub speaks : Bool
+  -- the name that it writes
+  pub writes : Option (List ℕ)
+  -- what it may cost where this is its answer
+  pub costs : Files → List ℕ → Answer → Costs
+
+-- a job that needs nothing of the outside but the sink, and makes no step
+abbrev pub plain : List Status → (Files → List ℕ → Answer → Type 0) → Job
+plain statuses answers = record {
+  answers = answers;
+  means = λ _ _ _. ⊤;
+  statuses = statuses;
+  needs = nothing;
+  speaks = false;
+  writes = None;
+  costs = λ _ _ _. steps_alone (Some 0);
+}
+
+-- where a place is read again, answers are said only over a store that tells
+abbrev pub Sees : Reads → World → Type 0
+Sees Again old = IsSome old.store.files
+Sees _ old = ⊤
+
+-- a count has risen by so much at most
+abbrev pub Within : Option ℕ → ℕ → ℕ → Type 0
+Within None before now = ⊤
+Within (Some most) before now = now ≤ before + most
+
+pub record WithinCosts (costs : Costs) (old new : World) : Type 0 where
+  pub steps : Within costs.steps old.steps new.steps
+  pub calls : Within costs.calls old.store.calls new.store.calls
+  pub asked : Within costs.asked old.store.asked new.store.asked

@@ -1,0 +1,14 @@
+-- What is proved of the answers of each job.
+use Rattle.std.specs.Prelude.{◌≡◌, ℕ, List}
+use Rattle.frz_store.specs.Files.{Files}
+use Rattle.frz_answer.specs.Answers.{Answer}
+use Rattle.frz_answer.specs.Jobs.{Job}
+
+-- there is an answer, and only one
+abbrev pub HasOneAnswer : (Answer → Type 0) → Type 0
+HasOneAnswer R = (a : Answer) × R a × ((b : Answer) → R b → b ≡ a)
+
+-- over any files and any input there is one answer, and it means what it is to mean
+pub record IsLawful (job : Job) : Type 0 where
+  pub one : (files : Files) (input : List ℕ) → HasOneAnswer (job.answers files input)
+  pub means : (files : Files) (input : List ℕ) (a : Answer) → job.answers files input a → job.means files input a

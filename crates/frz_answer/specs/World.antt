@@ -1,0 +1,55 @@
+-- What the objects outside and the counter of steps tell, all in one record.
+use Rattle.std.specs.Prelude.{◌≡◌, ℕ, ◌≤◌, List, take, drop, Option, IfSome}
+use Rattle.std.specs.Option.{option_map}
+use Rattle.std.specs.Io.KnownBytes.{append_known}
+use Rattle.frz_store.specs.Files.{Files}
+use Rattle.frz_store.specs.Told.{StoreTold, SourceTold, SinkTold, store_of, source_of, sink_of, Unwritten, StoreLater, StoreFine}
+use Rattle.frz_store.specs.declared.outside.Store.{Ghosts as StoreGhosts}
+use Rattle.frz_store.specs.declared.outside.Source.{Ghosts as SourceGhosts}
+use Rattle.frz_store.specs.declared.outside.Sink.{Ghosts as SinkGhosts}
+
+pub record World : Type 0 where
+  pub store : StoreTold
+  pub input : SourceTold
+  pub out : SinkTold
+  pub steps : ℕ
+
+abbrev pub world : StoreTold → SourceTold → SinkTold → ℕ → World
+world store input out steps = record { store = store; input = input; out = out; steps = steps }
+
+abbrev pub world_of : {A B C : Type 0} → StoreGhosts A → SourceGhosts B → SinkGhosts C → A → B → C → ℕ → World
+world_of s i o store input out steps = world (store_of s store) (source_of i input) (sink_of o out) steps
+
+-- these may be what the store holds and what the input has left: where the objects tell, it is what they tell
+pub record Agrees (w : World) (files : Files) (input : List ℕ) : Type 0 where
+  pub store : IfSome w.store.files (λ told. told ≡ files)
+  pub source : IfSome w.input.left (λ told. told ≡ input)
+
+-- no count has fallen
+pub record Later (old new : World) : Type 0 where
+  pub store : StoreLater old.store new.store
+  pub input : old.input.faults ≤ new.input.faults
+  pub out : old.out.faults ≤ new.out.faults
+  pub steps : old.steps ≤ new.steps
+
+-- no object has failed
+pub record Fine (old new : World) : Type 0 where
+  pub store : StoreFine old.store new.store
+  pub input : new.input.faults ≡ old.input.faults
+  pub out : new.out.faults ≡ old.out.faults
+
+-- nothing was written or taken: only counts may have risen
+pub record Quiet (old new : World) : Type 0 where
+  pub later : Later old new
+  pub store : Unwritten old.store new.store
+  pub left : new.input.left ≡ old.input.left
+  pub taken : new.out.taken ≡ old.out.taken
+
+-- nothing was written to the store; the sink took this text, and these bytes were taken from the input
+pub record Came (text bytes : List ℕ) (count : ℕ) (old new : World) : Type 0 where
+  pub later : Later old new
+  pub fine : Fine old new
+  pub store : Unwritten old.store new.store
+  pub took : IfSome old.input.left (λ left. take count left ≡ bytes)
+  pub left : new.input.left ≡ option_map (drop count) old.input.left
+  pub taken : new.out.taken ≡ append_known old.out.taken text

@@ -1,0 +1,33 @@
+//! What stops a command.
+ghost use Rattle.std.specs.Prelude.{◌≡◌};
+ghost use Rattle.frz_answer.specs.Statuses.{fault_code, fault_line};
+
+/// What stops a command before its end, but for a fault of the sink: a line names it.
+#[derive(Clone, Copy, Debug, PartialEq, Eq, Drop)]
+pub enum Fault {
+    Store,
+    Input,
+    NoMemory,
+}
+
+impl Fault {
+    pub fn code(self) -> u8
+        ensures { result ≡ fault_code self }
+    {
+        match self {
+            Fault::Store => 8,
+            Fault::Input => 10,
+            Fault::NoMemory => 11,
+        }
+    }
+
+    pub fn line(self) -> &'static [u8]
+        ensures { result.now ≡ fault_line self }
+    {
+        match self {
+            Fault::Store => b"store fault\n",
+            Fault::Input => b"input fault\n",
+            Fault::NoMemory => b"no memory\n",
+        }
+    }
+}

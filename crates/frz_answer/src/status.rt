@@ -1,0 +1,37 @@
+//! The statuses of a command's own.
+ghost use Rattle.std.specs.Prelude.{◌≡◌};
+ghost use Rattle.frz_answer.specs.Statuses.{code_of};
+
+/// A status of a command's own: it tells of no fault of the outside.
+#[derive(Clone, Copy, Debug, PartialEq, Eq, Drop)]
+pub enum Status {
+    Success,
+    Words,
+    Rules,
+    Fen,
+    Table,
+    Wrong,
+    Outside,
+    Missing,
+    Limit,
+    NoMove,
+}
+
+impl Status {
+    pub fn code(self) -> u8
+        ensures { result ≡ code_of self }
+    {
+        match self {
+            Status::Success => 0,
+            Status::Words => 2,
+            Status::Rules => 3,
+            Status::Fen => 4,
+            Status::Table => 5,
+            Status::Wrong => 6,
+            Status::Outside => 7,
+            Status::Missing => 12,
+            Status::Limit => 13,
+            Status::NoMove => 15,
+        }
+    }
+}

@@ -1,0 +1,58 @@
+//! The words behind a command's name.
+ghost use Rattle.std.specs.Prelude.{◌≡◌, map};
+ghost use Rattle.std.specs.Option.{option_map};
+ghost use Rattle.std.specs.String.{string_bytes};
+ghost use Rattle.frz_answer.specs.Words.{words_line, one_word_of, two_words_of, three_words_of};
+
+/// Why the words of the command line are no command.
+#[derive(Clone, Copy, Debug, PartialEq, Eq, Drop)]
+pub enum Refusal {
+    /// There is no first word, or it names no command.
+    NoCommand,
+    /// The command takes another number of words.
+    Count,
+    /// Two names that have to differ are equal.
+    SameName,
+}
+
+impl Refusal {
+    /// The line that refuses the words.
+    pub fn line(self) -> &'static [u8]
+        ensures { result.now ≡ words_line self }
+    {
+        match self {
+            Refusal::NoCommand => b"words: command\n",
+            Refusal::Count => b"words: count\n",
+            Refusal::SameName => b"words: same name\n",
+        }
+    }
+}
+
+pub fn one_word(words: &[String]) -> Option<&str>
+    ensures { option_map (λ word. word.now) result ≡ one_word_of (map string_bytes words.now) }
+{
+    match words {
+        [word] => Some(word.as_str()),
+        _ => None,
+    }
+}
+
+pub fn two_words(words: &[String]) -> Option<(&str, &str)>
+    ensures { option_map (λ both. (both.0.now, both.1.now)) result
+        ≡ two_words_of (map string_bytes words.now) }
+{
+    match words {
+        [first, second] => Some((first.as_str(), second.as_str())),
+        _ => None,
+    }
+}
+
+pub fn three_words(words: &[String]) -> Option<(&str, &str, &str)>
+    ensures { option_map (λ all. (all.0.now, all.1.now, all.2.now)) result
+        ≡ three_words_of (map string_bytes words.now) }
+{
+    match words {
+        [first, second, third] => Some((first.as_str(), second.as_str(), third.as_str())),
+        _ => None,
+    }
+}
