@@ -1,0 +1,131 @@
+-- What a store that does not tell may hold under the name of a rules file.
+use Rattle.std.proofs.Common.{◌≡◌, refl, sym, ap, subst, ℕ, ◌<◌, ◌≤◌, ◌+◌, List, length, replicate, Option, Some, None, Result, Ok, Err, true, if◌then◌else◌, le-ltb, lt-ltb, Bool, cond, arith}
+use Rattle.std.proofs.lemmas.List.{length-replicate}
+use Rattle.std.specs.Prelude.{IfSome, IfOk}
+use Rattle.frz_store.specs.Files.{Files, no_files, put}
+use Rattle.frz_store.specs.declared.outside.StoreFault.{StoreFault}
+use Rattle.frz_store.proofs.Lemmas.{put-same}
+use Rattle.frz_prelude.specs.declared.rules_file.RulesFile.{RulesFile}
+use Rattle.frz_prelude.specs.declared.rules_file.RulesFile.TheVariants.{Missing, TooLong, Text}
+use Rattle.frz_rules.specs.declared.fault.TheConstants.{LONGEST_TEXT}
+use Rattle.frz_fen.specs.declared.fault.FenFault.{FenFault}
+use Rattle.frz_rules.specs.declared.fault.RulesFault.{RulesFault}
+use Rattle.frz_rules.specs.Text.{rules_of}
+use Rattle.frz_sets.specs.Views.{RuleLines}
+use Rattle.frz_store.specs.Told.{StoreTold}
+use Rattle.frz_prelude.specs.declared.refused.Refused.TheVariants.{Fen, MissingRules, Rules}
+use Rattle.frz_prelude.specs.declared.stop.Stop.{Stop}
+use Rattle.frz_prelude.specs.declared.rules_file.TheConstants.{TOO_LONG}
+use Rattle.frz_prelude.specs.Stops.{Answers}
+use Rattle.frz_prelude.specs.RulesFiles.{IsHeld, asked_of, asked_by, or_fault, rules_held, IsRead}
+
+-- files that agree with what is told, where the name holds this
+pub record Holding (told : Option Files) (name : List ℕ) (held : Option (List ℕ)) : Type 0 where
+  pub files : Files
+  pub agrees : IfSome told (λ m. m ≡ files)
+  pub holds : files name ≡ held
+
+pub holding : (told : Option Files) (name : List ℕ) (held : Option (List ℕ)) → IfSome told (λ m. m name ≡ held) → Holding told name held
+holding (Some m) name held e = record { files = m; agrees = refl; holds = e }
+holding None name None e = record { files = no_files; agrees = tt; holds = refl }
+holding None name (Some bytes) e = record { files = put no_files name bytes; agrees = tt; holds = put-same no_files name bytes }
+
+-- what was found under the name, and what it may have cost
+pub record SeesRules (told : Option Files) (name : List ℕ) (answer : Result RulesFile StoreFault) (before now : ℕ) : Type 0 where
+  pub held : Option (List ℕ)
+  pub there : IfSome told (λ m. m name ≡ held)
+  pub file : IfOk answer (IsHeld held)
+  pub asked : now ≤ before + asked_of held
+
+zeros : ℕ → List ℕ
+zeros n = replicate n 0
+
+many_zeros : (n : ℕ) → length (zeros n) ≡ n
+unfolding zeros
+many_zeros n = length-replicate n 0
+
+-- all of a file that is not too long
+asked_short : (bytes : List ℕ) → length bytes ≤ LONGEST_TEXT → asked_of (Some bytes) ≡ length bytes
+asked_short bytes short = ap (λ b. if b then 0 else length bytes) (le-ltb LONGEST_TEXT (length bytes) short)
+
+pub sees_rules : (told : Option Files) (name : List ℕ) (answer : Result RulesFile StoreFault) (before now : ℕ)
+    → IfOk answer (λ file. IfSome told (λ m. IsHeld (m name) file)) → IfSome told (λ m. now ≤ before + asked_of (m name))
+    → IfOk answer (λ file. now ≤ before + asked_by file) → now ≤ before + LONGEST_TEXT → IfOk answer (λ file. asked_by file ≤ LONGEST_TEXT)
+    → SeesRules told name answer before now
+sees_rules (Some m) name (Ok file) before now held asked by most short = record { held = m name; there = refl; file = held; asked = asked }
+sees_rules (Some m) name (Err fault) before now held asked by most short = record { held = m name; there = refl; file = tt; asked = asked }
+sees_rules None name (Err fault) before now held asked by most short =
+    let all : List ℕ = zeros LONGEST_TEXT in
+    let many : length all ≡ LONGEST_TEXT = many_zeros LONGEST_TEXT in
+    let exact : asked_of (Some all) ≡ length all = asked_short all (omega (arith, many)) in
+    record { held = Some all; there = tt; file = tt; asked = omega (arith, most, exact, many) }
+sees_rules None name (Ok Missing) before now held asked by most short = record { held = None; there = tt; file = refl; asked = by }
+sees_rules None name (Ok TooLong) before now held asked by most short =
+    let all : List ℕ = zeros (LONGEST_TEXT + 1) in
+    let many : length all ≡ LONGEST_TEXT + 1 = many_zeros (LONGEST_TEXT + 1) in
+    record { held = Some all; there = tt; file = omega (arith, many); asked = omega (arith, by) }
+sees_rules None name (Ok (Text text)) before now held asked by most short =
+    let exact : asked_of (Some text.items) ≡ length text.items = asked_short text.items short in
+    record { held = Some text.items; there = tt; file = refl; asked = omega (arith, by, exact) }
+
+-- the same, over files that agree with what is told
+pub record RulesSeen (told : Option Files) (name : List ℕ) (answer : Result RulesFile StoreFault) (before now : ℕ) : Type 0 where
+  pub files : Files
+  pub agrees : IfSome told (λ m. m ≡ files)
+  pub file : IfOk answer (IsHeld (files name))
+  pub asked : now ≤ before + asked_of (files name)
+
+pub rules_seen : (told : Option Files) (name : List ℕ) (answer : Result RulesFile StoreFault) (before now : ℕ)
+    → IfOk answer (λ file. IfSome told (λ m. IsHeld (m name) file)) → IfSome told (λ m. now ≤ before + asked_of (m name))
+    → IfOk answer (λ file. now ≤ before + asked_by file) → now ≤ before + LONGEST_TEXT → IfOk answer (λ file. asked_by file ≤ LONGEST_TEXT)
+    → RulesSeen told name answer before now
+rules_seen told name answer before now held asked by most short =
+    let seen = sees_rules told name answer before now held asked by most short in
+    let at = holding told name seen.held seen.there in record {
+      files = at.files;
+      agrees = at.agrees;
+      file = subst (λ x. IfOk answer (IsHeld x)) (sym at.holds) seen.file;
+      asked = subst (λ x. now ≤ before + asked_of x) (sym at.holds) seen.asked;
+    }
+
+-- of an answer that is known
+pub file_seen : (told : Option Files) (name : List ℕ) (answer : Result RulesFile StoreFault) (before now : ℕ) (file : RulesFile)
+    → (seen : RulesSeen told name answer before now) → answer ≡ Ok file → IsHeld (seen.files name) file
+file_seen told name answer before now file seen is = subst (λ (x : Result RulesFile StoreFault). IfOk x (IsHeld (seen.files name))) is seen.file
+
+pub seen_as : (told : Option Files) (name : List ℕ) (answer : Result RulesFile StoreFault) (before now : ℕ) (file shape : RulesFile)
+    → (seen : RulesSeen told name answer before now) → answer ≡ Ok file → file ≡ shape → IsHeld (seen.files name) shape
+seen_as told name answer before now file shape seen is has = subst (λ (x : RulesFile). IsHeld (seen.files name) x) has (file_seen told name answer before now file seen is)
+
+-- the rules of a name that holds nothing, a text that is too long, or a text
+pub missing_due : (held : Option (List ℕ)) → IsHeld held Missing → rules_held held ≡ Err MissingRules
+missing_due held e = ap rules_held e
+
+-- a text that is too long has that fault
+by_test : {A : Type 0} (b : Bool) (x y : A) → b ≡ true → cond b x y ≡ x
+by_test b x y e = ap (λ t. cond t x y) e
+
+too_long : (text : List ℕ) → LONGEST_TEXT < length text → rules_of text ≡ Err TOO_LONG
+unfolding rules_of
+too_long text h = by_test _ _ _ (lt-ltb LONGEST_TEXT (length text) h)
+
+pub long_due : (held : Option (List ℕ)) → IsHeld held TooLong → rules_held held ≡ Err (Rules TOO_LONG)
+long_due None h = absurd h
+long_due (Some text) h = ap or_fault (too_long text h)
+
+pub text_due : (held : Option (List ℕ)) (text : List ℕ) (result : Result RuleLines Stop) → held ≡ Some text → Answers result (or_fault (rules_of text)) → Answers result (rules_held held)
+text_due held text result e due = subst (λ (h : Option (List ℕ)). Answers result (rules_held h)) (sym e) due
+
+-- what was read is the answer of the name in these files
+pub read_in : (name : List ℕ) (answer : Result RulesFile StoreFault) (result : Result RuleLines Stop) (old new : StoreTold)
+    → (seen : RulesSeen old.files name answer old.asked new.asked) → Answers result (rules_held (seen.files name)) → IsRead name result old new
+read_in name answer result old new seen due = record { files = seen.files; agrees = seen.agrees; due = due; asked = seen.asked }
+
+-- no name of a rules file is refused as a FEN
+fault_never_fen : (fault : FenFault) (read : Result RuleLines RulesFault) → or_fault read ≡ Err (Fen fault) → ⊥
+fault_never_fen fault (Ok r) e = cc
+fault_never_fen fault (Err other) e = cc
+
+pub never_fen : (held : Option (List ℕ)) (fault : FenFault) → rules_held held ≡ Err (Fen fault) → ⊥
+never_fen None fault e = cc
+never_fen (Some text) fault e = fault_never_fen fault (rules_of text) e

@@ -1,0 +1,4 @@
+pub mod Held
+pub mod Positions
+pub mod Lemmas
+mod Stopping

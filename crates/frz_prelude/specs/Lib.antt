@@ -1,0 +1,5 @@
+pub mod Causes
+pub mod Refusals
+pub mod Stops
+pub mod Positions
+pub mod RulesFiles

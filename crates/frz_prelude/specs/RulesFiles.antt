@@ -1,0 +1,47 @@
+-- What a store's name holds as a rules file, how many bytes are asked of it, and the rules that it gives.
+use Rattle.std.specs.Prelude.{◌≡◌, ℕ, ◌<◌, ◌≤◌, ◌+◌, List, length, Option, Some, None, IsSomeAnd, IfSome, Result, Ok, Err, nat_lt, if◌then◌else◌}
+use Rattle.frz_rules.specs.declared.fault.TheConstants.{LONGEST_TEXT}
+use Rattle.frz_rules.specs.declared.fault.RulesFault.{RulesFault}
+use Rattle.frz_rules.specs.Text.{rules_of}
+use Rattle.frz_sets.specs.Views.{RuleLines}
+use Rattle.frz_store.specs.Files.{Files}
+use Rattle.frz_store.specs.Told.{StoreTold}
+use Rattle.frz_prelude.specs.Stops.{Answers}
+use Rattle.frz_prelude.specs.declared.refused.Refused.{Refused}
+use Rattle.frz_prelude.specs.declared.refused.Refused.TheVariants.{MissingRules, Rules}
+use Rattle.frz_prelude.specs.declared.stop.Stop.{Stop}
+use Rattle.frz_prelude.specs.declared.rules_file.RulesFile.{RulesFile}
+use Rattle.frz_prelude.specs.declared.rules_file.RulesFile.TheVariants.{Missing, TooLong, Text}
+
+abbrev pub IsHeld : Option (List ℕ) → RulesFile → Type 0
+IsHeld held Missing = held ≡ None
+IsHeld held TooLong = IsSomeAnd held (λ bytes. LONGEST_TEXT < length bytes)
+IsHeld held (Text text) = held ≡ Some text.items
+
+-- the bytes that are asked of a file: all of it, but none where it is missing or too long
+abbrev pub asked_of : Option (List ℕ) → ℕ
+asked_of None = 0
+asked_of (Some bytes) = if nat_lt LONGEST_TEXT (length bytes) then 0 else length bytes
+
+-- so many bytes were read
+abbrev pub asked_by : RulesFile → ℕ
+asked_by (Text text) = length text.items
+asked_by file = 0
+
+-- the rules that were read, or their fault
+abbrev pub or_fault : Result RuleLines RulesFault → Result RuleLines Refused
+or_fault (Ok r) = Ok r
+or_fault (Err fault) = Err (Rules fault)
+
+-- the rules of what a name holds, or why it has none
+abbrev pub rules_held : Option (List ℕ) → Result RuleLines Refused
+rules_held None = Err MissingRules
+rules_held (Some text) = or_fault (rules_of text)
+
+-- the answer is that of the name in some files, which are those that the store tells where it does, and no more was
+-- asked of the store than they need
+pub record IsRead (name : List ℕ) (result : Result RuleLines Stop) (old new : StoreTold) : Type 0 where
+  pub files : Files
+  pub agrees : IfSome old.files (λ told. told ≡ files)
+  pub due : Answers result (rules_held (files name))
+  pub asked : new.asked ≤ old.asked + asked_of (files name)

@@ -1,0 +1,20 @@
+//! The end of a command whose words name nothing that serves.
+ghost use Rattle.std.specs.Prelude.{ℕ};
+ghost use Rattle.frz_store.specs.Told.{StoreTold, SourceTold, sink_of};
+ghost use Rattle.frz_answer.specs.World.{world};
+ghost use Rattle.frz_answer.specs.Ends.{Ran};
+ghost use Rattle.frz_prelude.specs.Refusals.{refusing_named};
+
+use crate::refused::Refused;
+use crate::stop::Stop;
+use frz_answer::End;
+use frz_store::Sink;
+
+/// Refuses what the words name.
+pub fn refuse_named<O: Sink>(why: Refused, out: &mut O) -> End
+    ensures { (store : StoreTold) (input : SourceTold) (steps : ℕ) → Ran (refusing_named why) result
+        (world store input (sink_of O.Sink out.old) steps)
+        (world store input (sink_of O.Sink out.new) steps) }
+{
+    Stop::Refused(why).end(out)
+}

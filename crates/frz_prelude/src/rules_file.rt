@@ -1,0 +1,56 @@
+//! The file that the word RULES names.
+ghost use Rattle.std.specs.Prelude.{◌≡◌, ◌+◌, ◌≤◌, IfOk, IfSome};
+ghost use Rattle.frz_store.specs.Outside.{FreeCauses};
+ghost use Rattle.frz_store.specs.Told.{store_of, StoreQuiet};
+ghost use Rattle.frz_prelude.specs.RulesFiles.{IsHeld, asked_of, asked_by};
+
+use frz_rules::{LONGEST_TEXT, RulesCause, RulesFault};
+use frz_store::{Store, StoreFault};
+use std::alloc::Global;
+
+/// What is wrong with a rules text that is too long.
+pub const TOO_LONG: RulesFault = RulesFault {
+    line: 0,
+    cause: RulesCause::TooLong,
+};
+
+/// What stands under the name of a rules file. A file longer than a rules text may be is not read.
+#[derive(Drop)]
+pub enum RulesFile {
+    Missing,
+    TooLong,
+    Text(Vec<u8>),
+}
+
+/// Reads the rules file of this name: one `size`, and one `read` of the whole file where it is there
+/// and not too long.
+pub fn read_rules_file<S: Store>(
+    alloc: Global,
+    name: &str,
+    store: &mut S,
+) -> Result<RulesFile, StoreFault>
+    ensures held { IfOk result (λ file. IfSome (S.files store.old) (λ m. IsHeld (m name.now) file)) }
+    ensures quiet { StoreQuiet (store_of S.Store store.old) (store_of S.Store store.new) }
+    ensures causes { FreeCauses (S.faults store.old) (S.faults store.new)
+        (S.wants store.old) (S.wants store.new) result }
+    ensures calls { S.calls store.new ≤ S.calls store.old + 2 }
+
+    // What is asked of it.
+    ensures asked { IfSome (S.files store.old)
+        (λ m. S.asked store.new ≤ S.asked store.old + asked_of (m name.now)) }
+    ensures asked_by { IfOk result (λ file. S.asked store.new ≤ S.asked store.old + asked_by file) }
+    ensures asked_most { S.asked store.new ≤ S.asked store.old + LONGEST_TEXT }
+    ensures short { IfOk result (λ file. asked_by file ≤ LONGEST_TEXT) }
+{
+    let Some(size) = store.size(name)? else {
+        return Ok(RulesFile::Missing);
+    };
+    if size > LONGEST_TEXT as u64 {
+        return Ok(RulesFile::TooLong);
+    }
+    let Ok(mut text) = vec![in alloc; 0; size as usize] else {
+        return Err(StoreFault::NoMemory);
+    };
+    store.read(name, 0, &mut text)?;
+    Ok(RulesFile::Text(text))
+}

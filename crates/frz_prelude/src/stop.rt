@@ -1,0 +1,71 @@
+//! What stops a command before it comes to its own work.
+ghost use Rattle.std.specs.Prelude.{◌≡◌};
+ghost use Rattle.frz_store.specs.Told.{sink_of};
+ghost use Rattle.frz_answer.specs.Ends.{Said};
+ghost use Rattle.frz_prelude.specs.Refusals.{status_of, refusal_line as line_of};
+ghost use Rattle.frz_prelude.specs.Stops.{EndsBy, stop_of_fault};
+
+use crate::causes::refusal_line;
+use crate::refused::Refused;
+use frz_answer::{End, Fault, say};
+use frz_board::NoMemory;
+use frz_store::{Sink, StoreFault};
+
+/// What stops a command before it comes to its own work.
+#[derive(Clone, Copy, Debug, PartialEq, Eq, Drop)]
+pub enum Stop {
+    Refused(Refused),
+    Fault(Fault),
+}
+
+impl From<Refused> for Stop {
+    ghost use Rattle.frz_prelude.specs.declared.stop.Stop.{Stop};
+
+    ghost from_gives = { λ why stop. stop ≡ Stop.Refused why };
+
+    fn from(why: Refused) -> Stop {
+        Stop::Refused(why)
+    }
+}
+
+impl From<NoMemory> for Stop {
+    ghost use Rattle.frz_answer.specs.declared.fault.Fault.{Fault};
+    ghost use Rattle.frz_prelude.specs.declared.stop.Stop.{Stop};
+
+    ghost from_gives = { λ none stop. stop ≡ Stop.Fault Fault.NoMemory };
+
+    fn from(_: NoMemory) -> Stop {
+        Stop::Fault(Fault::NoMemory)
+    }
+}
+
+impl From<StoreFault> for Stop {
+    ghost from_gives = { λ fault stop. stop ≡ stop_of_fault fault };
+
+    fn from(fault: StoreFault) -> Stop {
+        match fault {
+            StoreFault::Failed => Stop::Fault(Fault::Store),
+            StoreFault::NoMemory => Stop::Fault(Fault::NoMemory),
+        }
+    }
+}
+
+/// Says why it is refused, in one line.
+fn say_refusal<O: Sink>(why: Refused, out: &mut O) -> End
+    ensures { Said (status_of why) (line_of why) result
+        (sink_of O.Sink out.old) (sink_of O.Sink out.new) }
+{
+    say(why.status(), refusal_line(why).as_bytes(), out)
+}
+
+impl Stop {
+    /// Ends the command: a refusal is said in its line.
+    pub fn end<O: Sink>(self, out: &mut O) -> End
+        ensures { EndsBy self result (sink_of O.Sink out.old) (sink_of O.Sink out.new) }
+    {
+        match self {
+            Stop::Refused(why) => say_refusal(why, out),
+            Stop::Fault(fault) => End::Stopped(fault),
+        }
+    }
+}
