@@ -1,0 +1,4 @@
+pub mod Joining
+pub mod Listed
+pub mod Moved
+pub mod Lemmas

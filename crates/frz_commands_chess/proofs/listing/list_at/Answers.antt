@@ -1,0 +1,14 @@
+use Rattle.std.proofs.Common.{refl, arith}
+use Rattle.frz_answer.specs.World.{world}
+use Rattle.frz_answer.proofs.Lemmas.{quiet_steps, fine_steps}
+use Rattle.frz_answer.proofs.Lemmas.{said, as_given}
+use Rattle.frz_commands_chess.proofs.listing.list_at.Goals as goal
+
+pub returns : goal.returns
+returns g c = λ store input.
+    said _ _ _ _ _ (world _ _ _ _) _ (quiet_steps _ _ _ _ _ c.say_moves.ensures.later) (fine_steps _ _ _ _ _) refl c.say_moves.ensures.said
+    (λ sees files left agrees. record {
+      found = as_given _ files left _ agrees;
+      answer = refl;
+      costs = record { steps = c.say_moves.ensures.few; calls = omega arith; asked = omega arith };
+    })
