@@ -1,9 +1,2 @@
-pub mod Joining
-pub mod Listed
-pub mod Soundness
-pub mod Solved
 pub mod Answering
-pub mod Entries
-pub mod Meaning
-pub mod Statuses
 pub mod Calling

@@ -1,8 +1,2 @@
-pub mod Calls
-pub mod Causes
-pub mod Listing
-pub mod Solving
-pub mod Meaning
-pub mod Needs
+pub mod Verbs
 pub mod Commands
-pub mod RulesFiles

@@ -1,46 +1,62 @@
 //! The program `freezer`: it makes the real objects and calls the top call over them.
 #![tactic(auto)]
 
-ghost use Rattle.std.specs.Prelude.{◌≡◌, ◌<◌};
+ghost use Rattle.std.specs.Prelude.{◌≡◌, ◌<◌, ℕ, map, false};
+ghost use Rattle.std.specs.String.{string_bytes};
+ghost use Rattle.frz_answer.specs.World.{world_of};
+ghost use Rattle.frz_answer.specs.Outcomes.{Outcome};
+ghost use Rattle.freezer.specs.Commands.{job_of};
 
-mod bound_lines;
-mod bounds;
-mod causes;
 pub mod laws;
-mod listing;
-mod rules_file;
-mod solving;
 #[cfg(test)]
 mod tests;
 mod top;
-mod words;
+mod verb;
 
 use crate::top::freezer;
+use frz_answer::{Fault, Status};
 use frz_steps::Steps;
 use frz_store::{DiskStore, InputSource, OutputSink, Sink, Source, Store};
 use std::alloc::Global;
+use std::io::ErrorKind;
 use std::marker::Brand;
 use std::process::ExitCode;
 use std::sync::ledger::{Blank, Ledger};
 use std::{env, io};
 
 /// Why the words of the command line are not there.
+#[derive(Drop)]
 enum NoWords {
     NotText,
     NoMemory,
 }
 
+impl NoWords {
+    fn code(&self) -> u8 {
+        match self {
+            NoWords::NotText => Status::Words.code(),
+            NoWords::NoMemory => Fault::NoMemory.code(),
+        }
+    }
+}
+
+/// Why the runtime gave no words: where it had memory, one of them is no text.
+fn why_none(fault: &io::Error) -> NoWords {
+    match fault.kind() {
+        ErrorKind::OutOfMemory => NoWords::NoMemory,
+        _ => NoWords::NotText,
+    }
+}
+
 /// The words after the program's name.
 fn collect(rt: &HostRuntime) -> Result<Vec<String>, NoWords> {
-    let Ok(args) = env::args(rt) else {
-        return Err(NoWords::NotText);
+    let args = match env::args(rt) {
+        Ok(args) => args,
+        Err(fault) => return Err(why_none(&fault)),
     };
     let mut words = Vec::new(rt.alloc());
-    let mut is_name = true;
-    for word in args {
-        if is_name {
-            is_name = false;
-        } else if words.push(word).is_err() {
+    for word in args.skip(1) {
+        if words.push(word).is_err() {
             return Err(NoWords::NoMemory);
         }
     }
@@ -50,8 +66,7 @@ fn collect(rt: &HostRuntime) -> Result<Vec<String>, NoWords> {
 fn main(rt: HostRuntime) -> ExitCode {
     let words = match collect(&rt) {
         Ok(words) => words,
-        Err(NoWords::NotText) => return ExitCode::from(2),
-        Err(NoWords::NoMemory) => return ExitCode::from(11),
+        Err(why) => return ExitCode::from(why.code()),
     };
     let alloc = rt.alloc();
     let mut input = InputSource::new(rt.stdin());
@@ -67,7 +82,15 @@ fn run_once<S: Store, I: Source, O: Sink>(
     store: &mut S,
     input: &mut I,
     out: &mut O,
-) -> u8 {
+) -> u8
+    ensures outcome { (steps : ℕ) × Outcome (job_of (map string_bytes words.now)) result
+        (world_of S.Store I.Source O.Sink store.old input.old out.old 0)
+        (world_of S.Store I.Source O.Sink store.new input.new out.new steps) }
+    ensures store_unused { (job_of (map string_bytes words.now)).needs.store ≡ false
+        → store.new ≡ store.old }
+    ensures input_unused { (job_of (map string_bytes words.now)).needs.input ≡ false
+        → input.new ≡ input.old }
+{
     let blank = Blank::new(1);
     run_uncounted::<S, I, O, Brand>(alloc, words, store, input, out, blank)
 }
@@ -84,6 +107,13 @@ fn run_uncounted<S: Store, I: Source, O: Sink, L: Ledger>(
     requires name { blank.name ≡ L.name }
     requires parts { blank.parts ≡ L.parts }
     requires some { 0 < blank.parts }
+    ensures outcome { (steps : ℕ) × Outcome (job_of (map string_bytes words.now)) result
+        (world_of S.Store I.Source O.Sink store.old input.old out.old 0)
+        (world_of S.Store I.Source O.Sink store.new input.new out.new steps) }
+    ensures store_unused { (job_of (map string_bytes words.now)).needs.store ≡ false
+        → store.new ≡ store.old }
+    ensures input_unused { (job_of (map string_bytes words.now)).needs.input ≡ false
+        → input.new ≡ input.old }
 {
     let mut steps = Steps::<L>::new(blank);
     freezer(alloc, words, store, input, out, &mut steps)

@@ -1,14 +1,23 @@
-use Rattle.freezer.proofs.Calling.{as_call}
+use Rattle.frz_store.specs.Told.{source_of, store_of}
+use Rattle.freezer.proofs.Calling.{as_command}
 use Rattle.freezer.proofs.top.run.Goals as goal
 
-pub returns-in-Err-clause-ran : goal.returns-in-Err-clause-ran
-returns-in-Err-clause-ran g c =
-    as_call _ _ _ _ _ c.in-Err.ensures (c.refuse.ensures.ran (g.S.Store.files c.args.store.now) (g.I.Source.left c.args.input.now))
+pub returns-in-Some-Solve-default-clause-ran : goal.returns-in-Some-Solve-default-clause-ran
+returns-in-Some-Solve-default-clause-ran g c =
+    as_command _ _ _ _ _ (rw c.in-Some-Solve-default.field-0-0-is at c.in-Some-Solve-default.ensures) (c.run_solve.ensures.ran (source_of g.I.Source c.args.input.now))
 
-pub returns-in-Ok-Solve-clause-ran : goal.returns-in-Ok-Solve-clause-ran
-returns-in-Ok-Solve-clause-ran g c =
-    as_call _ _ _ _ _ (rw c.in-Ok-Solve.field-0-is at c.in-Ok-Solve.ensures) (c.solve.ensures.ran (g.I.Source.left c.args.input.now))
+pub returns-in-Some-Moves-default-clause-ran : goal.returns-in-Some-Moves-default-clause-ran
+returns-in-Some-Moves-default-clause-ran g c =
+    as_command _ _ _ _ _ (rw c.in-Some-Moves-default.field-0-0-is at c.in-Some-Moves-default.ensures) (c.run_moves.ensures (store_of g.S.Store c.args.store.now) (source_of g.I.Source c.args.input.now))
 
-pub returns-in-Ok-Moves-clause-ran : goal.returns-in-Ok-Moves-clause-ran
-returns-in-Ok-Moves-clause-ran g c =
-    as_call _ _ _ _ _ (rw c.in-Ok-Moves.field-0-is at c.in-Ok-Moves.ensures) (c.list_moves.ensures.ran (g.S.Store.files c.args.store.now) (g.I.Source.left c.args.input.now))
+pub returns-in-Some-Sans-default-clause-ran : goal.returns-in-Some-Sans-default-clause-ran
+returns-in-Some-Sans-default-clause-ran g c =
+    as_command _ _ _ _ _ (rw c.in-Some-Sans-default.field-0-0-is at c.in-Some-Sans-default.ensures) (c.run_sans.ensures (store_of g.S.Store c.args.store.now) (source_of g.I.Source c.args.input.now))
+
+pub returns-in-Some-Move-default-clause-ran : goal.returns-in-Some-Move-default-clause-ran
+returns-in-Some-Move-default-clause-ran g c =
+    as_command _ _ _ _ _ (rw c.in-Some-Move-default.field-0-0-is at c.in-Some-Move-default.ensures) (c.run_move.ensures (store_of g.S.Store c.args.store.now) (source_of g.I.Source c.args.input.now))
+
+pub returns-in-None-clause-ran : goal.returns-in-None-clause-ran
+returns-in-None-clause-ran g c =
+    as_command _ _ _ _ _ c.in-None.ensures (c.refuse.ensures (store_of g.S.Store c.args.store.now) (source_of g.I.Source c.args.input.now) c.args.steps.now)
