@@ -1,0 +1,9 @@
+pub mod Pushing
+pub mod NumberLists
+pub mod Refusing
+pub mod Counting
+pub mod Appending
+pub mod Headers
+pub mod Reading
+pub mod Belonging
+pub mod Files

@@ -1,0 +1,27 @@
+use Rattle.std.proofs.Common.{◌∙◌, arith}
+use Rattle.frz_table.proofs.Refusing.{refuse_missing, refuse_short, refuse_magic, refuse_long, refuse_cut, counted}
+use Rattle.frz_table.proofs.head.read_head.Goals as goal
+
+pub returns-in_default-clause-refused : goal.returns-in_default-clause-refused
+returns-in_default-clause-refused g c = refuse_missing _ _ _ (rw c.in_default.is at c.in_ok-file.ensures.size)
+
+pub returns-then-file-lt16-clause-refused : goal.returns-then-file-lt16-clause-refused
+returns-then-file-lt16-clause-refused g c = refuse_short _ _ _ c.in-Some.file (rw c.in-Some.is at c.in_ok-file.ensures.size) c.if-file-lt16.true
+
+pub returns-then-not-branch-clause-refused : goal.returns-then-not-branch-clause-refused
+returns-then-not-branch-clause-refused g c =
+    refuse_magic _ _ _ _ c.in-Some.file _ (rw c.in-Some.is at c.in_ok-file.ensures.size) c.if-file-lt16.false c.size.ensures.files c.in_ok-begins_with.ensures.front c.if-not-branch.true
+
+pub returns-then-text-gt-LONGEST_TEXT-clause-refused : goal.returns-then-text-gt-LONGEST_TEXT-clause-refused
+returns-then-text-gt-LONGEST_TEXT-clause-refused g c =
+    refuse_long _ _ _ c.in-Some.file c.in_ok-text.text
+    (counted _ _ _ _ _ c.in-Some.file c.in_ok-text.text _ (rw c.in-Some.is at c.in_ok-file.ensures.size) c.if-file-lt16.false c.size.ensures.files c.in_ok-begins_with.ensures.front c.if-not-branch.false
+    (c.begins_with.ensures.quiet.unwritten.files ∙ c.size.ensures.files) c.in_ok-text.ensures.number)
+    c.if-text-gt-LONGEST_TEXT.true
+
+pub returns-then-file-due-clause-refused : goal.returns-then-file-due-clause-refused
+returns-then-file-due-clause-refused g c =
+    refuse_cut _ _ _ c.in-Some.file c.in_ok-text.text _
+    (counted _ _ _ _ _ c.in-Some.file c.in_ok-text.text _ (rw c.in-Some.is at c.in_ok-file.ensures.size) c.if-file-lt16.false c.size.ensures.files c.in_ok-begins_with.ensures.front c.if-not-branch.false
+    (c.begins_with.ensures.quiet.unwritten.files ∙ c.size.ensures.files) c.in_ok-text.ensures.number)
+    c.if-text-gt-LONGEST_TEXT.false (omega arith) c.if-file-due.true

@@ -1,0 +1,12 @@
+use Rattle.std.proofs.Common.{List, ℕ, subst}
+use Rattle.std.proofs.lemmas.Result.{err_from_is_err_and}
+use Rattle.frz_rules.specs.Text.{rules_of, Fails}
+use Rattle.frz_table.proofs.Refusing.{refuse_rules}
+use Rattle.frz_table.proofs.texts.open_text.Goals as goal
+
+pub returns-in_err-rules-clause-refused : goal.returns-in_err-rules-clause-refused
+returns-in_err-rules-clause-refused g c =
+    let p = err_from_is_err_and c.from_residual-in_err-rules.result c.from_residual-in_err-rules.ensures.1 in
+    rw (p.1, p.2)
+    (refuse_rules _ _ _ _ c.in_ok-head.head.file c.in_ok-head.head.text c.in_ok-text.text.items c.in_err-rules.field-0.0 c.in_ok-head.ensures.head c.read_head.ensures.quiet.unwritten.files
+    c.in_ok-text.ensures.bytes (subst (λ (t : List ℕ). Fails c.in_err-rules.field-0.0 (rules_of t)) c.deref.ensures.value c.in_err-rules.ensures.exact))

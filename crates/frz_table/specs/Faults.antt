@@ -1,0 +1,40 @@
+-- The faults of a table that come from the store, from memory or from the reader of rules.
+use Rattle.std.specs.Prelude.{◌≡◌, ℕ, ◌≤◌, Result, OnOk, IfErr, ⊤}
+use Rattle.std.specs.Result.{IsErrOf}
+use Rattle.frz_rules.specs.declared.fault.RulesError.{RulesError}
+use Rattle.frz_rules.specs.declared.fault.RulesError.TheVariants as reading
+use Rattle.frz_store.specs.Outside.{Rose}
+use Rattle.frz_store.specs.declared.outside.StoreFault.{StoreFault}
+use Rattle.frz_store.specs.declared.outside.StoreFault.TheVariants as store
+use Rattle.frz_table.specs.declared.fault.TableFault.{TableFault}
+use Rattle.frz_table.specs.declared.fault.TableFault.TheVariants.{Rules, Failed, NoMemory}
+
+abbrev pub fault_of : StoreFault → TableFault
+fault_of store.Failed = Failed
+fault_of store.NoMemory = NoMemory
+
+abbrev pub rules_fault : RulesError → TableFault
+rules_fault (reading.Bad fault) = Rules fault
+rules_fault reading.NoMemory = NoMemory
+
+-- the store failed or memory was wanted
+abbrev pub IsOutside : TableFault → Type 0
+IsOutside Failed = ⊤
+IsOutside NoMemory = ⊤
+IsOutside fault = ⊥
+
+-- a fault of the file itself has this
+abbrev pub UnlessOutside : TableFault → Type 0 → Type 0
+UnlessOutside Failed P = ⊤
+UnlessOutside NoMemory P = ⊤
+UnlessOutside fault P = P
+
+-- neither count falls, and an answer of the call's own leaves both; a failure has raised the count of faults, and want of memory is free
+pub record TableCauses {T : Type 0} (faults_before faults_now wants_before wants_now : ℕ) (result : Result T TableFault) : Type 0 where
+  pub later : faults_before ≤ faults_now
+  pub wants_later : wants_before ≤ wants_now
+  pub fine : OnOk result (faults_now ≡ faults_before)
+  pub wants_fine : OnOk result (wants_now ≡ wants_before)
+  pub refused : IfErr result (λ fault. UnlessOutside fault (faults_now ≡ faults_before))
+  pub wants_refused : IfErr result (λ fault. UnlessOutside fault (wants_now ≡ wants_before))
+  pub failed : IsErrOf result Failed → Rose faults_before faults_now

@@ -1,0 +1,36 @@
+-- The bytes of a table file: a header of magic, length of the text, text and size, then White's codes, then Black's.
+use Rattle.std.specs.Prelude.{ℕ, ◌+◌, ◌*◌, ◌/◌, List, ◌++◌, length, drop, codes}
+use Rattle.std.specs.Int.{w32, to_le_bytes}
+use Rattle.frz_board.specs.declared.man.Colour.{Colour}
+use Rattle.frz_board.specs.declared.man.Colour.TheVariants.{White, Black}
+use Rattle.frz_table.specs.declared.kind.FileKind.{FileKind}
+use Rattle.frz_table.specs.declared.kind.FileKind.TheVariants.{Plain, Chained}
+use Rattle.frz_table.specs.Numbers.{numbers, number_bytes}
+
+-- the first eight bytes
+abbrev pub magic_of : FileKind → List ℕ
+magic_of Plain = codes "FREEZER2"
+magic_of Chained = codes "FREEZERC"
+
+abbrev pub header_of : List ℕ → List ℕ → ℕ → List ℕ
+header_of magic text size = magic ++ (to_le_bytes w32 (length text) ++ (text ++ to_le_bytes w32 size))
+
+abbrev pub file_of : List ℕ → List ℕ → ℕ → List ℕ → List ℕ → List ℕ
+file_of magic text size white black = header_of magic text size ++ (number_bytes white ++ number_bytes black)
+
+-- how many bytes a file of this text and this size has
+abbrev pub due_length : List ℕ → ℕ → ℕ
+due_length text size = 16 + length text + 8 * size
+
+-- how many pieces of 16,384 so many codes make, of which the last may be shorter
+abbrev pub pieces_of : ℕ → ℕ
+pieces_of count = (count + 16383) / 16384
+
+-- where a side's codes begin
+abbrev pub place_of : Colour → List ℕ → ℕ → ℕ
+place_of White text size = 16 + length text
+place_of Black text size = 16 + length text + 4 * size
+
+-- a side's codes in order of number
+abbrev pub codes_at : Colour → List ℕ → ℕ → List ℕ → List ℕ
+codes_at side text size bytes = numbers size (drop (place_of side text size) bytes)

@@ -1,0 +1,6 @@
+pub mod Numbers
+pub mod Layout
+pub mod Tables
+pub mod Opening
+pub mod Steps
+pub mod Faults

@@ -1,0 +1,17 @@
+-- Numbers of 32 bits in bytes, the lowest byte first.
+use Rattle.std.specs.Prelude.{ℕ, zero, suc, List, [], ◌∷◌, ◌++◌, take, drop}
+use Rattle.std.specs.Int.{w32, to_le_bytes, from_le_bytes}
+
+-- the number in the four bytes from a place on
+abbrev pub number_at : ℕ → List ℕ → ℕ
+number_at place bytes = from_le_bytes w32 (take 4 (drop place bytes))
+
+-- so many numbers, one behind the other from the front
+unfoldable pub numbers : ℕ → List ℕ → List ℕ
+numbers zero bytes = []
+numbers (suc count) bytes = number_at 0 bytes ∷ numbers count (drop 4 bytes)
+
+-- numbers as bytes, one behind the other
+unfoldable pub number_bytes : List ℕ → List ℕ
+number_bytes [] = []
+number_bytes (n ∷ ns) = to_le_bytes w32 n ++ number_bytes ns

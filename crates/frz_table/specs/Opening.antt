@@ -1,0 +1,94 @@
+-- What it is to open a file: eight steps in order, of which the first that refuses counts.
+use Rattle.std.specs.Prelude.{ℕ, ◌+◌, ◌≡◌, ◌≤◌, nat_lt, ◌==◌, List, length, take, drop, Option, Some, None, Result, Ok, Err, if◌then◌else◌, ⊤}
+use Rattle.std.specs.Str.{bytes_eq}
+use Rattle.frz_sets.specs.Views.{RuleLines}
+use Rattle.frz_sets.specs.Sets.{size_of}
+use Rattle.frz_rules.specs.Text.{rules_of}
+use Rattle.frz_rules.specs.declared.fault.RulesCause.TheVariants.{TooLong}
+use Rattle.frz_rules.specs.declared.fault.RulesFault.{RulesFault}
+use Rattle.frz_table.specs.declared.fault.TableFault.{TableFault}
+use Rattle.frz_table.specs.declared.fault.TableFault.TheVariants.{Missing, Magic, Truncated, Extra, Rules, Size, Failed, NoMemory}
+use Rattle.frz_table.specs.declared.kind.FileKind.{FileKind}
+use Rattle.frz_table.specs.Numbers.{number_at}
+use Rattle.frz_table.specs.Layout.{magic_of, due_length}
+use Rattle.frz_table.specs.Tables.{Table, IsTableFile}
+
+-- what tells one format of table files from another: its magic, how it reads a text, and the size of rules
+pub record Format : Type 0 where
+  pub magic : List ℕ
+  pub read : List ℕ → Result RuleLines RulesFault
+  pub size : RuleLines → ℕ
+
+abbrev pub table_format : FileKind → Format
+table_format kind = record { magic = magic_of kind; read = rules_of; size = λ rules. size_of rules.groups }
+
+-- what a file gives that opens
+pub record Contents : Type 0 where
+  pub text : List ℕ
+  pub rules : RuleLines
+
+-- what these bytes keep as the length of the text, as the text and as the size
+abbrev pub kept_length : List ℕ → ℕ
+kept_length bytes = number_at 8 bytes
+
+abbrev pub kept_text : List ℕ → List ℕ
+kept_text bytes = take (kept_length bytes) (drop 12 bytes)
+
+abbrev pub kept_size : List ℕ → ℕ
+kept_size bytes = number_at (12 + kept_length bytes) bytes
+
+-- the file is shorter or longer than is due
+abbrev pub of_length : List ℕ → Contents → ℕ → Result Contents TableFault
+of_length bytes contents due =
+    if nat_lt (length bytes) due then Err (Truncated (length bytes) due) else
+    (if nat_lt due (length bytes) then Err (Extra (length bytes) due) else Ok contents)
+
+abbrev pub of_size : List ℕ → Contents → ℕ → Result Contents TableFault
+of_size bytes contents size =
+    if kept_size bytes == size then of_length bytes contents (due_length contents.text size)
+    else Err (Size (kept_size bytes) size)
+
+abbrev pub with_rules : Format → List ℕ → Result RuleLines RulesFault → Result Contents TableFault
+with_rules format bytes (Err fault) = Err (Rules fault)
+with_rules format bytes (Ok rules) = of_size bytes (record { text = kept_text bytes; rules = rules }) (format.size rules)
+
+abbrev pub with_text : Format → List ℕ → Result Contents TableFault
+with_text format bytes =
+    if nat_lt (length bytes) (16 + kept_length bytes) then Err (Truncated (length bytes) (16 + kept_length bytes))
+    else with_rules format bytes (format.read (kept_text bytes))
+
+abbrev pub with_length : Format → List ℕ → Result Contents TableFault
+with_length format bytes =
+    if nat_lt 65536 (kept_length bytes) then Err (Rules (record { line = 0; cause = TooLong }))
+    else with_text format bytes
+
+abbrev pub with_magic : Format → List ℕ → Result Contents TableFault
+with_magic format bytes =
+    if bytes_eq (take 8 bytes) format.magic then with_length format bytes else Err Magic
+
+-- what a name gives that holds these bytes, or is not there
+unfoldable pub opened : Format → Option (List ℕ) → Result Contents TableFault
+opened format None = Err Missing
+opened format (Some bytes) =
+    if nat_lt (length bytes) 16 then Err (Truncated (length bytes) 16) else with_magic format bytes
+
+abbrev pub contents_of : Table → Contents
+contents_of table = record { text = table.text; rules = table.rules }
+
+-- the file is refused so, unless the fault is of the store or of memory
+abbrev pub Refuses : Result Contents TableFault → TableFault → Type 0
+Refuses given Failed = ⊤
+Refuses given NoMemory = ⊤
+Refuses given fault = given ≡ Err fault
+
+-- the bytes are a file of this text and of this size in this format, and the text gives these rules
+pub record IsOpened (format : Format) (bytes : List ℕ) (contents : Contents) : Type 0 where
+  pub file : IsTableFile format.magic contents.text (format.size contents.rules) bytes
+  pub short : length contents.text ≤ 65536
+  pub read : format.read contents.text ≡ Ok contents.rules
+
+-- the length due by what is left of such a file when so many bytes of it are left
+abbrev pub due_by : List ℕ → ℕ → ℕ → ℕ
+due_by text size left =
+    if nat_lt left 16 then 16 else
+    (if nat_lt left (16 + length text) then 16 + length text else due_length text size)

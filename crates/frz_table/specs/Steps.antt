@@ -1,0 +1,40 @@
+-- What is known of a file after each step of opening it.
+use Rattle.std.specs.Prelude.{ℕ, ◌+◌, ◌≡◌, ◌≤◌, List, length, take, Option, Err, IfSome}
+use Rattle.frz_sets.specs.Views.{RuleLines}
+use Rattle.frz_rules.specs.Text.{rules_of}
+use Rattle.frz_rules.specs.declared.fault.RulesFault.{RulesFault}
+use Rattle.frz_store.specs.Files.{Files}
+use Rattle.frz_table.specs.declared.fault.TableFault.{TableFault}
+use Rattle.frz_table.specs.Layout.{due_length}
+use Rattle.frz_table.specs.Opening.{Format, Refuses, opened, kept_length, kept_size, kept_text, of_size}
+
+-- a format with this magic that refuses what the reader of rules refuses
+pub record IsFormatOf (magic : List ℕ) (format : Format) : Type 0 where
+  pub magic_is : format.magic ≡ magic
+  pub refuses : (text : List ℕ) (fault : RulesFault) → rules_of text ≡ Err fault → format.read text ≡ Err fault
+
+-- where the store tells, each format of this magic refuses the name so
+abbrev pub AllRefuse : List ℕ → Option Files → List ℕ → TableFault → Type 0
+AllRefuse magic files name fault = IfSome files (λ m. (format : Format) → IsFormatOf magic format → Refuses (opened format (m name)) fault)
+
+-- the magic is there, and so many bytes of so many are the text
+pub record HasHead (magic : List ℕ) (count text_count : ℕ) (bytes : List ℕ) : Type 0 where
+  pub all : length bytes ≡ count
+  pub enough : 16 + text_count ≤ count
+  pub begins : take 8 bytes ≡ magic
+  pub kept : kept_length bytes ≡ text_count
+  pub short : text_count ≤ 65536
+
+-- and the text is this one
+pub record HasText (magic text : List ℕ) (count : ℕ) (bytes : List ℕ) : Type 0 where
+  pub head : HasHead magic count (length text) bytes
+  pub text_is : kept_text bytes ≡ text
+
+-- the size kept is the one due, and so is the length
+pub record HasSize (text : List ℕ) (size : ℕ) (bytes : List ℕ) : Type 0 where
+  pub sized : kept_size bytes ≡ size
+  pub due : length bytes ≡ due_length text size
+
+-- the last two steps refuse so
+abbrev pub SizeRefused : List ℕ → ℕ → TableFault → List ℕ → Type 0
+SizeRefused text size fault bytes = (rules : RuleLines) → Refuses (of_size bytes (record { text = text; rules = rules }) size) fault

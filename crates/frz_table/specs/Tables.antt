@@ -1,0 +1,44 @@
+-- An open table, and which stores carry it.
+use Rattle.std.specs.Prelude.{ℕ, ◌+◌, ◌≡◌, List, length, take, drop, Option, IfSome, IsSomeAnd, Ok}
+use Rattle.frz_sets.specs.Views.{RuleLines}
+use Rattle.frz_sets.specs.Sets.{size_of}
+use Rattle.frz_sets.specs.Sound.{IsSound}
+use Rattle.frz_rules.specs.Text.{rules_of}
+use Rattle.frz_store.specs.Files.{Files}
+use Rattle.frz_table.specs.declared.kind.FileKind.{FileKind}
+use Rattle.frz_table.specs.Numbers.{number_at}
+use Rattle.frz_table.specs.Layout.{magic_of, due_length}
+
+-- what contracts see of a table; its set is the one of the rules' groups
+pub record Table : Type 0 where
+  pub name : List ℕ
+  pub kind : FileKind
+  pub text : List ℕ
+  pub rules : RuleLines
+
+abbrev pub table_size : Table → ℕ
+table_size table = size_of table.rules.groups
+
+-- the rules are those of the text
+pub record IsRead (text : List ℕ) (rules : RuleLines) : Type 0 where
+  pub read : rules_of text ≡ Ok rules
+  pub sound : IsSound rules
+
+-- the bytes have this magic, the text's length, the text and this size in their places, and the length due
+pub record IsTableFile (magic text : List ℕ) (size : ℕ) (bytes : List ℕ) : Type 0 where
+  pub begins : take 8 bytes ≡ magic
+  pub counted : number_at 8 bytes ≡ length text
+  pub has_text : take (length text) (drop 12 bytes) ≡ text
+  pub sized : number_at (12 + length text) bytes ≡ size
+  pub due : length bytes ≡ due_length text size
+
+abbrev pub IsFileOf : Table → List ℕ → Type 0
+IsFileOf table bytes = IsTableFile (magic_of table.kind) table.text (table_size table) bytes
+
+-- where the store tells, the name is there and holds such bytes
+abbrev pub Holds : Option Files → List ℕ → (List ℕ → Type 0) → Type 0
+Holds files name P = IfSome files (λ m. IsSomeAnd (m name) P)
+
+-- where the store tells, the table's name holds a file of the table
+abbrev pub Carries : Option Files → Table → Type 0
+Carries files table = Holds files table.name (IsFileOf table)

@@ -1,0 +1,25 @@
+//! The table file: one file with a rules text and, for each side, a code for each number of the
+//! set. Files are opened, read and written here; what the codes mean is not known here.
+#![tactic(auto)]
+
+mod fault;
+mod head;
+mod kind;
+pub mod laws;
+mod lists;
+mod loading;
+mod numbers;
+mod opening;
+mod sizes;
+mod table;
+mod texts;
+mod writing;
+
+pub use fault::TableFault;
+pub use kind::FileKind;
+pub use opening::{open_kind, open_table};
+pub use table::TableFile;
+pub use writing::{write_entries, write_header, write_header_kind};
+
+#[cfg(test)]
+mod tests;

@@ -1,0 +1,69 @@
+//! What an open table keeps: one code, or all of them.
+ghost use Rattle.std.specs.Prelude.{◌≡◌, ◌+◌, ◌*◌, ◌≤◌, ◌<◌, length, slice_get, Some, IfOk, IfErr, IfSome};
+ghost use Rattle.frz_board.specs.declared.man.Colour.TheVariants.{White, Black};
+ghost use Rattle.frz_store.specs.Outside.{IsNext, StoreCauses};
+ghost use Rattle.frz_store.specs.Told.{store_of, StoreQuiet};
+ghost use Rattle.frz_table.specs.Faults.{IsOutside, TableCauses};
+ghost use Rattle.frz_table.specs.Layout.{codes_at, pieces_of, place_of};
+ghost use Rattle.frz_table.specs.Tables.{Carries, table_size};
+
+use crate::lists::load_numbers;
+use crate::numbers::read_number;
+use crate::{TableFault, TableFile};
+use frz_board::Colour;
+use frz_store::{Store, StoreFault};
+use std::alloc::Global;
+
+impl TableFile {
+    /// Where the side's codes begin.
+    fn place(&self, side: Colour) -> u64
+        ensures { result ≡ place_of side self.now.text (table_size self.now) }
+    {
+        let front = 16 + self.text.len() as u64;
+        match side {
+            Colour::White => front,
+            Colour::Black => front + 4 * u64::from(self.set.size()),
+        }
+    }
+
+    /// The code of the side at the number.
+    pub fn entry<S: Store>(&self, store: &mut S, side: Colour, i: u32) -> Result<u32, StoreFault>
+        requires number { i < table_size self.now }
+        requires carried { Carries (S.files store.old) self.now }
+        ensures code { IfOk result (λ code. IfSome (S.files store.old) (λ m. IfSome (m self.now.name)
+            (λ bytes. slice_get (codes_at side self.now.text (table_size self.now) bytes) i ≡ Some code))) }
+        ensures quiet { StoreQuiet (store_of S.Store store.old) (store_of S.Store store.new) }
+        ensures asked { S.asked store.new ≤ S.asked store.old + 4 }
+        ensures calls { IsNext (S.calls store.old) (S.calls store.new) }
+        ensures causes { StoreCauses (S.faults store.old) (S.faults store.new)
+            (S.wants store.old) (S.wants store.new) result }
+    {
+        read_number(store, &self.name, self.place(side) + 4 * u64::from(i))
+    }
+
+    /// White's codes and Black's, in order of number.
+    pub fn load<S: Store>(
+        &self,
+        alloc: Global,
+        store: &mut S,
+    ) -> Result<(Vec<u32>, Vec<u32>), TableFault>
+        requires { Carries (S.files store.old) self.now }
+        ensures white { IfOk result (λ lists. IfSome (S.files store.old) (λ m. IfSome (m self.now.name)
+            (λ bytes. lists.0.items ≡ codes_at White self.now.text (table_size self.now) bytes))) }
+        ensures black { IfOk result (λ lists. IfSome (S.files store.old) (λ m. IfSome (m self.now.name)
+            (λ bytes. lists.1.items ≡ codes_at Black self.now.text (table_size self.now) bytes))) }
+        ensures white_size { IfOk result (λ lists. length lists.0.items ≡ table_size self.now) }
+        ensures black_size { IfOk result (λ lists. length lists.1.items ≡ table_size self.now) }
+        ensures quiet { StoreQuiet (store_of S.Store store.old) (store_of S.Store store.new) }
+        ensures asked { S.asked store.new ≤ S.asked store.old + 8 * table_size self.now }
+        ensures calls { S.calls store.new ≤ S.calls store.old + 2 * pieces_of (table_size self.now) }
+        ensures outside { IfErr result IsOutside }
+        ensures causes { TableCauses (S.faults store.old) (S.faults store.new)
+            (S.wants store.old) (S.wants store.new) result }
+    {
+        let size = self.set.size();
+        let white = load_numbers(alloc, store, &self.name, self.place(Colour::White), size)?;
+        let black = load_numbers(alloc, store, &self.name, self.place(Colour::Black), size)?;
+        Ok((white, black))
+    }
+}

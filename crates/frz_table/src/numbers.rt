@@ -1,0 +1,50 @@
+//! Numbers of 32 bits, read from a place of a file or from bytes, and written to bytes.
+ghost use Rattle.std.specs.Prelude.{◌≡◌, ℕ, ◌+◌, ◌-◌, ◌*◌, ◌≤◌, ◌^◌, ◌++◌, min, length, drop, vec_len, vec_capacity, IfOk, IfSome};
+ghost use Rattle.frz_store.specs.Files.{Covers};
+ghost use Rattle.frz_store.specs.Outside.{IsNext, StoreCauses};
+ghost use Rattle.frz_store.specs.Told.{store_of, StoreQuiet};
+ghost use Rattle.frz_table.specs.Numbers.{number_at, numbers, number_bytes};
+
+use frz_store::{Store, StoreFault};
+
+/// The number in the four bytes of the name from the place on.
+pub(crate) fn read_number<S: Store>(store: &mut S, name: &str, at: u64) -> Result<u32, StoreFault>
+    requires { IfSome (S.files store.old) (Covers at 4 name.now) }
+    ensures number { IfOk result (λ n. IfSome (S.files store.old) (λ m. IfSome (m name.now)
+        (λ bytes. n ≡ number_at at bytes))) }
+    ensures quiet { StoreQuiet (store_of S.Store store.old) (store_of S.Store store.new) }
+    ensures asked { S.asked store.new ≡ min (S.asked store.old + 4) (2 ^ 64 - 1) }
+    ensures calls { IsNext (S.calls store.old) (S.calls store.new) }
+    ensures causes { StoreCauses (S.faults store.old) (S.faults store.new)
+        (S.wants store.old) (S.wants store.new) result }
+{
+    let mut field = [0; 4];
+    store.read(name, at, &mut field)?;
+    Ok(u32::from_le_bytes(field))
+}
+
+/// Puts the numbers in these bytes behind those that are there.
+pub(crate) fn push_numbers(bytes: &[u8], to: &mut Vec<u32>)
+    requires whole { (k : ℕ) × (length bytes.now ≡ 4 * k) }
+    requires room { 4 * vec_len to.old + length bytes.now ≤ 4 * vec_capacity to.old }
+    ensures numbers { (k : ℕ) → length bytes.now ≡ 4 * k
+        → to.new.items ≡ to.old.items ++ numbers k bytes.now }
+    ensures length { 4 * vec_len to.new ≡ 4 * vec_len to.old + length bytes.now }
+    ensures capacity { vec_capacity to.old ≤ vec_capacity to.new }
+{
+    let mut rest = bytes;
+    while let Some((number, more)) = rest.split_first_chunk::<4>() {
+        to.push(u32::from_le_bytes(*number)).unwrap();
+        rest = more;
+    }
+}
+
+/// Fills the slice with the bytes of these numbers.
+pub(crate) fn put_numbers(numbers: &[u32], into: &mut [u8])
+    requires { length into.old ≡ 4 * length numbers.now }
+    ensures { into.new ≡ number_bytes numbers.now }
+{
+    for (i, number) in numbers.iter().enumerate() {
+        into[4 * i..4 * i + 4].copy_from_slice(&number.to_le_bytes());
+    }
+}

@@ -1,0 +1,79 @@
+//! Opening a table file, step by step.
+ghost use Rattle.std.specs.Prelude.{◌≡◌, ◌+◌, ◌≤◌, length, IfOk, IfErr, IfSome, Ok};
+ghost use Rattle.frz_store.specs.Files.{bytes_at};
+ghost use Rattle.frz_store.specs.Told.{store_of, StoreQuiet};
+ghost use Rattle.frz_table.specs.declared.kind.FileKind.TheVariants.{Plain};
+ghost use Rattle.frz_table.specs.Faults.{TableCauses};
+ghost use Rattle.frz_table.specs.Opening.{Refuses, contents_of, opened, kept_text, table_format};
+ghost use Rattle.frz_table.specs.Tables.{Carries};
+
+use crate::sizes::check_size;
+use crate::texts::open_text;
+use crate::{FileKind, TableFault, TableFile};
+use frz_index::Set;
+use frz_store::Store;
+use std::alloc::Global;
+
+/// Opens a table of the kind. The file is not changed, and the first thing that is wrong with it
+/// is the answer.
+pub fn open_kind<S: Store>(
+    alloc: Global,
+    store: &mut S,
+    name: &str,
+    kind: FileKind,
+) -> Result<TableFile, TableFault>
+    ensures opened { IfOk result (λ t. IfSome (S.files store.old)
+        (λ m. opened (table_format kind) (m name.now) ≡ Ok (contents_of t))) }
+    ensures refused { IfErr result (λ f. IfSome (S.files store.old)
+        (λ m. Refuses (opened (table_format kind) (m name.now)) f)) }
+    ensures name { IfOk result (λ t. t.name ≡ name.now) }
+    ensures kind { IfOk result (λ t. t.kind ≡ kind) }
+    ensures carries { IfOk result (Carries (S.files store.new)) }
+
+    // Nothing is written; at most 16 bytes and the text are asked for, in five calls.
+    ensures quiet { StoreQuiet (store_of S.Store store.old) (store_of S.Store store.new) }
+    ensures asked { IfOk result (λ t. S.asked store.new ≤ S.asked store.old + (16 + length t.text)) }
+    ensures asked_told { IfSome (S.files store.old) (λ m. S.asked store.new
+        ≤ S.asked store.old + (16 + length (kept_text (bytes_at m name.now)))) }
+    ensures asked_bound { S.asked store.new ≤ S.asked store.old + (16 + 65536) }
+    ensures calls { S.calls store.new ≤ S.calls store.old + 5 }
+    ensures causes { TableCauses (S.faults store.old) (S.faults store.new)
+        (S.wants store.old) (S.wants store.new) result }
+{
+    let opened = open_text(alloc, store, name, kind.magic())?;
+    let set = Set::new(alloc, &opened.rules)?;
+    check_size(store, name, kind.magic(), &opened, set.size())?;
+    let name = String::from_str(alloc, name)?;
+    Ok(TableFile {
+        name,
+        kind,
+        text: opened.text,
+        rules: opened.rules,
+        set,
+    })
+}
+
+/// Opens a plain table.
+pub fn open_table<S: Store>(
+    alloc: Global,
+    store: &mut S,
+    name: &str,
+) -> Result<TableFile, TableFault>
+    ensures opened { IfOk result (λ t. IfSome (S.files store.old)
+        (λ m. opened (table_format Plain) (m name.now) ≡ Ok (contents_of t))) }
+    ensures refused { IfErr result (λ f. IfSome (S.files store.old)
+        (λ m. Refuses (opened (table_format Plain) (m name.now)) f)) }
+    ensures name { IfOk result (λ t. t.name ≡ name.now) }
+    ensures kind { IfOk result (λ t. t.kind ≡ Plain) }
+    ensures carries { IfOk result (Carries (S.files store.new)) }
+    ensures quiet { StoreQuiet (store_of S.Store store.old) (store_of S.Store store.new) }
+    ensures asked { IfOk result (λ t. S.asked store.new ≤ S.asked store.old + (16 + length t.text)) }
+    ensures asked_told { IfSome (S.files store.old) (λ m. S.asked store.new
+        ≤ S.asked store.old + (16 + length (kept_text (bytes_at m name.now)))) }
+    ensures asked_bound { S.asked store.new ≤ S.asked store.old + (16 + 65536) }
+    ensures calls { S.calls store.new ≤ S.calls store.old + 5 }
+    ensures causes { TableCauses (S.faults store.old) (S.faults store.new)
+        (S.wants store.old) (S.wants store.new) result }
+{
+    open_kind(alloc, store, name, FileKind::Plain)
+}

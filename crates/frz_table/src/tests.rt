@@ -1,0 +1,325 @@
+//! Files that are made by hand, opened, read, and written again.
+use crate::*;
+use byteorder::{ByteOrder, LittleEndian};
+use frz_board::Colour;
+use frz_rules::{RulesCause, RulesFault};
+use frz_store::{Fail as Failing, FailOn, MemStore, Store, StoreFault};
+use std::alloc::Global;
+use std::process::Abort;
+use std::test::Fail;
+
+/// A king and a rook against a king in the corner: 73 bytes, 8 numbers.
+const ROOK: &str = "freezer 1
+group white 1 K:b6
+group white 1 R:h1,h8
+group black 1 K:a8,b8
+";
+
+/// The same with the rook beside its king: 73 bytes, 8 numbers.
+const NEAR_ROOK: &str = "freezer 1
+group white 1 K:b6
+group white 1 R:c1,c2
+group black 1 K:a8,b8
+";
+
+/// Four blocked pawns a side: 278 bytes, 6,400 numbers.
+const BLOCKED: &str = "freezer 1
+group white 1 K:a1-h5
+group black 1 K:a4-h8
+group white 1 P:a4
+group white 1 P:b3
+group white 1 P:c4
+group white 1 P:e4
+group black 1 P:a5
+group black 1 P:b4
+group black 1 P:c5
+group black 1 P:e5
+exit white holds if count:white:P:4
+exit black holds if count:black:P:4
+";
+
+const WHITE: [u32; 8] = [4, 4, 0, 0, 6, 5, 2, 2];
+
+const BLACK: [u32; 8] = [5, 5, 0, 0, 7, 7, 3, 3];
+
+fn push_number(to: &mut Vec<u8>, number: u32) -> Result<(), Fail> {
+    let mut field = [0; 4];
+    LittleEndian::write_u32(&mut field, number);
+    to.extend_from_slice(&field)?;
+    Ok(())
+}
+
+/// The file of the rook with this magic, length, size and codes.
+fn rook_file(alloc: Global, magic: &[u8], length: u32, size: u32) -> Result<Vec<u8>, Fail> {
+    let mut file = Vec::new(alloc);
+    file.extend_from_slice(magic)?;
+    push_number(&mut file, length)?;
+    file.extend_from_slice(ROOK.as_bytes())?;
+    push_number(&mut file, size)?;
+    for code in WHITE {
+        push_number(&mut file, code)?;
+    }
+    for code in BLACK {
+        push_number(&mut file, code)?;
+    }
+    Ok(file)
+}
+
+/// A store with this file alone, in which these calls fail.
+fn store_with(alloc: Global, file: &[u8], fails: Vec<Failing>) -> Result<MemStore, Fail> {
+    let mut store = MemStore::new(alloc, fails);
+    store.put("A.t", file).or(Err("put"))?;
+    Ok(store)
+}
+
+/// Why a file is refused as a table of the kind.
+fn refusal(alloc: Global, file: &[u8], kind: FileKind) -> Result<Option<TableFault>, Fail> {
+    let mut store = store_with(alloc, file, Vec::new(alloc))?;
+    match open_kind(alloc, &mut store, "A.t", kind) {
+        Ok(_) => Ok(None),
+        Err(fault) => Ok(Some(fault)),
+    }
+}
+
+fn rules_fault(line: u32, cause: RulesCause) -> Option<TableFault> {
+    Some(TableFault::Rules(RulesFault { line, cause }))
+}
+
+#[test]
+fn a_file_made_by_hand_is_read(rt: HostRuntime) -> Result<(), Fail> {
+    let alloc = rt.alloc();
+    let file = rook_file(alloc, b"FREEZER2", 73, 8)?;
+    assert_eq!(rt; file.len(), 153);
+    let mut store = store_with(alloc, &file, Vec::new(alloc))?;
+    let table = open_table(alloc, &mut store, "A.t")?;
+    assert_eq!(rt; table.name(), "A.t");
+    assert_eq!(rt; table.kind(), FileKind::Plain);
+    assert_eq!(rt; table.text(), ROOK.as_bytes());
+    assert_eq!(rt; table.rules().groups.len(), 3);
+    assert_eq!(rt; store.asked(), 16 + 73);
+    let size = table.set().size();
+    assert_eq!(rt; size, 8);
+    assert!(rt; table.entry(&mut store, Colour::White, 0) == Ok(4));
+    assert!(rt; table.entry(&mut store, Colour::White, 7) == Ok(2));
+    assert!(rt; table.entry(&mut store, Colour::Black, 0) == Ok(5));
+    assert!(rt; table.entry(&mut store, Colour::Black, 7) == Ok(3));
+    assert_eq!(rt; store.asked(), 16 + 73 + 16);
+    let (white, black) = table.load(alloc, &mut store)?;
+    assert_eq!(rt; white.as_slice(), WHITE.as_slice());
+    assert_eq!(rt; black.as_slice(), BLACK.as_slice());
+    assert_eq!(rt; store.asked(), 16 + 73 + 16 + 64);
+    Ok(())
+}
+
+#[test]
+fn files_that_are_cut_or_too_long_are_refused(rt: HostRuntime) -> Result<(), Fail> {
+    let alloc = rt.alloc();
+    let mut file = rook_file(alloc, b"FREEZER2", 73, 8)?;
+    for (left, _) in file.iter().enumerate() {
+        let due = match left {
+            0..=15 => 16,
+            16..=88 => 89,
+            _ => 153,
+        };
+        let given = refusal(alloc, &file[..left], FileKind::Plain)?;
+        assert_eq!(rt;
+            given,
+            Some(TableFault::Truncated(left as u64, due)),
+            "{left}"
+        );
+    }
+    file.push(0)?;
+    let given = refusal(alloc, &file, FileKind::Plain)?;
+    assert_eq!(rt; given, Some(TableFault::Extra(154, 153)));
+    Ok(())
+}
+
+#[test]
+fn altered_files_are_refused(rt: HostRuntime) -> Result<(), Fail> {
+    let alloc = rt.alloc();
+    let plain = FileKind::Plain;
+    let magic = rook_file(alloc, b"GREEZER2", 73, 8)?;
+    assert_eq!(rt; refusal(alloc, &magic, plain)?, Some(TableFault::Magic));
+    let last = rook_file(alloc, b"FREEZER1", 73, 8)?;
+    assert_eq!(rt; refusal(alloc, &last, plain)?, Some(TableFault::Magic));
+    let long = rook_file(alloc, b"FREEZER2", 65_537, 8)?;
+    assert_eq!(rt;
+        refusal(alloc, &long, plain)?,
+        rules_fault(0, RulesCause::TooLong)
+    );
+    let early = rook_file(alloc, b"FREEZER2", 72, 8)?;
+    assert_eq!(rt;
+        refusal(alloc, &early, plain)?,
+        Some(TableFault::Size(2058, 8))
+    );
+    let late = rook_file(alloc, b"FREEZER2", 74, 8)?;
+    assert_eq!(rt;
+        refusal(alloc, &late, plain)?,
+        rules_fault(5, RulesCause::UnknownLine)
+    );
+    let mut header = rook_file(alloc, b"FREEZER2", 73, 8)?;
+    if let Some(byte) = header.get_mut(12) {
+        *byte = b'g';
+    }
+    assert_eq!(rt;
+        refusal(alloc, &header, plain)?,
+        rules_fault(1, RulesCause::Header)
+    );
+    let size = rook_file(alloc, b"FREEZER2", 73, 9)?;
+    assert_eq!(rt; refusal(alloc, &size, plain)?, Some(TableFault::Size(9, 8)));
+    let mut store = store_with(alloc, &size, Vec::new(alloc))?;
+    assert!(rt;
+        matches!(
+            open_table(alloc, &mut store, "B.t"),
+            Err(TableFault::Missing)
+        )
+    );
+    Ok(())
+}
+
+#[test]
+fn each_kind_opens_its_own_files(rt: HostRuntime) -> Result<(), Fail> {
+    let alloc = rt.alloc();
+    let plain = rook_file(alloc, b"FREEZER2", 73, 8)?;
+    let chained = rook_file(alloc, b"FREEZERC", 73, 8)?;
+    assert_eq!(rt; refusal(alloc, &plain, FileKind::Plain)?, None);
+    assert_eq!(rt; refusal(alloc, &chained, FileKind::Chained)?, None);
+    assert_eq!(rt;
+        refusal(alloc, &chained, FileKind::Plain)?,
+        Some(TableFault::Magic)
+    );
+    assert_eq!(rt;
+        refusal(alloc, &plain, FileKind::Chained)?,
+        Some(TableFault::Magic)
+    );
+    Ok(())
+}
+
+/// Opens the file, reads an entry and loads both lists: eight calls of the store.
+fn read_all(alloc: Global, store: &mut MemStore) -> Result<(), TableFault> {
+    let table = open_table(alloc, store, "A.t")?;
+    let last = table.set().size() - 1;
+    let _ = table.entry(store, Colour::Black, last)?;
+    let _ = table.load(alloc, store)?;
+    Ok(())
+}
+
+#[test]
+fn each_failing_call_is_told(rt: HostRuntime) -> Result<(), Fail> {
+    let alloc = rt.alloc();
+    let file = rook_file(alloc, b"FREEZER2", 73, 8)?;
+    for nth in 1..=9 {
+        let fails = vec![in alloc;
+            Failing {
+                on: FailOn::Call,
+                nth,
+                keep: 0
+            },
+        ]?;
+        let mut store = store_with(alloc, &file, fails)?;
+        let given = read_all(alloc, &mut store);
+        if nth < 9 {
+            assert_eq!(rt; given, Err(TableFault::Failed), "{nth}");
+        } else {
+            assert_eq!(rt; given, Ok(()));
+        }
+    }
+    Ok(())
+}
+
+/// Writes the rook's file: five pieces.
+fn write_all(store: &mut MemStore) -> Result<(), StoreFault> {
+    store.create("A.t", 153)?;
+    if write_header(store, ROOK.as_bytes(), 8).is_err()
+        || write_entries(store, &WHITE).is_err()
+        || write_entries(store, &BLACK).is_err()
+    {
+        return Err(StoreFault::Failed);
+    }
+    Ok(())
+}
+
+#[test]
+fn what_is_written_is_the_file_or_a_front_of_it(rt: HostRuntime) -> Result<(), Fail> {
+    let alloc = rt.alloc();
+    let file = rook_file(alloc, b"FREEZER2", 73, 8)?;
+    let mut whole = MemStore::new(alloc, Vec::new(alloc));
+    assert!(rt; write_all(&mut whole) == Ok(()));
+    assert_eq!(rt; whole.file("A.t"), Some(file.as_slice()));
+    for (nth, keep, left) in [
+        (1, 0, 0),
+        (1, 11, 11),
+        (2, 4, 16),
+        (4, 0, 89),
+        (5, 31, 152),
+        (5, 32, 153),
+    ] {
+        let fails = vec![in alloc;
+            Failing {
+                on: FailOn::Append,
+                nth,
+                keep
+            },
+        ]?;
+        let mut store = MemStore::new(alloc, fails);
+        assert!(rt; write_all(&mut store) == Err(StoreFault::Failed), "{nth}");
+        assert!(rt; store.file("A.t") == file.get(..left), "{nth}");
+    }
+    Ok(())
+}
+
+/// The header of a table, and the eleven bytes that are not its text.
+fn check_header(
+    rt: &impl Abort,
+    alloc: Global,
+    kind: FileKind,
+    text: &str,
+    size: u32,
+    front: &[u8],
+    back: &[u8],
+) -> Result<(), Fail> {
+    let mut store = MemStore::new(alloc, Vec::new(alloc));
+    let text = text.as_bytes();
+    if text.len() > 65_536 || store.create("H", 16 + text.len() as u64).is_err() {
+        return Err(Fail::from("create"));
+    }
+    assert!(rt; write_header_kind(&mut store, kind, text, size).is_ok());
+    let mut want = front.to_vec(alloc)?;
+    want.extend_from_slice(text)?;
+    want.extend_from_slice(back)?;
+    assert!(rt; store.file("H") == Some(want.as_slice()));
+    Ok(())
+}
+
+#[test]
+fn headers_have_their_bytes(rt: HostRuntime) -> Result<(), Fail> {
+    let alloc = rt.alloc();
+    let plain = FileKind::Plain;
+    check_header(
+        &rt,
+        alloc,
+        plain,
+        NEAR_ROOK,
+        8,
+        b"FREEZER2\x49\0\0\0",
+        b"\x08\0\0\0",
+    )?;
+    check_header(
+        &rt,
+        alloc,
+        plain,
+        BLOCKED,
+        6400,
+        b"FREEZER2\x16\x01\0\0",
+        b"\0\x19\0\0",
+    )?;
+    check_header(
+        &rt,
+        alloc,
+        FileKind::Chained,
+        BLOCKED,
+        6400,
+        b"FREEZERC\x16\x01\0\0",
+        b"\0\x19\0\0",
+    )
+}
