@@ -1,0 +1,121 @@
+//! Whole lists of codes, by hand.
+ghost use Rattle.std.specs.Prelude.{◌≡◌, ◌<◌};
+
+use crate::texts::{DRAWN_KINGS, FORBIDDEN, LONG_WIN, ROOK, ROOKS, SHORT_ROOK, STALEMATE};
+use frz_board::Colour;
+use frz_exits::RuleBook;
+use frz_game::Game;
+use frz_index::Set;
+use frz_rules::read_rules;
+use frz_steps::Steps;
+use frz_sweep::sweep;
+use std::alloc::Global;
+use std::marker::Brand;
+use std::process::Abort;
+use std::sync::ledger::{Blank, Ledger};
+use std::test::Fail;
+
+/// The codes of the side by the rules of the text.
+fn codes_of<L: Ledger>(
+    alloc: Global,
+    text: &str,
+    side: Colour,
+    steps: &mut Steps<L>,
+) -> Result<Vec<u32>, Fail> {
+    let rules = read_rules(alloc, text.as_bytes())?;
+    let set = Set::new(alloc, &rules)?;
+    let book = RuleBook::new(&rules);
+    let game = Game {
+        set: &set,
+        rules: &rules,
+        book: &book,
+    };
+    Ok(sweep(alloc, &game, side, steps)?)
+}
+
+/// A text, a side, and its codes.
+type Row = (&'static str, Colour, &'static [u32]);
+
+/// The codes of these sides are these.
+fn check_rows<L: Ledger, R: Abort>(
+    rt: &R,
+    alloc: Global,
+    rows: &[Row],
+    steps: &mut Steps<L>,
+) -> Result<(), Fail> {
+    for (text, side, wanted) in rows {
+        let codes = codes_of(alloc, text, *side, steps)?;
+        assert_eq!(rt; codes.as_slice(), *wanted, "{text}");
+    }
+    Ok(())
+}
+
+fn solve_rooks<L: Ledger, R: Abort>(rt: &R, alloc: Global, blank: Blank) -> Result<(), Fail>
+    requires name { blank.name ≡ L.name }
+    requires parts { blank.parts ≡ L.parts }
+    requires some { 0 < blank.parts }
+{
+    let rows: [Row; 4] = [
+        (ROOK, Colour::White, &[4, 4, 0, 0, 6, 5, 2, 2]),
+        (ROOK, Colour::Black, &[5, 5, 0, 0, 7, 7, 3, 3]),
+        (
+            ROOKS,
+            Colour::White,
+            &[5, 5, 4, 4, 0, 0, 0, 0, 7, 5, 6, 5, 2, 2, 2, 2],
+        ),
+        (
+            ROOKS,
+            Colour::Black,
+            &[5, 5, 5, 5, 0, 0, 0, 0, 7, 7, 7, 7, 3, 3, 3, 3],
+        ),
+    ];
+    check_rows(rt, alloc, &rows, &mut Steps::<L>::new(blank))
+}
+
+#[test]
+fn solves_rooks(rt: HostRuntime) -> Result<(), Fail> {
+    let blank = Blank::new(1);
+    solve_rooks::<Brand, _>(&rt, rt.alloc(), blank)
+}
+
+fn solve_exits<L: Ledger, R: Abort>(rt: &R, alloc: Global, blank: Blank) -> Result<(), Fail>
+    requires name { blank.name ≡ L.name }
+    requires parts { blank.parts ≡ L.parts }
+    requires some { 0 < blank.parts }
+{
+    let rows: [Row; 5] = [
+        (LONG_WIN, Colour::White, &[4, 4, 0, 0, 6, 18, 2, 2]),
+        (LONG_WIN, Colour::Black, &[5, 5, 0, 0, 7, 7, 3, 3]),
+        (DRAWN_KINGS, Colour::White, &[1, 1, 1, 1, 1, 1, 1, 1]),
+        (SHORT_ROOK, Colour::Black, &[5, 5, 5, 5, 7, 7, 7, 7]),
+        (SHORT_ROOK, Colour::White, &[1, 1, 1, 1, 1, 1, 1, 1]),
+    ];
+    check_rows(rt, alloc, &rows, &mut Steps::<L>::new(blank))
+}
+
+#[test]
+fn solves_exits(rt: HostRuntime) -> Result<(), Fail> {
+    let blank = Blank::new(1);
+    solve_exits::<Brand, _>(&rt, rt.alloc(), blank)
+}
+
+fn solve_ends<L: Ledger, R: Abort>(rt: &R, alloc: Global, blank: Blank) -> Result<(), Fail>
+    requires name { blank.name ≡ L.name }
+    requires parts { blank.parts ≡ L.parts }
+    requires some { 0 < blank.parts }
+{
+    let mut steps = Steps::<L>::new(blank);
+    let white = codes_of(alloc, FORBIDDEN, Colour::White, &mut steps)?;
+    assert_eq!(rt; white.first(), Some(&3));
+    let white = codes_of(alloc, STALEMATE, Colour::White, &mut steps)?;
+    assert_eq!(rt; white.last(), Some(&1));
+    let black = codes_of(alloc, STALEMATE, Colour::Black, &mut steps)?;
+    assert_eq!(rt; black.last(), Some(&1));
+    Ok(())
+}
+
+#[test]
+fn solves_ends(rt: HostRuntime) -> Result<(), Fail> {
+    let blank = Blank::new(1);
+    solve_ends::<Brand, _>(&rt, rt.alloc(), blank)
+}
