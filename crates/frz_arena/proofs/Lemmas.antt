@@ -18,3 +18,6 @@ pub use Rattle.frz_arena.proofs.Tables.TablesExist.{table_exists}
 pub use Rattle.frz_arena.proofs.Forcing.TrueWins.{wins_mates, wins_mates_in}
 pub use Rattle.frz_arena.proofs.LocalCodes.UniqueCodes.{none, hold, win, failure, code_is, as_win, as_failure, codes_meet}
 pub use Rattle.frz_arena.proofs.Forcing.WinsForced.{mated_by, goes, wins_forces}
+pub use Rattle.frz_arena.proofs.Ways.Stages.{IsSound, StageIs, stage_is}
+pub use Rattle.frz_arena.proofs.Ways.FoundChoices.{choice_is_arm}
+pub use Rattle.frz_arena.proofs.Ways.Reaching.{Reaches, reaches_start, reaches_end, reaches_stop, reaches_exit, reaches_more, ply_here, next_in_line, line_left, IsFew, chosen_here, few_after, left_after, few_fits}
