@@ -1,5 +1,5 @@
 -- Words gathered square by square.
-use Rattle.std.proofs.Common.{◌≡◌, ℕ, zero, suc, ◌+◌, ◌-◌, ◌^◌, ◌<◌, ◌≤◌, Bool, false, cond, ◌&&◌, refl, ap, sym, ◌∙◌, arith, add-one, slice_index, inl, inr}
+use Rattle.std.proofs.Common.{◌≡◌, ℕ, zero, suc, ◌+◌, ◌-◌, ◌*◌, ◌^◌, ◌<◌, ◌≤◌, Bool, false, cond, ◌&&◌, List, refl, ap, sym, ◌∙◌, arith, add-one, slice_index, inl, inr}
 use Rattle.std.specs.Prelude.{◌==◌}
 use Rattle.std.proofs.lemmas.Bool.{cases_eq, cases_lt, and_left}
 use Rattle.std.proofs.lemmas.Bool.Decides.{nat_tests}
@@ -11,12 +11,9 @@ use Rattle.frz_board.specs.Boards.{Board, holds, has}
 use Rattle.frz_board.specs.Attacks.{attacks, is_attacked}
 use Rattle.frz_bits.specs.Words.{IsNext, HasNoneFrom}
 use Rattle.frz_bits.specs.Rays.{is_open}
+use Rattle.frz_bits.specs.Sides.{side_below}
 use Rattle.frz_squares.specs.SquareSets.{bits_below, set_of, has_square}
 use Rattle.frz_squares.proofs.Lemmas.{bits_below-next, bits_below-jump, bits_below-small, has-set_of}
-
--- the squares below n where a man of the side stands
-unfoldable pub side_below : Board → Colour → ℕ → ℕ
-side_below p c n = bits_below (λ s. holds p c s) n
 
 pub side_below-zero : (p : Board) (c : Colour) → side_below p c 0 ≡ 0
 unfolding side_below
@@ -35,6 +32,26 @@ pub side_below-all : (p : Board) (c : Colour) (n : ℕ) → n ≡ 64 →
     side_below p c n ≡ set_of (λ s. holds p c s)
 unfolding side_below set_of
 side_below-all p c n h = ap (bits_below (λ s. holds p c s)) h
+
+-- squares with no man change nothing
+pub side_below-empty : (p : Board) (c : Colour) (n m : ℕ) → n ≤ m →
+    ((k : ℕ) → n ≤ k → k < m → slice_index p.cells k ≡ 0) → side_below p c m ≡ side_below p c n
+unfolding side_below
+side_below-empty p c n m h none =
+    bits_below-jump (λ s. holds p c s) n m h (λ k l i. ap (λ x. is_man_of c (man_of_cell x)) (none k l i))
+
+-- the words below the next rank, behind an empty one and behind one whose men were gathered
+pub rank_skipped : (p : Board) (c : Colour) (cells : List ℕ) (r word next : ℕ) → cells ≡ p.cells →
+    ((n : ℕ) → 8 * r ≤ n → n < 8 * r + 8 → slice_index cells n ≡ 0) →
+    word ≡ side_below p c (8 * r) → next ≡ word → next ≡ side_below p c (8 * (r + 1))
+rank_skipped p c cells r word next e none so_far same =
+    same ∙ so_far
+    ∙ sym (side_below-empty p c (8 * r) (8 * (r + 1)) (omega arith) (λ k l i. ap (λ xs. slice_index xs k) (sym e) ∙ none k l (omega arith)))
+
+pub rank_gathered : (p : Board) (c : Colour) (r word next : ℕ) → word ≡ side_below p c (8 * r + 8) →
+    next ≡ word → next ≡ side_below p c (8 * (r + 1))
+rank_gathered p c r word next so_far same =
+    let more : 8 * r + 8 ≡ 8 * (r + 1) = omega arith in same ∙ so_far ∙ ap (side_below p c) more
 
 pub ruleset sides = (side_below-zero, side_below-next, side_below-small, side_below-all)
 
@@ -83,7 +100,8 @@ hits_in p s by w e k l h = and_left (holds p by k) (attacks p k s) (sym (in_side
 abbrev pub checks : Board → Colour → ℕ → Bool
 checks p c s = has p c King s && is_attacked p s (other_of c)
 
-king_is_man : (c : Colour) (x : ℕ) → is_man_of c (man_of_cell x) ≡ false → (x == cell_of_man (record { colour = c; kind = King })) ≡ false
+king_is_man : (c : Colour) (x : ℕ) → is_man_of c (man_of_cell x) ≡ false →
+    (x == cell_of_man (record { colour = c; kind = King })) ≡ false
 king_is_man White x h = grind (arith, nat_tests)
 king_is_man Black x h = grind (arith, nat_tests)
 

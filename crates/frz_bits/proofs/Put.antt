@@ -47,7 +47,10 @@ choose : (t : Bool) (c : Colour) (v x : ℕ) →
 choose true c v x = refl
 choose false c v x = refl
 
-side_put : (p : Board) (c : Colour) (w s v r : ℕ) → length p.cells ≡ 64 → s < 64 → w ≡ set_of (λ k. holds p c k) → r < 2 ^ 64 → ((k : ℕ) → k < 64 → has_square r k ≡ (if k == s then is_man_of c (man_of_cell v) else has_square w k)) → r ≡ set_of (λ k. holds (record p { cells = slice_set p.cells s v }) c k)
+side_put : (p : Board) (c : Colour) (w s v r : ℕ) → length p.cells ≡ 64 → s < 64 →
+    w ≡ set_of (λ k. holds p c k) → r < 2 ^ 64 →
+    ((k : ℕ) → k < 64 → has_square r k ≡ (if k == s then is_man_of c (man_of_cell v) else has_square w k)) →
+    r ≡ set_of (λ k. holds (record p { cells = slice_set p.cells s v }) c k)
 side_put p c w s v r size ls e small h =
     set_of-from r (λ k. holds (record p { cells = slice_set p.cells s v }) c k) small
     (λ k l. h k l

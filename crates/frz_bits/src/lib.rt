@@ -14,6 +14,6 @@ mod word;
 
 pub use bitboards::{Bitboards, attackers};
 pub use rays::{bishop_rays, rook_rays};
-pub use sets::{between, bishop_lines, king_set, knight_set, pawn_set, rook_lines};
+pub use sets::{between, king_set, knight_set, pawn_set};
 pub use ways::move_set;
 pub use word::{both, contains, next_square, replaced, with_square, without};

@@ -39,7 +39,7 @@ pub fn pawn_set(c: Colour, s: Square) -> u64
 
 /// The squares of the same rank or file.
 #[tactic(auto, using(crate::proofs::Tables::rook_at))]
-pub fn rook_lines(s: Square) -> u64
+pub(crate) fn rook_lines(s: Square) -> u64
     ensures { result ≡ set_of (λ b. is_rook_line s b) }
 {
     ROOK[s.number() as usize]
@@ -47,7 +47,7 @@ pub fn rook_lines(s: Square) -> u64
 
 /// The squares of the same diagonals.
 #[tactic(auto, using(crate::proofs::Tables::bishop_at))]
-pub fn bishop_lines(s: Square) -> u64
+pub(crate) fn bishop_lines(s: Square) -> u64
     ensures { result ≡ set_of (λ b. is_bishop_line s b) }
 {
     BISHOP[s.number() as usize]
