@@ -1,6 +1,5 @@
 -- The tests of attack and check compute the relations.
-use Rattle.std.proofs.Common.{◌≡◌, ℕ, ◌<◌, Bool, true, ◌&&◌, ap, ◌∙◌, Option, None, Some, slice_index}
-use Rattle.std.specs.Prelude.{◌==◌}
+use Rattle.std.proofs.Common.{◌≡◌, ℕ, true, ◌&&◌, ap, ◌∙◌, Option, None, Some, slice_index}
 use Rattle.std.proofs.lemmas.Bool.{eqb-true, eq-eqb, and_parts, and_from}
 use Rattle.frz_board.specs.declared.man.Colour.{Colour}
 use Rattle.frz_board.specs.declared.man.Kind.{Kind}
@@ -13,17 +12,19 @@ use Rattle.frz_board.specs.Attacking.{Stands}
 use Rattle.frz_squares.proofs.Lemmas.{some_square, any_square}
 use Rattle.frz_board.proofs.Lemmas.{cell_back, cell_forth, test_means, means_test}
 use Rattle.frz_fide.specs.Checks.{Attacker, Check}
-use Rattle.frz_fide.proofs.Facts.{same_side}
-use Rattle.frz_fide.proofs.Standing.{own_colour}
+use Rattle.frz_fide.proofs.Colours.{same_side}
+use Rattle.frz_fide.proofs.Colours.{own_colour}
 
-pub stands_on : (p : Board) (c : Colour) (k : Kind) (s : ℕ) → Stands p c k s → man_on p s ≡ Some (record { colour = c; kind = k })
+pub stands_on : (p : Board) (c : Colour) (k : Kind) (s : ℕ) → Stands p c k s →
+    man_on p s ≡ Some (record { colour = c; kind = k })
 stands_on p c k s h = ap man_of_cell h ∙ cell_forth c k
 
 -- a man that stands is a man of its side
 pub stands_held : (p : Board) (c : Colour) (k : Kind) (s : ℕ) → Stands p c k s → holds p c s ≡ true
 stands_held p c k s h = ap (is_man_of c) (stands_on p c k s h) ∙ own_colour c
 
-pub man_of_side : (c : Colour) (o : Option Man) → is_man_of c o ≡ true → (k : Kind) × (o ≡ Some (record { colour = c; kind = k }))
+pub man_of_side : (c : Colour) (o : Option Man) → is_man_of c o ≡ true →
+    (k : Kind) × (o ≡ Some (record { colour = c; kind = k }))
 man_of_side c None h = absurd cc
 man_of_side c (Some man) h =
     let made : Colour → Option Man = λ d. Some (record { colour = d; kind = man.kind }) in

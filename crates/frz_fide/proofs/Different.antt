@@ -12,7 +12,7 @@ use Rattle.frz_board.specs.declared.man.Kind.{Kind}
 use Rattle.frz_board.specs.declared.man.Kind.TheVariants.{King, Queen, Rook, Bishop, Knight, Pawn}
 use Rattle.frz_board.specs.declared.man.Man.{Man}
 use Rattle.std.proofs.lemmas.Bool.{and_parts}
-use Rattle.frz_fide.proofs.Facts.{Move, facts}
+use Rattle.frz_fide.proofs.LegalParts.{Move, facts}
 use Rattle.frz_fide.proofs.Cells.{cell_then}
 use Rattle.frz_fide.proofs.Standing.{after_at, stays, arrived, left, none_comes, arrived_own, arrives_own, holds_from}
 

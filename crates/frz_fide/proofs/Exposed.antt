@@ -12,9 +12,10 @@ use Rattle.frz_board.specs.Moving.{Step}
 use Rattle.frz_board.proofs.Lemmas.{no_new_check}
 use Rattle.frz_fide.specs.Exposing.{is_king, moves_apart, is_bared, may_expose}
 use Rattle.frz_fide.specs.Legal.{goes, promotes, is_target, arrives, beside_on_file, target_after, can_go, man_goes, after, after_man}
-use Rattle.frz_fide.proofs.Facts.{same_side}
-use Rattle.frz_fide.proofs.Standing.{own_colour, arrives_own, arrives_colour}
-use Rattle.frz_fide.proofs.Kept.{king_test, same_king}
+use Rattle.frz_fide.proofs.Colours.{same_side}
+use Rattle.frz_fide.proofs.Standing.{arrives_own, arrives_colour}
+use Rattle.frz_fide.proofs.Colours.{own_colour}
+use Rattle.frz_fide.proofs.Kings.{king_test, same_king}
 
 -- without a target nothing is captured en passant
 no_taking : (k : Kind) (target : Option ℕ) (x : Bool) (b : ℕ) →

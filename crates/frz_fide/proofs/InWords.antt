@@ -11,18 +11,19 @@ use Rattle.frz_board.specs.Squares.{rank_of, files_apart, ranks_apart, is_forwar
 use Rattle.frz_board.specs.Men.{man_of_cell, cell_of_man, other_of, same_colour, is_man_of, is_pawn}
 use Rattle.frz_board.specs.Boards.{Board, man_on, is_empty, holds, has}
 use Rattle.frz_board.specs.Moving.{Step, IsStep, is_promotion}
-use Rattle.frz_board.specs.Attacks.{attacks, reaches, man_reaches, pawn_reaches, is_attacked, is_in_check}
+use Rattle.frz_board.specs.Attacks.{reaches, man_reaches, pawn_reaches, is_in_check}
 use Rattle.frz_board.specs.EnPassant.{has_pawn_beside, is_passing_rank, has_passed, target_stands, has_target_in_place, ahead}
 use Rattle.frz_board.specs.Attacking.{Attack, Stands, IsForward}
 use Rattle.frz_squares.proofs.Lemmas.{either_or, some_square, any_square}
-use Rattle.frz_board.proofs.Lemmas.{cell_back, cell_forth}
+use Rattle.frz_board.proofs.Lemmas.{cell_back}
 use Rattle.frz_board.proofs.Lemmas.{test_means, means_test, forward_means, means_forward}
 use Rattle.frz_fide.specs.Legal.{is_home, is_last, passed_over, beside_on_file, is_target, captures, takes_in_passing, steps, advances, goes, promotes, can_go, man_goes, arrives, after_man, after, is_legal}
 use Rattle.frz_fide.specs.Checks.{Attacker, Check}
 use Rattle.frz_fide.specs.Valid.{IsValid}
 use Rattle.frz_fide.specs.LegalMoves.{StartsAt, IsHome, IsLast, IsTwoForward, Becomes, HasEnemyBeside, moved, IsSafe, Legal, piece, capture, step, advance, en_passant}
-use Rattle.frz_fide.proofs.Facts.{facts, same_side}
-use Rattle.frz_fide.proofs.Standing.{own_colour, target_is}
+use Rattle.frz_fide.proofs.LegalParts.{facts}
+use Rattle.frz_fide.proofs.Standing.{target_is}
+use Rattle.frz_fide.proofs.Colours.{own_colour}
 use Rattle.frz_fide.proofs.Checking.{stands_on, stands_held, held_stands, check_means, means_check}
 
 abbrev mine : Board → Kind → Man

@@ -1,15 +1,24 @@
 -- Other crates cite the module Lemmas alone.
 pub mod Lemmas
 mod Squares
+mod Colours
+mod FlatMaps
 mod Order
-mod Together
+mod BySquares
 mod Room
 mod Cells
-mod Facts
+mod LegalParts
 mod Standing
 mod Different
-mod Kept
+mod Kings
+mod CellsAfter
+mod NoKingTaken
+mod CountsKept
+mod PawnsKept
+mod TargetKept
+mod StaysValid
 mod Exposed
+mod KingGoes
 mod Skip
 mod Listed
 mod Targets

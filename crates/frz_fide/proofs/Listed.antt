@@ -151,7 +151,8 @@ in_squares : (k : ℕ) → k < 64 → IsIn squares k
 unfolding squares
 in_squares k h = in_range k 0 64 (omega arith) (omega arith)
 
-in_between : (a b : ℕ) (k : Option Kind) → is_promotion k ≡ true → IsIn (steps_between a b) (record { from = a; to = b; promo = k })
+in_between : (a b : ℕ) (k : Option Kind) → is_promotion k ≡ true →
+    IsIn (steps_between a b) (record { from = a; to = b; promo = k })
 in_between a b None h = inl refl
 in_between a b (Some King) h = cc
 in_between a b (Some Queen) h = inr (inl refl)

@@ -96,7 +96,8 @@ kind_ways p c Pawn s n a b =
     pawn_ways s n (goes p c Pawn a b) (is_last c b) (is_forward c 1 a b || is_forward c 2 a b)
     (forward_only (files_apart a b == 1) (is_forward c 1 a b) (holds p (other_of c) b) (files_apart a b == 0) (is_empty p b) (is_home c a) (is_forward c 2 a b) (is_empty p b && is_empty p (passed_over a b)) (is_target p.ep b))
 
-man_ways : (p : Board) (t : Colour) (o : Option Man) (n : Bool) (a b : ℕ) → count_by (λ promo. (is_man_of t o && n) && man_goes p o (record { from = a; to = b; promo = promo })) promotions ≤ man_room t o a b
+man_ways : (p : Board) (t : Colour) (o : Option Man) (n : Bool) (a b : ℕ) →
+    count_by (λ promo. (is_man_of t o && n) && man_goes p o (record { from = a; to = b; promo = promo })) promotions ≤ man_room t o a b
 man_ways p t None n a b = omega arith
 man_ways p t (Some man) n a b = kind_ways p man.colour man.kind (same_colour man.colour t) n a b
 

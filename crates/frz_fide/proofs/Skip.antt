@@ -105,7 +105,8 @@ module _ (p : Board) (a b : ℕ) (man : Man) (on : man_on p a ≡ Some man) wher
       filter_none (is_legal p) step (λ k. opened k ∙ four (same_colour man.colour p.turn) (not (holds p p.turn b)) (goes p man.colour man.kind a b) (promotes man.colour man.kind b k) (not (is_in_check (after p (step k)) p.turn)) h) promotions
 
   -- where it becomes nothing else
-  pub no_choice : (is_pawn man.kind && is_last man.colour b) ≡ false → legal_between p a b ≡ filter (is_legal p) (record { from = a; to = b; promo = None } ∷ [])
+  pub no_choice : (is_pawn man.kind && is_last man.colour b) ≡ false →
+      legal_between p a b ≡ filter (is_legal p) (record { from = a; to = b; promo = None } ∷ [])
   unfolding legal_between
   no_choice h =
       let t = is_legal p in
@@ -122,23 +123,25 @@ module _ (p : Board) (a b : ℕ) (man : Man) (on : man_on p a ≡ Some man) wher
       ap (λ x. cond x (step None ∷ rest) rest) (opened None ∙ no_promo (same_colour man.colour p.turn) (not (holds p p.turn b)) (goes p man.colour man.kind a b) (promotes man.colour man.kind b None) (not (is_in_check (after p (step None)) p.turn)) (must_choose man.colour man.kind b h))
 
   -- the man may go
-  pub may_go : (k : Option Kind) → same_colour man.colour p.turn ≡ true → holds p p.turn b ≡ false → goes p man.colour man.kind a b ≡ true → promotes man.colour man.kind b k ≡ true → can_go p (record { from = a; to = b; promo = k }) ≡ true
+  pub may_go : (k : Option Kind) → same_colour man.colour p.turn ≡ true → holds p p.turn b ≡ false →
+      goes p man.colour man.kind a b ≡ true → promotes man.colour man.kind b k ≡ true →
+      can_go p (record { from = a; to = b; promo = k }) ≡ true
   may_go k own free way promo =
       ap (λ o. (is_man_of p.turn o && not (holds p p.turn b)) && man_goes p o (step k)) on
       ∙ all_four (same_colour man.colour p.turn) (holds p p.turn b) (goes p man.colour man.kind a b) (promotes man.colour man.kind b k) own free way promo
 
-  open_free : (h g : Bool) → (not h && g) ≡ true → (h ≡ false) × (g ≡ true)
-  open_free true g e = cc
-  open_free false g e = (refl, e)
-
   -- where it goes
-  pub may_choose : (j : Kind) → same_colour man.colour p.turn ≡ true → (not (holds p p.turn b) && goes p man.colour man.kind a b) ≡ true → (is_pawn man.kind && is_last man.colour b) ≡ true → is_promotion (Some j) ≡ true → can_go p (record { from = a; to = b; promo = Some j }) ≡ true
-  may_choose j own way last fits =
-      let parts = open_free (holds p p.turn b) (goes p man.colour man.kind a b) way in may_go (Some j) own parts.0 parts.1 (promote man.colour b man.kind j last fits)
+  pub may_choose : (j : Kind) → same_colour man.colour p.turn ≡ true → holds p p.turn b ≡ false →
+      goes p man.colour man.kind a b ≡ true → (is_pawn man.kind && is_last man.colour b) ≡ true →
+      is_promotion (Some j) ≡ true → can_go p (record { from = a; to = b; promo = Some j }) ≡ true
+  may_choose j own free way last fits =
+      may_go (Some j) own free way (promote man.colour b man.kind j last fits)
 
-  pub may_stay : same_colour man.colour p.turn ≡ true → (not (holds p p.turn b) && goes p man.colour man.kind a b) ≡ true → (is_pawn man.kind && is_last man.colour b) ≡ false → can_go p (record { from = a; to = b; promo = None }) ≡ true
-  may_stay own way last =
-      let parts = open_free (holds p p.turn b) (goes p man.colour man.kind a b) way in may_go None own parts.0 parts.1 (stay man.colour b man.kind last)
+  pub may_stay : same_colour man.colour p.turn ≡ true → holds p p.turn b ≡ false →
+      goes p man.colour man.kind a b ≡ true → (is_pawn man.kind && is_last man.colour b) ≡ false →
+      can_go p (record { from = a; to = b; promo = None }) ≡ true
+  may_stay own free way last =
+      may_go None own free way (stay man.colour b man.kind last)
 
 -- where no man of the mover stands
 no_man : (o : Option Man) (t : Colour) (n g s : Bool) → is_man_of t o ≡ false →

@@ -18,7 +18,8 @@ use Rattle.frz_board.specs.declared.man.Kind.{Kind}
 use Rattle.frz_board.specs.declared.man.Kind.TheVariants.{Pawn}
 use Rattle.frz_board.specs.declared.man.Man.{Man}
 use Rattle.frz_board.proofs.Lemmas.{cell_forth}
-use Rattle.frz_fide.proofs.Facts.{Move}
+use Rattle.frz_fide.proofs.Colours.{own_colour, other_colour}
+use Rattle.frz_fide.proofs.LegalParts.{Move}
 use Rattle.frz_fide.proofs.Cells.{cell_then, cell_at}
 
 -- a square with a man is on the board
@@ -29,14 +30,6 @@ on_board p s man size e =
       | inl h ↦ h
       | inr h ↦ absurd (let past : slice_index p.cells s ≡ 0 = get_or_past p.cells s 0 (omega arith) in let none = ap man_of_cell past in cc)
     ]
-
-pub own_colour : (c : Colour) → same_colour c c ≡ true
-own_colour White = refl
-own_colour Black = refl
-
-pub other_colour : (c : Colour) → same_colour (other_of c) c ≡ false
-other_colour White = refl
-other_colour Black = refl
 
 -- the mover's man stands where the move begins
 pub holds_from : (p : Board) (m : Step) → Move p m → holds p p.turn m.from ≡ true
@@ -55,7 +48,9 @@ target_is None b h = absurd cc
 target_is (Some t) b h = ap Some (eqb-true t b h)
 
 -- an enemy pawn stands on the square where a pawn is taken in passing
-pub taken : (p : Board) (m : Step) → IsValid p → (c : Colour) → c ≡ p.turn → takes_in_passing p c m.from m.to ≡ true → slice_index p.cells (beside_on_file m.from m.to) ≡ cell_of_man (record { colour = other_of p.turn; kind = Pawn })
+pub taken : (p : Board) (m : Step) → IsValid p → (c : Colour) → c ≡ p.turn →
+    takes_in_passing p c m.from m.to ≡ true →
+    slice_index p.cells (beside_on_file m.from m.to) ≡ cell_of_man (record { colour = other_of p.turn; kind = Pawn })
 unfolding has_target_in_place
 taken p m v c own h =
     let parts = and_parts (pawn_reaches c m.from m.to) (is_target p.ep m.to) h in

@@ -1,7 +1,7 @@
 -- The squares that a man may go to on some board are enough.
 use Rattle.std.proofs.Common.{◌≡◌, ℕ, ◌<◌, ◌≤◌, List, [], ◌++◌, Bool, true, false, ◌&&◌, ◌||◌, not, refl, ap, sym, ◌∙◌, arith, Some}
 use Rattle.std.specs.Prelude.{◌==◌, nat_le}
-use Rattle.std.proofs.lemmas.Bool.{and_parts, eqb-true, le-leb, and_right}
+use Rattle.std.proofs.lemmas.Bool.{and_parts, eqb-true, le-leb, and_right, not-true}
 use Rattle.frz_board.specs.declared.man.Colour.{Colour}
 use Rattle.frz_board.specs.declared.man.Kind.{Kind}
 use Rattle.frz_board.specs.declared.man.Kind.TheVariants.{King, Queen, Rook, Bishop, Knight, Pawn}
@@ -72,6 +72,15 @@ off_target p man a targets moves own t on em eo et h k l out =
     no_way p a k man on
     (stays_out (may_go man.colour man.kind a k) (goes p man.colour man.kind a k) (not (holds p p.turn k)) (goes_somewhere p man.colour man.kind a k)
     (ap (λ x. may_go man.colour man.kind a k && not x) (sym held) ∙ ap (λ x. x && not (has_square own k)) (sym may) ∙ sym (h k l) ∙ out))
+
+-- on no target stands a man of the side to move
+pub on_target : (p : Board) (targets moves own : ℕ) (t : Colour) → own ≡ set_of (λ s. holds p t s) →
+    t ≡ p.turn → ((k : ℕ) → k < 64 →
+    has_square targets k ≡ (has_square moves k && not (has_square own k))) → (k : ℕ) → k < 64 →
+    has_square targets k ≡ true → holds p p.turn k ≡ false
+on_target p targets moves own t eo et h k l there =
+    let out = (and_parts (has_square moves k) (not (has_square own k)) (sym (h k l) ∙ there)).1 in
+    ap (λ u. holds p u k) (sym et) ∙ sym (in_side p t own k eo l) ∙ not-true (has_square own k) out
 
 -- no legal move begins on a square without a man of the side to move
 pub off_side : (p : Board) (own : ℕ) (t : Colour) → own ≡ set_of (λ s. holds p t s) → t ≡ p.turn →

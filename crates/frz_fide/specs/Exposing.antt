@@ -15,9 +15,13 @@ is_king _ = false
 abbrev pub moves_apart : Board → Man → Bool
 moves_apart p man = is_king man.kind || (is_pawn man.kind && is_some p.ep)
 
+-- the board without the man on the square
+abbrev pub without : Board → ℕ → Board
+without p a = record p { cells = slice_set p.cells a 0 }
+
 -- the mover's king is attacked where its man has left the board
 abbrev pub is_bared : Board → ℕ → Bool
-is_bared p a = is_in_check (record p { cells = slice_set p.cells a 0 }) p.turn
+is_bared p a = is_in_check (without p a) p.turn
 
 abbrev pub may_expose : Board → Man → ℕ → Bool
 may_expose p man a = moves_apart p man || is_bared p a

@@ -1,6 +1,7 @@
 //! The position after a move, and whether its king is safe.
 
 ghost use Rattle.std.specs.Prelude.{◌≡◌, not, Some};
+ghost use Rattle.frz_board.specs.Men.{other_of};
 ghost use Rattle.frz_board.specs.Boards.{man_on};
 ghost use Rattle.frz_board.specs.Attacks.{is_in_check};
 ghost use Rattle.frz_fide.specs.Legal.{beside_on_file, arrives, cells_after, target_after, after as board_after};
@@ -28,11 +29,13 @@ fn arriving(man: Man, promo: Option<Kind>) -> Man
     }
 }
 
-/// The men where they stand after the move of this man.
-fn moved(p: &Bitboards, man: Man, m: Move) -> Bitboards
-    ensures { result ≡ record p.now { cells = cells_after p.now man m } }
+/// The position after the move of this man, which leaves this target.
+fn moved(p: &Bitboards, man: Man, m: Move, ep: Option<Square>) -> Bitboards
+    ensures { result ≡
+        record { cells = cells_after p.now man m; turn = other_of p.now.turn; ep = ep } }
 {
-    let mut q = p.put(m.from, 0);
+    let mut q = p.hand_over(ep);
+    q.set(m.from, 0);
     q.set(m.to, cell_of(arriving(man, m.promo)));
     if man.kind == Kind::Pawn && takes_passing(p, man.colour, m.from, m.to) {
         q.set(beside(m.from, m.to), 0);
@@ -58,7 +61,7 @@ pub fn boards_after(p: &Bitboards, m: Move) -> Bitboards
 {
     match p.man(m.from) {
         None => Bitboards::of(&p.position()),
-        Some(man) => moved(p, man, m).hand_over(new_target(p, man, m)),
+        Some(man) => moved(p, man, m, new_target(p, man, m)),
     }
 }
 
@@ -67,5 +70,5 @@ pub fn is_safe(p: &Bitboards, man: Man, m: Move) -> bool
     requires { man_on p.now m.from ≡ Some man }
     ensures { result ≡ not (is_in_check (board_after p.now m) p.now.turn) }
 {
-    !moved(p, man, m).is_in_check(p.turn())
+    !moved(p, man, m, None).is_in_check(p.turn())
 }

@@ -1,13 +1,13 @@
 //! The list of legal moves.
 
-ghost use Rattle.std.specs.Prelude.{Contains, ◌↔◌, ◌≡◌, ◌+◌, ◌≤◌, ◌++◌, ◌∷◌, [], length, filter, true, ◌&&◌, not, Some};
+ghost use Rattle.std.specs.Prelude.{Contains, ◌↔◌, ◌≡◌, ◌+◌, ◌≤◌, ◌++◌, ◌∷◌, [], length, filter, true, false, ◌&&◌, Some};
 ghost use Rattle.std.specs.List.Sorted.{IsStrictlySortedBy};
 ghost use Rattle.arrayvec.specs.ArrayVec.{array_vec_len};
 ghost use Rattle.frz_board.specs.Boards.{man_on, holds};
 ghost use Rattle.frz_board.specs.Men.{same_colour, is_pawn};
 ghost use Rattle.frz_board.specs.Moving.{Step, IsStep, is_promotion, step_cmp};
-ghost use Rattle.frz_fide.specs.Legal.{is_legal, can_go, goes, is_last};
-ghost use Rattle.frz_fide.specs.Exposing.{may_expose as man_may_expose};
+ghost use Rattle.frz_fide.specs.Legal.{is_legal, can_go, is_last};
+ghost use Rattle.frz_fide.specs.Exposing.{may_expose as man_may_expose, without as board_without};
 ghost use Rattle.frz_fide.specs.Valid.{IsValid};
 ghost use Rattle.frz_fide.specs.Listing.{legal_moves_of};
 ghost use Rattle.frz_fide.specs.SquareBySquare.{legal_between, legal_from, legal_by_squares, chosen};
@@ -25,14 +25,23 @@ pub type MoveList = ArrayVec<Move, 1024>;
 
 /// Adds a move that can go, if the king is safe afterwards.
 #[tactic(auto, unfolding(crate::specs::Legal::is_legal))]
-fn add_if_safe(p: &Bitboards, man: Man, m: Move, exposing: bool, list: &mut MoveList)
+fn add_if_safe(
+    p: &Bitboards,
+    man: Man,
+    m: Move,
+    bare: &Bitboards,
+    exposing: bool,
+    list: &mut MoveList,
+)
+    requires valid { IsValid p.now }
     requires man { man_on p.now m.from ≡ Some man }
     requires can { can_go p.now m ≡ true }
+    requires bare { bare.now ≡ board_without p.now m.from }
     requires exposing { exposing ≡ man_may_expose p.now man m.from }
     requires room { array_vec_len list.old + length (filter (is_legal p.now) (m ∷ [])) ≤ 1024 }
     ensures { list.new.items ≡ list.old.items ++ filter (is_legal p.now) (m ∷ []) }
 {
-    if keeps_safe(p, man, m, exposing) {
+    if keeps_safe(p, man, m, bare, exposing) {
         list.push(m);
     }
 }
@@ -56,10 +65,13 @@ fn add_choices(
     man: Man,
     from: Square,
     to: Square,
+    bare: &Bitboards,
     exposing: bool,
     list: &mut MoveList,
 )
+    requires valid { IsValid p.now }
     requires man { man_on p.now from ≡ Some man }
+    requires bare { bare.now ≡ board_without p.now from }
     requires exposing { exposing ≡ man_may_expose p.now man from }
     requires queen { can_go p.now (record { from = from; to = to; promo = Some Kind.Queen })
         ≡ true }
@@ -71,18 +83,38 @@ fn add_choices(
     requires room { array_vec_len list.old + length (chosen p.now from to) ≤ 1024 }
     ensures { list.new.items ≡ list.old.items ++ chosen p.now from to }
 {
-    add_if_safe(p, man, promotion(from, to, Kind::Queen), exposing, list);
-    add_if_safe(p, man, promotion(from, to, Kind::Rook), exposing, list);
-    add_if_safe(p, man, promotion(from, to, Kind::Bishop), exposing, list);
-    add_if_safe(p, man, promotion(from, to, Kind::Knight), exposing, list);
-}
-
-/// May the man go from `from` to `to`, as far as the way there goes?
-fn is_open(p: &Bitboards, man: Man, from: Square, to: Square) -> bool
-    ensures { result ≡ (not (holds p.now p.now.turn to)
-        && goes p.now man.colour man.kind from to) }
-{
-    !p.holds(p.turn(), to) && is_way(p, man, from, to)
+    add_if_safe(
+        p,
+        man,
+        promotion(from, to, Kind::Queen),
+        bare,
+        exposing,
+        list,
+    );
+    add_if_safe(
+        p,
+        man,
+        promotion(from, to, Kind::Rook),
+        bare,
+        exposing,
+        list,
+    );
+    add_if_safe(
+        p,
+        man,
+        promotion(from, to, Kind::Bishop),
+        bare,
+        exposing,
+        list,
+    );
+    add_if_safe(
+        p,
+        man,
+        promotion(from, to, Kind::Knight),
+        bare,
+        exposing,
+        list,
+    );
 }
 
 /// Must the man become another one on `to`?
@@ -92,28 +124,32 @@ fn must_choose(man: Man, to: Square) -> bool
     man.kind == Kind::Pawn && to.is_last_rank(man.colour)
 }
 
-/// Adds the legal moves of the man on `from` to `to`.
+/// Adds the legal moves of the man on `from` to `to`, where no man of its side stands.
 #[tactic(auto, using(crate::proofs::Skip::skips))]
 fn add_between(
     p: &Bitboards,
     man: Man,
     from: Square,
     to: Square,
+    bare: &Bitboards,
     exposing: bool,
     list: &mut MoveList,
 )
+    requires valid { IsValid p.now }
     requires man { man_on p.now from ≡ Some man }
     requires own { same_colour man.colour p.now.turn ≡ true }
+    requires free { holds p.now p.now.turn to ≡ false }
+    requires bare { bare.now ≡ board_without p.now from }
     requires exposing { exposing ≡ man_may_expose p.now man from }
     requires room { array_vec_len list.old + length (legal_between p.now from to) ≤ 1024 }
     ensures { list.new.items ≡ list.old.items ++ legal_between p.now from to }
 {
-    if is_open(p, man, from, to) {
+    if is_way(p, man, from, to) {
         if must_choose(man, to) {
-            add_choices(p, man, from, to, exposing, list);
+            add_choices(p, man, from, to, bare, exposing, list);
         } else {
             let promo = None;
-            add_if_safe(p, man, Move { from, to, promo }, exposing, list);
+            add_if_safe(p, man, Move { from, to, promo }, bare, exposing, list);
         }
     }
 }
@@ -122,22 +158,25 @@ fn add_between(
 /// board, but for those of its own side.
 #[tactic(auto, using(crate::proofs::Order::loops))]
 fn add_from(p: &Bitboards, man: Man, from: Square, list: &mut MoveList)
+    requires valid { IsValid p.now }
     requires man { man_on p.now from ≡ Some man }
     requires own { same_colour man.colour p.now.turn ≡ true }
     requires room { array_vec_len list.old + length (legal_from p.now from) ≤ 1024 }
     ensures { list.new.items ≡ list.old.items ++ legal_from p.now from }
 {
-    let exposing = may_expose(p, man, from);
+    let bare = p.put(from, 0);
+    let exposing = may_expose(p, man, from, &bare);
     let targets = without(move_set(man, from), p.side(p.turn()));
     let mut n = 0;
     while let Some(to) = next_square(targets, n) {
-        add_between(p, man, from, to, exposing, list);
+        add_between(p, man, from, to, &bare, exposing, list);
         n = to.number() + 1;
     }
 }
 
 /// Adds the legal moves from a square of the side to move.
 fn add_square(p: &Bitboards, from: Square, list: &mut MoveList)
+    requires valid { IsValid p.now }
     requires own { holds p.now p.now.turn from ≡ true }
     requires room { array_vec_len list.old + length (legal_from p.now from) ≤ 1024 }
     ensures { list.new.items ≡ list.old.items ++ legal_from p.now from }
@@ -150,7 +189,8 @@ fn add_square(p: &Bitboards, from: Square, list: &mut MoveList)
 /// Puts all legal moves into the list: it goes over the squares of the side to move.
 #[tactic(auto, using(crate::proofs::Order::loops))]
 fn put_all(p: &Bitboards, list: &mut MoveList)
-    requires { length (legal_by_squares p.now) ≤ 1024 }
+    requires valid { IsValid p.now }
+    requires room { length (legal_by_squares p.now) ≤ 1024 }
     ensures { list.new.items ≡ legal_by_squares p.now }
 {
     let own = p.side(p.turn());
@@ -163,7 +203,7 @@ fn put_all(p: &Bitboards, list: &mut MoveList)
 }
 
 /// Puts all legal moves into the list, in move order, and drops what was there. It is one step.
-#[tactic(auto, using(crate::proofs::Together::by_squares, crate::proofs::Room::legal_room))]
+#[tactic(auto, using(crate::proofs::BySquares::by_squares, crate::proofs::Room::legal_room))]
 pub fn put_legal_moves<L: Ledger>(p: &Bitboards, list: &mut MoveList, steps: &mut Steps<L>)
     requires { IsValid p.now }
     ensures moves { list.new.items ≡ legal_moves_of p.now }
@@ -174,7 +214,7 @@ pub fn put_legal_moves<L: Ledger>(p: &Bitboards, list: &mut MoveList, steps: &mu
 }
 
 /// All legal moves, in move order. It is one step.
-#[tactic(auto, using(crate::proofs::Together::by_squares, crate::proofs::Room::legal_room))]
+#[tactic(auto, using(crate::proofs::BySquares::by_squares, crate::proofs::Room::legal_room))]
 pub fn legal_moves<L: Ledger>(p: &Position, steps: &mut Steps<L>) -> MoveList
     requires { IsValid p.now }
     ensures moves { result.items ≡ legal_moves_of p.now }

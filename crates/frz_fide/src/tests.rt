@@ -4,7 +4,7 @@ ghost use Rattle.std.specs.Prelude.{◌≡◌, ◌<◌};
 ghost use Rattle.frz_fide.specs.Valid.{IsValid};
 
 use super::{Ending, Invalid, ending, legal_moves, play, valid};
-use frz_board::{Colour, Position, Square, move_text};
+use frz_board::{Colour, Man, Position, Square, cell_of, move_text};
 use frz_steps::Steps;
 use std::alloc::Global;
 use std::marker::Brand;
@@ -13,20 +13,9 @@ use std::sync::ledger::{Blank, Ledger};
 use std::test::Fail;
 
 fn cell_of_letter(letter: u8) -> u8 {
-    match letter {
-        b'K' => 1,
-        b'Q' => 2,
-        b'R' => 3,
-        b'B' => 4,
-        b'N' => 5,
-        b'P' => 6,
-        b'k' => 7,
-        b'q' => 8,
-        b'r' => 9,
-        b'b' => 10,
-        b'n' => 11,
-        b'p' => 12,
-        _ => 0,
+    match Man::of_letter(letter) {
+        None => 0,
+        Some(man) => cell_of(man),
     }
 }
 

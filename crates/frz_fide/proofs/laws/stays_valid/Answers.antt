@@ -1,4 +1,4 @@
-use Rattle.frz_fide.proofs.Kept.{valid_after}
+use Rattle.frz_fide.proofs.StaysValid.{valid_after}
 use Rattle.frz_fide.proofs.laws.stays_valid.Goals as goal
 
 pub returns : goal.returns

@@ -2,8 +2,13 @@ use Rattle.std.proofs.Common.{◌+◌, ◌++◌, ◌∙◌, length, ap, sym, ari
 use Rattle.frz_bits.specs.Words.{IsNext}
 use Rattle.frz_fide.specs.SquareBySquare.{legal_between}
 use Rattle.frz_fide.proofs.Order.{from_below, from_below-next, from_below-room}
-use Rattle.frz_fide.proofs.Targets.{off_target, from_next, from_end}
+use Rattle.frz_fide.proofs.Targets.{off_target, on_target, from_next, from_end}
 use Rattle.frz_fide.proofs.moves.add_from.Goals as goal
+
+pub add_between-requires-clause-free : goal.add_between-requires-clause-free
+add_between-requires-clause-free c =
+    let next : IsNext c.without-targets.result c.loop-to.n c.in-Some.to = c.in-Some.ensures in
+    on_target c.args.p.now c.without-targets.result c.move_set.result c.side.result c.turn.result c.side.ensures c.turn.ensures c.without-targets.ensures c.in-Some.to next.on_board next.there
 
 pub add_between-requires-clause-room : goal.add_between-requires-clause-room
 add_between-requires-clause-room c =

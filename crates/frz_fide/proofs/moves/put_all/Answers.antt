@@ -15,7 +15,7 @@ add_square-requires-clause-room c =
     let next : IsNext c.side-own.result c.loop-from.n c.in-Some.from = c.in-Some.ensures in
     let here = all_next c.args.p.now c.side-own.result (off_side c.args.p.now c.side-own.result c.turn.result c.side-own.ensures c.turn.ensures) c.loop-from.n c.in-Some.from c.loop-from.list.items c.loop-from.invariant.1 next in
     let room = all_below-room c.args.p.now c.in-Some.from next.on_board in
-    let all = c.requires in
+    let all = c.requires.room in
     omega (arith, ap length here)
 
 pub loop-from-preserved : goal.loop-from-preserved

@@ -1,7 +1,7 @@
 use Rattle.std.proofs.Common.{◌<◌, sym, subst, ap, arith}
 use Rattle.frz_board.specs.Moving.{Step}
 use Rattle.frz_fide.specs.Valid.{IsValid}
-use Rattle.frz_fide.proofs.Kept.{valid_after}
+use Rattle.frz_fide.proofs.StaysValid.{valid_after}
 use Rattle.frz_fide.proofs.playing.after.Goals as goal
 
 pub returns-clause-valid : goal.returns-clause-valid

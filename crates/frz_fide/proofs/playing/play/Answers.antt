@@ -3,7 +3,7 @@ use Rattle.frz_board.specs.Boards.{Board}
 use Rattle.frz_board.specs.Moving.{Step}
 use Rattle.frz_fide.specs.Legal.{is_legal, after}
 use Rattle.frz_fide.specs.Valid.{IsValid}
-use Rattle.frz_fide.proofs.Kept.{valid_after}
+use Rattle.frz_fide.proofs.StaysValid.{valid_after}
 use Rattle.frz_fide.proofs.playing.play.Goals as goal
 
 pub returns-then-is_legal_move-clause-valid : goal.returns-then-is_legal_move-clause-valid

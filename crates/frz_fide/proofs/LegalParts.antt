@@ -1,4 +1,4 @@
--- What a legal move is.
+-- A legal move, part by part.
 use Rattle.std.proofs.Common.{◌≡◌, refl, true, false, ◌&&◌, not, Option, None, Some}
 use Rattle.std.proofs.lemmas.Bool.{not-true, and_parts}
 use Rattle.frz_board.specs.Attacks.{is_in_check}
@@ -6,15 +6,8 @@ use Rattle.frz_board.specs.Boards.{Board, man_on, holds}
 use Rattle.frz_board.specs.Men.{is_man_of, same_colour}
 use Rattle.frz_board.specs.Moving.{Step}
 use Rattle.frz_fide.specs.Legal.{is_legal, can_go, man_goes, goes, promotes, after}
-use Rattle.frz_board.specs.declared.man.Colour.{Colour}
-use Rattle.frz_board.specs.declared.man.Colour.TheVariants.{White, Black}
 use Rattle.frz_board.specs.declared.man.Man.{Man}
-
-pub same_side : (c d : Colour) → same_colour c d ≡ true → c ≡ d
-same_side White White h = refl
-same_side White Black h = cc
-same_side Black White h = cc
-same_side Black Black h = refl
+use Rattle.frz_fide.proofs.Colours.{same_side}
 
 pub record Move (p : Board) (m : Step) : Type 0 where
   pub man : Man
