@@ -1,5 +1,5 @@
 -- Numbers in mixed radix, both ways.
-use Rattle.std.proofs.Common.{◌≡◌, ℕ, zero, suc, ◌+◌, ◌*◌, ◌/◌, ◌%◌, ◌<◌, List, [], ◌∷◌, refl, ap, sym, ◌∙◌, arith, mul-zero, mul_assoc}
+use Rattle.std.proofs.Common.{◌≡◌, ℕ, zero, suc, ◌+◌, ◌*◌, ◌/◌, ◌%◌, ◌<◌, List, [], ◌∷◌, ◌++◌, length, refl, ap, sym, ◌∙◌, arith, mul-zero, mul_assoc}
 use Rattle.std.proofs.lemmas.Nat.{mul-add-lt, div-mul-add, mod-mul-add, div-add-mod', mod_below, div_below}
 use Rattle.std.proofs.Math.Nat.{add-mul}
 use Rattle.frz_combinations.specs.MixedRadix.{product, value, digits, AreDigits, value_onto}
@@ -49,3 +49,23 @@ value_onto-value n [] ds h = omega arith
 value_onto-value n (b ∷ bs) [] h = absurd h
 value_onto-value n (b ∷ bs) (d ∷ ds) h =
     value_onto-value (n * b + d) bs ds h.1 ∙ spread n b d (product bs) (value bs ds)
+
+-- digits behind digits: the number of the first ones goes on
+pub value_onto-append : (n : ℕ) (rs bs xs ys : List ℕ) → length rs ≡ length xs →
+    value_onto n (rs ++ bs) (xs ++ ys) ≡ value_onto (value_onto n rs xs) bs ys
+value_onto-append n [] bs [] ys h = refl
+value_onto-append n [] bs (x ∷ xs) ys h = absurd (omega arith)
+value_onto-append n (a ∷ rs) bs [] ys h = absurd (omega arith)
+value_onto-append n (a ∷ rs) bs (x ∷ xs) ys h = value_onto-append (n * a + x) rs bs xs ys (omega arith)
+
+pub AreDigits-append : (rs bs xs ys : List ℕ) → AreDigits rs xs → AreDigits bs ys →
+    AreDigits (rs ++ bs) (xs ++ ys)
+AreDigits-append [] bs [] ys h k = k
+AreDigits-append [] bs (x ∷ xs) ys h k = absurd (let e : x ∷ xs ≡ [] = h in cc)
+AreDigits-append (a ∷ rs) bs [] ys h k = absurd h
+AreDigits-append (a ∷ rs) bs (x ∷ xs) ys h k = (h.0, AreDigits-append rs bs xs ys h.1 k)
+
+pub product-append : (rs bs : List ℕ) → product (rs ++ bs) ≡ product rs * product bs
+product-append [] bs = omega arith
+product-append (a ∷ rs) bs =
+    ap (λ n. a * n) (product-append rs bs) ∙ sym (mul_assoc a (product rs) (product bs))

@@ -1,3 +1,4 @@
+//! Binomial numbers against a printed table.
 use crate::{Triangle, binomial};
 use std::alloc::AllocError;
 

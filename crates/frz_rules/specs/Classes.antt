@@ -4,7 +4,7 @@ use Rattle.std.specs.Str.{bytes_eq}
 use Rattle.frz_board.specs.declared.man.Colour.{Colour}
 use Rattle.frz_board.specs.declared.man.Colour.TheVariants.{White, Black}
 use Rattle.frz_board.specs.declared.man.Kind.{Kind}
-use Rattle.frz_board.specs.declared.man.Kind.TheVariants.{King, Queen, Rook, Bishop, Knight, Pawn}
+use Rattle.frz_board.specs.Men.{kind_of_letter}
 use Rattle.frz_sets.specs.declared.limits.TheConstants.{MOST_MEN, MOST_PLIES}
 use Rattle.frz_words.specs.Parts.{split}
 use Rattle.frz_words.specs.Numbers.{number_of}
@@ -19,14 +19,11 @@ colour_of word =
     if is (codes "white") word then Some White else
     (if is (codes "black") word then Some Black else None)
 
+-- the kind of a word of one letter, K, Q, R, B, N or P
 abbrev pub kind_of : List ℕ → Option Kind
-kind_of word =
-    if is (codes "K") word then Some King else
-    (if is (codes "Q") word then Some Queen else
-    (if is (codes "R") word then Some Rook else
-    (if is (codes "B") word then Some Bishop else
-    (if is (codes "N") word then Some Knight else
-    (if is (codes "P") word then Some Pawn else None)))))
+kind_of [] = None
+kind_of (letter ∷ []) = kind_of_letter letter
+kind_of (letter ∷ other ∷ rest) = None
 
 abbrev pub both : {A B : Type 0} → Option A → Option B → Option (A × B)
 both None b = None

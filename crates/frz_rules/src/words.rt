@@ -21,24 +21,13 @@ pub fn colour(w: &[u8]) -> Option<Colour>
     }
 }
 
-/// One of the letters K Q R B N P.
+/// The kind of a word of one letter: K, Q, R, B, N or P.
 pub fn kind(w: &[u8]) -> Option<Kind>
     ensures { result ≡ kind_of w.now }
 {
-    if is_word(w, b"K") {
-        Some(Kind::King)
-    } else if is_word(w, b"Q") {
-        Some(Kind::Queen)
-    } else if is_word(w, b"R") {
-        Some(Kind::Rook)
-    } else if is_word(w, b"B") {
-        Some(Kind::Bishop)
-    } else if is_word(w, b"N") {
-        Some(Kind::Knight)
-    } else if is_word(w, b"P") {
-        Some(Kind::Pawn)
-    } else {
-        None
+    match w {
+        [letter] => Kind::of_letter(*letter),
+        _ => None,
     }
 }
 

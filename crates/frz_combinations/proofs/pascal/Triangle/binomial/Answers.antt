@@ -1,6 +1,6 @@
-use Rattle.std.proofs.Common.{◌≡◌, ◌<◌, length, ◌∙◌, ap, arith, get_or, [], sym}
+use Rattle.std.proofs.Common.{◌≡◌, ◌<◌, length, ◌∙◌, ap, arith, get_or, []}
 use Rattle.std.proofs.lemmas.List.{get_or_default}
-use Rattle.frz_combinations.specs.Binomials.{capped, choose}
+use Rattle.frz_combinations.specs.Binomials.{choose}
 use Rattle.frz_combinations.proofs.Pascals.{choose-one}
 use Rattle.frz_combinations.proofs.Rows.{row_at}
 use Rattle.frz_combinations.proofs.pascal.Triangle.binomial.Goals as goal
