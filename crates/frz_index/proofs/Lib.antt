@@ -12,3 +12,6 @@ pub mod Membership
 pub mod Charting
 pub mod Counting
 pub mod RoomForMen
+pub mod DigitByDigit
+pub mod RadixProducts
+pub mod FormerNumbers

@@ -87,7 +87,7 @@ of_valid p v =
     and_from (are_cells p.cells) (is_ok (validity_of p)) (fit_cells p.cells v.fits)
     (validity_tests p true true true true false v.kings v.pawns v.men v.target v.safe)
 
-men_of : (gs : List GroupLine) (p : Board) → are_men_covered gs p ≡ true → (s : ℕ) → s < 64 →
+pub men_of : (gs : List GroupLine) (p : Board) → are_men_covered gs p ≡ true → (s : ℕ) → s < 64 →
     slice_index p.cells s ≢ 0 → has_state gs (slice_index p.cells s) s ≡ true
 unfolding are_men_covered
 men_of gs p h s l some =
@@ -96,7 +96,7 @@ men_of gs p h s l some =
       | inr c ↦ c
     ]
 
-of_men : (gs : List GroupLine) (p : Board) →
+pub of_men : (gs : List GroupLine) (p : Board) →
     ((s : ℕ) → s < 64 → slice_index p.cells s ≢ 0 → has_state gs (slice_index p.cells s) s ≡ true) →
     are_men_covered gs p ≡ true
 unfolding are_men_covered

@@ -155,11 +155,16 @@ passed_possible gs p m c t h =
     )
 
 -- the target of a position of the set is possible
-pub target_possible : (gs : List GroupLine) (p : Board) → Member gs p → (t : ℕ) → p.ep ≡ Some t →
-    (list_any (λ y. t == y) (targets gs) ≡ true) × (mover_at_target t ≡ p.turn)
+pub target_place : (gs : List GroupLine) (p : Board) → Member gs p → (t : ℕ) → p.ep ≡ Some t →
+    (t < 64) × (is_possible gs t ≡ true) × (mover_at_target t ≡ p.turn)
 unfolding has_target_in_place
-target_possible gs p m t e =
+target_place gs p m t e =
     let stands : is_passed p (other_of p.turn) t ≡ true = ap (target_stands p) (sym e) ∙ m.valid.target in
     let f = passed_possible gs p m (other_of p.turn) t stands in
     let mover = mover_is p.turn t f.0 in
-    (is_target_in gs t mover.1 (possible_from gs (other_of p.turn) t f.1), mover.0)
+    (mover.1, possible_from gs (other_of p.turn) t f.1, mover.0)
+
+pub target_possible : (gs : List GroupLine) (p : Board) → Member gs p → (t : ℕ) → p.ep ≡ Some t →
+    (list_any (λ y. t == y) (targets gs) ≡ true) × (mover_at_target t ≡ p.turn)
+target_possible gs p m t e =
+    let at = target_place gs p m t e in (is_target_in gs t at.0 at.1, at.2)

@@ -6,3 +6,5 @@ pub mod Candidates
 pub mod Charts
 pub mod Kept
 pub mod Room
+pub mod OldNumbers
+pub mod OldDigits

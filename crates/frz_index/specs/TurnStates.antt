@@ -3,7 +3,7 @@ use Rattle.std.specs.Prelude.{ℕ, zero, suc, Option, None, Some, List, [], ◌�
 use Rattle.std.specs.List.{slice_get}
 use Rattle.frz_board.specs.declared.man.Colour.{Colour}
 use Rattle.frz_board.specs.declared.man.Colour.TheVariants.{White, Black}
-use Rattle.frz_board.specs.Squares.{rank_of}
+use Rattle.frz_board.specs.Ranks.{is_passing_rank}
 use Rattle.frz_sets.specs.Views.{GroupLine}
 use Rattle.frz_sets.specs.Sets.{targets}
 
@@ -22,9 +22,9 @@ turn_among ts Black None = 1
 abbrev pub turn_number : List GroupLine → Colour → Option ℕ → ℕ
 turn_number gs c target = turn_among (targets gs) c target
 
--- who is to move where t is the target: Black over rank 3, White over rank 6
+-- who is to move where t is the target: Black where White's pawns pass over it, else White
 abbrev pub mover_at_target : ℕ → Colour
-mover_at_target t = if rank_of t == 2 then Black else White
+mover_at_target t = if is_passing_rank White t then Black else White
 
 abbrev pub target_state : Option ℕ → Colour × Option ℕ
 target_state None = (White, None)

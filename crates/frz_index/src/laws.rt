@@ -9,6 +9,7 @@ ghost use Rattle.frz_index.specs.TurnStates.{turn_number};
 ghost use Rattle.frz_index.specs.Members.{HasNumber, Member, Num};
 ghost use Rattle.frz_index.specs.Membership.{is_member, number_of, position_at};
 ghost use Rattle.frz_index.specs.Candidates.{candidate};
+ghost use Rattle.frz_index.specs.OldNumbers.{OldNum, old_size_of};
 
 /// The number of a position of a set is below the size, and no other position has it. It starts with
 /// the turn state, is multiplied by each group's radix in order, and the group's digit is added.
@@ -30,4 +31,12 @@ pub fn membership()
         (number_of gs p ≡ Some i) ↔ HasNumber gs i p }
     ensures position { (gs : List GroupLine) (i : ℕ) (p : Board) →
         (position_at gs i ≡ Some p) ↔ HasNumber gs i p }
+{}
+
+/// The number of a position of the set in the former format is below that format's size, and no
+/// other position has it.
+pub fn old_numbers()
+    ensures below { (gs : List GroupLine) (p : Board) → Member gs p → OldNum gs p < old_size_of gs }
+    ensures once { (gs : List GroupLine) (p q : Board) → Member gs p → Member gs q →
+        OldNum gs p ≡ OldNum gs q → p ≡ q }
 {}

@@ -7,10 +7,12 @@ mod digit;
 mod digits;
 mod known;
 pub mod laws;
+mod old;
 mod placing;
 mod plan;
 mod room;
 mod set;
 mod turn;
 
+pub use old::{MOST_OLD_NUMBERS, old_number, old_size};
 pub use set::Set;

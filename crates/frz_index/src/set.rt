@@ -1,5 +1,5 @@
 //! The set of positions that the groups of some rules describe.
-ghost use Rattle.std.specs.Prelude.{◌≡◌, ◌↔◌, ◌≤◌, IfOk, IfSome, IsNone, IsSome, IsTrue, MatchOption, None, Some};
+ghost use Rattle.std.specs.Prelude.{◌≡◌, ◌↔◌, ◌<◌, ◌≤◌, IfOk, IfSome, IsNone, IsSome, IsTrue, MatchOption, None, Some};
 ghost use Rattle.frz_board.specs.Boards.{Board};
 ghost use Rattle.frz_fide.specs.Valid.{IsValid};
 ghost use Rattle.frz_sets.specs.Sets.{size_of, targets};
@@ -83,6 +83,15 @@ fn candidate_in(plan: &Plan, i: u32) -> Bitboards
     p
 }
 
+/// The side to move of a number's turn state.
+fn mover_in(plan: &Plan, i: u32) -> Colour
+    requires { IsPlan plan.now }
+    ensures { result ≡ (candidate plan.now.groups.items i).turn }
+{
+    let (turn, _) = turn_at(&plan.targets, i / plan.whole);
+    turn
+}
+
 impl Set {
     /// The set of the rules' groups.
     pub fn new(alloc: Global, r: &Rules) -> Result<Set, NoMemory>
@@ -152,6 +161,15 @@ impl Set {
         ensures function { result ≡ number_of self.now p.now }
     {
         number_in(&self.plan, p)
+    }
+
+    /// The side to move of the number's turn state: where the number is not broken, that of its
+    /// position.
+    pub fn mover(&self, i: u32) -> Colour
+        requires { i < size_of self.now }
+        ensures turn { (p : Board) → HasNumber self.now i p → p.turn ≡ result }
+    {
+        mover_in(&self.plan, i)
     }
 
     fn candidate(&self, i: u32) -> Bitboards

@@ -33,10 +33,11 @@ pub(crate) fn turn_number(targets: &[u8], turn: Colour, target: Option<Square>) 
     }
 }
 
-fn mover_at(t: u8) -> Colour
+/// Who is to move where this is the target: the side whose pawns do not pass over it.
+fn mover_at(t: Square) -> Colour
     ensures { result ≡ mover_at_target t }
 {
-    if t / 8 == 2 {
+    if t.is_passing_rank(Colour::White) {
         Colour::Black
     } else {
         Colour::White
@@ -49,7 +50,10 @@ fn turn_of_target(target: Option<u8>) -> (Colour, Option<Square>)
 {
     match target {
         None => (Colour::White, None),
-        Some(t) => (mover_at(t), Some(Square::at(t))),
+        Some(t) => {
+            let target = Square::at(t);
+            (mover_at(target), Some(target))
+        }
     }
 }
 

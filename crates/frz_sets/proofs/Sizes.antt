@@ -50,6 +50,10 @@ held_times x c =
       | inr w ↦ times_large x c w.1
     ]
 
+pub capped_times : (x c : ℕ) → capped (capped x * c) ≡ capped (x * c)
+unfolding held
+capped_times x c = held_times x c
+
 -- the ways with l men and n - 1 numbers of men more
 choices_last : (s l n : ℕ) → choices s l (suc n) ≡ choices s l n + choose s (l + n)
 choices_last s l zero = let e : l + 0 ≡ l = omega arith in omega (arith, ap (choose s) e)

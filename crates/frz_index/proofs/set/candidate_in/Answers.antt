@@ -1,5 +1,4 @@
 use Rattle.std.proofs.Common.{sym, subst, All, ◌<◌, ◌∙◌}
-use Rattle.frz_index.proofs.AtNumbers.{candidate_made}
 use Rattle.frz_index.proofs.KnownCells.{targets_low, whole_some}
 use Rattle.frz_index.proofs.set.candidate_in.Goals as goal
 

@@ -1,5 +1,5 @@
 use Rattle.std.proofs.Common.{◌≡◌, Some, sym, subst}
-use Rattle.std.specs.Prelude.{◌↔◌, IfSome, IsNone}
+use Rattle.std.specs.Prelude.{◌↔◌, IsNone}
 use Rattle.frz_board.specs.Boards.{Board}
 use Rattle.frz_fide.specs.Valid.{IsValid}
 use Rattle.frz_index.specs.Members.{Broken, HasNumber}
