@@ -1,2 +1,2 @@
-pub mod FreeCodes
-pub mod LocalCodes
+mod FreeCodes
+mod LocalCodes

@@ -1,5 +1,5 @@
-//! A restricted game over numbers, as solvers see it: what each number is, its moves, their codes, and
-//! the local code.
+//! A restricted game over numbers, as solvers see it: what each number is, its moves, their codes,
+//! and the local code.
 #![tactic(auto)]
 
 mod arm;

@@ -1,5 +1,7 @@
 //! The lists that a solver keeps.
 
+ghost use Rattle.std.specs.Prelude.{◌≡◌, []};
+
 use crate::arm::NextList;
 use crate::entries::CodeList;
 use frz_fide::MoveList;
@@ -15,7 +17,12 @@ pub struct Lists {
 
 impl Lists {
     /// Empty lists.
-    pub fn new() -> Lists {
+    pub fn new() -> Lists
+        ensures moves { result.moves.items ≡ [] }
+        ensures nexts { result.nexts.items ≡ [] }
+        ensures codes { result.codes.items ≡ [] }
+        ensures free { result.free.items ≡ [] }
+    {
         Lists {
             moves: MoveList::new(),
             nexts: NextList::new(),

@@ -32,7 +32,8 @@ pub fn local_by(
     free: &mut CodeList,
 ) -> u64
     requires { length list.now.items ≡ length codes.now.items }
-    ensures { result ≡ node_code side node (free_among list.now.items codes.now.items) codes.now.items }
+    ensures { result ≡
+        node_code side node (free_among list.now.items codes.now.items) codes.now.items }
 {
     put_free_codes(list, codes, free);
     local_code(side, node, free.as_slice(), codes.as_slice())
@@ -41,7 +42,8 @@ pub fn local_by(
 /// The local code of the side at a number of this kind, whose moves have these codes for the side.
 pub fn local(side: Colour, node: Node, list: &NextList, codes: &CodeList) -> u64
     requires { length list.now.items ≡ length codes.now.items }
-    ensures { result ≡ node_code side node (free_among list.now.items codes.now.items) codes.now.items }
+    ensures { result ≡
+        node_code side node (free_among list.now.items codes.now.items) codes.now.items }
 {
     let mut free = CodeList::new();
     local_by(side, node, list, codes, &mut free)

@@ -56,7 +56,8 @@ pub fn local_at<G: NumberedGame<L>, E: Entries, L: Ledger>(
     requires sound { G.sound game.now }
     requires inside { i < G.count game.now }
     requires many { length (E.codes entries.now side) ≡ G.count game.now }
-    ensures code { result ≡ local_code (G.arena game.now) side (λ k. slice_index (E.codes entries.now side) k) i }
+    ensures code { result ≡
+        local_code (G.arena game.now) side (λ k. slice_index (E.codes entries.now side) k) i }
     ensures step { steps.new ≤ steps.old + 1 }
     ensures later { steps.old ≤ steps.new }
 {

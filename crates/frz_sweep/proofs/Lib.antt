@@ -1,4 +1,4 @@
-pub mod NextTold
-pub mod Reached
-pub mod ExitLags
-pub mod BoundCodes
+mod NextTold
+mod Reached
+mod ExitLags
+mod BoundCodes

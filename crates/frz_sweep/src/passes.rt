@@ -88,7 +88,8 @@ pub fn solve<G: NumberedGame<L>, L: Ledger>(
 ) -> Result<Vec<u32>, NoMemory>
     requires { G.sound game.now }
     ensures many { IfOk result (λ codes. length codes.items ≡ G.count game.now) }
-    ensures codes { IfOk result (λ codes. (i : ℕ) → IsCodeAt (G.arena game.now) side i (slice_index codes.items i)) }
+    ensures codes { IfOk result (λ codes. (i : ℕ) →
+        IsCodeAt (G.arena game.now) side i (slice_index codes.items i)) }
     ensures later { steps.old ≤ steps.new }
 {
     let size = game.size() as usize;

@@ -27,7 +27,8 @@ fn settled<G: NumberedGame<L>, L: Ledger>(
     requires few { ply ≤ 1000000000 }
     requires inside { i < G.count game.now }
     requires many { length codes.now ≡ G.count game.now }
-    ensures code { result ≡ settled_code ply (local_code (G.arena game.now) side (λ k. slice_index codes.now k) i) }
+    ensures code { result ≡
+        settled_code ply (local_code (G.arena game.now) side (λ k. slice_index codes.now k) i) }
     ensures later { steps.old ≤ steps.new }
 {
     let code = local_at(game, side, i, &OneSide { codes }, lists, steps);
@@ -52,8 +53,10 @@ fn settle<G: NumberedGame<L>, L: Ledger>(
     requires few { ply ≤ 1000000000 }
     requires inside { i < G.count game.now }
     requires many { length codes.old ≡ G.count game.now }
-    requires before { (p : ℕ) → p < i → IsTold (G.arena game.now) side (ply + 1) p (slice_index codes.old p) }
-    requires after { (p : ℕ) → i ≤ p → IsTold (G.arena game.now) side ply p (slice_index codes.old p) }
+    requires before { (p : ℕ) → p < i →
+        IsTold (G.arena game.now) side (ply + 1) p (slice_index codes.old p) }
+    requires after { (p : ℕ) → i ≤ p →
+        IsTold (G.arena game.now) side ply p (slice_index codes.old p) }
     ensures told { IsTold (G.arena game.now) side (ply + 1) i (slice_index codes.new i) }
     ensures others { (p : ℕ) → p ≢ i → slice_index codes.new p ≡ slice_index codes.old p }
     ensures same { result ≡ false → codes.new ≡ codes.old }

@@ -21,7 +21,8 @@ pub fn sweep<B: ExitBook, L: Ledger>(
     steps: &mut Steps<L>,
 ) -> Result<Vec<u32>, NoMemory>
     requires { IsSound game.now.rules.now }
-    ensures table { IfOk result (λ codes. IsTableOf game.now.rules.now (B.value_at game.now.book.now) side codes.items) }
+    ensures table { IfOk result (λ codes.
+        IsTableOf game.now.rules.now (B.value_at game.now.book.now) side codes.items) }
     ensures later { steps.old ≤ steps.new }
 {
     solve(alloc, game, side, steps)
