@@ -13,7 +13,7 @@ use Rattle.frz_arena.specs.declared.bound.Bound.TheVariants.{Wins, Holds}
 use Rattle.frz_arena.specs.Chess.{NeverForcesMate}
 use Rattle.frz_arena.specs.Codes.{code_of}
 use Rattle.frz_arena.specs.Tables.{IsExact}
-use Rattle.frz_arena.proofs.Lemmas.{forced_fails, never_both, exact_is_table, table_is_exact, plies_small, table_exists}
+use Rattle.frz_arena.proofs.Lemmas.{forced_fails, never_both, exact_is_table, table_is_exact, plies_small, table_exists, one_table}
 use Rattle.frz_game.specs.Games.{chess, game_of, arena_by, graph_by}
 use Rattle.frz_game.specs.Numbers.{numbers_by}
 use Rattle.frz_game.specs.Bounds.{IsBoundAt, IsTableOf}
@@ -39,6 +39,11 @@ pub table_there : (rules : RuleLines) (value : Board → Value) → HasSmallLags
     (side : Colour) → (codes : List ℕ) × IsTableOf rules value side codes
 table_there rules value small side =
     table_exists (numbers_by rules.groups) (arena_by rules value) (numbering rules value) (lawful rules value) side 1000 (lags rules value small side)
+
+pub table_one : (rules : RuleLines) (value : Board → Value) (side : Colour) (codes others : List ℕ) →
+    IsTableOf rules value side codes → IsTableOf rules value side others → codes ≡ others
+table_one rules value side =
+    one_table (numbers_by rules.groups) (arena_by rules value) (numbering rules value) side
 
 pub plies_few : (rules : RuleLines) (value : Board → Value) → HasSmallLags value →
     (side : Colour) (codes : List ℕ) → IsTableOf rules value side codes → (i : ℕ) →

@@ -61,8 +61,11 @@ from_place f (x ∷ xs) zero y e = (x, refl, same_Some (f x) y e)
 from_place f (x ∷ xs) (suc k) y e = from_place f xs k y e
 
 -- a move that leads to a number leads to the position of that number
-number_inside : (rules : RuleLines) (value : Board → Value) (q : Board) (v : Value) (n : ℕ) (o : Option ℕ) → number_of rules.groups q ≡ o →
-    named_next (name_in (numbers_by rules.groups)) (next_by (is_member rules.groups q) q v) ≡ Inside n → number_of rules.groups q ≡ Some n
+number_inside :
+    (rules : RuleLines) (value : Board → Value) (q : Board) (v : Value) (n : ℕ) (o : Option ℕ) →
+    number_of rules.groups q ≡ o →
+    named_next (name_in (numbers_by rules.groups)) (next_by (is_member rules.groups q) q v) ≡ Inside n →
+    number_of rules.groups q ≡ Some n
 number_inside rules value q v n None e h = absurd (let k = next_outside rules.groups q v e in cc)
 number_inside rules value q v n (Some m) e h =
     (let k = next_inside rules.groups q v m e in let same : m ≡ n = cc in e ∙ ap Some same)

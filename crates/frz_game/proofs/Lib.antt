@@ -6,3 +6,4 @@ mod TrueValues
 mod Bounded
 mod DifferentArms
 mod NoExits
+mod Meaning

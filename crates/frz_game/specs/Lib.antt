@@ -3,3 +3,4 @@ pub mod Games
 pub mod Values
 pub mod SmallLags
 pub mod Bounds
+pub mod Meaning

@@ -1,5 +1,6 @@
 //! The laws of the game over numbers, by idea. Each is the contract of a function that does nothing.
 
 pub mod exits;
+pub mod meaning;
 pub mod numbers;
 pub mod tables;

@@ -1,8 +1,4 @@
-use Rattle.frz_arena.proofs.Lemmas.{one_table}
-use Rattle.frz_game.specs.Games.{arena_by}
-use Rattle.frz_game.specs.Numbers.{numbers_by}
-use Rattle.frz_game.proofs.Graph.{numbering}
-use Rattle.frz_game.proofs.Bounded.{exact_table, table_exact, table_there, plies_few, stored_bound}
+use Rattle.frz_game.proofs.Bounded.{exact_table, table_exact, table_there, table_one, plies_few, stored_bound}
 use Rattle.frz_game.proofs.laws.tables.tables.Goals as goal
 
 pub returns-clause-table : goal.returns-clause-table
@@ -15,8 +11,7 @@ pub returns-clause-there : goal.returns-clause-there
 returns-clause-there c = table_there
 
 pub returns-clause-one : goal.returns-clause-one
-returns-clause-one c rules value =
-    one_table (numbers_by rules.groups) (arena_by rules value) (numbering rules value)
+returns-clause-one c = table_one
 
 pub returns-clause-plies : goal.returns-clause-plies
 returns-clause-plies c = plies_few
