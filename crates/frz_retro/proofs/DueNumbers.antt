@@ -9,7 +9,8 @@ use Rattle.frz_board.specs.declared.man.Colour.{Colour}
 use Rattle.frz_arena.specs.declared.node.Node.TheVariants.{Broken, Going}
 use Rattle.frz_retro.proofs.CodeFacts.{of_some}
 use Rattle.frz_retro.proofs.WorkFacts.{room_for}
-use Rattle.frz_retro.proofs.PassSteps.{node_cases, due_skips, due_settles}
+use Rattle.frz_retro.proofs.PassToPass.{node_cases}
+use Rattle.frz_retro.proofs.DueSteps.{due_skips, due_settles}
 
 module _ {B : Shape} {side : Colour} {k mid : ℕ} {done : ℕ → ℕ → Bool} {E C L Q : List ℕ} {tail : ℕ} (i : ℕ) (w : Work B side k mid (bar_at k i) done E C L Q tail) where
   pub due_settled : get_or E i 0 ≢ 1 → Work B side k mid (bar_at k (i + 1)) done E C L Q tail

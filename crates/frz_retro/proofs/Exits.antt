@@ -1,5 +1,5 @@
 -- Each way on from a pair.
-use Rattle.std.proofs.Common.{◌≡◌, ℕ, Bool, true, false, not, ◌+◌, ◌-◌, ◌<◌, ◌≤◌, List, sym, ◌∙◌, ap, arith, inl, inr, get_or, set, length}
+use Rattle.std.proofs.Common.{◌≡◌, ℕ, Bool, true, false, not, ◌+◌, ◌-◌, ◌<◌, ◌≤◌, List, sym, ◌∙◌, ap, arith, inl, inr, get_or, set, length, Some}
 use Rattle.std.proofs.lemmas.Bool.{true≢false}
 use Rattle.frz_board.specs.Men.{same_colour}
 use Rattle.frz_retro.specs.Kinds.{is_of}
@@ -7,16 +7,27 @@ use Rattle.frz_retro.specs.Shape.{Shape, IsGraph, In, counts_for}
 use Rattle.frz_retro.specs.Work.{Work, Meeting, Meets, bar_at}
 use Rattle.frz_board.specs.declared.man.Colour.{Colour}
 use Rattle.frz_arena.specs.declared.node.Node.TheVariants.{Going}
-use Rattle.frz_retro.specs.Graphs.{Arm}
+use Rattle.frz_retro.specs.Graphs.{Arm, mover_of}
 use Rattle.frz_unmove.specs.declared.preds.Pred.{Pred}
 use Rattle.frz_retro.proofs.CodeFacts.{of_some}
-use Rattle.frz_retro.proofs.WorkFacts.{going_at, meet_uncounted, meet_decides, meet_last, meet_less, meet_waits, room_for}
+use Rattle.frz_retro.proofs.Laws.{mover_is}
+use Rattle.frz_retro.proofs.Meetings.{going_at, meet_uncounted, meet_decides, meet_last, meet_less, meet_waits}
+use Rattle.frz_retro.proofs.WorkFacts.{room_for}
 
 -- what the calls of the graph have told
 pub record Told (B : Shape) (side : Colour) (p : Pred) (own counted : Bool) : Type 0 where
   pub own_is : (c : Colour) → B.arena.node p.number ≡ Going c → own ≡ same_colour c side
   pub counted_is : (a : Arm) → In a (B.arena.arms p.number) → a.mv ≡ p.mv →
       counted ≡ counts_for own a
+
+pub told_from : (B : Shape) (side : Colour) (p : Pred) (own counted : Bool) (mover : Colour) →
+    mover_of (B.arena.node p.number) ≡ Some mover → own ≡ same_colour mover side →
+    ((a : Arm) → In a (B.arena.arms p.number) → a.mv ≡ p.mv → counted ≡ counts_for own a) →
+    Told B side p own counted
+told_from B side p own counted mover moves own_is counted_is = record {
+  own_is = λ c n. own_is ∙ ap (λ x. same_colour x side) (mover_is moves c n);
+  counted_is = counted_is;
+}
 
 module _ {B : Shape} {side : Colour} {k mid : ℕ} {done : ℕ → ℕ → Bool} {E C L Q : List ℕ} {tail q : ℕ} {p : Pred} (g : IsGraph B) (m : Meeting B side k mid done E C L Q tail q p) (own counted : Bool) (told : Told B side p own counted) where
   going : (c : Colour) × (B.arena.node p.number ≡ Going c)

@@ -1,7 +1,6 @@
 -- The moves of a number of some rules, from the legal moves of its position.
 use Rattle.std.proofs.Common.{◌≡◌, ◌≢◌, ◌↔◌, ℕ, ◌⊎◌, Bool, true, false, List, [], ◌∷◌, map, Option, Some, None, refl, sym, ◌∙◌, ap, subst, inl, inr}
 use Rattle.std.specs.List.{Contains}
-use Rattle.std.proofs.lemmas.Bool.{cases_Bool}
 use Rattle.frz_board.specs.declared.man.Colour.{Colour}
 use Rattle.frz_board.specs.Boards.{Board}
 use Rattle.frz_board.specs.Moving.{Step, IsStep}
@@ -21,7 +20,7 @@ use Rattle.frz_index.specs.Members.{Member, Num, HasNumber}
 use Rattle.frz_game.specs.Games.{arena_by, graph_by, game_of}
 use Rattle.frz_game.specs.Numbers.{is_member, number_of, position_at, numbers_by}
 use Rattle.frz_unmove.specs.Pairs.{LeadsTo}
-use Rattle.frz_retro.specs.Graphs.{Arm, Next, IsMoveTo, mover_of}
+use Rattle.frz_retro.specs.Graphs.{Arm, IsMoveTo, mover_of}
 use Rattle.frz_retro.specs.Shape.{In}
 use Rattle.frz_retro.proofs.Laws.{contains_in, in_contains}
 

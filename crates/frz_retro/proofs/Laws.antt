@@ -1,5 +1,5 @@
 -- What the laws of a graph give the solver.
-use Rattle.std.proofs.Common.{◌≡◌, ◌≢◌, ◌↔◌, ℕ, zero, suc, ◌<◌, List, [], ◌∷◌, length, get_or, Option, Some, None, refl, sym, ◌∙◌, ap, subst, inl, inr, arith}
+use Rattle.std.proofs.Common.{◌≡◌, ◌↔◌, ℕ, zero, suc, ◌<◌, List, [], ◌∷◌, length, get_or, Some, refl, sym, ◌∙◌, ap, inl, inr, arith}
 use Rattle.std.specs.List.{Contains, slice_get}
 use Rattle.std.proofs.lemmas.Bool.{cases_lt}
 use Rattle.std.proofs.lemmas.Option.{same_Some, slice_get_within, get_or_from_slice_get}
@@ -8,13 +8,13 @@ use Rattle.frz_board.specs.Moving.{Step}
 use Rattle.frz_sets.specs.declared.exit.Value.{Value}
 use Rattle.frz_arena.specs.Arena.{Arena, IsArm}
 use Rattle.frz_arena.specs.declared.node.Node.{Node}
-use Rattle.frz_arena.specs.declared.node.Node.TheVariants.{Broken, Going}
+use Rattle.frz_arena.specs.declared.node.Node.TheVariants.{Going}
 use Rattle.frz_arena.specs.declared.arm.Next.TheVariants.{Inside, Outside}
 use Rattle.frz_graph.specs.Finite.{IsFinite}
 use Rattle.frz_unmove.specs.declared.preds.Pred.{Pred}
 use Rattle.frz_unmove.specs.Pairs.{HaveDifferentNumbers}
 use Rattle.frz_retro.specs.Graphs.{Arm, Next, IsMoveTo, HasDifferentArms, mover_of}
-use Rattle.frz_retro.specs.Shape.{In, Apart, Differ, AreShort, IsGraph, Leads, ArePreds, shape_of}
+use Rattle.frz_retro.specs.Shape.{In, Apart, Differ, AreShort, IsGraph, ArePreds, shape_of}
 
 -- the place of what is among a list
 pub place_in : {X : Type 0} (xs : List X) (x : X) → In x xs → (k : ℕ) × (slice_get xs k ≡ Some x)

@@ -1,5 +1,5 @@
 -- What settles a number gives its local code.
-use Rattle.std.proofs.Common.{◌≡◌, ◌≢◌, ℕ, ◌+◌, ◌≤◌, ◌⊎◌, Bool, true, false, not, List, [], ◌∷◌, slice_index, refl, sym, ◌∙◌, ap, ap₂, inl, inr, arith}
+use Rattle.std.proofs.Common.{◌≡◌, ℕ, ◌+◌, ◌≤◌, Bool, true, false, not, List, [], ◌∷◌, slice_index, refl, sym, ◌∙◌, ap, ap₂, inl, inr, arith}
 use Rattle.std.proofs.lemmas.Bool.{cases_Bool}
 use Rattle.frz_board.specs.declared.man.Colour.{Colour}
 use Rattle.frz_board.specs.declared.man.Colour.TheVariants.{White, Black}
@@ -11,7 +11,7 @@ use Rattle.frz_arena.specs.Codes.{exit_code}
 use Rattle.frz_arena.specs.LocalCodes as local
 use Rattle.frz_arena.specs.declared.arm.Next.TheVariants.{Inside, Outside}
 use Rattle.frz_exits.specs.Values.{class_of, lag_of}
-use Rattle.frz_graph.specs.EntryCodes.{arm_code, next_code}
+use Rattle.frz_graph.specs.EntryCodes.{next_code}
 use Rattle.frz_retro.specs.Graphs.{Arm, Next}
 use Rattle.frz_retro.specs.Kinds.{is_of}
 use Rattle.frz_retro.specs.Shape.{In, counts_for}

@@ -5,3 +5,4 @@ pub mod Shape
 pub mod State
 pub mod Beginning
 pub mod Work
+pub mod Tallies

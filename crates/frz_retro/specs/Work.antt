@@ -1,13 +1,11 @@
 -- The lists of the workshop, within and between passes.
 use Rattle.std.specs.Prelude.{◌≡◌, ◌≢◌, ℕ, zero, suc, ◌+◌, ◌*◌, ◌<◌, ◌≤◌, ◌^◌, Bool, true, false, not, cond, nat_lt, ◌==◌, ◌&&◌, ◌||◌, List, [], ◌∷◌, length, get_or}
 use Rattle.std.specs.List.{list_any}
-use Rattle.frz_retro.specs.Shape.{Shape, In, Leads, ArePreds}
+use Rattle.frz_retro.specs.Shape.{Shape, Leads, ArePreds}
 use Rattle.frz_retro.specs.State.{State}
 use Rattle.frz_retro.specs.Beginning.{IsBegun}
 use Rattle.frz_board.specs.declared.man.Colour.{Colour}
 use Rattle.frz_arena.specs.declared.node.Node.TheVariants.{Going}
-use Rattle.frz_arena.specs.declared.arm.Next.TheVariants.{Inside}
-use Rattle.frz_retro.specs.Graphs.{Arm}
 use Rattle.frz_unmove.specs.declared.preds.Pred.{Pred}
 
 -- how many entries are 1

@@ -1,13 +1,12 @@
 //! Pass 0: what each number is by itself.
 
 ghost use Rattle.std.specs.Prelude.{◌≡◌, ◌≢◌, ℕ, ◌+◌, ◌<◌, ◌≤◌, length, slice_index};
-ghost use Rattle.frz_retro.specs.Shape.{shape_of};
-ghost use Rattle.frz_retro.specs.Work.{Begun, Sized};
+ghost use Rattle.frz_retro.specs.Tallies.{HasBegun};
 
 use crate::graph::Graph;
 use crate::kinds::{is_same, mate_code};
-use crate::settling::settle;
 use crate::start::{later_of, start_of};
+use crate::tally::Tally;
 use frz_arena::Node;
 use frz_board::Colour;
 use frz_graph::Lists;
@@ -18,95 +17,58 @@ use std::sync::ledger::Ledger;
 pub fn begin<G: Graph<L>, L: Ledger>(
     graph: &G,
     side: Colour,
-    codes: &mut [u32],
-    counts: &mut [u32],
-    queue: &mut [u32],
-    later: &mut [u32],
-    tail: usize,
     i: u32,
+    tally: &mut Tally,
     lists: &mut Lists,
     steps: &mut Steps<L>,
-) -> usize
+)
     requires sound { G.sound graph.now }
-    requires inside { i < (G.count graph.now) }
-    requires begun { Begun (shape_of (G.arena graph.now) (G.count graph.now)) side i codes.old
-        counts.old later.old queue.old tail }
-    ensures begun { Begun (shape_of (G.arena graph.now) (G.count graph.now)) side (i + 1) codes.new
-        counts.new later.new queue.new result }
-    ensures short { slice_index later.new i ≤ 2004 }
-    ensures others { (j : ℕ) → j ≢ i → slice_index later.new j ≡ slice_index later.old j }
+    requires inside { i < G.count graph.now }
+    requires begun { HasBegun (G.arena graph.now) (G.count graph.now) side i tally.old }
+    ensures begun { HasBegun (G.arena graph.now) (G.count graph.now) side (i + 1) tally.new }
+    ensures short { slice_index tally.new.later i ≤ 2004 }
+    ensures others { (j : ℕ) → j ≢ i →
+        slice_index tally.new.later j ≡ slice_index tally.old.later j }
     ensures cost { steps.new ≤ steps.old + 1 }
+    ensures later { steps.old ≤ steps.new }
 {
-    let node = graph.nexts_by(i, lists, steps);
-    match node {
-        Node::Broken => {
-            codes[i as usize] = 0;
-            tail
-        },
-        Node::Stalemate(_) => tail,
-        Node::Mate(c) => {
-            let code = mate_code(c, side);
-            settle(codes, queue, tail, i, code)
-        },
+    match graph.nexts_by(i, lists, steps) {
+        Node::Broken => tally.set_broken(i),
+        Node::Stalemate(_) => (),
+        Node::Mate(c) => tally.settle(i, mate_code(c, side)),
         Node::Going(c) => {
-            let own = is_same(c, side);
-            let s = start_of(own, side, lists.nexts.as_slice());
-            if s.any {
-                counts[i as usize] = s.count;
-                later[i as usize] = later_of(s);
-                tail
+            let start = start_of(is_same(c, side), side, lists.nexts.as_slice());
+            if start.any {
+                tally.set_open(i, start.count, later_of(start));
             } else {
-                settle(codes, queue, tail, i, 3)
+                tally.settle(i, 3);
             }
         },
     }
 }
 
-/// Every entry is 1, and no number is due.
-pub fn reset(codes: &mut [u32], later: &mut [u32])
-    ensures codes { (i : ℕ) → i < length codes.old → slice_index codes.new i ≡ 1 }
-    ensures later { (i : ℕ) → i < length later.old → slice_index later.new i ≡ 0 }
-{
-    for c in codes.iter_mut() {
-        *c = 1;
-    }
-    for d in later.iter_mut() {
-        *d = 0;
-    }
-}
-
-/// All numbers begin. The answer is how many stand in the queue, and the last due code.
+/// All numbers begin. The answer is the last due code.
 pub fn begin_all<G: Graph<L>, L: Ledger>(
     graph: &G,
     side: Colour,
-    codes: &mut [u32],
-    counts: &mut [u32],
-    queue: &mut [u32],
-    later: &mut [u32],
-    size: u32,
+    tally: &mut Tally,
     lists: &mut Lists,
     steps: &mut Steps<L>,
-) -> (usize, u32)
+) -> u32
     requires sound { G.sound graph.now }
-    requires size { size ≡ (G.count graph.now) }
-    requires sized { Sized size codes.old counts.old later.old queue.old }
-    ensures begun { Begun (shape_of (G.arena graph.now) (G.count graph.now)) side size codes.new
-        counts.new later.new queue.new result.0 }
-    ensures last { (i : ℕ) → i < size → slice_index later.new i ≤ result.1 }
-    ensures short { result.1 ≤ 2004 }
-    ensures cost { steps.new ≤ steps.old + size }
+    requires size { length tally.old.codes ≡ G.count graph.now }
+    ensures begun { HasBegun (G.arena graph.now) (G.count graph.now) side (G.count graph.now)
+        tally.new }
+    ensures last { (i : ℕ) → i < G.count graph.now → slice_index tally.new.later i ≤ result }
+    ensures short { result ≤ 2004 }
+    ensures cost { steps.new ≤ steps.old + G.count graph.now }
+    ensures later { steps.old ≤ steps.new }
 {
-    reset(codes, later);
-    let mut tail = 0;
+    tally.reset();
     let mut last = 0;
-    for i in 0..size {
-        tail = begin(
-            graph, side, codes, counts, queue, later, tail, i, lists, steps,
-        );
-        let due = later[i as usize];
-        if due > last {
-            last = due;
-        }
+    for i in 0..graph.size() {
+        begin(graph, side, i, tally, lists, steps);
+        last = tally.later(i).max(last);
     }
-    (tail, last)
+    last
 }

@@ -1,12 +1,11 @@
 //! Numbers that settle by their exits, in the pass in which these are due.
 
-ghost use Rattle.std.specs.Prelude.{◌≡◌, ℕ, Bool, ◌+◌, ◌<◌, ◌≤◌, slice_index};
-ghost use Rattle.frz_retro.specs.Shape.{shape_of};
-ghost use Rattle.frz_retro.specs.Work.{Work, bar_at};
+ghost use Rattle.std.specs.Prelude.{◌≡◌, ℕ, ◌+◌, ◌<◌, ◌≤◌, slice_index};
+ghost use Rattle.frz_retro.specs.Tallies.{Grows, IsInPass, LooksAt};
 
 use crate::graph::Graph;
 use crate::kinds::{is_kind, is_same};
-use crate::settling::settle;
+use crate::tally::Tally;
 use frz_board::Colour;
 use std::sync::ledger::Ledger;
 
@@ -15,76 +14,48 @@ pub fn settle_if_due<G: Graph<L>, L: Ledger>(
     graph: &G,
     side: Colour,
     k: u32,
-    codes: &mut [u32],
-    counts: &[u32],
-    queue: &mut [u32],
-    later: &[u32],
-    tail: usize,
     i: u32,
-) -> usize
+    tally: &mut Tally,
+)
     requires sound { G.sound graph.now }
-    requires inside { i < (G.count graph.now) }
-    requires work { (mid : ℕ) × (done : ℕ → ℕ → Bool)
-        × Work (shape_of (G.arena graph.now) (G.count graph.now)) side k mid (bar_at k i) done
-        codes.old counts.now later.now queue.old tail }
-    ensures kept { (mid : ℕ) (done : ℕ → ℕ → Bool) →
-        Work (shape_of (G.arena graph.now) (G.count graph.now)) side k mid (bar_at k i) done
-        codes.old counts.now later.now queue.old tail →
-        Work (shape_of (G.arena graph.now) (G.count graph.now)) side k mid (bar_at k (i + 1)) done
-        codes.new counts.now later.now queue.new result }
-    ensures front { (t : ℕ) → t < tail → slice_index queue.new t ≡ slice_index queue.old t }
-    ensures tail { tail ≤ result }
+    requires inside { i < G.count graph.now }
+    requires work { IsInPass (G.arena graph.now) (G.count graph.now) side k i tally.old }
+    ensures kept { LooksAt (G.arena graph.now) (G.count graph.now) side k i (i + 1) tally.old
+        tally.new }
+    ensures queue { Grows tally.old tally.new }
 {
-    let code = later[i as usize];
-    if codes[i as usize] != 1 {
-        return tail;
+    let code = tally.later(i);
+    if tally.code(i) != 1 {
+        return;
     }
     if code < 2 * k + 2 {
-        return tail;
+        return;
     }
     if code >= 2 * k + 4 {
-        return tail;
+        return;
     }
     let own = is_same(graph.mover(i), side);
     if is_kind(own, code) {
-        return settle(codes, queue, tail, i, code);
+        tally.settle(i, code);
+        return;
     }
-    if counts[i as usize] > 0 {
-        return tail;
+    if tally.count(i) > 0 {
+        return;
     }
-    settle(codes, queue, tail, i, code)
+    tally.settle(i, code);
 }
 
 /// The numbers whose exits are due in this pass settle.
-pub fn settle_due<G: Graph<L>, L: Ledger>(
-    graph: &G,
-    side: Colour,
-    k: u32,
-    codes: &mut [u32],
-    counts: &[u32],
-    queue: &mut [u32],
-    later: &[u32],
-    tail: usize,
-    size: u32,
-) -> usize
+pub fn settle_due<G: Graph<L>, L: Ledger>(graph: &G, side: Colour, k: u32, tally: &mut Tally)
     requires sound { G.sound graph.now }
-    requires size { size ≡ (G.count graph.now) }
-    requires work { (mid : ℕ) × (done : ℕ → ℕ → Bool)
-        × Work (shape_of (G.arena graph.now) (G.count graph.now)) side k mid (bar_at k 0) done
-        codes.old counts.now later.now queue.old tail }
-    ensures kept { (mid : ℕ) (done : ℕ → ℕ → Bool) →
-        Work (shape_of (G.arena graph.now) (G.count graph.now)) side k mid (bar_at k 0) done
-        codes.old counts.now later.now queue.old tail →
-        Work (shape_of (G.arena graph.now) (G.count graph.now)) side k mid (bar_at k size) done
-        codes.new counts.now later.now queue.new result }
-    ensures front { (t : ℕ) → t < tail → slice_index queue.new t ≡ slice_index queue.old t }
-    ensures tail { tail ≤ result }
+    requires work { IsInPass (G.arena graph.now) (G.count graph.now) side k 0 tally.old }
+    ensures kept { LooksAt (G.arena graph.now) (G.count graph.now) side k 0 (G.count graph.now)
+        tally.old tally.new }
+    ensures queue { Grows tally.old tally.new }
 {
-    let mut end = tail;
-    for i in 0..size {
-        end = settle_if_due(graph, side, k, codes, counts, queue, later, end, i);
+    for i in 0..graph.size() {
+        settle_if_due(graph, side, k, i, tally);
     }
-    end
 }
 
 /// The same, with no look at the numbers once all due passes are over.
@@ -92,30 +63,18 @@ pub fn settle_late<G: Graph<L>, L: Ledger>(
     graph: &G,
     side: Colour,
     k: u32,
-    codes: &mut [u32],
-    counts: &[u32],
-    queue: &mut [u32],
-    later: &[u32],
-    tail: usize,
-    size: u32,
     last: u32,
-) -> usize
+    tally: &mut Tally,
+)
     requires sound { G.sound graph.now }
-    requires size { size ≡ (G.count graph.now) }
-    requires last { (i : ℕ) → i < size → slice_index later.now i ≤ last }
-    requires work { (mid : ℕ) × (done : ℕ → ℕ → Bool)
-        × Work (shape_of (G.arena graph.now) (G.count graph.now)) side k mid (bar_at k 0) done
-        codes.old counts.now later.now queue.old tail }
-    ensures kept { (mid : ℕ) (done : ℕ → ℕ → Bool) →
-        Work (shape_of (G.arena graph.now) (G.count graph.now)) side k mid (bar_at k 0) done
-        codes.old counts.now later.now queue.old tail →
-        Work (shape_of (G.arena graph.now) (G.count graph.now)) side k mid (bar_at k size) done
-        codes.new counts.now later.now queue.new result }
-    ensures front { (t : ℕ) → t < tail → slice_index queue.new t ≡ slice_index queue.old t }
-    ensures tail { tail ≤ result }
+    requires last { (i : ℕ) → i < G.count graph.now → slice_index tally.old.later i ≤ last }
+    requires work { IsInPass (G.arena graph.now) (G.count graph.now) side k 0 tally.old }
+    ensures kept { LooksAt (G.arena graph.now) (G.count graph.now) side k 0 (G.count graph.now)
+        tally.old tally.new }
+    ensures queue { Grows tally.old tally.new }
 {
     if last < 2 * k + 2 {
-        return tail;
+        return;
     }
-    settle_due(graph, side, k, codes, counts, queue, later, tail, size)
+    settle_due(graph, side, k, tally);
 }

@@ -1,6 +1,8 @@
 //! The game of some rules as a graph.
 
 ghost use Rattle.std.specs.Prelude.{◌≡◌};
+ghost use Rattle.std.specs.List.{list_any};
+ghost use Rattle.frz_board.specs.Men.{same_colour};
 ghost use Rattle.frz_sets.specs.Sets.{size_of};
 ghost use Rattle.frz_sets.specs.Sound.{IsSound};
 ghost use Rattle.frz_game.specs.Games.{graph_by};
@@ -14,9 +16,17 @@ use frz_exits::{ExitBook, allowed};
 use frz_game::Game;
 use frz_game::laws::numbers::{different_arms, numbered};
 use frz_graph::{Lists, NumberedGame};
+use frz_sets::Rules;
 use frz_steps::Steps;
 use frz_unmove::{Preds, unmoves};
 use std::sync::ledger::Ledger;
+
+/// Whether a forbid line of the rules is the side's.
+fn is_restricted(rules: &Rules, side: Colour) -> bool
+    ensures { result ≡ list_any (λ line. same_colour line.colour side) rules.now.forbids }
+{
+    rules.forbids.iter().any(|line| line.colour == side)
+}
 
 /// The restricted game of rules, with its moves taken back.
 #[derive_where(Clone, Copy)]
@@ -68,14 +78,15 @@ impl<B: ExitBook, L: Ledger> Graph<L> for GameGraph<'_, B> {
 
     fn mover(&self, i: u32) -> Colour {
         game_moves();
-        match self.game.set.boards_at(i) {
-            Some(p) => p.turn(),
-            None => unreachable!(),
-        }
+        self.game.set.mover(i)
     }
 
     fn free(&self, i: u32, mv: Move) -> bool {
         game_moves();
+        let mover = self.game.set.mover(i);
+        if !is_restricted(self.game.rules, mover) {
+            return true;
+        }
         match self.game.set.boards_at(i) {
             Some(p) => allowed(self.game.rules, p.turn(), p.as_position(), mv),
             None => unreachable!(),

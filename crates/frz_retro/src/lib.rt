@@ -11,8 +11,8 @@ mod local;
 mod meeting;
 mod moves;
 mod passes;
-mod settling;
 mod start;
+mod tally;
 mod workshop;
 
 pub use game_graph::GameGraph;

@@ -1,129 +1,99 @@
 //! The passes.
 
-ghost use Rattle.std.specs.Prelude.{◌≡◌, ℕ, ◌+◌, ◌-◌, ◌*◌, ◌<◌, ◌≤◌, slice_index};
-ghost use Rattle.frz_arena.specs.LocalCodes.{local_code};
-ghost use Rattle.frz_retro.specs.Shape.{shape_of};
+ghost use Rattle.std.specs.Prelude.{◌≡◌, ℕ, ◌+◌, ◌-◌, ◌*◌, ◌<◌, ◌≤◌, length, slice_index};
 ghost use Rattle.frz_arena.specs.Tables.{IsExact};
-ghost use Rattle.frz_retro.specs.Work.{Work, Begun, Sized, bar_at, done_in};
+ghost use Rattle.frz_retro.specs.Tallies.{HasBegun, InPass};
+ghost use Rattle.frz_retro.specs.Work.{done_in};
 
 use crate::beginning::begin_all;
 use crate::due::settle_late;
 use crate::graph::Graph;
 use crate::local::local_codes;
 use crate::meeting::go_through;
+use crate::tally::Tally;
 use frz_board::Colour;
 use frz_graph::Lists;
 use frz_steps::Steps;
 use frz_unmove::Preds;
 use std::sync::ledger::Ledger;
 
-/// One pass: what its due numbers and the numbers of the pass before settle.
+/// One pass: what its due numbers and the numbers of the pass before settle. Those stand in the
+/// queue from the head on.
 pub fn pass<G: Graph<L>, L: Ledger>(
     graph: &G,
     side: Colour,
     k: u32,
-    codes: &mut [u32],
-    counts: &mut [u32],
-    queue: &mut [u32],
-    later: &[u32],
     head: usize,
-    tail: usize,
-    size: u32,
     last: u32,
+    tally: &mut Tally,
     preds: &mut Preds,
     steps: &mut Steps<L>,
-) -> usize
+)
     requires sound { G.sound graph.now }
-    requires size { size ≡ (G.count graph.now) }
-    requires head { head ≤ tail }
-    requires last { (i : ℕ) → i < size → slice_index later.now i ≤ last }
-    requires work { Work (shape_of (G.arena graph.now) (G.count graph.now)) side k tail (bar_at k 0)
-        (done_in queue.old head) codes.old counts.old later.now queue.old tail }
-    ensures kept { Work (shape_of (G.arena graph.now) (G.count graph.now)) side k tail
-        (bar_at k size) (done_in queue.new tail) codes.new counts.new later.now queue.new result }
-    ensures tail { tail ≤ result }
-    ensures cost { steps.new ≡ steps.old + (tail - head) }
+    requires head { head ≤ tally.old.tail }
+    requires last { (i : ℕ) → i < G.count graph.now → slice_index tally.old.later i ≤ last }
+    requires work { InPass (G.arena graph.now) (G.count graph.now) side k 0 tally.old.tail
+        (done_in tally.old.queue head) tally.old }
+    ensures kept { InPass (G.arena graph.now) (G.count graph.now) side k (G.count graph.now)
+        tally.old.tail (done_in tally.new.queue tally.old.tail) tally.new }
+    ensures tail { tally.old.tail ≤ tally.new.tail }
+    ensures exits { tally.new.later ≡ tally.old.later }
+    ensures cost { steps.new ≡ steps.old + (tally.old.tail - head) }
 {
-    let mut end = settle_late(
-        graph, side, k, codes, counts, queue, later, tail, size, last,
-    );
-    for at in head..tail {
-        let q = queue[at];
+    let end = tally.tail();
+    settle_late(graph, side, k, last, tally);
+    for at in head..end {
+        let q = tally.queued(at);
         graph.preds(q, preds, steps);
-        end = go_through(
-            graph,
-            side,
-            codes,
-            counts,
-            queue,
-            later,
-            end,
-            q,
-            preds.items(),
-        );
+        go_through(graph, side, q, preds.items(), tally);
     }
-    end
 }
 
 /// All passes, from the numbers that begin settled.
 pub fn passes<G: Graph<L>, L: Ledger>(
     graph: &G,
     side: Colour,
-    codes: &mut [u32],
-    counts: &mut [u32],
-    queue: &mut [u32],
-    later: &[u32],
-    first: usize,
     last: u32,
-    size: u32,
+    tally: &mut Tally,
     preds: &mut Preds,
     steps: &mut Steps<L>,
 )
     requires sound { G.sound graph.now }
-    requires size { size ≡ (G.count graph.now) }
-    requires begun { Begun (shape_of (G.arena graph.now) (G.count graph.now)) side size codes.old
-        counts.old later.now queue.old first }
-    requires last { (i : ℕ) → i < size → slice_index later.now i ≤ last }
+    requires begun { HasBegun (G.arena graph.now) (G.count graph.now) side (G.count graph.now)
+        tally.old }
+    requires last { (i : ℕ) → i < G.count graph.now → slice_index tally.old.later i ≤ last }
     requires short { last ≤ 2004 }
-    ensures local { (i : ℕ) → i < size →
-        slice_index codes.new i
-        ≡ local_code (G.arena graph.now) side (λ k. slice_index codes.new k) i }
-    ensures cost { steps.new ≤ steps.old + size }
+    ensures exact { IsExact (G.arena graph.now) side (G.count graph.now) tally.new.codes }
+    ensures cost { steps.new ≤ steps.old + G.count graph.now }
+    ensures later { steps.old ≤ steps.new }
 {
     local_codes();
     let mut head = 0;
-    let mut tail = first;
+    let mut tail = tally.tail();
     let mut k = 0;
     'passes: while head < tail || 2 * k + 4 <= last {
         k += 1;
-        let end = pass(
-            graph, side, k, codes, counts, queue, later, head, tail, size, last, preds, steps,
-        );
+        pass(graph, side, k, head, last, tally, preds, steps);
         head = tail;
-        tail = end;
+        tail = tally.tail();
     }
 }
 
-/// Solves the game for the side, in lists that are as long as the numbers are many.
+/// Solves the game for the side, in a tally of its size.
 pub fn solve<G: Graph<L>, L: Ledger>(
     graph: &G,
     side: Colour,
-    codes: &mut [u32],
-    counts: &mut [u32],
-    queue: &mut [u32],
-    later: &mut [u32],
+    tally: &mut Tally,
     lists: &mut Lists,
     preds: &mut Preds,
     steps: &mut Steps<L>,
 )
     requires sound { G.sound graph.now }
-    requires sized { Sized (G.count graph.now) codes.old counts.old later.old queue.old }
-    ensures exact { IsExact (G.arena graph.now) side (G.count graph.now) codes.new }
+    requires size { length tally.old.codes ≡ G.count graph.now }
+    ensures exact { IsExact (G.arena graph.now) side (G.count graph.now) tally.new.codes }
     ensures cost { steps.new ≤ steps.old + 2 * G.count graph.now }
+    ensures later { steps.old ≤ steps.new }
 {
-    let size = graph.size();
-    let (first, last) = begin_all(graph, side, codes, counts, queue, later, size, lists, steps);
-    passes(
-        graph, side, codes, counts, queue, later, first, last, size, preds, steps,
-    );
+    let last = begin_all(graph, side, tally, lists, steps);
+    passes(graph, side, last, tally, preds, steps);
 }

@@ -1,6 +1,6 @@
 //! The lists of the solver, and a run over them.
 
-ghost use Rattle.std.specs.Prelude.{◌≡◌, ◌+◌, ◌*◌, ◌≤◌, length, vec_len, IfOk};
+ghost use Rattle.std.specs.Prelude.{◌≡◌, ◌+◌, ◌*◌, ◌≤◌, length, IfOk};
 ghost use Rattle.frz_sets.specs.Sets.{size_of};
 ghost use Rattle.frz_sets.specs.Sound.{IsSound};
 ghost use Rattle.frz_arena.specs.Tables.{IsExact};
@@ -9,6 +9,7 @@ ghost use Rattle.frz_game.specs.Bounds.{IsTableOf};
 use crate::game_graph::GameGraph;
 use crate::graph::Graph;
 use crate::passes::solve;
+use crate::tally::Tally;
 use frz_board::{Colour, NoMemory};
 use frz_exits::ExitBook;
 use frz_game::Game;
@@ -24,34 +25,17 @@ use std::sync::ledger::Ledger;
 /// sides in turn, and any game of its size.
 #[derive(Drop)]
 pub struct Workshop {
-    codes: Vec<u32>,
-    counts: Vec<u32>,
-    queue: Vec<u32>,
-    later: Vec<u32>,
+    tally: Tally,
     lists: Lists,
     preds: Preds,
 }
 
 impl Model for Workshop {
-    ghost use Rattle.std.specs.Prelude.{List, ℕ, ◌≡◌, vec_len, vec_items};
+    ghost use Rattle.std.specs.Prelude.{List, ℕ};
 
     ghost Value = { List ℕ };
 
-    ghost view = { λ w. vec_items w.codes };
-
-    ghost invariant = { λ w. (vec_len w.counts ≡ vec_len w.codes)
-        × (vec_len w.queue ≡ vec_len w.codes)
-        × (vec_len w.later ≡ vec_len w.codes) };
-}
-
-/// A list of so many zeros.
-fn zeros(alloc: Global, size: u32) -> Result<Vec<u32>, NoMemory>
-    ensures { IfOk result (λ list. vec_len list ≡ size) }
-{
-    match vec![in alloc; 0; size as usize] {
-        Ok(list) => Ok(list),
-        Err(_) => Err(NoMemory),
-    }
+    ghost view = { λ w. w.tally.codes };
 }
 
 impl Workshop {
@@ -61,10 +45,7 @@ impl Workshop {
         ensures { IfOk result (λ w. length w ≡ size) }
     {
         Ok(Workshop {
-            codes: zeros(alloc, size)?,
-            counts: zeros(alloc, size)?,
-            queue: zeros(alloc, size)?,
-            later: zeros(alloc, size)?,
+            tally: Tally::new(alloc, size)?,
             lists: Lists::new(),
             preds: Preds::new(alloc)?,
         })
@@ -77,14 +58,12 @@ impl Workshop {
         requires size { length self.old ≡ G.count graph.now }
         ensures exact { IsExact (G.arena graph.now) side (G.count graph.now) self.new }
         ensures cost { steps.new ≤ steps.old + 2 * G.count graph.now }
+        ensures later { steps.old ≤ steps.new }
     {
         solve(
             graph,
             side,
-            &mut self.codes,
-            &mut self.counts,
-            &mut self.queue,
-            &mut self.later,
+            &mut self.tally,
             &mut self.lists,
             &mut self.preds,
             steps,
@@ -103,6 +82,7 @@ impl Workshop {
         requires size { length self.old ≡ size_of game.now.rules.now.groups }
         ensures table { IsTableOf game.now.rules.now (B.value_at game.now.book.now) side self.new }
         ensures cost { steps.new ≤ steps.old + 2 * size_of game.now.rules.now.groups }
+        ensures later { steps.old ≤ steps.new }
     {
         tables();
         self.run(&GameGraph::new(game), side, steps);
@@ -112,6 +92,6 @@ impl Workshop {
     pub fn entries(&self) -> &[u32]
         ensures { result.now ≡ self.now }
     {
-        self.codes.as_slice()
+        self.tally.codes()
     }
 }

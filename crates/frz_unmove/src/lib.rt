@@ -10,6 +10,3 @@ mod unmoving;
 
 pub use preds::{Pred, Preds};
 pub use unmoving::unmoves;
-
-#[cfg(test)]
-mod tests;

@@ -1,12 +1,12 @@
 use Rattle.std.proofs.Common.{ℕ, ◌<◌, ◌≤◌, ◌+◌, get_or}
-use Rattle.frz_retro.specs.Shape.{shape_of}
-use Rattle.frz_retro.specs.Work.{Begun}
+use Rattle.frz_retro.specs.Tallies.{HasBegun}
 use Rattle.frz_retro.proofs.beginning.begin_all.Given as goal
 
 abbrev pub invariant-loop-i : goal.invariant-loop-i
 invariant-loop-i g l = record {
-  begun : Begun (shape_of (g.G.NumberedGame.arena l.graph) (g.G.NumberedGame.count l.graph)) l.side l.i l.codes l.counts l.later l.queue l.tail;
-  last : (j : ℕ) → j < l.i → get_or l.later j 0 ≤ l.last;
+  begun : HasBegun (g.G.NumberedGame.arena l.graph) (g.G.NumberedGame.count l.graph) l.side l.i l.tally;
+  last : (j : ℕ) → j < l.i → get_or l.tally.later j 0 ≤ l.last;
   short : l.last ≤ 2004;
   cost : l.steps ≤ l.fn.steps + l.i;
+  later : l.fn.steps ≤ l.steps;
 }

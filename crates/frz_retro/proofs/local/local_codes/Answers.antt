@@ -1,4 +1,4 @@
-use Rattle.std.proofs.Common.{◌≡◌, ℕ, Bool, true, false, not, List, slice_index, refl, sym, ◌∙◌, ap, inl, inr}
+use Rattle.std.proofs.Common.{◌≡◌, ℕ, true, false, not, slice_index, refl, sym, ◌∙◌, ap, inl}
 use Rattle.std.proofs.lemmas.Bool.{true≢false}
 use Rattle.frz_board.specs.Men.{same_colour, other_of}
 use Rattle.frz_arena.specs.declared.node.Node.TheVariants.{Going}
@@ -6,8 +6,6 @@ use Rattle.frz_arena.specs.LocalCodes as local
 use Rattle.frz_graph.specs.EntryCodes.{arm_code}
 use Rattle.frz_retro.specs.Graphs.{Arm}
 use Rattle.frz_retro.specs.Kinds.{is_of}
-use Rattle.frz_retro.specs.Shape.{In, counts_for}
-use Rattle.frz_retro.specs.State.{Held}
 use Rattle.frz_retro.proofs.CodeFacts.{as_win, of_win, as_failure, of_failure}
 use Rattle.frz_retro.proofs.Laws.{contains_in, in_contains}
 use Rattle.frz_retro.proofs.Settled.{Rules, settled_by, held_by, by_turn, nothing_in, same_code}

@@ -1,61 +1,59 @@
-use Rattle.std.proofs.Common.{◌≡◌, ◌||◌, ◌==◌, get_or, refl, sym, subst, arith}
-use Rattle.frz_retro.specs.Shape.{shape_of}
-use Rattle.frz_retro.specs.Shape.{ArePreds}
+use Rattle.std.proofs.Common.{◌≡◌, ◌<◌, ◌||◌, ◌==◌, get_or, refl, sym, subst, arith}
+use Rattle.frz_retro.specs.Shape.{shape_of, ArePreds}
+use Rattle.frz_retro.specs.Tallies.{AreComing, InPass}
+use Rattle.frz_retro.specs.Work.{bar_at, done_by, done_in}
 use Rattle.frz_retro.proofs.Laws.{are_preds}
-use Rattle.frz_retro.specs.Work.{Work, Coming, bar_at, done_by, done_in}
-use Rattle.frz_retro.proofs.PassSteps.{work_done, done_by_same, coming_from, came}
+use Rattle.frz_retro.proofs.WorkFacts.{work_done}
+use Rattle.frz_retro.proofs.QueueFront.{done_by_same, coming_from, came}
+use Rattle.frz_retro.proofs.Tallies.{grows_on}
 use Rattle.frz_retro.proofs.passes.pass.Goals as goal
 
 pub loop-at-init : goal.loop-at-init
-loop-at-init g c = record {
-  kept =
-      let B = shape_of (g.G.NumberedGame.arena c.args.graph.now) (g.G.NumberedGame.count c.args.graph.now) in
-      work_done B c.args.side c.args.k c.args.tail (bar_at c.args.k c.args.size) (done_in c.args.queue.now c.args.head) (done_in c.settle_late-end.new.queue c.args.head) c.settle_late-end.new.codes c.args.counts.now c.args.later.now c.settle_late-end.new.queue c.settle_late-end.result
-      (c.settle_late-end.ensures.kept c.args.tail (done_in c.args.queue.now c.args.head) c.requires.work)
-      (λ i q. done_by_same c.args.queue.now c.settle_late-end.new.queue c.args.head q (λ t l. let h = c.requires.head in c.settle_late-end.ensures.front t (omega (arith, l, h))));
-  tail = c.settle_late-end.ensures.tail;
-  cost = omega arith;
-}
+loop-at-init g c =
+    let t = c.args.tally.now in
+    let u = c.settle_late.new.tally in
+    record {
+      kept =
+          work_done (shape_of (g.G.NumberedGame.arena c.args.graph.now) (g.G.NumberedGame.count c.args.graph.now)) c.args.side c.args.k t.tail (bar_at c.args.k (g.G.NumberedGame.count c.args.graph.now)) (done_in t.queue c.args.head) (done_in u.queue c.args.head) u.codes u.counts u.later u.queue u.tail
+          (c.settle_late.ensures.kept t.tail (done_in t.queue c.args.head) c.requires.work)
+          (λ i q. done_by_same t.queue u.queue c.args.head q (λ j l. let h = c.requires.head in c.settle_late.ensures.queue.2 j (omega (arith, l, h))));
+      queue = c.settle_late.ensures.queue;
+      cost = omega arith;
+    }
 
-pub go_through-end-requires-clause-coming : goal.go_through-end-requires-clause-coming
-go_through-end-requires-clause-coming g c = (
-  c.args.k,
-  c.args.tail,
-  done_in c.loop-at.queue c.loop-at.at,
-  coming_from (shape_of (g.G.NumberedGame.arena c.args.graph.now) (g.G.NumberedGame.count c.args.graph.now)) c.args.side c.args.k c.args.tail c.loop-at.at c.loop-at.codes c.loop-at.counts c.args.later.now c.loop-at.queue c.loop-at.end c.items.result.now
-      (subst (λ n. Work (shape_of (g.G.NumberedGame.arena c.args.graph.now) (g.G.NumberedGame.count c.args.graph.now)) c.args.side c.args.k c.args.tail (bar_at c.args.k n) (done_in c.loop-at.queue c.loop-at.at) c.loop-at.codes c.loop-at.counts c.args.later.now c.loop-at.queue c.loop-at.end) c.requires.size c.loop-at.invariant.kept)
-      c.loop-at-test.true
-      (subst (λ xs. ArePreds (shape_of (g.G.NumberedGame.arena c.args.graph.now) (g.G.NumberedGame.count c.args.graph.now)) (get_or c.loop-at.queue c.loop-at.at 0) xs) (sym c.items.ensures) (are_preds (g.met.G.NumberedGame.finite c.args.graph.now c.requires.sound) c.preds.ensures.all c.preds.ensures.once)),
-)
+pub go_through-requires-clause-coming : goal.go_through-requires-clause-coming
+go_through-requires-clause-coming g c =
+    let t = c.loop-at.tally in
+    let q : c.queued-q.result ≡ get_or t.queue c.loop-at.at 0 = c.queued-q.ensures in
+    let within : c.loop-at.at < c.args.tally.now.tail = let e = c.tail-end.ensures in let h = c.loop-at-test.true in omega (arith, e, h) in (
+      c.args.k,
+      c.args.tally.now.tail,
+      done_in t.queue c.loop-at.at,
+      (subst (λ r. AreComing (g.G.NumberedGame.arena c.args.graph.now) (g.G.NumberedGame.count c.args.graph.now) c.args.side c.args.k c.args.tally.now.tail (done_in t.queue c.loop-at.at) t r c.items.result.now) (sym q)
+          (coming_from (shape_of (g.G.NumberedGame.arena c.args.graph.now) (g.G.NumberedGame.count c.args.graph.now)) c.args.side c.args.k c.args.tally.now.tail c.loop-at.at t.codes t.counts t.later t.queue t.tail c.items.result.now c.loop-at.invariant.kept within
+          (subst (λ r. ArePreds (shape_of (g.G.NumberedGame.arena c.args.graph.now) (g.G.NumberedGame.count c.args.graph.now)) r c.items.result.now) q (subst (ArePreds (shape_of (g.G.NumberedGame.arena c.args.graph.now) (g.G.NumberedGame.count c.args.graph.now)) c.queued-q.result) (sym c.items.ensures) (are_preds (g.met.G.NumberedGame.finite c.args.graph.now c.requires.sound) c.preds.ensures.all c.preds.ensures.once))))),
+    )
 
 pub loop-at-preserved : goal.loop-at-preserved
-loop-at-preserved g c = record {
-  kept =
-      let B = shape_of (g.G.NumberedGame.arena c.args.graph.now) (g.G.NumberedGame.count c.args.graph.now) in
-      let q = get_or c.loop-at.queue c.loop-at.at 0 in
-      let coming : Coming B c.args.side c.args.k c.args.tail (done_in c.loop-at.queue c.loop-at.at) c.loop-at.codes c.loop-at.counts c.args.later.now c.loop-at.queue c.loop-at.end q c.items.result.now =
-      coming_from B c.args.side c.args.k c.args.tail c.loop-at.at c.loop-at.codes c.loop-at.counts c.args.later.now c.loop-at.queue c.loop-at.end c.items.result.now
-      (subst (λ n. Work B c.args.side c.args.k c.args.tail (bar_at c.args.k n) (done_in c.loop-at.queue c.loop-at.at) c.loop-at.codes c.loop-at.counts c.args.later.now c.loop-at.queue c.loop-at.end) c.requires.size c.loop-at.invariant.kept)
-      c.loop-at-test.true
-      (subst (λ xs. ArePreds B q xs) (sym c.items.ensures) (are_preds (g.met.G.NumberedGame.finite c.args.graph.now c.requires.sound) c.preds.ensures.all c.preds.ensures.once)) in
-      let after = c.go_through-end.ensures.kept c.args.k c.args.tail (done_in c.loop-at.queue c.loop-at.at) (λ _ r. done_by c.loop-at.queue c.loop-at.at r || (q == r)) coming (λ i r. refl) in
-      let x = c.loop-at.invariant.tail in
-      let l = c.loop-at-test.true in
-      came B c.args.side c.args.k c.args.tail c.loop-at.at (bar_at c.args.k c.args.size) c.go_through-end.new.codes c.go_through-end.new.counts c.args.later.now c.loop-at.queue c.go_through-end.new.queue c.go_through-end.result
-      (subst (λ n. Work B c.args.side c.args.k c.args.tail (bar_at c.args.k n) (λ _ r. done_by c.loop-at.queue c.loop-at.at r || (q == r)) c.go_through-end.new.codes c.go_through-end.new.counts c.args.later.now c.go_through-end.new.queue c.go_through-end.result) (sym c.requires.size) after)
-      (λ t h. c.go_through-end.ensures.front t (omega (arith, h, x, l)));
-  tail =
-      let x = c.loop-at.invariant.tail in
-      let y = c.go_through-end.ensures.tail in
-      omega (arith, x, y);
-  cost =
-      let x = c.loop-at.invariant.cost in
-      let y = c.preds.ensures.step in
-      let h = c.loop-at.auto.at in
-      omega (arith, x, y, h);
-}
+loop-at-preserved g c =
+    let t = c.loop-at.tally in
+    let u = c.go_through.new.tally in
+    let q : c.queued-q.result ≡ get_or t.queue c.loop-at.at 0 = c.queued-q.ensures in
+    let within : c.loop-at.at < c.args.tally.now.tail = let e = c.tail-end.ensures in let h = c.loop-at-test.true in omega (arith, e, h) in
+    let grew = c.loop-at.invariant.queue in
+    record {
+      kept =
+          let more = c.go_through.ensures.kept c.args.k c.args.tally.now.tail (done_in t.queue c.loop-at.at) (λ _ r. done_by t.queue c.loop-at.at r || (c.queued-q.result == r)) (subst (λ r. AreComing (g.G.NumberedGame.arena c.args.graph.now) (g.G.NumberedGame.count c.args.graph.now) c.args.side c.args.k c.args.tally.now.tail (done_in t.queue c.loop-at.at) t r c.items.result.now) (sym q)
+          (coming_from (shape_of (g.G.NumberedGame.arena c.args.graph.now) (g.G.NumberedGame.count c.args.graph.now)) c.args.side c.args.k c.args.tally.now.tail c.loop-at.at t.codes t.counts t.later t.queue t.tail c.items.result.now c.loop-at.invariant.kept within
+          (subst (λ r. ArePreds (shape_of (g.G.NumberedGame.arena c.args.graph.now) (g.G.NumberedGame.count c.args.graph.now)) r c.items.result.now) q (subst (ArePreds (shape_of (g.G.NumberedGame.arena c.args.graph.now) (g.G.NumberedGame.count c.args.graph.now)) c.queued-q.result) (sym c.items.ensures) (are_preds (g.met.G.NumberedGame.finite c.args.graph.now c.requires.sound) c.preds.ensures.all c.preds.ensures.once))))) (λ i r. refl) in
+          came (shape_of (g.G.NumberedGame.arena c.args.graph.now) (g.G.NumberedGame.count c.args.graph.now)) c.args.side c.args.k c.args.tally.now.tail c.loop-at.at (bar_at c.args.k (g.G.NumberedGame.count c.args.graph.now)) u.codes u.counts u.later t.queue u.queue u.tail
+          (subst (λ x. InPass (g.G.NumberedGame.arena c.args.graph.now) (g.G.NumberedGame.count c.args.graph.now) c.args.side c.args.k (g.G.NumberedGame.count c.args.graph.now) c.args.tally.now.tail (λ _ r. done_by t.queue c.loop-at.at r || (x == r)) u) q more)
+          (λ j h. let x = grew.1 in c.go_through.ensures.queue.2 j (omega (arith, h, x, within)));
+      queue = grows_on c.args.tally.now t u grew c.go_through.ensures.queue;
+      cost = let x = c.loop-at.invariant.cost in let y = c.preds.ensures.step in let h = c.loop-at.auto.at in omega (arith, x, y, h);
+    }
 
 pub returns-clause-kept : goal.returns-clause-kept
 returns-clause-kept g c =
-    let e : c.loop-at.at ≡ c.args.tail = let h = c.requires.head in let a = c.loop-at.auto.at-end in let b = c.loop-at-test.false in omega (arith, h, a, b) in
-    subst (λ n. Work (shape_of (g.G.NumberedGame.arena c.args.graph.now) (g.G.NumberedGame.count c.args.graph.now)) c.args.side c.args.k c.args.tail (bar_at c.args.k c.args.size) (done_in c.loop-at.queue n) c.loop-at.codes c.loop-at.counts c.args.later.now c.loop-at.queue c.loop-at.end) e c.loop-at.invariant.kept
+    let e : c.loop-at.at ≡ c.args.tally.now.tail = let h = c.requires.head in let t = c.tail-end.ensures in let a = c.loop-at.auto.at-end in let b = c.loop-at-test.false in omega (arith, h, t, a, b) in
+    subst (λ n. InPass (g.G.NumberedGame.arena c.args.graph.now) (g.G.NumberedGame.count c.args.graph.now) c.args.side c.args.k (g.G.NumberedGame.count c.args.graph.now) c.args.tally.now.tail (done_in c.loop-at.tally.queue n) c.loop-at.tally) e c.loop-at.invariant.kept

@@ -1,33 +1,71 @@
-use Rattle.std.proofs.Common.{◌<◌, sym, subst, arith}
+use Rattle.std.proofs.Common.{◌+◌, get_or, List, ℕ, sym, ◌∙◌, ap, refl, subst, arith}
 use Rattle.frz_retro.specs.Shape.{shape_of}
-use Rattle.frz_retro.specs.Work.{Work, Begun, bar_at, done_in}
-use Rattle.frz_retro.proofs.PassSteps.{first_work, pass_begins, all_local, few_passes}
+use Rattle.frz_retro.specs.Tallies.{InPass}
+use Rattle.frz_retro.specs.Work.{done_in}
+use Rattle.frz_retro.proofs.PassToPass.{first_work, pass_begins, all_local, few_passes}
 use Rattle.frz_retro.proofs.passes.passes.Goals as goal
+use Rattle.frz_retro.proofs.passes.passes.Goals.{then-head-tail, else-head-tail+then-k-last}
 
 pub passes-init : goal.passes-init
-passes-init g c = record {
+passes-init g c = let t = c.args.tally.now in record {
   kept =
-      let B = shape_of (g.G.NumberedGame.arena c.args.graph.now) (g.G.NumberedGame.count c.args.graph.now) in
-      subst (λ n. Work B c.args.side 0 0 (bar_at 0 n) (done_in c.args.queue.now 0) c.args.codes.now c.args.counts.now c.args.later.now c.args.queue.now c.args.first) (sym c.requires.size)
-      (first_work B c.args.side c.args.codes.now c.args.counts.now c.args.later.now c.args.queue.now c.args.first
-      (subst (λ n. Begun B c.args.side n c.args.codes.now c.args.counts.now c.args.later.now c.args.queue.now c.args.first) c.requires.size c.requires.begun));
+      first_work (shape_of (g.G.NumberedGame.arena c.args.graph.now) (g.G.NumberedGame.count c.args.graph.now)) c.args.side t.codes t.counts t.later t.queue t.tail c.requires.begun;
+  tail = c.tail-tail.ensures;
+  exits = refl;
   early = omega arith;
   cost = omega arith;
+  later = omega arith;
 }
 
-pub pass-end-requires-clause-work : goal.pass-end-requires-clause-work
-pass-end-requires-clause-work g c =
-    let B = shape_of (g.G.NumberedGame.arena c.args.graph.now) (g.G.NumberedGame.count c.args.graph.now) in
-    let w = subst (λ n. Work B c.args.side c.passes.k c.passes.head (bar_at c.passes.k n) (done_in c.passes.queue c.passes.head) c.passes.codes c.passes.counts c.args.later.now c.passes.queue c.passes.tail) c.requires.size c.passes.invariant.kept in
+pub pass-requires-clause-work : goal.pass-requires-clause-work
+pass-requires-clause-work g c =
+    let t = c.passes.tally in
+    let w = c.passes.invariant.kept in
     let f = few_passes w in
     let small = (g.met.G.NumberedGame.finite c.args.graph.now c.requires.sound).few in
     let early = c.passes.invariant.early in
-    pass_begins B c.args.side c.passes.k c.passes.head c.passes.codes c.passes.counts c.args.later.now c.passes.queue c.passes.tail w (omega (arith, f.0, f.1, small, early))
+    pass_begins (shape_of (g.G.NumberedGame.arena c.args.graph.now) (g.G.NumberedGame.count c.args.graph.now)) c.args.side c.passes.k c.passes.head t.codes t.counts t.later t.queue t.tail w (omega (arith, f.0, f.1, small, early))
 
-pub returns-clause-local : goal.returns-clause-local
-returns-clause-local g c i l =
-    let B = shape_of (g.G.NumberedGame.arena c.args.graph.now) (g.G.NumberedGame.count c.args.graph.now) in
-    let w = subst (λ n. Work B c.args.side c.passes.k c.passes.head (bar_at c.passes.k n) (done_in c.passes.queue c.passes.head) c.passes.codes c.passes.counts c.args.later.now c.passes.queue c.passes.tail) c.requires.size c.passes.invariant.kept in
-    all_local B c.args.side c.passes.k c.passes.head c.passes.head c.passes.codes c.passes.counts c.args.later.now c.passes.queue c.passes.tail (c.local_codes.ensures (g.G.NumberedGame.arena c.args.graph.now) (g.G.NumberedGame.count c.args.graph.now) (g.met.G.NumberedGame.finite c.args.graph.now c.requires.sound) c.args.side c.passes.codes) w c.if-head-tail.false
-    (λ j m. let x = c.requires.last j (subst (λ n. j < n) (sym c.requires.size) m) in let y = c.if-k-last.false in omega (arith, x, y))
-    i (subst (λ n. i < n) c.requires.size l)
+pub pass-requires-clause-last : goal.pass-requires-clause-last
+pass-requires-clause-last g c i l =
+    let e = ap (λ (xs : List ℕ). get_or xs i 0) c.passes.invariant.exits in
+    let h = c.requires.last i l in
+    omega (arith, e, h)
+
+pub passes-preserved : goal.passes-preserved
+passes-preserved g c =
+    let i = c.passes.invariant in
+    let e = i.tail in
+    let f = few_passes i.kept in
+    let cost = c.pass.ensures.cost in
+    record {
+      kept =
+          subst (λ n. InPass (g.G.NumberedGame.arena c.args.graph.now) (g.G.NumberedGame.count c.args.graph.now) c.args.side (c.passes.k + 1) (g.G.NumberedGame.count c.args.graph.now) n (done_in c.pass.new.tally.queue n) c.pass.new.tally) (sym e) c.pass.ensures.kept;
+      tail = c.tail-tail-in-passes.ensures;
+      exits = c.pass.ensures.exits ∙ i.exits;
+      early =
+          let h = i.early in
+          elim c.if-head-tail.branch [
+            | then-head-tail w ↦ let a = w.if-head-tail.true in omega (arith, h, a)
+            | else-head-tail+then-k-last w ↦ let a = w.if-k-last.true in let b = c.requires.short in omega (arith, a, b)
+          ];
+      cost = let h = i.cost in omega (arith, cost, h, e, f.0);
+      later = let h = i.later in omega (arith, cost, h);
+    }
+
+pub returns-clause-exact : goal.returns-clause-exact
+returns-clause-exact g c =
+    let t = c.passes.tally in
+    let w = c.passes.invariant.kept in
+    let e = c.passes.invariant.tail in
+    let a = c.if-head-tail.false in
+    record {
+      many = w.sized.codes;
+      local =
+          all_local (shape_of (g.G.NumberedGame.arena c.args.graph.now) (g.G.NumberedGame.count c.args.graph.now)) c.args.side c.passes.k c.passes.head c.passes.head t.codes t.counts t.later t.queue t.tail (c.local_codes.ensures (g.G.NumberedGame.arena c.args.graph.now) (g.G.NumberedGame.count c.args.graph.now) (g.met.G.NumberedGame.finite c.args.graph.now c.requires.sound) c.args.side t.codes) w (omega (arith, e, a))
+          (λ j m.
+          let same = ap (λ (xs : List ℕ). get_or xs j 0) c.passes.invariant.exits in
+          let x = c.requires.last j m in
+          let y = c.if-k-last.false in
+          omega (arith, same, x, y));
+    }

@@ -1,6 +1,5 @@
-use Rattle.std.proofs.Common.{sym, subst, ◌↔◌, ℕ}
+use Rattle.std.proofs.Common.{sym, subst, ◌↔◌}
 use Rattle.std.specs.List.{Contains}
-use Rattle.frz_board.specs.Moving.{Step}
 use Rattle.frz_index.specs.Members.{HasNumber}
 use Rattle.frz_unmove.specs.Pairs.{LeadsTo}
 use Rattle.frz_retro.proofs.game_graph.GameGraphGraph.preds.Goals as goal

@@ -1,0 +1,172 @@
+//! What the solver keeps of the numbers: their entries, counters and due codes, and the queue of
+//! those that are settled.
+
+ghost use Rattle.std.specs.Prelude.{◌≡◌, ℕ, ◌<◌, length, slice_index, vec_len, IfOk};
+ghost use Rattle.frz_retro.specs.Tallies.{HasSize, broken_at, counted_down, opened, settled};
+
+use frz_board::NoMemory;
+use std::alloc::Global;
+use std::marker::Model;
+
+/// What the solver keeps of the numbers: four lists, each exactly as long as the numbers are many.
+#[derive(Drop)]
+pub struct Tally {
+    /// The entry of each number: 1 while it is open.
+    codes: Vec<u32>,
+    /// For how many arms each open number waits.
+    counts: Vec<u32>,
+    /// The code that the exits of each number give in the end, or 0.
+    later: Vec<u32>,
+    /// The numbers that are settled as wins or failures, in the order of their plies.
+    queue: Vec<u32>,
+    /// How many stand in the queue.
+    tail: usize,
+}
+
+impl Model for Tally {
+    ghost use Rattle.std.specs.Prelude.{◌≡◌, vec_len, vec_items};
+    ghost use Rattle.frz_retro.specs.Tallies.{Tally as Kept};
+
+    ghost Value = { Kept };
+
+    ghost view = { λ t. record {
+      codes = vec_items t.codes;
+      counts = vec_items t.counts;
+      later = vec_items t.later;
+      queue = vec_items t.queue;
+      tail = t.tail;
+    } };
+
+    ghost invariant = { λ t. (vec_len t.counts ≡ vec_len t.codes)
+        × (vec_len t.queue ≡ vec_len t.codes)
+        × (vec_len t.later ≡ vec_len t.codes) };
+}
+
+/// A list of so many zeros.
+fn zeros(alloc: Global, size: u32) -> Result<Vec<u32>, NoMemory>
+    ensures { IfOk result (λ list. vec_len list ≡ size) }
+{
+    match vec![in alloc; 0; size as usize] {
+        Ok(list) => Ok(list),
+        Err(_) => Err(NoMemory),
+    }
+}
+
+/// Each item becomes this one.
+fn fill(list: &mut [u32], item: u32)
+    ensures each { (i : ℕ) → i < length list.old → slice_index list.new i ≡ item }
+{
+    for x in list.iter_mut() {
+        *x = item;
+    }
+}
+
+impl Tally {
+    /// A tally of so many numbers, which takes 16 bytes for each of them.
+    pub fn new(alloc: Global, size: u32) -> Result<Tally, NoMemory>
+        ensures { IfOk result (λ t. length t.codes ≡ size) }
+    {
+        Ok(Tally {
+            codes: zeros(alloc, size)?,
+            counts: zeros(alloc, size)?,
+            later: zeros(alloc, size)?,
+            queue: zeros(alloc, size)?,
+            tail: 0,
+        })
+    }
+
+    /// Every number is open, none has exits that are due, and the queue is empty.
+    pub fn reset(&mut self)
+        ensures codes { (i : ℕ) → i < length self.old.codes → slice_index self.new.codes i ≡ 1 }
+        ensures later { (i : ℕ) → i < length self.old.codes → slice_index self.new.later i ≡ 0 }
+        ensures tail { self.new.tail ≡ 0 }
+        ensures size { HasSize (length self.old.codes) self.new }
+    {
+        fill(&mut self.codes, 1);
+        fill(&mut self.later, 0);
+        self.tail = 0;
+    }
+
+    /// The entries.
+    pub fn codes(&self) -> &[u32]
+        ensures { result.now ≡ self.now.codes }
+    {
+        self.codes.as_slice()
+    }
+
+    /// The entry of a number.
+    pub fn code(&self, i: u32) -> u32
+        requires { i < length self.now.codes }
+        ensures { result ≡ slice_index self.now.codes i }
+    {
+        self.codes[i as usize]
+    }
+
+    /// For how many arms an open number waits.
+    pub fn count(&self, i: u32) -> u32
+        requires { i < length self.now.codes }
+        ensures { result ≡ slice_index self.now.counts i }
+    {
+        self.counts[i as usize]
+    }
+
+    /// The code that the exits of a number give in the end, or 0.
+    pub fn later(&self, i: u32) -> u32
+        requires { i < length self.now.codes }
+        ensures { result ≡ slice_index self.now.later i }
+    {
+        self.later[i as usize]
+    }
+
+    /// How many stand in the queue.
+    pub fn tail(&self) -> usize
+        ensures { result ≡ self.now.tail }
+    {
+        self.tail
+    }
+
+    /// The number at a place of the queue.
+    pub fn queued(&self, at: usize) -> u32
+        requires { at < length self.now.codes }
+        ensures { result ≡ slice_index self.now.queue at }
+    {
+        self.queue[at]
+    }
+
+    /// A number is broken: its entry is 0.
+    pub fn set_broken(&mut self, i: u32)
+        requires { i < length self.old.codes }
+        ensures { self.new ≡ broken_at self.old i }
+    {
+        self.codes[i as usize] = 0;
+    }
+
+    /// An open number waits for so many arms, and its exits give this code in the end.
+    pub fn set_open(&mut self, i: u32, count: u32, later: u32)
+        requires { i < length self.old.codes }
+        ensures { self.new ≡ opened self.old i count later }
+    {
+        self.counts[i as usize] = count;
+        self.later[i as usize] = later;
+    }
+
+    /// A number settles: its code is entered, and it stands at the queue's end.
+    pub fn settle(&mut self, i: u32, code: u32)
+        requires inside { i < length self.old.codes }
+        requires room { self.old.tail < length self.old.queue }
+        ensures { self.new ≡ settled self.old i code }
+    {
+        self.codes[i as usize] = code;
+        self.queue[self.tail] = i;
+        self.tail += 1;
+    }
+
+    /// An open number waits for one arm less.
+    pub fn count_down(&mut self, i: u32)
+        requires inside { i < length self.old.codes }
+        requires some { 0 < slice_index self.old.counts i }
+        ensures { self.new ≡ counted_down self.old i }
+    {
+        self.counts[i as usize] -= 1;
+    }
+}
