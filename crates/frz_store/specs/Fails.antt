@@ -1,5 +1,5 @@
 -- Which calls of an object in memory fail.
-use Rattle.std.specs.Prelude.{ℕ, ◌+◌, ◌-◌, ◌^◌, min, Bool, true, false, ◌&&◌, ◌==◌, List, Option, Some, None, find, take}
+use Rattle.std.specs.Prelude.{ℕ, Bool, true, false, ◌&&◌, ◌==◌, List, Option, Some, None, find, take}
 use Rattle.std.specs.Option.{option_map}
 use Rattle.frz_store.specs.Outside.{counted}
 use Rattle.frz_store.specs.declared.fails.FailOn.{FailOn}

@@ -20,6 +20,16 @@ pub enum StoreFault {
     NoMemory,
 }
 
+impl From<Failed> for StoreFault {
+    ghost use Rattle.frz_store.specs.declared.outside.StoreFault.{StoreFault};
+
+    ghost from_gives = { λ failed fault. fault ≡ StoreFault.Failed };
+
+    fn from(_: Failed) -> StoreFault {
+        StoreFault::Failed
+    }
+}
+
 /// Named files, read at any place and written from front to back, one file at a time. A call that
 /// succeeds leaves the counts of faults and wants.
 pub trait Store {
