@@ -14,12 +14,13 @@ use Rattle.frz_answer.specs.declared.fault.Fault.TheVariants as faults
 use Rattle.frz_answer.specs.declared.end.End.{End}
 use Rattle.frz_answer.specs.declared.end.End.TheVariants.{Done, SinkFault, Stopped}
 use Rattle.frz_answer.specs.Statuses.{OneOf, end_of_fault}
+use Rattle.frz_answer.specs.Texts.{TookText, FailedWithin}
 use Rattle.frz_answer.specs.World.{World, Agrees, Later, Fine, Quiet}
 use Rattle.frz_answer.specs.Answers.{Answer, says, SomeAnswer, held, NoMore}
 use Rattle.frz_answer.specs.Jobs.{Job, Sees, Never, WithinCosts}
-use Rattle.frz_answer.specs.Ends.{MayMeet, MayHaveWritten, WritesOnly, Answered, Ran, Says, Said}
+use Rattle.frz_answer.specs.Ends.{MayMeet, MayHaveWritten, WritesOnly, Ran, Said}
 use Rattle.frz_answer.proofs.Telling.{agreed, drop_none, append_nothing, append_twice}
-use Rattle.frz_answer.proofs.Worlds.{fine_on, only_unwritten, risen_later, given_part}
+use Rattle.frz_answer.proofs.Worlds.{only_unwritten, risen_later, given_part}
 
 -- some files and some input that agree with what is told; what the job does not look at is as it was given
 pub record Found (job : Job) (free_files : Files) (free_input : List ℕ) (old : World) : Type 0 where
@@ -52,6 +53,7 @@ stopped_doing job fault old new later meets only unwritten same doing =
       lines = (record { lines = []; whole = inl refl; text = text }, λ _. same);
       only = only;
       unwritten = unwritten;
+      room = tt;
       answered = λ sees files input agrees.
           let here = doing sees files input agrees in
           let a = here.some.a in record {
@@ -124,21 +126,22 @@ module _ (job : Job) (status : Status) (line : List ℕ) (old mid : World) (out 
   no_more a files left = record { files = λ name. given_part a name old.store.files mid.store.files files; left = (a.taken, omega arith, left) }
 
   -- the line ends the text of an answer, whose files were written and whose input was taken before
-  pub closed : (end : End) → Later old mid → Fine old mid → WritesOnly job.writes old.store mid.store
+  pub closed : (end : End) → Later old mid → Fine old mid → WritesOnly job.writes old.store mid.store → (old.store.room ≡ 0 → mid.store.room ≡ 0)
       → ((MayHaveWritten (Done status) → ⊥) → Unwritten old.store mid.store) → OneOf status job.statuses → Said status line end mid.out out
       → (Sees job.needs.reads old → (files : Files) (input : List ℕ) → Agrees old files input → Closes job status line files input old mid) → Ran job end old (record mid { out = out })
-  closed end later fine only unwritten one said closes = by_end said.says
+  closed end later fine only room unwritten one said closes = by_end said.says
     where
-      later_new : Later old (record mid { out = out })
-      later_new = record { store = later.store; input = later.input; out = (let a = later.out in let b = said.later in omega (arith, a, b)); steps = later.steps }
+      later_new : mid.out.faults ≤ out.faults → Later old (record mid { out = out })
+      later_new more = record { store = later.store; input = later.input; out = (let a = later.out in omega (arith, a, more)); steps = later.steps }
 
-      by_end : Says status line end mid.out out → Ran job end old (record mid { out = out })
+      by_end : ((end ≡ Done status) × TookText line mid.out out) ⊎ ((end ≡ SinkFault) × FailedWithin line mid.out out) → Ran job end old (record mid { out = out })
       by_end (inl done) = subst (λ e. Ran job e old (record mid { out = out })) (sym done.0) (record {
-        later = later_new;
-        may = (one, record { store = fine.store; input = fine.input; out = done.1 ∙ fine.out });
+        later = later_new (let same = done.1.faults in omega (arith, same));
+        may = (one, record { store = fine.store; input = fine.input; out = done.1.faults ∙ fine.out });
         lines = tt;
         only = only;
         unwritten = unwritten;
+        room = room;
         answered = λ sees files input agrees.
             let here = closes sees files input agrees in record {
               files = here.found.files;
@@ -153,20 +156,21 @@ module _ (job : Job) (status : Status) (line : List ℕ) (old mid : World) (out 
                 record {
                   files = here.given;
                   left = here.left;
-                  text = done.2 ∙ ap (λ o. append_known o line) here.before ∙ append_twice old.out.taken here.lines line ∙ ap (append_known old.out.taken) here.text;
+                  text = done.1.taken ∙ ap (λ o. append_known o line) here.before ∙ append_twice old.out.taken here.lines line ∙ ap (append_known old.out.taken) here.text;
                 },
               );
               costs = record { steps = here.costs.steps; calls = here.costs.calls; asked = here.costs.asked };
             };
       })
       by_end (inr cut) =
-          let k = cut.2.0 in
+          let k = cut.1.taken.0 in
           subst (λ e. Ran job e old (record mid { out = out })) (sym cut.0) (record {
-            later = later_new;
-            may = risen_later old.out.faults mid.out.faults out.faults later.out cut.1;
+            later = later_new cut.1.later;
+            may = risen_later old.out.faults mid.out.faults out.faults later.out cut.1.rose;
             lines = tt;
             only = only;
             unwritten = λ none. absurd (none tt);
+            room = tt;
             answered = λ sees files input agrees.
                 let here = closes sees files input agrees in record {
                   files = here.found.files;
@@ -180,7 +184,7 @@ module _ (job : Job) (status : Status) (line : List ℕ) (old mid : World) (out 
                     written = here.lines ++ take k line;
                     rest = drop k line;
                     begins = append_assoc here.lines (take k line) (drop k line) ∙ ap (λ (l : List ℕ). here.lines ++ l) (take-append-drop k line) ∙ here.text;
-                    text = cut.2.1 ∙ ap (λ o. append_known o (take k line)) here.before ∙ append_twice old.out.taken here.lines (take k line);
+                    text = cut.1.taken.1 ∙ ap (λ o. append_known o (take k line)) here.before ∙ append_twice old.out.taken here.lines (take k line);
                     others = no_more here.a here.given here.left;
                   };
                   costs = record { steps = here.costs.steps; calls = here.costs.calls; asked = here.costs.asked };
@@ -198,7 +202,8 @@ pub said : (job : Job) (status : Status) (line : List ℕ) (end : End) (old mid 
     → Said status line end mid.out out
     → (Sees job.needs.reads old → (files : Files) (input : List ℕ) → Agrees old files input → SaysAll job status line files input old mid) → Ran job end old (record mid { out = out })
 said job status line end old mid out quiet fine one says_it answers =
-    closed job status line old mid out end quiet.later fine (only_unwritten job.writes old.store mid.store quiet.store) (λ _. quiet.store) one says_it
+    closed job status line old mid out end quiet.later fine (only_unwritten job.writes old.store mid.store quiet.store) (λ none. quiet.store.room ∙ none)
+    (λ _. quiet.store) one says_it
     (λ sees files input agrees.
     let here = answers sees files input agrees in record {
       found = here.found;

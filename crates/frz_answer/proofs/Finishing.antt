@@ -4,7 +4,6 @@ use Rattle.std.specs.Prelude.{IfSome}
 use Rattle.std.specs.Option.{unwrap_or}
 use Rattle.std.specs.Io.KnownBytes.{append_known}
 use Rattle.frz_store.specs.Files.{Files, no_files}
-use Rattle.frz_store.specs.Outside.{Rose}
 use Rattle.frz_answer.specs.declared.status.Status.{Status}
 use Rattle.frz_answer.specs.declared.status.Status.TheVariants as statuses
 use Rattle.frz_answer.specs.declared.fault.Fault.{Fault}
@@ -12,11 +11,11 @@ use Rattle.frz_answer.specs.declared.fault.Fault.TheVariants as faults
 use Rattle.frz_answer.specs.declared.end.End.{End}
 use Rattle.frz_answer.specs.declared.end.End.TheVariants.{Done, SinkFault, Stopped}
 use Rattle.frz_answer.specs.Statuses.{code_of, fault_code, sink_code, fault_line}
-use Rattle.frz_store.specs.Told.{SinkTold, Unwritten}
-use Rattle.frz_answer.specs.World.{World, Agrees, Later, Fine}
-use Rattle.frz_answer.specs.Answers.{Answer, Gives, TookLines, NoMore, Begins, Cuts}
-use Rattle.frz_answer.specs.Jobs.{Job, Sees, WithinCosts}
-use Rattle.frz_answer.specs.Ends.{MayMeet, MayHaveWritten, Answered, Ran}
+use Rattle.frz_store.specs.Told.{SinkTold}
+use Rattle.frz_answer.specs.World.{World, Agrees}
+use Rattle.frz_answer.specs.Answers.{Answer, TookLines, NoMore, Begins}
+use Rattle.frz_answer.specs.Jobs.{Job, Sees}
+use Rattle.frz_answer.specs.Ends.{MayMeet, MayHaveWritten, LeavesNoRoom, Answered, Ran}
 use Rattle.frz_answer.specs.Outcomes.{NamesFault, Gave, Finished, HasStatus, Answering, IsComplete, Whole, Halted, CutOff, Outcome}
 use Rattle.frz_answer.proofs.Telling.{append_twice}
 use Rattle.frz_answer.proofs.Worlds.{still_risen, risen_later}
@@ -156,13 +155,13 @@ module _ (job : Job) (status : ℕ) (old mid : World) (out : SinkTold) where
         inl (s, ran.may.0, gave.0, record { store = fine.store; input = fine.input; out = ap (λ (o : SinkTold). o.faults) gave.1 ∙ fine.out })
     can SinkFault ran gave = inr (inr (still_risen old.out.faults mid.out.faults out.faults ran.may later, gave.0))
     can (Stopped fault) ran (inl h) = inr (inl (fault, meets_on fault ran.may, h.0))
-    can (Stopped fault) ran (inr h) = let so_far = ran.later.out in inr (inr (risen_later old.out.faults mid.out.faults out.faults so_far h.1, h.0))
+    can (Stopped fault) ran (inr h) = let so_far = ran.later.out in inr (inr (risen_later old.out.faults mid.out.faults out.faults so_far h.1.rose, h.0))
 
     names : (end : End) → Ran job end old mid → Gave end status mid.out out → (fault : Fault) → status ≡ fault_code fault → TookLines (fault_line fault) old.out out
     names (Done s) ran gave fault e = own_fault s fault status gave.0 e
     names SinkFault ran gave fault e = nine_fault fault status gave.0 e
     names (Stopped met) ran (inl h) fault e =
-        subst (λ f. TookLines (fault_line f) old.out out) (one_fault met fault status h.0 e) (lines_on (fault_line met) old.out mid.out out ran.lines.0 h.1)
+        subst (λ f. TookLines (fault_line f) old.out out) (one_fault met fault status h.0 e) (lines_on (fault_line met) old.out mid.out out ran.lines.0 h.1.taken)
     names (Stopped met) ran (inr h) fault e = nine_fault fault status h.0 e
 
     alone : (end : End) → Ran job end old mid → Gave end status mid.out out → (fault : Fault) → status ≡ fault_code fault → job.speaks ≡ false
@@ -170,7 +169,7 @@ module _ (job : Job) (status : ℕ) (old mid : World) (out : SinkTold) where
     alone (Done s) ran gave fault e quiet = own_fault s fault status gave.0 e
     alone SinkFault ran gave fault e quiet = nine_fault fault status gave.0 e
     alone (Stopped met) ran (inl h) fault e quiet =
-        subst (λ f. out.taken ≡ append_known old.out.taken (fault_line f)) (one_fault met fault status h.0 e) (h.1 ∙ ap (λ o. append_known o (fault_line met)) (ran.lines.1 quiet))
+        subst (λ f. out.taken ≡ append_known old.out.taken (fault_line f)) (one_fault met fault status h.0 e) (h.1.taken ∙ ap (λ o. append_known o (fault_line met)) (ran.lines.1 quiet))
     alone (Stopped met) ran (inr h) fault e quiet = nine_fault fault status h.0 e
 
     module _ (law : (f : Files) (i : List ℕ) (a : Answer) → job.answers f i a → job.means f i a) where
@@ -198,7 +197,7 @@ module _ (job : Job) (status : ℕ) (old mid : World) (out : SinkTold) where
       halted (Stopped met) ran (inl h) fault e sees =
           subst (λ f. Halted job f old new) (one_fault met fault status h.0 e)
           (let here = told_answer (Stopped met) ran sees in
-          record { of = answering (Stopped met) _ _ law here; begins = extend here.a (fault_line met) here.leaves h.1 })
+          record { of = answering (Stopped met) _ _ law here; begins = extend here.a (fault_line met) here.leaves h.1.taken })
       halted (Stopped met) ran (inr h) fault e sees = nine_fault fault status h.0 e
 
       cut : (end : End) → Ran job end old mid → Gave end status mid.out out → status ≡ sink_code → Sees job.needs.reads old → CutOff job old new
@@ -218,8 +217,14 @@ module _ (job : Job) (status : ℕ) (old mid : World) (out : SinkTold) where
       cut (Stopped met) ran (inr h) e sees =
           let here = told_answer (Stopped met) ran sees in record {
             of = answering (Stopped met) _ _ law here;
-            cut = inr (met, meets_on met ran.may, (h.2.0, extend here.a (take h.2.0 (fault_line met)) here.leaves h.2.1));
+            cut = inr (met, meets_on met ran.may, (h.1.taken.0, extend here.a (take h.1.taken.0 (fault_line met)) here.leaves h.1.taken.1));
           }
+
+  room : (end : End) → LeavesNoRoom end old.store mid.store → Gave end status mid.out out → (s : Status) → status ≡ code_of s → old.store.room ≡ 0 → mid.store.room ≡ 0
+  room (Done t) leaves gave s e = leaves
+  room SinkFault leaves gave s e = own_nine s status e gave.0
+  room (Stopped met) leaves (inl h) s e = own_fault s met status e h.0
+  room (Stopped met) leaves (inr h) s e = own_nine s status e h.0
 
   complete : Sees job.needs.reads old → ((s : Status) → status ≡ code_of s → Sees job.needs.reads old → Whole job status old new) → HasStatus job status old new → IsComplete job status old new
   complete sees whole (inl own) no_store no_input no_out = inl (whole own.0 own.2 sees)
@@ -239,6 +244,7 @@ module _ (job : Job) (status : ℕ) (old mid : World) (out : SinkTold) where
     can = can finished.later end ran finished.gave;
     only = ran.only;
     unwritten = λ not0 not8 not9. ran.unwritten (unwritten_by end finished.gave not0 not8 not9);
+    room = room end ran.room finished.gave;
     names = names finished.later end ran finished.gave;
     alone = alone finished.later end ran finished.gave;
     honest = honest finished.later law end ran finished.gave;

@@ -5,6 +5,8 @@ pub mod Writing
 pub mod Ending
 pub mod Naming
 pub mod Stages
+pub mod Coming
+pub mod Following
 pub mod Finishing
 pub mod Lawful
 pub mod Calling

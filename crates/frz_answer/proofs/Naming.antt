@@ -1,13 +1,12 @@
 -- A command that writes one name.
-use Rattle.std.proofs.Common.{◌≡◌, ◌⊎◌, inl, inr, refl, sym, ap, subst, ℕ, List, [], Option, Some, IsTrue, arith, ◌∙◌}
-use Rattle.std.specs.Option.{option_map}
+use Rattle.std.proofs.Common.{◌≡◌, refl, sym, subst, ℕ, ◌≤◌, List, [], Option, Some, Err, IsTrue, arith, ◌∙◌}
 use Rattle.frz_store.specs.Files.{Files, put}
 use Rattle.frz_store.specs.Outside.{Rose}
-use Rattle.frz_store.specs.Told.{SinkTold, StoreTold, Unwritten, StoreLater, StoreFine}
-use Rattle.frz_store.specs.Writes.{Wrote, WrotePart}
+use Rattle.frz_store.specs.Told.{SinkTold, StoreTold, StoreLater, StoreFine}
+use Rattle.frz_store.specs.Writes.{Wrote, WrotePart, Written}
 use Rattle.frz_store.specs.declared.outside.StoreFault.{StoreFault}
 use Rattle.frz_store.specs.declared.outside.StoreFault.TheVariants as refusals
-use Rattle.frz_store.proofs.Lemmas.{nothing_written, all_written}
+use Rattle.frz_store.proofs.Lemmas.{all_written}
 use Rattle.frz_answer.specs.declared.status.Status.TheVariants as statuses
 use Rattle.frz_answer.specs.declared.fault.Fault.TheVariants as faults
 use Rattle.frz_answer.specs.declared.end.End.{End}
@@ -35,20 +34,24 @@ pub record SaysName (job : Job) (line name whole : List ℕ) (files : Files) (in
   pub answer : job.answers found.files found.input (says statuses.Success line (put found.files name whole))
   pub costs : WithinCosts (job.costs found.files found.input (says statuses.Success line (put found.files name whole))) old new
 
--- a command that writes one name, and has done nothing else yet
-module _ (job : Job) (name whole : List ℕ) (old : World) (store : StoreTold) (asks : IsTrue job.needs.store) (writes : Some name ≡ job.writes) where
-  store_later : StoreLater old.store store → Later old (record old { store = store })
-  store_later later = let same = later_same old in record { store = later; input = same.input; out = same.out; steps = same.steps }
+-- a command that writes one name, and has made steps but done nothing else yet
+module _ (job : Job) (name whole : List ℕ) (old : World) (store : StoreTold) (steps : ℕ) (more : old.steps ≤ steps) (asks : IsTrue job.needs.store) (writes : Some name ≡ job.writes) where
+  -- when the store was written
+  abbrev mid : World
+  mid = record old { store = store; steps = steps }
+
+  store_later : StoreLater old.store store → Later old mid
+  store_later later = let same = later_same old in record { store = later; input = same.input; out = same.out; steps = more }
 
   only_it : WrotePart name whole old.store store → WritesOnly job.writes old.store store
   only_it part = subst (λ (w : Option (List ℕ)). WritesOnly w old.store store) writes (part_only name whole old.store store part)
 
   -- the store failed within the bytes
   pub failed_within : Rose old.store.faults store.faults → WrotePart name whole old.store store
-      → (Sees job.needs.reads old → (files : Files) (input : List ℕ) → Agrees old files input → GivesName job name whole files input old (record old { store = store }))
-      → Ran job (Stopped faults.Store) old (record old { store = store })
+      → (Sees job.needs.reads old → (files : Files) (input : List ℕ) → Agrees old files input → GivesName job name whole files input old mid)
+      → Ran job (Stopped faults.Store) old mid
   failed_within rose part gives =
-      stopped_doing job faults.Store old (record old { store = store }) (store_later part.later) (asks, rose) (only_it part) (λ none. absurd (none tt)) refl
+      stopped_doing job faults.Store old mid (store_later part.later) (asks, rose) (only_it part) (λ none. absurd (none tt)) refl
       (λ sees files input agrees.
       let here = gives sees files input agrees in record {
         found = here.found;
@@ -60,30 +63,27 @@ module _ (job : Job) (name whole : List ℕ) (old : World) (store : StoreTold) (
         costs = here.costs;
       })
 
-  -- the name was not created
-  pub not_created : (refusal : StoreFault) (end : End) → end ≡ end_of_fault refusal → IsTrue job.needs.memory → StoreLater old.store store
-      → (refusal ≡ refusals.NoMemory → Unwritten old.store store)
-      → (refusal ≡ refusals.Failed → Rose old.store.faults store.faults × ((store.files ≡ old.store.files) ⊎ (store.files ≡ option_map (λ m. put m name []) old.store.files)))
-      → (Sees job.needs.reads old → (files : Files) (input : List ℕ) → Agrees old files input → GivesName job name whole files input old (record old { store = store }))
-      → Ran job end old (record old { store = store })
-  not_created refusals.NoMemory end e wants later none some gives =
-      subst (λ (x : End). Ran job x old (record old { store = store })) (sym e)
-      (stopped job faults.NoMemory old (record old { store = store }) (record { later = store_later later; store = none refl; left = refl; taken = refl }) wants
+  -- not all of the bytes were written: the store failed, or there was no memory
+  pub not_written : (T : Type 0) (refusal : StoreFault) (end : End) → end ≡ end_of_fault refusal → IsTrue job.needs.memory
+      → Written {T = T} name whole (Err refusal) old.store store
+      → (Sees job.needs.reads old → (files : Files) (input : List ℕ) → Agrees old files input → GivesName job name whole files input old mid)
+      → Ran job end old mid
+  not_written T refusals.NoMemory end e wants quiet gives =
+      subst (λ (x : End). Ran job x old mid) (sym e)
+      (stopped job faults.NoMemory old mid (record { later = store_later quiet.later; store = quiet.unwritten; left = refl; taken = refl }) wants
       (λ sees files input agrees. let here = gives sees files input agrees in record { found = here.found; some = here.some; costs = here.costs }))
-  not_created refusals.Failed end e wants later none some gives =
-      let here = some refl in
-      subst (λ (x : End). Ran job x old (record old { store = store })) (sym e)
-      (failed_within here.0 (nothing_written name whole old.store store here.1 later) gives)
+  not_written T refusals.Failed end e wants part gives =
+      subst (λ (x : End). Ran job x old mid) (sym e) (failed_within part.1 part.0 gives)
 
   -- all of the bytes were written, and the line is the whole text
-  pub wrote_it : (line : List ℕ) (end : End) (out : SinkTold) → OneOf statuses.Success job.statuses → Wrote name whole old.store store → StoreFine old.store store
+  pub wrote_it : (line : List ℕ) (end : End) (out : SinkTold) → OneOf statuses.Success job.statuses → Wrote name whole old.store store → StoreFine old.store store → store.room ≡ 0
       → Said statuses.Success line end old.out out
-      → (Sees job.needs.reads old → (files : Files) (input : List ℕ) → Agrees old files input → SaysName job line name whole files input old (record old { store = store }))
-      → Ran job end old (record old { store = store; out = out })
-  wrote_it line end out one wrote fine says_it answers =
+      → (Sees job.needs.reads old → (files : Files) (input : List ℕ) → Agrees old files input → SaysName job line name whole files input old mid)
+      → Ran job end old (record mid { out = out })
+  wrote_it line end out one wrote fine full says_it answers =
       let part = all_written name whole old.store store wrote in
-      closed job statuses.Success line old (record old { store = store }) out end (store_later wrote.later) (record { store = fine; input = refl; out = refl })
-      (only_it part) (λ none. absurd (none tt)) one says_it
+      closed job statuses.Success line old mid out end (store_later wrote.later) (record { store = fine; input = refl; out = refl })
+      (only_it part) (λ _. full) (λ none. absurd (none tt)) one says_it
       (λ sees files input agrees.
       let here = answers sees files input agrees in record {
         found = here.found;

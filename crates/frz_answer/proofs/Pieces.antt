@@ -1,15 +1,12 @@
 -- A text that is written piece by piece.
-use Rattle.std.proofs.Common.{◌≡◌, inl, inr, refl, sym, ap, ◌∙◌, ℕ, ◌≤◌, List, [], ◌++◌, take, drop, length, Option, arith, append_assoc, append-nil}
+use Rattle.std.proofs.Common.{◌≡◌, refl, sym, ap, ◌∙◌, ℕ, List, [], ◌++◌, take, drop, length, Option, Result, Ok, Err, arith, append_assoc, append-nil}
 use Rattle.std.proofs.Math.Seq.{take-append_seam}
 use Rattle.std.proofs.lemmas.List.{take-append-drop}
+use Rattle.std.specs.Result.{IsErr}
 use Rattle.std.specs.Io.KnownBytes.{append_known}
-use Rattle.frz_store.specs.Outside.{Rose}
-use Rattle.frz_answer.specs.declared.status.Status.{Status}
-use Rattle.frz_answer.specs.declared.end.End.{End}
-use Rattle.frz_answer.specs.declared.end.End.TheVariants.{SinkFault}
 use Rattle.frz_store.specs.Told.{SinkTold}
-use Rattle.frz_answer.specs.Ends.{Says, Said}
-use Rattle.frz_answer.proofs.Telling.{append_twice}
+use Rattle.frz_answer.specs.Texts.{TookText, FailedWithin, WroteText}
+use Rattle.frz_answer.proofs.Telling.{append_nothing, append_twice}
 use Rattle.frz_answer.proofs.Worlds.{risen_later}
 
 -- a part of a piece that stands within the whole text
@@ -26,29 +23,43 @@ part_of old mid new written piece rest whole before is part =
       part.1 ∙ ap (λ o. append_known o (take part.0 piece)) before ∙ append_twice old written (take part.0 piece) ∙ ap (append_known old) (sym cut),
     )
 
--- the last piece, behind what was written before
-pub said_behind : (status : Status) (end : End) (old mid new : SinkTold) (written piece whole : List ℕ)
-    → mid.faults ≡ old.faults → mid.taken ≡ append_known old.taken written → written ++ piece ≡ whole → Said status piece end mid new → Said status whole end old new
-said_behind status end old mid new written piece whole fine before is said =
-    record { later = (let h = said.later in omega (arith, fine, h)); says = by_end said.says }
-  where
-    later : old.faults ≤ mid.faults
-    later = omega (arith, fine)
-
-    by_end : Says status piece end mid new → Says status whole end old new
-    by_end (inl done) = inl (done.0, done.1 ∙ fine, done.2 ∙ ap (λ o. append_known o piece) before ∙ append_twice old.taken written piece ∙ ap (append_known old.taken) is)
-    by_end (inr cut) =
-        let nothing : List ℕ = [] in
-        inr (
-          cut.0,
-          risen_later old.faults mid.faults new.faults later cut.1,
-          part_of old.taken mid.taken new.taken written piece nothing whole before (ap (λ (l : List ℕ). written ++ l) (append-nil piece) ∙ is) cut.2,
-        )
-
--- the sink failed within a piece, with more to come
-pub said_within : (status : Status) (old mid new : SinkTold) (whole : List ℕ) → mid.faults ≡ old.faults → mid.faults ≤ new.faults → Rose mid.faults new.faults
-    → (j : ℕ) × (new.taken ≡ append_known old.taken (take j whole)) → Said status whole SinkFault old new
-said_within status old mid new whole fine later rose part = record {
-  later = omega (arith, fine, later);
-  says = inr (refl, risen_later old.faults mid.faults new.faults (omega (arith, fine)) rose, part);
+-- the sink failed within the first of two texts
+pub failed_before : (first rest text : List ℕ) (old new : SinkTold) → FailedWithin first old new → first ++ rest ≡ text → FailedWithin text old new
+failed_before first rest text old new failed is = record {
+  later = failed.later;
+  rose = failed.rose;
+  taken = part_of old.taken old.taken new.taken [] first rest text (append_nothing old.taken) is failed.taken;
 }
+
+module _ (first next text : List ℕ) (old mid new : SinkTold) (took : TookText first old mid) (is : first ++ next ≡ text) where
+  -- the sink failed within the second
+  pub failed_behind : FailedWithin next mid new → FailedWithin text old new
+  failed_behind failed =
+      let same = took.faults in
+      let more = failed.later in
+      record {
+        later = omega (arith, same, more);
+        rose = risen_later old.faults mid.faults new.faults (omega (arith, same)) failed.rose;
+        taken = part_of old.taken mid.taken new.taken first next [] text took.taken (ap (λ (l : List ℕ). first ++ l) (append-nil next) ∙ is) failed.taken;
+      }
+
+  -- the sink took both
+  pub took_behind : TookText next mid new → TookText text old new
+  took_behind more = record {
+    faults = more.faults ∙ took.faults;
+    taken = more.taken ∙ ap (λ o. append_known o next) took.taken ∙ append_twice old.taken first next ∙ ap (append_known old.taken) is;
+  }
+
+  -- the second was written
+  pub wrote_behind : {T E : Type 0} (result : Result T E) → WroteText next result mid new → WroteText text result old new
+  wrote_behind (Ok x) wrote = record { ok = took_behind wrote.ok; failed = tt }
+  wrote_behind (Err e) wrote = record { ok = tt; failed = failed_behind wrote.failed }
+
+-- a call that gives up where the sink failed
+pub gave_up : {T E : Type 0} (text : List ℕ) (result : Result T E) (old new : SinkTold) → IsErr result → FailedWithin text old new → WroteText text result old new
+gave_up text (Ok x) old new none failed = cc
+gave_up text (Err e) old new none failed = record { ok = tt; failed = failed }
+
+-- nothing was written yet
+pub took_nothing : (out : SinkTold) → TookText [] out out
+took_nothing out = record { faults = refl; taken = append_nothing out.taken }

@@ -1,21 +1,21 @@
 -- A command that is a stage of another.
-use Rattle.std.proofs.Common.{◌≡◌, ◌⊎◌, inl, inr, refl, sym, ap, subst, ◌∙◌, ℕ, ◌+◌, ◌≤◌, List, [], ◌∷◌, ◌++◌, take, drop, Bool, true, false, ◌&&◌, ◌||◌, ◌==◌, IsTrue, Option, arith, append_assoc, append-nil}
+use Rattle.std.proofs.Common.{◌≡◌, refl, sym, ap, subst, ◌∙◌, ℕ, List, [], ◌∷◌, ◌++◌, drop, Bool, true, false, ◌&&◌, ◌||◌, ◌==◌, IsTrue, Option}
 use Rattle.std.specs.Prelude.{IsSome}
 use Rattle.std.specs.Option.{option_map}
 use Rattle.std.proofs.lemmas.Bool.{eqb-true}
 use Rattle.std.specs.Io.KnownBytes.{append_known}
 use Rattle.frz_store.specs.Files.{Files}
-use Rattle.frz_store.specs.Told.{SinkTold}
+use Rattle.frz_store.specs.Told.{Unwritten}
 use Rattle.frz_answer.specs.declared.status.Status.{Status}
 use Rattle.frz_answer.specs.declared.fault.Fault.{Fault}
 use Rattle.frz_answer.specs.declared.fault.Fault.TheVariants as faults
 use Rattle.frz_answer.specs.declared.end.End.{End}
 use Rattle.frz_answer.specs.declared.end.End.TheVariants.{Done, SinkFault, Stopped}
 use Rattle.frz_answer.specs.Statuses.{code_of, has_code, subset, OneOf}
-use Rattle.frz_answer.specs.World.{World, Agrees, Quiet, Fine}
+use Rattle.frz_answer.specs.World.{World, Agrees, Later, Quiet, Fine}
 use Rattle.frz_answer.specs.Answers.{Answer, IsPart, NoMore}
 use Rattle.frz_answer.specs.Jobs.{Job, Reads, Never, Once, Again, Sees, WithinCosts}
-use Rattle.frz_answer.specs.Ends.{MayMeet, MayEnd, EndsInLines, WritesOnly, Leaves, Answered, Ran}
+use Rattle.frz_answer.specs.Ends.{MayMeet, MayEnd, EndsInLines, WritesOnly, LeavesNoRoom, Leaves, Ran}
 use Rattle.frz_answer.proofs.Ending.{Found}
 use Rattle.frz_answer.proofs.Worlds.{later_on, fine_on, unwritten_on, only_unwritten, only_on, risen_later, agrees_on}
 
@@ -50,7 +50,7 @@ pub record IsStage (part whole : Job) : Type 0 where
   pub speaks : whole.speaks ≡ false → part.speaks ≡ false
   pub writes : part.writes ≡ whole.writes
 
-no_more_true : (b c : Bool) → (IsTrue b → IsTrue c) → c ≡ false → b ≡ false
+pub no_more_true : (b c : Bool) → (IsTrue b → IsTrue c) → c ≡ false → b ≡ false
 no_more_true false c h e = refl
 no_more_true true false h e = let no : false ≡ true = h refl in cc
 no_more_true true true h e = cc
@@ -63,17 +63,37 @@ pub record Stages (part whole : Job) (files : Files) (input : List ℕ) (old mid
   pub costs : (m : Files) (i : List ℕ) (a : Answer) → Agrees old m i → (part.needs.reads ≡ Never → m ≡ found.files) → (part.needs.input ≡ false → i ≡ found.input)
       → part.answers m i a → WithinCosts (part.costs m i a) mid new → WithinCosts (whole.costs m i a) old new
 
-module _ (part whole : Job) (old mid new : World) (quiet : Quiet old mid) (fine : Fine old mid) (stage : IsStage part whole) where
+-- what a stage may do, the whole may do, where nothing was written to the store before and no object failed
+module _ (part whole : Job) (old mid new : World) (later : Later old mid) (fine : Fine old mid) (same : Unwritten old.store mid.store) (stage : IsStage part whole) where
   meets : (fault : Fault) → MayMeet part fault mid new → MayMeet whole fault old new
-  meets faults.Store h = (stage.store h.0, risen_later old.store.faults mid.store.faults new.store.faults quiet.later.store.faults h.1)
-  meets faults.Input h = (stage.input h.0, risen_later old.input.faults mid.input.faults new.input.faults quiet.later.input h.1)
+  meets faults.Store h = (stage.store h.0, risen_later old.store.faults mid.store.faults new.store.faults later.store.faults h.1)
+  meets faults.Input h = (stage.input h.0, risen_later old.input.faults mid.input.faults new.input.faults later.input h.1)
   meets faults.NoMemory h = stage.memory h
 
-  ends : (end : End) → MayEnd part end mid new → MayEnd whole end old new
-  ends (Done s) h = (one_of_more s part.statuses whole.statuses stage.statuses h.0, fine_on old mid new fine h.1)
-  ends SinkFault h = risen_later old.out.faults mid.out.faults new.out.faults quiet.later.out h
-  ends (Stopped fault) h = meets fault h
+  pub ends_later : (end : End) → MayEnd part end mid new → MayEnd whole end old new
+  ends_later (Done s) h = (one_of_more s part.statuses whole.statuses stage.statuses h.0, fine_on old mid new fine h.1)
+  ends_later SinkFault h = risen_later old.out.faults mid.out.faults new.out.faults later.out h
+  ends_later (Stopped fault) h = meets fault h
 
+  pub only_later : WritesOnly part.writes mid.store new.store → WritesOnly whole.writes old.store new.store
+  only_later h =
+      only_on whole.writes old.store mid.store new.store (only_unwritten whole.writes old.store mid.store same)
+      (subst (λ (w : Option (List ℕ)). WritesOnly w mid.store new.store) stage.writes h)
+
+  pub room_later : (end : End) → LeavesNoRoom end mid.store new.store → LeavesNoRoom end old.store new.store
+  room_later (Done s) h = λ none. h (same.room ∙ none)
+  room_later SinkFault h = tt
+  room_later (Stopped fault) h = tt
+
+  pub sees_later : (reads : Reads) → Sees reads old → Sees reads mid
+  sees_later Never h = h
+  sees_later Once h = h
+  sees_later Again h = subst (λ (o : Option Files). IsSome o) (sym same.files) h
+
+  pub part_later : (a : Answer) (name : List ℕ) → IsPart a name mid.store.files new.store.files → IsPart a name old.store.files new.store.files
+  part_later a name h = subst (λ (o : Option Files). IsPart a name o new.store.files) same.files h
+
+module _ (part whole : Job) (old mid new : World) (quiet : Quiet old mid) (fine : Fine old mid) (stage : IsStage part whole) where
   same_text : (text : List ℕ) → new.out.taken ≡ append_known mid.out.taken text → new.out.taken ≡ append_known old.out.taken text
   same_text text e = e ∙ ap (λ o. append_known o text) quiet.taken
 
@@ -85,12 +105,9 @@ module _ (part whole : Job) (old mid new : World) (quiet : Quiet old mid) (fine 
     λ quiet_whole. h.1 (stage.speaks quiet_whole) ∙ quiet.taken,
   )
 
-  part_too : (a : Answer) (name : List ℕ) → IsPart a name mid.store.files new.store.files → IsPart a name old.store.files new.store.files
-  part_too a name h = subst (λ (o : Option Files). IsPart a name o new.store.files) quiet.store.files h
-
   no_more_too : (a : Answer) → NoMore a mid new → NoMore a old new
   no_more_too a h = record {
-    files = λ name. part_too a name (h.files name);
+    files = λ name. part_later part whole old mid new quiet.later fine quiet.store stage a name (h.files name);
     left = (h.left.0, h.left.1, h.left.2 ∙ ap (option_map (drop h.left.0)) quiet.left);
   }
 
@@ -114,26 +131,21 @@ module _ (part whole : Job) (old mid new : World) (quiet : Quiet old mid) (fine 
     others = no_more_too a h.others;
   }
 
-  sees_too : (reads : Reads) → Sees reads old → Sees reads mid
-  sees_too Never h = h
-  sees_too Once h = h
-  sees_too Again h = subst (λ (o : Option Files). IsSome o) (sym quiet.store.files) h
-
   -- the stage was done, after nothing but calls and steps
   pub through : (end : End)
       → (Sees whole.needs.reads old → (files : Files) (input : List ℕ) → Agrees old files input → Stages part whole files input old mid new)
       → Ran part end mid new → Ran whole end old new
   through end stages ran = record {
     later = later_on old mid new quiet.later ran.later;
-    may = ends end ran.may;
+    may = ends_later part whole old mid new quiet.later fine quiet.store stage end ran.may;
     lines = lines_too end ran.lines;
-    only = only_on whole.writes old.store mid.store new.store (only_unwritten whole.writes old.store mid.store quiet.store)
-        (subst (λ (w : Option (List ℕ)). WritesOnly w mid.store new.store) stage.writes ran.only);
+    only = only_later part whole old mid new quiet.later fine quiet.store stage ran.only;
     unwritten = λ none. unwritten_on old.store mid.store new.store quiet.store (ran.unwritten none);
+    room = room_later part whole old mid new quiet.later fine quiet.store stage end ran.room;
     answered = λ sees files input agrees.
         let here = stages sees files input agrees in
         let found = here.found in
-        let part_sees = sees_too part.needs.reads (stage.sees old sees) in
+        let part_sees = sees_later part whole old mid new quiet.later fine quiet.store stage part.needs.reads (stage.sees old sees) in
         let given = ran.answered part_sees found.files found.input (agrees_on old mid found.files found.input quiet.store.files quiet.left found.agrees) in
         let fits = agrees_on mid old given.files given.input (sym quiet.store.files) (sym quiet.left) given.agrees in record {
           files = given.files;

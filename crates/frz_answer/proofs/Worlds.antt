@@ -1,5 +1,5 @@
 -- Worlds that follow on one another.
-use Rattle.std.proofs.Common.{◌≡◌, ◌≢◌, inl, inr, refl, sym, ap, subst, ◌∙◌, ℕ, ◌≤◌, List, take, length, Option, Some, None, Result, Ok, Err, arith}
+use Rattle.std.proofs.Common.{◌≡◌, inr, refl, sym, ap, subst, ◌∙◌, ℕ, ◌≤◌, List, take, length, Option, Some, None, Result, Ok, Err, arith}
 use Rattle.std.proofs.Math.Seq.{take-length}
 use Rattle.std.specs.Prelude.{IfSome, OnOk}
 use Rattle.std.specs.Option.{option_map}
@@ -43,7 +43,7 @@ fine_on old mid new h k = record {
   out = k.out ∙ h.out;
 }
 
-unwritten_same : (store : StoreTold) → Unwritten store store
+pub unwritten_same : (store : StoreTold) → Unwritten store store
 unwritten_same store = record { files = refl; last = refl; room = refl }
 
 pub quiet_same : (w : World) → Quiet w w

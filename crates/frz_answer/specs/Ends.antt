@@ -1,6 +1,5 @@
 -- How a command ends, beside what it is to do.
-use Rattle.std.specs.Prelude.{◌≡◌, ◌≢◌, ◌⊎◌, ℕ, ◌≤◌, List, [], take, IsTrue, Bool, false, Option, Some, None, ⊤}
-use Rattle.std.specs.Io.KnownBytes.{append_known}
+use Rattle.std.specs.Prelude.{◌≡◌, ◌≢◌, ◌⊎◌, ℕ, List, [], IsTrue, Bool, false, Option, Some, None, ⊤}
 use Rattle.frz_store.specs.Files.{Files}
 use Rattle.frz_store.specs.Outside.{Rose}
 use Rattle.frz_store.specs.Told.{StoreTold, SinkTold, Unwritten}
@@ -11,6 +10,7 @@ use Rattle.frz_answer.specs.declared.fault.Fault.TheVariants.{Store, Input, NoMe
 use Rattle.frz_answer.specs.declared.end.End.{End}
 use Rattle.frz_answer.specs.declared.end.End.TheVariants.{Done, SinkFault, Stopped}
 use Rattle.frz_answer.specs.Statuses.{OneOf}
+use Rattle.frz_answer.specs.Texts.{TookText, FailedWithin}
 use Rattle.frz_answer.specs.World.{World, Agrees, Later, Fine}
 use Rattle.frz_answer.specs.Answers.{Answer, Gives, Begins, Cuts, TookLines, held}
 use Rattle.frz_answer.specs.Jobs.{Job, Never, Sees, WithinCosts}
@@ -45,6 +45,11 @@ abbrev pub WritesOnly : Option (List ℕ) → StoreTold → StoreTold → Type 0
 WritesOnly None old new = Unwritten old new
 WritesOnly (Some name) old new = (q : List ℕ) → q ≢ name → held new.files q ≡ held old.files q
 
+-- with a status of its own, where there was no room to append there is none afterwards
+abbrev pub LeavesNoRoom : End → StoreTold → StoreTold → Type 0
+LeavesNoRoom (Done status) old new = old.room ≡ 0 → new.room ≡ 0
+LeavesNoRoom end old new = ⊤
+
 -- how much of an answer is given where a command ends so
 abbrev pub Leaves : End → Answer → World → World → Type 0
 Leaves (Done status) a old new = (a.status ≡ status) × Gives a old new
@@ -71,14 +76,9 @@ pub record Ran (job : Job) (end : End) (old new : World) : Type 0 where
   pub lines : EndsInLines job.speaks end old.out new.out
   pub only : WritesOnly job.writes old.store new.store
   pub unwritten : (MayHaveWritten end → ⊥) → Unwritten old.store new.store
+  pub room : LeavesNoRoom end old.store new.store
   pub answered : Sees job.needs.reads old → (files : Files) (input : List ℕ) → Agrees old files input → Answered job files input end old new
 
--- the last piece of a text was written, or the sink failed within it
-abbrev pub Says : Status → List ℕ → End → SinkTold → SinkTold → Type 0
-Says status piece end old new =
-    ((end ≡ Done status) × (new.faults ≡ old.faults) × (new.taken ≡ append_known old.taken piece))
-    ⊎ ((end ≡ SinkFault) × Rose old.faults new.faults × ((k : ℕ) × (new.taken ≡ append_known old.taken (take k piece))))
-
-pub record Said (status : Status) (piece : List ℕ) (end : End) (old new : SinkTold) : Type 0 where
-  pub later : old.faults ≤ new.faults
-  pub says : Says status piece end old new
+-- the text was written and the command ends with this status, or the sink failed within the text
+pub record Said (status : Status) (text : List ℕ) (end : End) (old new : SinkTold) : Type 0 where
+  pub says : ((end ≡ Done status) × TookText text old new) ⊎ ((end ≡ SinkFault) × FailedWithin text old new)

@@ -1,5 +1,5 @@
 -- What a command is to do, all in one record: its answers and what they mean, which statuses and faults it may meet, what it writes, and what it costs.
-use Rattle.std.specs.Prelude.{◌≡◌, ℕ, ◌+◌, ◌≤◌, List, [], Bool, true, false, Option, Some, None, IsSome, ⊤}
+use Rattle.std.specs.Prelude.{ℕ, ◌+◌, ◌≤◌, List, Bool, false, Option, Some, None, IsSome, ⊤}
 use Rattle.frz_store.specs.Files.{Files}
 use Rattle.frz_answer.specs.declared.status.Status.{Status}
 use Rattle.frz_answer.specs.World.{World}

@@ -1,4 +1,5 @@
 pub mod Statuses
+pub mod Texts
 pub mod World
 pub mod Answers
 pub mod Jobs

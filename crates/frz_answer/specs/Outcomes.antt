@@ -11,6 +11,7 @@ use Rattle.frz_answer.specs.declared.fault.Fault.TheVariants.{Store, NoMemory}
 use Rattle.frz_answer.specs.declared.end.End.{End}
 use Rattle.frz_answer.specs.declared.end.End.TheVariants.{Done, SinkFault, Stopped}
 use Rattle.frz_answer.specs.Statuses.{code_of, fault_code, sink_code, fault_line, OneOf}
+use Rattle.frz_answer.specs.Texts.{TookText, FailedWithin}
 use Rattle.frz_answer.specs.World.{World, Agrees, Later, Fine}
 use Rattle.frz_answer.specs.Answers.{Answer, Gives, Begins, Cuts, TookLines}
 use Rattle.frz_answer.specs.Jobs.{Job, Sees, WithinCosts}
@@ -19,8 +20,8 @@ use Rattle.frz_answer.specs.Ends.{MayMeet, WritesOnly}
 -- the line of a fault was written and its status given, or the sink failed within the line
 abbrev pub NamesFault : Fault → ℕ → SinkTold → SinkTold → Type 0
 NamesFault fault status old new =
-    ((status ≡ fault_code fault) × (new.taken ≡ append_known old.taken (fault_line fault)))
-    ⊎ ((status ≡ sink_code) × Rose old.faults new.faults × ((k : ℕ) × (new.taken ≡ append_known old.taken (take k (fault_line fault)))))
+    ((status ≡ fault_code fault) × TookText (fault_line fault) old new)
+    ⊎ ((status ≡ sink_code) × FailedWithin (fault_line fault) old new)
 
 -- the status that a command's end gives, and what the sink takes then
 abbrev pub Gave : End → ℕ → SinkTold → SinkTold → Type 0
@@ -61,7 +62,8 @@ pub record Halted (job : Job) (fault : Fault) (old new : World) : Type 0 where
   pub of : Answering job old new
   pub begins : Begins of.a (fault_line fault) old new
 
--- a text that begins the answer's text, or whole lines that begin it and a part of the line of a fault that the job may meet
+-- a text that begins the answer's text, or whole lines that begin it and a part of the line
+-- of a fault that the job may meet
 abbrev pub IsCutOff : Job → Answer → World → World → Type 0
 IsCutOff job a old new =
     Cuts a old new
@@ -74,23 +76,31 @@ pub record CutOff (job : Job) (old new : World) : Type 0 where
 -- where no count of faults rose, the status is an answer's, or there was no memory
 abbrev pub IsComplete : Job → ℕ → World → World → Type 0
 IsComplete job status old new =
-    (Rose old.store.faults new.store.faults → ⊥) → (Rose old.input.faults new.input.faults → ⊥) → (Rose old.out.faults new.out.faults → ⊥) →
-    Whole job status old new ⊎ (IsTrue job.needs.memory × (status ≡ fault_code NoMemory))
+    (Rose old.store.faults new.store.faults → ⊥)
+    → (Rose old.input.faults new.input.faults → ⊥)
+    → (Rose old.out.faults new.out.faults → ⊥)
+    → Whole job status old new ⊎ (IsTrue job.needs.memory × (status ≡ fault_code NoMemory))
 
 -- what the program gives for a job, whatever the objects tell
 pub record Outcome (job : Job) (status : ℕ) (old new : World) : Type 0 where
   -- no count has fallen, and the status is one that the job can have
   pub later : Later old new
   pub can : HasStatus job status old new
-  -- no name but the one that the job writes is changed, and nothing is written but with success or a fault of the store or the sink
+  -- no name but the one that the job writes is changed, and nothing is written but with success
+  -- or a fault of the store or the sink
   pub only : WritesOnly job.writes old.store new.store
-  pub unwritten : status ≢ code_of Success → status ≢ fault_code Store → status ≢ sink_code → Unwritten old.store new.store
+  pub unwritten : status ≢ code_of Success → status ≢ fault_code Store → status ≢ sink_code
+      → Unwritten old.store new.store
+  -- with a status of its own, where there was no room to append there is none afterwards
+  pub room : (s : Status) → status ≡ code_of s → old.store.room ≡ 0 → new.store.room ≡ 0
   -- with the status of a fault, the sink took whole lines and then the fault's line, or that line alone
   pub names : (fault : Fault) → status ≡ fault_code fault → TookLines (fault_line fault) old.out new.out
-  pub alone : (fault : Fault) → status ≡ fault_code fault → job.speaks ≡ false → new.out.taken ≡ append_known old.out.taken (fault_line fault)
+  pub alone : (fault : Fault) → status ≡ fault_code fault → job.speaks ≡ false
+      → new.out.taken ≡ append_known old.out.taken (fault_line fault)
   -- with a status of its own, all is as an answer says, and the answer means what it is to mean
   pub honest : (s : Status) → status ≡ code_of s → Sees job.needs.reads old → Whole job status old new
-  -- with that of a fault, whole lines begin an answer, and then comes the fault's line; where the sink failed, an answer is cut off
+  -- with that of a fault, whole lines begin an answer, and then comes the fault's line;
+  -- where the sink failed, an answer is cut off
   pub halted : (fault : Fault) → status ≡ fault_code fault → Sees job.needs.reads old → Halted job fault old new
   pub cut : status ≡ sink_code → Sees job.needs.reads old → CutOff job old new
   pub complete : Sees job.needs.reads old → IsComplete job status old new

@@ -8,7 +8,7 @@ use Rattle.frz_answer.specs.declared.status.Status.TheVariants.{Success, Words, 
 use Rattle.frz_answer.specs.declared.fault.Fault.{Fault}
 use Rattle.frz_answer.specs.declared.fault.Fault.TheVariants.{Store, Input, NoMemory}
 use Rattle.frz_answer.specs.declared.end.End.{End}
-use Rattle.frz_answer.specs.declared.end.End.TheVariants.{Done, Stopped}
+use Rattle.frz_answer.specs.declared.end.End.TheVariants.{Stopped}
 
 abbrev pub code_of : Status → ℕ
 code_of Success = 0

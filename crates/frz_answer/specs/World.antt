@@ -1,5 +1,5 @@
 -- What the objects outside and the counter of steps tell, all in one record.
-use Rattle.std.specs.Prelude.{◌≡◌, ℕ, ◌≤◌, List, take, drop, Option, IfSome}
+use Rattle.std.specs.Prelude.{◌≡◌, ℕ, ◌≤◌, List, length, take, drop, IfSome}
 use Rattle.std.specs.Option.{option_map}
 use Rattle.std.specs.Io.KnownBytes.{append_known}
 use Rattle.frz_store.specs.Files.{Files}
@@ -46,10 +46,10 @@ pub record Quiet (old new : World) : Type 0 where
   pub taken : new.out.taken ≡ old.out.taken
 
 -- nothing was written to the store; the sink took this text, and these bytes were taken from the input
-pub record Came (text bytes : List ℕ) (count : ℕ) (old new : World) : Type 0 where
+pub record Came (text bytes : List ℕ) (old new : World) : Type 0 where
   pub later : Later old new
   pub fine : Fine old new
   pub store : Unwritten old.store new.store
-  pub took : IfSome old.input.left (λ left. take count left ≡ bytes)
-  pub left : new.input.left ≡ option_map (drop count) old.input.left
+  pub took : IfSome old.input.left (λ left. take (length bytes) left ≡ bytes)
+  pub left : new.input.left ≡ option_map (drop (length bytes)) old.input.left
   pub taken : new.out.taken ≡ append_known old.out.taken text

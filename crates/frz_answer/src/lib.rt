@@ -5,6 +5,7 @@
 mod end;
 mod fault;
 pub mod laws;
+mod printing;
 mod refusing;
 mod saying;
 mod status;
@@ -14,7 +15,8 @@ mod words;
 
 pub use end::End;
 pub use fault::Fault;
+pub use printing::{write_line, write_number, write_numbered, write_piece};
 pub use refusing::refuse;
-pub use saying::{finish, say};
+pub use saying::{finish, said, say};
 pub use status::Status;
 pub use words::{Refusal, one_word, three_words, two_words};

@@ -1,21 +1,31 @@
 //! The last piece of a text, and the line that names a fault.
-ghost use Rattle.std.specs.Prelude.{◌≡◌};
-ghost use Rattle.frz_store.specs.Told.{sink_of};
+ghost use Rattle.std.specs.Prelude.{ℕ, List};
+ghost use Rattle.frz_store.specs.Told.{SinkTold, sink_of};
 ghost use Rattle.frz_answer.specs.Ends.{Said};
 ghost use Rattle.frz_answer.specs.Outcomes.{Finished};
+ghost use Rattle.frz_answer.specs.Texts.{WroteText};
 
 use crate::end::{End, SINK_FAULT};
+use crate::printing::write_piece;
 use crate::status::Status;
-use frz_store::Sink;
+use frz_store::{Failed, Sink};
 
-/// Writes the last piece of a command's text, and ends with this status.
-pub fn say<O: Sink>(status: Status, line: &[u8], out: &mut O) -> End
-    ensures { Said status line.now result (sink_of O.Sink out.old) (sink_of O.Sink out.new) }
+/// Ends a command: with this status where its text was written, as a printer tells.
+pub fn said(status: Status, written: Result<(), Failed>) -> End
+    ensures { (text : List ℕ) (old new : SinkTold) → WroteText text written old new
+        → Said status text result old new }
 {
-    match out.write(line) {
+    match written {
         Ok(()) => End::Done(status),
-        Err(_) => End::SinkFault,
+        Err(Failed) => End::SinkFault,
     }
+}
+
+/// Writes all of a command's text, and ends with this status.
+pub fn say<O: Sink>(status: Status, text: &[u8], out: &mut O) -> End
+    ensures { Said status text.now result (sink_of O.Sink out.old) (sink_of O.Sink out.new) }
+{
+    said(status, write_piece(text, out))
 }
 
 /// Writes the line that names a fault, where there is one, and gives the status.
