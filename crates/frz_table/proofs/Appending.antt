@@ -80,6 +80,7 @@ pub record IsWriting (old now : StoreTold) (codes rest : List ℕ) : Type 0 wher
   pub faults : now.faults ≡ old.faults
   pub pieces : ℕ
   pub in_pieces : ArePieces pieces (length written) (length codes) old.calls now.calls
+  pub calls_later : old.calls ≤ now.calls
 
 pub none_written : (old : StoreTold) (codes : List ℕ) → IsWriting old old codes codes
 none_written old codes = record {
@@ -94,13 +95,14 @@ none_written old codes = record {
   faults = refl;
   pieces = 0;
   in_pieces = no_pieces (length codes) old.calls;
+  calls_later = omega arith;
 }
 
 -- a piece more
 pub more_written : (old mid new : StoreTold) (codes rest piece more : List ℕ) → IsWriting old mid codes rest → rest ≡ piece ++ more → 0 < length piece
     → new.files ≡ option_map (grown mid.last (number_bytes piece)) mid.files → new.last ≡ mid.last → new.room ≡ mid.room - 4 * length piece → 4 * length rest ≤ mid.room
-    → new.asked ≡ mid.asked → new.wants ≡ mid.wants → new.faults ≡ mid.faults → length piece ≡ min 16384 (length rest) → new.calls ≤ mid.calls + 1 → IsWriting old new codes more
-more_written old mid new codes rest piece more h cut some files last room enough asked wants faults long next = record {
+    → new.asked ≡ mid.asked → new.wants ≡ mid.wants → new.faults ≡ mid.faults → length piece ≡ min 16384 (length rest) → new.calls ≤ mid.calls + 1 → mid.calls ≤ new.calls → IsWriting old new codes more
+more_written old mid new codes rest piece more h cut some files last room enough asked wants faults long next later = record {
   written = h.written ++ piece;
   parts = h.parts ∙ ap (λ (l : List ℕ). h.written ++ l) cut ∙ sym (append_assoc h.written piece more);
   files = λ _. by_first (length h.written) refl;
@@ -115,6 +117,7 @@ more_written old mid new codes rest piece more h cut some files last room enough
       piece_more h.pieces (length h.written) (length piece) (length (h.written ++ piece)) (length codes) old.calls mid.calls new.calls h.in_pieces next
       (omega (arith, ap length h.parts, length-append h.written rest, ap length cut, length-append piece more, some))
       (omega (arith, long, ap length h.parts, length-append h.written rest)) (length-append h.written piece);
+  calls_later = (let before = h.calls_later in omega (arith, before, later));
 }
   where
     from_last : new.files ≡ option_map (grown old.last (number_bytes piece)) mid.files

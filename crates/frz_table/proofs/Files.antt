@@ -20,14 +20,14 @@ one_reading m n t u k l bytes a b =
     )
 
 -- what stands behind a front of this length
-behind : (n : ℕ) (front rest : List ℕ) → length front ≡ n → drop n (front ++ rest) ≡ rest
+pub behind : (n : ℕ) (front rest : List ℕ) → length front ≡ n → drop n (front ++ rest) ≡ rest
 behind n front rest long = ap (λ (k : ℕ). drop k (front ++ rest)) (sym long) ∙ drop-append_seam front rest
 
-before : (n : ℕ) (front rest : List ℕ) → length front ≡ n → take n (front ++ rest) ≡ front
+pub before : (n : ℕ) (front rest : List ℕ) → length front ≡ n → take n (front ++ rest) ≡ front
 before n front rest long = ap (λ (k : ℕ). take k (front ++ rest)) (sym long) ∙ take-append_seam front rest
 
 -- a number that stands behind a front
-number_behind : (place n : ℕ) (front rest : List ℕ) → length front ≡ place → n < 2 ^ 32 → number_at place (front ++ (to_le_bytes w32 n ++ rest)) ≡ n
+pub number_behind : (place n : ℕ) (front rest : List ℕ) → length front ≡ place → n < 2 ^ 32 → number_at place (front ++ (to_le_bytes w32 n ++ rest)) ≡ n
 number_behind place n front rest long fits =
     ap (λ (l : List ℕ). from_le_bytes w32 (take 4 l)) (behind place front (to_le_bytes w32 n ++ rest) long)
     ∙ ap (from_le_bytes w32) (before 4 (to_le_bytes w32 n) rest refl) ∙ from_le_bytes-to_le_bytes_4 n fits

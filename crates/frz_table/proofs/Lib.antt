@@ -7,3 +7,7 @@ pub mod Headers
 pub mod Reading
 pub mod Belonging
 pub mod Files
+pub mod Made
+pub mod SomeFiles
+pub mod FormerFiles
+pub mod Lemmas

@@ -6,10 +6,10 @@ use Rattle.std.proofs.lemmas.Bool.{lt-ltb, le-ltb, eq-eqb}
 use Rattle.std.proofs.lemmas.Option.{same_Some, none-some}
 use Rattle.std.proofs.lemmas.Slice.Eq.{bytes_eq-Decides}
 use Rattle.frz_sets.specs.Views.{RuleLines}
-use Rattle.frz_sets.specs.Sets.{size_of}
 use Rattle.frz_rules.specs.Text.{rules_of, Fails}
 use Rattle.frz_rules.specs.declared.fault.RulesCause.TheVariants.{TooLong}
 use Rattle.frz_rules.specs.declared.fault.RulesError.{RulesError}
+use Rattle.frz_rules.specs.declared.fault.RulesFault.{RulesFault}
 use Rattle.frz_rules.specs.declared.fault.RulesError.TheVariants as reading
 use Rattle.frz_store.specs.Files.{Files}
 use Rattle.frz_table.specs.declared.fault.TableFault.{TableFault}
@@ -198,6 +198,17 @@ refuse_rules magic (Some m) mid name count text_count text (reading.Bad fault) h
         let same : kept_text bytes ≡ text = ap (λ (k : ℕ). take k (drop 12 bytes)) e.kept ∙ sym r in
         past_text magic format count text_count bytes is e ∙ ap (with_rules format bytes) (ap format.read same ∙ is.refuses text fault fails)
 
+-- the format refuses the text
+pub refuse_read : (format : Format) (magic : List ℕ) (files : Option Files) (name text : List ℕ) (count : ℕ) (fault : RulesFault) → IsFormatOf magic format → Holds files name (HasText magic text count)
+    → format.read text ≡ Err fault → IfSome files (λ m. Refuses (opened format (m name)) (Rules fault))
+refuse_read format magic None name text count fault is h read = tt
+refuse_read format magic (Some m) name text count fault is h read = by_held (m name) h
+  where
+    by_held : (held : Option (List ℕ)) → IsSomeAnd held (HasText magic text count) → opened format held ≡ Err (Rules fault)
+    by_held None e = absurd e
+    by_held (Some bytes) e =
+        past_text magic format count (length text) bytes is e.head ∙ ap (with_rules format bytes) (ap format.read e.text_is ∙ read)
+
 -- the first six steps pass
 past_rules : (magic text : List ℕ) (format : Format) (rules : RuleLines) (count : ℕ) (bytes : List ℕ) → IsFormatOf magic format → HasText magic text count bytes → format.read text ≡ Ok rules
     → opened format (Some bytes) ≡ of_size bytes (record { text = text; rules = rules }) (format.size rules)
@@ -214,42 +225,42 @@ of_due text rules size bytes h =
     ∙ ap (λ (t : Bool). cond t (Err (Truncated (length bytes) due)) (cond (ltb due (length bytes)) (Err (Extra (length bytes) due)) (Ok contents))) (le-ltb (length bytes) due (omega (arith, h.due)))
     ∙ ap (λ (t : Bool). cond t (Err (Extra (length bytes) due)) (Ok contents)) (le-ltb due (length bytes) (omega (arith, h.due)))
 
-table_is_format : (kind : FileKind) (magic : List ℕ) → magic ≡ magic_of kind → IsFormatOf magic (table_format kind)
+pub table_is_format : (kind : FileKind) (magic : List ℕ) → magic ≡ magic_of kind → IsFormatOf magic (table_format kind)
 table_is_format kind magic is = record { magic_is = sym is; refuses = λ text fault h. h }
 
 -- the file opens
-pub opens : (kind : FileKind) (magic : List ℕ) (files mid : Option Files) (name text : List ℕ) (rules : RuleLines) (count size : ℕ) → magic ≡ magic_of kind → Holds files name (HasText magic text count)
-    → mid ≡ files → Holds mid name (HasSize text size) → rules_of text ≡ Ok rules → size ≡ size_of rules.groups
-    → IfSome files (λ m. opened (table_format kind) (m name) ≡ Ok (record { text = text; rules = rules }))
-opens kind magic None mid name text rules count size at h is_mid k read is = tt
-opens kind magic (Some m) mid name text rules count size at h is_mid k read is =
+pub opens : (format : Format) (magic : List ℕ) (files mid : Option Files) (name text : List ℕ) (rules : RuleLines) (count size : ℕ) → IsFormatOf magic format → Holds files name (HasText magic text count)
+    → mid ≡ files → Holds mid name (HasSize text size) → format.read text ≡ Ok rules → size ≡ format.size rules
+    → IfSome files (λ m. opened format (m name) ≡ Ok (record { text = text; rules = rules }))
+opens format magic None mid name text rules count size at h is_mid k read is = tt
+opens format magic (Some m) mid name text rules count size at h is_mid k read is =
     by_held (m name) h (subst (λ (o : Option Files). Holds o name (HasSize text size)) is_mid k)
   where
     by_held : (held : Option (List ℕ)) → IsSomeAnd held (HasText magic text count) → IsSomeAnd held (HasSize text size)
-        → opened (table_format kind) held ≡ Ok (record { text = text; rules = rules })
+        → opened format held ≡ Ok (record { text = text; rules = rules })
     by_held None e s = absurd e
     by_held (Some bytes) e s =
-        past_rules magic text (table_format kind) rules count bytes (table_is_format kind magic at) e read
+        past_rules magic text format rules count bytes at e read
         ∙ ap (of_size bytes (record { text = text; rules = rules })) (sym is) ∙ of_due text rules size bytes s
 
 -- the size or the length is refused
-pub refuse_size : (kind : FileKind) (magic : List ℕ) (files mid : Option Files) (name text : List ℕ) (rules : RuleLines) (count size : ℕ) (fault : TableFault) → magic ≡ magic_of kind → Holds files name (HasText magic text count)
-    → mid ≡ files → Holds mid name (SizeRefused text size fault) → rules_of text ≡ Ok rules → size ≡ size_of rules.groups
-    → IfSome files (λ m. Refuses (opened (table_format kind) (m name)) fault)
-refuse_size kind magic None mid name text rules count size fault at h is_mid k read is = tt
-refuse_size kind magic (Some m) mid name text rules count size fault at h is_mid k read is =
+pub refuse_size : (format : Format) (magic : List ℕ) (files mid : Option Files) (name text : List ℕ) (rules : RuleLines) (count size : ℕ) (fault : TableFault) → IsFormatOf magic format → Holds files name (HasText magic text count)
+    → mid ≡ files → Holds mid name (SizeRefused text size fault) → format.read text ≡ Ok rules → size ≡ format.size rules
+    → IfSome files (λ m. Refuses (opened format (m name)) fault)
+refuse_size format magic None mid name text rules count size fault at h is_mid k read is = tt
+refuse_size format magic (Some m) mid name text rules count size fault at h is_mid k read is =
     by_held (m name) h (subst (λ (o : Option Files). Holds o name (SizeRefused text size fault)) is_mid k)
   where
     by_held : (held : Option (List ℕ)) → IsSomeAnd held (HasText magic text count) → IsSomeAnd held (SizeRefused text size fault)
-        → Refuses (opened (table_format kind) held) fault
+        → Refuses (opened format held) fault
     by_held None e s = absurd e
     by_held (Some bytes) e s =
-        let same : of_size bytes (record { text = text; rules = rules }) size ≡ opened (table_format kind) (Some bytes) =
-        ap (of_size bytes (record { text = text; rules = rules })) is ∙ sym (past_rules magic text (table_format kind) rules count bytes (table_is_format kind magic at) e read) in
+        let same : of_size bytes (record { text = text; rules = rules }) size ≡ opened format (Some bytes) =
+        ap (of_size bytes (record { text = text; rules = rules })) is ∙ sym (past_rules magic text format rules count bytes at e read) in
         subst (λ (given : Given). Refuses given fault) same (s rules)
 
 -- what every format of the magic refuses, this one refuses
-pub refuse_kind : (kind : FileKind) (magic : List ℕ) (files : Option Files) (name : List ℕ) (fault : TableFault) → magic ≡ magic_of kind → AllRefuse magic files name fault
-    → IfSome files (λ m. Refuses (opened (table_format kind) (m name)) fault)
-refuse_kind kind magic None name fault is h = tt
-refuse_kind kind magic (Some m) name fault is h = h (table_format kind) (table_is_format kind magic is)
+pub refuse_format : (format : Format) (magic : List ℕ) (files : Option Files) (name : List ℕ) (fault : TableFault) → IsFormatOf magic format → AllRefuse magic files name fault
+    → IfSome files (λ m. Refuses (opened format (m name)) fault)
+refuse_format format magic None name fault is h = tt
+refuse_format format magic (Some m) name fault is h = h format is

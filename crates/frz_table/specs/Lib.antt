@@ -4,3 +4,5 @@ pub mod Tables
 pub mod Opening
 pub mod Steps
 pub mod Faults
+pub mod Possible
+pub mod OldFiles

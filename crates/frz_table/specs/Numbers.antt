@@ -1,6 +1,14 @@
--- Numbers of 32 bits in bytes, the lowest byte first.
-use Rattle.std.specs.Prelude.{ℕ, zero, suc, List, [], ◌∷◌, ◌++◌, take, drop}
+-- Bytes, and numbers of 32 bits in bytes, the lowest byte first.
+use Rattle.std.specs.Prelude.{ℕ, zero, suc, ◌^◌, ◌<◌, List, [], ◌∷◌, ◌++◌, take, drop, slice_index}
 use Rattle.std.specs.Int.{w32, to_le_bytes, from_le_bytes}
+
+-- each is a byte
+abbrev pub AreBytes : List ℕ → Type 0
+AreBytes bytes = (i : ℕ) → slice_index bytes i < 256
+
+-- each is a number of 32 bits
+abbrev pub AreNumbers : List ℕ → Type 0
+AreNumbers ns = (i : ℕ) → slice_index ns i < 2 ^ 32
 
 -- the number in the four bytes from a place on
 abbrev pub number_at : ℕ → List ℕ → ℕ

@@ -6,7 +6,7 @@ use Rattle.frz_sets.specs.Sound.{IsSound}
 use Rattle.frz_rules.specs.Text.{rules_of}
 use Rattle.frz_store.specs.Files.{Files}
 use Rattle.frz_table.specs.declared.kind.FileKind.{FileKind}
-use Rattle.frz_table.specs.Numbers.{number_at}
+use Rattle.frz_table.specs.Numbers.{AreBytes, number_at}
 use Rattle.frz_table.specs.Layout.{magic_of, due_length}
 
 -- what contracts see of a table; its set is the one of the rules' groups
@@ -19,10 +19,11 @@ pub record Table : Type 0 where
 abbrev pub table_size : Table → ℕ
 table_size table = size_of table.rules.groups
 
--- the rules are those of the text
+-- the rules are those of the text, which is one of bytes
 pub record IsRead (text : List ℕ) (rules : RuleLines) : Type 0 where
   pub read : rules_of text ≡ Ok rules
   pub sound : IsSound rules
+  pub bytes : AreBytes text
 
 -- the bytes have this magic, the text's length, the text and this size in their places, and the length due
 pub record IsTableFile (magic text : List ℕ) (size : ℕ) (bytes : List ℕ) : Type 0 where

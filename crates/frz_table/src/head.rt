@@ -5,6 +5,7 @@ ghost use Rattle.frz_store.specs.Files.{Covers};
 ghost use Rattle.frz_store.specs.Outside.{IsNext, StoreCauses};
 ghost use Rattle.frz_store.specs.Told.{store_of, StoreQuiet};
 ghost use Rattle.frz_table.specs.Faults.{TableCauses};
+ghost use Rattle.frz_table.specs.Possible.{SomeRefused};
 ghost use Rattle.frz_table.specs.Steps.{AllRefuse, HasHead};
 ghost use Rattle.frz_table.specs.Tables.{Holds};
 
@@ -50,6 +51,7 @@ pub(crate) fn read_head<S: Store>(
     ensures short { IfOk result (λ h. h.text ≤ 65536) }
     ensures fits { IfOk result (λ h. 16 + h.text ≤ h.file) }
     ensures refused { IfErr result (AllRefuse magic.now (S.files store.old) name.now) }
+    ensures some_refused { IfErr result (SomeRefused magic.now (S.asked store.old) (S.asked store.new)) }
     ensures quiet { StoreQuiet (store_of S.Store store.old) (store_of S.Store store.new) }
     ensures asked { S.asked store.new ≤ S.asked store.old + 12 }
     ensures calls { S.calls store.new ≤ S.calls store.old + 3 }

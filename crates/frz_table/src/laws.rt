@@ -1,8 +1,9 @@
 //! What holds of table files, each law the contract of a function that does nothing.
-ghost use Rattle.std.specs.Prelude.{◌≡◌, ℕ, ◌^◌, ◌<◌, List, length, take, slice_index, Some, Ok, Err};
+ghost use Rattle.std.specs.Prelude.{◌≡◌, ℕ, ◌^◌, ◌<◌, List, length, take, Some, Ok, Err};
 ghost use Rattle.frz_board.specs.declared.man.Colour.TheVariants.{White, Black};
 ghost use Rattle.frz_table.specs.Layout.{codes_at, file_of};
 ghost use Rattle.frz_table.specs.declared.fault.TableFault.TheVariants.{Truncated};
+ghost use Rattle.frz_table.specs.Numbers.{AreBytes, AreNumbers};
 ghost use Rattle.frz_table.specs.Tables.{IsTableFile};
 ghost use Rattle.frz_table.specs.Opening.{Format, Contents, IsOpened, due_by, opened};
 
@@ -32,8 +33,7 @@ pub fn one_reading()
 /// What was loaded gives the same bytes when it is written.
 pub fn loaded_and_written()
     ensures { (magic text : List ℕ) (size : ℕ) (bytes : List ℕ) → IsTableFile magic text size bytes
-        → ((i : ℕ) → slice_index bytes i < 256)
-        → file_of magic text size (codes_at White text size bytes) (codes_at Black text size bytes)
+        → AreBytes bytes → file_of magic text size (codes_at White text size bytes) (codes_at Black text size bytes)
         ≡ bytes }
 {}
 
@@ -44,7 +44,17 @@ pub fn written_and_loaded()
         → IsTableFile magic text size (file_of magic text size white black) }
     ensures codes { (magic text : List ℕ) (size : ℕ) (white black : List ℕ) → length magic ≡ 8
         → length white ≡ size → length black ≡ size
-        → ((i : ℕ) → slice_index white i < 2 ^ 32) → ((i : ℕ) → slice_index black i < 2 ^ 32)
+        → AreNumbers white → AreNumbers black
         → (codes_at White text size (file_of magic text size white black) ≡ white)
         × (codes_at Black text size (file_of magic text size white black) ≡ black) }
+{}
+
+/// A slice holds bytes.
+pub fn bytes_fit(slice: &[u8])
+    ensures { AreBytes slice.now }
+{}
+
+/// A slice holds numbers of 32 bits.
+pub fn numbers_fit(slice: &[u32])
+    ensures { AreNumbers slice.now }
 {}

@@ -9,6 +9,7 @@ pub mod laws;
 mod lists;
 mod loading;
 mod numbers;
+mod old;
 mod opening;
 mod sizes;
 mod table;
@@ -17,6 +18,7 @@ mod writing;
 
 pub use fault::TableFault;
 pub use kind::FileKind;
+pub use old::{OldFile, open_old};
 pub use opening::{open_kind, open_table};
 pub use table::TableFile;
 pub use writing::{write_entries, write_header, write_header_kind};

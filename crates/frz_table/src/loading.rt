@@ -5,8 +5,10 @@ ghost use Rattle.frz_store.specs.Outside.{IsNext, StoreCauses};
 ghost use Rattle.frz_store.specs.Told.{store_of, StoreQuiet};
 ghost use Rattle.frz_table.specs.Faults.{IsOutside, TableCauses};
 ghost use Rattle.frz_table.specs.Layout.{codes_at, pieces_of, place_of};
+ghost use Rattle.frz_table.specs.Possible.{MayKeep};
 ghost use Rattle.frz_table.specs.Tables.{Carries, table_size};
 
+use crate::laws::numbers_fit;
 use crate::lists::load_numbers;
 use crate::numbers::read_number;
 use crate::{TableFault, TableFile};
@@ -52,6 +54,7 @@ impl TableFile {
             (λ bytes. lists.0.items ≡ codes_at White self.now.text (table_size self.now) bytes))) }
         ensures black { IfOk result (λ lists. IfSome (S.files store.old) (λ m. IfSome (m self.now.name)
             (λ bytes. lists.1.items ≡ codes_at Black self.now.text (table_size self.now) bytes))) }
+        ensures may_keep { IfOk result (λ lists. MayKeep (S.files store.old) self.now lists.0.items lists.1.items) }
         ensures white_size { IfOk result (λ lists. length lists.0.items ≡ table_size self.now) }
         ensures black_size { IfOk result (λ lists. length lists.1.items ≡ table_size self.now) }
         ensures quiet { StoreQuiet (store_of S.Store store.old) (store_of S.Store store.new) }
@@ -64,6 +67,8 @@ impl TableFile {
         let size = self.set.size();
         let white = load_numbers(alloc, store, &self.name, self.place(Colour::White), size)?;
         let black = load_numbers(alloc, store, &self.name, self.place(Colour::Black), size)?;
+        numbers_fit(&white);
+        numbers_fit(&black);
         Ok((white, black))
     }
 }

@@ -5,6 +5,7 @@ ghost use Rattle.frz_store.specs.Told.{store_of, StoreQuiet};
 ghost use Rattle.frz_table.specs.declared.kind.FileKind.TheVariants.{Plain};
 ghost use Rattle.frz_table.specs.Faults.{TableCauses};
 ghost use Rattle.frz_table.specs.Opening.{Refuses, contents_of, opened, kept_text, table_format};
+ghost use Rattle.frz_table.specs.Possible.{MayOpen, MayRefuse};
 ghost use Rattle.frz_table.specs.Tables.{Carries};
 
 use crate::sizes::check_size;
@@ -26,6 +27,9 @@ pub fn open_kind<S: Store>(
         (λ m. opened (table_format kind) (m name.now) ≡ Ok (contents_of t))) }
     ensures refused { IfErr result (λ f. IfSome (S.files store.old)
         (λ m. Refuses (opened (table_format kind) (m name.now)) f)) }
+    ensures may_open { IfOk result (λ t. MayOpen (table_format kind) (S.files store.old) name.now (contents_of t)) }
+    ensures may_refuse { IfErr result (MayRefuse (table_format kind) (S.files store.old) name.now
+        (S.asked store.old) (S.asked store.new)) }
     ensures name { IfOk result (λ t. t.name ≡ name.now) }
     ensures kind { IfOk result (λ t. t.kind ≡ kind) }
     ensures carries { IfOk result (Carries (S.files store.new)) }
@@ -63,6 +67,9 @@ pub fn open_table<S: Store>(
         (λ m. opened (table_format Plain) (m name.now) ≡ Ok (contents_of t))) }
     ensures refused { IfErr result (λ f. IfSome (S.files store.old)
         (λ m. Refuses (opened (table_format Plain) (m name.now)) f)) }
+    ensures may_open { IfOk result (λ t. MayOpen (table_format Plain) (S.files store.old) name.now (contents_of t)) }
+    ensures may_refuse { IfErr result (MayRefuse (table_format Plain) (S.files store.old) name.now
+        (S.asked store.old) (S.asked store.new)) }
     ensures name { IfOk result (λ t. t.name ≡ name.now) }
     ensures kind { IfOk result (λ t. t.kind ≡ Plain) }
     ensures carries { IfOk result (Carries (S.files store.new)) }

@@ -22,6 +22,13 @@ group white 1 R:c1,c2
 group black 1 K:a8,b8
 ";
 
+/// None, one or both rooks: 75 bytes, and 36 numbers in the former format.
+const ROOKS: &str = "freezer 1
+group white 1 K:b6
+group white 0-2 R:h1,h8
+group black 1 K:a8,b8
+";
+
 /// Four blocked pawns a side: 278 bytes, 6,400 numbers.
 const BLOCKED: &str = "freezer 1
 group white 1 K:a1-h5
@@ -322,4 +329,68 @@ fn headers_have_their_bytes(rt: HostRuntime) -> Result<(), Fail> {
         b"FREEZERC\x16\x01\0\0",
         b"\0\x19\0\0",
     )
+}
+
+/// A file of the former format with codes 0 to 71, and with so many numbers kept.
+fn old_file(alloc: Global, magic: &[u8], kept: u32) -> Result<Vec<u8>, Fail> {
+    let mut file = Vec::new(alloc);
+    file.extend_from_slice(magic)?;
+    push_number(&mut file, 75)?;
+    file.extend_from_slice(ROOKS.as_bytes())?;
+    push_number(&mut file, kept)?;
+    for code in 0..72 {
+        push_number(&mut file, code)?;
+    }
+    Ok(file)
+}
+
+/// Why a file is refused as one of the former format.
+fn old_refusal(alloc: Global, file: &[u8]) -> Result<Option<TableFault>, Fail> {
+    let mut store = store_with(alloc, file, Vec::new(alloc))?;
+    match open_old(alloc, &mut store, "A.t") {
+        Ok(_) => Ok(None),
+        Err(fault) => Ok(Some(fault)),
+    }
+}
+
+/// The codes that an old file has for White, or for Black.
+fn old_codes(alloc: Global, first: u32) -> Result<Vec<u32>, Fail> {
+    let mut codes = Vec::new(alloc);
+    for code in 0..36 {
+        codes.push(first.saturating_add(code))?;
+    }
+    Ok(codes)
+}
+
+#[test]
+fn a_file_of_the_former_format_is_read(rt: HostRuntime) -> Result<(), Fail> {
+    let alloc = rt.alloc();
+    let file = old_file(alloc, b"FREEZER1", 36)?;
+    assert_eq!(rt; file.len(), 379);
+    let mut store = store_with(alloc, &file, Vec::new(alloc))?;
+    let old = open_old(alloc, &mut store, "A.t")?;
+    assert_eq!(rt; old.name(), "A.t");
+    assert_eq!(rt; old.text(), ROOKS.as_bytes());
+    let (white, black) = old.load(alloc, &mut store)?;
+    assert_eq!(rt; white.as_slice(), old_codes(alloc, 0)?.as_slice());
+    assert_eq!(rt; black.as_slice(), old_codes(alloc, 36)?.as_slice());
+    Ok(())
+}
+
+#[test]
+fn files_of_the_former_format_are_refused(rt: HostRuntime) -> Result<(), Fail> {
+    let alloc = rt.alloc();
+    let mut file = old_file(alloc, b"FREEZER1", 36)?;
+    let given = refusal(alloc, &file, FileKind::Plain)?;
+    assert_eq!(rt; given, Some(TableFault::Magic));
+    let present = old_file(alloc, b"FREEZER2", 36)?;
+    let given = old_refusal(alloc, &present)?;
+    assert_eq!(rt; given, Some(TableFault::Magic));
+    let small = old_file(alloc, b"FREEZER1", 16)?;
+    let given = old_refusal(alloc, &small)?;
+    assert_eq!(rt; given, Some(TableFault::Size(16, 36)));
+    file.push(0)?;
+    let given = old_refusal(alloc, &file)?;
+    assert_eq!(rt; given, Some(TableFault::Extra(380, 379)));
+    Ok(())
 }

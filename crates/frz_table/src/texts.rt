@@ -5,11 +5,13 @@ ghost use Rattle.frz_store.specs.Outside.{FreeCauses};
 ghost use Rattle.frz_store.specs.Told.{store_of, StoreQuiet};
 ghost use Rattle.frz_table.specs.Faults.{TableCauses};
 ghost use Rattle.frz_table.specs.Opening.{kept_text};
+ghost use Rattle.frz_table.specs.Possible.{SomeRefused};
 ghost use Rattle.frz_table.specs.Steps.{AllRefuse, HasText};
 ghost use Rattle.frz_table.specs.Tables.{Holds, IsRead};
 
 use crate::TableFault;
 use crate::head::read_head;
+use crate::laws::bytes_fit;
 use frz_rules::{Rules, read_rules};
 use frz_store::{Store, StoreFault};
 use std::alloc::Global;
@@ -59,6 +61,7 @@ pub(crate) fn open_text<S: Store>(
     ensures short { IfOk result (λ t. length t.text.items ≤ 65536) }
     ensures fits { IfOk result (λ t. 16 + length t.text.items ≤ t.file) }
     ensures refused { IfErr result (AllRefuse magic.now (S.files store.old) name.now) }
+    ensures some_refused { IfErr result (SomeRefused magic.now (S.asked store.old) (S.asked store.new)) }
     ensures quiet { StoreQuiet (store_of S.Store store.old) (store_of S.Store store.new) }
     ensures asked { IfOk result (λ t. S.asked store.new ≤ S.asked store.old + (12 + length t.text.items)) }
     ensures asked_told { IfSome (S.files store.old) (λ m. S.asked store.new
@@ -70,6 +73,7 @@ pub(crate) fn open_text<S: Store>(
 {
     let head = read_head(store, name, magic)?;
     let text = read_text(alloc, store, name, head.text)?;
+    bytes_fit(&text);
     let rules = read_rules(alloc, &text)?;
     Ok(Text {
         file: head.file,

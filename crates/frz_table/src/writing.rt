@@ -40,6 +40,7 @@ pub fn write_header_kind<S: Store>(
     ensures room { OnOk result (S.room store.new + (16 + length text.now) ≡ S.room store.old) }
     ensures asked { S.asked store.new ≡ S.asked store.old }
     ensures calls { S.calls store.new ≤ S.calls store.old + 3 }
+    ensures calls_later { S.calls store.old ≤ S.calls store.new }
     ensures wants { S.wants store.new ≡ S.wants store.old }
     ensures cause { HasCause (S.faults store.old) (S.faults store.new) result }
 {
@@ -60,6 +61,7 @@ pub fn write_header<S: Store>(store: &mut S, text: &[u8], size: u32) -> Result<(
     ensures room { OnOk result (S.room store.new + (16 + length text.now) ≡ S.room store.old) }
     ensures asked { S.asked store.new ≡ S.asked store.old }
     ensures calls { S.calls store.new ≤ S.calls store.old + 3 }
+    ensures calls_later { S.calls store.old ≤ S.calls store.new }
     ensures wants { S.wants store.new ≡ S.wants store.old }
     ensures cause { HasCause (S.faults store.old) (S.faults store.new) result }
 {
@@ -78,6 +80,7 @@ pub fn write_entries<S: Store>(store: &mut S, codes: &[u32]) -> Result<(), Faile
     ensures room { OnOk result (S.room store.new + 4 * length codes.now ≡ S.room store.old) }
     ensures asked { S.asked store.new ≡ S.asked store.old }
     ensures calls { S.calls store.new ≤ S.calls store.old + pieces_of (length codes.now) }
+    ensures calls_later { S.calls store.old ≤ S.calls store.new }
     ensures wants { S.wants store.new ≡ S.wants store.old }
     ensures cause { HasCause (S.faults store.old) (S.faults store.new) result }
 {

@@ -1,5 +1,6 @@
-use Rattle.std.proofs.Common.{◌∙◌, arith}
+use Rattle.std.proofs.Common.{◌∙◌, arith, rules}
 use Rattle.frz_table.proofs.Refusing.{refuse_missing, refuse_short, refuse_magic, refuse_long, refuse_cut, counted}
+use Rattle.frz_table.proofs.SomeFiles.{some_missing, some_short, some_magic, some_long, some_cut}
 use Rattle.frz_table.proofs.head.read_head.Goals as goal
 
 pub returns-in_default-clause-refused : goal.returns-in_default-clause-refused
@@ -25,3 +26,20 @@ returns-then-file-due-clause-refused g c =
     (counted _ _ _ _ _ c.in-Some.file c.in_ok-text.text _ (rw c.in-Some.is at c.in_ok-file.ensures.size) c.if-file-lt16.false c.size.ensures.files c.in_ok-begins_with.ensures.front c.if-not-branch.false
     (c.begins_with.ensures.quiet.unwritten.files ∙ c.size.ensures.files) c.in_ok-text.ensures.number)
     c.if-text-gt-LONGEST_TEXT.false (omega arith) c.if-file-due.true
+
+pub returns-in_default-clause-some_refused : goal.returns-in_default-clause-some_refused
+returns-in_default-clause-some_refused g c = some_missing _ _ _ (omega arith)
+
+pub returns-then-file-lt16-clause-some_refused : goal.returns-then-file-lt16-clause-some_refused
+returns-then-file-lt16-clause-some_refused g c = some_short _ _ _ c.in-Some.file (omega arith) c.if-file-lt16.true
+
+pub returns-then-not-branch-clause-some_refused : goal.returns-then-not-branch-clause-some_refused
+returns-then-not-branch-clause-some_refused g c = some_magic _ _ _ (omega arith)
+
+pub returns-then-text-gt-LONGEST_TEXT-clause-some_refused : goal.returns-then-text-gt-LONGEST_TEXT-clause-some_refused
+returns-then-text-gt-LONGEST_TEXT-clause-some_refused g c =
+    some_long _ _ _ c.in_ok-text.text (omega arith) (search rules) (search rules) (omega arith) c.if-text-gt-LONGEST_TEXT.true
+
+pub returns-then-file-due-clause-some_refused : goal.returns-then-file-due-clause-some_refused
+returns-then-file-due-clause-some_refused g c =
+    some_cut _ _ _ c.in-Some.file c.in_ok-text.text _ (omega arith) (search rules) (search rules) c.if-file-lt16.false c.if-text-gt-LONGEST_TEXT.false (omega arith) c.if-file-due.true

@@ -37,6 +37,6 @@ loop-rest-preserved g c =
           (omega (arith, c.append.ensures.room, ap length put, length-number_bytes c.split_at.result.0.now))
           (omega (arith, c.requires, c.loop-rest.invariant.0.room, ap length c.loop-rest.invariant.0.parts, length-append c.loop-rest.invariant.0.written c.loop-rest.rest.now))
           c.append.ensures.asked c.append.ensures.wants c.in_ok-append.ensures.cause.fine
-          (omega (arith, c.split_at.ensures.front_len, c.min-here.ensures)) (omega (arith, c.append.ensures.calls.next)),
+          (omega (arith, c.split_at.ensures.front_len, c.min-here.ensures)) (omega (arith, c.append.ensures.calls.next)) c.append.ensures.calls.later,
       λ e. absurd (omega (arith, e, few)),
     )

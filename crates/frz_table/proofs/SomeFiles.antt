@@ -1,0 +1,474 @@
+-- What a name may hold that opens so, or is refused so.
+use Rattle.std.proofs.Common.{◌≡◌, ◌≢◌, refl, sym, ap, subst, ◌∙◌, ℕ, zero, suc, ◌∷◌, lit<, ◌+◌, ◌-◌, ◌^◌, ◌<◌, ◌≤◌, List, [], ◌++◌, length, take, drop, replicate, get_or, Option, Some, None, Bool, true, false, Result, Ok, Err, IfSome, arith, cond, ltb}
+use Rattle.std.specs.Prelude.{◌==◌, ◌&&◌, IsSomeAnd}
+use Rattle.std.specs.List.{list_all}
+use Rattle.std.specs.Result.{IsErrOf}
+use Rattle.std.specs.Int.{w32, to_le_bytes}
+use Rattle.std.proofs.lemmas.Bool.{ltb-true, ltb-false, lt-ltb, le-ltb, eq-eqb, ne_eqb}
+use Rattle.std.proofs.lemmas.List.{length-replicate}
+use Rattle.frz_board.specs.declared.man.Colour.{Colour}
+use Rattle.frz_board.specs.declared.man.Colour.TheVariants.{White, Black}
+use Rattle.frz_sets.specs.Views.{RuleLines}
+use Rattle.frz_rules.specs.Text.{rules_of, Fails, too_long}
+use Rattle.frz_rules.specs.declared.fault.RulesFault.{RulesFault}
+use Rattle.frz_rules.specs.declared.fault.RulesCause.TheVariants.{TooLong}
+use Rattle.frz_rules.specs.declared.fault.RulesError.{RulesError}
+use Rattle.frz_rules.specs.declared.fault.RulesError.TheVariants as reading
+use Rattle.frz_store.specs.Files.{Files, bytes_at}
+use Rattle.frz_store.specs.declared.outside.StoreFault.{StoreFault}
+use Rattle.frz_store.specs.declared.outside.StoreFault.TheVariants as store
+use Rattle.frz_table.specs.declared.fault.TableFault.{TableFault}
+use Rattle.frz_table.specs.declared.fault.TableFault.TheVariants.{Missing, Magic, Truncated, Extra, Rules, Size, Failed, NoMemory}
+use Rattle.frz_table.specs.declared.kind.FileKind.{FileKind}
+use Rattle.frz_table.specs.declared.kind.FileKind.TheVariants.{Plain, Chained}
+use Rattle.frz_table.specs.Faults.{IsOutside, TableCauses, fault_of, rules_fault}
+use Rattle.frz_table.specs.Layout.{magic_of, due_length, header_of, file_of, codes_at, place_of}
+use Rattle.frz_table.specs.Numbers.{AreBytes, AreNumbers, number_at, numbers, number_bytes}
+use Rattle.frz_table.specs.Opening.{Format, Contents, Refuses, opened, of_size, of_length, kept_length, kept_text, kept_size}
+use Rattle.frz_table.specs.Possible.{MayHold, MayOpen, MayRefuse, MayKeep, SomeRefused, SomeSizeRefused}
+use Rattle.frz_table.specs.Steps.{IsFormatOf, AllRefuse, HasText}
+use Rattle.frz_table.specs.Tables.{Table, Holds, IsTableFile, Carries, table_size}
+use Rattle.frz_table.proofs.Belonging.{opens_by}
+use Rattle.frz_table.proofs.Files.{written_belongs, written_is_loaded}
+use Rattle.frz_table.proofs.Made.{AreBytes-append, AreBytes-number, AreBytes-number_bytes, AreBytes-zeros, begun, begun_bytes, begun_long, begun_kept, begun_begins, made, made_bytes, made_long, made_text, made_size, unlike, unlike_bytes, unlike_begins}
+use Rattle.frz_table.proofs.Refusing.{Given, refuse_missing, refuse_short, refuse_magic, refuse_long, refuse_cut, refuse_read, refuse_rules, refuse_size, IsCounted}
+
+-- a store that tells and holds this under each name
+abbrev holding : Option (List ℕ) → Option Files
+holding held = Some (λ _. held)
+
+-- what is held and refused, where little was asked for
+few_asked : (magic : List ℕ) (before now : ℕ) (fault : TableFault) (held : Option (List ℕ)) → IfSome held AreBytes
+    → AllRefuse magic (holding held) [] fault → now ≤ before + 12 → SomeRefused magic before now fault
+few_asked magic before now fault held bytes refuses few =
+    record { held = held; bytes = bytes; refuses = refuses; asked = omega (arith, few) }
+
+pub some_missing : (magic : List ℕ) (before now : ℕ) → now ≤ before + 12 → SomeRefused magic before now Missing
+some_missing magic before now few = few_asked magic before now Missing None tt (refuse_missing magic (holding None) [] refl) few
+
+pub some_short : (magic : List ℕ) (before now count : ℕ) → now ≤ before + 12 → count < 16 → SomeRefused magic before now (Truncated count 16)
+some_short magic before now count few is_short =
+    let bytes : List ℕ = replicate count 0 in
+    few_asked magic before now (Truncated count 16) (Some bytes) (AreBytes-zeros count)
+    (refuse_short magic (holding (Some bytes)) [] count (ap Some (sym (length-replicate {A = ℕ} count 0))) is_short) few
+
+pub some_magic : (magic : List ℕ) (before now : ℕ) → now ≤ before + 12 → SomeRefused magic before now Magic
+some_magic magic before now few =
+    let files : Option Files = holding (Some (unlike magic)) in
+    few_asked magic before now Magic (Some (unlike magic)) (unlike_bytes magic)
+    (refuse_magic magic files files [] 16 false refl (omega arith) refl (sym (unlike_begins magic)) refl) few
+
+-- what is known of a file that is begun
+is_counted : (magic : List ℕ) (n count : ℕ) (rest : List ℕ) → length magic ≡ 8 → n < 2 ^ 32 → 12 + length rest ≡ count → 16 ≤ count
+    → IsCounted magic count n (begun magic n rest)
+is_counted magic n count rest eight fits long enough = record {
+  all = begun_long magic n rest eight ∙ long;
+  enough = enough;
+  begins = begun_begins magic n rest eight;
+  kept = begun_kept magic n rest eight fits;
+}
+
+pub some_long : (magic : List ℕ) (before now n : ℕ) → now ≤ before + 12 → length magic ≡ 8 → AreBytes magic → n < 2 ^ 32 → 65536 < n
+    → SomeRefused magic before now (Rules (record { line = 0; cause = TooLong }))
+some_long magic before now n few eight are fits long =
+    let bytes : List ℕ = begun magic n (replicate 4 0) in
+    few_asked magic before now (Rules (record { line = 0; cause = TooLong })) (Some bytes) (begun_bytes magic n (replicate 4 0) are (AreBytes-zeros 4))
+    (refuse_long magic (holding (Some bytes)) [] 16 n (is_counted magic n 16 (replicate 4 0) eight fits refl (omega arith)) long) few
+
+pub some_cut : (magic : List ℕ) (before now count n due : ℕ) → now ≤ before + 12 → length magic ≡ 8 → AreBytes magic → 16 ≤ count → n ≤ 65536 → due ≡ 16 + n → count < due
+    → SomeRefused magic before now (Truncated count due)
+some_cut magic before now count n due few eight are enough short is_due cut =
+    let rest : List ℕ = replicate (count - 12) 0 in
+    let bytes : List ℕ = begun magic n rest in
+    let long : 12 + length rest ≡ count = omega (arith, length-replicate {A = ℕ} (count - 12) 0, enough) in
+    few_asked magic before now (Truncated count due) (Some bytes) (begun_bytes magic n rest are (AreBytes-zeros (count - 12)))
+    (refuse_cut magic (holding (Some bytes)) [] count n due (is_counted magic n count rest eight (omega (arith, short)) long enough) short is_due cut) few
+
+pub outside_refuses : (given : Given) (fault : TableFault) → IsOutside fault → Refuses given fault
+outside_refuses given Missing h = absurd h
+outside_refuses given Magic h = absurd h
+outside_refuses given (Truncated a b) h = absurd h
+outside_refuses given (Extra a b) h = absurd h
+outside_refuses given (Rules f) h = absurd h
+outside_refuses given (Size a b) h = absurd h
+outside_refuses given Failed h = tt
+outside_refuses given NoMemory h = tt
+
+-- where the store fails or memory is wanted, the text may be as long as texts can be
+outside_by : (magic : List ℕ) (before now : ℕ) (fault : TableFault) (text : List ℕ) → length magic ≡ 8 → AreBytes magic → AreBytes text → length text ≡ 65536
+    → IsOutside fault → now ≤ before + (16 + 65536) → SomeRefused magic before now fault
+outside_by magic before now fault text eight are are_text long outside few =
+    let count : ℕ = 16 + length text in
+    let bytes : List ℕ = made magic text 0 count in
+    let has : HasText magic text count bytes = made_text magic text 0 count eight (omega (arith, long)) (omega arith) in
+    record {
+      held = Some bytes;
+      bytes = made_bytes magic text 0 count are are_text;
+      refuses = λ format is. outside_refuses (opened format (Some bytes)) fault outside;
+      asked = omega (arith, few, ap (length {A = ℕ}) has.text_is, long);
+    }
+
+some_text : (n : ℕ) → (text : List ℕ) × (AreBytes text × (length text ≡ n))
+some_text n = (replicate n 0, (AreBytes-zeros n, length-replicate n 0))
+
+pub some_outside : (magic : List ℕ) (before now : ℕ) (fault : TableFault) → length magic ≡ 8 → AreBytes magic
+    → IsOutside fault → now ≤ before + (16 + 65536) → SomeRefused magic before now fault
+some_outside magic before now fault eight are outside few =
+    let t = some_text 65536 in
+    outside_by magic before now fault t.0 eight are t.1.0 t.1.1 outside few
+
+pub fault_outside : (fault : StoreFault) → IsOutside (fault_of fault)
+fault_outside store.Failed = tt
+fault_outside store.NoMemory = tt
+
+-- the text is refused
+pub some_rules : (magic text : List ℕ) (before now : ℕ) (refused : RulesError) → length magic ≡ 8 → AreBytes magic → AreBytes text → length text ≤ 65536
+    → now ≤ before + (12 + length text) → Fails refused (rules_of text) → SomeRefused magic before now (rules_fault refused)
+some_rules magic text before now reading.NoMemory eight are are_text short few fails = some_outside magic before now NoMemory eight are tt (omega (arith, few, short))
+some_rules magic text before now (reading.Bad fault) eight are are_text short few fails =
+    let count : ℕ = 16 + length text in
+    let bytes : List ℕ = made magic text 0 count in
+    let has : HasText magic text count bytes = made_text magic text 0 count eight short (omega arith) in
+    let files : Option Files = holding (Some bytes) in
+    record {
+      held = Some bytes;
+      bytes = made_bytes magic text 0 count are are_text;
+      refuses =
+          refuse_rules magic files files [] count (length text) text (reading.Bad fault) has.head refl
+          (sym has.text_is ∙ ap (λ (k : ℕ). take k (drop 12 bytes)) has.head.kept) fails;
+      asked = omega (arith, few, ap (length {A = ℕ}) has.text_is);
+    }
+
+-- the last two steps
+sized : (bytes text : List ℕ) (rules : RuleLines) (size : ℕ) (b : Bool) → (kept_size bytes == size) ≡ b
+    → of_size bytes (record { text = text; rules = rules }) size
+    ≡ cond b (of_length bytes (record { text = text; rules = rules }) (due_length text size)) (Err (Size (kept_size bytes) size))
+sized bytes text rules size b is =
+    let contents : Contents = record { text = text; rules = rules } in
+    ap (λ (t : Bool). cond t (of_length bytes contents (due_length text size)) (Err (Size (kept_size bytes) size))) is
+
+pub some_size : (magic text : List ℕ) (count size kept : ℕ) → length magic ≡ 8 → AreBytes magic → AreBytes text → length text ≤ 65536 → 16 + length text ≤ count
+    → kept < 2 ^ 32 → kept ≢ size → SomeSizeRefused magic text count size (Size kept size)
+some_size magic text count size kept eight are are_text short enough fits differs =
+    let bytes : List ℕ = made magic text kept count in
+    let is : kept_size bytes ≡ kept = made_size magic text kept count eight short fits in
+    let at : ℕ → Given = λ k. Err (Size k size) in
+    record {
+      held = bytes;
+      bytes = made_bytes magic text kept count are are_text;
+      has_text = made_text magic text kept count eight short enough;
+      refuses = λ rules. sized bytes text rules size false (ne_eqb (kept_size bytes) size (λ e. differs (sym is ∙ e))) ∙ ap at is;
+    }
+
+pub some_due_cut : (magic text : List ℕ) (count size due : ℕ) → length magic ≡ 8 → AreBytes magic → AreBytes text → length text ≤ 65536 → 16 + length text ≤ count
+    → size < 2 ^ 32 → due ≡ due_length text size → count < due → SomeSizeRefused magic text count size (Truncated count due)
+some_due_cut magic text count size due eight are are_text short enough fits is_due cut =
+    let bytes : List ℕ = made magic text size count in
+    let is : kept_size bytes ≡ size = made_size magic text size count eight short fits in
+    let long : length bytes ≡ count = made_long magic text size count eight enough in
+    let at : ℕ → ℕ → Given = λ k d. Err (Truncated k d) in
+    record {
+      held = bytes;
+      bytes = made_bytes magic text size count are are_text;
+      has_text = made_text magic text size count eight short enough;
+      refuses = λ rules.
+          (let contents : Contents = record { text = text; rules = rules } in
+          let d : ℕ = due_length text size in
+          sized bytes text rules size true (eq-eqb (kept_size bytes) size is)
+          ∙ ap (λ (t : Bool). cond t (Err (Truncated (length bytes) d)) (cond (ltb d (length bytes)) (Err (Extra (length bytes) d)) (Ok contents)))
+          (lt-ltb (length bytes) d (omega (arith, long, is_due, cut)))
+          ∙ ap (λ (k : ℕ). at k d) long ∙ ap (at count) (sym is_due));
+    }
+
+pub some_due_extra : (magic text : List ℕ) (count size due : ℕ) → length magic ≡ 8 → AreBytes magic → AreBytes text → length text ≤ 65536 → 16 + length text ≤ count
+    → size < 2 ^ 32 → due ≡ due_length text size → due < count → SomeSizeRefused magic text count size (Extra count due)
+some_due_extra magic text count size due eight are are_text short enough fits is_due more =
+    let bytes : List ℕ = made magic text size count in
+    let is : kept_size bytes ≡ size = made_size magic text size count eight short fits in
+    let long : length bytes ≡ count = made_long magic text size count eight enough in
+    let at : ℕ → ℕ → Given = λ k d. Err (Extra k d) in
+    record {
+      held = bytes;
+      bytes = made_bytes magic text size count are are_text;
+      has_text = made_text magic text size count eight short enough;
+      refuses = λ rules.
+          (let contents : Contents = record { text = text; rules = rules } in
+          let d : ℕ = due_length text size in
+          sized bytes text rules size true (eq-eqb (kept_size bytes) size is)
+          ∙ ap (λ (t : Bool). cond t (Err (Truncated (length bytes) d)) (cond (ltb d (length bytes)) (Err (Extra (length bytes) d)) (Ok contents)))
+          (le-ltb (length bytes) d (omega (arith, long, is_due, more)))
+          ∙ ap (λ (t : Bool). cond t (Err (Extra (length bytes) d)) (Ok contents)) (lt-ltb d (length bytes) (omega (arith, long, is_due, more)))
+          ∙ ap (λ (k : ℕ). at k d) long ∙ ap (at count) (sym is_due));
+    }
+
+pub some_size_outside : (magic text : List ℕ) (count size : ℕ) (fault : TableFault) → length magic ≡ 8 → AreBytes magic → AreBytes text → length text ≤ 65536 → 16 + length text ≤ count
+    → IsOutside fault → SomeSizeRefused magic text count size fault
+some_size_outside magic text count size fault eight are are_text short enough outside =
+    let bytes : List ℕ = made magic text 0 count in
+    record {
+      held = bytes;
+      bytes = made_bytes magic text 0 count are are_text;
+      has_text = made_text magic text 0 count eight short enough;
+      refuses = λ rules. outside_refuses (of_size bytes (record { text = text; rules = rules }) size) fault outside;
+    }
+
+-- what the store tells, or else what is made
+pub may_refuse : (magic : List ℕ) (format : Format) (files : Option Files) (name : List ℕ) (before now : ℕ) (fault : TableFault) → IsFormatOf magic format
+    → IfSome files (λ m. Refuses (opened format (m name)) fault)
+    → IfSome files (λ m. now ≤ before + (16 + length (kept_text (bytes_at m name))))
+    → SomeRefused magic before now fault → MayRefuse format files name before now fault
+may_refuse magic format None name before now fault is told asked some =
+    record { held = some.held; may = some.bytes; refuses = some.refuses format is; asked = some.asked }
+may_refuse magic format (Some m) name before now fault is told asked some =
+    record { held = m name; may = refl; refuses = told; asked = asked }
+
+-- the last two steps refuse
+pub may_refuse_size : (format : Format) (magic text : List ℕ) (rules : RuleLines) (count size : ℕ) (files : Option Files) (name : List ℕ) (before now : ℕ) (fault : TableFault)
+    → IsFormatOf magic format → format.read text ≡ Ok rules → size ≡ format.size rules
+    → IfSome files (λ m. Refuses (opened format (m name)) fault)
+    → IfSome files (λ m. now ≤ before + (16 + length (kept_text (bytes_at m name))))
+    → now ≤ before + (16 + length text)
+    → SomeSizeRefused magic text count size fault → MayRefuse format files name before now fault
+may_refuse_size format magic text rules count size None name before now fault at read is told asked few some =
+    let files : Option Files = holding (Some some.held) in
+    record {
+      held = Some some.held;
+      may = some.bytes;
+      refuses = refuse_size format magic files files [] text rules count size fault at some.has_text refl some.refuses read is;
+      asked = omega (arith, few, ap (length {A = ℕ}) some.has_text.text_is);
+    }
+may_refuse_size format magic text rules count size (Some m) name before now fault at read is told asked few some =
+    record { held = m name; may = refl; refuses = told; asked = asked }
+
+-- the format refuses the text
+pub may_refuse_read : (format : Format) (magic text : List ℕ) (fault : RulesFault) (files : Option Files) (name : List ℕ) (before now : ℕ)
+    → IsFormatOf magic format → length magic ≡ 8 → AreBytes magic → AreBytes text → length text ≤ 65536
+    → format.read text ≡ Err fault
+    → IfSome files (λ m. Refuses (opened format (m name)) (Rules fault))
+    → IfSome files (λ m. now ≤ before + (16 + length (kept_text (bytes_at m name))))
+    → now ≤ before + (16 + length text)
+    → MayRefuse format files name before now (Rules fault)
+may_refuse_read format magic text fault None name before now is eight are are_text short read told asked few =
+    let count : ℕ = 16 + length text in
+    let bytes : List ℕ = made magic text 0 count in
+    let has : HasText magic text count bytes = made_text magic text 0 count eight short (omega arith) in
+    record {
+      held = Some bytes;
+      may = made_bytes magic text 0 count are are_text;
+      refuses = refuse_read format magic (holding (Some bytes)) [] text count fault is has read;
+      asked = omega (arith, few, ap (length {A = ℕ}) has.text_is);
+    }
+may_refuse_read format magic text fault (Some m) name before now is eight are are_text short read told asked few =
+    record { held = m name; may = refl; refuses = told; asked = asked }
+
+-- a file of this text that is long enough and has its size
+made_file : (magic text : List ℕ) (size : ℕ) → length magic ≡ 8 → length text ≤ 65536 → size < 2 ^ 32
+    → IsTableFile magic text size (made magic text size (due_length text size))
+made_file magic text size eight short fits =
+    let count : ℕ = due_length text size in
+    let bytes : List ℕ = made magic text size count in
+    let has : HasText magic text count bytes = made_text magic text size count eight short (omega arith) in
+    let counted : kept_length bytes ≡ length text = has.head.kept in
+    record {
+      begins = has.head.begins;
+      counted = counted;
+      has_text = ap (λ (k : ℕ). take k (drop 12 bytes)) (sym counted) ∙ has.text_is;
+      sized = ap (λ (k : ℕ). number_at (12 + k) bytes) (sym counted) ∙ made_size magic text size count eight short fits;
+      due = has.head.all;
+    }
+
+-- all steps pass
+pub may_open : (format : Format) (magic text : List ℕ) (rules : RuleLines) (count size : ℕ) (files : Option Files) (name : List ℕ)
+    → IsFormatOf magic format → length magic ≡ 8 → AreBytes magic → AreBytes text → length text ≤ 65536 → size < 2 ^ 32 → format.read text ≡ Ok rules → size ≡ format.size rules
+    → Holds files name (HasText magic text count)
+    → IfSome files (λ m. opened format (m name) ≡ Ok (record { text = text; rules = rules }))
+    → MayOpen format files name (record { text = text; rules = rules })
+may_open format magic text rules count size None name at eight are are_text short fits read is held told =
+    let bytes : List ℕ = made magic text size (due_length text size) in
+    let file : IsTableFile format.magic text (format.size rules) bytes =
+    subst (λ (m : List ℕ). IsTableFile m text (format.size rules) bytes) (sym at.magic_is)
+    (subst (λ (n : ℕ). IsTableFile magic text n bytes) is (made_file magic text size eight short fits)) in
+    record {
+      bytes = bytes;
+      may = made_bytes magic text size (due_length text size) are are_text;
+      opens = opens_by format bytes (record { text = text; rules = rules }) (record { file = file; short = short; read = read });
+    }
+may_open format magic text rules count size (Some m) name at eight are are_text short fits read is held told = by_held (m name) refl held told
+  where
+    by_held : (o : Option (List ℕ)) → m name ≡ o → IsSomeAnd o (HasText magic text count) → opened format o ≡ Ok (record { text = text; rules = rules })
+        → MayOpen format (Some m) name (record { text = text; rules = rules })
+    by_held None same h k = absurd h
+    by_held (Some bytes) same h k = record { bytes = bytes; may = same; opens = k }
+
+not_too_long : (b : Bool) (rest : Result RuleLines RulesFault) (rules : RuleLines) → cond b too_long rest ≡ Ok rules → b ≡ false
+not_too_long true rest rules read = absurd (cc)
+not_too_long false rest rules read = refl
+
+-- rules that are read have a text that is short enough
+pub read_short : (text : List ℕ) (rules : RuleLines) → rules_of text ≡ Ok rules → length text ≤ 65536
+unfolding rules_of
+read_short text rules read = ltb-false 65536 (length text) (not_too_long (ltb 65536 (length text)) _ rules read)
+
+pub magic_long : (kind : FileKind) → length (magic_of kind) ≡ 8
+magic_long Plain = refl
+magic_long Chained = refl
+
+both : (a b : Bool) → (a && b) ≡ true → (a ≡ true) × (b ≡ true)
+both true b h = (refl, h)
+both false b h = absurd (cc)
+
+pub short_bytes : (xs : List ℕ) → list_all (λ x. ltb x 256) xs ≡ true → (i : ℕ) → get_or xs i 0 < 256
+short_bytes [] h i = lit< tt
+short_bytes (x ∷ xs) h zero = ltb-true x 256 (both (ltb x 256) (list_all (λ y. ltb y 256) xs) h).0
+short_bytes (x ∷ xs) h (suc i) = short_bytes xs (both (ltb x 256) (list_all (λ y. ltb y 256) xs) h).1 i
+
+magic_bytes : (kind : FileKind) → AreBytes (magic_of kind)
+magic_bytes Plain = short_bytes (magic_of Plain) refl
+magic_bytes Chained = short_bytes (magic_of Chained) refl
+
+-- the name may hold a file of this text in which these are the codes
+pub record HoldsCodes (files : Option Files) (name magic text : List ℕ) (size : ℕ) (white black : List ℕ) : Type 0 where
+  pub bytes : List ℕ
+  pub may : MayHold files name (Some bytes)
+  pub file : IsTableFile magic text size bytes
+  pub white_is : codes_at White text size bytes ≡ white
+  pub black_is : codes_at Black text size bytes ≡ black
+
+-- lists that can be the codes of a file of this text
+pub record AreCodes (magic text : List ℕ) (size : ℕ) (white black : List ℕ) : Type 0 where
+  pub eight : length magic ≡ 8
+  pub magic_bytes : AreBytes magic
+  pub text_bytes : AreBytes text
+  pub short : length text ≤ 65536
+  pub fits : size < 2 ^ 32
+  pub white_long : length white ≡ size
+  pub black_long : length black ≡ size
+  pub white_fit : AreNumbers white
+  pub black_fit : AreNumbers black
+
+-- a file with these codes
+written_file : (name magic text : List ℕ) (size : ℕ) (white black : List ℕ) → AreCodes magic text size white black
+    → HoldsCodes None name magic text size white black
+written_file name magic text size white black h =
+    let codes = written_is_loaded magic text size white black h.eight h.white_long h.black_long h.white_fit h.black_fit in
+    record {
+      bytes = file_of magic text size white black;
+      may =
+          AreBytes-append (header_of magic text size) (number_bytes white ++ number_bytes black)
+          (AreBytes-append magic (to_le_bytes w32 (length text) ++ (text ++ to_le_bytes w32 size)) h.magic_bytes
+          (AreBytes-append (to_le_bytes w32 (length text)) (text ++ to_le_bytes w32 size) (AreBytes-number (length text))
+          (AreBytes-append text (to_le_bytes w32 size) h.text_bytes (AreBytes-number size))))
+          (AreBytes-append (number_bytes white) (number_bytes black) (AreBytes-number_bytes white) (AreBytes-number_bytes black));
+      file = written_belongs magic text size white black h.eight (omega (arith, h.short)) h.fits h.white_long h.black_long;
+      white_is = codes.0;
+      black_is = codes.1;
+    }
+
+-- the lists are codes that the name may hold
+pub holds_codes : (files mid : Option Files) (name magic text : List ℕ) (size : ℕ) (white black : List ℕ) → AreCodes magic text size white black
+    → Holds files name (IsTableFile magic text size)
+    → IfSome files (λ m. IfSome (m name) (λ bytes. white ≡ codes_at White text size bytes))
+    → mid ≡ files
+    → IfSome mid (λ m. IfSome (m name) (λ bytes. black ≡ codes_at Black text size bytes))
+    → HoldsCodes files name magic text size white black
+holds_codes None mid name magic text size white black h held white_is is_mid black_is = written_file name magic text size white black h
+holds_codes (Some m) mid name magic text size white black h held white_is is_mid black_is =
+    by_held (m name) refl held white_is
+    (subst (λ (o : Option Files). IfSome o (λ (f : Files). IfSome (f name) (λ bytes. black ≡ codes_at Black text size bytes))) is_mid black_is)
+  where
+    by_held : (o : Option (List ℕ)) → m name ≡ o → IsSomeAnd o (IsTableFile magic text size)
+        → IfSome o (λ bytes. white ≡ codes_at White text size bytes)
+        → IfSome o (λ bytes. black ≡ codes_at Black text size bytes)
+        → HoldsCodes (Some m) name magic text size white black
+    by_held None same f p q = absurd f
+    by_held (Some bytes) same f p q = record { bytes = bytes; may = same; file = f; white_is = sym p; black_is = sym q }
+
+-- a table's text and lists of its size
+table_codes : (table : Table) (white black : List ℕ) → rules_of table.text ≡ Ok table.rules → AreBytes table.text → table_size table < 2 ^ 32
+    → length white ≡ table_size table → length black ≡ table_size table → AreNumbers white → AreNumbers black
+    → AreCodes (magic_of table.kind) table.text (table_size table) white black
+table_codes table white black read are fits w b white_fit black_fit = record {
+  eight = magic_long table.kind;
+  magic_bytes = magic_bytes table.kind;
+  text_bytes = are;
+  short = read_short table.text table.rules read;
+  fits = fits;
+  white_long = w;
+  black_long = b;
+  white_fit = white_fit;
+  black_fit = black_fit;
+}
+
+-- a file of the table with any codes
+pub table_file : (table : Table) (white black : List ℕ) → rules_of table.text ≡ Ok table.rules → AreBytes table.text → table_size table < 2 ^ 32
+    → length white ≡ table_size table → length black ≡ table_size table
+    → AreNumbers white → AreNumbers black
+    → MayKeep None table white black
+table_file table white black read are fits w b white_fit black_fit =
+    let k = written_file table.name (magic_of table.kind) table.text (table_size table) white black (table_codes table white black read are fits w b white_fit black_fit) in
+    record { bytes = k.bytes; may = k.may; file = k.file; white_is = k.white_is; black_is = k.black_is }
+
+-- the lists are codes that the table's name may hold
+pub may_keep : (files mid : Option Files) (table : Table) (white black : List ℕ) → rules_of table.text ≡ Ok table.rules → AreBytes table.text → table_size table < 2 ^ 32
+    → length white ≡ table_size table → length black ≡ table_size table
+    → AreNumbers white → AreNumbers black
+    → Carries files table
+    → IfSome files (λ m. IfSome (m table.name) (λ bytes. white ≡ codes_at White table.text (table_size table) bytes))
+    → mid ≡ files
+    → IfSome mid (λ m. IfSome (m table.name) (λ bytes. black ≡ codes_at Black table.text (table_size table) bytes))
+    → MayKeep files table white black
+may_keep files mid table white black read are fits w b white_fit black_fit held white_is is_mid black_is =
+    let k = holds_codes files mid table.name (magic_of table.kind) table.text (table_size table) white black (table_codes table white black read are fits w b white_fit black_fit) held white_is is_mid black_is in
+    record { bytes = k.bytes; may = k.may; file = k.file; white_is = k.white_is; black_is = k.black_is }
+
+-- no more is asked for behind the text than four bytes
+pub later_asked : (files : Option Files) (name : List ℕ) (before mid now : ℕ) → now ≤ mid + 4
+    → IfSome files (λ m. mid ≤ before + (12 + length (kept_text (bytes_at m name))))
+    → IfSome files (λ m. now ≤ before + (16 + length (kept_text (bytes_at m name))))
+later_asked None name before mid now few h = tt
+later_asked (Some m) name before mid now few h = omega (arith, few, h)
+
+-- want of memory is no refusal
+pub told_outside : (format : Format) (files : Option Files) (name : List ℕ) → IfSome files (λ m. Refuses (opened format (m name)) NoMemory)
+told_outside format None name = tt
+told_outside format (Some m) name = tt
+
+-- the magic of a kind is one of eight bytes
+pub eight_bytes : (kind : FileKind) (magic : List ℕ) → magic ≡ magic_of kind → (length magic ≡ 8) × AreBytes magic
+eight_bytes kind magic is =
+    (ap (length {A = ℕ}) is ∙ magic_long kind, subst (λ (l : List ℕ). AreBytes l) (sym is) (magic_bytes kind))
+
+-- numbers that were read are the codes of a side
+pub codes_read : (o : Option Files) (name held_name : List ℕ) (side : Colour) (text : List ℕ) (size count place : ℕ) (list : List ℕ) → held_name ≡ name → count ≡ size → place ≡ place_of side text size
+    → IfSome o (λ m. IfSome (m held_name) (λ bytes. list ≡ numbers count (drop place bytes)))
+    → IfSome o (λ m. IfSome (m name) (λ bytes. list ≡ codes_at side text size bytes))
+codes_read o name held_name side text size count place list named many at h =
+    subst (λ (p : ℕ). IfSome o (λ (m : Files). IfSome (m name) (λ (bytes : List ℕ). list ≡ numbers size (drop p bytes)))) at
+    (subst (λ (n : ℕ). IfSome o (λ (m : Files). IfSome (m name) (λ (bytes : List ℕ). list ≡ numbers n (drop place bytes)))) many
+    (subst (λ (q : List ℕ). IfSome o (λ (m : Files). IfSome (m q) (λ (bytes : List ℕ). list ≡ numbers count (drop place bytes)))) named h))
+
+same_fault : {U : Type 0} (a b : TableFault) → IsErrOf {T = U} {E = TableFault} (Err a) b → a ≡ b
+same_fault a b is = cc
+
+-- an error is one of results of every type
+same_error : {T U : Type 0} (a b : TableFault) → IsErrOf {T = U} {E = TableFault} (Err a) b → IsErrOf {T = T} {E = TableFault} (Err a) b
+same_error {T} {U} a b is = ap (λ (f : TableFault). let r : Result T TableFault = Err f in r) (same_fault {U = U} a b is)
+
+-- a refusal behind calls that all succeeded
+pub causes_behind : {T U : Type 0} (faults_before faults_mid faults_now wants_before wants_mid wants_now : ℕ) (fault : TableFault)
+    → faults_mid ≡ faults_before → wants_mid ≡ wants_before
+    → TableCauses {T = T} faults_mid faults_now wants_mid wants_now (Err fault)
+    → TableCauses {T = U} faults_before faults_now wants_before wants_now (Err fault)
+causes_behind {T} {U} faults_before faults_mid faults_now wants_before wants_mid wants_now fault same_faults same_wants h =
+    let moved : TableCauses {T = T} faults_before faults_now wants_before wants_now (Err fault) =
+    subst (λ (n : ℕ). TableCauses {T = T} n faults_now wants_before wants_now (Err fault)) same_faults
+    (subst (λ (n : ℕ). TableCauses {T = T} faults_mid faults_now n wants_now (Err fault)) same_wants h) in
+    record {
+      later = moved.later;
+      wants_later = moved.wants_later;
+      fine = tt;
+      wants_fine = tt;
+      refused = moved.refused;
+      wants_refused = moved.wants_refused;
+      failed = λ is. moved.failed (same_error {T = T} {U = U} fault Failed is);
+    }

@@ -1,0 +1,59 @@
+-- What a name may hold, by what the store tells.
+use Rattle.std.specs.Prelude.{◌≡◌, ℕ, ◌+◌, ◌≤◌, List, [], length, Option, None, Some, Ok, IfSome}
+use Rattle.std.specs.Option.{unwrap_or}
+use Rattle.frz_board.specs.declared.man.Colour.TheVariants.{White, Black}
+use Rattle.frz_store.specs.Files.{Files}
+use Rattle.frz_table.specs.declared.fault.TableFault.{TableFault}
+use Rattle.frz_table.specs.Layout.{codes_at}
+use Rattle.frz_table.specs.Numbers.{AreBytes}
+use Rattle.frz_table.specs.Opening.{Format, Contents, Refuses, opened, kept_text}
+use Rattle.frz_table.specs.Steps.{IsFormatOf, HasText, SizeRefused}
+use Rattle.frz_table.specs.Tables.{Table, IsFileOf, table_size}
+
+-- the name may hold this: what the store tells that it holds, and any bytes or none where it does not tell
+abbrev pub MayHold : Option Files → List ℕ → Option (List ℕ) → Type 0
+MayHold None name held = IfSome held AreBytes
+MayHold (Some m) name held = m name ≡ held
+
+-- the text that is kept there, and none where the name is not there
+abbrev pub held_text : Option (List ℕ) → List ℕ
+held_text held = kept_text (unwrap_or held [])
+
+-- no more bytes were asked for than 16 and those of the text that is kept there
+abbrev pub AskedFor : Option (List ℕ) → (before now : ℕ) → Type 0
+AskedFor held before now = now ≤ before + (16 + length (held_text held))
+
+-- the name may hold bytes that open so
+pub record MayOpen (format : Format) (files : Option Files) (name : List ℕ) (contents : Contents) : Type 0 where
+  pub bytes : List ℕ
+  pub may : MayHold files name (Some bytes)
+  pub opens : opened format (Some bytes) ≡ Ok contents
+
+-- the name may hold what is refused so
+pub record MayRefuse (format : Format) (files : Option Files) (name : List ℕ) (before now : ℕ) (fault : TableFault) : Type 0 where
+  pub held : Option (List ℕ)
+  pub may : MayHold files name held
+  pub refuses : Refuses (opened format held) fault
+  pub asked : AskedFor held before now
+
+-- the table's name may hold a file of the table with these codes
+pub record MayKeep (files : Option Files) (table : Table) (white black : List ℕ) : Type 0 where
+  pub bytes : List ℕ
+  pub may : MayHold files table.name (Some bytes)
+  pub file : IsFileOf table bytes
+  pub white_is : codes_at White table.text (table_size table) bytes ≡ white
+  pub black_is : codes_at Black table.text (table_size table) bytes ≡ black
+
+-- something is refused so by each format of this magic
+pub record SomeRefused (magic : List ℕ) (before now : ℕ) (fault : TableFault) : Type 0 where
+  pub held : Option (List ℕ)
+  pub bytes : IfSome held AreBytes
+  pub refuses : (format : Format) → IsFormatOf magic format → Refuses (opened format held) fault
+  pub asked : AskedFor held before now
+
+-- some bytes with this text are refused so by the last two steps
+pub record SomeSizeRefused (magic text : List ℕ) (count size : ℕ) (fault : TableFault) : Type 0 where
+  pub held : List ℕ
+  pub bytes : AreBytes held
+  pub has_text : HasText magic text count held
+  pub refuses : SizeRefused text size fault held

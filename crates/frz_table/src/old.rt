@@ -1,0 +1,179 @@
+//! Table files of the former format: opened, and read whole.
+ghost use Rattle.std.specs.Prelude.{◌≡◌, ◌+◌, ◌*◌, ◌≤◌, length, IfOk, IfErr, IfSome, Ok, Err};
+ghost use Rattle.frz_board.specs.declared.man.Colour.TheVariants.{White, Black};
+ghost use Rattle.frz_index.specs.OldNumbers.{old_size_of};
+ghost use Rattle.frz_rules.specs.Text.{rules_of};
+ghost use Rattle.frz_sets.specs.Sound.{IsSound};
+ghost use Rattle.frz_store.specs.Files.{bytes_at};
+ghost use Rattle.frz_store.specs.Told.{store_of, StoreQuiet};
+ghost use Rattle.frz_table.specs.Faults.{IsOutside, TableCauses};
+ghost use Rattle.frz_table.specs.Layout.{codes_at, pieces_of, place_of};
+ghost use Rattle.frz_table.specs.OldFiles.{CarriesOld, MayKeepOld, limited, old_contents_of, old_format, old_magic, old_table_size};
+ghost use Rattle.frz_table.specs.Opening.{Refuses, kept_text, opened};
+ghost use Rattle.frz_table.specs.Possible.{MayOpen, MayRefuse};
+ghost use Rattle.frz_index.specs.declared.old.TheConstants.{MOST_OLD_NUMBERS};
+
+use crate::TableFault;
+use crate::laws::numbers_fit;
+use crate::lists::load_numbers;
+use crate::sizes::check_size;
+use crate::texts::open_text;
+use frz_board::Colour;
+use frz_index::{MOST_OLD_NUMBERS, old_size};
+use frz_rules::{Rules, RulesCause, RulesFault};
+use frz_store::Store;
+use std::alloc::Global;
+use std::marker::Model;
+
+/// A table file of the former format that was opened.
+#[derive(Drop)]
+pub struct OldFile {
+    name: String,
+    text: Vec<u8>,
+    rules: Rules,
+}
+
+impl Model for OldFile {
+    ghost use Rattle.std.specs.String.{string_bytes};
+    ghost use Rattle.frz_table.specs.OldFiles.{IsOldRead, OldTable};
+
+    ghost Value = { OldTable };
+
+    ghost view = { λ t. record { name = string_bytes t.name; text = t.text.items; rules = t.rules } };
+
+    ghost invariant = { λ t. IsOldRead t.text.items t.rules };
+}
+
+/// The eight bytes with which files of the former format begin.
+fn magic() -> &'static [u8; 8]
+    ensures { result.now ≡ old_magic }
+{
+    b"FREEZER1"
+}
+
+/// How many numbers the set of the rules has in the former format, unless they are too many.
+fn limited_size(rules: &Rules) -> Result<u32, RulesFault>
+    requires { IsSound rules.now }
+    ensures size { IfOk result (λ size. size ≡ old_size_of rules.now.groups) }
+    ensures few { IfOk result (λ size. size ≤ MOST_OLD_NUMBERS) }
+    ensures refused { IfErr result (λ fault. limited rules.now ≡ Err fault) }
+{
+    let size = old_size(rules);
+    if size > u64::from(MOST_OLD_NUMBERS) {
+        let cause = RulesCause::SetTooBig(size);
+        return Err(RulesFault { line: 0, cause });
+    }
+    Ok(size as u32)
+}
+
+/// Opens a table file of the former format. The file is not changed, and the first thing that is
+/// wrong with it is the answer. A set that has more than 2^24 numbers in that format is refused as
+/// too big, behind all that the reader of rules refuses.
+pub fn open_old<S: Store>(alloc: Global, store: &mut S, name: &str) -> Result<OldFile, TableFault>
+    ensures opened { IfOk result (λ t. IfSome (S.files store.old)
+        (λ m. opened old_format (m name.now) ≡ Ok (old_contents_of t))) }
+    ensures refused { IfErr result (λ f. IfSome (S.files store.old)
+        (λ m. Refuses (opened old_format (m name.now)) f)) }
+    ensures may_open { IfOk result (λ t. MayOpen old_format (S.files store.old) name.now (old_contents_of t)) }
+    ensures may_refuse { IfErr result (MayRefuse old_format (S.files store.old) name.now
+        (S.asked store.old) (S.asked store.new)) }
+    ensures name { IfOk result (λ t. t.name ≡ name.now) }
+    ensures carries { IfOk result (CarriesOld (S.files store.new)) }
+
+    // Nothing is written; at most 16 bytes and the text are asked for, in five calls.
+    ensures quiet { StoreQuiet (store_of S.Store store.old) (store_of S.Store store.new) }
+    ensures asked { IfOk result (λ t. S.asked store.new ≤ S.asked store.old + (16 + length t.text)) }
+    ensures asked_told { IfSome (S.files store.old) (λ m. S.asked store.new
+        ≤ S.asked store.old + (16 + length (kept_text (bytes_at m name.now)))) }
+    ensures asked_bound { S.asked store.new ≤ S.asked store.old + (16 + 65536) }
+    ensures calls { S.calls store.new ≤ S.calls store.old + 5 }
+    ensures causes { TableCauses (S.faults store.old) (S.faults store.new)
+        (S.wants store.old) (S.wants store.new) result }
+{
+    let opened = open_text(alloc, store, name, magic())?;
+    let size = match limited_size(&opened.rules) {
+        Ok(size) => size,
+        Err(fault) => return Err(TableFault::Rules(fault)),
+    };
+    check_size(store, name, magic(), &opened, size)?;
+    let name = String::from_str(alloc, name)?;
+    Ok(OldFile {
+        name,
+        text: opened.text,
+        rules: opened.rules,
+    })
+}
+
+impl OldFile {
+    /// The name of the file.
+    pub fn name(&self) -> &str
+        ensures { result.now ≡ self.now.name }
+    {
+        self.name.as_str()
+    }
+
+    /// The rules text in the file.
+    pub fn text(&self) -> &[u8]
+        ensures { result.now ≡ self.now.text }
+    {
+        self.text.as_slice()
+    }
+
+    /// The rules of the text.
+    pub fn rules(&self) -> &Rules
+        ensures rules { result.now ≡ self.now.rules }
+        ensures read { rules_of self.now.text ≡ Ok self.now.rules }
+        ensures sound { IsSound self.now.rules }
+        ensures few { old_table_size self.now ≤ MOST_OLD_NUMBERS }
+    {
+        &self.rules
+    }
+
+    /// How many numbers the set of the rules has in the former format.
+    fn size(&self) -> u32
+        ensures size { result ≡ old_table_size self.now }
+        ensures few { result ≤ MOST_OLD_NUMBERS }
+    {
+        old_size(&self.rules) as u32
+    }
+
+    /// Where the side's codes begin.
+    fn place(&self, side: Colour) -> u64
+        ensures { result ≡ place_of side self.now.text (old_table_size self.now) }
+    {
+        let front = 16 + self.text.len() as u64;
+        match side {
+            Colour::White => front,
+            Colour::Black => front + 4 * u64::from(self.size()),
+        }
+    }
+
+    /// White's codes and Black's, in order of number.
+    pub fn load<S: Store>(
+        &self,
+        alloc: Global,
+        store: &mut S,
+    ) -> Result<(Vec<u32>, Vec<u32>), TableFault>
+        requires { CarriesOld (S.files store.old) self.now }
+        ensures white { IfOk result (λ lists. IfSome (S.files store.old) (λ m. IfSome (m self.now.name)
+            (λ bytes. lists.0.items ≡ codes_at White self.now.text (old_table_size self.now) bytes))) }
+        ensures black { IfOk result (λ lists. IfSome (S.files store.old) (λ m. IfSome (m self.now.name)
+            (λ bytes. lists.1.items ≡ codes_at Black self.now.text (old_table_size self.now) bytes))) }
+        ensures may_keep { IfOk result (λ lists. MayKeepOld (S.files store.old) self.now lists.0.items lists.1.items) }
+        ensures white_size { IfOk result (λ lists. length lists.0.items ≡ old_table_size self.now) }
+        ensures black_size { IfOk result (λ lists. length lists.1.items ≡ old_table_size self.now) }
+        ensures quiet { StoreQuiet (store_of S.Store store.old) (store_of S.Store store.new) }
+        ensures asked { S.asked store.new ≤ S.asked store.old + 8 * old_table_size self.now }
+        ensures calls { S.calls store.new ≤ S.calls store.old + 2 * pieces_of (old_table_size self.now) }
+        ensures outside { IfErr result IsOutside }
+        ensures causes { TableCauses (S.faults store.old) (S.faults store.new)
+            (S.wants store.old) (S.wants store.new) result }
+    {
+        let size = self.size();
+        let white = load_numbers(alloc, store, &self.name, self.place(Colour::White), size)?;
+        let black = load_numbers(alloc, store, &self.name, self.place(Colour::Black), size)?;
+        numbers_fit(&white);
+        numbers_fit(&black);
+        Ok((white, black))
+    }
+}
