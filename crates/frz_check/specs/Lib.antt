@@ -1,0 +1,4 @@
+pub mod OneFile
+pub mod Verdicts
+pub mod Entries
+pub mod Kept

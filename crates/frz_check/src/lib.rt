@@ -1,0 +1,15 @@
+//! The checker of tables: each code is compared with its local code, the one that the codes one move
+//! on give. A file passes exactly where it is the one file of its text.
+#![tactic(auto)]
+
+mod entries;
+pub mod laws;
+mod tables;
+mod verdict;
+
+pub use entries::check_entries;
+pub use tables::{check_kept, check_table};
+pub use verdict::Verdict;
+
+#[cfg(test)]
+mod tests;
