@@ -1,23 +1,26 @@
 -- What a store that does not tell may hold under the name of a rules file.
-use Rattle.std.proofs.Common.{◌≡◌, refl, sym, ap, subst, ℕ, ◌<◌, ◌≤◌, ◌+◌, List, length, replicate, Option, Some, None, Result, Ok, Err, true, if◌then◌else◌, le-ltb, lt-ltb, Bool, cond, arith}
+use Rattle.std.proofs.Common.{◌≡◌, refl, sym, ap, subst, ◌∙◌, ℕ, ◌<◌, ◌≤◌, ◌+◌, List, length, replicate, Option, Some, None, Result, Ok, Err, true, if◌then◌else◌, le-ltb, lt-ltb, Bool, cond, arith}
 use Rattle.std.proofs.lemmas.List.{length-replicate}
 use Rattle.std.specs.Prelude.{IfSome, IfOk}
 use Rattle.frz_store.specs.Files.{Files, no_files, put}
 use Rattle.frz_store.specs.declared.outside.StoreFault.{StoreFault}
+use Rattle.frz_store.specs.declared.outside.StoreFault.TheVariants as refusal
 use Rattle.frz_store.proofs.Lemmas.{put-same}
 use Rattle.frz_prelude.specs.declared.rules_file.RulesFile.{RulesFile}
 use Rattle.frz_prelude.specs.declared.rules_file.RulesFile.TheVariants.{Missing, TooLong, Text}
 use Rattle.frz_rules.specs.declared.fault.TheConstants.{LONGEST_TEXT}
-use Rattle.frz_fen.specs.declared.fault.FenFault.{FenFault}
 use Rattle.frz_rules.specs.declared.fault.RulesFault.{RulesFault}
 use Rattle.frz_rules.specs.Text.{rules_of}
 use Rattle.frz_sets.specs.Views.{RuleLines}
 use Rattle.frz_store.specs.Told.{StoreTold}
-use Rattle.frz_prelude.specs.declared.refused.Refused.TheVariants.{Fen, MissingRules, Rules}
+use Rattle.frz_prelude.specs.declared.refused.Refused.{Refused as Refusal}
+use Rattle.frz_prelude.specs.declared.refused.Refused.TheVariants.{MissingRules, Rules}
 use Rattle.frz_prelude.specs.declared.stop.Stop.{Stop}
 use Rattle.frz_prelude.specs.declared.rules_file.TheConstants.{TOO_LONG}
-use Rattle.frz_prelude.specs.Stops.{Answers}
-use Rattle.frz_prelude.specs.RulesFiles.{IsHeld, asked_of, asked_by, or_fault, rules_held, IsRead}
+use Rattle.frz_prelude.specs.declared.stop.Stop.TheVariants as stops
+use Rattle.frz_prelude.specs.declared.rules_at.RulesText.{RulesText}
+use Rattle.frz_prelude.specs.Stops.{Answers, stop_of_fault}
+use Rattle.frz_prelude.specs.RulesFiles.{IsHeld, asked_of, asked_by, or_fault, rules_held, GivesText, IsTextRead}
 
 -- files that agree with what is told, where the name holds this
 pub record Holding (told : Option Files) (name : List ℕ) (held : Option (List ℕ)) : Type 0 where
@@ -113,19 +116,34 @@ pub long_due : (held : Option (List ℕ)) → IsHeld held TooLong → rules_held
 long_due None h = absurd h
 long_due (Some text) h = ap or_fault (too_long text h)
 
-pub text_due : (held : Option (List ℕ)) (text : List ℕ) (result : Result RuleLines Stop) → held ≡ Some text → Answers result (or_fault (rules_of text)) → Answers result (rules_held held)
-text_due held text result e due = subst (λ (h : Option (List ℕ)). Answers result (rules_held h)) (sym e) due
+pub text_due : (held : Option (List ℕ)) (text : List ℕ) (result : Result RulesText Stop) → held ≡ Some text → GivesText (Some text) result → GivesText held result
+text_due held text result e due = subst (λ (h : Option (List ℕ)). GivesText h result) (sym e) due
 
--- what was read is the answer of the name in these files
-pub read_in : (name : List ℕ) (answer : Result RulesFile StoreFault) (result : Result RuleLines Stop) (old new : StoreTold)
-    → (seen : RulesSeen old.files name answer old.asked new.asked) → Answers result (rules_held (seen.files name)) → IsRead name result old new
+-- a fault of the store gives nothing
+pub fault_due : (held : Option (List ℕ)) (fault : StoreFault) (stop : Stop) → stop ≡ stop_of_fault fault → GivesText held (Err stop)
+fault_due held refusal.Failed stop e = subst (λ (s : Stop). GivesText held (Err s)) (sym e) tt
+fault_due held refusal.NoMemory stop e = subst (λ (s : Stop). GivesText held (Err s)) (sym e) tt
+
+-- what was read is what the name gives in these files
+pub read_in : (name : List ℕ) (answer : Result RulesFile StoreFault) (result : Result RulesText Stop) (old new : StoreTold)
+    → (seen : RulesSeen old.files name answer old.asked new.asked) → GivesText (seen.files name) result → IsTextRead name result old new
 read_in name answer result old new seen due = record { files = seen.files; agrees = seen.agrees; due = due; asked = seen.asked }
 
--- no name of a rules file is refused as a FEN
-fault_never_fen : (fault : FenFault) (read : Result RuleLines RulesFault) → or_fault read ≡ Err (Fen fault) → ⊥
-fault_never_fen fault (Ok r) e = cc
-fault_never_fen fault (Err other) e = cc
+-- the rules of a text that was read, and why none was
+pub rules_due : (held : Option (List ℕ)) (read : RulesText) → GivesText held (Ok read) → rules_held held ≡ Ok read.rules
+rules_due held read due = ap rules_held due.0 ∙ ap or_fault due.1
 
-pub never_fen : (held : Option (List ℕ)) (fault : FenFault) → rules_held held ≡ Err (Fen fault) → ⊥
-never_fen None fault e = cc
-never_fen (Some text) fault e = fault_never_fen fault (rules_of text) e
+pub refusal_due : (held : Option (List ℕ)) (stop : Stop) → GivesText held (Err stop) → Answers {A = RuleLines} (Err stop) (rules_held held)
+refusal_due held (stops.Refused why) due = due
+refusal_due held (stops.Fault fault) due = tt
+
+-- a name of a rules file is refused as missing, or for its text
+of_text : (P : Refusal → Type 0) (why : Refusal) (read : Result RuleLines RulesFault) → or_fault read ≡ Err why
+    → ((fault : RulesFault) → P (Rules fault)) → P why
+of_text P why (Ok r) e text = cc
+of_text P why (Err fault) e text = let same : Rules fault ≡ why = cc in subst P same (text fault)
+
+pub of_rules : (P : Refusal → Type 0) (held : Option (List ℕ)) (why : Refusal) → rules_held held ≡ Err why
+    → P MissingRules → ((fault : RulesFault) → P (Rules fault)) → P why
+of_rules P None why e missing text = let same : MissingRules ≡ why = cc in subst P same missing
+of_rules P (Some bytes) why e missing text = of_text P why (rules_of bytes) e text

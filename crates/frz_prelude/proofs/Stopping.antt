@@ -1,37 +1,79 @@
 -- How a job ends that was stopped before it came to its own work.
 use Rattle.std.proofs.Common.{◌≡◌, refl, sym, subst, ℕ, List, [], ◌∷◌, Result, Ok, Err, IsTrue}
+use Rattle.std.specs.Prelude.{IfSome}
 use Rattle.frz_store.specs.Files.{Files}
 use Rattle.frz_store.specs.Told.{StoreTold, SourceTold, SinkTold, StoreFine}
-use Rattle.frz_store.specs.declared.outside.StoreFault.{StoreFault}
-use Rattle.frz_store.specs.declared.outside.StoreFault.TheVariants as refusal
 use Rattle.frz_answer.specs.declared.fault.Fault.{Fault as Faults}
 use Rattle.frz_answer.specs.declared.fault.Fault.TheVariants as faults
 use Rattle.frz_answer.specs.declared.end.End.{End}
 use Rattle.frz_answer.specs.declared.status.Status.{Status}
 use Rattle.frz_answer.specs.Statuses.{OneOf}
 use Rattle.frz_answer.specs.World.{World, world, Agrees, Fine, Quiet}
-use Rattle.frz_answer.specs.Jobs.{Job, Sees}
+use Rattle.frz_answer.specs.Jobs.{Job, Never, Sees}
 use Rattle.frz_answer.specs.Ends.{MayMeet, Ran, Said}
-use Rattle.frz_answer.proofs.Lemmas.{said, stopped, fine_store, SaysAll, Begun}
-use Rattle.frz_prelude.specs.Refusals.{status_of, refusal_line}
-use Rattle.frz_prelude.specs.Stops.{Answers, WantsMemoryAlone, HasItsCause, EndsBy, stop_of_fault}
+use Rattle.frz_answer.proofs.Lemmas.{said, stopped, fine_store, Found, SaysAll, Begun}
+use Rattle.frz_table.specs.declared.fault.TableFault.{TableFault}
+use Rattle.frz_table.specs.declared.fault.TableFault.TheVariants as table
+use Rattle.frz_prelude.specs.TableCauses.{table_line}
+use Rattle.frz_prelude.specs.Refusals.{table_status, status_of, refusal_line}
+use Rattle.frz_prelude.specs.Stops.{WantsMemoryAlone, HasItsCause, EndsBy}
 use Rattle.frz_prelude.specs.declared.refused.Refused.{Refused as Refusal}
 use Rattle.frz_prelude.specs.declared.refused.Refused.TheVariants as refusals
 use Rattle.frz_prelude.specs.declared.stop.Stop.{Stop}
 use Rattle.frz_prelude.specs.declared.stop.Stop.TheVariants.{Refused, Fault}
+
+own_table : (fault : TableFault) → OneOf (table_status fault) (table_status fault ∷ [])
+own_table table.Missing = refl
+own_table table.Magic = refl
+own_table (table.Truncated length due) = refl
+own_table (table.Extra length due) = refl
+own_table (table.Rules fault) = refl
+own_table (table.Size kept due) = refl
+own_table table.Failed = refl
+own_table table.NoMemory = refl
 
 -- the status of a refusal is its own
 pub own_status : (why : Refusal) → OneOf (status_of why) (status_of why ∷ [])
 own_status (refusals.Fen fault) = refl
 own_status refusals.MissingRules = refl
 own_status (refusals.Rules fault) = refl
+own_status (refusals.Table fault) = own_table fault
 own_status refusals.Outside = refl
+
+table_said : (fault : TableFault) → table_line fault ≡ [] → ⊥
+table_said table.Missing e = cc
+table_said table.Magic e = cc
+table_said (table.Truncated length due) e = cc
+table_said (table.Extra length due) e = cc
+table_said (table.Rules fault) e = cc
+table_said (table.Size kept due) e = cc
+table_said table.Failed e = cc
+table_said table.NoMemory e = cc
+
+-- each refusal is said in some text
+pub refusal_said : (why : Refusal) → refusal_line why ≡ [] → ⊥
+refusal_said (refusals.Fen fault) e = cc
+refusal_said refusals.MissingRules e = cc
+refusal_said (refusals.Rules fault) e = cc
+refusal_said (refusals.Table fault) e = table_said fault e
+refusal_said refusals.Outside e = cc
 
 -- what was said with an equal status and an equal text
 pub as_said : (s t : Status) (x y : List ℕ) (end : End) (old new : SinkTold) → s ≡ t → x ≡ y
     → Said s x end old new → Said t y end old new
 as_said s t x y end old new e f h =
     subst (λ (status : Status). Said status y end old new) e (subst (λ (text : List ℕ). Said s text end old new) f h)
+
+-- the files over which a job answers that reads them
+abbrev pub found_where : (job : Job) (m files : Files) (input : List ℕ) (old : World) → (job.needs.reads ≡ Never → ⊥)
+    → IfSome old.store.files (λ told. told ≡ m) → Agrees old files input → Found job files input old
+found_where job m files input old reads there agrees = record {
+  files = m;
+  input = input;
+  agrees = record { store = there; source = agrees.source };
+  free = λ e. absurd (reads e);
+  untaken = λ _. refl;
+}
 
 -- a job may be stopped so
 abbrev pub MayStop : Job → Stop → World → World → Type 0
@@ -51,12 +93,6 @@ ended job (Refused why) end old mid out quiet may ends answers =
 ended job (Fault fault) end old mid out quiet may ends answers =
     subst (λ (o : SinkTold). Ran job end old (record mid { out = o })) (sym ends.1)
     (subst (λ (e : End). Ran job e old mid) (sym ends.0) (stopped job fault old mid quiet may answers))
-
--- a fault of the store answers nothing
-pub fault_answers : {A : Type 0} (fault : StoreFault) (stop : Stop) (due : Result A Refusal) → stop ≡ stop_of_fault fault
-    → Answers {A = A} (Err stop) due
-fault_answers {A} refusal.Failed stop due e = subst (λ (s : Stop). Answers {A = A} (Err s) due) (sym e) tt
-fault_answers {A} refusal.NoMemory stop due e = subst (λ (s : Stop). Answers {A = A} (Err s) due) (sym e) tt
 
 -- where only memory was wanted, and the store had not failed
 pub own_cause : {A : Type 0} (result : Result A Stop) (old new : StoreTold) → WantsMemoryAlone result → StoreFine old new → HasItsCause result old new

@@ -1,4 +1,7 @@
 pub mod Causes
+pub mod TableCauses
+pub mod TableFiles
+pub mod BoundLines
 pub mod Refusals
 pub mod Stops
 pub mod Positions

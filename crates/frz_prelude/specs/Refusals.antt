@@ -1,23 +1,33 @@
--- How a command refuses what the words RULES and FEN name: the status, and the line.
+-- How a command refuses what its words name: the status, and the line.
 use Rattle.std.specs.Prelude.{◌≡◌, ℕ, List, [], ◌∷◌, codes}
 use Rattle.frz_answer.specs.declared.status.Status.{Status}
 use Rattle.frz_answer.specs.declared.status.Status.TheVariants as statuses
 use Rattle.frz_answer.specs.Answers.{says}
 use Rattle.frz_answer.specs.Jobs.{Job, plain}
+use Rattle.frz_table.specs.declared.fault.TableFault.{TableFault}
+use Rattle.frz_table.specs.declared.fault.TableFault.TheVariants as table
 use Rattle.frz_prelude.specs.Causes.{fen_line, rules_line}
+use Rattle.frz_prelude.specs.TableCauses.{table_line}
 use Rattle.frz_prelude.specs.declared.refused.Refused.{Refused}
-use Rattle.frz_prelude.specs.declared.refused.Refused.TheVariants.{Fen, MissingRules, Rules, Outside}
+use Rattle.frz_prelude.specs.declared.refused.Refused.TheVariants.{Fen, MissingRules, Rules, Table, Outside}
+
+-- a table that is missing, or whose bytes are refused
+abbrev pub table_status : TableFault → Status
+table_status table.Missing = statuses.Missing
+table_status fault = statuses.Table
 
 abbrev pub status_of : Refused → Status
 status_of (Fen fault) = statuses.Fen
 status_of MissingRules = statuses.Missing
 status_of (Rules fault) = statuses.Rules
+status_of (Table fault) = table_status fault
 status_of Outside = statuses.Outside
 
 abbrev pub refusal_line : Refused → List ℕ
 refusal_line (Fen fault) = fen_line fault
 refusal_line MissingRules = codes "missing rules\n"
 refusal_line (Rules fault) = rules_line fault
+refusal_line (Table fault) = table_line fault
 refusal_line Outside = codes "outside\n"
 
 -- to refuse what the words name

@@ -1,5 +1,5 @@
 -- What a store's name holds as a rules file, how many bytes are asked of it, and the rules that it gives.
-use Rattle.std.specs.Prelude.{◌≡◌, ℕ, ◌<◌, ◌≤◌, ◌+◌, List, length, Option, Some, None, IsSomeAnd, IfSome, Result, Ok, Err, nat_lt, if◌then◌else◌}
+use Rattle.std.specs.Prelude.{◌≡◌, ℕ, ◌<◌, ◌≤◌, ◌+◌, List, length, Option, Some, None, IsSomeAnd, IfSome, Result, Ok, Err, nat_lt, ⊤, if◌then◌else◌}
 use Rattle.frz_rules.specs.declared.fault.TheConstants.{LONGEST_TEXT}
 use Rattle.frz_rules.specs.declared.fault.RulesFault.{RulesFault}
 use Rattle.frz_rules.specs.Text.{rules_of}
@@ -7,9 +7,11 @@ use Rattle.frz_sets.specs.Views.{RuleLines}
 use Rattle.frz_store.specs.Files.{Files}
 use Rattle.frz_store.specs.Told.{StoreTold}
 use Rattle.frz_prelude.specs.Stops.{Answers}
-use Rattle.frz_prelude.specs.declared.refused.Refused.{Refused}
+use Rattle.frz_prelude.specs.declared.refused.Refused.{Refused as Refusal}
 use Rattle.frz_prelude.specs.declared.refused.Refused.TheVariants.{MissingRules, Rules}
 use Rattle.frz_prelude.specs.declared.stop.Stop.{Stop}
+use Rattle.frz_prelude.specs.declared.stop.Stop.TheVariants.{Refused, Fault}
+use Rattle.frz_prelude.specs.declared.rules_at.RulesText.{RulesText}
 use Rattle.frz_prelude.specs.declared.rules_file.RulesFile.{RulesFile}
 use Rattle.frz_prelude.specs.declared.rules_file.RulesFile.TheVariants.{Missing, TooLong, Text}
 
@@ -29,14 +31,28 @@ asked_by (Text text) = length text.items
 asked_by file = 0
 
 -- the rules that were read, or their fault
-abbrev pub or_fault : Result RuleLines RulesFault → Result RuleLines Refused
+abbrev pub or_fault : Result RuleLines RulesFault → Result RuleLines Refusal
 or_fault (Ok r) = Ok r
 or_fault (Err fault) = Err (Rules fault)
 
 -- the rules of what a name holds, or why it has none
-abbrev pub rules_held : Option (List ℕ) → Result RuleLines Refused
+abbrev pub rules_held : Option (List ℕ) → Result RuleLines Refusal
 rules_held None = Err MissingRules
 rules_held (Some text) = or_fault (rules_of text)
+
+-- the text is what the name holds, with its rules; or it holds none, for this reason. Nothing is said where a fault stopped the call
+abbrev pub GivesText : Option (List ℕ) → Result RulesText Stop → Type 0
+GivesText held (Ok read) = (held ≡ Some read.text.items) × (rules_of read.text.items ≡ Ok read.rules)
+GivesText held (Err (Refused why)) = rules_held held ≡ Err why
+GivesText held (Err (Fault fault)) = ⊤
+
+-- the text and the rules are those of the name in some files, which are those that the store tells where it does, and no
+-- more was asked of the store than they need
+pub record IsTextRead (name : List ℕ) (result : Result RulesText Stop) (old new : StoreTold) : Type 0 where
+  pub files : Files
+  pub agrees : IfSome old.files (λ told. told ≡ files)
+  pub due : GivesText (files name) result
+  pub asked : new.asked ≤ old.asked + asked_of (files name)
 
 -- the answer is that of the name in some files, which are those that the store tells where it does, and no more was
 -- asked of the store than they need

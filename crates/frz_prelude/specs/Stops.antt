@@ -4,6 +4,8 @@ use Rattle.frz_store.specs.Outside.{Rose}
 use Rattle.frz_store.specs.Told.{StoreTold, SinkTold, StoreFine}
 use Rattle.frz_store.specs.declared.outside.StoreFault.{StoreFault}
 use Rattle.frz_store.specs.declared.outside.StoreFault.TheVariants as refusal
+use Rattle.frz_table.specs.declared.fault.TableFault.{TableFault}
+use Rattle.frz_table.specs.declared.fault.TableFault.TheVariants as table
 use Rattle.frz_answer.specs.declared.fault.Fault.{Fault as Faults}
 use Rattle.frz_answer.specs.declared.fault.Fault.TheVariants as faults
 use Rattle.frz_answer.specs.declared.end.End.{End}
@@ -11,6 +13,7 @@ use Rattle.frz_answer.specs.declared.end.End.TheVariants.{Stopped}
 use Rattle.frz_answer.specs.Ends.{Said}
 use Rattle.frz_prelude.specs.Refusals.{status_of, refusal_line}
 use Rattle.frz_prelude.specs.declared.refused.Refused.{Refused as Refusal}
+use Rattle.frz_prelude.specs.declared.refused.Refused.TheVariants as refusals
 use Rattle.frz_prelude.specs.declared.stop.Stop.{Stop}
 use Rattle.frz_prelude.specs.declared.stop.Stop.TheVariants.{Refused, Fault}
 
@@ -18,6 +21,12 @@ use Rattle.frz_prelude.specs.declared.stop.Stop.TheVariants.{Refused, Fault}
 abbrev pub stop_of_fault : StoreFault → Stop
 stop_of_fault refusal.Failed = Fault faults.Store
 stop_of_fault refusal.NoMemory = Fault faults.NoMemory
+
+-- what a table stops that was not opened
+abbrev pub stop_of_table : TableFault → Stop
+stop_of_table table.Failed = Fault faults.Store
+stop_of_table table.NoMemory = Fault faults.NoMemory
+stop_of_table fault = Refused (refusals.Table fault)
 
 -- the answer is the one that is due, unless a fault stopped the call
 abbrev pub Answers : {A : Type 0} → Result A Stop → Result A Refusal → Type 0

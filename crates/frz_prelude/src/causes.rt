@@ -1,128 +1,99 @@
-//! The lines that refuse a FEN and a rules text. They take no memory.
-ghost use Rattle.std.specs.Prelude.{◌≡◌, ◌+◌, ◌≤◌, ◌++◌, length, decimal};
-ghost use Rattle.arrayvec.specs.ArrayString.{array_string_len};
+//! The lines that refuse a FEN, a rules text and what else the words of a command name.
+ghost use Rattle.std.specs.Prelude.{◌≡◌};
+ghost use Rattle.frz_store.specs.Told.{sink_of};
+ghost use Rattle.frz_answer.specs.Texts.{WroteText};
 ghost use Rattle.frz_prelude.specs.Causes.{shape_cause, invalid_cause, fen_cause, fen_line, rules_cause, rules_line};
 ghost use Rattle.frz_prelude.specs.Refusals.{refusal_line as line_of};
 
 use crate::refused::Refused;
-use arrayvec::ArrayString;
+use crate::table_causes::write_table_fault;
+use frz_answer::{write_numbered, write_piece};
 use frz_board::Shape;
 use frz_fen::FenFault;
 use frz_fide::Invalid;
 use frz_rules::{RulesCause, RulesFault};
-use itoa::Buffer;
+use frz_store::{Failed, Sink};
 
-/// A line of text, with room for the longest of these.
-pub type Line = ArrayString<128>;
-
-fn shape_text(shape: Shape) -> &'static str
-    ensures text { result.now ≡ shape_cause shape }
-    ensures short { length result.now ≤ 30 }
+fn shape_text(shape: Shape) -> &'static [u8]
+    ensures { result.now ≡ shape_cause shape }
 {
     match shape {
-        Shape::Kings => "invalid kings",
-        Shape::PawnRank => "invalid pawn rank",
-        Shape::TooMany => "invalid too many",
-        Shape::EpPlace => "invalid ep place",
+        Shape::Kings => b"invalid kings",
+        Shape::PawnRank => b"invalid pawn rank",
+        Shape::TooMany => b"invalid too many",
+        Shape::EpPlace => b"invalid ep place",
     }
 }
 
-fn invalid_text(why: Invalid) -> &'static str
-    ensures text { result.now ≡ invalid_cause why }
-    ensures short { length result.now ≤ 30 }
+fn invalid_text(why: Invalid) -> &'static [u8]
+    ensures { result.now ≡ invalid_cause why }
 {
     match why {
         Invalid::Shape(shape) => shape_text(shape),
-        Invalid::OpponentInCheck => "invalid opponent in check",
+        Invalid::OpponentInCheck => b"invalid opponent in check",
     }
 }
 
-/// Adds a word and a number.
-pub fn add_number(line: &mut Line, word: &str, number: u64)
-    requires { array_string_len line.old + length word.now + 40 ≤ 128 }
-    ensures bytes { line.new.bytes ≡ line.old.bytes ++ (word.now ++ decimal number) }
-    ensures short { array_string_len line.new ≤ array_string_len line.old + length word.now + 40 }
-{
-    line.push_str(word);
-    line.push_str(Buffer::new().format(number));
-}
-
-fn add_fen_cause(line: &mut Line, fault: FenFault)
-    requires { array_string_len line.old ≤ 10 }
-    ensures bytes { line.new.bytes ≡ line.old.bytes ++ fen_cause fault }
-    ensures short { array_string_len line.new ≤ 70 }
+fn write_fen_cause<O: Sink>(fault: FenFault, out: &mut O) -> Result<(), Failed>
+    ensures { WroteText (fen_cause fault) result (sink_of O.Sink out.old) (sink_of O.Sink out.new) }
 {
     match fault {
-        FenFault::Fields => line.push_str("fields"),
-        FenFault::Placement(rank) => add_number(line, "placement ", rank as u64),
-        FenFault::Turn => line.push_str("turn"),
-        FenFault::Castling => line.push_str("castling"),
-        FenFault::EpSquare => line.push_str("ep square"),
-        FenFault::Clock => line.push_str("clock"),
-        FenFault::Invalid(why) => line.push_str(invalid_text(why)),
+        FenFault::Fields => write_piece(b"fields", out),
+        FenFault::Placement(rank) => write_numbered(b"placement ", rank as u64, out),
+        FenFault::Turn => write_piece(b"turn", out),
+        FenFault::Castling => write_piece(b"castling", out),
+        FenFault::EpSquare => write_piece(b"ep square", out),
+        FenFault::Clock => write_piece(b"clock", out),
+        FenFault::Invalid(why) => write_piece(invalid_text(why), out),
     }
 }
 
-/// The line that refuses a FEN.
-fn fen_fault_line(fault: FenFault) -> Line
-    ensures { result.bytes ≡ fen_line fault }
+/// Writes the line that refuses a FEN.
+fn write_fen_fault<O: Sink>(fault: FenFault, out: &mut O) -> Result<(), Failed>
+    ensures { WroteText (fen_line fault) result (sink_of O.Sink out.old) (sink_of O.Sink out.new) }
 {
-    let mut line = Line::new();
-    line.push_str("fen: ");
-    add_fen_cause(&mut line, fault);
-    line.push_str("\n");
-    line
+    write_piece(b"fen: ", out)?;
+    write_fen_cause(fault, out)?;
+    write_piece(b"\n", out)
 }
 
-fn add_rules_cause(line: &mut Line, cause: RulesCause)
-    requires { array_string_len line.old ≤ 60 }
-    ensures bytes { line.new.bytes ≡ line.old.bytes ++ rules_cause cause }
-    ensures short { array_string_len line.new ≤ 120 }
+fn write_rules_cause<O: Sink>(cause: RulesCause, out: &mut O) -> Result<(), Failed>
+    ensures { WroteText (rules_cause cause) result (sink_of O.Sink out.old) (sink_of O.Sink out.new) }
 {
     match cause {
-        RulesCause::TooLong => line.push_str("too long"),
-        RulesCause::Header => line.push_str("header"),
-        RulesCause::UnknownLine => line.push_str("unknown line"),
-        RulesCause::Word(place) => add_number(line, "word ", place as u64),
-        RulesCause::PawnSquare => line.push_str("pawn square"),
-        RulesCause::Count => line.push_str("count"),
-        RulesCause::KingGroup => line.push_str("king group"),
-        RulesCause::Overlap => line.push_str("overlap"),
-        RulesCause::TooManyMen => line.push_str("too many men"),
-        RulesCause::TooManyLines => line.push_str("too many lines"),
-        RulesCause::SetTooBig(numbers) => add_number(line, "set too big ", numbers),
+        RulesCause::TooLong => write_piece(b"too long", out),
+        RulesCause::Header => write_piece(b"header", out),
+        RulesCause::UnknownLine => write_piece(b"unknown line", out),
+        RulesCause::Word(place) => write_numbered(b"word ", place as u64, out),
+        RulesCause::PawnSquare => write_piece(b"pawn square", out),
+        RulesCause::Count => write_piece(b"count", out),
+        RulesCause::KingGroup => write_piece(b"king group", out),
+        RulesCause::Overlap => write_piece(b"overlap", out),
+        RulesCause::TooManyMen => write_piece(b"too many men", out),
+        RulesCause::TooManyLines => write_piece(b"too many lines", out),
+        RulesCause::SetTooBig(numbers) => write_numbered(b"set too big ", numbers, out),
     }
 }
 
-/// The line that refuses a rules text.
-fn rules_fault_line(fault: RulesFault) -> Line
-    ensures { result.bytes ≡ rules_line fault }
+/// Writes the line that refuses a rules text.
+pub(crate) fn write_rules_fault<O: Sink>(fault: RulesFault, out: &mut O) -> Result<(), Failed>
+    ensures { WroteText (rules_line fault) result (sink_of O.Sink out.old) (sink_of O.Sink out.new) }
 {
-    let mut line = Line::new();
-    add_number(&mut line, "rules ", fault.line as u64);
-    line.push_str(": ");
-    add_rules_cause(&mut line, fault.cause);
-    line.push_str("\n");
-    line
+    write_numbered(b"rules ", fault.line as u64, out)?;
+    write_piece(b": ", out)?;
+    write_rules_cause(fault.cause, out)?;
+    write_piece(b"\n", out)
 }
 
-fn plain_line(text: &'static str) -> Line
-    requires { length text.now ≤ 128 }
-    ensures { result.bytes ≡ text.now }
-{
-    let mut line = Line::new();
-    line.push_str(text);
-    line
-}
-
-/// The line that refuses what the words name.
-pub fn refusal_line(why: Refused) -> Line
-    ensures { result.bytes ≡ line_of why }
+/// Writes the line that refuses what the words name.
+pub fn write_refusal<O: Sink>(why: Refused, out: &mut O) -> Result<(), Failed>
+    ensures { WroteText (line_of why) result (sink_of O.Sink out.old) (sink_of O.Sink out.new) }
 {
     match why {
-        Refused::Fen(fault) => fen_fault_line(fault),
-        Refused::MissingRules => plain_line("missing rules\n"),
-        Refused::Rules(fault) => rules_fault_line(fault),
-        Refused::Outside => plain_line("outside\n"),
+        Refused::Fen(fault) => write_fen_fault(fault, out),
+        Refused::MissingRules => write_piece(b"missing rules\n", out),
+        Refused::Rules(fault) => write_rules_fault(fault, out),
+        Refused::Table(fault) => write_table_fault(fault, out),
+        Refused::Outside => write_piece(b"outside\n", out),
     }
 }

@@ -1,12 +1,13 @@
-//! Why what the words RULES and FEN name is refused.
+//! Why what the words of a command name is refused.
 ghost use Rattle.std.specs.Prelude.{◌≡◌};
-ghost use Rattle.frz_prelude.specs.Refusals.{status_of};
+ghost use Rattle.frz_prelude.specs.Refusals.{status_of, table_status as status_of_table};
 
 use frz_answer::Status;
 use frz_fen::FenFault;
 use frz_rules::RulesFault;
+use frz_table::TableFault;
 
-/// Why what the words RULES and FEN name is refused.
+/// Why what the words of a command name is refused.
 #[derive(Clone, Copy, Debug, PartialEq, Eq, Drop)]
 pub enum Refused {
     /// The FEN gives no position.
@@ -15,8 +16,19 @@ pub enum Refused {
     MissingRules,
     /// The file holds no rules text.
     Rules(RulesFault),
+    /// No file has the name of the table, or its bytes are refused.
+    Table(TableFault),
     /// The position is outside the set of the rules.
     Outside,
+}
+
+fn table_status(fault: TableFault) -> Status
+    ensures { result ≡ status_of_table fault }
+{
+    match fault {
+        TableFault::Missing => Status::Missing,
+        _ => Status::Table,
+    }
 }
 
 impl Refused {
@@ -27,6 +39,7 @@ impl Refused {
             Refused::Fen(_) => Status::Fen,
             Refused::MissingRules => Status::Missing,
             Refused::Rules(_) => Status::Rules,
+            Refused::Table(fault) => table_status(fault),
             Refused::Outside => Status::Outside,
         }
     }

@@ -3,13 +3,14 @@ ghost use Rattle.std.specs.Prelude.{◌≡◌};
 ghost use Rattle.frz_store.specs.Told.{sink_of};
 ghost use Rattle.frz_answer.specs.Ends.{Said};
 ghost use Rattle.frz_prelude.specs.Refusals.{status_of, refusal_line as line_of};
-ghost use Rattle.frz_prelude.specs.Stops.{EndsBy, stop_of_fault};
+ghost use Rattle.frz_prelude.specs.Stops.{EndsBy, stop_of_fault, stop_of_table};
 
-use crate::causes::refusal_line;
+use crate::causes::write_refusal;
 use crate::refused::Refused;
-use frz_answer::{End, Fault, say};
+use frz_answer::{End, Fault, said};
 use frz_board::NoMemory;
 use frz_store::{Sink, StoreFault};
+use frz_table::TableFault;
 
 /// What stops a command before it comes to its own work.
 #[derive(Clone, Copy, Debug, PartialEq, Eq, Drop)]
@@ -50,12 +51,24 @@ impl From<StoreFault> for Stop {
     }
 }
 
+impl From<TableFault> for Stop {
+    ghost from_gives = { λ fault stop. stop ≡ stop_of_table fault };
+
+    fn from(fault: TableFault) -> Stop {
+        match fault {
+            TableFault::Failed => Stop::Fault(Fault::Store),
+            TableFault::NoMemory => Stop::Fault(Fault::NoMemory),
+            _ => Stop::Refused(Refused::Table(fault)),
+        }
+    }
+}
+
 /// Says why it is refused, in one line.
 fn say_refusal<O: Sink>(why: Refused, out: &mut O) -> End
     ensures { Said (status_of why) (line_of why) result
         (sink_of O.Sink out.old) (sink_of O.Sink out.new) }
 {
-    say(why.status(), refusal_line(why).as_bytes(), out)
+    said(why.status(), write_refusal(why, out))
 }
 
 impl Stop {

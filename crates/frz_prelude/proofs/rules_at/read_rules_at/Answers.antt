@@ -1,30 +1,12 @@
-use Rattle.std.proofs.Common.{ap, ◌∙◌, sym, Some, List, ℕ}
-use Rattle.frz_prelude.proofs.Held.{rules_seen, seen_as, read_in, missing_due, long_due, text_due}
-use Rattle.frz_prelude.proofs.Stopping.{fault_answers}
+use Rattle.frz_prelude.proofs.Held.{rules_due, refusal_due}
 use Rattle.frz_prelude.proofs.rules_at.read_rules_at.Goals as goal
 
-pub returns-in-Ok-Missing-clause-read : goal.returns-in-Ok-Missing-clause-read
-returns-in-Ok-Missing-clause-read g c =
-    let e = c.read_rules_file.ensures in
-    let seen = rules_seen _ c.args.name.now c.read_rules_file.result _ _ e.held e.asked e.asked_by e.asked_most e.short in
-    read_in _ _ _ _ _ seen (missing_due _ (seen_as _ _ _ _ _ _ _ seen c.in-Ok-Missing.is c.in-Ok-Missing.field-0-is))
+pub returns-in-Ok-clause-read : goal.returns-in-Ok-clause-read
+returns-in-Ok-clause-read g c =
+    let e = c.in-Ok.ensures in
+    record { files = e.read.files; agrees = e.read.agrees; due = rules_due _ c.in-Ok.field-0 e.read.due; asked = e.read.asked }
 
-pub returns-in-Ok-TooLong-clause-read : goal.returns-in-Ok-TooLong-clause-read
-returns-in-Ok-TooLong-clause-read g c =
-    let e = c.read_rules_file.ensures in
-    let seen = rules_seen _ c.args.name.now c.read_rules_file.result _ _ e.held e.asked e.asked_by e.asked_most e.short in
-    read_in _ _ _ _ _ seen (long_due _ (seen_as _ _ _ _ _ _ _ seen c.in-Ok-TooLong.is c.in-Ok-TooLong.field-0-is))
-
-pub returns-in-Ok-Text-clause-read : goal.returns-in-Ok-Text-clause-read
-returns-in-Ok-Text-clause-read g c =
-    let e = c.read_rules_file.ensures in
-    let seen = rules_seen _ c.args.name.now c.read_rules_file.result _ _ e.held e.asked e.asked_by e.asked_most e.short in
-    let held = seen_as _ _ _ _ _ _ _ seen c.in-Ok-Text.is c.in-Ok-Text.field-0-is in
-    read_in _ _ _ _ _ seen
-    (text_due _ _ _ (held ∙ ap (λ (l : List ℕ). Some l) (sym c.deref.ensures.value)) c.rules_in.ensures.due)
-
-pub returns-in-Err-clause-read : goal.returns-in-Err-clause-read
-returns-in-Err-clause-read g c =
-    let e = c.read_rules_file.ensures in
-    let seen = rules_seen _ c.args.name.now c.read_rules_file.result _ _ e.held e.asked e.asked_by e.asked_most e.short in
-    read_in _ _ _ _ _ seen (fault_answers _ _ _ c.from.ensures)
+pub returns-clause-read : goal.returns-clause-read
+returns-clause-read g c =
+    let e = c.in-Err.ensures in
+    record { files = e.read.files; agrees = e.read.agrees; due = refusal_due _ c.in-Err.stop e.read.due; asked = e.read.asked }
