@@ -1,0 +1,8 @@
+mod Choices
+mod Goings
+mod Played
+mod Seen
+mod Starting
+mod Turned
+mod Turning
+pub mod Lemmas

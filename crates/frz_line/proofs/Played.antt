@@ -1,0 +1,213 @@
+-- A line as far as it was played.
+use Rattle.std.proofs.Common.{◌≡◌, ◌≤◌, ◌<◌, ◌+◌, ◌*◌, ◌==◌, ◌++◌, ℕ, suc, ◌⊎◌, inl, inr, Bool, true, false, List, [], ◌∷◌, Option, Some, None, length, refl, sym, subst, ap, ◌∙◌, arith, if◌then◌else◌, Result, Ok, Err, IfSome, append_assoc, append-nil}
+use Rattle.std.specs.Prelude.{slice_index}
+use Rattle.std.proofs.lemmas.Bool.Decides.{nat_tests}
+use Rattle.frz_board.specs.declared.man.Colour.{Colour}
+use Rattle.frz_board.specs.Moving.{Step}
+use Rattle.frz_sets.specs.declared.exit.Value.{Value}
+use Rattle.std.specs.Result.{IsErrAnd}
+use Rattle.frz_store.specs.Told.{SinkTold, StoreTold, StoreQuiet, StoreFine}
+use Rattle.frz_answer.specs.Answers.{IsLines}
+use Rattle.frz_answer.specs.Texts.{TookText}
+use Rattle.frz_answer.proofs.Lemmas.{took_nothing, took_behind, failed_behind}
+use Rattle.frz_arena.specs.Arena.{Arena}
+use Rattle.frz_arena.specs.Codes.{is_win, is_failure}
+use Rattle.frz_arena.proofs.Lemmas.{IsFew, line_left, few_after, left_after, few_fits, true_or_false, win_and_failure}
+use Rattle.frz_line.specs.declared.end.LineEnd.{LineEnd}
+use Rattle.frz_line.specs.declared.end.LineFault.{LineFault}
+use Rattle.frz_line.specs.declared.end.LineFault.TheVariants as faults
+use Rattle.frz_line.specs.declared.end.TheConstants.{MOST_PLIES}
+use Rattle.frz_line.specs.declared.reading.TheConstants.{MOST_ASKED}
+use Rattle.frz_line.specs.declared.playing.Spot.{Spot}
+use Rattle.frz_line.specs.declared.playing.Turn.{Turn}
+use Rattle.frz_line.specs.declared.playing.Turn.TheVariants.{Over, On}
+use Rattle.frz_line.specs.Ends.{told, Finishes}
+use Rattle.frz_line.specs.Faults.{WroteBy}
+use Rattle.frz_line.specs.Lines.{LinePly, EndOfLine, GoesOn}
+use Rattle.frz_line.specs.Texts.{line_text, start_line, plies_text, last_line}
+use Rattle.frz_line.specs.Turns.{TurnsTo, rest_text, GoesBy, Plays}
+
+-- what is left of a line from the start, behind the text that was written
+pub record IsLeft (arena : Arena Step ℕ Value) (side : Colour) (kept : List ℕ) (code : ℕ) (spot : Spot) (text : List ℕ) (plies : List LinePly) (end : EndOfLine) : Type 0 where
+  pub agrees : slice_index kept spot.number ≡ spot.code
+  pub others : List LinePly
+  pub way : GoesOn arena side kept spot.played spot.number others end
+  pub is : text ++ rest_text side spot others (told side end) ≡ line_text side code plies (told side end)
+  pub many : spot.played + length others ≡ length plies
+
+-- each line from the start comes by here
+abbrev pub ComeBy : Arena Step ℕ Value → Colour → List ℕ → (start code : ℕ) → Spot → List ℕ → Type 0
+ComeBy arena side kept start code spot text =
+    slice_index kept start ≡ code →
+    (plies : List LinePly) (end : EndOfLine) → GoesOn arena side kept 0 start plies end →
+    IsLeft arena side kept code spot text plies end
+
+pub record SoFar (told_codes : Option (List ℕ)) (arena : Arena Step ℕ Value) (side : Colour) (start code : ℕ) (spot : Spot) (old new : SinkTold) : Type 0 where
+  pub text : List ℕ
+  pub lines : IsLines text
+  pub took : TookText text old new
+  pub comes : IfSome told_codes (λ kept. ComeBy arena side kept start code spot text)
+
+every : {A : Type 0} (o : Option A) (P : A → Type 0) → ((x : A) → P x) → IfSome o P
+every None P f = tt
+every (Some x) P f = f x
+
+both : {A : Type 0} (o : Option A) (P Q R : A → Type 0) → ((x : A) → P x → Q x → R x) → IfSome o P → IfSome o Q → IfSome o R
+both None P Q R f p q = tt
+both (Some x) P Q R f p q = f x p q
+
+zero_is : (k : ℕ) → k ≡ 0 → (k == 0) ≡ true
+zero_is k e = subst (λ (n : ℕ). (n == 0) ≡ true) (sym e) refl
+
+more_is : (k : ℕ) → (k + 1 == 0) ≡ false
+more_is k = grind (arith, nat_tests)
+
+pub at_start : (told_codes : Option (List ℕ)) (arena : Arena Step ℕ Value) (side : Colour) (start code : ℕ) (out : SinkTold) → SoFar told_codes arena side start code (record { number = start; code = code; played = 0 }) out out
+at_start told_codes arena side start code out =
+    let spot : Spot = record { number = start; code = code; played = 0 } in
+    record {
+      text = [];
+      lines = inl refl;
+      took = took_nothing out;
+      comes = every told_codes (λ kept. ComeBy arena side kept start code spot []) (λ kept agrees plies end w.
+          record { agrees = agrees; others = plies; way = w; is = refl; many = omega arith });
+    }
+
+lines_behind : (a b : List ℕ) → IsLines a → IsLines b → IsLines (a ++ b)
+lines_behind a b la (inl none) = subst (λ (z : List ℕ). IsLines (a ++ z)) (sym none) (subst IsLines (sym (append-nil a)) la)
+lines_behind a b la (inr l) =
+    inr (a ++ l.0, ap (λ (z : List ℕ). a ++ z) l.1 ∙ sym (append_assoc a l.0 (10 ∷ [])))
+
+-- a ply was played
+after_ply : (arena : Arena Step ℕ Value) (side : Colour) (kept : List ℕ) (start code : ℕ) (spot next : Spot) (text more : List ℕ) → next.played ≡ spot.played + 1 → ComeBy arena side kept start code spot text → GoesBy arena side kept spot more (Ok (On next.number next.code)) → ComeBy arena side kept start code next (text ++ more)
+after_ply arena side kept start code spot next text more e comes goes = λ agrees plies end w.
+    let l = comes agrees plies end w in
+    let g = goes l.agrees l.others end l.way in
+    let others = g.2.1.0 in
+    let answer = told side end in
+    let played : suc spot.played ≡ next.played = (omega (arith, e)) in
+    let later : (next.played == 0) ≡ false = subst (λ (k : ℕ). (k == 0) ≡ false) (sym e) (more_is spot.played) in
+    let rest : rest_text side next others answer ≡ g.0 = ap (λ (b : Bool). (if b then start_line side next.code others answer else []) ++ (plies_text others ++ last_line answer)) later ∙ sym g.2.1.3 in
+    let long = g.2.1.1 in
+    let many = l.many in
+    record {
+      agrees = g.2.0;
+      others = others;
+      way = subst (λ k. GoesOn arena side kept k next.number others end) played g.2.1.2;
+      is = ap (λ (z : List ℕ). (text ++ more) ++ z) rest ∙ (append_assoc text more g.0 ∙ (ap (λ (z : List ℕ). text ++ z) g.1 ∙ l.is));
+      many = omega (arith, long, many, e);
+    }
+
+pub next_far : (told_codes : Option (List ℕ)) (arena : Arena Step ℕ Value) (side : Colour) (start code : ℕ) (spot next : Spot) (old mid new : SinkTold) → SoFar told_codes arena side start code spot old mid → next.played ≡ spot.played + 1 → (more : List ℕ) → IsLines more → TookText more mid new → IfSome told_codes (λ kept. GoesBy arena side kept spot more (Ok (On next.number next.code))) → SoFar told_codes arena side start code next old new
+next_far told_codes arena side start code spot next old mid new far e more lines took goes = record {
+  text = far.text ++ more;
+  lines = lines_behind far.text more far.lines lines;
+  took = took_behind far.text more (far.text ++ more) old mid new far.took refl took;
+  comes = both told_codes (λ kept. ComeBy arena side kept start code spot far.text) (λ kept. GoesBy arena side kept spot more (Ok (On next.number next.code))) (λ kept. ComeBy arena side kept start code next (far.text ++ more)) (λ kept c g. after_ply arena side kept start code spot next far.text more e c g) far.comes goes;
+}
+
+-- a turn as the line's last: with its end, or with a fault
+abbrev pub AtEnd : Arena Step ℕ Value → Colour → List ℕ → Spot → (more : List ℕ) → Result LineEnd LineFault → Type 0
+AtEnd arena side kept spot more result =
+    slice_index kept spot.number ≡ spot.code →
+    (plies : List LinePly) (end : EndOfLine) → GoesOn arena side kept spot.played spot.number plies end →
+    (rest : List ℕ) × (more ++ rest ≡ rest_text side spot plies (told side end)) × Finishes result (told side end) rest
+
+played_out : (arena : Arena Step ℕ Value) (side : Colour) (kept : List ℕ) (start code : ℕ) (spot : Spot) (text more : List ℕ) (result : Result LineEnd LineFault) (before mid now : ℕ) → mid ≤ before + MOST_ASKED * spot.played → now ≤ mid + MOST_ASKED → ComeBy arena side kept start code spot text → AtEnd arena side kept spot more result → Plays arena side kept start code (text ++ more) result before now
+played_out arena side kept start code spot text more result before mid now b n comes ends = λ agrees plies end w.
+    let l = comes agrees plies end w in
+    let g = ends l.agrees l.others end l.way in
+    let many = l.many in
+    let asked : now ≤ before + MOST_ASKED * (length plies + 1) = omega (arith, b, n, many) in
+    (g.0, append_assoc text more g.0 ∙ (ap (λ (z : List ℕ). text ++ z) g.1 ∙ l.is), g.2, asked)
+
+-- what a line wrote
+abbrev pub LineWrote : Option (List ℕ) → Arena Step ℕ Value → Colour → (start code : ℕ) → Result LineEnd LineFault → (old new : SinkTold) → (before now : ℕ) → Type 0
+LineWrote told_codes arena side start code result old new before now =
+    (text : List ℕ) × IsLines text × WroteBy result text old new
+    × IfSome told_codes (λ kept. Plays arena side kept start code text result before now)
+
+wrote_after : (text more : List ℕ) (result : Result LineEnd LineFault) (old mid new : SinkTold) → TookText text old mid → WroteBy result more mid new → WroteBy result (text ++ more) old new
+wrote_after text more (Ok end) old mid new t w = took_behind text more (text ++ more) old mid new t refl w
+wrote_after text more (Err faults.Outside) old mid new t w = took_behind text more (text ++ more) old mid new t refl w
+wrote_after text more (Err faults.NoBound) old mid new t w = took_behind text more (text ++ more) old mid new t refl w
+wrote_after text more (Err (faults.Wrong x)) old mid new t w = took_behind text more (text ++ more) old mid new t refl w
+wrote_after text more (Err faults.Store) old mid new t w = took_behind text more (text ++ more) old mid new t refl w
+wrote_after text more (Err faults.Output) old mid new t w = failed_behind text more (text ++ more) old mid new t refl w
+wrote_after text more (Err faults.NoMemory) old mid new t w = took_behind text more (text ++ more) old mid new t refl w
+
+pub last_far : (told_codes : Option (List ℕ)) (arena : Arena Step ℕ Value) (side : Colour) (start code : ℕ) (spot : Spot) (old mid new : SinkTold) (before middle now : ℕ) → SoFar told_codes arena side start code spot old mid → middle ≤ before + MOST_ASKED * spot.played → now ≤ middle + MOST_ASKED → (result : Result LineEnd LineFault) (more : List ℕ) → IsLines more → WroteBy result more mid new → IfSome told_codes (λ kept. AtEnd arena side kept spot more result) → LineWrote told_codes arena side start code result old new before now
+last_far told_codes arena side start code spot old mid new before middle now far b n result more lines wrote ends = (
+  far.text ++ more,
+  lines_behind far.text more far.lines lines,
+  wrote_after far.text more result old mid new far.took wrote,
+  both told_codes (λ kept. ComeBy arena side kept start code spot far.text) (λ kept. AtEnd arena side kept spot more result) (λ kept. Plays arena side kept start code (far.text ++ more) result before now) (λ kept c g. played_out arena side kept start code spot far.text more result before middle now b n c g) far.comes ends,
+)
+
+wrote_same : (fault : LineFault) (more : List ℕ) (old new : SinkTold) → WroteBy {T = Turn} (Err fault) more old new → WroteBy {T = LineEnd} (Err fault) more old new
+wrote_same faults.Outside more old new w = w
+wrote_same faults.NoBound more old new w = w
+wrote_same (faults.Wrong x) more old new w = w
+wrote_same faults.Store more old new w = w
+wrote_same faults.Output more old new w = w
+wrote_same faults.NoMemory more old new w = w
+
+-- the line's end, and a fault on its way
+pub over_far : (told_codes : Option (List ℕ)) (arena : Arena Step ℕ Value) (side : Colour) (start code : ℕ) (spot : Spot) (old mid new : SinkTold) (before middle now : ℕ) → SoFar told_codes arena side start code spot old mid → middle ≤ before + MOST_ASKED * spot.played → now ≤ middle + MOST_ASKED → (last : LineEnd) (more : List ℕ) → IsLines more → TookText more mid new → IfSome told_codes (λ kept. GoesBy arena side kept spot more (Ok (Over last))) → LineWrote told_codes arena side start code (Ok last) old new before now
+over_far told_codes arena side start code spot old mid new before middle now far b n last more lines took goes =
+    last_far told_codes arena side start code spot old mid new before middle now far b n (Ok last) more lines took goes
+
+pub fault_far : (told_codes : Option (List ℕ)) (arena : Arena Step ℕ Value) (side : Colour) (start code : ℕ) (spot : Spot) (old mid new : SinkTold) (before middle now : ℕ) → SoFar told_codes arena side start code spot old mid → middle ≤ before + MOST_ASKED * spot.played → now ≤ middle + MOST_ASKED → (fault : LineFault) (more : List ℕ) → IsLines more → WroteBy {T = Turn} (Err fault) more mid new → IfSome told_codes (λ kept. GoesBy arena side kept spot more (Err fault)) → LineWrote told_codes arena side start code (Err fault) old new before now
+fault_far told_codes arena side start code spot old mid new before middle now far b n fault more lines wrote goes =
+    last_far told_codes arena side start code spot old mid new before middle now far b n (Err fault) more lines (wrote_same fault more mid new wrote) goes
+
+pub fault_wrote : (told_codes : Option (List ℕ)) (arena : Arena Step ℕ Value) (side : Colour) (start code : ℕ) (old new : SinkTold) (before now : ℕ) (fault : LineFault) (result : Result LineEnd LineFault) → IsErrAnd result (λ e. e ≡ fault) → LineWrote told_codes arena side start code (Err fault) old new before now → LineWrote told_codes arena side start code result old new before now
+fault_wrote told_codes arena side start code old new before now fault (Ok end) h w = absurd h
+fault_wrote told_codes arena side start code old new before now fault (Err e) h w =
+    subst (λ (f : LineFault). LineWrote told_codes arena side start code (Err f) old new before now) (sym h) w
+
+-- the store was called twice
+pub quiet_behind : (old mid new : StoreTold) → StoreQuiet old mid → StoreQuiet mid new → StoreQuiet old new
+quiet_behind old mid new a b = record {
+  unwritten = record { files = b.unwritten.files ∙ a.unwritten.files; last = b.unwritten.last ∙ a.unwritten.last; room = b.unwritten.room ∙ a.unwritten.room };
+  later = record {
+    asked = (let x = a.later.asked in let y = b.later.asked in omega arith);
+    calls = (let x = a.later.calls in let y = b.later.calls in omega arith);
+    faults = (let x = a.later.faults in let y = b.later.faults in omega arith);
+    wants = (let x = a.later.wants in let y = b.later.wants in omega arith);
+  };
+}
+
+pub fine_behind : (old mid new : StoreTold) → StoreFine old mid → StoreFine mid new → StoreFine old new
+fine_behind old mid new a b = record { faults = b.faults ∙ a.faults; wants = b.wants ∙ a.wants }
+
+-- the measure and the count of plies
+pub few_at_start : (code : ℕ) → code < 4294967296 → IsFew MOST_PLIES 0 code
+few_at_start code l = record { won = λ w. omega (arith, l); held = λ h. omega arith }
+
+next_of : (size : ℕ) (spot : Spot) (number code : ℕ) → TurnsTo size spot (On number code) → ((is_win spot.code ≡ true) × (is_win code ≡ true) × (code + 2 ≡ spot.code)) ⊎ ((spot.code ≡ 1) × (code ≤ 1) × (spot.played < MOST_PLIES))
+next_of size spot number code t = elim t.1 [ inl h ↦ inl h | inr h ↦ inr (h.0, h.1, t.2 h.0) ]
+
+pub few_on : (size : ℕ) (spot : Spot) (number code : ℕ) → IsFew MOST_PLIES spot.played spot.code → TurnsTo size spot (On number code) → IsFew MOST_PLIES (spot.played + 1) code
+few_on size spot number code few t =
+    let e : suc spot.played ≡ spot.played + 1 = omega arith in
+    subst (λ k. IsFew MOST_PLIES k code) e (few_after MOST_PLIES spot.played spot.code code few (next_of size spot number code t))
+
+pub left_on : (size : ℕ) (spot : Spot) (number code : ℕ) → TurnsTo size spot (On number code) → line_left MOST_PLIES (spot.played + 1) code < line_left MOST_PLIES spot.played spot.code
+left_on size spot number code t =
+    let e : suc spot.played ≡ spot.played + 1 = omega arith in
+    subst (λ k. line_left MOST_PLIES k code < line_left MOST_PLIES spot.played spot.code) e (left_after MOST_PLIES spot.played spot.code code (next_of size spot number code t))
+
+pub fits_on : (size : ℕ) (spot : Spot) (number code : ℕ) → IsFew MOST_PLIES spot.played spot.code → TurnsTo size spot (On number code) → spot.played + 1 < 4294967296
+fits_on size spot number code few t =
+    few_fits MOST_PLIES spot.played spot.code (omega arith) few (elim t.1 [ inl h ↦ inl h.0 | inr h ↦ inr h.0 ])
+
+small_stands : (code : ℕ) → code ≤ 1 → is_failure code ≡ false
+small_stands code l = grind (arith, nat_tests)
+
+pub stands_on : (size : ℕ) (spot : Spot) (number code : ℕ) → TurnsTo size spot (On number code) → is_failure code ≡ false
+stands_on size spot number code t =
+    elim t.1 [
+      | inl h ↦ (elim (true_or_false (is_failure code)) [ inl f ↦ absurd (win_and_failure code h.1 f) | inr f ↦ f ])
+      | inr h ↦ small_stands code h.1
+    ]

@@ -1,0 +1,96 @@
+-- A line from the number of a position.
+use Rattle.std.proofs.Common.{◌≡◌, ◌≤◌, ◌+◌, ℕ, inl, List, [], Option, Some, None, IfSome, Result, Ok, Err, refl, sym, subst, ap, ◌∙◌, arith}
+use Rattle.std.specs.Prelude.{slice_get, slice_index}
+use Rattle.std.specs.Option.{option_map}
+use Rattle.std.specs.Result.{IsErrAnd}
+use Rattle.std.proofs.lemmas.Option.{get_or_from_slice_get}
+use Rattle.frz_board.specs.declared.man.Colour.{Colour}
+use Rattle.frz_board.specs.Boards.{Board}
+use Rattle.frz_sets.specs.Views.{RuleLines}
+use Rattle.frz_store.specs.Files.{Files}
+use Rattle.frz_store.specs.Told.{SinkTold}
+use Rattle.frz_store.specs.declared.outside.StoreFault.{StoreFault}
+use Rattle.frz_store.specs.declared.outside.StoreFault.TheVariants.{Failed, NoMemory}
+use Rattle.frz_answer.specs.Answers.{IsLines}
+use Rattle.frz_answer.proofs.Lemmas.{took_nothing}
+use Rattle.frz_exits.specs.Books.{value_by}
+use Rattle.frz_game.specs.Games.{graph_by}
+use Rattle.frz_index.specs.Members.{Member, Num}
+use Rattle.frz_table.specs.Layout.{codes_at}
+use Rattle.frz_table.specs.Tables.{Table, table_size}
+use Rattle.frz_line.specs.declared.end.LineEnd.{LineEnd}
+use Rattle.frz_line.specs.declared.end.LineFault.{LineFault}
+use Rattle.frz_line.specs.declared.end.LineFault.TheVariants as faults
+use Rattle.frz_line.specs.BestLine.{TellsLine}
+use Rattle.frz_line.specs.Ends.{told, Finishes}
+use Rattle.frz_line.specs.Faults.{WroteBy, fault_of}
+use Rattle.frz_line.specs.Kept.{kept_codes}
+use Rattle.frz_line.specs.Lines.{GoesOn}
+use Rattle.frz_line.specs.Texts.{line_text}
+use Rattle.frz_line.specs.Turns.{Plays}
+
+every : {A : Type 0} (o : Option A) (P : A → Type 0) → ((x : A) → P x) → IfSome o P
+every None P f = tt
+every (Some x) P f = f x
+
+both : {A : Type 0} (o : Option A) (P Q R : A → Type 0) → ((x : A) → P x → Q x → R x) → IfSome o P → IfSome o Q → IfSome o R
+both None P Q R f p q = tt
+both (Some x) P Q R f p q = f x p q
+
+-- what was written of the line
+abbrev pub WroteLine : Option (List ℕ) → RuleLines → Colour → Board → Result LineEnd LineFault → (old new : SinkTold) → (before now : ℕ) → Type 0
+WroteLine told_codes rules side p result old new before now =
+    (text : List ℕ) × IsLines text × WroteBy result text old new
+    × IfSome told_codes (λ codes. TellsLine rules side codes p text result before now)
+
+-- a position that is not in the set
+pub nothing_told : (told_codes : Option (List ℕ)) (rules : RuleLines) (side : Colour) (p : Board) (out : SinkTold) (before : ℕ) → (Member rules.groups p → ⊥) → WroteLine told_codes rules side p (Err faults.Outside) out out before before
+nothing_told told_codes rules side p out before none = (
+  [],
+  inl refl,
+  took_nothing out,
+  every told_codes (λ codes. TellsLine rules side codes p [] (Err faults.Outside) before before) (λ codes member plies end w. absurd (none member)),
+)
+
+whole_left : (rules : RuleLines) (side : Colour) (codes : List ℕ) (p : Board) (result : Result LineEnd LineFault) (before now : ℕ) → now ≤ before + 4 → ((answer : Result LineEnd LineFault) (rest : List ℕ) → Finishes result answer rest) → TellsLine rules side codes p [] result before now
+whole_left rules side codes p result before now l free = λ member plies end w.
+    let text = line_text side (slice_index codes (Num rules.groups p)) plies (told side end) in
+    (text, refl, free (told side end) text, omega (arith, l))
+
+-- the code of the start was not read
+unread : (told_codes : Option (List ℕ)) (rules : RuleLines) (side : Colour) (p : Board) (out : SinkTold) (before now : ℕ) → now ≤ before + 4 → (fault : StoreFault) (f : LineFault) → f ≡ fault_of fault → WroteLine told_codes rules side p (Err f) out out before now
+unread told_codes rules side p out before now l Failed f e =
+    subst (λ (z : LineFault). WroteLine told_codes rules side p (Err z) out out before now) (sym e)
+    ([], inl refl, took_nothing out, every told_codes (λ codes. TellsLine rules side codes p [] (Err faults.Store) before now) (λ codes. whole_left rules side codes p (Err faults.Store) before now l (λ answer rest. tt)))
+unread told_codes rules side p out before now l NoMemory f e =
+    subst (λ (z : LineFault). WroteLine told_codes rules side p (Err z) out out before now) (sym e)
+    ([], inl refl, took_nothing out, every told_codes (λ codes. TellsLine rules side codes p [] (Err faults.NoMemory) before now) (λ codes. whole_left rules side codes p (Err faults.NoMemory) before now l (λ answer rest. tt)))
+
+pub start_unread : (told_codes : Option (List ℕ)) (rules : RuleLines) (side : Colour) (p : Board) (out : SinkTold) (before now : ℕ) → now ≤ before + 4 → (fault : StoreFault) (result : Result LineEnd LineFault) → IsErrAnd result (λ e. e ≡ fault_of fault) → WroteLine told_codes rules side p result out out before now
+start_unread told_codes rules side p out before now l fault (Ok end) h = absurd h
+start_unread told_codes rules side p out before now l fault (Err f) h = unread told_codes rules side p out before now l fault f h
+
+code_in : (f : List ℕ → List ℕ) (start code : ℕ) (o : Option (List ℕ)) → IfSome o (λ bytes. slice_get (f bytes) start ≡ Some code) → IfSome (option_map f o) (λ codes. slice_index codes start ≡ code)
+code_in f start code None h = tt
+code_in f start code (Some bytes) h = get_or_from_slice_get (f bytes) start code 0 h
+
+-- the code that was read is the one of the file
+pub code_kept : (table : Table) (side : Colour) (files : Option Files) (start code : ℕ) → IfSome files (λ m. IfSome (m table.name) (λ bytes. slice_get (codes_at side table.text (table_size table) bytes) start ≡ Some code)) → IfSome (kept_codes table side files) (λ codes. slice_index codes start ≡ code)
+code_kept table side None start code h = tt
+code_kept table side (Some m) start code h =
+    code_in (codes_at side table.text (table_size table)) start code (m table.name) h
+
+tells : (rules : RuleLines) (side : Colour) (codes : List ℕ) (p : Board) (text : List ℕ) (result : Result LineEnd LineFault) (before mid now start code : ℕ) → start ≡ Num rules.groups p → mid ≤ before + 4 → slice_index codes start ≡ code → Plays (graph_by rules (value_by rules)) side codes start code text result mid now → TellsLine rules side codes p text result before now
+tells rules side codes p text result before mid now start code is few agrees plays = λ member plies end w.
+    let h = plays agrees plies end (subst (λ i. GoesOn (graph_by rules (value_by rules)) side codes 0 i plies end) (sym is) w) in
+    let same : code ≡ slice_index codes (Num rules.groups p) = sym agrees ∙ ap (slice_index codes) is in
+    let asked = h.3 in
+    (h.0, h.1 ∙ ap (λ c. line_text side c plies (told side end)) same, h.2, omega (arith, asked, few))
+
+pub line_told : (told_codes : Option (List ℕ)) (rules : RuleLines) (side : Colour) (p : Board) (result : Result LineEnd LineFault) (old new : SinkTold) (before mid now start code : ℕ) → start ≡ Num rules.groups p → mid ≤ before + 4 → IfSome told_codes (λ codes. slice_index codes start ≡ code) → (text : List ℕ) → IsLines text → WroteBy result text old new → IfSome told_codes (λ codes. Plays (graph_by rules (value_by rules)) side codes start code text result mid now) → WroteLine told_codes rules side p result old new before now
+line_told told_codes rules side p result old new before mid now start code is few agrees text lines wrote plays = (
+  text,
+  lines,
+  wrote,
+  both told_codes (λ codes. slice_index codes start ≡ code) (λ codes. Plays (graph_by rules (value_by rules)) side codes start code text result mid now) (λ codes. TellsLine rules side codes p text result before now) (λ codes. tells rules side codes p text result before mid now start code is few) agrees plays,
+)

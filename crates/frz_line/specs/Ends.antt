@@ -1,0 +1,26 @@
+-- What a line answers at its end.
+use Rattle.std.specs.Prelude.{◌≡◌, ℕ, List, [], Result, Ok, Err, ⊤}
+use Rattle.frz_board.specs.declared.man.Colour.{Colour}
+use Rattle.frz_arena.specs.WayEnds.{Wrong, NoBound, Mated, Stalemated, Exit, Cut, Stopped}
+use Rattle.frz_line.specs.declared.end.LineEnd.{LineEnd}
+use Rattle.frz_line.specs.declared.end.LineEnd.TheVariants as ends
+use Rattle.frz_line.specs.declared.end.LineFault.{LineFault}
+use Rattle.frz_line.specs.declared.end.LineFault.TheVariants as faults
+use Rattle.frz_line.specs.Lines.{EndOfLine}
+
+abbrev pub told : Colour → EndOfLine → Result LineEnd LineFault
+told side (Wrong number kept given) =
+    Err (faults.Wrong (record { side = side; number = number; kept = kept; given = given }))
+told side NoBound = Err faults.NoBound
+told side (Mated mover) = Ok ends.Mate
+told side (Stalemated mover) = Ok ends.Stalemate
+told side (Exit v) = Ok (ends.Exit v)
+told side Cut = Ok ends.Cut
+told side (Stopped reason) = elim reason [ ]
+
+-- a line answers what its end tells, with all of its text written, but for a fault of the store or the sink
+abbrev pub Finishes : (result answer : Result LineEnd LineFault) → (rest : List ℕ) → Type 0
+Finishes (Err faults.Store) answer rest = ⊤
+Finishes (Err faults.NoMemory) answer rest = ⊤
+Finishes (Err faults.Output) answer rest = ⊤
+Finishes result answer rest = (result ≡ answer) × (rest ≡ [])

@@ -1,0 +1,9 @@
+pub mod Faults
+pub mod Kept
+pub mod Dues
+pub mod Sights
+pub mod Lines
+pub mod Texts
+pub mod Ends
+pub mod Turns
+pub mod BestLine

@@ -1,0 +1,59 @@
+//! The best line of a side from a position of a table file's set.
+ghost use Rattle.std.specs.Prelude.{◌≡◌, ◌↔◌, ◌≤◌, ℕ, List, Err, IfSome};
+ghost use Rattle.frz_fide.specs.Valid.{IsValid};
+ghost use Rattle.frz_index.specs.Members.{Member};
+ghost use Rattle.frz_store.specs.Told.{store_of, sink_of, StoreQuiet};
+ghost use Rattle.frz_answer.specs.Answers.{IsLines};
+ghost use Rattle.frz_table.specs.Tables.{Carries};
+ghost use Rattle.frz_line.specs.Faults.{StoreCause, WroteBy};
+ghost use Rattle.frz_line.specs.Kept.{kept_codes};
+ghost use Rattle.frz_line.specs.BestLine.{TellsLine};
+
+use crate::end::{LineEnd, LineFault};
+use crate::line::play_line;
+use frz_board::{Colour, Position};
+use frz_exits::RuleBook;
+use frz_game::Game;
+use frz_game::laws::numbers::numbered;
+use frz_steps::Steps;
+use frz_store::{Sink, Store};
+use frz_table::TableFile;
+use std::sync::ledger::Ledger;
+
+/// Writes the best line of the side from the position: the bound of its kept code, the moves, and
+/// the end, each line as it is made. The side goes by its kept codes and the opponent by them too.
+/// With a fault the lines before it were written, and the line that names it is the caller's.
+pub fn best_line<S: Store, O: Sink, L: Ledger>(
+    table: &TableFile,
+    store: &mut S,
+    p: &Position,
+    side: Colour,
+    out: &mut O,
+    steps: &mut Steps<L>,
+) -> Result<LineEnd, LineFault>
+    requires valid { IsValid p.now }
+    requires carried { Carries (S.files store.old) table.now }
+    ensures outside { (result ≡ Err LineFault.Outside) ↔ (Member table.now.rules.groups p.now → ⊥) }
+    ensures wrote { (text : List ℕ) × IsLines text
+        × WroteBy result text (sink_of O.Sink out.old) (sink_of O.Sink out.new)
+        × IfSome (kept_codes table.now side (S.files store.old))
+        (λ codes. TellsLine table.now.rules side codes p.now text result
+        (S.asked store.old) (S.asked store.new)) }
+    ensures quiet { StoreQuiet (store_of S.Store store.old) (store_of S.Store store.new) }
+    ensures cause { StoreCause result (store_of S.Store store.old) (store_of S.Store store.new) }
+    ensures later { steps.old ≤ steps.new }
+{
+    let Some(start) = table.set().number(p) else {
+        return Err(LineFault::Outside);
+    };
+    numbered();
+    let rules = table.rules();
+    let book = RuleBook::new(rules);
+    let game = Game {
+        set: table.set(),
+        rules,
+        book: &book,
+    };
+    let code = table.entry(store, side, start)?;
+    play_line(&game, table, store, side, start, code, out, steps)
+}

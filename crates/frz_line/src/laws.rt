@@ -1,0 +1,80 @@
+//! What holds of lines, each law the contract of a function that does nothing.
+ghost use Rattle.std.specs.Prelude.{◌≡◌, ◌+◌, ◌*◌, ℕ, List, length, slice_index};
+ghost use Rattle.frz_board.specs.declared.man.Colour.{Colour};
+ghost use Rattle.frz_board.specs.Boards.{Board};
+ghost use Rattle.frz_sets.specs.declared.exit.Value.{Value};
+ghost use Rattle.frz_sets.specs.Views.{RuleLines};
+ghost use Rattle.frz_arena.specs.WayEnds.{Wrong, Mated, Exit, EndsWon, EndsDrawn};
+ghost use Rattle.frz_exits.specs.Values.{lag_of};
+ghost use Rattle.frz_game.specs.Bounds.{IsTableOf};
+ghost use Rattle.frz_game.specs.Games.{graph_by};
+ghost use Rattle.frz_index.specs.Members.{Member, Num};
+ghost use Rattle.frz_line.specs.Lines.{LinePly, EndOfLine, IsLine};
+
+use frz_arena::laws::lines::{holds_in_lines, lines_end, wins_in_lines};
+use frz_arena::laws::ways::{games_are_closed, one_way, right_codes, wins_are_kept};
+use frz_board::{Move, Position};
+use frz_game::laws::numbers::{membership, numbered};
+use frz_sets::Value as ExitValue;
+use std::convert::Infallible;
+
+/// From each number there is one line over each list of codes.
+pub fn one_line()
+    ensures there { (rules : RuleLines) (value : Board → Value)
+        (side : Colour) (codes : List ℕ) (start : ℕ) →
+        (plies : List LinePly) × (end : EndOfLine) × IsLine rules value side codes start plies end }
+    ensures one { (rules : RuleLines) (value : Board → Value)
+        (side : Colour) (codes : List ℕ) (start : ℕ)
+        (plies others : List LinePly) (end last : EndOfLine) →
+        IsLine rules value side codes start plies end →
+        IsLine rules value side codes start others last →
+        (plies ≡ others) × (end ≡ last) }
+{
+    lines_end::<Move, u32, ExitValue, (), Infallible>();
+    one_way::<Move, u32, ExitValue, (), Infallible>();
+    numbered();
+}
+
+/// From the kept code of a win of n plies a line is won: by a mate after n plies, or at an exit that
+/// wins, after n plies with its lag counted. Only a wrong code on its way ends it otherwise.
+pub fn least_plies()
+    ensures won { (rules : RuleLines) (value : Board → Value)
+        (side : Colour) (codes : List ℕ) (start n : ℕ)
+        (plies : List LinePly) (end : EndOfLine) → slice_index codes start ≡ 2 + 2 * n →
+        IsLine rules value side codes start plies end → EndsWon (graph_by rules value) side end }
+    ensures mate { (rules : RuleLines) (value : Board → Value)
+        (side mover : Colour) (codes : List ℕ) (start n : ℕ)
+        (plies : List LinePly) → slice_index codes start ≡ 2 + 2 * n →
+        IsLine rules value side codes start plies (Mated mover) → length plies ≡ n }
+    ensures exit { (rules : RuleLines) (value : Board → Value)
+        (side : Colour) (codes : List ℕ) (start n : ℕ)
+        (plies : List LinePly) (v : Value) → slice_index codes start ≡ 2 + 2 * n →
+        IsLine rules value side codes start plies (Exit v) → length plies + lag_of v ≡ n }
+{
+    wins_are_kept::<Move, u32, ExitValue, (), Infallible>();
+    wins_in_lines::<Move, u32, ExitValue, (), Infallible>();
+}
+
+/// From the kept code of a hold nobody is mated in a line, and an exit holds for the side and no
+/// more.
+pub fn holds_are_drawn()
+    ensures { (rules : RuleLines) (value : Board → Value)
+        (side : Colour) (codes : List ℕ) (start : ℕ)
+        (plies : List LinePly) (end : EndOfLine) → slice_index codes start ≡ 1 →
+        IsLine rules value side codes start plies end → EndsDrawn (graph_by rules value) side end }
+{
+    holds_in_lines::<Move, u32, ExitValue, (), Infallible>();
+}
+
+/// Over the table of the side no line from a position of the set ends as wrong.
+pub fn tables_are_never_wrong()
+    ensures { (rules : RuleLines) (value : Board → Value) (side : Colour) (codes : List ℕ) →
+        IsTableOf rules value side codes → (p : Board) → Member rules.groups p →
+        (plies : List LinePly) (number kept given : ℕ) →
+        IsLine rules value side codes (Num rules.groups p) plies (Wrong number kept given) → ⊥ }
+{
+    right_codes::<Move, Position, ExitValue, (), Infallible>();
+    games_are_closed::<Position, Move, ExitValue>();
+    membership();
+    numbered();
+}

@@ -1,0 +1,112 @@
+//! The loop that plays a line.
+ghost use Rattle.std.specs.Prelude.{◌≡◌, ◌⊎◌, ◌≤◌, ◌<◌, ◌+◌, ℕ, List, false, Err, IfOk, IfSome};
+ghost use Rattle.frz_store.specs.Told.{store_of, sink_of, StoreQuiet};
+ghost use Rattle.frz_answer.specs.Answers.{IsLines};
+ghost use Rattle.frz_table.specs.Tables.{Carries, table_size};
+ghost use Rattle.frz_arena.specs.Codes.{is_failure};
+ghost use Rattle.frz_line.specs.Faults.{StoreCause, WroteBy};
+ghost use Rattle.frz_line.specs.Kept.{kept_codes};
+ghost use Rattle.frz_line.specs.Turns.{GoesBy, TurnsTo, Plays};
+
+use crate::end::{LineEnd, LineFault, MOST_PLIES};
+use crate::playing::{Spot, Turn, play};
+use crate::reading::MOST_ASKED;
+use crate::seeing::sight;
+use frz_arena::laws::ways::arms_are_found;
+use frz_board::{Colour, Move};
+use frz_graph::laws::filled;
+use frz_graph::{Lists, NumberedGame};
+use frz_sets::Value;
+use frz_steps::Steps;
+use frz_store::{Sink, Store};
+use frz_table::TableFile;
+use std::sync::ledger::Ledger;
+
+/// One turn: the moves of the number and their codes are read, and what is due is done.
+fn turn<G: NumberedGame<L>, S: Store, O: Sink, L: Ledger>(
+    game: &G,
+    table: &TableFile,
+    store: &mut S,
+    side: Colour,
+    spot: Spot,
+    lists: &mut Lists,
+    out: &mut O,
+    steps: &mut Steps<L>,
+) -> Result<Turn, LineFault>
+    requires sound { G.sound game.now }
+    requires inside { spot.number < G.count game.now }
+    requires many { table_size table.now ≡ G.count game.now }
+    requires carried { Carries (S.files store.old) table.now }
+    requires stands { (spot.played ≡ 0) ⊎ (is_failure spot.code ≡ false) }
+    ensures next { IfOk result (TurnsTo (G.count game.now) spot) }
+    ensures wrote { (text : List ℕ) × IsLines text
+        × WroteBy result text (sink_of O.Sink out.old) (sink_of O.Sink out.new)
+        × IfSome (kept_codes table.now side (S.files store.old))
+        (λ codes. GoesBy (G.arena game.now) side codes spot text result) }
+    ensures placed { result ≡ Err LineFault.Outside → ⊥ }
+    ensures quiet { StoreQuiet (store_of S.Store store.old) (store_of S.Store store.new) }
+    ensures asked { S.asked store.new ≤ S.asked store.old + MOST_ASKED }
+    ensures cause { StoreCause result (store_of S.Store store.old) (store_of S.Store store.new) }
+    ensures later { steps.old ≤ steps.new }
+{
+    arms_are_found::<Move, u32, Value>();
+    filled();
+    let due = sight(
+        game,
+        table,
+        store,
+        side,
+        spot.number,
+        spot.code,
+        spot.played == 0,
+        MOST_PLIES <= spot.played,
+        lists,
+        steps,
+    )?;
+    play(side, spot, due, lists, out)
+}
+
+/// Plays the line of the side from a number with this kept code, and writes its text.
+pub fn play_line<G: NumberedGame<L>, S: Store, O: Sink, L: Ledger>(
+    game: &G,
+    table: &TableFile,
+    store: &mut S,
+    side: Colour,
+    start: u32,
+    code: u32,
+    out: &mut O,
+    steps: &mut Steps<L>,
+) -> Result<LineEnd, LineFault>
+    requires sound { G.sound game.now }
+    requires inside { start < G.count game.now }
+    requires many { table_size table.now ≡ G.count game.now }
+    requires carried { Carries (S.files store.old) table.now }
+    ensures wrote { (text : List ℕ) × IsLines text
+        × WroteBy result text (sink_of O.Sink out.old) (sink_of O.Sink out.new)
+        × IfSome (kept_codes table.now side (S.files store.old))
+        (λ codes. Plays (G.arena game.now) side codes start code text result
+        (S.asked store.old) (S.asked store.new)) }
+    ensures placed { result ≡ Err LineFault.Outside → ⊥ }
+    ensures quiet { StoreQuiet (store_of S.Store store.old) (store_of S.Store store.new) }
+    ensures cause { StoreCause result (store_of S.Store store.old) (store_of S.Store store.new) }
+    ensures later { steps.old ≤ steps.new }
+{
+    let mut lists = Lists::new();
+    let mut spot = Spot {
+        number: start,
+        code,
+        played: 0,
+    };
+    'plies: loop {
+        match turn(game, table, store, side, spot, &mut lists, out, steps)? {
+            Turn::Over(end) => return Ok(end),
+            Turn::On(number, code) => {
+                spot = Spot {
+                    number,
+                    code,
+                    played: spot.played + 1,
+                };
+            }
+        }
+    }
+}

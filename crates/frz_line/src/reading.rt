@@ -1,0 +1,64 @@
+//! The codes of the moves of a number, read from a table file.
+ghost use Rattle.std.specs.Prelude.{◌≡◌, ◌≤◌, ◌+◌, All, length, map, IfSome, IfOk, OnOk};
+ghost use Rattle.frz_store.specs.Outside.{StoreCauses};
+ghost use Rattle.frz_store.specs.Told.{store_of, StoreQuiet};
+ghost use Rattle.frz_table.specs.Tables.{Carries, table_size};
+ghost use Rattle.frz_graph.specs.EntryCodes.{next_code, arm_code, IsWithin};
+ghost use Rattle.frz_line.specs.Kept.{kept_codes};
+
+use frz_board::Colour;
+use frz_graph::{CodeList, Next, NextList, exit_code};
+use frz_store::{Store, StoreFault};
+use frz_table::TableFile;
+
+/// How many bytes are asked for at one number at most: four for each of 1,024 moves.
+pub const MOST_ASKED: u64 = 4_096;
+
+/// The code of where a move leads.
+fn read_code<S: Store>(
+    table: &TableFile,
+    store: &mut S,
+    side: Colour,
+    next: Next,
+) -> Result<u32, StoreFault>
+    requires within { IsWithin (table_size table.now) next }
+    requires carried { Carries (S.files store.old) table.now }
+    ensures code { IfOk result (λ code. IfSome (kept_codes table.now side (S.files store.old))
+        (λ codes. code ≡ next_code side codes next)) }
+    ensures quiet { StoreQuiet (store_of S.Store store.old) (store_of S.Store store.new) }
+    ensures asked { S.asked store.new ≤ S.asked store.old + 4 }
+    ensures causes { StoreCauses (S.faults store.old) (S.faults store.new)
+        (S.wants store.old) (S.wants store.new) result }
+{
+    match next {
+        Next::Inside(number) => table.entry(store, side, number),
+        Next::Outside(value) => Ok(exit_code(value, side)),
+    }
+}
+
+/// Puts the code of each move of the list into `codes`, and drops what was there. Each is read
+/// where it stands in the file, four bytes for a move.
+pub fn read_codes<S: Store>(
+    table: &TableFile,
+    store: &mut S,
+    side: Colour,
+    list: &NextList,
+    codes: &mut CodeList,
+) -> Result<(), StoreFault>
+    requires within { All (λ a. IsWithin (table_size table.now) a.next) list.now.items }
+    requires carried { Carries (S.files store.old) table.now }
+    ensures many { OnOk result (length codes.new.items ≡ length list.now.items) }
+    ensures codes { OnOk result (IfSome (kept_codes table.now side (S.files store.old))
+        (λ kept. codes.new.items ≡ map (arm_code side kept) list.now.items)) }
+    ensures quiet { StoreQuiet (store_of S.Store store.old) (store_of S.Store store.new) }
+    ensures asked { S.asked store.new ≤ S.asked store.old + MOST_ASKED }
+    ensures causes { StoreCauses (S.faults store.old) (S.faults store.new)
+        (S.wants store.old) (S.wants store.new) result }
+{
+    codes.clear();
+    for arm in list.as_slice() {
+        let code = read_code(table, store, side, arm.next)?;
+        codes.push(code);
+    }
+    Ok(())
+}

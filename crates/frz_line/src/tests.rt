@@ -1,0 +1,186 @@
+//! Lines over table files made by hand.
+ghost use Rattle.std.specs.Prelude.{◌≡◌, ◌<◌};
+
+use crate::{LineEnd, LineFault, best_line};
+use byteorder::{ByteOrder, LittleEndian};
+use frz_board::Colour;
+use frz_fen::read_fen;
+use frz_sets::Value;
+use frz_steps::Steps;
+use frz_store::{Fail as Failing, FailOn, MemSink, MemStore};
+use frz_table::open_table;
+use std::alloc::Global;
+use std::marker::Brand;
+use std::process::Abort;
+use std::sync::ledger::{Blank, Ledger};
+use std::test::Fail;
+
+/// A king and a rook against a king in the corner: 8 numbers.
+const ROOK: &str = "freezer 1
+group white 1 K:b6
+group white 1 R:h1,h8
+group black 1 K:a8,b8
+";
+
+/// The same, with an exit that White wins within 7 plies.
+const ROOK_AND_EXIT: &str = "freezer 1
+group white 1 K:b6
+group white 1 R:h1,h8
+group black 1 K:a8,b8
+exit white wins 7 if on:black:K:c8
+";
+
+/// A queen that stalemates: 2 numbers.
+const QUEEN: &str = "freezer 1
+group white 1 K:b6
+group white 1 Q:c7
+group black 1 K:a8
+";
+
+const ROOK_WHITE: [u32; 8] = [4, 4, 0, 0, 6, 5, 2, 2];
+
+const EXIT_WHITE: [u32; 8] = [4, 4, 0, 0, 6, 18, 2, 2];
+
+fn push_number(to: &mut Vec<u8>, number: u32) -> Result<(), Fail> {
+    let mut field = [0; 4];
+    LittleEndian::write_u32(&mut field, number);
+    to.extend_from_slice(&field)?;
+    Ok(())
+}
+
+/// The file of a rules text, with these codes for both sides.
+fn file_of(alloc: Global, rules: &str, codes: &[u32]) -> Result<Vec<u8>, Fail> {
+    let mut file = Vec::new(alloc);
+    file.extend_from_slice(b"FREEZER2")?;
+    push_number(&mut file, u32::try_from(rules.len()).or(Err("long"))?)?;
+    file.extend_from_slice(rules.as_bytes())?;
+    push_number(&mut file, u32::try_from(codes.len()).or(Err("long"))?)?;
+    for code in codes {
+        push_number(&mut file, *code)?;
+    }
+    for code in codes {
+        push_number(&mut file, *code)?;
+    }
+    Ok(file)
+}
+
+/// A rules text, the codes of its file, and a position; what White's line answers there, and its
+/// text.
+#[derive(Drop)]
+struct Row {
+    rules: &'static str,
+    codes: &'static [u32],
+    fen: &'static str,
+    wanted: Result<LineEnd, LineFault>,
+    text: &'static [u8],
+}
+
+const MATE: Row = Row {
+    rules: ROOK,
+    codes: &ROOK_WHITE,
+    fen: "k7/8/1K6/8/8/8/8/7R b - - 0 1",
+    wanted: Ok(LineEnd::Mate),
+    text: b"white wins within 2\na8b8\nh1h8\nmate\n",
+};
+
+const ROWS: &[Row] = &[
+    MATE,
+    Row {
+        rules: ROOK,
+        codes: &ROOK_WHITE,
+        fen: "1k6/8/1K6/8/8/8/8/7R b - - 0 1",
+        wanted: Err(LineFault::NoBound),
+        text: b"",
+    },
+    Row {
+        rules: ROOK,
+        codes: &ROOK_WHITE,
+        fen: "2k5/8/1K6/8/8/8/8/7R b - - 0 1",
+        wanted: Err(LineFault::Outside),
+        text: b"",
+    },
+    Row {
+        rules: ROOK_AND_EXIT,
+        codes: &EXIT_WHITE,
+        fen: "1k6/8/1K6/8/8/8/8/7R b - - 0 1",
+        wanted: Ok(LineEnd::Exit(Value::WhiteWinsIn(7))),
+        text: b"white wins within 8\nb8c8\nexit white wins 7\n",
+    },
+    Row {
+        rules: QUEEN,
+        codes: &[4, 1],
+        fen: "k7/2Q5/1K6/8/8/8/8/8 b - - 0 1",
+        wanted: Ok(LineEnd::Stalemate),
+        text: b"white holds\nstalemate\n",
+    },
+];
+
+/// What the line of a row answers over a store that fails so, and its text.
+fn line_of<L: Ledger>(
+    alloc: Global,
+    row: &Row,
+    fails: Vec<Failing>,
+    steps: &mut Steps<L>,
+) -> Result<(Result<LineEnd, LineFault>, Vec<u8>), Fail> {
+    let file = file_of(alloc, row.rules, row.codes)?;
+    let mut store = MemStore::new(alloc, fails);
+    store.put("A.t", &file).or(Err("put"))?;
+    let table = open_table(alloc, &mut store, "A.t")?;
+    let p = read_fen(row.fen.as_bytes()).or(Err("fen"))?;
+    let mut out = MemSink::new(alloc, 1000, Vec::new(alloc)).or(Err("sink"))?;
+    let end = best_line(&table, &mut store, &p, Colour::White, &mut out, steps);
+    Ok((end, out.taken().to_vec(alloc)?))
+}
+
+fn check_row<L: Ledger, R: Abort>(
+    rt: &R,
+    alloc: Global,
+    row: &Row,
+    steps: &mut Steps<L>,
+) -> Result<(), Fail> {
+    let (end, text) = line_of(alloc, row, Vec::new(alloc), steps)?;
+    assert_eq!(rt; end, row.wanted, "{}", row.fen);
+    assert_eq!(rt; text.as_slice(), row.text, "{}", row.fen);
+    Ok(())
+}
+
+/// Where this read fails, the lines before it stand.
+fn check_fault<L: Ledger, R: Abort>(
+    rt: &R,
+    alloc: Global,
+    nth: u64,
+    steps: &mut Steps<L>,
+) -> Result<(), Fail> {
+    let mut fails = Vec::new(alloc);
+    fails.push(Failing {
+        on: FailOn::Read,
+        nth,
+        keep: 0,
+    })?;
+    let (end, text) = line_of(alloc, &MATE, fails, steps)?;
+    assert_eq!(rt; end, Err(LineFault::Store));
+    assert!(rt; MATE.text.starts_with(text.as_slice()));
+    Ok(())
+}
+
+fn play_rows<L: Ledger, R: Abort>(rt: &R, alloc: Global, blank: Blank) -> Result<(), Fail>
+    requires name { blank.name ≡ L.name }
+    requires parts { blank.parts ≡ L.parts }
+    requires some { 0 < blank.parts }
+{
+    let mut steps = Steps::<L>::new(blank);
+    for row in ROWS {
+        check_row(rt, alloc, row, &mut steps)?;
+    }
+    // Four reads open the file; then come the start and the moves that stay in the set.
+    for nth in 5..8 {
+        check_fault(rt, alloc, nth, &mut steps)?;
+    }
+    Ok(())
+}
+
+#[test]
+fn lines_over_files_made_by_hand(rt: HostRuntime) -> Result<(), Fail> {
+    let blank = Blank::new(1);
+    play_rows::<Brand, _>(&rt, rt.alloc(), blank)
+}
