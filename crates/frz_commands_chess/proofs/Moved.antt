@@ -1,5 +1,5 @@
 -- The answers of `move` are lawful: there is one, and only one.
-use Rattle.std.proofs.Common.{◌≡◌, ℕ, Bool, true, false, ◌||◌, List, refl, ap, sym, ◌∙◌, ◌⊎◌, inl, inr, codes}
+use Rattle.std.proofs.Common.{◌≡◌, ℕ, Bool, true, false, ◌||◌, List, refl, ap, sym, ◌∙◌, ◌⊎◌, inl, inr, codes, ◌++◌, append_assoc}
 use Rattle.std.specs.Str.{bytes_eq}
 use Rattle.std.specs.List.{Contains, list_any}
 use Rattle.std.proofs.lemmas.List.Folds.{Any-from_list_any, list_any_at}
@@ -21,6 +21,11 @@ use Rattle.frz_answer.proofs.Lemmas.{said_job, taking_lawful}
 use Rattle.frz_prelude.specs.Positions.{on_position}
 use Rattle.frz_prelude.proofs.Lemmas.{fen_lawful}
 use Rattle.frz_commands_chess.specs.Moving.{move_lines, IsMoved, moved, no_move, moving, move_words}
+
+-- two lines, one behind the other
+pub both_lines : (x y text fen : List ℕ) → x ≡ text → y ≡ fen → (x ++ codes "\n") ++ (y ++ codes "\n") ≡ text ++ codes "\n" ++ fen ++ codes "\n"
+both_lines x y text fen e h = ap (λ (l : List ℕ). (l ++ codes "\n") ++ (y ++ codes "\n")) e ∙ ap (λ (l : List ℕ). (text ++ codes "\n") ++ (l ++ codes "\n")) h
+    ∙ sym (append_assoc (text ++ codes "\n") fen (codes "\n"))
 
 or_cases : (a b : Bool) → (a || b) ≡ true → (a ≡ true) ⊎ (b ≡ true)
 or_cases true b h = inl refl

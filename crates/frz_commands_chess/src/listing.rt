@@ -6,13 +6,14 @@ ghost use Rattle.frz_fen.specs.Reading.{fen_of};
 ghost use Rattle.frz_fide.specs.Listing.{legal_moves_of};
 ghost use Rattle.frz_fide.specs.Valid.{IsValid};
 ghost use Rattle.frz_store.specs.Told.{StoreTold, SourceTold, sink_of};
+ghost use Rattle.frz_answer.specs.Texts.{WroteText};
 ghost use Rattle.frz_answer.specs.World.{world};
-ghost use Rattle.frz_answer.specs.Ends.{Said, Ran};
+ghost use Rattle.frz_answer.specs.Ends.{Ran};
 ghost use Rattle.frz_prelude.specs.Positions.{on_position};
 ghost use Rattle.frz_commands_chess.specs.Listing.{text_by, steps_by, joined, moves_line, listing, moves_words, sans_words};
 
-use crate::notation::{Notation, piece_of};
-use frz_answer::{End, Refusal, Status, one_word, refuse, say};
+use crate::notation::{Notation, write_move};
+use frz_answer::{End, Refusal, Status, one_word, refuse, said, write_piece};
 use frz_board::{Move, Position};
 use frz_fen::read_fen;
 use frz_fide::{Ending, ending, legal_moves};
@@ -22,47 +23,44 @@ use frz_store::{Failed, Sink};
 use std::sync::ledger::Ledger;
 
 /// Writes the moves on one line, a move at a time.
-fn say_line<O: Sink, L: Ledger>(
+fn write_line<O: Sink, L: Ledger>(
     notation: Notation,
     p: &Position,
     moves: &[Move],
     out: &mut O,
     steps: &mut Steps<L>,
-) -> End
+) -> Result<(), Failed>
     requires valid { IsValid p.now }
     requires moves { moves.now ≡ legal_moves_of p.now }
-    ensures said { Said Status.Success (joined (text_by notation p.now) moves.now ++ codes "\n")
+    ensures wrote { WroteText (joined (text_by notation p.now) moves.now ++ codes "\n")
         result (sink_of O.Sink out.old) (sink_of O.Sink out.new) }
     ensures later { steps.old ≤ steps.new }
     ensures few { steps.new ≤ steps.old + steps_by notation (length moves.now) }
 {
     for (i, m) in moves.iter().enumerate() {
-        let piece = piece_of(notation, p, moves, *m, i + 1 < moves.len(), steps);
-        if let Err(Failed) = out.write(piece.as_bytes()) {
-            return End::SinkFault;
-        }
+        write_move(notation, p, moves, *m, i + 1 < moves.len(), out, steps)?;
     }
-    say(Status::Success, b"\n", out)
+    write_piece(b"\n", out)
 }
 
 /// Writes the legal moves of the position, or how the game has ended there.
-fn say_moves<O: Sink, L: Ledger>(
+fn write_moves<O: Sink, L: Ledger>(
     notation: Notation,
     p: &Position,
     out: &mut O,
     steps: &mut Steps<L>,
-) -> End
+) -> Result<(), Failed>
     requires { IsValid p.now }
-    ensures said { Said Status.Success (moves_line (text_by notation p.now) p.now) result
+    ensures wrote { WroteText (moves_line (text_by notation p.now) p.now) result
         (sink_of O.Sink out.old) (sink_of O.Sink out.new) }
     ensures later { steps.old ≤ steps.new }
     ensures few { steps.new ≤ steps.old + (1 + steps_by notation (length (legal_moves_of p.now))) }
 {
     let moves = legal_moves(p, steps);
     match ending(p, &moves) {
-        Ending::Mate => say(Status::Success, b"mate\n", out),
-        Ending::Stalemate => say(Status::Success, b"stalemate\n", out),
-        Ending::Going => say_line(notation, p, &moves, out, steps),
+        Ending::Mate => write_piece(b"mate\n", out),
+        Ending::Stalemate => write_piece(b"stalemate\n", out),
+        Ending::Going => write_line(notation, p, &moves, out, steps),
     }
 }
 
@@ -78,7 +76,7 @@ fn list_at<O: Sink, L: Ledger>(
         (world store input (sink_of O.Sink out.old) steps.old)
         (world store input (sink_of O.Sink out.new) steps.new) }
 {
-    say_moves(notation, p, out, steps)
+    said(Status::Success, write_moves(notation, p, out, steps))
 }
 
 fn list_moves<O: Sink, L: Ledger>(

@@ -6,13 +6,13 @@ ghost use Rattle.frz_fen.specs.Reading.{fen_of};
 ghost use Rattle.frz_fide.specs.Legal.{is_legal};
 ghost use Rattle.frz_fide.specs.Valid.{IsValid};
 ghost use Rattle.frz_store.specs.Told.{StoreTold, SourceTold, sink_of};
+ghost use Rattle.frz_answer.specs.Texts.{WroteText};
 ghost use Rattle.frz_answer.specs.World.{world};
 ghost use Rattle.frz_answer.specs.Ends.{Ran};
 ghost use Rattle.frz_prelude.specs.Positions.{on_position};
-ghost use Rattle.frz_commands_chess.specs.Moving.{move_lines as lines_of, moving, move_words};
+ghost use Rattle.frz_commands_chess.specs.Moving.{move_lines, moving, move_words};
 
-use arrayvec::ArrayString;
-use frz_answer::{End, Refusal, Status, refuse, say, two_words};
+use frz_answer::{End, Refusal, Status, refuse, said, say, two_words, write_line};
 use frz_bits::Bitboards;
 use frz_board::{Move, Position, move_text};
 use frz_fen::{read_fen, write_fen};
@@ -20,22 +20,18 @@ use frz_fide::after;
 use frz_prelude::{Refused, refuse_named};
 use frz_san::read_san;
 use frz_steps::Steps;
-use frz_store::Sink;
+use frz_store::{Failed, Sink};
 use std::sync::ledger::Ledger;
 
-/// The move, and the position afterwards on a line of its own.
-fn move_lines(p: &Position, m: Move) -> ArrayString<128>
+/// Writes the move, and the position afterwards on a line of its own.
+fn write_moved<O: Sink>(p: &Position, m: Move, out: &mut O) -> Result<(), Failed>
     requires valid { IsValid p.now }
     requires legal { is_legal p.now m ≡ true }
-    ensures { result.bytes ≡ lines_of p.now m }
+    ensures { WroteText (move_lines p.now m) result (sink_of O.Sink out.old) (sink_of O.Sink out.new) }
 {
     let q = after(&Bitboards::of(p), m).position();
-    let mut lines = ArrayString::new();
-    lines.push_str(move_text(m).as_str());
-    lines.push_str("\n");
-    lines.push_str(write_fen(&q).as_str());
-    lines.push_str("\n");
-    lines
+    write_line(move_text(m).as_bytes(), out)?;
+    write_line(write_fen(&q).as_bytes(), out)
 }
 
 /// Makes the move of this text at a position.
@@ -46,7 +42,7 @@ fn move_at<O: Sink, L: Ledger>(san: &str, p: &Position, out: &mut O, steps: &mut
         (world store input (sink_of O.Sink out.new) steps.new) }
 {
     match read_san(p, san.as_bytes(), steps) {
-        Some(m) => say(Status::Success, move_lines(p, m).as_bytes(), out),
+        Some(m) => said(Status::Success, write_moved(p, m, out)),
         None => say(Status::NoMove, b"no move\n", out),
     }
 }

@@ -3,12 +3,15 @@ ghost use Rattle.std.specs.Prelude.{◌≡◌, ◌≤◌, ◌+◌, ◌++◌, [],
 ghost use Rattle.frz_fide.specs.Legal.{is_legal};
 ghost use Rattle.frz_fide.specs.Listing.{legal_moves_of};
 ghost use Rattle.frz_fide.specs.Valid.{IsValid};
+ghost use Rattle.frz_store.specs.Told.{sink_of};
+ghost use Rattle.frz_answer.specs.Texts.{WroteText};
 ghost use Rattle.frz_commands_chess.specs.Listing.{text_by, steps_by};
 
-use arrayvec::ArrayString;
+use frz_answer::write_piece;
 use frz_board::{Move, Position, move_text};
 use frz_san::san_among;
 use frz_steps::Steps;
+use frz_store::{Failed, Sink};
 use std::sync::ledger::Ledger;
 
 /// How a move is written: by its two squares, or as FIDE appendix C has it.
@@ -18,51 +21,58 @@ pub enum Notation {
     Algebraic,
 }
 
-/// The text of a move.
-fn text_of<L: Ledger>(
+/// Writes the text of a move.
+fn write_text<O: Sink, L: Ledger>(
     notation: Notation,
     p: &Position,
     moves: &[Move],
     m: Move,
+    out: &mut O,
     steps: &mut Steps<L>,
-) -> ArrayString<8>
+) -> Result<(), Failed>
     requires valid { IsValid p.now }
     requires moves { moves.now ≡ legal_moves_of p.now }
     requires legal { is_legal p.now m ≡ true }
-    ensures text { result.bytes ≡ text_by notation p.now m }
+    ensures wrote { WroteText (text_by notation p.now m) result
+        (sink_of O.Sink out.old) (sink_of O.Sink out.new) }
     ensures later { steps.old ≤ steps.new }
     ensures few { steps.new ≤ steps.old + steps_by notation 1 }
 {
     match notation {
-        Notation::Coordinates => {
-            let mut text = ArrayString::new();
-            text.push_str(move_text(m).as_str());
-            text
-        }
-        Notation::Algebraic => san_among(p, moves, m, steps),
+        Notation::Coordinates => write_piece(move_text(m).as_bytes(), out),
+        Notation::Algebraic => write_piece(san_among(p, moves, m, steps).as_bytes(), out),
     }
 }
 
-/// A move's text, and a space where another move follows.
-pub fn piece_of<L: Ledger>(
+/// Writes a space where something follows.
+fn write_space<O: Sink>(more: bool, out: &mut O) -> Result<(), Failed>
+    ensures { WroteText (if more then codes " " else []) result
+        (sink_of O.Sink out.old) (sink_of O.Sink out.new) }
+{
+    match more {
+        true => write_piece(b" ", out),
+        false => write_piece(b"", out),
+    }
+}
+
+/// Writes a move's text, and a space where another move follows.
+pub fn write_move<O: Sink, L: Ledger>(
     notation: Notation,
     p: &Position,
     moves: &[Move],
     m: Move,
     more: bool,
+    out: &mut O,
     steps: &mut Steps<L>,
-) -> ArrayString<9>
+) -> Result<(), Failed>
     requires valid { IsValid p.now }
     requires moves { moves.now ≡ legal_moves_of p.now }
     requires legal { is_legal p.now m ≡ true }
-    ensures text { result.bytes ≡ text_by notation p.now m ++ (if more then codes " " else []) }
+    ensures wrote { WroteText (text_by notation p.now m ++ (if more then codes " " else [])) result
+        (sink_of O.Sink out.old) (sink_of O.Sink out.new) }
     ensures later { steps.old ≤ steps.new }
     ensures few { steps.new ≤ steps.old + steps_by notation 1 }
 {
-    let mut piece = ArrayString::new();
-    piece.push_str(text_of(notation, p, moves, m, steps).as_str());
-    if more {
-        piece.push_str(" ");
-    }
-    piece
+    write_text(notation, p, moves, m, out, steps)?;
+    write_space(more, out)
 }
