@@ -20,7 +20,7 @@ use Rattle.frz_prelude.specs.declared.refused.Refused.{Refused as Refusal}
 use Rattle.frz_prelude.specs.declared.refused.Refused.TheVariants as refusals
 use Rattle.frz_prelude.specs.declared.stop.Stop.{Stop}
 use Rattle.frz_prelude.specs.declared.stop.Stop.TheVariants.{Refused, Fault}
-use Rattle.frz_prelude.proofs.Lemmas.{never_fen, MayStop, StopsWith}
+use Rattle.frz_prelude.proofs.Lemmas.{of_rules, MayStop, StopsWith}
 use Rattle.frz_commands_ask.specs.Meaning.{solving_at}
 use Rattle.frz_commands_ask.specs.Solving.{AreFound, IsSolvedBy, solving_by}
 use Rattle.frz_commands_ask.proofs.Solved.{some_solved_at, some_solved_by, is_refused_at, is_outside}
@@ -39,10 +39,8 @@ found_rules rules p m files input old there agrees = record {
 -- a rules file is refused with a status of `solve`
 own_refusal : (held : Option (List ℕ)) (why : Refusal) → rules_held held ≡ Err why
     → OneOf (status_of why) (Success ∷ Rules ∷ Outside ∷ Missing ∷ [])
-own_refusal held (refusals.Fen fault) e = absurd (never_fen held fault e)
-own_refusal held refusals.MissingRules e = refl
-own_refusal held (refusals.Rules fault) e = refl
-own_refusal held refusals.Outside e = refl
+own_refusal held why e =
+    of_rules (λ (w : Refusal). OneOf (status_of w) (Success ∷ Rules ∷ Outside ∷ Missing ∷ [])) held why e refl (λ fault. refl)
 
 pub own_stop : (held : Option (List ℕ)) (stop : Stop) → Answers {A = RuleLines} (Err stop) (rules_held held) → (why : Refusal) → stop ≡ Refused why
     → OneOf (status_of why) (Success ∷ Rules ∷ Outside ∷ Missing ∷ [])

@@ -1,2 +1,3 @@
 -- The lemmas that the crates above cite.
 pub use Rattle.frz_commands_ask.proofs.SolvedOnce.{solve_lawful}
+pub use Rattle.frz_commands_ask.proofs.Queried.{query_lawful}

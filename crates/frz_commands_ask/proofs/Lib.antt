@@ -4,4 +4,7 @@ pub mod SolvedOnce
 pub mod Entries
 pub mod Meaning
 pub mod Asked
+pub mod KeptFiles
+pub mod QueryMeans
+pub mod Queried
 pub mod Lemmas

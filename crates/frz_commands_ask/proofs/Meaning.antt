@@ -7,7 +7,6 @@ use Rattle.frz_store.specs.Files.{Files}
 use Rattle.frz_answer.specs.declared.status.Status.{Status}
 use Rattle.frz_answer.specs.declared.status.Status.TheVariants.{Success, Rules, Outside, Missing}
 use Rattle.frz_answer.specs.Answers.{Answer, says}
-use Rattle.frz_board.specs.declared.man.Colour.{Colour}
 use Rattle.frz_board.specs.declared.man.Colour.TheVariants.{White, Black}
 use Rattle.frz_board.specs.Boards.{Board}
 use Rattle.frz_rules.specs.declared.fault.RulesFault.{RulesFault}
@@ -15,46 +14,28 @@ use Rattle.frz_sets.specs.Views.{RuleLines}
 use Rattle.frz_rules.specs.Text.{rules_of}
 use Rattle.frz_index.specs.Members.{Member}
 use Rattle.frz_arena.specs.declared.bound.Bound.{Bound}
-use Rattle.frz_arena.specs.declared.bound.Bound.TheVariants.{Wins, Holds, Fails}
-use Rattle.frz_arena.proofs.Lemmas.{opposed_bounds}
-use Rattle.frz_arena.proofs.Lemmas.{wins_forces}
-use Rattle.frz_arena.proofs.Lemmas.{wins_mates, wins_mates_in}
 use Rattle.frz_exits.specs.Books.{value_by}
-use Rattle.frz_game.specs.Games.{arena_by, game_of}
 use Rattle.frz_game.specs.Numbers.{is_member}
-use Rattle.frz_game.specs.Bounds.{IsBoundAt}
-use Rattle.frz_game.proofs.Lemmas.{hold_safe, win_safe}
-use Rattle.frz_game.proofs.Lemmas.{lawful}
+use Rattle.frz_game.proofs.Lemmas.{bound_means, wins_alone}
 use Rattle.frz_index.proofs.Lemmas.{member_of, of_member}
-use Rattle.frz_game.proofs.Lemmas.{true_exits}
+use Rattle.frz_prelude.specs.BoundLines.{bounds_text}
 use Rattle.frz_prelude.specs.Causes.{rules_line}
-use Rattle.frz_commands_ask.specs.Meaning.{Means, MeansWin, WinsAlone, MeansStatus, MeansSolve}
-use Rattle.frz_commands_ask.specs.Solving.{Solves, AreBounds, bounds_text, IsSolvedBy, IsSolvedIn, IsSolvedAt}
+use Rattle.frz_commands_ask.specs.Meaning.{TellsBounds, MeansStatus, MeansSolve}
+use Rattle.frz_commands_ask.specs.Solving.{Solves, AreBounds, IsSolvedBy, IsSolvedIn, IsSolvedAt}
 
-win_means : (r : RuleLines) (p : Board) (side : Colour) (n : ℕ) → Member r.groups p → IsBoundAt r (value_by r) side p (Wins n) → MeansWin r p side n
-win_means r p side n member b =
-    let game = game_of r (value_by r) in
-    record {
-      forced = wins_forces game side n p b.0;
-      mate = λ exits. wins_mates game (true_exits r (value_by r) exits) side n p b.0;
-      within = λ exits all. wins_mates_in game (true_exits r (value_by r) exits) side all n p b.0;
-      safe = λ exits. win_safe r (value_by r) exits side n p member b;
-    }
-
-bound_means : (r : RuleLines) (p : Board) (side : Colour) (b : Bound) → Member r.groups p → IsBoundAt r (value_by r) side p b → Means r p side b
-bound_means r p side (Wins n) member b = win_means r p side n member b
-bound_means r p side Holds member b = λ exits. hold_safe r (value_by r) exits side p member b
-bound_means r p side (Fails m) member b = cc
-
-white_wins : (r : RuleLines) (p : Board) (white black : Bound) → Solves r p white black → WinsAlone white black
-white_wins r p (Wins n) black s = opposed_bounds (arena_by r (value_by r)) (lawful r (value_by r)) White p n black s.white_is s.black_is
-white_wins r p Holds black s = cc
-white_wins r p (Fails m) black s = cc
-
-black_wins : (r : RuleLines) (p : Board) (white black : Bound) → Solves r p white black → WinsAlone black white
-black_wins r p white (Wins n) s = opposed_bounds (arena_by r (value_by r)) (lawful r (value_by r)) Black p n white s.black_is s.white_is
-black_wins r p white Holds s = cc
-black_wins r p white (Fails m) s = cc
+-- the bounds of a position of the set hold in chess
+pub tells_bounds : (r : RuleLines) (p : Board) (white black : Bound) → Member r.groups p → Solves r p white black
+    → TellsBounds r p (bounds_text white black)
+tells_bounds r p white black inside s = record {
+  white = white;
+  black = black;
+  told = refl;
+  bounds = s;
+  white_means = bound_means r (value_by r) White p white inside s.white_is;
+  black_means = bound_means r (value_by r) Black p black inside s.black_is;
+  white_alone = wins_alone r (value_by r) White p white black s.white_is s.black_is;
+  black_alone = wins_alone r (value_by r) Black p black white s.black_is s.white_is;
+}
 
 module _ (rules : List ℕ) (p : Board) (files : Files) (a : Answer) where
   -- an answer that is said in full, with what its status says
@@ -71,14 +52,7 @@ module _ (rules : List ℕ) (p : Board) (files : Files) (a : Answer) where
           lines = r;
           accepted = accepted;
           inside = inside;
-          white = white;
-          black = black;
-          told = refl;
-          bounds = s;
-          white_means = bound_means r p White white inside s.white_is;
-          black_means = bound_means r p Black black inside s.black_is;
-          white_alone = white_wins r p white black s;
-          black_alone = black_wins r p white black s;
+          tells = tells_bounds r p white black inside s;
         })
 
     by_rules : (r : RuleLines) → rules_of source ≡ Ok r → (b : Bool) → is_member r.groups p ≡ b

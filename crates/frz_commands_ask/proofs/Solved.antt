@@ -13,6 +13,7 @@ use Rattle.frz_board.specs.Boards.{Board}
 use Rattle.frz_rules.specs.declared.fault.RulesFault.{RulesFault}
 use Rattle.frz_sets.specs.Views.{GroupLine, RuleLines}
 use Rattle.frz_rules.specs.Text.{rules_of}
+use Rattle.frz_prelude.specs.BoundLines.{bounds_text}
 use Rattle.frz_prelude.specs.Causes.{rules_line}
 use Rattle.frz_prelude.specs.Refusals.{status_of, refusal_line}
 use Rattle.frz_prelude.specs.RulesFiles.{or_fault, rules_held}
@@ -26,7 +27,7 @@ use Rattle.frz_game.specs.Numbers.{is_member}
 use Rattle.frz_index.proofs.Lemmas.{member_of, of_member}
 use Rattle.frz_game.proofs.Lemmas.{bound_there}
 use Rattle.frz_commands_ask.proofs.Soundness.{read_sound, small_lags}
-use Rattle.frz_commands_ask.specs.Solving.{AreBounds, bounds_text, IsSolvedBy, IsSolvedIn, IsSolvedAt, solving_by}
+use Rattle.frz_commands_ask.specs.Solving.{AreBounds, IsSolvedBy, IsSolvedIn, IsSolvedAt, solving_by}
 use Rattle.frz_commands_ask.specs.Meaning.{solving_at}
 
 -- there is an answer at each stage

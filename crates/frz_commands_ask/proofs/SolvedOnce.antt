@@ -20,10 +20,11 @@ use Rattle.frz_arena.proofs.Lemmas.{one_bound}
 use Rattle.frz_exits.specs.Books.{value_by}
 use Rattle.frz_game.specs.Games.{arena_by}
 use Rattle.frz_game.specs.Numbers.{is_member}
+use Rattle.frz_prelude.specs.BoundLines.{bounds_text}
 use Rattle.frz_prelude.specs.Causes.{rules_line}
 use Rattle.frz_prelude.specs.Positions.{on_position}
 use Rattle.frz_prelude.proofs.Lemmas.{fen_lawful}
-use Rattle.frz_commands_ask.specs.Solving.{AreBounds, bounds_text, IsSolvedBy, IsSolvedIn, IsSolvedAt}
+use Rattle.frz_commands_ask.specs.Solving.{AreBounds, IsSolvedBy, IsSolvedIn, IsSolvedAt}
 use Rattle.frz_commands_ask.specs.Meaning.{solving_at, solve_words}
 use Rattle.frz_commands_ask.proofs.Meaning.{solve_means}
 use Rattle.frz_commands_ask.proofs.Solved.{some_solved_at}

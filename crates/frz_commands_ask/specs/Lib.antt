@@ -1,2 +1,4 @@
 pub mod Solving
 pub mod Meaning
+pub mod Kept
+pub mod Querying

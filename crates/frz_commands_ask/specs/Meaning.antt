@@ -1,15 +1,13 @@
 -- What the lines of `solve` mean in chess.
-use Rattle.std.specs.Prelude.{◌≡◌, ◌≤◌, ℕ, List, [], ◌∷◌, true, false, Some, None, Ok, Err, ⊤}
+use Rattle.std.specs.Prelude.{◌≡◌, ℕ, List, [], ◌∷◌, true, false, Some, None, Ok, Err}
 use Rattle.frz_store.specs.Files.{Files}
 use Rattle.frz_answer.specs.declared.status.Status.TheVariants.{Success, Rules, Outside, Missing}
 use Rattle.frz_answer.specs.declared.status.Status.{Status}
 use Rattle.frz_answer.specs.Jobs.{Job, Once, plain}
 use Rattle.frz_answer.specs.Words.{taking, two_words_of}
 use Rattle.frz_answer.specs.Answers.{Answer}
-use Rattle.frz_board.specs.declared.man.Colour.{Colour}
 use Rattle.frz_board.specs.declared.man.Colour.TheVariants.{White, Black}
 use Rattle.frz_board.specs.Boards.{Board}
-use Rattle.frz_board.specs.Men.{other_of}
 use Rattle.frz_fen.specs.Reading.{fen_of}
 use Rattle.frz_prelude.specs.Causes.{rules_line}
 use Rattle.frz_prelude.specs.Positions.{on_position}
@@ -19,56 +17,30 @@ use Rattle.frz_index.specs.Members.{Member}
 use Rattle.frz_sets.specs.Views.{RuleLines}
 use Rattle.frz_rules.specs.Text.{rules_of}
 use Rattle.frz_arena.specs.declared.bound.Bound.{Bound}
-use Rattle.frz_arena.specs.declared.bound.Bound.TheVariants.{Wins, Holds, Fails}
-use Rattle.frz_arena.specs.Chess.{ForcesMate, NeverForcesMate}
-use Rattle.frz_arena.specs.Exits.{AllNumbered}
 use Rattle.frz_exits.specs.Books.{value_by}
-use Rattle.frz_game.specs.Games.{chess, game_of}
-use Rattle.frz_game.specs.Bounds.{ForcesWin}
-use Rattle.frz_game.specs.Values.{AreTrueExits}
-use Rattle.frz_commands_ask.specs.Solving.{Solves, bounds_text, IsSolvedAt}
+use Rattle.frz_game.specs.Meaning.{Means, WinsAlone}
+use Rattle.frz_prelude.specs.BoundLines.{bounds_text}
+use Rattle.frz_commands_ask.specs.Solving.{Solves, IsSolvedAt}
 
--- a win of the side within n plies
-pub record MeansWin (r : RuleLines) (p : Board) (side : Colour) (n : ℕ) : Type 0 where
-  -- within n plies the side forces mate or an assigned win, against every legal reply
-  pub forced : ForcesWin r (value_by r) side n p
-  -- it forces mate, where the exits are true
-  pub mate : AreTrueExits r (value_by r) → (k : ℕ) × ForcesMate chess side k p
-  -- and within n plies, where each value by which it wins has a number
-  pub within : AreTrueExits r (value_by r) → AllNumbered (game_of r (value_by r)) side → ForcesMate chess side n p
-  -- the opponent forces no mate, where the exits are true
-  pub safe : AreTrueExits r (value_by r) → NeverForcesMate chess (other_of side) p
+-- the text tells the bounds of both sides at a position of the rules' set, in the game of the rules, and they hold in chess
+pub record TellsBounds (lines : RuleLines) (p : Board) (text : List ℕ) : Type 0 where
+  pub white : Bound
+  pub black : Bound
+  pub told : text ≡ bounds_text white black
+  pub bounds : Solves lines p white black
+  pub white_means : Means lines (value_by lines) White p white
+  pub black_means : Means lines (value_by lines) Black p black
+  pub white_alone : WinsAlone white black
+  pub black_alone : WinsAlone black white
 
--- a hold of the side: the opponent forces no mate, where the exits are true
-abbrev pub MeansHold : RuleLines → Board → Colour → Type 0
-MeansHold r p side = AreTrueExits r (value_by r) → NeverForcesMate chess (other_of side) p
-
--- what a bound of the side says of chess; a failure says nothing
-abbrev pub Means : RuleLines → Board → Colour → Bound → Type 0
-Means r p side (Wins n) = MeansWin r p side n
-Means r p side Holds = MeansHold r p side
-Means r p side (Fails m) = ⊤
-
--- where one bound is a win, the other is a failure within no more plies
-abbrev pub WinsAlone : Bound → Bound → Type 0
-WinsAlone (Wins n) other = (m : ℕ) × (m ≤ n) × (other ≡ Fails m)
-WinsAlone bound other = ⊤
-
--- the text tells the bounds of both sides, in the game of the rules file and at a position of its set, and they hold in chess
-pub record TellsBounds (rules : List ℕ) (p : Board) (files : Files) (text : List ℕ) : Type 0 where
+-- the rules file is there and accepted, the position is in its set, and the text tells its bounds
+pub record TellsSolved (rules : List ℕ) (p : Board) (files : Files) (text : List ℕ) : Type 0 where
   pub source : List ℕ
   pub there : files rules ≡ Some source
   pub lines : RuleLines
   pub accepted : rules_of source ≡ Ok lines
   pub inside : Member lines.groups p
-  pub white : Bound
-  pub black : Bound
-  pub told : text ≡ bounds_text white black
-  pub bounds : Solves lines p white black
-  pub white_means : Means lines p White white
-  pub black_means : Means lines p Black black
-  pub white_alone : WinsAlone white black
-  pub black_alone : WinsAlone black white
+  pub tells : TellsBounds lines p text
 
 -- the rules file is there and accepted, and the position is not in its set
 pub record IsOutside (rules : List ℕ) (p : Board) (files : Files) : Type 0 where
@@ -88,7 +60,7 @@ pub record TellsFault (rules : List ℕ) (files : Files) (text : List ℕ) : Typ
 
 -- what an answer says, by its status
 abbrev pub MeansStatus : List ℕ → Board → Files → Status → List ℕ → Type 0
-MeansStatus rules p files Success text = TellsBounds rules p files text
+MeansStatus rules p files Success text = TellsSolved rules p files text
 MeansStatus rules p files Rules text = TellsFault rules files text
 MeansStatus rules p files Outside text = IsOutside rules p files
 MeansStatus rules p files Missing text = files rules ≡ None

@@ -1,43 +1,25 @@
 -- What `solve RULES FEN` answers. No file changes.
-use Rattle.std.specs.Prelude.{◌≡◌, ℕ, List, [], ◌∷◌, true, ◌++◌, MatchResult, MatchOption, MatchBool, None, Result, Ok, Err, codes, decimal}
+use Rattle.std.specs.Prelude.{◌≡◌, ℕ, List, [], ◌∷◌, true, MatchResult, MatchOption, MatchBool, None, Result, Ok, Err, codes}
 use Rattle.frz_store.specs.Files.{Files}
 use Rattle.frz_answer.specs.declared.status.Status.TheVariants.{Success, Rules, Outside, Missing}
 use Rattle.frz_answer.specs.Answers.{Answer, says}
 use Rattle.frz_answer.specs.Jobs.{Job, plain, nothing, steps_alone}
-use Rattle.frz_board.specs.declared.man.Colour.{Colour}
 use Rattle.frz_board.specs.declared.man.Colour.TheVariants.{White, Black}
 use Rattle.frz_board.specs.Boards.{Board}
 use Rattle.frz_sets.specs.Views.{RuleLines}
 use Rattle.frz_rules.specs.Text.{rules_of}
 use Rattle.frz_arena.specs.declared.bound.Bound.{Bound}
-use Rattle.frz_arena.specs.declared.bound.Bound.TheVariants.{Wins, Holds, Fails}
 use Rattle.frz_exits.specs.Books.{value_by}
 use Rattle.frz_game.specs.Numbers.{is_member}
 use Rattle.frz_game.specs.Bounds.{IsBoundAt}
 use Rattle.frz_index.specs.Members.{Member}
 use Rattle.frz_answer.specs.declared.fault.Fault.TheVariants.{NoMemory}
+use Rattle.frz_prelude.specs.BoundLines.{bounds_text}
 use Rattle.frz_prelude.specs.Causes.{rules_line}
 use Rattle.frz_prelude.specs.declared.refused.Refused.TheVariants as refusals
 use Rattle.frz_prelude.specs.declared.stop.Stop.{Stop}
 use Rattle.frz_prelude.specs.declared.stop.Stop.TheVariants.{Refused, Fault}
 use Rattle.frz_commands_ask.specs.declared.bounds.Bounds.{Bounds}
-
-abbrev pub side_name : Colour → List ℕ
-side_name White = codes "white"
-side_name Black = codes "black"
-
--- the plies of a win, a hold, or none of both
-abbrev pub bound_text : Bound → List ℕ
-bound_text (Wins n) = codes " wins within " ++ decimal n
-bound_text Holds = codes " holds"
-bound_text (Fails m) = codes " none"
-
-abbrev pub bound_line : Colour → Bound → List ℕ
-bound_line side bound = side_name side ++ bound_text bound ++ codes "\n"
-
--- the lines of two bounds, White's first
-abbrev pub bounds_text : Bound → Bound → List ℕ
-bounds_text white black = bound_line White white ++ bound_line Black black
 
 -- the bounds of both sides at the position, in the game of the rules and their exit lines
 pub record Solves (r : RuleLines) (p : Board) (white black : Bound) : Type 0 where

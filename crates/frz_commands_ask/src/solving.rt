@@ -11,12 +11,11 @@ ghost use Rattle.frz_answer.specs.Ends.{Ran};
 ghost use Rattle.frz_commands_ask.specs.Solving.{solving_by};
 ghost use Rattle.frz_commands_ask.specs.Meaning.{solving_at, solve_words};
 
-use crate::bound_lines::bound_lines;
 use crate::bounds::bounds_by;
-use frz_answer::{End, Refusal, Status, refuse, say, two_words};
+use frz_answer::{End, Refusal, Status, refuse, said, two_words};
 use frz_board::Position;
 use frz_fen::read_fen;
-use frz_prelude::{Refused, read_rules_at, refuse_named};
+use frz_prelude::{Refused, read_rules_at, refuse_named, write_bounds};
 use frz_rules::Rules;
 use frz_steps::Steps;
 use frz_store::{Sink, Store};
@@ -38,11 +37,10 @@ fn solve_by<O: Sink, L: Ledger>(
         (world store input (sink_of O.Sink out.new) steps.new) }
 {
     match bounds_by(alloc, rules, p, steps) {
-        Ok(bounds) => say(
-            Status::Success,
-            bound_lines(bounds.white, bounds.black).as_bytes(),
-            out,
-        ),
+        Ok(bounds) => {
+            let written = write_bounds(bounds.white, bounds.black, out);
+            said(Status::Success, written)
+        }
         Err(stop) => stop.end(out),
     }
 }

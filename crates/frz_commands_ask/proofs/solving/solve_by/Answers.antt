@@ -1,7 +1,5 @@
-use Rattle.std.proofs.Common.{refl, ap, ◌∙◌, ℕ, List, arith}
-use Rattle.frz_answer.specs.declared.status.Status.TheVariants.{Success}
+use Rattle.std.proofs.Common.{refl, arith}
 use Rattle.frz_answer.specs.World.{world}
-use Rattle.frz_answer.specs.Answers.{says}
 use Rattle.frz_answer.proofs.Lemmas.{quiet_steps, fine_steps}
 use Rattle.frz_answer.proofs.Lemmas.{said, as_given}
 use Rattle.frz_prelude.proofs.Lemmas.{ended}
@@ -11,12 +9,11 @@ use Rattle.frz_commands_ask.proofs.solving.solve_by.Goals as goal
 
 pub returns-in-Ok : goal.returns-in-Ok
 returns-in-Ok g c = λ store input.
-    let text = c.as_bytes.ensures.value ∙ c.deref.ensures.0 ∙ c.bound_lines.ensures in
     let found = c.in-Ok.ensures.found in
-    said _ _ _ _ _ (world _ _ _ _) _ (quiet_steps _ _ _ _ _ c.bounds_by.ensures.later) (fine_steps _ _ _ _ _) refl c.say.ensures
+    said _ _ _ _ _ (world _ _ _ _) _ (quiet_steps _ _ _ _ _ c.bounds_by.ensures.later) (fine_steps _ _ _ _ _) refl (c.said.ensures _ _ _ c.write_bounds-written.ensures)
     (λ sees files left agrees. record {
       found = as_given _ files left _ agrees;
-      answer = is_inside _ _ files _ found.0 (c.in-Ok.bounds.white, c.in-Ok.bounds.black, found.1, ap (λ (l : List ℕ). says Success l files) text);
+      answer = is_inside _ _ files _ found.0 (c.in-Ok.bounds.white, c.in-Ok.bounds.black, found.1, refl);
       costs = record { steps = tt; calls = omega arith; asked = omega arith };
     })
 

@@ -1,0 +1,207 @@
+-- Which files give the codes that were read, or refuse as they were refused.
+use Rattle.std.proofs.Common.{◌≡◌, refl, sym, ap, subst, ◌∙◌, ℕ, zero, suc, ◌+◌, ◌<◌, ◌≤◌, ◌^◌, List, [], length, take, drop, replicate, get_or, Bool, true, false, Option, Some, None, Result, Ok, Err, if◌then◌else◌, arith, lit<}
+use Rattle.std.specs.Prelude.{IfSome, slice_index}
+use Rattle.std.specs.List.{slice_get}
+use Rattle.std.specs.Option.{unwrap_or}
+use Rattle.std.proofs.lemmas.Option.{get_or_from_slice_get}
+use Rattle.std.proofs.lemmas.List.{length-replicate, get_or-replicate}
+use Rattle.frz_board.specs.declared.man.Colour.{Colour}
+use Rattle.frz_board.specs.declared.man.Colour.TheVariants.{White, Black}
+use Rattle.frz_board.specs.Boards.{Board}
+use Rattle.frz_sets.specs.Sets.{size_of}
+use Rattle.frz_sets.specs.Views.{GroupLine}
+use Rattle.frz_index.specs.Members.{Member, Num}
+use Rattle.frz_index.proofs.Lemmas.{Num_below, member_of, of_member}
+use Rattle.frz_game.specs.Numbers.{is_member}
+use Rattle.frz_store.specs.Files.{Files}
+use Rattle.frz_store.specs.Told.{StoreTold}
+use Rattle.frz_table.specs.declared.fault.TableFault.{TableFault}
+use Rattle.frz_table.specs.declared.fault.TableFault.TheVariants.{Missing, Magic, Truncated, Extra, Rules, Size, Failed, NoMemory}
+use Rattle.frz_table.specs.declared.kind.FileKind.TheVariants.{Plain}
+use Rattle.frz_table.specs.Layout.{magic_of, file_of, codes_at}
+use Rattle.frz_table.specs.Opening.{Contents, contents_of, opened, Refuses, table_format}
+use Rattle.frz_table.specs.Possible.{MayHold, MayOpen, MayRefuse, held_text}
+use Rattle.frz_table.specs.Tables.{Table, table_size}
+use Rattle.frz_table.proofs.Lemmas.{belongs, opens_by, written_belongs, written_is_loaded}
+use Rattle.frz_prelude.specs.Stops.{Answers, stop_of_table}
+use Rattle.frz_prelude.specs.declared.refused.Refused.{Refused as Refusal}
+use Rattle.frz_prelude.specs.declared.refused.Refused.TheVariants as refusals
+use Rattle.frz_prelude.specs.declared.stop.Stop.{Stop}
+use Rattle.frz_prelude.specs.declared.stop.Stop.TheVariants.{Refused, Fault}
+use Rattle.frz_prelude.proofs.Lemmas.{holding}
+use Rattle.frz_commands_ask.specs.declared.kept.KeptCodes.{KeptCodes}
+use Rattle.frz_commands_ask.specs.Kept.{kept_at, kept_in, kept_by, kept_of, AreKept, IsKeptIn, IsKept}
+use Rattle.frz_commands_ask.proofs.Soundness.{read_sound}
+
+-- the name holds this, where the store tells
+same_held : (told : Option Files) (name : List ℕ) (held : Option (List ℕ)) → MayHold told name held → IfSome told (λ m. m name ≡ held)
+same_held None name held may = tt
+same_held (Some m) name held may = may
+
+-- the text of a file that opens is the one that it keeps
+pub opened_text : (bytes : List ℕ) (contents : Contents) → opened (table_format Plain) (Some bytes) ≡ Ok contents
+    → held_text (Some bytes) ≡ contents.text
+opened_text bytes contents opens =
+    let file = (belongs (table_format Plain) bytes contents opens).file in
+    ap (λ (n : ℕ). take n (drop 12 bytes)) file.counted ∙ file.has_text
+
+-- what a name gives that holds this
+module _ (p : Board) (name : List ℕ) (old new : StoreTold) where
+  kept_where : (result : Result KeptCodes Stop) (held : Option (List ℕ)) → IfSome old.files (λ m. m name ≡ held)
+      → Answers result (kept_of p held) → new.asked ≤ old.asked + (24 + length (held_text held)) → IsKept p name result old new
+  kept_where result held there due asked =
+      let at = holding old.files name held there in record {
+        files = at.files;
+        agrees = at.agrees;
+        due = subst (λ (h : Option (List ℕ)). Answers result (kept_of p h)) (sym at.holds) due;
+        asked = subst (λ (h : Option (List ℕ)). new.asked ≤ old.asked + (24 + length (held_text h))) (sym at.holds) asked;
+      }
+
+  -- the table was not opened
+  fault_due : (held : Option (List ℕ)) (fault : TableFault) → opened (table_format Plain) held ≡ Err fault
+      → kept_of p held ≡ Err (refusals.Table fault)
+  fault_due held fault e = ap (λ (x : Result Contents TableFault). kept_by x (unwrap_or held []) p) e
+
+  refused_due : (held : Option (List ℕ)) (fault : TableFault) → Refuses (opened (table_format Plain) held) fault
+      → Answers {A = KeptCodes} (Err (stop_of_table fault)) (kept_of p held)
+  refused_due held Missing e = fault_due held Missing e
+  refused_due held Magic e = fault_due held Magic e
+  refused_due held (Truncated length due) e = fault_due held (Truncated length due) e
+  refused_due held (Extra length due) e = fault_due held (Extra length due) e
+  refused_due held (Rules fault) e = fault_due held (Rules fault) e
+  refused_due held (Size kept due) e = fault_due held (Size kept due) e
+  refused_due held Failed e = tt
+  refused_due held NoMemory e = tt
+
+  pub refused_kept : (fault : TableFault) (stop : Stop) → stop ≡ stop_of_table fault
+      → MayRefuse (table_format Plain) old.files name old.asked new.asked fault → IsKept p name (Err stop) old new
+  refused_kept fault stop is may =
+      kept_where (Err stop) may.held (same_held old.files name may.held may.may)
+      (subst (λ (s : Stop). Answers {A = KeptCodes} (Err s) (kept_of p may.held)) (sym is) (refused_due may.held fault may.refuses))
+      (let asked = may.asked in omega (arith, asked))
+
+-- what the bytes of a file that opens give
+module _ (contents : Contents) (bytes : List ℕ) (p : Board) (opens : opened (table_format Plain) (Some bytes) ≡ Ok contents) where
+  abbrev by_member : Bool → Result KeptCodes Refusal
+  by_member inside =
+      if inside then Ok (record { white = kept_at White contents bytes p; black = kept_at Black contents bytes p })
+      else Err refusals.Outside
+
+  kept_by_member : (inside : Bool) → is_member contents.rules.groups p ≡ inside → kept_of p (Some bytes) ≡ by_member inside
+  kept_by_member inside e = ap (λ (x : Result Contents TableFault). kept_by x bytes p) opens ∙ ap by_member e
+
+  outside_test : (inside : Bool) → is_member contents.rules.groups p ≡ inside → (Member contents.rules.groups p → ⊥) → is_member contents.rules.groups p ≡ false
+  outside_test true e none = absurd (none (member_of contents.rules.groups p e))
+  outside_test false e none = e
+
+  pub gives_outside : (Member contents.rules.groups p → ⊥) → kept_of p (Some bytes) ≡ Err refusals.Outside
+  gives_outside none = kept_by_member false (outside_test (is_member contents.rules.groups p) refl none)
+
+  pub gives_codes : (codes : KeptCodes) → Member contents.rules.groups p → kept_at White contents bytes p ≡ codes.white
+      → kept_at Black contents bytes p ≡ codes.black → kept_of p (Some bytes) ≡ Ok codes
+  gives_codes codes inside white black =
+      let both : ℕ → ℕ → Result KeptCodes Refusal = λ w b. Ok (record { white = w; black = b }) in
+      kept_by_member true (of_member contents.rules.groups p inside)
+      ∙ ap (λ (w : ℕ). both w (kept_at Black contents bytes p)) white ∙ ap (λ (b : ℕ). both codes.white b) black
+
+-- a file that keeps one code of each side at every number
+pub record KeepsCodes (contents : Contents) (p : Board) (codes : KeptCodes) : Type 0 where
+  pub bytes : List ℕ
+  pub opens : opened (table_format Plain) (Some bytes) ≡ Ok contents
+  pub white : kept_at White contents bytes p ≡ codes.white
+  pub black : kept_at Black contents bytes p ≡ codes.black
+
+small_codes : (n code : ℕ) → code < 2 ^ 32 → (i : ℕ) → get_or (replicate n code) i 0 < 2 ^ 32
+small_codes zero code small i = lit< tt
+small_codes (suc n) code small zero = small
+small_codes (suc n) code small (suc i) = small_codes n code small i
+
+pub some_file : (contents : Contents) (other : List ℕ) → opened (table_format Plain) (Some other) ≡ Ok contents → (p : Board)
+    → Member contents.rules.groups p → (codes : KeptCodes) → codes.white < 2 ^ 32 → codes.black < 2 ^ 32 → KeepsCodes contents p codes
+some_file contents other opens p inside codes white_small black_small =
+    let text : List ℕ = contents.text in
+    let size : ℕ = size_of contents.rules.groups in
+    let magic : List ℕ = magic_of Plain in
+    let white : List ℕ = replicate size codes.white in
+    let black : List ℕ = replicate size codes.black in
+    let known = belongs (table_format Plain) other contents opens in
+    let short = known.short in
+    let few = (read_sound text contents.rules known.read).size in
+    let white_long : length white ≡ size = length-replicate size codes.white in
+    let black_long : length black ≡ size = length-replicate size codes.black in
+    let file = written_belongs magic text size white black refl (omega (arith, short)) (omega (arith, few)) white_long black_long in
+    let loaded = written_is_loaded magic text size white black refl white_long black_long
+    (small_codes size codes.white white_small) (small_codes size codes.black black_small) in
+    let below = Num_below contents.rules.groups p inside in
+    record {
+      bytes = file_of magic text size white black;
+      opens = opens_by (table_format Plain) (file_of magic text size white black) contents (record { file = file; short = short; read = known.read });
+      white = ap (λ (l : List ℕ). slice_index l (Num contents.rules.groups p)) loaded.0 ∙ get_or-replicate size (Num contents.rules.groups p) codes.white 0 below;
+      black = ap (λ (l : List ℕ). slice_index l (Num contents.rules.groups p)) loaded.1 ∙ get_or-replicate size (Num contents.rules.groups p) codes.black 0 below;
+    }
+
+-- the table was opened
+module _ (table : Table) (p : Board) (name : List ℕ) (old new : StoreTold) (named : table.name ≡ name)
+    (asked : new.asked ≤ old.asked + (24 + length table.text)) where
+  within : (bytes : List ℕ) → opened (table_format Plain) (Some bytes) ≡ Ok (contents_of table)
+      → new.asked ≤ old.asked + (24 + length (held_text (Some bytes)))
+  within bytes opens =
+      subst (λ (text : List ℕ). new.asked ≤ old.asked + (24 + length text)) (sym (opened_text bytes (contents_of table) opens)) asked
+
+  at_name : (P : List ℕ → Type 0) (m : Files) (bytes : List ℕ) → m name ≡ Some bytes → IfSome (m table.name) P → P bytes
+  at_name P m bytes there h = subst (λ (held : Option (List ℕ)). IfSome held P) (ap m named ∙ there) h
+
+  codes_kept : (told : Option Files) → old.files ≡ told → MayOpen (table_format Plain) told name (contents_of table) → (codes : KeptCodes)
+      → AreKept table p told codes → IsKept p name (Ok codes) old new
+  codes_kept (Some m) e may codes kept =
+      kept_where p name old new (Ok codes) (Some may.bytes) (subst (λ (o : Option Files). IfSome o (λ f. f name ≡ Some may.bytes)) (sym e) may.may)
+      (gives_codes (contents_of table) may.bytes p may.opens codes kept.inside
+      (at_name (λ bytes. kept_at White (contents_of table) bytes p ≡ codes.white) m may.bytes may.may kept.white)
+      (at_name (λ bytes. kept_at Black (contents_of table) bytes p ≡ codes.black) m may.bytes may.may kept.black))
+      (within may.bytes may.opens)
+  codes_kept None e may codes kept =
+      let file = some_file (contents_of table) may.bytes may.opens p kept.inside codes kept.white_small kept.black_small in
+      kept_where p name old new (Ok codes) (Some file.bytes) (subst (λ (o : Option Files). IfSome o (λ f. f name ≡ Some file.bytes)) (sym e) tt)
+      (gives_codes (contents_of table) file.bytes p file.opens codes kept.inside file.white file.black)
+      (within file.bytes file.opens)
+
+  pub opened_kept : MayOpen (table_format Plain) old.files name (contents_of table) → (result : Result KeptCodes Stop)
+      → IsKeptIn table p old.files result → IsKept p name result old new
+  opened_kept may (Ok codes) kept = codes_kept old.files refl may codes kept
+  opened_kept may (Err (Refused why)) kept =
+      kept_where p name old new (Err (Refused why)) (Some may.bytes) (same_held old.files name (Some may.bytes) may.may)
+      (gives_outside (contents_of table) may.bytes p may.opens kept.0 ∙ ap (λ (w : Refusal). Err w) (sym kept.1)) (within may.bytes may.opens)
+  opened_kept may (Err (Fault fault)) kept =
+      kept_where p name old new (Err (Fault fault)) (Some may.bytes) (same_held old.files name (Some may.bytes) may.may) tt (within may.bytes may.opens)
+
+if_some : {A : Type 0} (o : Option A) (P Q : A → Type 0) → ((x : A) → P x → Q x) → IfSome o P → IfSome o Q
+if_some None P Q f h = tt
+if_some (Some x) P Q f h = f x h
+
+-- what was read in place is the code that the file keeps at the position
+module _ (table : Table) (groups : List GroupLine) (same : groups ≡ table.rules.groups) (p : Board) (i : ℕ)
+    (placed : Member groups p × (i ≡ Num groups p)) where
+  pub inside_it : Member table.rules.groups p
+  inside_it = subst (λ (g : List GroupLine). Member g p) same placed.0
+
+  number_is : i ≡ Num table.rules.groups p
+  number_is = placed.1 ∙ ap (λ (g : List GroupLine). Num g p) same
+
+  pub number_below : i < table_size table
+  number_below = subst (λ (n : ℕ). n < table_size table) (sym number_is) (Num_below table.rules.groups p inside_it)
+
+  code_kept : (side : Colour) (bytes : List ℕ) (code : ℕ) → slice_get (codes_at side table.text (table_size table) bytes) i ≡ Some code
+      → kept_at side (contents_of table) bytes p ≡ code
+  code_kept side bytes code read =
+      ap (λ (n : ℕ). slice_index (codes_at side table.text (table_size table) bytes) n) (sym number_is)
+      ∙ get_or_from_slice_get (codes_at side table.text (table_size table) bytes) i code 0 read
+
+  pub entry_kept : (side : Colour) (told mid : Option Files) → mid ≡ told → (code : ℕ)
+      → IfSome mid (λ m. IfSome (m table.name) (λ bytes. slice_get (codes_at side table.text (table_size table) bytes) i ≡ Some code))
+      → IfSome told (λ m. IfSome (m table.name) (λ bytes. kept_at side (contents_of table) bytes p ≡ code))
+  entry_kept side told mid e code read =
+      if_some told (λ m. IfSome (m table.name) (λ bytes. slice_get (codes_at side table.text (table_size table) bytes) i ≡ Some code))
+      (λ m. IfSome (m table.name) (λ bytes. kept_at side (contents_of table) bytes p ≡ code))
+      (λ m h. if_some (m table.name) (λ bytes. slice_get (codes_at side table.text (table_size table) bytes) i ≡ Some code)
+      (λ bytes. kept_at side (contents_of table) bytes p ≡ code) (λ bytes k. code_kept side bytes code k) h)
+      (subst (λ (o : Option Files). IfSome o (λ m. IfSome (m table.name) (λ bytes. slice_get (codes_at side table.text (table_size table) bytes) i ≡ Some code))) e read)

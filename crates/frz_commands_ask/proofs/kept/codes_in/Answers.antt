@@ -1,0 +1,29 @@
+use Rattle.std.proofs.Common.{refl, arith}
+use Rattle.frz_board.specs.declared.man.Colour.TheVariants.{White, Black}
+use Rattle.frz_commands_ask.proofs.KeptFiles.{inside_it, number_below, entry_kept}
+use Rattle.frz_commands_ask.proofs.kept.codes_in.Goals as goal
+
+pub entry-requires-clause-number : goal.entry-requires-clause-number
+entry-requires-clause-number g c =
+    number_below c.args.table.now c.set.result.now c.set.ensures c.args.p.now c.in_ok-i.i c.in_ok-i.ensures
+
+pub entry-requires-2-clause-number : goal.entry-requires-2-clause-number
+entry-requires-2-clause-number g c =
+    number_below c.args.table.now c.set.result.now c.set.ensures c.args.p.now c.in_ok-i.i c.in_ok-i.ensures
+
+pub returns-clause-kept : goal.returns-clause-kept
+returns-clause-kept g c =
+    let table = c.args.table.now in
+    let groups = c.set.result.now in
+    let told = g.S.Store.files c.args.store.now in
+    record {
+      inside = inside_it table groups c.set.ensures c.args.p.now c.in_ok-i.i c.in_ok-i.ensures;
+      white_small = omega arith;
+      black_small = omega arith;
+      white =
+          entry_kept table groups c.set.ensures c.args.p.now c.in_ok-i.i c.in_ok-i.ensures White told told refl
+          c.in_ok-white.white c.in_ok-white.ensures.code;
+      black =
+          entry_kept table groups c.set.ensures c.args.p.now c.in_ok-i.i c.in_ok-i.ensures Black told
+          (g.S.Store.files c.entry.new.store) c.in_ok-white.ensures.quiet.unwritten.files c.in_ok-black.black c.in_ok-black.ensures.code;
+    }

@@ -1,0 +1,56 @@
+//! The codes that a table keeps at a position, read in place.
+ghost use Rattle.std.specs.Prelude.{◌+◌, ◌≤◌};
+ghost use Rattle.frz_fide.specs.Valid.{IsValid};
+ghost use Rattle.frz_store.specs.Told.{store_of, StoreQuiet};
+ghost use Rattle.frz_table.specs.Tables.{Carries};
+ghost use Rattle.frz_prelude.specs.Stops.{HasItsCause};
+ghost use Rattle.frz_commands_ask.specs.Kept.{IsKept, IsKeptIn};
+
+use frz_board::{Colour, Position};
+use frz_prelude::{Stop, number_in};
+use frz_store::Store;
+use frz_table::{TableFile, open_table};
+use std::alloc::Global;
+
+/// The codes of both sides at one number of a table.
+#[derive(Clone, Copy, Debug)]
+pub struct KeptCodes {
+    pub white: u32,
+    pub black: u32,
+}
+
+/// The codes of an open table at the number of the position: two reads.
+fn codes_in<S: Store>(table: &TableFile, p: &Position, store: &mut S) -> Result<KeptCodes, Stop>
+    requires valid { IsValid p.now }
+    requires carried { Carries (S.files store.old) table.now }
+    ensures kept { IsKeptIn table.now p.now (S.files store.old) result }
+    ensures quiet { StoreQuiet (store_of S.Store store.old) (store_of S.Store store.new) }
+    ensures cause { HasItsCause result (store_of S.Store store.old) (store_of S.Store store.new) }
+    ensures asked { S.asked store.new ≤ S.asked store.old + 8 }
+    ensures calls { S.calls store.new ≤ S.calls store.old + 2 }
+{
+    let i = number_in(table.set(), p)?;
+    let white = table.entry(store, Colour::White, i)?;
+    let black = table.entry(store, Colour::Black, i)?;
+    Ok(KeptCodes { white, black })
+}
+
+/// The codes that the table of this name keeps at the number of the position.
+pub fn kept_codes_at<S: Store>(
+    alloc: Global,
+    name: &str,
+    p: &Position,
+    store: &mut S,
+) -> Result<KeptCodes, Stop>
+    requires { IsValid p.now }
+    ensures kept { IsKept p.now name.now result
+        (store_of S.Store store.old) (store_of S.Store store.new) }
+    ensures quiet { StoreQuiet (store_of S.Store store.old) (store_of S.Store store.new) }
+    ensures cause { HasItsCause result (store_of S.Store store.old) (store_of S.Store store.new) }
+    ensures calls { S.calls store.new ≤ S.calls store.old + 7 }
+{
+    match open_table(alloc, store, name) {
+        Ok(table) => codes_in(&table, p, store),
+        Err(fault) => Err(Stop::from(fault)),
+    }
+}
