@@ -1,0 +1,4 @@
+-- The lemmas that the crates above cite.
+pub use Rattle.frz_commands_table.proofs.BuiltOnce.{build_lawful}
+pub use Rattle.frz_commands_table.proofs.Checked.{check_lawful}
+pub use Rattle.frz_commands_table.proofs.Sampled.{sample_lawful}

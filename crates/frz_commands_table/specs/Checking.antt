@@ -1,0 +1,71 @@
+-- What `check TABLE` answers: the size of a table that is exact, or its first entry that is wrong. No file changes.
+use Rattle.std.specs.Prelude.{◌≡◌, ℕ, ◌+◌, ◌*◌, List, ◌++◌, length, Option, Some, Result, Ok, Err, codes, decimal}
+use Rattle.frz_exits.specs.Books.{value_by}
+use Rattle.frz_sets.specs.Sets.{size_of}
+use Rattle.frz_store.specs.Files.{Files, bytes_at}
+use Rattle.frz_table.specs.declared.fault.TableFault.{TableFault}
+use Rattle.frz_table.specs.declared.kind.FileKind.TheVariants.{Plain}
+use Rattle.frz_table.specs.Layout.{pieces_of}
+use Rattle.frz_table.specs.Opening.{Contents, opened, table_format}
+use Rattle.frz_table.specs.Possible.{held_text}
+use Rattle.frz_game.specs.declared.wrong.Wrong.{Wrong}
+use Rattle.frz_check.specs.declared.verdict.Verdict.{Verdict}
+use Rattle.frz_check.specs.declared.verdict.Verdict.TheVariants as verdict
+use Rattle.frz_check.specs.Kept.{kept_codes, opened_size}
+use Rattle.frz_check.specs.Verdicts.{IsVerdict}
+use Rattle.frz_answer.specs.declared.status.Status.{Status}
+use Rattle.frz_answer.specs.declared.status.Status.TheVariants as statuses
+use Rattle.frz_answer.specs.Answers.{Answer, says}
+use Rattle.frz_answer.specs.Jobs.{Costs}
+use Rattle.frz_prelude.specs.BoundLines.{side_name}
+use Rattle.frz_prelude.specs.Refusals.{table_status}
+use Rattle.frz_prelude.specs.TableCauses.{table_line}
+
+abbrev pub exact_line : ℕ → List ℕ
+exact_line size = codes "exact " ++ decimal size ++ codes "\n"
+
+-- the side and the number of an entry
+abbrev pub place_text : Wrong → List ℕ
+place_text wrong = codes "wrong " ++ side_name wrong.side ++ (codes " " ++ decimal wrong.number)
+
+-- the code that is kept there, and the local code
+abbrev pub codes_text : Wrong → List ℕ
+codes_text wrong = codes " kept " ++ decimal wrong.kept ++ (codes " given " ++ decimal wrong.given) ++ codes "\n"
+
+abbrev pub wrong_line : Wrong → List ℕ
+wrong_line wrong = place_text wrong ++ codes_text wrong
+
+-- how the verdict on a table of so many numbers is told
+abbrev pub verdict_status : Verdict → Status
+verdict_status verdict.Exact = statuses.Success
+verdict_status (verdict.Wrong wrong) = statuses.Wrong
+
+abbrev pub verdict_line : ℕ → Verdict → List ℕ
+verdict_line size verdict.Exact = exact_line size
+verdict_line size (verdict.Wrong wrong) = wrong_line wrong
+
+-- on a file that opens: the verdict on its codes
+pub record IsJudged (contents : Contents) (bytes : List ℕ) (files : Files) (a : Answer) : Type 0 where
+  pub verdict : Verdict
+  pub judged : IsVerdict contents.rules (value_by contents.rules) (kept_codes contents bytes) verdict
+  pub told : a ≡ says (verdict_status verdict) (verdict_line (size_of contents.rules.groups) verdict) files
+
+-- by how the file opens
+abbrev pub IsCheckedBy : Result Contents TableFault → List ℕ → Files → Answer → Type 0
+IsCheckedBy (Ok contents) bytes files a = IsJudged contents bytes files a
+IsCheckedBy (Err fault) bytes files a = a ≡ says (table_status fault) (table_line fault) files
+
+-- by the file that has the name
+abbrev pub IsCheckedAt : List ℕ → Files → Answer → Type 0
+IsCheckedAt table files a = IsCheckedBy (opened (table_format Plain) (files table)) (bytes_at files table) files a
+
+-- at most a step a number; five calls of the store to open the file and two for each piece of a side's codes; and no more
+-- bytes asked than the file has
+abbrev pub checking_costs : Option (List ℕ) → Costs
+checking_costs held =
+    let size = opened_size (opened (table_format Plain) held) in
+    record {
+      steps = Some size;
+      calls = Some (5 + 2 * pieces_of size);
+      asked = Some (16 + length (held_text held) + 8 * size);
+    }

@@ -1,0 +1,40 @@
+-- The headline: what it says that `check` has ended with status 0.
+use Rattle.std.specs.Prelude.{◌≡◌, ℕ, List, Some, Ok}
+use Rattle.frz_board.specs.declared.man.Colour.TheVariants.{White, Black}
+use Rattle.frz_exits.specs.Books.{value_by}
+use Rattle.frz_game.specs.Bounds.{IsTableOf}
+use Rattle.frz_game.specs.Meaning.{TableMeans}
+use Rattle.frz_rules.specs.Text.{rules_of}
+use Rattle.frz_sets.specs.Sets.{size_of}
+use Rattle.frz_sets.specs.Views.{RuleLines}
+use Rattle.frz_store.specs.Files.{Files}
+use Rattle.frz_table.specs.declared.kind.FileKind.TheVariants.{Plain}
+use Rattle.frz_table.specs.Layout.{magic_of, codes_at}
+use Rattle.frz_table.specs.Numbers.{AreBytes}
+use Rattle.frz_table.specs.Tables.{IsTableFile}
+use Rattle.frz_check.specs.OneFile.{IsOneFile}
+
+-- the table of this name is exact
+pub record Headline (table : List ℕ) (files : Files) : Type 0 where
+  -- a file has the name
+  pub bytes : List ℕ
+  pub there : files table ≡ Some bytes
+  -- a rules text stands in it, which is accepted
+  pub text : List ℕ
+  pub rules : RuleLines
+  pub accepted : rules_of text ≡ Ok rules
+  -- behind the text and the size of its set stand White's codes and then Black's, one for each number
+  pub layout : IsTableFile (magic_of Plain) text (size_of rules.groups) bytes
+  pub white : List ℕ
+  pub black : List ℕ
+  pub white_is : codes_at White text (size_of rules.groups) bytes ≡ white
+  pub black_is : codes_at Black text (size_of rules.groups) bytes ≡ black
+  -- they are the codes of the values of the restricted game, with least plies; broken numbers have 0
+  pub white_table : IsTableOf rules (value_by rules) White white
+  pub black_table : IsTableOf rules (value_by rules) Black black
+  -- so the file is the one file of its text
+  pub one_file : AreBytes bytes → IsOneFile (magic_of Plain) text rules (value_by rules) bytes
+  -- a win forces, within its plies and against every legal reply, mate or an assigned win; where the exits are true it forces
+  -- mate, and with a win or a hold the opponent forces none
+  pub white_means : TableMeans rules (value_by rules) White white
+  pub black_means : TableMeans rules (value_by rules) Black black
