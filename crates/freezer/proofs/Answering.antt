@@ -3,11 +3,14 @@ use Rattle.std.proofs.Common.{ℕ, List, Option, Some, None}
 use Rattle.frz_answer.specs.declared.words.Refusal.TheVariants.{NoCommand}
 use Rattle.frz_answer.specs.Lawful.{IsLawful}
 use Rattle.frz_answer.proofs.Lemmas.{refused_lawful}
-use Rattle.frz_commands_ask.proofs.Lemmas.{solve_lawful}
+use Rattle.frz_commands_ask.proofs.Lemmas.{solve_lawful, query_lawful}
+use Rattle.frz_commands_table.proofs.Lemmas.{check_lawful}
 use Rattle.frz_commands_chess.proofs.Lemmas.{moves_lawful, sans_lawful}
 use Rattle.frz_commands_chess.proofs.Lemmas.{move_lawful}
+use Rattle.frz_commands_table.proofs.Lemmas.{build_lawful}
+use Rattle.frz_commands_table.proofs.Lemmas.{sample_lawful}
 use Rattle.freezer.specs.declared.verb.Verb.{Verb}
-use Rattle.freezer.specs.declared.verb.Verb.TheVariants.{Solve, Moves, Sans, Move}
+use Rattle.freezer.specs.declared.verb.Verb.TheVariants.{Solve, Moves, Sans, Move, Query, Check, Build, Sample}
 use Rattle.freezer.specs.Verbs.{command_of}
 use Rattle.freezer.specs.Commands.{job_by, job_of}
 
@@ -16,6 +19,10 @@ by_command (Some (Solve, words)) = solve_lawful words
 by_command (Some (Moves, words)) = moves_lawful words
 by_command (Some (Sans, words)) = sans_lawful words
 by_command (Some (Move, words)) = move_lawful words
+by_command (Some (Query, words)) = query_lawful words
+by_command (Some (Check, words)) = check_lawful words
+by_command (Some (Build, words)) = build_lawful words
+by_command (Some (Sample, words)) = sample_lawful words
 by_command None = refused_lawful NoCommand
 
 pub lawful_of : (words : List (List ℕ)) → IsLawful (job_of words)

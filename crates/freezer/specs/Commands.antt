@@ -4,10 +4,14 @@ use Rattle.frz_answer.specs.declared.words.Refusal.TheVariants.{NoCommand}
 use Rattle.frz_answer.specs.Jobs.{Job}
 use Rattle.frz_answer.specs.Words.{refusing}
 use Rattle.frz_commands_ask.specs.Meaning.{solve_words}
+use Rattle.frz_commands_ask.specs.Querying.{query_words}
+use Rattle.frz_commands_table.specs.CheckMeans.{check_words}
 use Rattle.frz_commands_chess.specs.Listing.{moves_words, sans_words}
 use Rattle.frz_commands_chess.specs.Moving.{move_words}
+use Rattle.frz_commands_table.specs.BuildMeaning.{build_words}
+use Rattle.frz_commands_table.specs.Sampling.{sample_words}
 use Rattle.freezer.specs.declared.verb.Verb.{Verb}
-use Rattle.freezer.specs.declared.verb.Verb.TheVariants.{Solve, Moves, Sans, Move}
+use Rattle.freezer.specs.declared.verb.Verb.TheVariants.{Solve, Moves, Sans, Move, Query, Check, Build, Sample}
 use Rattle.freezer.specs.Verbs.{command_of}
 
 abbrev pub job_by : Option (Verb × List (List ℕ)) → Job
@@ -15,6 +19,10 @@ job_by (Some (Solve, words)) = solve_words words
 job_by (Some (Moves, words)) = moves_words words
 job_by (Some (Sans, words)) = sans_words words
 job_by (Some (Move, words)) = move_words words
+job_by (Some (Query, words)) = query_words words
+job_by (Some (Check, words)) = check_words words
+job_by (Some (Build, words)) = build_words words
+job_by (Some (Sample, words)) = sample_words words
 job_by None = refusing NoCommand
 
 -- what is to be done where these are the words

@@ -3,14 +3,18 @@ use Rattle.std.specs.Prelude.{ℕ, List, [], ◌∷◌, Option, Some, None, if�
 use Rattle.std.specs.Option.{option_map}
 use Rattle.std.specs.Str.{bytes_eq}
 use Rattle.freezer.specs.declared.verb.Verb.{Verb}
-use Rattle.freezer.specs.declared.verb.Verb.TheVariants.{Solve, Moves, Sans, Move}
+use Rattle.freezer.specs.declared.verb.Verb.TheVariants.{Solve, Moves, Sans, Move, Query, Check, Build, Sample}
 
 abbrev pub verb_of : List ℕ → Option Verb
 verb_of word =
     if bytes_eq word (codes "solve") then Some Solve else
     (if bytes_eq word (codes "moves") then Some Moves else
     (if bytes_eq word (codes "sans") then Some Sans else
-    (if bytes_eq word (codes "move") then Some Move else None)))
+    (if bytes_eq word (codes "move") then Some Move else
+    (if bytes_eq word (codes "query") then Some Query else
+    (if bytes_eq word (codes "check") then Some Check else
+    (if bytes_eq word (codes "build") then Some Build else
+    (if bytes_eq word (codes "sample") then Some Sample else None)))))))
 
 -- the command that the first word names, and the words behind it
 abbrev pub command_of : List (List ℕ) → Option (Verb × List (List ℕ))

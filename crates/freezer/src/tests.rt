@@ -1,7 +1,9 @@
 //! The program over objects in memory.
 ghost use Rattle.std.specs.Prelude.{None};
 
+mod building;
 mod notation;
+mod tables;
 
 use crate::run_once;
 use frz_store::{Fail, FailOn, Failed, MemSink, MemSource, MemStore, Store, StoreFault};
@@ -152,6 +154,10 @@ const REFUSED: &[Row] = &[
     Row(RULES, &["--help"], 2, "words: command\n"),
     Row(RULES, &["solve", "A"], 2, "words: count\n"),
     Row(RULES, &["moves"], 2, "words: count\n"),
+    Row(RULES, &["sample"], 2, "words: count\n"),
+    Row(RULES, &["sample", "64"], 2, "words: number\n"),
+    Row(RULES, &["sample", "0000000000"], 2, "words: number\n"),
+    Row(RULES, &["sample", "h8"], 2, "words: number\n"),
 ];
 
 const TWENTY: &str =

@@ -8,8 +8,9 @@ ghost use Rattle.freezer.specs.Commands.{job_of};
 
 use crate::verb::{Verb, read_command};
 use frz_answer::{End, Refusal, finish, refuse};
-use frz_commands_ask::run_solve;
+use frz_commands_ask::{run_query, run_solve};
 use frz_commands_chess::{run_move, run_moves, run_sans};
+use frz_commands_table::{run_build, run_check, run_sample};
 use frz_steps::Steps;
 use frz_store::{Sink, Source, Store};
 use std::alloc::Global;
@@ -37,6 +38,10 @@ fn run<S: Store, I: Source, O: Sink, L: Ledger>(
         Some((Verb::Moves, rest)) => run_moves(rest, out, steps),
         Some((Verb::Sans, rest)) => run_sans(rest, out, steps),
         Some((Verb::Move, rest)) => run_move(rest, out, steps),
+        Some((Verb::Query, rest)) => run_query(alloc, rest, store, out),
+        Some((Verb::Check, rest)) => run_check(alloc, rest, store, out, steps),
+        Some((Verb::Build, rest)) => run_build(alloc, rest, store, out, steps),
+        Some((Verb::Sample, rest)) => run_sample(alloc, rest, out, steps),
         None => refuse(Refusal::NoCommand, out),
     }
 }

@@ -11,6 +11,10 @@ pub enum Verb {
     Moves,
     Sans,
     Move,
+    Query,
+    Check,
+    Build,
+    Sample,
 }
 
 /// The command that the word names.
@@ -22,6 +26,10 @@ fn read_verb(word: &str) -> Option<Verb>
         "moves" => Some(Verb::Moves),
         "sans" => Some(Verb::Sans),
         "move" => Some(Verb::Move),
+        "query" => Some(Verb::Query),
+        "check" => Some(Verb::Check),
+        "build" => Some(Verb::Build),
+        "sample" => Some(Verb::Sample),
         _ => None,
     }
 }

@@ -18,6 +18,22 @@ pub returns-in-Some-Move-default-clause-ran : goal.returns-in-Some-Move-default-
 returns-in-Some-Move-default-clause-ran g c =
     as_command _ _ _ _ _ (rw c.in-Some-Move-default.field-0-0-is at c.in-Some-Move-default.ensures) (c.run_move.ensures (store_of g.S.Store c.args.store.now) (source_of g.I.Source c.args.input.now))
 
+pub returns-in-Some-Query-default-clause-ran : goal.returns-in-Some-Query-default-clause-ran
+returns-in-Some-Query-default-clause-ran g c =
+    as_command _ _ _ _ _ (rw c.in-Some-Query-default.field-0-0-is at c.in-Some-Query-default.ensures) (c.run_query.ensures.ran (source_of g.I.Source c.args.input.now) c.args.steps.now)
+
+pub returns-in-Some-Check-default-clause-ran : goal.returns-in-Some-Check-default-clause-ran
+returns-in-Some-Check-default-clause-ran g c =
+    as_command _ _ _ _ _ (rw c.in-Some-Check-default.field-0-0-is at c.in-Some-Check-default.ensures) (c.run_check.ensures.ran (source_of g.I.Source c.args.input.now))
+
+pub returns-in-Some-Build-default-clause-ran : goal.returns-in-Some-Build-default-clause-ran
+returns-in-Some-Build-default-clause-ran g c =
+    as_command _ _ _ _ _ (rw c.in-Some-Build-default.field-0-0-is at c.in-Some-Build-default.ensures) (c.run_build.ensures.ran (source_of g.I.Source c.args.input.now))
+
+pub returns-in-Some-Sample-default-clause-ran : goal.returns-in-Some-Sample-default-clause-ran
+returns-in-Some-Sample-default-clause-ran g c =
+    as_command _ _ _ _ _ (rw c.in-Some-Sample-default.field-0-0-is at c.in-Some-Sample-default.ensures) (c.run_sample.ensures (store_of g.S.Store c.args.store.now) (source_of g.I.Source c.args.input.now))
+
 pub returns-in-None-clause-ran : goal.returns-in-None-clause-ran
 returns-in-None-clause-ran g c =
     as_command _ _ _ _ _ c.in-None.ensures (c.refuse.ensures (store_of g.S.Store c.args.store.now) (source_of g.I.Source c.args.input.now) c.args.steps.now)

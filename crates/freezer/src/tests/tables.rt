@@ -1,0 +1,217 @@
+//! Tables made by hand, checked and asked.
+use super::{CORNER, MATE_IN_ONE, RULES, call, first_fails, no_fails};
+use frz_store::{Fail, FailOn, MemSink, MemStore};
+use std::alloc::Global;
+use std::process::Abort;
+use std::test::Fail as TestFail;
+
+/// The rook beside its king: no mate is forced.
+const NEAR_ROOK: &[u8] =
+    b"freezer 1\ngroup white 1 K:b6\ngroup white 1 R:c1,c2\ngroup black 1 K:a8,b8\n";
+
+/// The codes of both sides, White's first, each in four bytes.
+const ROOK_CODES: [u8; 16] = [4, 4, 0, 0, 6, 5, 2, 2, 5, 5, 0, 0, 7, 7, 3, 3];
+
+const NEAR_ROOK_CODES: [u8; 16] = [1, 1, 1, 1, 1, 1, 1, 1, 5, 5, 5, 5, 7, 7, 7, 7];
+
+/// Bytes of a table that are changed, and what a check says of it then.
+struct Changed<'a>(&'a [(usize, u8)], u8, &'a str);
+
+const ROOK_ROWS: &[Changed] = &[
+    Changed(&[], 0, "exact 8\n"),
+    Changed(&[(105, 8)], 6, "wrong white 4 kept 8 given 6\n"),
+    Changed(&[(121, 7)], 6, "wrong black 0 kept 7 given 5\n"),
+    Changed(&[(0, 0x47)], 5, "table: magic\n"),
+    Changed(&[(7, b'1')], 5, "table: magic\n"),
+    Changed(&[(8, 1), (10, 1)], 5, "table: rules 0: too long\n"),
+    Changed(&[(8, 72)], 5, "table: size 2058 due 8\n"),
+    Changed(&[(8, 74)], 5, "table: rules 5: unknown line\n"),
+    Changed(&[(12, b'g')], 5, "table: rules 1: header\n"),
+    Changed(&[(85, 9)], 5, "table: size 9 due 8\n"),
+];
+
+const NEAR_ROOK_ROWS: &[Changed] = &[
+    Changed(&[], 0, "exact 8\n"),
+    Changed(
+        &[(89, 4), (101, 8), (109, 6), (113, 10)],
+        6,
+        "wrong white 0 kept 4 given 12\n",
+    ),
+    Changed(
+        &[(113, 254), (114, 255), (115, 255), (116, 255)],
+        6,
+        "wrong white 0 kept 1 given 4294967296\n",
+    ),
+];
+
+/// How many bytes of the rook's table are left, and what a check says of them.
+const CUT: &[(usize, &str)] = &[
+    (0, "table: truncated 0 due 16\n"),
+    (11, "table: truncated 11 due 16\n"),
+    (16, "table: truncated 16 due 89\n"),
+    (87, "table: truncated 87 due 89\n"),
+    (89, "table: truncated 89 due 153\n"),
+    (152, "table: truncated 152 due 153\n"),
+];
+
+/// A position with its FEN, and what a query says of it.
+const ASKED: &[(&str, u8, &str)] = &[
+    (MATE_IN_ONE, 0, "white wins within 1\nblack none\n"),
+    (CORNER, 0, "white wins within 2\nblack none\n"),
+    (
+        "1k6/8/1K6/8/8/8/8/7R b - - 0 1",
+        0,
+        "white none\nblack none\n",
+    ),
+    (
+        "rnbqkbnr/pppppppp/8/8/8/8/PPPPPPPP/RNBQKBNR w - - 0 1",
+        7,
+        "outside\n",
+    ),
+    ("k7/8/1K6/8/8/8/8/7R w - - 0", 4, "fen: fields\n"),
+];
+
+/// The table of a text with 73 bytes and 8 numbers.
+fn table(alloc: Global, text: &[u8], codes: &[u8]) -> Result<Vec<u8>, TestFail> {
+    let mut file = b"FREEZER2\x49\0\0\0".to_vec(alloc)?;
+    file.extend_from_slice(text)?;
+    file.extend_from_slice(b"\x08\0\0\0")?;
+    for code in codes {
+        file.extend_from_slice(&u32::from(*code).to_le_bytes())?;
+    }
+    Ok(file)
+}
+
+/// Calls the program over a store with this table.
+fn expect(
+    rt: &impl Abort,
+    alloc: Global,
+    file: &[u8],
+    line: &[&str],
+    status: u8,
+    text: &str,
+) -> Result<(), TestFail> {
+    let mut store = MemStore::new(alloc, no_fails(alloc));
+    store.put("A.t", file).or(Err("put"))?;
+    let mut out = MemSink::new(alloc, 200, no_fails(alloc)).or(Err("sink"))?;
+    let answer = call(alloc, line, &mut store, &mut out)?;
+    assert_eq!(rt; out.taken(), text.as_bytes());
+    assert_eq!(rt; answer, status);
+    Ok(())
+}
+
+/// Checks a table with each of these changes.
+fn expect_changed(
+    rt: &impl Abort,
+    alloc: Global,
+    file: &[u8],
+    rows: &[Changed<'_>],
+) -> Result<(), TestFail> {
+    for row in rows {
+        let Changed(changes, status, text) = row;
+        let mut changed = file.to_vec(alloc)?;
+        for (place, byte) in *changes {
+            if let Some(cell) = changed.get_mut(*place) {
+                *cell = *byte;
+            }
+        }
+        expect(rt, alloc, &changed, &["check", "A.t"], *status, text)?;
+    }
+    Ok(())
+}
+
+#[test]
+fn checks_tables(rt: HostRuntime) -> Result<(), TestFail> {
+    let alloc = rt.alloc();
+    let rook = table(alloc, RULES, &ROOK_CODES)?;
+    assert_eq!(rt; rook.len(), 153);
+    expect_changed(&rt, alloc, &rook, ROOK_ROWS)?;
+    let near = table(alloc, NEAR_ROOK, &NEAR_ROOK_CODES)?;
+    expect_changed(&rt, alloc, &near, NEAR_ROOK_ROWS)
+}
+
+#[test]
+fn refuses_tables_that_are_cut_too_long_or_missing(rt: HostRuntime) -> Result<(), TestFail> {
+    let alloc = rt.alloc();
+    let mut file = table(alloc, RULES, &ROOK_CODES)?;
+    for (left, text) in CUT {
+        let front = file.get(..*left).ok_or("front")?;
+        expect(&rt, alloc, front, &["check", "A.t"], 5, text)?;
+    }
+    expect(
+        &rt,
+        alloc,
+        &file,
+        &["check", "none.t"],
+        12,
+        "missing table\n",
+    )?;
+    expect(
+        &rt,
+        alloc,
+        &file,
+        &["query", "none.t", CORNER],
+        12,
+        "missing table\n",
+    )?;
+    expect(&rt, alloc, &file, &["check"], 2, "words: count\n")?;
+    expect(&rt, alloc, &file, &["query", "A.t"], 2, "words: count\n")?;
+    file.push(0)?;
+    let text = "table: extra 154 due 153\n";
+    expect(&rt, alloc, &file, &["check", "A.t"], 5, text)?;
+    expect(&rt, alloc, &file, &["query", "A.t", CORNER], 5, text)
+}
+
+#[test]
+fn asks_tables(rt: HostRuntime) -> Result<(), TestFail> {
+    let alloc = rt.alloc();
+    let file = table(alloc, RULES, &ROOK_CODES)?;
+    for (fen, status, text) in ASKED {
+        expect(&rt, alloc, &file, &["query", "A.t", fen], *status, text)?;
+    }
+    Ok(())
+}
+
+#[test]
+fn a_query_reads_two_codes_in_place(rt: HostRuntime) -> Result<(), TestFail> {
+    let alloc = rt.alloc();
+    let mut store = MemStore::new(alloc, no_fails(alloc));
+    let file = table(alloc, RULES, &ROOK_CODES)?;
+    store.put("A.t", &file).or(Err("put"))?;
+    let mut out = MemSink::new(alloc, 200, no_fails(alloc)).or(Err("sink"))?;
+    let status = call(alloc, &["query", "A.t", CORNER], &mut store, &mut out)?;
+    assert_eq!(rt; status, 0);
+    assert_eq!(rt; store.asked(), 24 + 73);
+    Ok(())
+}
+
+#[test]
+fn a_check_stops_where_the_sink_fails(rt: HostRuntime) -> Result<(), TestFail> {
+    let alloc = rt.alloc();
+    let mut store = MemStore::new(alloc, no_fails(alloc));
+    let file = table(alloc, RULES, &ROOK_CODES)?;
+    store.put("A.t", &file).or(Err("put"))?;
+    let fails = vec![in alloc;
+        Fail {
+            on: FailOn::Call,
+            nth: 1,
+            keep: 3
+        },
+    ]?;
+    let mut out = MemSink::new(alloc, 200, fails).or(Err("sink"))?;
+    let status = call(alloc, &["check", "A.t"], &mut store, &mut out)?;
+    assert_eq!(rt; status, 9);
+    assert_eq!(rt; out.taken(), b"exa".as_slice());
+    Ok(())
+}
+
+#[test]
+fn a_query_names_a_fault_of_the_store(rt: HostRuntime) -> Result<(), TestFail> {
+    let alloc = rt.alloc();
+    let mut store = MemStore::new(alloc, first_fails(alloc)?);
+    let mut out = MemSink::new(alloc, 200, no_fails(alloc)).or(Err("sink"))?;
+    let status = call(alloc, &["query", "A.t", MATE_IN_ONE], &mut store, &mut out)?;
+    assert_eq!(rt; status, 8);
+    assert_eq!(rt; out.taken(), b"store fault\n".as_slice());
+    Ok(())
+}
