@@ -1,0 +1,2 @@
+mod Picked
+pub mod TenNumbers

@@ -14,4 +14,5 @@ mod numbers;
 mod retro;
 #[cfg(test)]
 mod sweeps;
+pub mod ten;
 pub mod texts;

@@ -1,7 +1,7 @@
 //! Moves taken back: worked rows, and the converse of the moves of all numbers.
 ghost use Rattle.std.specs.Prelude.{◌≡◌, ◌<◌};
 
-use crate::texts::{BOTH_TARGETS, KNIGHTS, PROMOTING, ROOK, TARGET, THREE};
+use crate::texts::{BOTH_TARGETS, KNIGHTS, PAWNS, PROMOTING, ROOK, TARGET, THREE};
 use frz_board::{Move, move_text};
 use frz_exits::RuleBook;
 use frz_game::{Arm, Game, Next, NextList};
@@ -183,7 +183,7 @@ fn find_converse<L: Ledger, R: Abort>(rt: &R, alloc: Global, blank: Blank) -> Re
     requires some { 0 < blank.parts }
 {
     let mut steps = Steps::<L>::new(blank);
-    for text in [PROMOTING, BOTH_TARGETS, THREE, KNIGHTS, TARGET] {
+    for text in [PROMOTING, BOTH_TARGETS, THREE, KNIGHTS, TARGET, PAWNS, ROOK] {
         check_all(rt, alloc, text, &mut steps)?;
     }
     Ok(())

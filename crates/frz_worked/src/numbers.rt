@@ -6,7 +6,7 @@ use crate::texts::{
 };
 use frz_board::{Colour, Man, Position, Square, cell_of};
 use frz_fide::valid;
-use frz_index::Set;
+use frz_index::{Set, old_number, old_size};
 use frz_rules::read_rules;
 use frz_sets::Group;
 use std::alloc::Global;
@@ -89,6 +89,32 @@ fn worked_numbers(rt: HostRuntime) -> Result<(), Fail> {
         (15, "Kb6 Rh1 Rh8 kb8", black, None),
     ];
     check_rows(&rt, rt.alloc(), ROOKS, 16, &rooks, &[4, 5, 6, 7])
+}
+
+/// In the former format each rook that may be there has a digit: its place, or 2 where it is absent.
+#[test]
+fn old_numbers(rt: HostRuntime) -> Result<(), Fail> {
+    let rules = read_rules(rt.alloc(), ROOKS.as_bytes())?;
+    assert_eq!(rt; old_size(&rules), 36);
+    let rows = [
+        ("Kb6 Rh1 Rh8 ka8", 2),
+        ("Kb6 Rh1 Rh8 kb8", 3),
+        ("Kb6 Rh1 ka8", 4),
+        ("Kb6 Rh1 kb8", 5),
+        ("Kb6 Rh8 ka8", 10),
+        ("Kb6 Rh8 kb8", 11),
+        ("Kb6 ka8", 16),
+        ("Kb6 kb8", 17),
+    ];
+    for (men, number) in rows {
+        let p = position(men, Colour::Black, None).ok_or("a position")?;
+        assert_eq!(rt; old_number(&rules, &p), Some(18 + number), "{men}");
+    }
+    let p = position("Kb6 Rh1 kb8", Colour::White, None).ok_or("a position")?;
+    assert_eq!(rt; old_number(&rules, &p), Some(5));
+    let outside = position("Kb6 Rh2 kb8", Colour::Black, None).ok_or("a position")?;
+    assert_eq!(rt; old_number(&rules, &outside), None);
+    Ok(())
 }
 
 /// How many men of the group there are.

@@ -1,8 +1,11 @@
 //! The solver by passes: lists by hand, and the lists of the solver forwards.
 ghost use Rattle.std.specs.Prelude.{◌≡◌, ◌<◌};
 
+use crate::ten::Ten;
 use crate::texts::{
-    DRAWN_KINGS, FORBIDDEN, LONG_WIN, ROOK, ROOKS, SHORT_ROOK, STALEMATE, TARGET, WIN,
+    BLACK_FIRST, BLOCKED, BOTH_TARGETS, CROWD, DRAWN_KINGS, EXITS, FORBIDDEN, KINDS, KNIGHTS,
+    LONG_WIN, MIXED, NUMBERING, PAWNS, PROMOTING, ROOK, ROOKS, SHORT_ROOK, STALEMATE, TARGET,
+    THREE, TWO_GROUPS, WIN,
 };
 use frz_board::Colour;
 use frz_exits::RuleBook;
@@ -80,12 +83,71 @@ fn solves_by_hand(rt: HostRuntime) -> Result<(), Fail> {
     solve_by_hand::<Brand, _>(&rt, rt.alloc(), blank)
 }
 
-fn agree_on_sets<L: Ledger, R: Abort>(rt: &R, alloc: Global, blank: Blank) -> Result<(), Fail>
+/// White's and Black's entries of the game of ten numbers. By the definition of the bound, number
+/// by number, where a win within n plies is 2 + 2n and a failure within n plies 3 + 2n:
+///
+/// | number | White | Black |
+/// |---|---|---|
+/// | 0, Black mated | wins within 0: 2 | fails within 0: 3 |
+/// | 1, broken | 0 | 0 |
+/// | 2, White, to 0 or an exit that wins in 3 | to 0 wins within 1, the exit within 4; the least is 1: 4 | White mates within 1: 5 |
+/// | 3, Black, to 2 or an exit that White wins in 5 | both lose for Black, and the exit lasts: 1 + 5 plies: 14 | the exit fails within 1, and 2 within 1, so both within 2: 7 |
+/// | 4, White, to 3, and to 0 barred | to 3 wins within 6, so 7: 16 | White may play the barred move, and mates within 1: 5 |
+/// | 5, Black, to 4 or 6 | Black goes to 6 and round to 5 for ever: 1 | to 4 and 6 fails within 1 each, so 2: 7 |
+/// | 6, White, to 5 or an exit with no value | to 5 wins no more than 5 does, and 5 holds: 1 | the exit is no value for Black: 5 |
+/// | 7, White, to 3 or an exit that wins in 6 | each wins within 6, so 7: 16 | White plays the exit: 5 |
+/// | 8, Black, to 7 or 9 or an exit that Black wins in 2 | Black plays the exit: 5 | the exit, 1 + 2 plies: 8 |
+/// | 9, White stalemated | 1 | 1 |
+const TEN_WHITE: [u32; 10] = [2, 0, 4, 14, 16, 1, 1, 16, 5, 1];
+
+const TEN_BLACK: [u32; 10] = [3, 0, 5, 7, 5, 7, 5, 5, 8, 1];
+
+/// Each run of the one workshop leaves its own side's list, whatever the runs before it left.
+fn solve_ten<L: Ledger, R: Abort>(rt: &R, alloc: Global, blank: Blank) -> Result<(), Fail>
     requires name { blank.name ≡ L.name }
     requires parts { blank.parts ≡ L.parts }
     requires some { 0 < blank.parts }
 {
     let mut steps = Steps::<L>::new(blank);
+    let game = Ten::new();
+    let mut shop = Workshop::new(alloc, 10)?;
+    shop.run(&game, Colour::White, &mut steps);
+    assert_eq!(rt; shop.entries(), TEN_WHITE.as_slice());
+    shop.run(&game, Colour::Black, &mut steps);
+    assert_eq!(rt; shop.entries(), TEN_BLACK.as_slice());
+    shop.run(&game, Colour::Black, &mut steps);
+    assert_eq!(rt; shop.entries(), TEN_BLACK.as_slice());
+    shop.run(&game, Colour::White, &mut steps);
+    assert_eq!(rt; shop.entries(), TEN_WHITE.as_slice());
+    Ok(())
+}
+
+#[test]
+fn solves_ten_numbers(rt: HostRuntime) -> Result<(), Fail> {
+    let blank = Blank::new(1);
+    solve_ten::<Brand, _>(&rt, rt.alloc(), blank)
+}
+
+/// Both solvers leave the same lists for each of these.
+fn agree_on<L: Ledger, R: Abort>(
+    rt: &R,
+    alloc: Global,
+    texts: &[&'static str],
+    blank: Blank,
+) -> Result<(), Fail>
+    requires name { blank.name ≡ L.name }
+    requires parts { blank.parts ≡ L.parts }
+    requires some { 0 < blank.parts }
+{
+    let mut steps = Steps::<L>::new(blank);
+    for text in texts {
+        assert!(rt; agrees(alloc, text, &mut steps)?, "{text}");
+    }
+    Ok(())
+}
+
+#[test]
+fn agrees_on_few_men(rt: HostRuntime) -> Result<(), Fail> {
     let texts = [
         ROOK,
         WIN,
@@ -96,15 +158,38 @@ fn agree_on_sets<L: Ledger, R: Abort>(rt: &R, alloc: Global, blank: Blank) -> Re
         DRAWN_KINGS,
         STALEMATE,
         TARGET,
+        KINDS,
+        NUMBERING,
+        TWO_GROUPS,
+        KNIGHTS,
+        THREE,
     ];
-    for text in texts {
-        assert!(rt; agrees(alloc, text, &mut steps)?);
-    }
-    Ok(())
+    let blank = Blank::new(1);
+    agree_on::<Brand, _>(&rt, rt.alloc(), &texts, blank)
 }
 
 #[test]
-fn agrees_on_sets(rt: HostRuntime) -> Result<(), Fail> {
+fn agrees_on_pawns(rt: HostRuntime) -> Result<(), Fail> {
+    let texts = [PROMOTING, PAWNS, BOTH_TARGETS];
     let blank = Blank::new(1);
-    agree_on_sets::<Brand, _>(&rt, rt.alloc(), blank)
+    agree_on::<Brand, _>(&rt, rt.alloc(), &texts, blank)
+}
+
+#[test]
+fn agrees_on_groups(rt: HostRuntime) -> Result<(), Fail> {
+    let texts = [CROWD, MIXED, BLACK_FIRST];
+    let blank = Blank::new(1);
+    agree_on::<Brand, _>(&rt, rt.alloc(), &texts, blank)
+}
+
+#[test]
+fn agrees_on_blocked_pawns(rt: HostRuntime) -> Result<(), Fail> {
+    let blank = Blank::new(1);
+    agree_on::<Brand, _>(&rt, rt.alloc(), &[BLOCKED], blank)
+}
+
+#[test]
+fn agrees_on_exits(rt: HostRuntime) -> Result<(), Fail> {
+    let blank = Blank::new(1);
+    agree_on::<Brand, _>(&rt, rt.alloc(), &[EXITS], blank)
 }

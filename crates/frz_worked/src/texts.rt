@@ -154,3 +154,30 @@ group black 1 K:h6,h7
 group white 1 P:d6,d7,e7 Q:d8,e8 R:d8,e8 B:d8,e8 N:d8,e8
 group black 0-1 R:e8,d8
 ";
+
+/// A rook anywhere: it may be captured, and a king may leave its squares.
+pub const EXITS: &str = "freezer 1
+group white 1 K:a4-d8
+group white 1 R:all
+group black 1 K:a7-c8
+exit draw if count:white:R:0
+exit white wins 7 if on:black:K:d8 turn:white
+exit black holds if !check distance:black:d5:0-2
+";
+
+/// A queen on the d-file or a rook on e1, and none, one or both of two knights.
+pub const KINDS: &str = "freezer 1
+group white 1 K:a1
+group white 1 Q:d1-d8 R:e1
+group white 0-2 N:b1,g1
+group black 1 K:h8
+";
+
+/// Two kinds in one group, and a pawn of each side.
+pub const NUMBERING: &str = "freezer 1
+group white 1 K:e1,g1
+group black 1 K:e8
+group white 1-2 R:a1,h1 B:c1
+group black 0-1 P:d4
+group white 1 P:e4
+";
