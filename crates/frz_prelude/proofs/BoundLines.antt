@@ -1,5 +1,5 @@
 -- The words of a kept code are those of the bound for which it stands.
-use Rattle.std.proofs.Common.{◌≡◌, ◌+◌, ◌*◌, ◌-◌, ◌/◌, ◌==◌, ℕ, List, ◌++◌, Bool, true, false, refl, sym, ap, ◌∙◌, if◌then◌else◌, codes, arith}
+use Rattle.std.proofs.Common.{◌≡◌, ◌+◌, ◌*◌, ◌-◌, ◌/◌, ◌==◌, ℕ, List, ◌++◌, Bool, true, false, refl, ap, ◌∙◌, if◌then◌else◌, codes, arith}
 use Rattle.std.specs.Prelude.{decimal}
 use Rattle.std.proofs.lemmas.Bool.Decides.{nat_tests}
 use Rattle.frz_arena.specs.declared.bound.Bound.{Bound}

@@ -14,7 +14,7 @@ use Rattle.frz_answer.specs.Ends.{MayMeet, Ran, Said}
 use Rattle.frz_answer.proofs.Lemmas.{said, stopped, fine_store, Found, SaysAll, Begun}
 use Rattle.frz_table.specs.declared.fault.TableFault.{TableFault}
 use Rattle.frz_table.specs.declared.fault.TableFault.TheVariants as table
-use Rattle.frz_prelude.specs.TableCauses.{table_line}
+use Rattle.frz_prelude.specs.TableCauses.{back_line, table_line}
 use Rattle.frz_prelude.specs.Refusals.{table_status, status_of, refusal_line}
 use Rattle.frz_prelude.specs.Stops.{WantsMemoryAlone, HasItsCause, EndsBy}
 use Rattle.frz_prelude.specs.declared.refused.Refused.{Refused as Refusal}
@@ -38,6 +38,8 @@ own_status (refusals.Fen fault) = refl
 own_status refusals.MissingRules = refl
 own_status (refusals.Rules fault) = refl
 own_status (refusals.Table fault) = own_table fault
+own_status (refusals.Back fault) = own_table fault
+own_status (refusals.BackWrong wrong) = refl
 own_status refusals.Outside = refl
 
 table_said : (fault : TableFault) → table_line fault ≡ [] → ⊥
@@ -50,12 +52,24 @@ table_said (table.Size kept due) e = cc
 table_said table.Failed e = cc
 table_said table.NoMemory e = cc
 
+back_said : (fault : TableFault) → back_line fault ≡ [] → ⊥
+back_said table.Missing e = cc
+back_said table.Magic e = cc
+back_said (table.Truncated length due) e = cc
+back_said (table.Extra length due) e = cc
+back_said (table.Rules fault) e = cc
+back_said (table.Size kept due) e = cc
+back_said table.Failed e = cc
+back_said table.NoMemory e = cc
+
 -- each refusal is said in some text
 pub refusal_said : (why : Refusal) → refusal_line why ≡ [] → ⊥
 refusal_said (refusals.Fen fault) e = cc
 refusal_said refusals.MissingRules e = cc
 refusal_said (refusals.Rules fault) e = cc
 refusal_said (refusals.Table fault) e = table_said fault e
+refusal_said (refusals.Back fault) e = back_said fault e
+refusal_said (refusals.BackWrong wrong) e = cc
 refusal_said refusals.Outside e = cc
 
 -- what was said with an equal status and an equal text

@@ -2,6 +2,7 @@ pub mod Causes
 pub mod TableCauses
 pub mod TableFiles
 pub mod BoundLines
+pub mod WrongLines
 pub mod Refusals
 pub mod Stops
 pub mod Positions

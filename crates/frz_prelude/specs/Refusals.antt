@@ -7,9 +7,10 @@ use Rattle.frz_answer.specs.Jobs.{Job, plain}
 use Rattle.frz_table.specs.declared.fault.TableFault.{TableFault}
 use Rattle.frz_table.specs.declared.fault.TableFault.TheVariants as table
 use Rattle.frz_prelude.specs.Causes.{fen_line, rules_line}
-use Rattle.frz_prelude.specs.TableCauses.{table_line}
+use Rattle.frz_prelude.specs.TableCauses.{back_line, table_line}
+use Rattle.frz_prelude.specs.WrongLines.{back_wrong_line}
 use Rattle.frz_prelude.specs.declared.refused.Refused.{Refused}
-use Rattle.frz_prelude.specs.declared.refused.Refused.TheVariants.{Fen, MissingRules, Rules, Table, Outside}
+use Rattle.frz_prelude.specs.declared.refused.Refused.TheVariants.{Fen, MissingRules, Rules, Table, Back, BackWrong, Outside}
 
 -- a table that is missing, or whose bytes are refused
 abbrev pub table_status : TableFault → Status
@@ -21,6 +22,8 @@ status_of (Fen fault) = statuses.Fen
 status_of MissingRules = statuses.Missing
 status_of (Rules fault) = statuses.Rules
 status_of (Table fault) = table_status fault
+status_of (Back fault) = table_status fault
+status_of (BackWrong wrong) = statuses.Wrong
 status_of Outside = statuses.Outside
 
 abbrev pub refusal_line : Refused → List ℕ
@@ -28,6 +31,8 @@ refusal_line (Fen fault) = fen_line fault
 refusal_line MissingRules = codes "missing rules\n"
 refusal_line (Rules fault) = rules_line fault
 refusal_line (Table fault) = table_line fault
+refusal_line (Back fault) = back_line fault
+refusal_line (BackWrong wrong) = back_wrong_line wrong
 refusal_line Outside = codes "outside\n"
 
 -- to refuse what the words name

@@ -10,13 +10,20 @@ use Rattle.frz_prelude.specs.Causes.{rules_line}
 abbrev pub due_text : ℕ → List ℕ
 due_text due = codes " due " ++ decimal due ++ codes "\n"
 
--- a fault of the store and want of memory refuse no file: they have their own lines
+-- the word names the file: `table`, or `back` for a table that another leans on. A fault of the store and want of memory refuse no
+-- file: they have their own lines
+abbrev pub file_line : List ℕ → TableFault → List ℕ
+file_line word Missing = codes "missing " ++ word ++ codes "\n"
+file_line word Magic = word ++ codes ": magic\n"
+file_line word (Truncated length due) = word ++ (codes ": truncated " ++ decimal length) ++ due_text due
+file_line word (Extra length due) = word ++ (codes ": extra " ++ decimal length) ++ due_text due
+file_line word (Rules fault) = word ++ codes ": " ++ rules_line fault
+file_line word (Size kept due) = word ++ (codes ": size " ++ decimal kept) ++ due_text due
+file_line word Failed = fault_line faults.Store
+file_line word NoMemory = fault_line faults.NoMemory
+
 abbrev pub table_line : TableFault → List ℕ
-table_line Missing = codes "missing table\n"
-table_line Magic = codes "table: magic\n"
-table_line (Truncated length due) = codes "table: truncated " ++ decimal length ++ due_text due
-table_line (Extra length due) = codes "table: extra " ++ decimal length ++ due_text due
-table_line (Rules fault) = codes "table: " ++ rules_line fault
-table_line (Size kept due) = codes "table: size " ++ decimal kept ++ due_text due
-table_line Failed = fault_line faults.Store
-table_line NoMemory = fault_line faults.NoMemory
+table_line fault = file_line (codes "table") fault
+
+abbrev pub back_line : TableFault → List ℕ
+back_line fault = file_line (codes "back") fault

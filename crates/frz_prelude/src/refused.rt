@@ -4,6 +4,7 @@ ghost use Rattle.frz_prelude.specs.Refusals.{status_of, table_status as status_o
 
 use frz_answer::Status;
 use frz_fen::FenFault;
+use frz_game::Wrong;
 use frz_rules::RulesFault;
 use frz_table::TableFault;
 
@@ -18,6 +19,10 @@ pub enum Refused {
     Rules(RulesFault),
     /// No file has the name of the table, or its bytes are refused.
     Table(TableFault),
+    /// The same of the table that another leans on.
+    Back(TableFault),
+    /// That table has this as its first entry that is not its local code.
+    BackWrong(Wrong),
     /// The position is outside the set of the rules.
     Outside,
 }
@@ -39,7 +44,8 @@ impl Refused {
             Refused::Fen(_) => Status::Fen,
             Refused::MissingRules => Status::Missing,
             Refused::Rules(_) => Status::Rules,
-            Refused::Table(fault) => table_status(fault),
+            Refused::Table(fault) | Refused::Back(fault) => table_status(fault),
+            Refused::BackWrong(_) => Status::Wrong,
             Refused::Outside => Status::Outside,
         }
     }

@@ -1,4 +1,4 @@
-use Rattle.frz_prelude.proofs.table_causes.write_table_fault.Goals as goal
+use Rattle.frz_prelude.proofs.table_causes.write_file_fault.Goals as goal
 
 pub returns-in-Truncated : goal.returns-in-Truncated
 returns-in-Truncated g c = rw c.in-Truncated.is c.write_numbers.ensures
