@@ -88,99 +88,66 @@ fn refusal(alloc: Global, file: &[u8], kind: FileKind) -> Result<Option<TableFau
     }
 }
 
-fn rules_fault(line: u32, cause: RulesCause) -> Option<TableFault> {
-    Some(TableFault::Rules(RulesFault { line, cause }))
-}
+/// A file of the rook with this magic, length of the text and size, and why it is refused.
+struct Altered<'a>(&'a [u8], u32, u32, TableFault);
 
-#[test]
-fn a_file_made_by_hand_is_read(rt: HostRuntime) -> Result<(), Fail> {
-    let alloc = rt.alloc();
-    let file = rook_file(alloc, b"FREEZER2", 73, 8)?;
-    assert_eq!(rt; file.len(), 153);
-    let mut store = store_with(alloc, &file, Vec::new(alloc))?;
-    let table = open_table(alloc, &mut store, "A.t")?;
-    assert_eq!(rt; table.name(), "A.t");
-    assert_eq!(rt; table.kind(), FileKind::Plain);
-    assert_eq!(rt; table.text(), ROOK.as_bytes());
-    assert_eq!(rt; table.rules().groups.len(), 3);
-    assert_eq!(rt; store.asked(), 16 + 73);
-    let size = table.set().size();
-    assert_eq!(rt; size, 8);
-    assert!(rt; table.entry(&mut store, Colour::White, 0) == Ok(4));
-    assert!(rt; table.entry(&mut store, Colour::White, 7) == Ok(2));
-    assert!(rt; table.entry(&mut store, Colour::Black, 0) == Ok(5));
-    assert!(rt; table.entry(&mut store, Colour::Black, 7) == Ok(3));
-    assert_eq!(rt; store.asked(), 16 + 73 + 16);
-    let (white, black) = table.load(alloc, &mut store)?;
-    assert_eq!(rt; white.as_slice(), WHITE.as_slice());
-    assert_eq!(rt; black.as_slice(), BLACK.as_slice());
-    assert_eq!(rt; store.asked(), 16 + 73 + 16 + 64);
-    Ok(())
-}
+const TOO_LONG: RulesFault = RulesFault {
+    line: 0,
+    cause: RulesCause::TooLong,
+};
 
-#[test]
-fn files_that_are_cut_or_too_long_are_refused(rt: HostRuntime) -> Result<(), Fail> {
-    let alloc = rt.alloc();
-    let mut file = rook_file(alloc, b"FREEZER2", 73, 8)?;
-    for (left, _) in file.iter().enumerate() {
-        let due = match left {
-            0..=15 => 16,
-            16..=88 => 89,
-            _ => 153,
-        };
-        let given = refusal(alloc, &file[..left], FileKind::Plain)?;
-        assert_eq!(rt;
-            given,
-            Some(TableFault::Truncated(left as u64, due)),
-            "{left}"
-        );
-    }
-    file.push(0)?;
-    let given = refusal(alloc, &file, FileKind::Plain)?;
-    assert_eq!(rt; given, Some(TableFault::Extra(154, 153)));
-    Ok(())
-}
+const NO_HEADER: RulesFault = RulesFault {
+    line: 1,
+    cause: RulesCause::Header,
+};
+
+const UNKNOWN_LINE: RulesFault = RulesFault {
+    line: 5,
+    cause: RulesCause::UnknownLine,
+};
+
+const ALTERED: &[Altered] = &[
+    Altered(b"GREEZER2", 73, 8, TableFault::Magic),
+    Altered(b"FREEZER1", 73, 8, TableFault::Magic),
+    Altered(b"FREEZERC", 73, 8, TableFault::Magic),
+    Altered(b"FREEZER2", 65_537, 8, TableFault::Rules(TOO_LONG)),
+    Altered(b"FREEZER2", 72, 8, TableFault::Size(2058, 8)),
+    Altered(b"FREEZER2", 74, 8, TableFault::Rules(UNKNOWN_LINE)),
+    Altered(b"FREEZER2", 73, 9, TableFault::Size(9, 8)),
+];
 
 #[test]
 fn altered_files_are_refused(rt: HostRuntime) -> Result<(), Fail> {
     let alloc = rt.alloc();
-    let plain = FileKind::Plain;
-    let magic = rook_file(alloc, b"GREEZER2", 73, 8)?;
-    assert_eq!(rt; refusal(alloc, &magic, plain)?, Some(TableFault::Magic));
-    let last = rook_file(alloc, b"FREEZER1", 73, 8)?;
-    assert_eq!(rt; refusal(alloc, &last, plain)?, Some(TableFault::Magic));
-    let long = rook_file(alloc, b"FREEZER2", 65_537, 8)?;
-    assert_eq!(rt;
-        refusal(alloc, &long, plain)?,
-        rules_fault(0, RulesCause::TooLong)
-    );
-    let early = rook_file(alloc, b"FREEZER2", 72, 8)?;
-    assert_eq!(rt;
-        refusal(alloc, &early, plain)?,
-        Some(TableFault::Size(2058, 8))
-    );
-    let late = rook_file(alloc, b"FREEZER2", 74, 8)?;
-    assert_eq!(rt;
-        refusal(alloc, &late, plain)?,
-        rules_fault(5, RulesCause::UnknownLine)
-    );
-    let mut header = rook_file(alloc, b"FREEZER2", 73, 8)?;
-    if let Some(byte) = header.get_mut(12) {
+    for Altered(magic, length, size, fault) in ALTERED {
+        let file = rook_file(alloc, magic, *length, *size)?;
+        let given = refusal(alloc, &file, FileKind::Plain)?;
+        assert_eq!(rt; given, Some(*fault));
+    }
+    Ok(())
+}
+
+#[test]
+fn a_text_with_another_header_is_refused(rt: HostRuntime) -> Result<(), Fail> {
+    let alloc = rt.alloc();
+    let mut file = rook_file(alloc, b"FREEZER2", 73, 8)?;
+    if let Some(byte) = file.get_mut(12) {
         *byte = b'g';
     }
-    assert_eq!(rt;
-        refusal(alloc, &header, plain)?,
-        rules_fault(1, RulesCause::Header)
+    let given = refusal(alloc, &file, FileKind::Plain)?;
+    assert_eq!(rt; given, Some(TableFault::Rules(NO_HEADER)));
+    Ok(())
+}
+
+#[test]
+fn a_name_that_is_not_there_is_missing(rt: HostRuntime) -> Result<(), Fail> {
+    let alloc = rt.alloc();
+    let mut store = store_with(alloc, b"", Vec::new(alloc))?;
+    let missing = matches!(
+        open_table(alloc, &mut store, "B.t"),
+        Err(TableFault::Missing)
     );
-    let size = rook_file(alloc, b"FREEZER2", 73, 9)?;
-    assert_eq!(rt; refusal(alloc, &size, plain)?, Some(TableFault::Size(9, 8)));
-    let mut store = store_with(alloc, &size, Vec::new(alloc))?;
-    assert!(rt;
-        matches!(
-            open_table(alloc, &mut store, "B.t"),
-            Err(TableFault::Missing)
-        )
-    );
+    assert!(rt; missing);
     Ok(())
 }
 
@@ -191,14 +158,96 @@ fn each_kind_opens_its_own_files(rt: HostRuntime) -> Result<(), Fail> {
     let chained = rook_file(alloc, b"FREEZERC", 73, 8)?;
     assert_eq!(rt; refusal(alloc, &plain, FileKind::Plain)?, None);
     assert_eq!(rt; refusal(alloc, &chained, FileKind::Chained)?, None);
-    assert_eq!(rt;
-        refusal(alloc, &chained, FileKind::Plain)?,
-        Some(TableFault::Magic)
-    );
-    assert_eq!(rt;
-        refusal(alloc, &plain, FileKind::Chained)?,
-        Some(TableFault::Magic)
-    );
+    let given = refusal(alloc, &plain, FileKind::Chained)?;
+    assert_eq!(rt; given, Some(TableFault::Magic));
+    Ok(())
+}
+
+#[test]
+fn a_file_made_by_hand_is_opened(rt: HostRuntime) -> Result<(), Fail> {
+    let alloc = rt.alloc();
+    let file = rook_file(alloc, b"FREEZER2", 73, 8)?;
+    assert_eq!(rt; file.len(), 153);
+    let mut store = store_with(alloc, &file, Vec::new(alloc))?;
+    let table = open_table(alloc, &mut store, "A.t")?;
+    assert_eq!(rt; table.name(), "A.t");
+    assert_eq!(rt; table.kind(), FileKind::Plain);
+    assert_eq!(rt; table.text(), ROOK.as_bytes());
+    assert_eq!(rt; table.rules().groups.len(), 3);
+    assert_eq!(rt; table.set().size(), 8);
+    assert_eq!(rt; store.asked(), 16 + 73);
+    Ok(())
+}
+
+/// The code of the side at this number of a table of eight, and how many bytes were asked for.
+fn entry_of(alloc: Global, file: &[u8], side: Colour, i: u32) -> Result<(u32, u64), Fail> {
+    let mut store = store_with(alloc, file, Vec::new(alloc))?;
+    let table = open_table(alloc, &mut store, "A.t")?;
+    if i >= table.set().size() {
+        return Err(Fail::from("number"));
+    }
+    let code = table.entry(&mut store, side, i)?;
+    Ok((code, store.asked()))
+}
+
+#[test]
+fn entries_are_read_in_their_places(rt: HostRuntime) -> Result<(), Fail> {
+    let alloc = rt.alloc();
+    let file = rook_file(alloc, b"FREEZER2", 73, 8)?;
+    for (side, i, code) in [
+        (Colour::White, 0, 4),
+        (Colour::White, 7, 2),
+        (Colour::Black, 0, 5),
+        (Colour::Black, 7, 3),
+    ] {
+        let given = entry_of(alloc, &file, side, i)?;
+        assert_eq!(rt; given, (code, 16 + 73 + 4));
+    }
+    Ok(())
+}
+
+#[test]
+fn a_file_made_by_hand_is_loaded(rt: HostRuntime) -> Result<(), Fail> {
+    let alloc = rt.alloc();
+    let file = rook_file(alloc, b"FREEZER2", 73, 8)?;
+    let mut store = store_with(alloc, &file, Vec::new(alloc))?;
+    let table = open_table(alloc, &mut store, "A.t")?;
+    let (white, black) = table.load(alloc, &mut store)?;
+    assert_eq!(rt; white.as_slice(), WHITE.as_slice());
+    assert_eq!(rt; black.as_slice(), BLACK.as_slice());
+    assert_eq!(rt; store.asked(), 16 + 73 + 64);
+    Ok(())
+}
+
+/// The length that is due of a rook's file when so many bytes of it are left.
+fn due_of(left: usize) -> u64 {
+    match left {
+        0..=15 => 16,
+        16..=88 => 89,
+        _ => 153,
+    }
+}
+
+#[test]
+fn files_that_are_cut_are_refused(rt: HostRuntime) -> Result<(), Fail> {
+    let alloc = rt.alloc();
+    let file = rook_file(alloc, b"FREEZER2", 73, 8)?;
+    for left in 0..153 {
+        let front = file.get(..left).ok_or("front")?;
+        let given = refusal(alloc, front, FileKind::Plain)?;
+        let cut = TableFault::Truncated(left as u64, due_of(left));
+        assert_eq!(rt; given, Some(cut), "{left}");
+    }
+    Ok(())
+}
+
+#[test]
+fn files_that_go_on_are_refused(rt: HostRuntime) -> Result<(), Fail> {
+    let alloc = rt.alloc();
+    let mut file = rook_file(alloc, b"FREEZER2", 73, 8)?;
+    file.push(0)?;
+    let given = refusal(alloc, &file, FileKind::Plain)?;
+    assert_eq!(rt; given, Some(TableFault::Extra(154, 153)));
     Ok(())
 }
 
@@ -211,26 +260,29 @@ fn read_all(alloc: Global, store: &mut MemStore) -> Result<(), TableFault> {
     Ok(())
 }
 
+/// What comes of it where this call fails.
+fn read_failing(alloc: Global, file: &[u8], nth: u64) -> Result<Result<(), TableFault>, Fail> {
+    let fails = vec![in alloc;
+        Failing {
+            on: FailOn::Call,
+            nth,
+            keep: 0
+        },
+    ]?;
+    let mut store = store_with(alloc, file, fails)?;
+    Ok(read_all(alloc, &mut store))
+}
+
 #[test]
 fn each_failing_call_is_told(rt: HostRuntime) -> Result<(), Fail> {
     let alloc = rt.alloc();
     let file = rook_file(alloc, b"FREEZER2", 73, 8)?;
-    for nth in 1..=9 {
-        let fails = vec![in alloc;
-            Failing {
-                on: FailOn::Call,
-                nth,
-                keep: 0
-            },
-        ]?;
-        let mut store = store_with(alloc, &file, fails)?;
-        let given = read_all(alloc, &mut store);
-        if nth < 9 {
-            assert_eq!(rt; given, Err(TableFault::Failed), "{nth}");
-        } else {
-            assert_eq!(rt; given, Ok(()));
-        }
+    for nth in 1..9 {
+        let given = read_failing(alloc, &file, nth)?;
+        assert_eq!(rt; given, Err(TableFault::Failed), "{nth}");
     }
+    let given = read_failing(alloc, &file, 9)?;
+    assert_eq!(rt; given, Ok(()));
     Ok(())
 }
 
@@ -247,12 +299,36 @@ fn write_all(store: &mut MemStore) -> Result<(), StoreFault> {
 }
 
 #[test]
-fn what_is_written_is_the_file_or_a_front_of_it(rt: HostRuntime) -> Result<(), Fail> {
+fn what_is_written_is_the_file(rt: HostRuntime) -> Result<(), Fail> {
     let alloc = rt.alloc();
     let file = rook_file(alloc, b"FREEZER2", 73, 8)?;
-    let mut whole = MemStore::new(alloc, Vec::new(alloc));
-    assert!(rt; write_all(&mut whole) == Ok(()));
-    assert_eq!(rt; whole.file("A.t"), Some(file.as_slice()));
+    let mut store = MemStore::new(alloc, Vec::new(alloc));
+    let written = write_all(&mut store);
+    assert_eq!(rt; written, Ok(()));
+    assert_eq!(rt; store.file("A.t"), Some(file.as_slice()));
+    Ok(())
+}
+
+/// Writes where this append fails and keeps so many bytes, and gives what the name holds then.
+fn write_failing(alloc: Global, nth: u64, keep: u64) -> Result<Vec<u8>, Fail> {
+    let fails = vec![in alloc;
+        Failing {
+            on: FailOn::Append,
+            nth,
+            keep
+        },
+    ]?;
+    let mut store = MemStore::new(alloc, fails);
+    match write_all(&mut store) {
+        Err(StoreFault::Failed) => Ok(store.file("A.t").ok_or("file")?.to_vec(alloc)?),
+        _ => Err(Fail::from("written")),
+    }
+}
+
+#[test]
+fn what_is_written_before_a_fault_is_a_front_of_the_file(rt: HostRuntime) -> Result<(), Fail> {
+    let alloc = rt.alloc();
+    let file = rook_file(alloc, b"FREEZER2", 73, 8)?;
     for (nth, keep, left) in [
         (1, 0, 0),
         (1, 11, 11),
@@ -261,16 +337,8 @@ fn what_is_written_is_the_file_or_a_front_of_it(rt: HostRuntime) -> Result<(), F
         (5, 31, 152),
         (5, 32, 153),
     ] {
-        let fails = vec![in alloc;
-            Failing {
-                on: FailOn::Append,
-                nth,
-                keep
-            },
-        ]?;
-        let mut store = MemStore::new(alloc, fails);
-        assert!(rt; write_all(&mut store) == Err(StoreFault::Failed), "{nth}");
-        assert!(rt; store.file("A.t") == file.get(..left), "{nth}");
+        let written = write_failing(alloc, nth, keep)?;
+        assert_eq!(rt; Some(written.as_slice()), file.get(..left), "{nth}");
     }
     Ok(())
 }
@@ -377,18 +445,38 @@ fn a_file_of_the_former_format_is_read(rt: HostRuntime) -> Result<(), Fail> {
     Ok(())
 }
 
+/// A file of the former format with this magic and size, and why it is refused as one.
+struct OldAltered<'a>(&'a [u8], u32, TableFault);
+
+const OLD_ALTERED: &[OldAltered] = &[
+    OldAltered(b"FREEZER2", 36, TableFault::Magic),
+    OldAltered(b"FREEZER1", 16, TableFault::Size(16, 36)),
+];
+
 #[test]
-fn files_of_the_former_format_are_refused(rt: HostRuntime) -> Result<(), Fail> {
+fn altered_files_of_the_former_format_are_refused(rt: HostRuntime) -> Result<(), Fail> {
     let alloc = rt.alloc();
-    let mut file = old_file(alloc, b"FREEZER1", 36)?;
+    for OldAltered(magic, kept, fault) in OLD_ALTERED {
+        let file = old_file(alloc, magic, *kept)?;
+        let given = old_refusal(alloc, &file)?;
+        assert_eq!(rt; given, Some(*fault));
+    }
+    Ok(())
+}
+
+#[test]
+fn the_former_format_is_no_plain_table(rt: HostRuntime) -> Result<(), Fail> {
+    let alloc = rt.alloc();
+    let file = old_file(alloc, b"FREEZER1", 36)?;
     let given = refusal(alloc, &file, FileKind::Plain)?;
     assert_eq!(rt; given, Some(TableFault::Magic));
-    let present = old_file(alloc, b"FREEZER2", 36)?;
-    let given = old_refusal(alloc, &present)?;
-    assert_eq!(rt; given, Some(TableFault::Magic));
-    let small = old_file(alloc, b"FREEZER1", 16)?;
-    let given = old_refusal(alloc, &small)?;
-    assert_eq!(rt; given, Some(TableFault::Size(16, 36)));
+    Ok(())
+}
+
+#[test]
+fn files_of_the_former_format_that_go_on_are_refused(rt: HostRuntime) -> Result<(), Fail> {
+    let alloc = rt.alloc();
+    let mut file = old_file(alloc, b"FREEZER1", 36)?;
     file.push(0)?;
     let given = old_refusal(alloc, &file)?;
     assert_eq!(rt; given, Some(TableFault::Extra(380, 379)));
