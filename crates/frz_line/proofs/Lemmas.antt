@@ -2,4 +2,5 @@
 pub use Rattle.frz_line.proofs.Choices.{found_at, found_code}
 pub use Rattle.frz_line.proofs.Goings.{GoesTo, moves_on, over_here, seen_by_codes, stage_due, stage_told}
 pub use Rattle.frz_line.proofs.Seen.{move_there, next_code_is}
+pub use Rattle.frz_line.proofs.Turned.{unfinished}
 pub use Rattle.frz_line.proofs.Turning.{PlyDue, never_failing, ply_due, still_early}

@@ -22,12 +22,13 @@ use Rattle.frz_line.specs.declared.end.LineEnd.{LineEnd}
 use Rattle.frz_line.specs.declared.end.LineFault.{LineFault}
 use Rattle.frz_line.specs.declared.end.LineFault.TheVariants as faults
 use Rattle.frz_line.specs.BestLine.{TellsLine}
-use Rattle.frz_line.specs.Ends.{told, Finishes}
+use Rattle.frz_line.specs.Ends.{told, IsUnfinished, Finishes}
 use Rattle.frz_line.specs.Faults.{WroteBy, fault_of}
 use Rattle.frz_line.specs.Kept.{kept_codes}
 use Rattle.frz_line.specs.Lines.{GoesOn}
-use Rattle.frz_line.specs.Texts.{line_text}
+use Rattle.frz_line.specs.Texts.{start_line, line_text}
 use Rattle.frz_line.specs.Turns.{Plays}
+use Rattle.frz_line.proofs.Turned.{unfinished}
 
 every : {A : Type 0} (o : Option A) (P : A → Type 0) → ((x : A) → P x) → IfSome o P
 every None P f = tt
@@ -52,19 +53,21 @@ nothing_told told_codes rules side p out before none = (
   every told_codes (λ codes. TellsLine rules side codes p [] (Err faults.Outside) before before) (λ codes member plies end w. absurd (none member)),
 )
 
-whole_left : (rules : RuleLines) (side : Colour) (codes : List ℕ) (p : Board) (result : Result LineEnd LineFault) (before now : ℕ) → now ≤ before + 4 → ((answer : Result LineEnd LineFault) (rest : List ℕ) → Finishes result answer rest) → TellsLine rules side codes p [] result before now
-whole_left rules side codes p result before now l free = λ member plies end w.
-    let text = line_text side (slice_index codes (Num rules.groups p)) plies (told side end) in
-    (text, refl, free (told side end) text, omega (arith, l))
+-- nothing was written of the line
+whole_left : (rules : RuleLines) (side : Colour) (codes : List ℕ) (p : Board) (result : Result LineEnd LineFault) (before now : ℕ) → now ≤ before + 4 → ((answer : Result LineEnd LineFault) (rest : List ℕ) → IsUnfinished answer rest → Finishes result answer rest) → TellsLine rules side codes p [] result before now
+whole_left rules side codes p result before now l stops = λ member plies end w.
+    let code : ℕ = slice_index codes (Num rules.groups p) in
+    let text = line_text side code plies (told side end) in
+    (text, refl, stops (told side end) text (unfinished (start_line side code plies (told side end)) plies (told side end)), omega (arith, l))
 
 -- the code of the start was not read
 unread : (told_codes : Option (List ℕ)) (rules : RuleLines) (side : Colour) (p : Board) (out : SinkTold) (before now : ℕ) → now ≤ before + 4 → (fault : StoreFault) (f : LineFault) → f ≡ fault_of fault → WroteLine told_codes rules side p (Err f) out out before now
 unread told_codes rules side p out before now l Failed f e =
     subst (λ (z : LineFault). WroteLine told_codes rules side p (Err z) out out before now) (sym e)
-    ([], inl refl, took_nothing out, every told_codes (λ codes. TellsLine rules side codes p [] (Err faults.Store) before now) (λ codes. whole_left rules side codes p (Err faults.Store) before now l (λ answer rest. tt)))
+    ([], inl refl, took_nothing out, every told_codes (λ codes. TellsLine rules side codes p [] (Err faults.Store) before now) (λ codes. whole_left rules side codes p (Err faults.Store) before now l (λ answer rest left. left)))
 unread told_codes rules side p out before now l NoMemory f e =
     subst (λ (z : LineFault). WroteLine told_codes rules side p (Err z) out out before now) (sym e)
-    ([], inl refl, took_nothing out, every told_codes (λ codes. TellsLine rules side codes p [] (Err faults.NoMemory) before now) (λ codes. whole_left rules side codes p (Err faults.NoMemory) before now l (λ answer rest. tt)))
+    ([], inl refl, took_nothing out, every told_codes (λ codes. TellsLine rules side codes p [] (Err faults.NoMemory) before now) (λ codes. whole_left rules side codes p (Err faults.NoMemory) before now l (λ answer rest left. left)))
 
 pub start_unread : (told_codes : Option (List ℕ)) (rules : RuleLines) (side : Colour) (p : Board) (out : SinkTold) (before now : ℕ) → now ≤ before + 4 → (fault : StoreFault) (result : Result LineEnd LineFault) → IsErrAnd result (λ e. e ≡ fault_of fault) → WroteLine told_codes rules side p result out out before now
 start_unread told_codes rules side p out before now l fault (Ok end) h = absurd h

@@ -46,11 +46,11 @@ use Rattle.frz_line.specs.declared.playing.Spot.{Spot}
 use Rattle.frz_line.specs.declared.playing.Turn.{Turn}
 use Rattle.frz_line.specs.declared.playing.Turn.TheVariants.{Over, On}
 use Rattle.frz_line.specs.Dues.{due_by}
-use Rattle.frz_line.specs.Ends.{told, Finishes}
+use Rattle.frz_line.specs.Ends.{told, IsUnfinished, Finishes}
 use Rattle.frz_line.specs.Faults.{WroteBy, fault_of}
 use Rattle.frz_line.specs.Lines.{LinePly, EndOfLine, line_player}
 use Rattle.frz_line.specs.Sights.{choices_by, IsNextCode}
-use Rattle.frz_line.specs.Texts.{end_line, exit_line, move_line, value_text, plies_text, last_line}
+use Rattle.frz_line.specs.Texts.{end_line, exit_line, move_line, value_text, plies_text, start_line, last_line}
 use Rattle.frz_line.specs.Turns.{first_line, next_line, moved_text, over_text, turn_of, Answers, IsPlayed, TurnsTo, rest_text, Leaves, GoesBy}
 use Rattle.frz_line.proofs.Choices.{found_at}
 use Rattle.frz_line.proofs.Goings.{stage_told, stage_due, seen_by_codes, over_here, moves_on}
@@ -78,6 +78,22 @@ ends_move m (Outside v) = ends_behind (move_line m) (exit_line v) (ends_end (end
 
 as_lines : (text : List ℕ) → EndsLine text → IsLines text
 as_lines text e = inr (e.front, e.is)
+
+not_empty : (front : List ℕ) → front ++ 10 ∷ [] ≡ [] → ⊥
+not_empty [] e = cc
+not_empty (x ∷ front) e = cc
+
+-- what ends with the line of the end is not empty
+pub unfinished : (first : List ℕ) (plies : List LinePly) (answer : Result LineEnd LineFault) → IsUnfinished answer (first ++ (plies_text plies ++ last_line answer))
+unfinished first plies (Ok end) = λ e.
+    let ends = ends_behind first (plies_text plies ++ end_line end) (ends_behind (plies_text plies) (end_line end) (ends_end end)) in
+    not_empty ends.front (sym ends.is ∙ e)
+unfinished first plies (Err fault) = tt
+
+-- the store stopped the line before its end
+rest_unfinished : (side : Colour) (spot : Spot) (plies : List LinePly) (answer : Result LineEnd LineFault) → IsUnfinished answer (rest_text side spot plies answer)
+rest_unfinished side spot plies answer =
+    unfinished (if spot.played == 0 then start_line side spot.code plies answer else []) plies answer
 
 by_answers : (turn : Turn) (text : List ℕ) (result : Result Turn LineFault) (old new : SinkTold) → Answers turn text result old new → WroteBy result text old new
 by_answers turn text result old new (inl a) =
@@ -290,12 +306,12 @@ stopped_before told_codes arena side spot fault result out (inl s) e =
     let r : result ≡ Err faults.Store = e ∙ ap Err s in
     stop_wrote told_codes arena side spot result out out faults.Store (took_nothing out) r
     (all_of told_codes (λ kept. GoesBy arena side kept spot [] result) (λ kept agrees plies end w.
-    (rest_text side spot plies (told side end), refl, subst (λ (z : Result Turn LineFault). Leaves arena side kept spot plies end (rest_text side spot plies (told side end)) z) (sym r) tt)))
+    (rest_text side spot plies (told side end), refl, subst (λ (z : Result Turn LineFault). Leaves arena side kept spot plies end (rest_text side spot plies (told side end)) z) (sym r) (rest_unfinished side spot plies (told side end)))))
 stopped_before told_codes arena side spot fault result out (inr s) e =
     let r : result ≡ Err faults.NoMemory = e ∙ ap Err s in
     stop_wrote told_codes arena side spot result out out faults.NoMemory (took_nothing out) r
     (all_of told_codes (λ kept. GoesBy arena side kept spot [] result) (λ kept agrees plies end w.
-    (rest_text side spot plies (told side end), refl, subst (λ (z : Result Turn LineFault). Leaves arena side kept spot plies end (rest_text side spot plies (told side end)) z) (sym r) tt)))
+    (rest_text side spot plies (told side end), refl, subst (λ (z : Result Turn LineFault). Leaves arena side kept spot plies end (rest_text side spot plies (told side end)) z) (sym r) (rest_unfinished side spot plies (told side end)))))
 
 pub stopped_by : (told_codes : Option (List ℕ)) (arena : Arena Step ℕ Value) (side : Colour) (spot : Spot) (fault : StoreFault) (result : Result Turn LineFault) (out : SinkTold) → IsErrAnd result (λ e. e ≡ fault_of fault) → (text : List ℕ) × IsLines text × WroteBy result text out out × IfSome told_codes (λ kept. GoesBy arena side kept spot text result)
 stopped_by told_codes arena side spot fault (Ok turn) out h = absurd h

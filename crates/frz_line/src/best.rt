@@ -34,6 +34,8 @@ pub fn best_line<S: Store, O: Sink, L: Ledger>(
     requires valid { IsValid p.now }
     requires carried { Carries (S.files store.old) table.now }
     ensures outside { (result ≡ Err LineFault.Outside) ↔ (Member table.now.rules.groups p.now → ⊥) }
+    ensures untouched { result ≡ Err LineFault.Outside
+        → (store.new ≡ store.old) × (out.new ≡ out.old) }
     ensures wrote { (text : List ℕ) × IsLines text
         × WroteBy result text (sink_of O.Sink out.old) (sink_of O.Sink out.new)
         × IfSome (kept_codes table.now side (S.files store.old))

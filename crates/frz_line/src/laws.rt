@@ -1,14 +1,15 @@
 //! What holds of lines, each law the contract of a function that does nothing.
-ghost use Rattle.std.specs.Prelude.{◌≡◌, ◌+◌, ◌*◌, ℕ, List, length, slice_index};
+ghost use Rattle.std.specs.Prelude.{◌≡◌, ◌≤◌, ◌+◌, ◌*◌, ℕ, List, length, slice_index};
 ghost use Rattle.frz_board.specs.declared.man.Colour.{Colour};
 ghost use Rattle.frz_board.specs.Boards.{Board};
 ghost use Rattle.frz_sets.specs.declared.exit.Value.{Value};
 ghost use Rattle.frz_sets.specs.Views.{RuleLines};
-ghost use Rattle.frz_arena.specs.WayEnds.{Wrong, Mated, Exit, EndsWon, EndsDrawn};
+ghost use Rattle.frz_arena.specs.WayEnds.{Wrong, Mated, Exit, Cut, EndsWon, EndsDrawn};
 ghost use Rattle.frz_exits.specs.Values.{lag_of};
 ghost use Rattle.frz_game.specs.Bounds.{IsTableOf};
 ghost use Rattle.frz_game.specs.Games.{graph_by};
 ghost use Rattle.frz_index.specs.Members.{Member, Num};
+ghost use Rattle.frz_line.specs.declared.end.TheConstants.{MOST_PLIES};
 ghost use Rattle.frz_line.specs.Lines.{LinePly, EndOfLine, IsLine};
 
 use frz_arena::laws::lines::{holds_in_lines, lines_end, wins_in_lines};
@@ -56,12 +57,20 @@ pub fn least_plies()
 }
 
 /// From the kept code of a hold nobody is mated in a line, and an exit holds for the side and no
-/// more.
+/// more. It has at most the most plies, and so many where it is cut.
 pub fn holds_are_drawn()
-    ensures { (rules : RuleLines) (value : Board → Value)
+    ensures drawn { (rules : RuleLines) (value : Board → Value)
         (side : Colour) (codes : List ℕ) (start : ℕ)
         (plies : List LinePly) (end : EndOfLine) → slice_index codes start ≡ 1 →
         IsLine rules value side codes start plies end → EndsDrawn (graph_by rules value) side end }
+    ensures few { (rules : RuleLines) (value : Board → Value)
+        (side : Colour) (codes : List ℕ) (start : ℕ)
+        (plies : List LinePly) (end : EndOfLine) → slice_index codes start ≡ 1 →
+        IsLine rules value side codes start plies end → length plies ≤ MOST_PLIES }
+    ensures cut { (rules : RuleLines) (value : Board → Value)
+        (side : Colour) (codes : List ℕ) (start : ℕ)
+        (plies : List LinePly) → slice_index codes start ≡ 1 →
+        IsLine rules value side codes start plies Cut → length plies ≡ MOST_PLIES }
 {
     holds_in_lines::<Move, u32, ExitValue, (), Infallible>();
 }
