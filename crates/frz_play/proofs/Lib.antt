@@ -1,0 +1,14 @@
+mod Taking
+mod Reading
+mod Heard
+mod Goings
+mod Chosen
+mod Turned
+mod Faulted
+mod Turning
+mod Written
+mod Played
+mod Settled
+mod Alternating
+mod Starting
+mod Ending

@@ -1,0 +1,185 @@
+-- A session as far as it was played.
+use Rattle.std.proofs.Common.{◌≡◌, ◌≤◌, ◌+◌, ◌*◌, ◌==◌, ◌++◌, ℕ, suc, inl, true, false, List, [], Option, Some, None, length, refl, sym, subst, ap, ◌∙◌, arith, Result, Ok, Err, IfSome, append_assoc}
+use Rattle.std.specs.Prelude.{slice_index}
+use Rattle.std.specs.Result.{IsErrAnd}
+use Rattle.std.proofs.lemmas.Bool.Decides.{nat_tests}
+use Rattle.frz_board.specs.declared.man.Colour.{Colour}
+use Rattle.frz_board.specs.Moving.{Step}
+use Rattle.frz_sets.specs.declared.exit.Value.{Value}
+use Rattle.frz_store.specs.Told.{SourceTold, SinkTold, StoreTold, StoreQuiet, StoreFine}
+use Rattle.frz_answer.specs.Answers.{IsLines}
+use Rattle.frz_answer.specs.Texts.{TookText}
+use Rattle.frz_answer.proofs.Lemmas.{took_nothing, took_behind}
+use Rattle.frz_arena.specs.Arena.{Arena}
+use Rattle.frz_line.specs.declared.reading.TheConstants.{MOST_ASKED}
+use Rattle.frz_play.specs.declared.end.SessionEnd.{SessionEnd}
+use Rattle.frz_play.specs.declared.end.PlayFault.{PlayFault}
+use Rattle.frz_play.specs.declared.end.TheConstants.{MOST_LINES}
+use Rattle.frz_play.specs.declared.hearing.Reader.{Reader}
+use Rattle.frz_play.specs.declared.playing.Spot.{Spot}
+use Rattle.frz_play.specs.declared.playing.Turn.{Turn}
+use Rattle.frz_play.specs.declared.playing.Turn.TheVariants.{On}
+use Rattle.frz_play.specs.Ends.{Finishes}
+use Rattle.frz_play.specs.Faults.{WroteBy, TookBytes}
+use Rattle.frz_play.specs.Hearing.{HasEnded, MayFollow, StaysEnded}
+use Rattle.frz_play.specs.Reading.{Input, opened}
+use Rattle.frz_play.specs.Sessions.{SessionPly, EndOfSession, GoesOn}
+use Rattle.frz_play.specs.Texts.{session_text}
+use Rattle.frz_play.specs.Turns.{rest_text, Leaves, GoesBy, Plays}
+use Rattle.frz_play.proofs.Taking.{took_none, took_on, held_whole, some_rest}
+use Rattle.frz_play.proofs.Turned.{turn_over}
+use Rattle.frz_play.proofs.Written.{lines_behind, wrote_after, same_wrote, both}
+
+-- what is left of a session from the start, behind the text that was written
+pub record IsLeft (arena : Arena Step ℕ Value) (side : Colour) (kept : List ℕ) (code : ℕ) (spot : Spot) (input : Input) (played : ℕ) (text : List ℕ) (plies : List SessionPly) (end : EndOfSession) (last : Input) : Type 0 where
+  pub agrees : slice_index kept spot.number ≡ spot.code
+  pub others : List SessionPly
+  pub way : GoesOn arena side kept played input spot.number others end last
+  pub is : text ++ rest_text side spot others end ≡ session_text side code plies end
+  pub many : played + length others ≡ length plies
+
+-- each session from the start against these bytes comes by here
+abbrev pub ComeBy : Arena Step ℕ Value → Colour → List ℕ → (start code : ℕ) → Spot → Reader → (played : ℕ) → (bytes text : List ℕ) → Type 0
+ComeBy arena side kept start code spot reader played bytes text =
+    slice_index kept start ≡ code → (left : List ℕ) → MayFollow reader left →
+    (plies : List SessionPly) (end : EndOfSession) (last : Input) →
+    GoesOn arena side kept 0 (opened (bytes ++ left)) start plies end last →
+    IsLeft arena side kept code spot (record { left = left; more = reader.more }) played text plies end last
+
+pub record SoFar (told : Option (List ℕ)) (arena : Arena Step ℕ Value) (side : Colour) (start code : ℕ) (spot : Spot) (reader : Reader) (source left : SourceTold) (out taken : SinkTold) (before now : ℕ) : Type 0 where
+  pub text : List ℕ
+  pub bytes : List ℕ
+  pub lines : IsLines text
+  pub wrote : TookText text out taken
+  pub took : TookBytes bytes source left
+  pub played : ℕ
+  pub count : (played == 0) ≡ spot.is_start
+  pub asked : now ≤ before + MOST_ASKED * played
+  pub comes : IfSome told (λ kept. ComeBy arena side kept start code spot reader played bytes text)
+
+every : {A : Type 0} (o : Option A) (P : A → Type 0) → ((x : A) → P x) → IfSome o P
+every None P f = tt
+every (Some x) P f = f x
+
+pub at_start : (told : Option (List ℕ)) (arena : Arena Step ℕ Value) (side : Colour) (start code : ℕ) (source : SourceTold) (out : SinkTold) (now : ℕ) → SoFar told arena side start code (record { number = start; code = code; is_start = true }) (record { more = MOST_LINES; ended = false }) source source out out now now
+at_start told arena side start code source out now = record {
+  text = [];
+  bytes = [];
+  lines = inl refl;
+  wrote = took_nothing out;
+  took = took_none source source refl;
+  played = 0;
+  count = refl;
+  asked = omega arith;
+  comes = every told (λ kept. ComeBy arena side kept start code (record { number = start; code = code; is_start = true }) (record { more = MOST_LINES; ended = false }) 0 [] []) (λ kept agrees left may plies end last w.
+      record { agrees = agrees; others = plies; way = w; is = refl; many = omega arith });
+}
+
+later_count : (k : ℕ) → (suc k == 0) ≡ false
+later_count k = grind (arith, nat_tests)
+
+follows_both : (old new : Reader) (bytes left : List ℕ) → StaysEnded old new bytes → MayFollow new left → MayFollow old (bytes ++ left)
+follows_both old new bytes left stays may = λ e.
+    let s = stays e in ap (λ (l : List ℕ). l ++ left) s.0 ∙ may s.1
+
+-- a ply was played
+after_ply : (arena : Arena Step ℕ Value) (side : Colour) (kept : List ℕ) (start code : ℕ) (spot : Spot) (old new : Reader) (played number read : ℕ) (bytes more text next : List ℕ) → (played == 0) ≡ spot.is_start → StaysEnded old new more → ComeBy arena side kept start code spot old played bytes text → GoesBy arena side kept spot old new more next (Ok (On number read)) → ComeBy arena side kept start code (record { number = number; code = read; is_start = false }) new (suc played) (bytes ++ more) (text ++ next)
+after_ply arena side kept start code spot old new played number read bytes more text next count stays comes goes = λ agrees left may plies end last w.
+    let v = subst (λ (l : List ℕ). GoesOn arena side kept 0 (opened l) start plies end last) (append_assoc bytes more left) w in
+    let l = comes agrees (more ++ left) (follows_both old new more left stays may) plies end last v in
+    let g = goes l.agrees played count left may l.others end last l.way in
+    let others = g.2.1.0 in
+    let long = g.2.1.1 in
+    let many = l.many in
+    record {
+      agrees = g.2.0;
+      others = others;
+      way = g.2.1.2;
+      is = ap (λ (z : List ℕ). (text ++ next) ++ z) (sym g.2.1.3) ∙ (append_assoc text next g.0 ∙ (ap (λ (z : List ℕ). text ++ z) g.1 ∙ l.is));
+      many = omega (arith, long, many);
+    }
+
+pub next_far : (told : Option (List ℕ)) (arena : Arena Step ℕ Value) (side : Colour) (start code : ℕ) (spot : Spot) (old new : Reader) (number read : ℕ) (source mid left : SourceTold) (out between taken : SinkTold) (before now after : ℕ) → SoFar told arena side start code spot old source mid out between before now → after ≤ now + MOST_ASKED → (next more : List ℕ) → IsLines next → TookText next between taken → TookBytes more mid left → StaysEnded old new more → IfSome told (λ kept. GoesBy arena side kept spot old new more next (Ok (On number read))) → SoFar told arena side start code (record { number = number; code = read; is_start = false }) new source left out taken before after
+next_far told arena side start code spot old new number read source mid left out between taken before now after far few next more lines wrote took stays goes = record {
+  text = far.text ++ next;
+  bytes = far.bytes ++ more;
+  lines = lines_behind far.text next far.lines lines;
+  wrote = took_behind far.text next (far.text ++ next) out between taken far.wrote refl wrote;
+  took = took_on far.bytes more source mid left far.took took;
+  played = suc far.played;
+  count = later_count far.played;
+  asked = (let a = far.asked in omega (arith, a, few));
+  comes = both told (λ kept. ComeBy arena side kept start code spot old far.played far.bytes far.text) (λ kept. GoesBy arena side kept spot old new more next (Ok (On number read))) (λ kept. ComeBy arena side kept start code (record { number = number; code = read; is_start = false }) new (suc far.played) (far.bytes ++ more) (far.text ++ next)) (λ kept c g.
+      after_ply arena side kept start code spot old new far.played number read far.bytes more far.text next far.count stays c g) far.comes goes;
+}
+
+left_over : (arena : Arena Step ℕ Value) (side : Colour) (kept : List ℕ) (played : ℕ) (left : Input) (plies : List SessionPly) (end : EndOfSession) (last : Input) (rest : List ℕ) (answer : Result SessionEnd PlayFault) → Leaves arena side kept played left plies end last rest (turn_over answer) → (unread : List ℕ) × (unread ++ last.left ≡ left.left) × Finishes answer side end rest unread
+left_over arena side kept played left plies end last rest (Ok answer) h = h
+left_over arena side kept played left plies end last rest (Err fault) h = h
+
+-- the last turn
+played_out : (arena : Arena Step ℕ Value) (side : Colour) (kept : List ℕ) (start code : ℕ) (spot : Spot) (old new : Reader) (played : ℕ) (bytes more text next : List ℕ) (answer : Result SessionEnd PlayFault) (before now after : ℕ) (source left : SourceTold) → (played == 0) ≡ spot.is_start → now ≤ before + MOST_ASKED * played → after ≤ now + MOST_ASKED → StaysEnded old new more → TookBytes (bytes ++ more) source left → (new.ended ≡ true → HasEnded left) → ComeBy arena side kept start code spot old played bytes text → GoesBy arena side kept spot old new more next (turn_over answer) → Plays arena side kept start code source (bytes ++ more) (text ++ next) answer before after
+played_out arena side kept start code spot old new played bytes more text next answer before now after source left count b n stays took has comes goes =
+    let r = some_rest left (new.ended ≡ true) has in
+    let rest = r.0 in (
+      (bytes ++ more) ++ rest,
+      held_whole (bytes ++ more) source left took rest r.1,
+      λ agrees plies end last w.
+          let v = subst (λ (l : List ℕ). GoesOn arena side kept 0 (opened l) start plies end last) (append_assoc bytes more rest) w in
+          let l = comes agrees (more ++ rest) (follows_both old new more rest stays r.2) plies end last v in
+          let g = goes l.agrees played count rest r.2 l.others end last l.way in
+          let o = left_over arena side kept played (record { left = rest; more = new.more }) l.others end last g.0 answer g.2 in
+          let many = l.many in
+          let asked : after ≤ before + MOST_ASKED * (length plies + 1) = omega (arith, b, n, many) in (
+            record {
+              rest = g.0;
+              unread = o.0;
+              begins = append_assoc text next g.0 ∙ (ap (λ (z : List ℕ). text ++ z) g.1 ∙ l.is);
+              takes = ap (λ (z : List ℕ). (bytes ++ more) ++ z) o.1;
+              finishes = o.2;
+            },
+            asked,
+          ),
+    )
+
+-- what a session wrote and took
+abbrev pub SessionWrote : Option (List ℕ) → Arena Step ℕ Value → Colour → (start code : ℕ) → Result SessionEnd PlayFault → (source left : SourceTold) → (out taken : SinkTold) → (before now : ℕ) → Type 0
+SessionWrote told arena side start code result source left out taken before now =
+    (text bytes : List ℕ) × IsLines text × WroteBy result text out taken × TookBytes bytes source left
+    × IfSome told (λ kept. Plays arena side kept start code source bytes text result before now)
+
+over_wrote : (answer : Result SessionEnd PlayFault) (text : List ℕ) (old new : SinkTold) → WroteBy (turn_over answer) text old new → WroteBy answer text old new
+over_wrote (Ok answer) text old new w = w
+over_wrote (Err fault) text old new w = same_wrote Turn SessionEnd fault text old new w
+
+pub last_far : (told : Option (List ℕ)) (arena : Arena Step ℕ Value) (side : Colour) (start code : ℕ) (spot : Spot) (old new : Reader) (source mid left : SourceTold) (out between taken : SinkTold) (before now after : ℕ) → SoFar told arena side start code spot old source mid out between before now → after ≤ now + MOST_ASKED → (new.ended ≡ true → HasEnded left) → (answer : Result SessionEnd PlayFault) (next more : List ℕ) → IsLines next → WroteBy (turn_over answer) next between taken → TookBytes more mid left → StaysEnded old new more → IfSome told (λ kept. GoesBy arena side kept spot old new more next (turn_over answer)) → SessionWrote told arena side start code answer source left out taken before after
+last_far told arena side start code spot old new source mid left out between taken before now after far few has answer next more lines wrote took stays goes =
+    let all = took_on far.bytes more source mid left far.took took in (
+      far.text ++ next,
+      far.bytes ++ more,
+      lines_behind far.text next far.lines lines,
+      wrote_after far.text next answer out between taken far.wrote (over_wrote answer next between taken wrote),
+      all,
+      both told (λ kept. ComeBy arena side kept start code spot old far.played far.bytes far.text) (λ kept. GoesBy arena side kept spot old new more next (turn_over answer)) (λ kept. Plays arena side kept start code source (far.bytes ++ more) (far.text ++ next) answer before after) (λ kept c g.
+          played_out arena side kept start code spot old new far.played far.bytes more far.text next answer before now after source left far.count far.asked few stays all has c g) far.comes goes,
+    )
+
+pub fault_wrote : (told : Option (List ℕ)) (arena : Arena Step ℕ Value) (side : Colour) (start code : ℕ) (source left : SourceTold) (out taken : SinkTold) (before now : ℕ) (fault : PlayFault) (result : Result SessionEnd PlayFault) → IsErrAnd result (λ e. e ≡ fault) → SessionWrote told arena side start code (Err fault) source left out taken before now → SessionWrote told arena side start code result source left out taken before now
+fault_wrote told arena side start code source left out taken before now fault (Ok end) h w = absurd h
+fault_wrote told arena side start code source left out taken before now fault (Err e) h w =
+    subst (λ (f : PlayFault). SessionWrote told arena side start code (Err f) source left out taken before now) (sym h) w
+
+-- the store was called twice
+pub quiet_behind : (old mid new : StoreTold) → StoreQuiet old mid → StoreQuiet mid new → StoreQuiet old new
+quiet_behind old mid new a b = record {
+  unwritten = record { files = b.unwritten.files ∙ a.unwritten.files; last = b.unwritten.last ∙ a.unwritten.last; room = b.unwritten.room ∙ a.unwritten.room };
+  later = record {
+    asked = (let x = a.later.asked in let y = b.later.asked in omega arith);
+    calls = (let x = a.later.calls in let y = b.later.calls in omega arith);
+    faults = (let x = a.later.faults in let y = b.later.faults in omega arith);
+    wants = (let x = a.later.wants in let y = b.later.wants in omega arith);
+  };
+}
+
+pub fine_behind : (old mid new : StoreTold) → StoreFine old mid → StoreFine mid new → StoreFine old new
+fine_behind old mid new a b = record { faults = b.faults ∙ a.faults; wants = b.wants ∙ a.wants }

@@ -1,0 +1,128 @@
+-- A session from the number of a position.
+use Rattle.std.proofs.Common.{◌≡◌, ◌≤◌, ◌+◌, ◌*◌, length, ℕ, inl, List, [], Option, Some, None, IfSome, Result, Ok, Err, refl, sym, subst, ap, ◌∙◌, arith}
+use Rattle.std.specs.Prelude.{slice_get, slice_index}
+use Rattle.std.specs.Option.{option_map}
+use Rattle.std.specs.Result.{IsErrAnd}
+use Rattle.std.proofs.lemmas.Option.{get_or_from_slice_get}
+use Rattle.frz_board.specs.declared.man.Colour.{Colour}
+use Rattle.frz_board.specs.Boards.{Board}
+use Rattle.frz_sets.specs.Views.{RuleLines}
+use Rattle.frz_store.specs.Files.{Files}
+use Rattle.frz_store.specs.Told.{SourceTold, SinkTold}
+use Rattle.frz_store.specs.declared.outside.StoreFault.{StoreFault}
+use Rattle.frz_store.specs.declared.outside.StoreFault.TheVariants.{Failed, NoMemory}
+use Rattle.frz_answer.specs.Answers.{IsLines}
+use Rattle.frz_answer.proofs.Lemmas.{took_nothing}
+use Rattle.frz_exits.specs.Books.{value_by}
+use Rattle.frz_game.specs.Games.{graph_by}
+use Rattle.frz_index.specs.Members.{Member, Num}
+use Rattle.frz_table.specs.Layout.{codes_at}
+use Rattle.frz_table.specs.Tables.{Table, table_size}
+use Rattle.frz_line.specs.Faults.{fault_of}
+use Rattle.frz_line.specs.declared.reading.TheConstants.{MOST_ASKED}
+use Rattle.frz_line.specs.Kept.{kept_codes}
+use Rattle.frz_line.specs.declared.end.LineFault.TheVariants as faults
+use Rattle.frz_play.specs.declared.end.SessionEnd.{SessionEnd}
+use Rattle.frz_play.specs.declared.end.PlayFault.{PlayFault}
+use Rattle.frz_play.specs.declared.end.PlayFault.TheVariants as plays
+use Rattle.frz_play.specs.Faults.{WroteBy, TookBytes, MayHold}
+use Rattle.frz_play.specs.PlaySession.{PlayedOf, TellsSession}
+use Rattle.frz_play.specs.Reading.{opened}
+use Rattle.frz_play.specs.Sessions.{GoesOn}
+use Rattle.frz_play.specs.Texts.{session_text, start_line, plies_text}
+use Rattle.frz_play.specs.Turns.{Plays}
+use Rattle.frz_play.proofs.Faulted.{IsStoreFault, short_of, short_text}
+use Rattle.frz_play.proofs.Goings.{way_front}
+use Rattle.frz_play.proofs.Taking.{took_none, some_rest}
+use Rattle.frz_play.proofs.Written.{both, store_fault}
+
+every : {A : Type 0} (o : Option A) (P : A → Type 0) → ((x : A) → P x) → IfSome o P
+every None P f = tt
+every (Some x) P f = f x
+
+-- what was written and taken of the session
+abbrev pub WroteSession : Option (List ℕ) → RuleLines → Colour → Board → Result SessionEnd PlayFault → (source left : SourceTold) → (out taken : SinkTold) → (before now : ℕ) → Type 0
+WroteSession told rules side p result source left out taken before now =
+    (text bytes : List ℕ) × IsLines text × WroteBy result text out taken × TookBytes bytes source left
+    × IfSome told (λ codes. (whole : List ℕ) × MayHold source whole × TellsSession rules side codes p whole bytes text result before now)
+
+-- a position that is not in the set
+pub nothing_told : (told : Option (List ℕ)) (rules : RuleLines) (side : Colour) (p : Board) (source : SourceTold) (out : SinkTold) (before : ℕ) → (Member rules.groups p → ⊥) → WroteSession told rules side p (Err (plays.Line faults.Outside)) source source out out before before
+nothing_told told rules side p source out before none =
+    let r = some_rest source ⊥ (λ e. absurd e) in (
+      [],
+      [],
+      inl refl,
+      took_nothing out,
+      took_none source source refl,
+      every told (λ codes. (whole : List ℕ) × MayHold source whole × TellsSession rules side codes p whole [] [] (Err (plays.Line faults.Outside)) before before) (λ codes. (r.0, r.1, λ member plies end last w. absurd (none member))),
+    )
+
+unread : (told : Option (List ℕ)) (rules : RuleLines) (side : Colour) (p : Board) (source : SourceTold) (out : SinkTold) (before now : ℕ) → now ≤ before + 4 → (fault : PlayFault) → IsStoreFault fault → WroteBy {T = SessionEnd} (Err fault) [] out out → WroteSession told rules side p (Err fault) source source out out before now
+unread told rules side p source out before now few fault is wrote =
+    let r = some_rest source ⊥ (λ e. absurd e) in (
+      [],
+      [],
+      inl refl,
+      wrote,
+      took_none source source refl,
+      every told (λ codes. (whole : List ℕ) × MayHold source whole × TellsSession rules side codes p whole [] [] (Err fault) before now) (λ codes. (
+        r.0,
+        r.1,
+        λ member plies end last w.
+            let front = way_front (graph_by rules (value_by rules)) side codes 0 (opened r.0) last (Num rules.groups p) plies end w in
+            let code = slice_index codes (Num rules.groups p) in
+            let asked : now ≤ before + (MOST_ASKED + 4) * (length plies + 1) = omega (arith, few) in (
+              record {
+                rest = session_text side code plies end;
+                unread = front.0;
+                begins = refl;
+                takes = front.1;
+                finishes = short_of fault side end (session_text side code plies end) front.0 is (short_text side end (start_line side code plies end) (plies_text side plies));
+              },
+              asked,
+            ),
+      )),
+    )
+
+store_wrote : (fault : StoreFault) (out : SinkTold) → WroteBy {T = SessionEnd} (Err (plays.Line (fault_of fault))) [] out out
+store_wrote Failed out = took_nothing out
+store_wrote NoMemory out = took_nothing out
+
+-- the code of the start was not read
+pub start_unread : (told : Option (List ℕ)) (rules : RuleLines) (side : Colour) (p : Board) (source : SourceTold) (out : SinkTold) (before now : ℕ) → now ≤ before + 4 → (fault : StoreFault) (result : Result SessionEnd PlayFault) → IsErrAnd result (λ e. e ≡ plays.Line (fault_of fault)) → WroteSession told rules side p result source source out out before now
+start_unread told rules side p source out before now few fault (Ok end) h = absurd h
+start_unread told rules side p source out before now few fault (Err f) h =
+    subst (λ (z : PlayFault). WroteSession told rules side p (Err z) source source out out before now) (sym h)
+    (unread told rules side p source out before now few (plays.Line (fault_of fault)) (store_fault fault) (store_wrote fault out))
+
+code_in : (f : List ℕ → List ℕ) (start code : ℕ) (o : Option (List ℕ)) → IfSome o (λ bytes. slice_get (f bytes) start ≡ Some code) → IfSome (option_map f o) (λ codes. slice_index codes start ≡ code)
+code_in f start code None h = tt
+code_in f start code (Some bytes) h = get_or_from_slice_get (f bytes) start code 0 h
+
+-- the code that was read is the one of the file
+pub code_kept : (table : Table) (side : Colour) (files : Option Files) (start code : ℕ) → IfSome files (λ m. IfSome (m table.name) (λ bytes. slice_get (codes_at side table.text (table_size table) bytes) start ≡ Some code)) → IfSome (kept_codes table side files) (λ codes. slice_index codes start ≡ code)
+code_kept table side None start code h = tt
+code_kept table side (Some m) start code h =
+    code_in (codes_at side table.text (table_size table)) start code (m table.name) h
+
+tells : (rules : RuleLines) (side : Colour) (codes : List ℕ) (p : Board) (source : SourceTold) (bytes text : List ℕ) (result : Result SessionEnd PlayFault) (before mid now start code : ℕ) → start ≡ Num rules.groups p → mid ≤ before + 4 → slice_index codes start ≡ code → Plays (graph_by rules (value_by rules)) side codes start code source bytes text result mid now → (whole : List ℕ) × MayHold source whole × TellsSession rules side codes p whole bytes text result before now
+tells rules side codes p source bytes text result before mid now start code is few agrees plays = (
+  plays.0,
+  plays.1,
+  λ member plies end last w.
+      let h = plays.2 agrees plies end last (subst (λ i. GoesOn (graph_by rules (value_by rules)) side codes 0 (opened plays.0) i plies end last) (sym is) w) in
+      let same : code ≡ slice_index codes (Num rules.groups p) = sym agrees ∙ ap (slice_index codes) is in
+      let asked = h.1 in
+      (subst (λ c. PlayedOf side c plays.0 bytes text result plies end last) same h.0, omega (arith, asked, few)),
+)
+
+pub session_told : (told : Option (List ℕ)) (rules : RuleLines) (side : Colour) (p : Board) (result : Result SessionEnd PlayFault) (source left : SourceTold) (out taken : SinkTold) (before mid now start code : ℕ) → start ≡ Num rules.groups p → mid ≤ before + 4 → IfSome told (λ codes. slice_index codes start ≡ code) → (text bytes : List ℕ) → IsLines text → WroteBy result text out taken → TookBytes bytes source left → IfSome told (λ codes. Plays (graph_by rules (value_by rules)) side codes start code source bytes text result mid now) → WroteSession told rules side p result source left out taken before now
+session_told told rules side p result source left out taken before mid now start code is few agrees text bytes lines wrote took plays = (
+  text,
+  bytes,
+  lines,
+  wrote,
+  took,
+  both told (λ codes. slice_index codes start ≡ code) (λ codes. Plays (graph_by rules (value_by rules)) side codes start code source bytes text result mid now) (λ codes. (whole : List ℕ) × MayHold source whole × TellsSession rules side codes p whole bytes text result before now) (λ codes. tells rules side codes p source bytes text result before mid now start code is few) agrees plays,
+)

@@ -1,0 +1,33 @@
+-- What is written and taken in the session at a position of a set.
+use Rattle.std.specs.Prelude.{◌≡◌, ◌≤◌, ◌+◌, ◌*◌, ℕ, List, ◌++◌, length, Result, slice_index}
+use Rattle.frz_board.specs.declared.man.Colour.{Colour}
+use Rattle.frz_board.specs.Boards.{Board}
+use Rattle.frz_sets.specs.Views.{RuleLines}
+use Rattle.frz_exits.specs.Books.{value_by}
+use Rattle.frz_index.specs.Members.{Member, Num}
+use Rattle.frz_line.specs.declared.reading.TheConstants.{MOST_ASKED}
+use Rattle.frz_play.specs.declared.end.SessionEnd.{SessionEnd}
+use Rattle.frz_play.specs.declared.end.PlayFault.{PlayFault}
+use Rattle.frz_play.specs.Ends.{Finishes}
+use Rattle.frz_play.specs.Reading.{Input}
+use Rattle.frz_play.specs.Sessions.{SessionPly, EndOfSession, IsSession}
+use Rattle.frz_play.specs.Texts.{session_text}
+
+-- how much of a session was played: its text begins with what was written, what it takes of the input begins with
+-- what was taken, and both are all of it at an end of its own
+pub record PlayedOf (side : Colour) (code : ℕ) (input bytes text : List ℕ) (result : Result SessionEnd PlayFault) (plies : List SessionPly) (end : EndOfSession) (left : Input) : Type 0 where
+  pub rest : List ℕ
+  pub unread : List ℕ
+  pub begins : text ++ rest ≡ session_text side code plies end
+  pub takes : bytes ++ (unread ++ left.left) ≡ input
+  pub finishes : Finishes result side end rest unread
+
+-- the text and the bytes are those of the session from the position's number against the input; the code of the start
+-- is asked for once, and at each number those of its moves
+abbrev pub TellsSession : RuleLines → Colour → List ℕ → Board → (input bytes text : List ℕ) → Result SessionEnd PlayFault → (asked_before asked_now : ℕ) → Type 0
+TellsSession rules side codes p input bytes text result asked_before asked_now =
+    Member rules.groups p →
+    (plies : List SessionPly) (end : EndOfSession) (left : Input) →
+    IsSession rules (value_by rules) side codes (Num rules.groups p) input plies end left →
+    PlayedOf side (slice_index codes (Num rules.groups p)) input bytes text result plies end left
+    × (asked_now ≤ asked_before + (MOST_ASKED + 4) * (length plies + 1))
