@@ -1,0 +1,11 @@
+mod Censuses
+mod Classing
+mod Entries
+mod Loading
+mod Looking
+mod Numbering
+mod Squeezing
+mod Sums
+mod Walking
+mod Writing
+pub mod Lemmas

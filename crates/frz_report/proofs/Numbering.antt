@@ -1,0 +1,37 @@
+-- The number of a position that may not be valid.
+use Rattle.std.proofs.Common.{◌≡◌, sym, subst, ◌∙◌, ap, ℕ, ◌<◌, List, true, false, ◌&&◌, Option, Some, None, Err}
+use Rattle.std.specs.Prelude.{IfSome, is_ok}
+use Rattle.std.specs.List.{list_all}
+use Rattle.std.proofs.lemmas.Bool.{and_parts}
+use Rattle.frz_board.specs.Boards.{Board}
+use Rattle.frz_fide.specs.Valid.{validity_of}
+use Rattle.frz_fide.specs.declared.validity.Invalid.{Invalid}
+use Rattle.frz_index.specs.Members.{Member}
+use Rattle.frz_index.specs.Membership.{are_cells, are_men_covered, is_counted, is_member, is_valid, number_of}
+use Rattle.frz_index.proofs.Lemmas.{Num_below, member_of, number_answer, number_tells, of_member}
+use Rattle.frz_sets.specs.Sets.{size_of}
+use Rattle.frz_sets.specs.Views.{GroupLine}
+
+valid_part : (gs : List GroupLine) (p : Board) → is_member gs p ≡ true → is_valid p ≡ true
+unfolding is_member
+valid_part gs p h = (and_parts (is_valid p) (are_men_covered gs p && list_all (is_counted p) gs) h).0
+
+ok_part : (p : Board) → is_valid p ≡ true → is_ok (validity_of p) ≡ true
+unfolding is_valid
+ok_part p h = (and_parts (are_cells p.cells) (is_ok (validity_of p)) h).1
+
+not_inside : (gs : List GroupLine) (q : Board) (why : Invalid) → Err why ≡ validity_of q → Member gs q → ⊥
+not_inside gs q why is member =
+    let ok : is_ok (validity_of q) ≡ true = ok_part q (valid_part gs q (of_member gs q member)) in
+    let no : false ≡ true = ap is_ok is ∙ ok in cc
+
+-- a position that is not valid has none
+pub no_number : (gs : List GroupLine) (q : Board) (why : Invalid) → Err why ≡ validity_of q → None ≡ number_of gs q
+no_number gs q why is = number_answer gs q None (λ h. (let no : false ≡ true = h in cc), λ member. absurd (not_inside gs q why is member)) tt
+
+-- a number is below the size
+pub number_below : (gs : List GroupLine) (q : Board) (o : Option ℕ) → o ≡ number_of gs q → IfSome o (λ b. b < size_of gs)
+number_below gs q None e = tt
+number_below gs q (Some b) e =
+    let tells = number_tells gs q b (sym e) in
+    subst (λ (n : ℕ). n < size_of gs) tells.1 (Num_below gs q (member_of gs q tells.0))

@@ -1,0 +1,126 @@
+-- A report that is written line by line.
+use Rattle.std.proofs.Common.{◌≡◌, refl, sym, ap, ◌∙◌, inr, ℕ, List, [], ◌∷◌, ◌++◌, length, Result, Ok, Err, append_assoc, append-nil, codes}
+use Rattle.std.specs.Prelude.{flat_map, decimal}
+use Rattle.frz_board.specs.declared.man.Colour.{Colour}
+use Rattle.frz_board.specs.Boards.{Board}
+use Rattle.frz_sets.specs.declared.exit.Value.{Value}
+use Rattle.frz_sets.specs.Sets.{size_of}
+use Rattle.frz_sets.specs.Views.{RuleLines}
+use Rattle.frz_store.specs.Told.{SinkTold}
+use Rattle.frz_answer.specs.Answers.{IsLines}
+use Rattle.frz_answer.specs.Texts.{TookText, FailedWithin}
+use Rattle.frz_answer.proofs.Lemmas.{failed_before, failed_behind, took_behind}
+use Rattle.frz_report.specs.declared.fault.ReportFault.{ReportFault}
+use Rattle.frz_report.specs.declared.fault.ReportFault.TheVariants.{Store, Output, NoMemory}
+use Rattle.frz_report.specs.declared.fault.Totals.{Totals}
+use Rattle.frz_report.specs.Census.{census}
+use Rattle.frz_report.specs.Exits.{exits_of}
+use Rattle.frz_report.specs.Lines.{class_line, last_line}
+use Rattle.frz_report.specs.Reports.{WritesReport, report_text, totals_of}
+use Rattle.frz_report.specs.Squeezes.{squeezes}
+use Rattle.frz_report.specs.Walks.{TookFront, WritesSome, lines_below}
+use Rattle.frz_report.proofs.Walking.{are_lines}
+
+pub never_empty : (xs ys : List ℕ) → (ys ≡ [] → ⊥) → xs ++ ys ≡ [] → ⊥
+never_empty [] ys h e = h e
+never_empty (x ∷ xs) ys h e = cc
+
+last_said : (many exits : ℕ) → last_line many exits ≡ [] → ⊥
+last_said many exits e = cc
+
+module _ (rules : RuleLines) (value : Board → Value) (kept : Colour → List ℕ) where
+  abbrev first : List ℕ
+  first = lines_below rules kept (size_of rules.groups)
+
+  abbrev classes : List ℕ
+  classes = flat_map class_line (census (exits_of rules value))
+
+  abbrev last : List ℕ
+  last = last_line (length (squeezes rules.groups kept)) (length (exits_of rules value))
+
+  abbrev whole : List ℕ
+  whole = report_text rules value kept
+
+  behind_said : classes ++ last ≡ [] → ⊥
+  behind_said = never_empty classes last (last_said (length (squeezes rules.groups kept)) (length (exits_of rules value)))
+
+  -- a report is never empty
+  pub report_said : whole ≡ [] → ⊥
+  report_said = never_empty first (classes ++ last) behind_said
+
+  last_is_line : (many exits : ℕ) → (front : List ℕ) × (last_line many exits ≡ front ++ 10 ∷ [])
+  last_is_line many exits = ((codes "squeezes " ++ decimal many) ++ (codes " unassigned " ++ decimal exits), simp append_assoc)
+
+  whole_lines : IsLines whole
+  whole_lines =
+      let line = last_is_line (length (squeezes rules.groups kept)) (length (exits_of rules value)) in
+      inr (
+        first ++ (classes ++ line.0),
+        ap (λ (l : List ℕ). first ++ (classes ++ l)) line.1 ∙ ap (λ (l : List ℕ). first ++ l) (sym (append_assoc classes line.0 (10 ∷ [])))
+            ∙ sym (append_assoc first (classes ++ line.0) (10 ∷ [])),
+      )
+
+  both : (first ++ classes) ++ last ≡ whole
+  both = append_assoc first classes last
+
+  front_written : (fault : ReportFault) (old new : SinkTold) → TookFront first old new → (result : Result Totals ReportFault) → result ≡ Err fault
+      → ((text rest : List ℕ) → IsLines text → TookText text old new → text ++ rest ≡ whole → (rest ≡ [] → ⊥) → WritesReport rules value kept result old new)
+      → WritesReport rules value kept result old new
+  front_written fault old new front result is made =
+      made front.text (front.rest ++ (classes ++ last)) front.lines front.took
+      (sym (append_assoc front.text front.rest (classes ++ last)) ∙ ap (λ (l : List ℕ). l ++ (classes ++ last)) front.begins)
+      (never_empty front.rest (classes ++ last) behind_said)
+
+  -- something stopped the walk
+  pub stopped_early : (fault : ReportFault) (many : ℕ) (old new : SinkTold) → WritesSome (Err fault) first many old new → WritesReport rules value kept (Err fault) old new
+  stopped_early Output many old new failed = record {
+    text = first;
+    rest = classes ++ last;
+    lines = are_lines rules kept (size_of rules.groups);
+    wrote = failed;
+    begins = refl;
+    finishes = tt;
+  }
+  stopped_early Store many old new front =
+      front_written Store old new front (Err Store) refl
+      (λ text rest lines took begins more. record { text = text; rest = rest; lines = lines; wrote = took; begins = begins; finishes = more })
+  stopped_early NoMemory many old new front =
+      front_written NoMemory old new front (Err NoMemory) refl
+      (λ text rest lines took begins more. record { text = text; rest = rest; lines = lines; wrote = took; begins = begins; finishes = more })
+
+  failed_whole : (old new : SinkTold) → FailedWithin whole old new → WritesReport rules value kept (Err Output) old new
+  failed_whole old new failed = record {
+    text = whole;
+    rest = [];
+    lines = whole_lines;
+    wrote = failed;
+    begins = append-nil whole;
+    finishes = tt;
+  }
+
+  module _ (old mid : SinkTold) (took : TookText first old mid) where
+    -- the sink failed within the lines of the classes
+    pub classes_failed : (new : SinkTold) → FailedWithin classes mid new → WritesReport rules value kept (Err Output) old new
+    classes_failed new failed =
+        failed_whole old new
+        (failed_before (first ++ classes) last whole old new (failed_behind first classes (first ++ classes) old mid new took refl failed) both)
+
+    module _ (then : SinkTold) (more : TookText classes mid then) where
+      took_both : TookText (first ++ classes) old then
+      took_both = took_behind first classes (first ++ classes) old mid then took refl more
+
+      -- within the last line
+      pub last_failed : (new : SinkTold) → FailedWithin last then new → WritesReport rules value kept (Err Output) old new
+      last_failed new failed = failed_whole old new (failed_behind (first ++ classes) last whole old then new took_both both failed)
+
+      -- all of it was written
+      pub all_written : (new : SinkTold) (totals : Totals) → totals ≡ totals_of rules value kept → TookText last then new
+          → WritesReport rules value kept (Ok totals) old new
+      all_written new totals is end = record {
+        text = whole;
+        rest = [];
+        lines = whole_lines;
+        wrote = took_behind (first ++ classes) last whole old then new took_both both end;
+        begins = append-nil whole;
+        finishes = (is, refl);
+      }

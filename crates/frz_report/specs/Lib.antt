@@ -1,0 +1,6 @@
+pub mod Squeezes
+pub mod Exits
+pub mod Census
+pub mod Lines
+pub mod Reports
+pub mod Walks

@@ -1,0 +1,92 @@
+//! Squeezes: pairs of numbers at which neither side would like to move.
+ghost use Rattle.std.specs.Prelude.{◌≡◌, ◌<◌, ◌≤◌, length, IfSome, Some, None};
+ghost use Rattle.frz_board.specs.Men.{same_colour};
+ghost use Rattle.frz_board.specs.declared.man.Colour.TheVariants.{White};
+ghost use Rattle.frz_fide.specs.Valid.{IsValid};
+ghost use Rattle.frz_index.specs.Membership.{number_of};
+ghost use Rattle.frz_sets.specs.Sets.{size_of};
+ghost use Rattle.frz_report.specs.Squeezes as words;
+ghost use Rattle.frz_report.specs.Squeezes.{rank_of, rank_at, is_first as stands_first, is_worse_to_move as worse, partner_of, squeeze_on};
+
+use frz_arena::is_win;
+use frz_board::{Colour, Position};
+use frz_fide::valid;
+use frz_game::Entries;
+use frz_index::Set;
+
+/// What a code is worth: a win 2, a hold 1, and every other code 0.
+fn rank(code: u32) -> u8
+    ensures { result ≡ rank_of code }
+{
+    if is_win(code) {
+        2
+    } else if code == 1 {
+        1
+    } else {
+        0
+    }
+}
+
+/// What the side's code at the number is worth.
+fn rank_in<E: Entries>(entries: &E, side: Colour, i: u32) -> u8
+    requires { i < length (E.codes entries.now side) }
+    ensures { result ≡ rank_at (E.codes entries.now) side i }
+{
+    rank(entries.entry(side, i))
+}
+
+/// Is each side's rank lower where it is to move?
+fn is_worse_to_move<E: Entries>(entries: &E, w: u32, b: u32) -> bool
+    requires first { w < length (E.codes entries.now White) }
+    requires second { b < length (E.codes entries.now White) }
+    ensures { result ≡ worse (E.codes entries.now) w b }
+{
+    rank_in(entries, Colour::White, w) < rank_in(entries, Colour::White, b)
+        && rank_in(entries, Colour::Black, b) < rank_in(entries, Colour::Black, w)
+}
+
+/// Is White to move, with no target?
+fn is_first(p: &Position) -> bool
+    ensures { result ≡ stands_first p.now }
+{
+    p.turn() == Colour::White && p.ep().is_none()
+}
+
+/// The number of a position that may be none of the set, or not valid.
+fn number_if_valid(set: &Set, q: &Position) -> Option<u32>
+    ensures number { result ≡ number_of set.now q.now }
+    ensures inside { IfSome result (λ b. b < size_of set.now) }
+{
+    match valid(q) {
+        Ok(()) => set.number(q),
+        Err(_) => None,
+    }
+}
+
+/// The number of the same men with Black to move, where White is to move with no target.
+fn partner(set: &Set, p: &Position) -> Option<u32>
+    requires { IsValid p.now }
+    ensures number { result ≡ partner_of set.now p.now }
+    ensures inside { IfSome result (λ b. b < size_of set.now) }
+{
+    if is_first(p) {
+        number_if_valid(set, &p.hand_over(None))
+    } else {
+        None
+    }
+}
+
+/// The number of the second position of a squeeze whose first is this one.
+pub fn squeezed_with<E: Entries>(set: &Set, entries: &E, w: u32, p: &Position) -> Option<u32>
+    requires valid { IsValid p.now }
+    requires inside { w < size_of set.now }
+    requires many { length (E.codes entries.now White) ≡ size_of set.now }
+    ensures { words.squeezed_by w p.now result ≡ squeeze_on set.now (E.codes entries.now) w p.now }
+{
+    let b = partner(set, p)?;
+    if is_worse_to_move(entries, w, b) {
+        Some(b)
+    } else {
+        None
+    }
+}

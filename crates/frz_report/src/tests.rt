@@ -1,0 +1,255 @@
+//! Reports of table files made by hand.
+ghost use Rattle.std.specs.Prelude.{◌≡◌, ◌<◌};
+
+use crate::{ReportFault, Totals, report};
+use frz_steps::Steps;
+use frz_store::{Fail as Failing, FailOn, MemSink, MemStore};
+use frz_table::open_table;
+use std::alloc::Global;
+use std::marker::Brand;
+use std::process::Abort;
+use std::sync::ledger::{Blank, Ledger};
+use std::test::Fail;
+
+/// A king and a rook against a king in the corner: 8 numbers, of which 2 and 3 are broken.
+const ROOK: &str = "freezer 1
+group white 1 K:b6
+group white 1 R:h1,h8
+group black 1 K:a8,b8
+";
+
+/// The same where White may move nothing.
+const FORBIDDEN: &str = "freezer 1
+group white 1 K:b6
+group white 1 R:h1,h8
+group black 1 K:a8,b8
+forbid white K from all to all
+forbid white R from all to all
+";
+
+/// Two kings, far apart: whoever is to move has lost. 2 numbers.
+const LOST: &str = "freezer 1
+group white 1 K:a1
+group black 1 K:h8
+exit black wins if turn:black
+exit white wins if turn:white
+";
+
+/// The same with no exit assigned to White.
+const HALF: &str = "freezer 1
+group white 1 K:a1
+group black 1 K:h8
+exit white wins if turn:white
+";
+
+/// A pawn that may promote: its exits have four classes, and one more where the king captures it.
+const PAWN: &str = "freezer 1
+group white 1 K:a1
+group white 1 P:h7
+group black 1 K:g7,g8
+";
+
+/// A rules text, the codes of its file, White's first, and what is reported.
+#[derive(Drop)]
+struct Row {
+    rules: &'static str,
+    codes: &'static [u32],
+    wanted: Totals,
+    text: &'static [u8],
+}
+
+const SQUEEZED: Row = Row {
+    rules: LOST,
+    codes: &[5, 4, 4, 5],
+    wanted: Totals {
+        squeezes: 1,
+        unassigned: 0,
+    },
+    text: b"squeeze 0 1 7k/8/8/8/8/8/8/K7 w - - 0 1\nsqueezes 1 unassigned 0\n",
+};
+
+const ROWS: &[Row] = &[
+    SQUEEZED,
+    Row {
+        rules: ROOK,
+        codes: &[4, 4, 0, 0, 6, 5, 2, 2, 5, 5, 0, 0, 7, 7, 3, 3],
+        wanted: Totals {
+            squeezes: 0,
+            unassigned: 38,
+        },
+        text: b"exits 38 KRk\nsqueezes 0 unassigned 38\n",
+    },
+    // A win within one ply is worth no more than one within two.
+    Row {
+        rules: LOST,
+        codes: &[6, 4, 4, 5],
+        wanted: Totals {
+            squeezes: 0,
+            unassigned: 0,
+        },
+        text: b"squeezes 0 unassigned 0\n",
+    },
+    // White alone is worse off where it is to move.
+    Row {
+        rules: LOST,
+        codes: &[1, 4, 1, 1],
+        wanted: Totals {
+            squeezes: 0,
+            unassigned: 0,
+        },
+        text: b"squeezes 0 unassigned 0\n",
+    },
+    // A hold is worth more than a failure, and the code 0 at a position no more than one.
+    Row {
+        rules: LOST,
+        codes: &[0, 1, 1, 0],
+        wanted: Totals {
+            squeezes: 1,
+            unassigned: 0,
+        },
+        text: b"squeeze 0 1 7k/8/8/8/8/8/8/K7 w - - 0 1\nsqueezes 1 unassigned 0\n",
+    },
+    Row {
+        rules: LOST,
+        codes: &[5, 0, 4, 5],
+        wanted: Totals {
+            squeezes: 0,
+            unassigned: 0,
+        },
+        text: b"squeezes 0 unassigned 0\n",
+    },
+    Row {
+        rules: PAWN,
+        codes: &[1, 0, 1, 1, 1, 0, 1, 1],
+        wanted: Totals {
+            squeezes: 0,
+            unassigned: 18,
+        },
+        text: b"exits 12 KPk\nexits 1 KQk\nexits 1 KRk\nexits 1 KBk\nexits 1 KNk\nexits 2 Kk\n\
+                squeezes 0 unassigned 18\n",
+    },
+    Row {
+        rules: FORBIDDEN,
+        codes: &[5, 5, 0, 0, 7, 7, 3, 3, 5, 5, 0, 0, 7, 7, 3, 3],
+        wanted: Totals {
+            squeezes: 0,
+            unassigned: 38,
+        },
+        text: b"exits 38 KRk\nsqueezes 0 unassigned 38\n",
+    },
+    Row {
+        rules: HALF,
+        codes: &[5, 4, 3, 5],
+        wanted: Totals {
+            squeezes: 0,
+            unassigned: 3,
+        },
+        text: b"exits 3 Kk\nsqueezes 0 unassigned 3\n",
+    },
+];
+
+fn push_number(to: &mut Vec<u8>, number: u32) -> Result<(), Fail> {
+    to.extend_from_slice(&number.to_le_bytes())?;
+    Ok(())
+}
+
+/// The file of a rules text with these codes, White's and then Black's.
+fn file_of(alloc: Global, rules: &str, codes: &[u32]) -> Result<Vec<u8>, Fail> {
+    let mut file = Vec::new(alloc);
+    file.extend_from_slice(b"FREEZER2")?;
+    push_number(&mut file, u32::try_from(rules.len()).or(Err("long"))?)?;
+    file.extend_from_slice(rules.as_bytes())?;
+    push_number(&mut file, u32::try_from(codes.len() / 2).or(Err("long"))?)?;
+    for code in codes {
+        push_number(&mut file, *code)?;
+    }
+    Ok(file)
+}
+
+/// What the report of a row answers over a store that fails so, and its text in a sink of so much
+/// room.
+fn report_of<L: Ledger>(
+    alloc: Global,
+    row: &Row,
+    fails: Vec<Failing>,
+    room: usize,
+    steps: &mut Steps<L>,
+) -> Result<(Result<Totals, ReportFault>, Vec<u8>), Fail> {
+    let file = file_of(alloc, row.rules, row.codes)?;
+    let mut store = MemStore::new(alloc, fails);
+    store.put("A.t", &file).or(Err("put"))?;
+    let table = open_table(alloc, &mut store, "A.t")?;
+    let mut out = MemSink::new(alloc, room, Vec::new(alloc)).or(Err("sink"))?;
+    let end = report(alloc, &table, &mut store, &mut out, steps);
+    Ok((end, out.taken().to_vec(alloc)?))
+}
+
+fn check_row<L: Ledger, R: Abort>(
+    rt: &R,
+    alloc: Global,
+    row: &Row,
+    steps: &mut Steps<L>,
+) -> Result<(), Fail> {
+    let (end, text) = report_of(alloc, row, Vec::new(alloc), 1000, steps)?;
+    assert_eq!(rt; end, Ok(row.wanted), "{}", row.rules);
+    assert_eq!(rt; text.as_slice(), row.text, "{}", row.rules);
+    Ok(())
+}
+
+/// Where this read fails, nothing is written.
+fn check_fault<L: Ledger, R: Abort>(
+    rt: &R,
+    alloc: Global,
+    nth: u64,
+    steps: &mut Steps<L>,
+) -> Result<(), Fail> {
+    let mut fails = Vec::new(alloc);
+    fails.push(Failing {
+        on: FailOn::Read,
+        nth,
+        keep: 0,
+    })?;
+    let (end, text) = report_of(alloc, &SQUEEZED, fails, 1000, steps)?;
+    assert_eq!(rt; end, Err(ReportFault::Store));
+    assert!(rt; text.is_empty());
+    Ok(())
+}
+
+/// Where the sink has no more room, the text up to there stands.
+fn check_cut<L: Ledger, R: Abort>(
+    rt: &R,
+    alloc: Global,
+    room: usize,
+    steps: &mut Steps<L>,
+) -> Result<(), Fail> {
+    let (end, text) = report_of(alloc, &SQUEEZED, Vec::new(alloc), room, steps)?;
+    assert_eq!(rt; end, Err(ReportFault::Output));
+    assert!(rt; SQUEEZED.text.starts_with(text.as_slice()));
+    assert_eq!(rt; text.len(), room);
+    Ok(())
+}
+
+fn check_rows<L: Ledger, R: Abort>(rt: &R, alloc: Global, blank: Blank) -> Result<(), Fail>
+    requires name { blank.name ≡ L.name }
+    requires parts { blank.parts ≡ L.parts }
+    requires some { 0 < blank.parts }
+{
+    let mut steps = Steps::<L>::new(blank);
+    for row in ROWS {
+        check_row(rt, alloc, row, &mut steps)?;
+    }
+    // Four reads open the file, and two load its codes.
+    for nth in 5..7 {
+        check_fault(rt, alloc, nth, &mut steps)?;
+    }
+    for room in 0..63 {
+        check_cut(rt, alloc, room, &mut steps)?;
+    }
+    Ok(())
+}
+
+#[test]
+fn reports_of_files_made_by_hand(rt: HostRuntime) -> Result<(), Fail> {
+    let blank = Blank::new(1);
+    check_rows::<Brand, _>(&rt, rt.alloc(), blank)
+}
