@@ -1,0 +1,201 @@
+-- What is found of a table over a back table, under the two names.
+use Rattle.std.proofs.Common.{◌≡◌, refl, ap, subst, ◌∙◌, ℕ, ◌+◌, ◌*◌, ◌≤◌, List, length, take, drop, Option, None, Some, Result, Ok, Err, IfOk, IfErr, arith}
+use Rattle.frz_sets.specs.Sets.{size_of}
+use Rattle.frz_store.specs.Files.{Files}
+use Rattle.frz_store.specs.Told.{StoreTold}
+use Rattle.frz_table.specs.declared.fault.TableFault.{TableFault}
+use Rattle.frz_table.specs.declared.fault.TableFault.TheVariants.{Missing, Magic, Truncated, Extra, Rules, Size, Failed, NoMemory}
+use Rattle.frz_table.specs.declared.kind.FileKind.{FileKind}
+use Rattle.frz_table.specs.declared.kind.FileKind.TheVariants.{Plain, Chained}
+use Rattle.frz_table.specs.Layout.{pieces_of}
+use Rattle.frz_table.specs.Opening.{Contents, Refuses, contents_of, kept_text, opened, table_format}
+use Rattle.frz_table.specs.Possible.{MayHold, MayOpen, MayRefuse}
+use Rattle.frz_table.specs.Tables.{Table, IsTableFile, table_size}
+use Rattle.frz_table.proofs.Lemmas.{belongs, opens_by, read_short}
+use Rattle.frz_check.specs.Kept.{ChecksTable, IsVerdictOn, WithinFile, opened_size}
+use Rattle.frz_chain.specs.Backs.{IsRefusedBack, OpensBack, RefusesBack}
+use Rattle.frz_chain.specs.Books.{Back, chain_value}
+use Rattle.frz_chain.specs.Causes.{IsOutsideFault, table_fault}
+use Rattle.frz_chain.specs.Chains.{CarriesSizes, ChecksChain, IsRefusedChain, RefusesChain, WithinBoth, judgement}
+use Rattle.frz_chain.specs.FileOn.{back_of}
+use Rattle.frz_chain.specs.declared.checking.ChainVerdict.{ChainVerdict}
+use Rattle.frz_chain.specs.declared.fault.ChainFault.{ChainFault}
+use Rattle.frz_chain.specs.declared.fault.ChainFault.TheVariants as chain
+
+-- a file that is refused is refused as a table
+file_refused : (held back_held : Option (List ℕ)) (fault : TableFault) → Refuses (opened (table_format Chained) held) fault
+    → IsRefusedChain held back_held (table_fault fault)
+file_refused held back_held Missing h = h
+file_refused held back_held Magic h = h
+file_refused held back_held (Truncated length due) h = h
+file_refused held back_held (Extra length due) h = h
+file_refused held back_held (Rules fault) h = h
+file_refused held back_held (Size kept due) h = h
+file_refused held back_held Failed h = tt
+file_refused held back_held NoMemory h = tt
+
+-- a name may hold something
+some_held : (files : Option Files) (name : List ℕ) → (held : Option (List ℕ)) × MayHold files name held
+some_held None name = (None, tt)
+some_held (Some m) name = (m name, refl)
+
+-- the table was not opened
+pub not_opened : (table back : List ℕ) (old new : StoreTold) (steps : ℕ) (fault : TableFault)
+    → MayRefuse (table_format Chained) old.files table old.asked new.asked fault → new.calls ≤ old.calls + 5
+    → RefusesChain table back old new steps steps (table_fault fault)
+not_opened table back old new steps fault h calls =
+    let other = some_held old.files back in record {
+      held = h.held;
+      may = h.may;
+      back_held = other.0;
+      back_may = other.1;
+      refuses = file_refused h.held other.0 fault h.refuses;
+      within = record {
+        steps = omega arith;
+        asked = (let a = h.asked in omega (arith, a));
+        calls = omega (arith, calls);
+      };
+    }
+
+-- the text in a file of a table is its text
+text_kept : (magic text : List ℕ) (size : ℕ) (bytes : List ℕ) → IsTableFile magic text size bytes → kept_text bytes ≡ text
+text_kept magic text size bytes file = ap (λ (n : ℕ). take n (drop 12 bytes)) file.counted ∙ file.has_text
+
+-- what was spent is within the costs of both files
+within_both : (bytes : List ℕ) (contents : Contents) (back_held : Option (List ℕ)) (old mid then new : StoreTold) (steps_before steps_then steps_now : ℕ)
+    → opened (table_format Chained) (Some bytes) ≡ Ok contents
+    → mid.asked ≤ old.asked + (16 + length contents.text) → mid.calls ≤ old.calls + 5
+    → WithinFile back_held mid then steps_before steps_then
+    → new.asked ≤ then.asked + 8 * size_of contents.rules.groups
+    → new.calls ≤ then.calls + 2 * pieces_of (size_of contents.rules.groups)
+    → steps_now ≤ steps_then + size_of contents.rules.groups
+    → WithinBoth (Some bytes) back_held old new steps_before steps_now
+within_both bytes contents back_held old mid then new steps_before steps_then steps_now opens asked calls h more_asked more_calls steps =
+    let size : ℕ = size_of contents.rules.groups in
+    let is : opened_size (opened (table_format Chained) (Some bytes)) ≡ size = ap opened_size opens in
+    let file = belongs (table_format Chained) bytes contents opens in
+    let text : length (kept_text bytes) ≡ length contents.text = ap (length {A = ℕ}) (text_kept _ contents.text size bytes file.file) in
+    let pieces : pieces_of (opened_size (opened (table_format Chained) (Some bytes))) ≡ pieces_of size = ap pieces_of is in
+    let back_steps = h.steps in
+    let back_asked = h.asked in
+    record {
+      steps = omega (arith, is, steps, back_steps);
+      asked = omega (arith, is, text, asked, back_asked, more_asked);
+      calls = calls_both (pieces_of (opened_size (opened (table_format Chained) (Some bytes)))) (pieces_of size)
+          (pieces_of (opened_size (opened (table_format Plain) back_held))) pieces calls h.calls more_calls;
+    }
+  where
+    calls_both : (due pieces back : ℕ) → due ≡ pieces → mid.calls ≤ old.calls + 5 → then.calls ≤ mid.calls + (5 + 2 * back)
+        → new.calls ≤ then.calls + 2 * pieces → new.calls ≤ old.calls + ((5 + 2 * due) + (5 + 2 * back))
+    calls_both due pieces back same few middle more = omega (arith, same, few, middle, more)
+
+-- the table was opened, and the back table refused
+behind : (bytes : List ℕ) (contents : Contents) (back_held : Option (List ℕ)) (fault : ChainFault)
+    → opened (table_format Chained) (Some bytes) ≡ Ok contents → IsRefusedBack back_held fault → IsRefusedChain (Some bytes) back_held fault
+behind bytes contents back_held (chain.Back fault) opens h = ((contents, opens), h)
+behind bytes contents back_held (chain.BackWrong wrong) opens h = ((contents, opens), h)
+behind bytes contents back_held chain.Failed opens h = tt
+behind bytes contents back_held chain.NoMemory opens h = tt
+behind bytes contents back_held (chain.Rules fault) opens h = absurd h
+behind bytes contents back_held (chain.Table fault) opens h = absurd h
+
+pub back_refused : (table back : List ℕ) (contents : Contents) (old mid new : StoreTold) (steps_before steps_now : ℕ) (fault : ChainFault)
+    → MayOpen (table_format Chained) old.files table contents → mid.files ≡ old.files
+    → mid.asked ≤ old.asked + (16 + length contents.text) → mid.calls ≤ old.calls + 5
+    → RefusesBack back mid new steps_before steps_now fault → RefusesChain table back old new steps_before steps_now fault
+back_refused table back contents old mid new steps_before steps_now fault opens same asked calls h = record {
+  held = Some opens.bytes;
+  may = opens.may;
+  back_held = h.held;
+  back_may = subst (λ (o : Option Files). MayHold o back h.held) same h.may;
+  refuses = behind opens.bytes contents h.held fault opens.opens h.refuses;
+  within =
+      within_both opens.bytes contents h.held old mid new new steps_before steps_now steps_now opens.opens asked calls h.within
+      (omega arith) (omega arith) (omega arith);
+}
+
+-- both were opened, and the codes of the table were not loaded
+outside_refused : (held back_held : Option (List ℕ)) (fault : ChainFault) → IsOutsideFault fault → IsRefusedChain held back_held fault
+outside_refused held back_held chain.Failed h = tt
+outside_refused held back_held chain.NoMemory h = tt
+outside_refused held back_held (chain.Rules fault) h = absurd h
+outside_refused held back_held (chain.Table fault) h = absurd h
+outside_refused held back_held (chain.Back fault) h = absurd h
+outside_refused held back_held (chain.BackWrong wrong) h = absurd h
+
+not_loaded : (table : Table) (name back : List ℕ) (loaded : Back) (old mid then new : StoreTold) (steps_before steps_then steps_now : ℕ) (fault : ChainFault)
+    → MayOpen (table_format Chained) old.files name (contents_of table) → mid.files ≡ old.files
+    → mid.asked ≤ old.asked + (16 + length table.text) → mid.calls ≤ old.calls + 5
+    → OpensBack back loaded mid then steps_before steps_then
+    → new.asked ≤ then.asked + 8 * table_size table → new.calls ≤ then.calls + 2 * pieces_of (table_size table)
+    → steps_now ≤ steps_then + table_size table → IsOutsideFault fault
+    → RefusesChain name back old new steps_before steps_now fault
+not_loaded table name back loaded old mid then new steps_before steps_then steps_now fault opens same asked calls h more_asked more_calls steps outside = record {
+  held = Some opens.bytes;
+  may = opens.may;
+  back_held = Some h.bytes;
+  back_may = subst (λ (o : Option Files). MayHold o back (Some h.bytes)) same h.may;
+  refuses = outside_refused (Some opens.bytes) (Some h.bytes) fault outside;
+  within =
+      within_both opens.bytes (contents_of table) (Some h.bytes) old mid then new steps_before steps_then steps_now opens.opens asked calls h.within
+      more_asked more_calls steps;
+}
+
+-- both were opened, and this is the verdict on the table
+checked : (table : Table) (name back : List ℕ) (loaded : Back) (back_size : ℕ) (old mid then new : StoreTold) (steps_before steps_then steps_now : ℕ) (v : ChainVerdict)
+    → MayOpen (table_format Chained) old.files name (contents_of table) → mid.files ≡ old.files → then.files ≡ mid.files
+    → table.kind ≡ Chained → table.name ≡ name
+    → mid.asked ≤ old.asked + (16 + length table.text) → mid.calls ≤ old.calls + 5
+    → (h : OpensBack back loaded mid then steps_before steps_then) → back_size ≡ size_of loaded.groups
+    → new.asked ≤ then.asked + 8 * table_size table → new.calls ≤ then.calls + 2 * pieces_of (table_size table)
+    → steps_now ≤ steps_then + table_size table
+    → ChecksTable then.files table (chain_value table.rules loaded) (judgement v) → CarriesSizes v (table_size table) back_size
+    → ChecksChain name back old new steps_before steps_now v
+checked table name back loaded back_size old mid then new steps_before steps_then steps_now v may same then_same kind named asked calls h back_sized more_asked more_calls steps told sizes =
+    let contents : Contents = contents_of table in
+    let read = (belongs (table_format Chained) may.bytes (contents_of table) may.opens).read in
+    let opens : opened (table_format Chained) (Some told.bytes) ≡ Ok contents =
+    subst (λ (k : FileKind). opened (table_format k) (Some told.bytes) ≡ Ok contents) kind
+    (opens_by (table_format table.kind) told.bytes contents (record { file = told.file; short = read_short table.text table.rules read; read = read })) in
+    record {
+      bytes = told.bytes;
+      may =
+          subst (λ (o : Option Files). MayHold o name (Some told.bytes)) (then_same ∙ same)
+          (subst (λ (n : List ℕ). MayHold then.files n (Some told.bytes)) named told.may);
+      contents = contents;
+      opens = opens;
+      back_bytes = h.bytes;
+      back_may = subst (λ (o : Option Files). MayHold o back (Some h.bytes)) same h.may;
+      back_contents = h.contents;
+      back_judged = h.judged;
+      told =
+          subst (λ (k : FileKind). IsVerdictOn k (chain_value table.rules (back_of h.contents h.bytes)) contents told.bytes (judgement v)) kind
+          (subst (λ (b : Back). IsVerdictOn table.kind (chain_value table.rules b) contents told.bytes (judgement v)) h.keeps told.told);
+      sizes =
+          subst (λ (n : ℕ). CarriesSizes v (table_size table) n) (back_sized ∙ ap (λ (b : Back). size_of b.groups) h.keeps) sizes;
+      within =
+          within_both told.bytes contents (Some h.bytes) old mid then new steps_before steps_then steps_now opens asked calls h.within
+          more_asked more_calls steps;
+    }
+
+-- by what the check of the open table gave
+module _ (table : Table) (name back : List ℕ) (loaded : Back) (old mid then new : StoreTold) (steps_before steps_then steps_now : ℕ)
+    (may : MayOpen (table_format Chained) old.files name (contents_of table)) (same : mid.files ≡ old.files)
+    (asked : mid.asked ≤ old.asked + (16 + length table.text)) (calls : mid.calls ≤ old.calls + 5)
+    (h : OpensBack back loaded mid then steps_before steps_then)
+    (more_asked : new.asked ≤ then.asked + 8 * table_size table) (more_calls : new.calls ≤ then.calls + 2 * pieces_of (table_size table))
+    (steps : steps_now ≤ steps_then + table_size table) where
+  pub result_checked : (result : Result ChainVerdict ChainFault) → then.files ≡ mid.files → table.kind ≡ Chained → table.name ≡ name
+      → IfOk result (λ v. ChecksTable then.files table (chain_value table.rules loaded) (judgement v))
+      → IfOk result (λ v. CarriesSizes v (table_size table) (size_of loaded.groups))
+      → IfOk result (ChecksChain name back old new steps_before steps_now)
+  result_checked (Ok v) then_same kind named told sizes =
+      checked table name back loaded (size_of loaded.groups) old mid then new steps_before steps_then steps_now v may same then_same kind named asked calls h refl
+      more_asked more_calls steps told sizes
+  result_checked (Err fault) then_same kind named told sizes = tt
+
+  pub result_refused : (result : Result ChainVerdict ChainFault) → IfErr result IsOutsideFault
+      → IfErr result (RefusesChain name back old new steps_before steps_now)
+  result_refused (Ok v) outside = tt
+  result_refused (Err fault) outside =
+      not_loaded table name back loaded old mid then new steps_before steps_then steps_now fault may same asked calls h more_asked more_calls steps outside

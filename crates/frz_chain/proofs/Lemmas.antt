@@ -1,0 +1,4 @@
+-- The lemmas that the crates above cite.
+pub use Rattle.frz_chain.proofs.SmallLags.{chain_small}
+pub use Rattle.frz_chain.proofs.TrueValues.{back_true, chained_true}
+pub use Rattle.frz_chain.proofs.Transfer.{tells_chess}

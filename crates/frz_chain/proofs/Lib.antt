@@ -1,0 +1,10 @@
+pub mod Lemmas
+mod Pairs
+mod TrueValues
+mod Transfer
+mod SmallLags
+mod Moved
+mod Causes
+mod Backs
+mod Checked
+mod Chained

@@ -1,0 +1,48 @@
+use Rattle.std.proofs.Common.{sym, subst}
+use Rattle.frz_store.specs.Told.{store_of}
+use Rattle.frz_chain.specs.Backs.{RefusesBack}
+use Rattle.frz_chain.specs.Books.{back_with}
+use Rattle.frz_chain.specs.declared.fault.ChainFault.{ChainFault}
+use Rattle.frz_chain.proofs.Backs.{back_given, back_wrong, judged_back, not_loaded}
+use Rattle.frz_chain.proofs.opening.open_back.Goals as goal
+
+pub returns-in-Ok-load_checked-clause-opened : goal.returns-in-Ok-load_checked-clause-opened
+returns-in-Ok-load_checked-clause-opened g c =
+    let table = c.in-Ok.table in
+    let name = c.args.name.now in
+    let loaded = c.in-Ok-load_checked.loaded in
+    let old = store_of g.S.Store c.args.store.now in
+    let mid = store_of g.S.Store c.open_table.new.store in
+    let new = store_of g.S.Store c.load_checked.new.store in
+    let e = c.in-Ok-load_checked.ensures in
+    back_given name (back_with table.rules.groups loaded.white.items loaded.black.items) loaded.verdict old new c.args.steps.now c.load_checked.new.steps
+    (judged_back table name loaded.white.items loaded.black.items loaded.verdict old mid new c.args.steps.now c.load_checked.new.steps
+    e.kept c.in-Ok.ensures.quiet.unwritten.files c.in-Ok.ensures.kind c.in-Ok.ensures.name c.in-Ok.ensures.may_open c.in-Ok.ensures.asked c.in-Ok.ensures.calls
+    e.asked e.calls e.steps e.verdict)
+    c.exact_back.result c.exact_back.ensures
+
+pub returns-in-Ok-load_checked-clause-refused : goal.returns-in-Ok-load_checked-clause-refused
+returns-in-Ok-load_checked-clause-refused g c =
+    let table = c.in-Ok.table in
+    let name = c.args.name.now in
+    let loaded = c.in-Ok-load_checked.loaded in
+    let old = store_of g.S.Store c.args.store.now in
+    let mid = store_of g.S.Store c.open_table.new.store in
+    let new = store_of g.S.Store c.load_checked.new.store in
+    let e = c.in-Ok-load_checked.ensures in
+    back_wrong name (back_with table.rules.groups loaded.white.items loaded.black.items) loaded.verdict old new c.args.steps.now c.load_checked.new.steps
+    (judged_back table name loaded.white.items loaded.black.items loaded.verdict old mid new c.args.steps.now c.load_checked.new.steps
+    e.kept c.in-Ok.ensures.quiet.unwritten.files c.in-Ok.ensures.kind c.in-Ok.ensures.name c.in-Ok.ensures.may_open c.in-Ok.ensures.asked c.in-Ok.ensures.calls
+    e.asked e.calls e.steps e.verdict)
+    c.exact_back.result c.exact_back.ensures
+
+pub returns-in-Err-load_checked-clause-refused : goal.returns-in-Err-load_checked-clause-refused
+returns-in-Err-load_checked-clause-refused g c =
+    let name = c.args.name.now in
+    let old = store_of g.S.Store c.args.store.now in
+    let mid = store_of g.S.Store c.open_table.new.store in
+    let new = store_of g.S.Store c.load_checked.new.store in
+    let e = c.in-Err-load_checked.ensures in
+    subst (λ (f : ChainFault). RefusesBack name old new c.args.steps.now c.load_checked.new.steps f) (sym c.of_back-in-Err-load_checked.ensures)
+    (not_loaded c.in-Ok.table name old mid new c.args.steps.now c.load_checked.new.steps c.in-Err-load_checked.fault c.in-Ok.ensures.may_open
+    c.in-Ok.ensures.asked c.in-Ok.ensures.calls e.asked e.calls e.steps e.outside)

@@ -1,0 +1,124 @@
+-- What is said of a table over a back table, by what the two names may hold.
+use Rattle.std.specs.Prelude.{◌≡◌, ◌≤◌, ◌+◌, ◌*◌, ℕ, List, length, Option, Some, Ok, Err, ⊤}
+use Rattle.frz_rules.specs.Text.{rules_of}
+use Rattle.frz_sets.specs.Sets.{size_of}
+use Rattle.frz_sets.specs.Views.{RuleLines}
+use Rattle.frz_store.specs.Outside.{Rose}
+use Rattle.frz_store.specs.Told.{StoreTold, StoreFine, StoreQuiet}
+use Rattle.frz_store.specs.Writes.{Wrote, WrotePart}
+use Rattle.frz_table.specs.declared.kind.FileKind.{FileKind}
+use Rattle.frz_table.specs.declared.kind.FileKind.TheVariants.{Plain, Chained}
+use Rattle.frz_table.specs.Layout.{pieces_of}
+use Rattle.frz_table.specs.Opening.{Contents, opened, table_format}
+use Rattle.frz_table.specs.Possible.{MayHold, held_text}
+use Rattle.frz_check.specs.declared.verdict.Verdict.{Verdict}
+use Rattle.frz_check.specs.declared.verdict.Verdict.TheVariants as verdicts
+use Rattle.frz_check.specs.Kept.{IsVerdictOn, opened_size}
+use Rattle.frz_chain.specs.Backs.{IsBackJudged, IsRefusedBack}
+use Rattle.frz_chain.specs.Books.{chain_value}
+use Rattle.frz_chain.specs.FileOn.{IsFileOn, back_of}
+use Rattle.frz_chain.specs.declared.checking.ChainVerdict.{ChainVerdict}
+use Rattle.frz_chain.specs.declared.checking.ChainVerdict.TheVariants.{Exact, Wrong}
+use Rattle.frz_chain.specs.declared.fault.ChainFault.{ChainFault}
+use Rattle.frz_chain.specs.declared.fault.ChainFault.TheVariants.{Rules, Table, Back as BackFault, BackWrong, Failed, NoMemory}
+
+-- the verdict on the table alone
+abbrev pub judgement : ChainVerdict → Verdict
+judgement (Exact size back) = verdicts.Exact
+judgement (Wrong wrong) = verdicts.Wrong wrong
+
+-- an exact verdict carries the sizes of the table and of the back table
+abbrev pub CarriesSizes : ChainVerdict → ℕ → ℕ → Type 0
+CarriesSizes (Exact size back) due back_due = (size ≡ due) × (back ≡ back_due)
+CarriesSizes (Wrong wrong) due back_due = ⊤
+
+-- what checking a file of this kind costs: a step for each number, and the bytes and the calls that open and load it
+abbrev pub steps_for : FileKind → Option (List ℕ) → ℕ
+steps_for kind held = opened_size (opened (table_format kind) held)
+
+abbrev pub bytes_for : FileKind → Option (List ℕ) → ℕ
+bytes_for kind held = 16 + length (held_text held) + 8 * opened_size (opened (table_format kind) held)
+
+abbrev pub calls_for : FileKind → Option (List ℕ) → ℕ
+calls_for kind held = 5 + 2 * pieces_of (opened_size (opened (table_format kind) held))
+
+-- no more than checking both files costs
+pub record WithinBoth (held back_held : Option (List ℕ)) (old new : StoreTold) (steps_before steps_now : ℕ) : Type 0 where
+  pub steps : steps_now ≤ steps_before + (steps_for Chained held + steps_for Plain back_held)
+  pub asked : new.asked ≤ old.asked + (bytes_for Chained held + bytes_for Plain back_held)
+  pub calls : new.calls ≤ old.calls + (calls_for Chained held + calls_for Plain back_held)
+
+-- the verdict on a table and a back table that the two names may hold: the back table is exact, and the verdict on the table is by the
+-- book that has the back table behind the exit lines
+pub record ChecksChain (table back : List ℕ) (old new : StoreTold) (steps_before steps_now : ℕ) (verdict : ChainVerdict) : Type 0 where
+  pub bytes : List ℕ
+  pub may : MayHold old.files table (Some bytes)
+  pub contents : Contents
+  pub opens : opened (table_format Chained) (Some bytes) ≡ Ok contents
+  pub back_bytes : List ℕ
+  pub back_may : MayHold old.files back (Some back_bytes)
+  pub back_contents : Contents
+  pub back_judged : IsBackJudged back_bytes back_contents verdicts.Exact
+  pub told : IsVerdictOn Chained (chain_value contents.rules (back_of back_contents back_bytes)) contents bytes (judgement verdict)
+  pub sizes : CarriesSizes verdict (size_of contents.rules.groups) (size_of back_contents.rules.groups)
+  pub within : WithinBoth (Some bytes) (Some back_bytes) old new steps_before steps_now
+
+-- the file opens as a table over a back table
+abbrev pub OpensChained : Option (List ℕ) → Type 0
+OpensChained held = (contents : Contents) × (opened (table_format Chained) held ≡ Ok contents)
+
+-- the first file is refused so, or it opens and the second is refused so
+abbrev pub IsRefusedChain : (held back_held : Option (List ℕ)) → ChainFault → Type 0
+IsRefusedChain held back_held (Table fault) = opened (table_format Chained) held ≡ Err fault
+IsRefusedChain held back_held (BackFault fault) = OpensChained held × IsRefusedBack back_held (BackFault fault)
+IsRefusedChain held back_held (BackWrong wrong) = OpensChained held × IsRefusedBack back_held (BackWrong wrong)
+IsRefusedChain held back_held Failed = ⊤
+IsRefusedChain held back_held NoMemory = ⊤
+IsRefusedChain held back_held (Rules fault) = ⊥
+
+-- the two names may hold what is refused so
+pub record RefusesChain (table back : List ℕ) (old new : StoreTold) (steps_before steps_now : ℕ) (fault : ChainFault) : Type 0 where
+  pub held : Option (List ℕ)
+  pub may : MayHold old.files table held
+  pub back_held : Option (List ℕ)
+  pub back_may : MayHold old.files back back_held
+  pub refuses : IsRefusedChain held back_held fault
+  pub within : WithinBoth held back_held old new steps_before steps_now
+
+-- the text is accepted, the name of the back table may hold one that is exact, before and afterwards, and the one file of the text over
+-- it was written
+pub record Chains (text back name : List ℕ) (old new : StoreTold) (size : ℕ) : Type 0 where
+  pub rules : RuleLines
+  pub accepted : rules_of text ≡ Ok rules
+  pub back_bytes : List ℕ
+  pub back_may : MayHold old.files back (Some back_bytes)
+  pub back_contents : Contents
+  pub back_judged : IsBackJudged back_bytes back_contents verdicts.Exact
+  pub bytes : List ℕ
+  pub one_file : IsFileOn text rules (back_of back_contents back_bytes) bytes
+  pub written : Wrote name bytes old new
+  pub fine : StoreFine old new
+  pub back_after : MayHold new.files back (Some back_bytes)
+  pub sized : size ≡ size_of rules.groups
+
+-- the name of the back table may hold what is refused so, and nothing was written
+pub record RefusesBackOf (back : List ℕ) (fault : ChainFault) (old new : StoreTold) : Type 0 where
+  pub held : Option (List ℕ)
+  pub may : MayHold old.files back held
+  pub refuses : IsRefusedBack held fault
+  pub quiet : StoreQuiet old new
+
+-- a part of the one file was written, or nothing
+pub record FailsWriting (name : List ℕ) (old new : StoreTold) : Type 0 where
+  pub bytes : List ℕ
+  pub part : WrotePart name bytes old new
+  pub rose : Rose old.faults new.faults
+
+-- why no table was built: the text is refused, or the back table, or the store failed, or memory was wanted
+abbrev pub RefusesToChain : (text back name : List ℕ) → StoreTold → StoreTold → ChainFault → Type 0
+RefusesToChain text back name old new (Rules fault) = (rules_of text ≡ Err fault) × (new ≡ old)
+RefusesToChain text back name old new (BackFault fault) = RefusesBackOf back (BackFault fault) old new
+RefusesToChain text back name old new (BackWrong wrong) = RefusesBackOf back (BackWrong wrong) old new
+RefusesToChain text back name old new Failed = FailsWriting name old new
+RefusesToChain text back name old new NoMemory = StoreQuiet old new
+RefusesToChain text back name old new (Table fault) = ⊥

@@ -1,0 +1,7 @@
+pub mod PairValues
+pub mod Books
+pub mod FileOn
+pub mod Backs
+pub mod Causes
+pub mod Chains
+pub mod Transfer
