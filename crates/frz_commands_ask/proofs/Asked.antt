@@ -17,7 +17,6 @@ use Rattle.frz_prelude.specs.Refusals.{status_of, refusal_line}
 use Rattle.frz_prelude.specs.RulesFiles.{IsRead, rules_held}
 use Rattle.frz_prelude.specs.Stops.{Answers}
 use Rattle.frz_prelude.specs.declared.refused.Refused.{Refused as Refusal}
-use Rattle.frz_prelude.specs.declared.refused.Refused.TheVariants as refusals
 use Rattle.frz_prelude.specs.declared.stop.Stop.{Stop}
 use Rattle.frz_prelude.specs.declared.stop.Stop.TheVariants.{Refused, Fault}
 use Rattle.frz_prelude.proofs.Lemmas.{of_rules, MayStop, StopsWith}

@@ -17,12 +17,12 @@ use Rattle.frz_store.specs.Files.{Files}
 use Rattle.frz_store.specs.Told.{StoreTold}
 use Rattle.frz_table.specs.declared.fault.TableFault.{TableFault}
 use Rattle.frz_table.specs.declared.fault.TableFault.TheVariants.{Missing, Magic, Truncated, Extra, Rules, Size, Failed, NoMemory}
-use Rattle.frz_table.specs.declared.kind.FileKind.TheVariants.{Plain}
+use Rattle.frz_table.specs.declared.kind.FileKind.{FileKind}
 use Rattle.frz_table.specs.Layout.{magic_of, file_of, codes_at}
 use Rattle.frz_table.specs.Opening.{Contents, contents_of, opened, Refuses, table_format}
 use Rattle.frz_table.specs.Possible.{MayHold, MayOpen, MayRefuse, held_text}
 use Rattle.frz_table.specs.Tables.{Table, table_size}
-use Rattle.frz_table.proofs.Lemmas.{belongs, opens_by, written_belongs, written_is_loaded}
+use Rattle.frz_table.proofs.Lemmas.{belongs, magic_long, opens_by, written_belongs, written_is_loaded}
 use Rattle.frz_prelude.specs.Stops.{Answers, stop_of_table}
 use Rattle.frz_prelude.specs.declared.refused.Refused.{Refused as Refusal}
 use Rattle.frz_prelude.specs.declared.refused.Refused.TheVariants as refusals
@@ -30,7 +30,7 @@ use Rattle.frz_prelude.specs.declared.stop.Stop.{Stop}
 use Rattle.frz_prelude.specs.declared.stop.Stop.TheVariants.{Refused, Fault}
 use Rattle.frz_prelude.proofs.Lemmas.{holding}
 use Rattle.frz_commands_ask.specs.declared.kept.KeptCodes.{KeptCodes}
-use Rattle.frz_commands_ask.specs.Kept.{kept_at, kept_in, kept_by, kept_of, AreKept, IsKeptIn, IsKept}
+use Rattle.frz_commands_ask.specs.Kept.{kept_at, kept_by, kept_of, AreKept, IsKeptIn, IsKept}
 use Rattle.frz_commands_ask.proofs.Soundness.{read_sound}
 
 -- the name holds this, where the store tells
@@ -39,31 +39,31 @@ same_held None name held may = tt
 same_held (Some m) name held may = may
 
 -- the text of a file that opens is the one that it keeps
-pub opened_text : (bytes : List ℕ) (contents : Contents) → opened (table_format Plain) (Some bytes) ≡ Ok contents
+pub opened_text : (kind : FileKind) (bytes : List ℕ) (contents : Contents) → opened (table_format kind) (Some bytes) ≡ Ok contents
     → held_text (Some bytes) ≡ contents.text
-opened_text bytes contents opens =
-    let file = (belongs (table_format Plain) bytes contents opens).file in
+opened_text kind bytes contents opens =
+    let file = (belongs (table_format kind) bytes contents opens).file in
     ap (λ (n : ℕ). take n (drop 12 bytes)) file.counted ∙ file.has_text
 
 -- what a name gives that holds this
-module _ (p : Board) (name : List ℕ) (old new : StoreTold) where
+module _ (kind : FileKind) (p : Board) (name : List ℕ) (old new : StoreTold) where
   kept_where : (result : Result KeptCodes Stop) (held : Option (List ℕ)) → IfSome old.files (λ m. m name ≡ held)
-      → Answers result (kept_of p held) → new.asked ≤ old.asked + (24 + length (held_text held)) → IsKept p name result old new
+      → Answers result (kept_of kind p held) → new.asked ≤ old.asked + (24 + length (held_text held)) → IsKept kind p name result old new
   kept_where result held there due asked =
       let at = holding old.files name held there in record {
         files = at.files;
         agrees = at.agrees;
-        due = subst (λ (h : Option (List ℕ)). Answers result (kept_of p h)) (sym at.holds) due;
+        due = subst (λ (h : Option (List ℕ)). Answers result (kept_of kind p h)) (sym at.holds) due;
         asked = subst (λ (h : Option (List ℕ)). new.asked ≤ old.asked + (24 + length (held_text h))) (sym at.holds) asked;
       }
 
   -- the table was not opened
-  fault_due : (held : Option (List ℕ)) (fault : TableFault) → opened (table_format Plain) held ≡ Err fault
-      → kept_of p held ≡ Err (refusals.Table fault)
+  fault_due : (held : Option (List ℕ)) (fault : TableFault) → opened (table_format kind) held ≡ Err fault
+      → kept_of kind p held ≡ Err (refusals.Table fault)
   fault_due held fault e = ap (λ (x : Result Contents TableFault). kept_by x (unwrap_or held []) p) e
 
-  refused_due : (held : Option (List ℕ)) (fault : TableFault) → Refuses (opened (table_format Plain) held) fault
-      → Answers {A = KeptCodes} (Err (stop_of_table fault)) (kept_of p held)
+  refused_due : (held : Option (List ℕ)) (fault : TableFault) → Refuses (opened (table_format kind) held) fault
+      → Answers {A = KeptCodes} (Err (stop_of_table fault)) (kept_of kind p held)
   refused_due held Missing e = fault_due held Missing e
   refused_due held Magic e = fault_due held Magic e
   refused_due held (Truncated length due) e = fault_due held (Truncated length due) e
@@ -74,40 +74,40 @@ module _ (p : Board) (name : List ℕ) (old new : StoreTold) where
   refused_due held NoMemory e = tt
 
   pub refused_kept : (fault : TableFault) (stop : Stop) → stop ≡ stop_of_table fault
-      → MayRefuse (table_format Plain) old.files name old.asked new.asked fault → IsKept p name (Err stop) old new
+      → MayRefuse (table_format kind) old.files name old.asked new.asked fault → IsKept kind p name (Err stop) old new
   refused_kept fault stop is may =
       kept_where (Err stop) may.held (same_held old.files name may.held may.may)
-      (subst (λ (s : Stop). Answers {A = KeptCodes} (Err s) (kept_of p may.held)) (sym is) (refused_due may.held fault may.refuses))
+      (subst (λ (s : Stop). Answers {A = KeptCodes} (Err s) (kept_of kind p may.held)) (sym is) (refused_due may.held fault may.refuses))
       (let asked = may.asked in omega (arith, asked))
 
 -- what the bytes of a file that opens give
-module _ (contents : Contents) (bytes : List ℕ) (p : Board) (opens : opened (table_format Plain) (Some bytes) ≡ Ok contents) where
+module _ (kind : FileKind) (contents : Contents) (bytes : List ℕ) (p : Board) (opens : opened (table_format kind) (Some bytes) ≡ Ok contents) where
   abbrev by_member : Bool → Result KeptCodes Refusal
   by_member inside =
       if inside then Ok (record { white = kept_at White contents bytes p; black = kept_at Black contents bytes p })
       else Err refusals.Outside
 
-  kept_by_member : (inside : Bool) → is_member contents.rules.groups p ≡ inside → kept_of p (Some bytes) ≡ by_member inside
+  kept_by_member : (inside : Bool) → is_member contents.rules.groups p ≡ inside → kept_of kind p (Some bytes) ≡ by_member inside
   kept_by_member inside e = ap (λ (x : Result Contents TableFault). kept_by x bytes p) opens ∙ ap by_member e
 
   outside_test : (inside : Bool) → is_member contents.rules.groups p ≡ inside → (Member contents.rules.groups p → ⊥) → is_member contents.rules.groups p ≡ false
   outside_test true e none = absurd (none (member_of contents.rules.groups p e))
   outside_test false e none = e
 
-  pub gives_outside : (Member contents.rules.groups p → ⊥) → kept_of p (Some bytes) ≡ Err refusals.Outside
+  pub gives_outside : (Member contents.rules.groups p → ⊥) → kept_of kind p (Some bytes) ≡ Err refusals.Outside
   gives_outside none = kept_by_member false (outside_test (is_member contents.rules.groups p) refl none)
 
   pub gives_codes : (codes : KeptCodes) → Member contents.rules.groups p → kept_at White contents bytes p ≡ codes.white
-      → kept_at Black contents bytes p ≡ codes.black → kept_of p (Some bytes) ≡ Ok codes
+      → kept_at Black contents bytes p ≡ codes.black → kept_of kind p (Some bytes) ≡ Ok codes
   gives_codes codes inside white black =
       let both : ℕ → ℕ → Result KeptCodes Refusal = λ w b. Ok (record { white = w; black = b }) in
       kept_by_member true (of_member contents.rules.groups p inside)
       ∙ ap (λ (w : ℕ). both w (kept_at Black contents bytes p)) white ∙ ap (λ (b : ℕ). both codes.white b) black
 
 -- a file that keeps one code of each side at every number
-pub record KeepsCodes (contents : Contents) (p : Board) (codes : KeptCodes) : Type 0 where
+pub record KeepsCodes (kind : FileKind) (contents : Contents) (p : Board) (codes : KeptCodes) : Type 0 where
   pub bytes : List ℕ
-  pub opens : opened (table_format Plain) (Some bytes) ≡ Ok contents
+  pub opens : opened (table_format kind) (Some bytes) ≡ Ok contents
   pub white : kept_at White contents bytes p ≡ codes.white
   pub black : kept_at Black contents bytes p ≡ codes.black
 
@@ -116,63 +116,63 @@ small_codes zero code small i = lit< tt
 small_codes (suc n) code small zero = small
 small_codes (suc n) code small (suc i) = small_codes n code small i
 
-pub some_file : (contents : Contents) (other : List ℕ) → opened (table_format Plain) (Some other) ≡ Ok contents → (p : Board)
-    → Member contents.rules.groups p → (codes : KeptCodes) → codes.white < 2 ^ 32 → codes.black < 2 ^ 32 → KeepsCodes contents p codes
-some_file contents other opens p inside codes white_small black_small =
+pub some_file : (kind : FileKind) (contents : Contents) (other : List ℕ) → opened (table_format kind) (Some other) ≡ Ok contents → (p : Board)
+    → Member contents.rules.groups p → (codes : KeptCodes) → codes.white < 2 ^ 32 → codes.black < 2 ^ 32 → KeepsCodes kind contents p codes
+some_file kind contents other opens p inside codes white_small black_small =
     let text : List ℕ = contents.text in
     let size : ℕ = size_of contents.rules.groups in
-    let magic : List ℕ = magic_of Plain in
+    let magic : List ℕ = magic_of kind in
     let white : List ℕ = replicate size codes.white in
     let black : List ℕ = replicate size codes.black in
-    let known = belongs (table_format Plain) other contents opens in
+    let known = belongs (table_format kind) other contents opens in
     let short = known.short in
     let few = (read_sound text contents.rules known.read).size in
     let white_long : length white ≡ size = length-replicate size codes.white in
     let black_long : length black ≡ size = length-replicate size codes.black in
-    let file = written_belongs magic text size white black refl (omega (arith, short)) (omega (arith, few)) white_long black_long in
-    let loaded = written_is_loaded magic text size white black refl white_long black_long
+    let file = written_belongs magic text size white black (magic_long kind) (omega (arith, short)) (omega (arith, few)) white_long black_long in
+    let loaded = written_is_loaded magic text size white black (magic_long kind) white_long black_long
     (small_codes size codes.white white_small) (small_codes size codes.black black_small) in
     let below = Num_below contents.rules.groups p inside in
     record {
       bytes = file_of magic text size white black;
-      opens = opens_by (table_format Plain) (file_of magic text size white black) contents (record { file = file; short = short; read = known.read });
+      opens = opens_by (table_format kind) (file_of magic text size white black) contents (record { file = file; short = short; read = known.read });
       white = ap (λ (l : List ℕ). slice_index l (Num contents.rules.groups p)) loaded.0 ∙ get_or-replicate size (Num contents.rules.groups p) codes.white 0 below;
       black = ap (λ (l : List ℕ). slice_index l (Num contents.rules.groups p)) loaded.1 ∙ get_or-replicate size (Num contents.rules.groups p) codes.black 0 below;
     }
 
 -- the table was opened
-module _ (table : Table) (p : Board) (name : List ℕ) (old new : StoreTold) (named : table.name ≡ name)
+module _ (kind : FileKind) (table : Table) (p : Board) (name : List ℕ) (old new : StoreTold) (named : table.name ≡ name)
     (asked : new.asked ≤ old.asked + (24 + length table.text)) where
-  within : (bytes : List ℕ) → opened (table_format Plain) (Some bytes) ≡ Ok (contents_of table)
+  within : (bytes : List ℕ) → opened (table_format kind) (Some bytes) ≡ Ok (contents_of table)
       → new.asked ≤ old.asked + (24 + length (held_text (Some bytes)))
   within bytes opens =
-      subst (λ (text : List ℕ). new.asked ≤ old.asked + (24 + length text)) (sym (opened_text bytes (contents_of table) opens)) asked
+      subst (λ (text : List ℕ). new.asked ≤ old.asked + (24 + length text)) (sym (opened_text kind bytes (contents_of table) opens)) asked
 
   at_name : (P : List ℕ → Type 0) (m : Files) (bytes : List ℕ) → m name ≡ Some bytes → IfSome (m table.name) P → P bytes
   at_name P m bytes there h = subst (λ (held : Option (List ℕ)). IfSome held P) (ap m named ∙ there) h
 
-  codes_kept : (told : Option Files) → old.files ≡ told → MayOpen (table_format Plain) told name (contents_of table) → (codes : KeptCodes)
-      → AreKept table p told codes → IsKept p name (Ok codes) old new
+  codes_kept : (told : Option Files) → old.files ≡ told → MayOpen (table_format kind) told name (contents_of table) → (codes : KeptCodes)
+      → AreKept table p told codes → IsKept kind p name (Ok codes) old new
   codes_kept (Some m) e may codes kept =
-      kept_where p name old new (Ok codes) (Some may.bytes) (subst (λ (o : Option Files). IfSome o (λ f. f name ≡ Some may.bytes)) (sym e) may.may)
-      (gives_codes (contents_of table) may.bytes p may.opens codes kept.inside
+      kept_where kind p name old new (Ok codes) (Some may.bytes) (subst (λ (o : Option Files). IfSome o (λ f. f name ≡ Some may.bytes)) (sym e) may.may)
+      (gives_codes kind (contents_of table) may.bytes p may.opens codes kept.inside
       (at_name (λ bytes. kept_at White (contents_of table) bytes p ≡ codes.white) m may.bytes may.may kept.white)
       (at_name (λ bytes. kept_at Black (contents_of table) bytes p ≡ codes.black) m may.bytes may.may kept.black))
       (within may.bytes may.opens)
   codes_kept None e may codes kept =
-      let file = some_file (contents_of table) may.bytes may.opens p kept.inside codes kept.white_small kept.black_small in
-      kept_where p name old new (Ok codes) (Some file.bytes) (subst (λ (o : Option Files). IfSome o (λ f. f name ≡ Some file.bytes)) (sym e) tt)
-      (gives_codes (contents_of table) file.bytes p file.opens codes kept.inside file.white file.black)
+      let file = some_file kind (contents_of table) may.bytes may.opens p kept.inside codes kept.white_small kept.black_small in
+      kept_where kind p name old new (Ok codes) (Some file.bytes) (subst (λ (o : Option Files). IfSome o (λ f. f name ≡ Some file.bytes)) (sym e) tt)
+      (gives_codes kind (contents_of table) file.bytes p file.opens codes kept.inside file.white file.black)
       (within file.bytes file.opens)
 
-  pub opened_kept : MayOpen (table_format Plain) old.files name (contents_of table) → (result : Result KeptCodes Stop)
-      → IsKeptIn table p old.files result → IsKept p name result old new
+  pub opened_kept : MayOpen (table_format kind) old.files name (contents_of table) → (result : Result KeptCodes Stop)
+      → IsKeptIn table p old.files result → IsKept kind p name result old new
   opened_kept may (Ok codes) kept = codes_kept old.files refl may codes kept
   opened_kept may (Err (Refused why)) kept =
-      kept_where p name old new (Err (Refused why)) (Some may.bytes) (same_held old.files name (Some may.bytes) may.may)
-      (gives_outside (contents_of table) may.bytes p may.opens kept.0 ∙ ap (λ (w : Refusal). Err w) (sym kept.1)) (within may.bytes may.opens)
+      kept_where kind p name old new (Err (Refused why)) (Some may.bytes) (same_held old.files name (Some may.bytes) may.may)
+      (gives_outside kind (contents_of table) may.bytes p may.opens kept.0 ∙ ap (λ (w : Refusal). Err w) (sym kept.1)) (within may.bytes may.opens)
   opened_kept may (Err (Fault fault)) kept =
-      kept_where p name old new (Err (Fault fault)) (Some may.bytes) (same_held old.files name (Some may.bytes) may.may) tt (within may.bytes may.opens)
+      kept_where kind p name old new (Err (Fault fault)) (Some may.bytes) (same_held old.files name (Some may.bytes) may.may) tt (within may.bytes may.opens)
 
 if_some : {A : Type 0} (o : Option A) (P Q : A → Type 0) → ((x : A) → P x → Q x) → IfSome o P → IfSome o Q
 if_some None P Q f h = tt

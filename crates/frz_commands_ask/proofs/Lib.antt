@@ -8,3 +8,5 @@ pub mod KeptFiles
 pub mod QueryMeans
 pub mod Queried
 pub mod Lemmas
+mod Reported
+mod ReportMeans

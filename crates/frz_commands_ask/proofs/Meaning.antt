@@ -11,6 +11,7 @@ use Rattle.frz_board.specs.declared.man.Colour.TheVariants.{White, Black}
 use Rattle.frz_board.specs.Boards.{Board}
 use Rattle.frz_rules.specs.declared.fault.RulesFault.{RulesFault}
 use Rattle.frz_sets.specs.Views.{RuleLines}
+use Rattle.frz_sets.specs.declared.exit.Value.{Value}
 use Rattle.frz_rules.specs.Text.{rules_of}
 use Rattle.frz_index.specs.Members.{Member}
 use Rattle.frz_arena.specs.declared.bound.Bound.{Bound}
@@ -24,17 +25,17 @@ use Rattle.frz_commands_ask.specs.Meaning.{TellsBounds, MeansStatus, MeansSolve}
 use Rattle.frz_commands_ask.specs.Solving.{Solves, AreBounds, IsSolvedBy, IsSolvedIn, IsSolvedAt}
 
 -- the bounds of a position of the set hold in chess
-pub tells_bounds : (r : RuleLines) (p : Board) (white black : Bound) → Member r.groups p → Solves r p white black
-    → TellsBounds r p (bounds_text white black)
-tells_bounds r p white black inside s = record {
+pub tells_bounds : (r : RuleLines) (value : Board → Value) (p : Board) (white black : Bound) → Member r.groups p → Solves r value p white black
+    → TellsBounds r value p (bounds_text white black)
+tells_bounds r value p white black inside s = record {
   white = white;
   black = black;
   told = refl;
   bounds = s;
-  white_means = bound_means r (value_by r) White p white inside s.white_is;
-  black_means = bound_means r (value_by r) Black p black inside s.black_is;
-  white_alone = wins_alone r (value_by r) White p white black s.white_is s.black_is;
-  black_alone = wins_alone r (value_by r) Black p black white s.black_is s.white_is;
+  white_means = bound_means r value White p white inside s.white_is;
+  black_means = bound_means r value Black p black inside s.black_is;
+  white_alone = wins_alone r value White p white black s.white_is s.black_is;
+  black_alone = wins_alone r value Black p black white s.black_is s.white_is;
 }
 
 module _ (rules : List ℕ) (p : Board) (files : Files) (a : Answer) where
@@ -52,7 +53,7 @@ module _ (rules : List ℕ) (p : Board) (files : Files) (a : Answer) where
           lines = r;
           accepted = accepted;
           inside = inside;
-          tells = tells_bounds r p white black inside s;
+          tells = tells_bounds r (value_by r) p white black inside s;
         })
 
     by_rules : (r : RuleLines) → rules_of source ≡ Ok r → (b : Bool) → is_member r.groups p ≡ b

@@ -1,5 +1,5 @@
 -- The codes that a table file keeps at a position of its set, and what `query TABLE FEN` answers by them.
-use Rattle.std.specs.Prelude.{◌≡◌, ℕ, ◌+◌, ◌≤◌, ◌<◌, ◌^◌, List, [], length, slice_index, Option, Some, None, IfSome, Result, Ok, Err, if◌then◌else◌, ⊤}
+use Rattle.std.specs.Prelude.{◌≡◌, ℕ, ◌+◌, ◌≤◌, ◌<◌, ◌^◌, List, [], length, slice_index, Option, IfSome, Result, Ok, Err, if◌then◌else◌, ⊤}
 use Rattle.std.specs.Option.{unwrap_or}
 use Rattle.frz_board.specs.declared.man.Colour.{Colour}
 use Rattle.frz_board.specs.declared.man.Colour.TheVariants.{White, Black}
@@ -9,7 +9,7 @@ use Rattle.frz_game.specs.Numbers.{is_member}
 use Rattle.frz_store.specs.Files.{Files}
 use Rattle.frz_store.specs.Told.{StoreTold}
 use Rattle.frz_table.specs.declared.fault.TableFault.{TableFault}
-use Rattle.frz_table.specs.declared.kind.FileKind.TheVariants.{Plain}
+use Rattle.frz_table.specs.declared.kind.FileKind.{FileKind}
 use Rattle.frz_table.specs.Opening.{Contents, contents_of, opened, table_format}
 use Rattle.frz_table.specs.Possible.{held_text}
 use Rattle.frz_table.specs.Tables.{Table}
@@ -40,9 +40,10 @@ abbrev pub kept_by : Result Contents TableFault → List ℕ → Board → Resul
 kept_by (Ok contents) bytes p = kept_in contents bytes p
 kept_by (Err fault) bytes p = Err (refusals.Table fault)
 
--- the codes that what a name holds keeps at the position, or why it has none
-abbrev pub kept_of : Board → Option (List ℕ) → Result KeptCodes Refused
-kept_of p held = kept_by (opened (table_format Plain) held) (unwrap_or held []) p
+-- the codes that what a name holds, as a table of this kind, keeps at the position, or why it has
+-- none
+abbrev pub kept_of : FileKind → Board → Option (List ℕ) → Result KeptCodes Refused
+kept_of kind p held = kept_by (opened (table_format kind) held) (unwrap_or held []) p
 
 -- the lines of the codes, or the line that refuses
 abbrev pub answer_by : Result KeptCodes Refused → Files → Answer
@@ -54,8 +55,10 @@ pub record AreKept (table : Table) (p : Board) (told : Option Files) (codes : Ke
   pub inside : Member table.rules.groups p
   pub white_small : codes.white < 2 ^ 32
   pub black_small : codes.black < 2 ^ 32
-  pub white : IfSome told (λ m. IfSome (m table.name) (λ bytes. kept_at White (contents_of table) bytes p ≡ codes.white))
-  pub black : IfSome told (λ m. IfSome (m table.name) (λ bytes. kept_at Black (contents_of table) bytes p ≡ codes.black))
+  pub white : IfSome told (λ m. IfSome (m table.name)
+      (λ bytes. kept_at White (contents_of table) bytes p ≡ codes.white))
+  pub black : IfSome told (λ m. IfSome (m table.name)
+      (λ bytes. kept_at Black (contents_of table) bytes p ≡ codes.black))
 
 -- the codes of an open table, or the position is outside its set, or a fault stopped the call
 abbrev pub IsKeptIn : Table → Board → Option Files → Result KeptCodes Stop → Type 0
@@ -65,8 +68,8 @@ IsKeptIn table p told (Err (stops.Fault fault)) = ⊤
 
 -- the answer is that of the name in some files, which are those that the store tells where it does, and no more was
 -- asked of the store than 24 bytes and the text
-pub record IsKept (p : Board) (name : List ℕ) (result : Result KeptCodes Stop) (old new : StoreTold) : Type 0 where
+pub record IsKept (kind : FileKind) (p : Board) (name : List ℕ) (result : Result KeptCodes Stop) (old new : StoreTold) : Type 0 where
   pub files : Files
   pub agrees : IfSome old.files (λ told. told ≡ files)
-  pub due : Answers result (kept_of p (files name))
+  pub due : Answers result (kept_of kind p (files name))
   pub asked : new.asked ≤ old.asked + (24 + length (held_text (files name)))

@@ -2,3 +2,4 @@ pub mod Solving
 pub mod Meaning
 pub mod Kept
 pub mod Querying
+pub mod Reporting

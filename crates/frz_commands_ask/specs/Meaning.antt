@@ -15,6 +15,7 @@ use Rattle.frz_prelude.specs.RulesFiles.{asked_of}
 use Rattle.frz_rules.specs.declared.fault.RulesFault.{RulesFault}
 use Rattle.frz_index.specs.Members.{Member}
 use Rattle.frz_sets.specs.Views.{RuleLines}
+use Rattle.frz_sets.specs.declared.exit.Value.{Value}
 use Rattle.frz_rules.specs.Text.{rules_of}
 use Rattle.frz_arena.specs.declared.bound.Bound.{Bound}
 use Rattle.frz_exits.specs.Books.{value_by}
@@ -22,14 +23,15 @@ use Rattle.frz_game.specs.Meaning.{Means, WinsAlone}
 use Rattle.frz_prelude.specs.BoundLines.{bounds_text}
 use Rattle.frz_commands_ask.specs.Solving.{Solves, IsSolvedAt}
 
--- the text tells the bounds of both sides at a position of the rules' set, in the game of the rules, and they hold in chess
-pub record TellsBounds (lines : RuleLines) (p : Board) (text : List ℕ) : Type 0 where
+-- the text tells the bounds of both sides at a position of the rules' set, in the game of the rules
+-- and a book, and they hold in chess
+pub record TellsBounds (lines : RuleLines) (value : Board → Value) (p : Board) (text : List ℕ) : Type 0 where
   pub white : Bound
   pub black : Bound
   pub told : text ≡ bounds_text white black
-  pub bounds : Solves lines p white black
-  pub white_means : Means lines (value_by lines) White p white
-  pub black_means : Means lines (value_by lines) Black p black
+  pub bounds : Solves lines value p white black
+  pub white_means : Means lines value White p white
+  pub black_means : Means lines value Black p black
   pub white_alone : WinsAlone white black
   pub black_alone : WinsAlone black white
 
@@ -40,7 +42,7 @@ pub record TellsSolved (rules : List ℕ) (p : Board) (files : Files) (text : Li
   pub lines : RuleLines
   pub accepted : rules_of source ≡ Ok lines
   pub inside : Member lines.groups p
-  pub tells : TellsBounds lines p text
+  pub tells : TellsBounds lines (value_by lines) p text
 
 -- the rules file is there and accepted, and the position is not in its set
 pub record IsOutside (rules : List ℕ) (p : Board) (files : Files) : Type 0 where
@@ -72,13 +74,15 @@ pub record MeansSolve (rules : List ℕ) (p : Board) (files : Files) (a : Answer
   pub untaken : a.taken ≡ 0
   pub says : MeansStatus rules p files a.status a.text
 
--- `solve` at a position: one `size` and one `read` of the rules file, of which nothing is asked where it is missing or too long
+-- `solve` at a position: one `size` and one `read` of the rules file, of which nothing is asked where it is
+-- missing or too long
 abbrev pub solving_at : List ℕ → Board → Job
-solving_at rules p = record (plain (Success ∷ Rules ∷ Outside ∷ Missing ∷ []) (λ files input a. IsSolvedAt p rules files a)) {
-  means = λ files input a. MeansSolve rules p files a;
-  needs = record { store = true; reads = Once; input = false; memory = true };
-  costs = λ files input a. record { steps = None; calls = Some 2; asked = Some (asked_of (files rules)) };
-}
+solving_at rules p = record (plain (Success ∷ Rules ∷ Outside ∷ Missing ∷ [])
+    (λ files input a. IsSolvedAt p rules files a)) {
+      means = λ files input a. MeansSolve rules p files a;
+      needs = record { store = true; reads = Once; input = false; memory = true };
+      costs = λ files input a. record { steps = None; calls = Some 2; asked = Some (asked_of (files rules)) };
+    }
 
 -- solve RULES FEN
 abbrev pub solve_words : List (List ℕ) → Job

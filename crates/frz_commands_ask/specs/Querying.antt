@@ -1,12 +1,16 @@
--- What `query TABLE FEN` is to do, and what its answers mean. No file changes.
+-- What `query TABLE FEN` and `chainquery TABLE FEN` are to do, and what their answers mean. No file
+-- changes.
 use Rattle.std.specs.Prelude.{◌≡◌, ℕ, ◌+◌, List, [], ◌∷◌, length, true, false, Some, None}
 use Rattle.frz_board.specs.declared.man.Colour.TheVariants.{White, Black}
 use Rattle.frz_board.specs.Boards.{Board}
 use Rattle.frz_fen.specs.Reading.{fen_of}
 use Rattle.frz_exits.specs.Books.{value_by}
+use Rattle.frz_game.specs.SmallLags.{HasSmallLags}
 use Rattle.frz_index.specs.Members.{Member}
+use Rattle.frz_sets.specs.declared.exit.Value.{Value}
 use Rattle.frz_store.specs.Files.{Files}
-use Rattle.frz_table.specs.declared.kind.FileKind.TheVariants.{Plain}
+use Rattle.frz_table.specs.declared.kind.FileKind.{FileKind}
+use Rattle.frz_table.specs.declared.kind.FileKind.TheVariants.{Plain, Chained}
 use Rattle.frz_table.specs.Layout.{magic_of}
 use Rattle.frz_table.specs.Opening.{Contents}
 use Rattle.frz_table.specs.Possible.{held_text}
@@ -18,50 +22,70 @@ use Rattle.frz_answer.specs.Jobs.{Job, Once, plain}
 use Rattle.frz_answer.specs.Words.{taking, two_words_of}
 use Rattle.frz_prelude.specs.BoundLines.{kept_text}
 use Rattle.frz_prelude.specs.Positions.{on_position}
-use Rattle.frz_prelude.specs.TableFiles.{OpensAs, TellsTableFault}
+use Rattle.frz_prelude.specs.TableFiles.{OpensAsKind, TellsFaultOfKind}
 use Rattle.frz_commands_ask.specs.Kept.{kept_at, kept_of, answer_by}
 use Rattle.frz_commands_ask.specs.Meaning.{TellsBounds}
 
--- the text tells the codes that the file keeps at the position of its set; where the file is the one file of its text,
--- these are the bounds of both sides, and they hold in chess
-pub record TellsKept (table : List ℕ) (p : Board) (files : Files) (text : List ℕ) : Type 0 where
+-- where the file is the one file of its text, the text tells the bounds of both sides, and they hold
+-- in chess: by its exit lines, or, for a table over a second one, by any book whose values have small
+-- lags, of which it is the one file
+abbrev pub TellsWhereExact : FileKind → Contents → List ℕ → Board → List ℕ → Type 0
+TellsWhereExact Plain contents bytes p text =
+    IsOneFile (magic_of Plain) contents.text contents.rules (value_by contents.rules) bytes
+    → TellsBounds contents.rules (value_by contents.rules) p text
+TellsWhereExact Chained contents bytes p text =
+    (value : Board → Value) → HasSmallLags value → IsOneFile (magic_of Chained) contents.text contents.rules value bytes
+    → TellsBounds contents.rules value p text
+
+-- the text tells the codes that the file keeps at the position of its set
+pub record TellsKept (kind : FileKind) (table : List ℕ) (p : Board) (files : Files) (text : List ℕ) : Type 0 where
   pub bytes : List ℕ
   pub contents : Contents
-  pub open_file : OpensAs table files bytes contents
+  pub open_file : OpensAsKind kind table files bytes contents
   pub inside : Member contents.rules.groups p
   pub told : text ≡ kept_text (kept_at White contents bytes p) (kept_at Black contents bytes p)
-  pub where_exact : IsOneFile (magic_of Plain) contents.text contents.rules (value_by contents.rules) bytes → TellsBounds contents.rules p text
+  pub where_exact : TellsWhereExact kind contents bytes p text
 
 -- the file opens as a table, and the position is not in its set
-pub record IsOutside (table : List ℕ) (p : Board) (files : Files) : Type 0 where
+pub record IsOutside (kind : FileKind) (table : List ℕ) (p : Board) (files : Files) : Type 0 where
   pub bytes : List ℕ
   pub contents : Contents
-  pub open_file : OpensAs table files bytes contents
+  pub open_file : OpensAsKind kind table files bytes contents
   pub outside : Member contents.rules.groups p → ⊥
 
 -- what an answer says, by its status
-abbrev pub MeansStatus : List ℕ → Board → Files → Status → List ℕ → Type 0
-MeansStatus table p files Success text = TellsKept table p files text
-MeansStatus table p files Table text = TellsTableFault table files text
-MeansStatus table p files Outside text = IsOutside table p files
-MeansStatus table p files Missing text = files table ≡ None
-MeansStatus table p files status text = ⊥
+abbrev pub MeansStatus : FileKind → List ℕ → Board → Files → Status → List ℕ → Type 0
+MeansStatus kind table p files Success text = TellsKept kind table p files text
+MeansStatus kind table p files Table text = TellsFaultOfKind kind table files text
+MeansStatus kind table p files Outside text = IsOutside kind table p files
+MeansStatus kind table p files Missing text = files table ≡ None
+MeansStatus kind table p files status text = ⊥
 
--- what an answer of `query` means: it changes no file and takes no input, and each status has its cause
-pub record MeansQuery (table : List ℕ) (p : Board) (files : Files) (a : Answer) : Type 0 where
+-- what an answer means: it changes no file and takes no input, and each status has its cause
+pub record MeansQuery (kind : FileKind) (table : List ℕ) (p : Board) (files : Files) (a : Answer) : Type 0 where
   pub same : a.files ≡ files
   pub untaken : a.taken ≡ 0
-  pub says : MeansStatus table p files a.status a.text
+  pub says : MeansStatus kind table p files a.status a.text
 
--- `query` at a position: no step, at most five calls of the store to open the table and one for each of the two codes, and
--- no more bytes asked than 24 and the text of the table
-abbrev pub querying_at : List ℕ → Board → Job
-querying_at table p = record (plain (Success ∷ Table ∷ Outside ∷ Missing ∷ []) (λ files input a. a ≡ answer_by (kept_of p (files table)) files)) {
-  means = λ files input a. MeansQuery table p files a;
-  needs = record { store = true; reads = Once; input = false; memory = true };
-  costs = λ files input a. record { steps = Some 0; calls = Some 7; asked = Some (24 + length (held_text (files table))) };
-}
+-- to query a table of this kind at a position: no step, at most five calls of the store to open the
+-- table and one for each of the two codes, and no more bytes asked than 24 and the text of the table
+abbrev pub querying_at : FileKind → List ℕ → Board → Job
+querying_at kind table p = record (plain (Success ∷ Table ∷ Outside ∷ Missing ∷ [])
+    (λ files input a. a ≡ answer_by (kept_of kind p (files table)) files)) {
+      means = λ files input a. MeansQuery kind table p files a;
+      needs = record { store = true; reads = Once; input = false; memory = true };
+      costs = λ files input a. record { steps = Some 0; calls = Some 7; asked = Some (24 + length (held_text (files table))) };
+    }
+
+-- TABLE FEN
+abbrev pub querying_words : FileKind → List (List ℕ) → Job
+querying_words kind words =
+    taking (λ names. on_position (querying_at kind names.0) (fen_of names.1)) (two_words_of words)
 
 -- query TABLE FEN
 abbrev pub query_words : List (List ℕ) → Job
-query_words words = taking (λ names. on_position (querying_at names.0) (fen_of names.1)) (two_words_of words)
+query_words words = querying_words Plain words
+
+-- chainquery TABLE FEN
+abbrev pub chainquery_words : List (List ℕ) → Job
+chainquery_words words = querying_words Chained words

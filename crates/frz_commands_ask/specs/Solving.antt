@@ -7,6 +7,7 @@ use Rattle.frz_answer.specs.Jobs.{Job, plain, nothing, steps_alone}
 use Rattle.frz_board.specs.declared.man.Colour.TheVariants.{White, Black}
 use Rattle.frz_board.specs.Boards.{Board}
 use Rattle.frz_sets.specs.Views.{RuleLines}
+use Rattle.frz_sets.specs.declared.exit.Value.{Value}
 use Rattle.frz_rules.specs.Text.{rules_of}
 use Rattle.frz_arena.specs.declared.bound.Bound.{Bound}
 use Rattle.frz_exits.specs.Books.{value_by}
@@ -21,24 +22,28 @@ use Rattle.frz_prelude.specs.declared.stop.Stop.{Stop}
 use Rattle.frz_prelude.specs.declared.stop.Stop.TheVariants.{Refused, Fault}
 use Rattle.frz_commands_ask.specs.declared.bounds.Bounds.{Bounds}
 
--- the bounds of both sides at the position, in the game of the rules and their exit lines
-pub record Solves (r : RuleLines) (p : Board) (white black : Bound) : Type 0 where
-  pub white_is : IsBoundAt r (value_by r) White p white
-  pub black_is : IsBoundAt r (value_by r) Black p black
+-- the bounds of both sides at the position, in the game of the rules and a book
+pub record Solves (r : RuleLines) (value : Board → Value) (p : Board) (white black : Bound) : Type 0 where
+  pub white_is : IsBoundAt r value White p white
+  pub black_is : IsBoundAt r value Black p black
 
 -- the bounds at a position of the set, or it is outside, or there was no memory
 abbrev pub AreFound : RuleLines → Board → Result Bounds Stop → Type 0
-AreFound r p (Ok bounds) = Member r.groups p × Solves r p bounds.white bounds.black
+AreFound r p (Ok bounds) = Member r.groups p × Solves r (value_by r) p bounds.white bounds.black
 AreFound r p (Err (Refused why)) = (Member r.groups p → ⊥) × (why ≡ refusals.Outside)
 AreFound r p (Err (Fault fault)) = fault ≡ NoMemory
 
 -- the lines of the bounds of both sides
 abbrev pub AreBounds : RuleLines → Board → Files → Answer → Type 0
-AreBounds r p files a = (white : Bound) × (black : Bound) × Solves r p white black × (a ≡ says Success (bounds_text white black) files)
+AreBounds r p files a =
+    (white : Bound) × (black : Bound) × Solves r (value_by r) p white black
+    × (a ≡ says Success (bounds_text white black) files)
 
 -- at rules that were read: the position is outside their set, or it has its bounds
 abbrev pub IsSolvedBy : RuleLines → Board → Files → Answer → Type 0
-IsSolvedBy r p files a = MatchBool (is_member r.groups p) (AreBounds r p files a) (a ≡ says Outside (codes "outside\n") files)
+IsSolvedBy r p files a = MatchBool (is_member r.groups p)
+    (AreBounds r p files a)
+    (a ≡ says Outside (codes "outside\n") files)
 
 -- at the text of the rules file: its first fault, or the rules
 abbrev pub IsSolvedIn : List ℕ → Board → Files → Answer → Type 0

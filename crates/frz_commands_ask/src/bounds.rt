@@ -69,7 +69,8 @@ fn bounds_at<L: Ledger>(
     requires member { Member rules.now.groups p.now }
     requires number { i ≡ Num rules.now.groups p.now }
     ensures later { steps.old ≤ steps.new }
-    ensures bounds { IfOk result (λ bounds. Solves rules.now p.now bounds.white bounds.black) }
+    ensures bounds { IfOk result
+        (λ bounds. Solves rules.now (value_by rules.now) p.now bounds.white bounds.black) }
 {
     let white = bound_at(alloc, rules, set, p, i, Colour::White, steps)?;
     let black = bound_at(alloc, rules, set, p, i, Colour::Black, steps)?;

@@ -9,7 +9,7 @@ ghost use Rattle.frz_commands_ask.specs.Kept.{IsKept, IsKeptIn};
 use frz_board::{Colour, Position};
 use frz_prelude::{Stop, number_in};
 use frz_store::Store;
-use frz_table::{TableFile, open_table};
+use frz_table::{FileKind, TableFile, open_kind};
 use std::alloc::Global;
 
 /// The codes of both sides at one number of a table.
@@ -35,21 +35,22 @@ fn codes_in<S: Store>(table: &TableFile, p: &Position, store: &mut S) -> Result<
     Ok(KeptCodes { white, black })
 }
 
-/// The codes that the table of this name keeps at the number of the position.
+/// The codes that the table of this name and this kind keeps at the number of the position.
 pub fn kept_codes_at<S: Store>(
     alloc: Global,
     name: &str,
+    kind: FileKind,
     p: &Position,
     store: &mut S,
 ) -> Result<KeptCodes, Stop>
     requires { IsValid p.now }
-    ensures kept { IsKept p.now name.now result
+    ensures kept { IsKept kind p.now name.now result
         (store_of S.Store store.old) (store_of S.Store store.new) }
     ensures quiet { StoreQuiet (store_of S.Store store.old) (store_of S.Store store.new) }
     ensures cause { HasItsCause result (store_of S.Store store.old) (store_of S.Store store.new) }
     ensures calls { S.calls store.new ≤ S.calls store.old + 7 }
 {
-    match open_table(alloc, store, name) {
+    match open_kind(alloc, store, name, kind) {
         Ok(table) => codes_in(&table, p, store),
         Err(fault) => Err(Stop::from(fault)),
     }

@@ -1,11 +1,11 @@
-use Rattle.std.proofs.Common.{subst, arith, ◌≤◌, ◌+◌, length, sym}
+use Rattle.std.proofs.Common.{subst, arith}
 use Rattle.frz_store.specs.Told.{store_of}
 use Rattle.frz_commands_ask.specs.Kept.{IsKeptIn}
 use Rattle.frz_commands_ask.proofs.KeptFiles.{opened_kept, refused_kept}
 use Rattle.frz_commands_ask.proofs.kept.kept_codes_at.Goals as goal
 
 pub returns-in-Err-clause-kept : goal.returns-in-Err-clause-kept
-returns-in-Err-clause-kept g c = refused_kept _ _ _ _ c.in-Err.fault _ c.from.ensures c.in-Err.ensures.may_refuse
+returns-in-Err-clause-kept g c = refused_kept _ _ _ _ _ c.in-Err.fault _ c.from.ensures c.in-Err.ensures.may_refuse
 
 pub returns-in-Ok-clause-kept : goal.returns-in-Ok-clause-kept
 returns-in-Ok-clause-kept g c =
@@ -13,6 +13,6 @@ returns-in-Ok-clause-kept g c =
     let table = c.in-Ok.table in
     let first = e.asked in
     let then = c.codes_in.ensures.asked in
-    opened_kept table c.args.p.now c.args.name.now (store_of g.S.Store c.args.store.now) (store_of g.S.Store c.codes_in.new.store)
+    opened_kept c.args.kind table c.args.p.now c.args.name.now (store_of g.S.Store c.args.store.now) (store_of g.S.Store c.codes_in.new.store)
     e.name (omega (arith, first, then)) e.may_open c.codes_in.result
     (subst (λ told. IsKeptIn table c.args.p.now told c.codes_in.result) e.quiet.unwritten.files c.codes_in.ensures.kept)
