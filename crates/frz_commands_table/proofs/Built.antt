@@ -23,9 +23,7 @@ use Rattle.frz_exits.proofs.Lemmas.{small_values}
 use Rattle.frz_game.specs.SmallLags.{HasSmallLags}
 use Rattle.frz_table.specs.declared.kind.FileKind.TheVariants.{Plain}
 use Rattle.frz_table.specs.Layout.{magic_of}
-use Rattle.frz_board.specs.declared.man.Colour.TheVariants.{White, Black}
 use Rattle.frz_game.proofs.Lemmas.{table_there}
-use Rattle.frz_table.specs.Layout.{file_of}
 use Rattle.frz_check.specs.OneFile.{IsOneFile}
 use Rattle.frz_check.proofs.Lemmas.{file_there}
 use Rattle.frz_commands_table.specs.Building.{built_line, IsBuiltBy, IsBuiltIn, IsBuiltAt, building_by}

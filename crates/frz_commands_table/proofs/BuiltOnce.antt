@@ -17,9 +17,7 @@ use Rattle.frz_sets.specs.Sets.{size_of}
 use Rattle.frz_exits.specs.Books.{value_by}
 use Rattle.frz_table.specs.declared.kind.FileKind.TheVariants.{Plain}
 use Rattle.frz_table.specs.Layout.{magic_of}
-use Rattle.frz_board.specs.declared.man.Colour.TheVariants.{White, Black}
 use Rattle.frz_game.proofs.Lemmas.{table_one}
-use Rattle.frz_table.specs.Layout.{file_of}
 use Rattle.frz_check.proofs.Lemmas.{one_file}
 use Rattle.frz_commands_table.specs.Building.{built_line, IsBuiltBy, IsBuiltIn, IsBuiltAt}
 use Rattle.frz_commands_table.specs.BuildMeaning.{building_at, build_words}

@@ -1,14 +1,12 @@
 -- What the answers of `check` mean.
-use Rattle.std.proofs.Common.{◌≡◌, ℕ, List, [], Result, true, false, Option, Some, None, Ok, Err, refl, sym, ap, subst, ◌∙◌}
+use Rattle.std.proofs.Common.{◌≡◌, ℕ, List, [], Result, Option, Some, None, Ok, Err, refl, sym, ap, subst, ◌∙◌}
 use Rattle.std.specs.Option.{unwrap_or}
 use Rattle.frz_board.specs.declared.man.Colour.{Colour}
 use Rattle.frz_board.specs.declared.man.Colour.TheVariants.{White, Black}
 use Rattle.frz_exits.specs.Books.{value_by}
-use Rattle.frz_game.proofs.Lemmas.{plies_few, table_means}
+use Rattle.frz_game.proofs.Lemmas.{table_means}
 use Rattle.frz_game.specs.Bounds.{IsTableOf}
-use Rattle.frz_rules.specs.Text.{rules_of}
 use Rattle.frz_sets.specs.Sets.{size_of}
-use Rattle.frz_sets.specs.Views.{RuleLines}
 use Rattle.frz_store.specs.Files.{Files}
 use Rattle.frz_table.specs.declared.fault.TableFault.{TableFault}
 use Rattle.frz_table.specs.declared.fault.TableFault.TheVariants.{Missing, Magic, Truncated, Extra, Rules, Size, Failed, NoMemory}
@@ -27,7 +25,7 @@ use Rattle.frz_prelude.specs.Refusals.{table_status}
 use Rattle.frz_prelude.specs.TableCauses.{table_line}
 use Rattle.frz_prelude.specs.TableFiles.{TellsTableFault}
 use Rattle.frz_prelude.proofs.Lemmas.{IsOfBytes, of_bytes, opened_missing}
-use Rattle.frz_commands_table.specs.Checking.{verdict_status, verdict_line, IsJudged, IsCheckedBy, IsCheckedAt}
+use Rattle.frz_commands_table.specs.Checking.{verdict_status, verdict_line, IsCheckedBy, IsCheckedAt}
 use Rattle.frz_commands_table.specs.CheckMeans.{MeansStatus, HoldsOneFile, MeansCheck}
 use Rattle.frz_commands_table.specs.Headline.{Headline}
 use Rattle.frz_commands_table.proofs.Reading.{few_plies, exact_tables}

@@ -37,7 +37,7 @@ use Rattle.frz_prelude.specs.declared.stop.Stop.TheVariants.{Refused}
 use Rattle.frz_prelude.proofs.Lemmas.{holding, found_where, refusal_said, table_own, StopsWith}
 use Rattle.frz_commands_table.specs.declared.judging.Judged.{Judged}
 use Rattle.frz_commands_table.specs.Judging.{JudgesFile}
-use Rattle.frz_commands_table.specs.Checking.{verdict_status, verdict_line, IsJudged, IsCheckedBy, IsCheckedAt, checking_costs}
+use Rattle.frz_commands_table.specs.Checking.{verdict_status, verdict_line, IsCheckedBy, IsCheckedAt, checking_costs}
 use Rattle.frz_commands_table.specs.CheckMeans.{checking_at, check_words}
 use Rattle.frz_commands_table.proofs.CheckMeaning.{check_means}
 use Rattle.frz_commands_table.proofs.Reading.{exact_tables}
@@ -106,7 +106,7 @@ within_costs : (held : Option (List ℕ)) (old new : World) → WithinFile held 
     → WithinCosts (checking_costs held) old new
 within_costs held old new h = record { steps = h.steps; calls = h.calls; asked = h.asked }
 
-same_held : (told : Option Files) (name : List ℕ) (held : Option (List ℕ)) → MayHold told name held → IfSome told (λ m. m name ≡ held)
+pub same_held : (told : Option Files) (name : List ℕ) (held : Option (List ℕ)) → MayHold told name held → IfSome told (λ m. m name ≡ held)
 same_held None name held may = tt
 same_held (Some m) name held may = may
 
@@ -167,7 +167,7 @@ pub own_verdict : (v : Verdict) → OneOf (verdict_status v) (Success ∷ Wrong 
 own_verdict verdict.Exact = refl
 own_verdict (verdict.Wrong wrong) = refl
 
-from_table : (fault : TableFault) (why : Refusal) → stop_of_table fault ≡ Refused why → refusals.Table fault ≡ why
+pub from_table : (fault : TableFault) (why : Refusal) → stop_of_table fault ≡ Refused why → refusals.Table fault ≡ why
 from_table Missing why e = cc
 from_table Magic why e = cc
 from_table (Truncated length due) why e = cc

@@ -1,6 +1,5 @@
 -- The verdict on an open table is one on the file of its name.
 use Rattle.std.proofs.Common.{◌≡◌, subst, ℕ, ◌+◌, ◌*◌, ◌≤◌, List, length, Option, Some, Ok}
-use Rattle.frz_sets.specs.Sets.{size_of}
 use Rattle.frz_sets.specs.Views.{RuleLines}
 use Rattle.frz_exits.specs.Books.{value_by}
 use Rattle.frz_rules.specs.Text.{rules_of}

@@ -1,4 +1,5 @@
 -- The lemmas that the crates above cite.
 pub use Rattle.frz_commands_table.proofs.BuiltOnce.{build_lawful}
 pub use Rattle.frz_commands_table.proofs.Checked.{check_lawful}
+pub use Rattle.frz_commands_table.proofs.MigratedOnce.{migrate_lawful}
 pub use Rattle.frz_commands_table.proofs.Sampled.{sample_lawful}

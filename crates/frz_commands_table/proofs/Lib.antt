@@ -1,4 +1,5 @@
 pub mod Lemmas
+mod UnlessSame
 mod Built
 mod BuildAsked
 mod BuildMeaning
@@ -7,5 +8,12 @@ mod JudgedFiles
 mod Reading
 mod CheckMeaning
 mod Checked
+mod OneAccepted
 mod SampleText
 mod Sampled
+mod MovedCodes
+mod MovedFiles
+mod MigrateMeaning
+mod MigratedOnce
+mod WritingNew
+mod MigrateEnds

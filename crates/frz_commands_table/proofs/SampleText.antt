@@ -1,5 +1,5 @@
 -- That the rules text of a sample is accepted, whatever its square, and how many numbers its set has.
-use Rattle.std.proofs.Common.{◌≡◌, ℕ, ◌+◌, ◌-◌, ◌*◌, ◌^◌, ◌<◌, ◌≤◌, Bool, true, false, cond, ◌||◌, List, [], ◌∷◌, ◌++◌, Option, Some, None, Result, Ok, refl, ap, ◌∙◌, arith, length, codes}
+use Rattle.std.proofs.Common.{◌≡◌, ℕ, ◌+◌, ◌-◌, ◌*◌, ◌^◌, ◌<◌, ◌≤◌, Bool, true, false, cond, List, [], ◌∷◌, ◌++◌, Option, Some, None, Ok, refl, ap, ◌∙◌, arith, length, codes}
 use Rattle.std.specs.Prelude.{◌==◌, nat_le, nat_lt, map, option_map}
 use Rattle.std.specs.List.{filter}
 use Rattle.std.proofs.lemmas.Bool.{le-leb, ne_eqb}
@@ -19,7 +19,7 @@ use Rattle.frz_words.specs.declared.squares.Rectangle.{Rectangle}
 use Rattle.frz_words.specs.Words.{words, is_blank, has_bytes}
 use Rattle.frz_sets.specs.Groups.{has_king_group}
 use Rattle.frz_sets.specs.Sets.{size_of}
-use Rattle.frz_sets.specs.Views.{GroupLine, ExitLine, RuleLines, Condition}
+use Rattle.frz_sets.specs.Views.{GroupLine, ExitLine, RuleLines}
 use Rattle.frz_sets.specs.declared.exit.Test.TheVariants.{Count}
 use Rattle.frz_sets.specs.declared.exit.Value.TheVariants.{Draw}
 use Rattle.frz_sets.specs.declared.forbid.Forbid.{Forbid}

@@ -58,17 +58,19 @@ pub record MeansBuild (rules table : List ℕ) (files : Files) (a : Answer) : Ty
 
 -- `build` at two names that differ: one `size` and one `read` of the rules file, and the calls that write the table
 abbrev pub building_at : List ℕ → List ℕ → Job
-building_at rules table = record (plain (Success ∷ Rules ∷ Missing ∷ []) (λ files input a. IsBuiltAt rules table files a)) {
-  means = λ files input a. MeansBuild rules table files a;
-  needs = record { store = true; reads = Once; input = false; memory = true };
-  writes = Some table;
-  costs = λ files input a. record {
-    steps = Some (steps_by (rules_held (files rules)));
-    calls = Some (2 + calls_by (rules_held (files rules)));
-    asked = Some (asked_of (files rules));
-  };
-}
+building_at rules table = record (plain (Success ∷ Rules ∷ Missing ∷ [])
+    (λ files input a. IsBuiltAt rules table files a)) {
+      means = λ files input a. MeansBuild rules table files a;
+      needs = record { store = true; reads = Once; input = false; memory = true };
+      writes = Some table;
+      costs = λ files input a. record {
+        steps = Some (steps_by (rules_held (files rules)));
+        calls = Some (2 + calls_by (rules_held (files rules)));
+        asked = Some (asked_of (files rules));
+      };
+    }
 
 -- build RULES TABLE
 abbrev pub build_words : List (List ℕ) → Job
-build_words words = taking (λ names. unless (bytes_eq names.0 names.1) (building_at names.0 names.1)) (two_words_of words)
+build_words words =
+    taking (λ names. unless (bytes_eq names.0 names.1) (building_at names.0 names.1)) (two_words_of words)

@@ -42,7 +42,11 @@ abbrev pub building_by : List ℕ → RuleLines → List ℕ → Job
 building_by text r table = record (plain (Success ∷ []) (λ files input a. IsBuiltBy text r table files a)) {
   needs = record nothing { store = true; memory = true };
   writes = Some table;
-  costs = λ files input a. record { steps = Some (4 * size_of r.groups); calls = Some (writing_calls (size_of r.groups)); asked = Some 0 };
+  costs = λ files input a. record {
+    steps = Some (4 * size_of r.groups);
+    calls = Some (writing_calls (size_of r.groups));
+    asked = Some 0;
+  };
 }
 
 -- what the rules of a name cost, and nothing where it has none

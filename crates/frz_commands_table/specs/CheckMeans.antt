@@ -19,7 +19,8 @@ use Rattle.frz_answer.specs.Answers.{Answer}
 use Rattle.frz_answer.specs.Jobs.{Job, Once, plain}
 use Rattle.frz_answer.specs.Words.{taking, one_word_of}
 use Rattle.frz_prelude.specs.TableFiles.{OpensAs, TellsTableFault}
-use Rattle.frz_commands_table.specs.Checking.{exact_line, wrong_line, IsCheckedAt, checking_costs}
+use Rattle.frz_prelude.specs.WrongLines.{wrong_line}
+use Rattle.frz_commands_table.specs.Checking.{exact_line, IsCheckedAt, checking_costs}
 use Rattle.frz_commands_table.specs.Headline.{Headline}
 
 -- the table is exact, and the text tells its size
@@ -33,7 +34,8 @@ pub record TellsWrong (table : List ℕ) (files : Files) (text : List ℕ) : Typ
   pub contents : Contents
   pub open_file : OpensAs table files bytes contents
   pub wrong : Wrong
-  pub first : IsFirstWrong (graph_by contents.rules (value_by contents.rules)) (size_of contents.rules.groups) (kept_codes contents bytes) wrong
+  pub first : IsFirstWrong (graph_by contents.rules (value_by contents.rules)) (size_of contents.rules.groups)
+      (kept_codes contents bytes) wrong
   pub told : text ≡ wrong_line wrong
 
 -- what an answer says, by its status
@@ -53,8 +55,8 @@ pub record HoldsOneFile (table : List ℕ) (files : Files) : Type 0 where
   pub accepted : rules_of text ≡ Ok rules
   pub one_file : IsOneFile (magic_of Plain) text rules (value_by rules) bytes
 
--- what an answer of `check` means: it changes no file and takes no input, each status has its cause, and the one file of a text
--- is found exact
+-- what an answer of `check` means: it changes no file and takes no input, each status has its cause, and the
+-- one file of a text is found exact
 pub record MeansCheck (table : List ℕ) (files : Files) (a : Answer) : Type 0 where
   pub same : a.files ≡ files
   pub untaken : a.taken ≡ 0
@@ -63,11 +65,12 @@ pub record MeansCheck (table : List ℕ) (files : Files) (a : Answer) : Type 0 w
 
 -- `check` of the table of this name
 abbrev pub checking_at : List ℕ → Job
-checking_at table = record (plain (statuses.Success ∷ statuses.Wrong ∷ statuses.Table ∷ statuses.Missing ∷ []) (λ files input a. IsCheckedAt table files a)) {
-  means = λ files input a. MeansCheck table files a;
-  needs = record { store = true; reads = Once; input = false; memory = true };
-  costs = λ files input a. checking_costs (files table);
-}
+checking_at table = record (plain (statuses.Success ∷ statuses.Wrong ∷ statuses.Table ∷ statuses.Missing ∷ [])
+    (λ files input a. IsCheckedAt table files a)) {
+      means = λ files input a. MeansCheck table files a;
+      needs = record { store = true; reads = Once; input = false; memory = true };
+      costs = λ files input a. checking_costs (files table);
+    }
 
 -- check TABLE
 abbrev pub check_words : List (List ℕ) → Job

@@ -8,7 +8,6 @@ use Rattle.frz_table.specs.declared.kind.FileKind.TheVariants.{Plain}
 use Rattle.frz_table.specs.Layout.{pieces_of}
 use Rattle.frz_table.specs.Opening.{Contents, opened, table_format}
 use Rattle.frz_table.specs.Possible.{held_text}
-use Rattle.frz_game.specs.declared.wrong.Wrong.{Wrong}
 use Rattle.frz_check.specs.declared.verdict.Verdict.{Verdict}
 use Rattle.frz_check.specs.declared.verdict.Verdict.TheVariants as verdict
 use Rattle.frz_check.specs.Kept.{kept_codes, opened_size}
@@ -17,23 +16,12 @@ use Rattle.frz_answer.specs.declared.status.Status.{Status}
 use Rattle.frz_answer.specs.declared.status.Status.TheVariants as statuses
 use Rattle.frz_answer.specs.Answers.{Answer, says}
 use Rattle.frz_answer.specs.Jobs.{Costs}
-use Rattle.frz_prelude.specs.BoundLines.{side_name}
 use Rattle.frz_prelude.specs.Refusals.{table_status}
 use Rattle.frz_prelude.specs.TableCauses.{table_line}
+use Rattle.frz_prelude.specs.WrongLines.{wrong_line}
 
 abbrev pub exact_line : ℕ → List ℕ
 exact_line size = codes "exact " ++ decimal size ++ codes "\n"
-
--- the side and the number of an entry
-abbrev pub place_text : Wrong → List ℕ
-place_text wrong = codes "wrong " ++ side_name wrong.side ++ (codes " " ++ decimal wrong.number)
-
--- the code that is kept there, and the local code
-abbrev pub codes_text : Wrong → List ℕ
-codes_text wrong = codes " kept " ++ decimal wrong.kept ++ (codes " given " ++ decimal wrong.given) ++ codes "\n"
-
-abbrev pub wrong_line : Wrong → List ℕ
-wrong_line wrong = place_text wrong ++ codes_text wrong
 
 -- how the verdict on a table of so many numbers is told
 abbrev pub verdict_status : Verdict → Status
@@ -59,8 +47,8 @@ IsCheckedBy (Err fault) bytes files a = a ≡ says (table_status fault) (table_l
 abbrev pub IsCheckedAt : List ℕ → Files → Answer → Type 0
 IsCheckedAt table files a = IsCheckedBy (opened (table_format Plain) (files table)) (bytes_at files table) files a
 
--- at most a step a number; five calls of the store to open the file and two for each piece of a side's codes; and no more
--- bytes asked than the file has
+-- at most a step a number; five calls of the store to open the file and two for each piece of a side's codes;
+-- and no more bytes asked than the file has
 abbrev pub checking_costs : Option (List ℕ) → Costs
 checking_costs held =
     let size = opened_size (opened (table_format Plain) held) in

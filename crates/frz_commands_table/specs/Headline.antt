@@ -34,7 +34,7 @@ pub record Headline (table : List ℕ) (files : Files) : Type 0 where
   pub black_table : IsTableOf rules (value_by rules) Black black
   -- so the file is the one file of its text
   pub one_file : AreBytes bytes → IsOneFile (magic_of Plain) text rules (value_by rules) bytes
-  -- a win forces, within its plies and against every legal reply, mate or an assigned win; where the exits are true it forces
-  -- mate, and with a win or a hold the opponent forces none
+  -- a win forces, within its plies and against every legal reply, mate or an assigned win; where the exits are
+  -- true it forces mate, and with a win or a hold the opponent forces none
   pub white_means : TableMeans rules (value_by rules) White white
   pub black_means : TableMeans rules (value_by rules) Black black

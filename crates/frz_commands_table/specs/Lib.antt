@@ -5,3 +5,7 @@ pub mod Judging
 pub mod Headline
 pub mod CheckMeans
 pub mod Sampling
+pub mod Migrated
+pub mod Rewriting
+pub mod Migrating
+pub mod MigrateMeans

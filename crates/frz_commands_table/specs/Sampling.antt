@@ -44,10 +44,15 @@ longest table = fold (λ most code. max (win_plies code) most) 0 table
 -- how many wins, holds and failures there are, and the most plies of a win
 abbrev pub tally_text : ℕ → ℕ → ℕ → ℕ → List ℕ
 tally_text wins holds none plies =
-    codes " wins " ++ (decimal wins ++ (codes " holds " ++ (decimal holds ++ (codes " none " ++ (decimal none ++ (codes " longest " ++ decimal plies))))))
+    codes " wins " ++ (decimal wins
+    ++ (codes " holds " ++ (decimal holds
+    ++ (codes " none " ++ (decimal none
+    ++ (codes " longest " ++ decimal plies))))))
 
 abbrev pub counts_text : List ℕ → List ℕ
-counts_text table = tally_text (count_by is_win table) (count_by (is_code (code_of Holds)) table) (count_by is_failure table) (longest table)
+counts_text table =
+    tally_text (count_by is_win table) (count_by (is_code (code_of Holds)) table)
+    (count_by is_failure table) (longest table)
 
 abbrev pub side_line : Colour → List ℕ → List ℕ
 side_line side table = side_name side ++ (counts_text table ++ codes "\n")
@@ -55,16 +60,20 @@ side_line side table = side_name side ++ (counts_text table ++ codes "\n")
 -- the square and the size, and how many numbers are broken
 abbrev pub head_text : ℕ → ℕ → ℕ → List ℕ
 head_text k size broken =
-    codes "sample " ++ (decimal k ++ (codes "\nnumbers " ++ (decimal size ++ (codes "\nbroken " ++ (decimal broken ++ codes "\n")))))
+    codes "sample " ++ (decimal k
+    ++ (codes "\nnumbers " ++ (decimal size
+    ++ (codes "\nbroken " ++ (decimal broken ++ codes "\n")))))
 
 abbrev pub sample_lines : ℕ → ℕ → List ℕ → List ℕ → List ℕ
 sample_lines k size white black =
-    head_text k size (count_by (is_code BROKEN) white) ++ (side_line White white ++ (side_line Black black ++ codes "exact\n"))
+    head_text k size (count_by (is_code BROKEN) white)
+    ++ (side_line White white ++ (side_line Black black ++ codes "exact\n"))
 
 -- by rules that were read: the lines tell of the tables of both sides
 abbrev pub IsSampledBy : ℕ → RuleLines → Files → Answer → Type 0
 IsSampledBy k r files a =
-    (white : List ℕ) × (black : List ℕ) × IsTableOf r (value_by r) White white × IsTableOf r (value_by r) Black black
+    (white : List ℕ) × (black : List ℕ)
+    × IsTableOf r (value_by r) White white × IsTableOf r (value_by r) Black black
     × (a ≡ says Success (sample_lines k sample_size white black) files)
 
 -- at the square of a number: by the rules of its text

@@ -5,14 +5,13 @@ ghost use Rattle.frz_store.specs.Told.{SourceTold, store_of, sink_of};
 ghost use Rattle.frz_answer.specs.World.{world};
 ghost use Rattle.frz_answer.specs.Ends.{Ran, Said};
 ghost use Rattle.frz_answer.specs.Texts.{WroteText};
-ghost use Rattle.frz_commands_table.specs.Checking.{exact_line, place_text, codes_text, wrong_line, verdict_status, verdict_line};
+ghost use Rattle.frz_commands_table.specs.Checking.{exact_line, verdict_status, verdict_line};
 ghost use Rattle.frz_commands_table.specs.CheckMeans.{checking_at, check_words};
 
 use crate::judging::{Judged, judge_file};
 use frz_answer::{End, Refusal, Status, one_word, refuse, said, write_numbered, write_piece};
 use frz_check::Verdict;
-use frz_game::Wrong;
-use frz_prelude::{Stop, write_side_name};
+use frz_prelude::{Stop, write_wrong};
 use frz_steps::Steps;
 use frz_store::{Failed, Sink, Store};
 use std::alloc::Global;
@@ -24,32 +23,6 @@ fn write_exact<O: Sink>(size: u32, out: &mut O) -> Result<(), Failed>
 {
     write_numbered(b"exact ", size as u64, out)?;
     write_piece(b"\n", out)
-}
-
-/// Writes which entry is wrong.
-fn write_place<O: Sink>(wrong: Wrong, out: &mut O) -> Result<(), Failed>
-    ensures { WroteText (place_text wrong) result (sink_of O.Sink out.old) (sink_of O.Sink out.new) }
-{
-    write_piece(b"wrong ", out)?;
-    write_side_name(wrong.side, out)?;
-    write_numbered(b" ", wrong.number as u64, out)
-}
-
-/// Writes the code that is kept and the one that is given.
-fn write_codes<O: Sink>(wrong: Wrong, out: &mut O) -> Result<(), Failed>
-    ensures { WroteText (codes_text wrong) result (sink_of O.Sink out.old) (sink_of O.Sink out.new) }
-{
-    write_numbered(b" kept ", wrong.kept as u64, out)?;
-    write_numbered(b" given ", wrong.given, out)?;
-    write_piece(b"\n", out)
-}
-
-/// Writes the first entry that is wrong.
-fn write_wrong<O: Sink>(wrong: Wrong, out: &mut O) -> Result<(), Failed>
-    ensures { WroteText (wrong_line wrong) result (sink_of O.Sink out.old) (sink_of O.Sink out.new) }
-{
-    write_place(wrong, out)?;
-    write_codes(wrong, out)
 }
 
 /// Tells the verdict on a table.

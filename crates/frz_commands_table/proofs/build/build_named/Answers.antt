@@ -1,16 +1,10 @@
-use Rattle.std.proofs.Common.{◌≡◌, sym, ◌∙◌, Bool, true, false, refl}
+use Rattle.std.proofs.Common.{◌≡◌, sym, ◌∙◌, true, false, refl}
 use Rattle.std.specs.Str.{bytes_eq}
 use Rattle.frz_store.specs.Told.{store_of}
-use Rattle.frz_answer.specs.Jobs.{Job}
-use Rattle.frz_answer.specs.Words.{unless}
 use Rattle.frz_answer.proofs.Lemmas.{as_unless}
 use Rattle.frz_commands_table.specs.BuildMeaning.{building_at}
+use Rattle.frz_commands_table.proofs.UnlessSame.{calls_store}
 use Rattle.frz_commands_table.proofs.build.build_named.Goals as goal
-
--- where two names differ the store is called
-calls_store : (b : Bool) (job : Job) → b ≡ false → job.needs.store ≡ true → (unless b job).needs.store ≡ false → ⊥
-calls_store true job e asks none = cc
-calls_store false job e asks none = cc
 
 pub returns-then-eq-clause-ran : goal.returns-then-eq-clause-ran
 returns-then-eq-clause-ran g c = λ input.

@@ -1,9 +1,9 @@
-use Rattle.std.proofs.Common.{◌≡◌, ◌<◌, refl, sym, ap, ◌∙◌, Ok, Err, arith}
+use Rattle.std.proofs.Common.{refl, sym, ap, ◌∙◌, arith}
 use Rattle.frz_answer.specs.declared.fault.Fault.TheVariants.{NoMemory}
 use Rattle.frz_answer.specs.World.{world}
 use Rattle.frz_answer.proofs.Lemmas.{as_given, quiet_same, stopped}
 use Rattle.frz_rules.specs.Text.{rules_of}
-use Rattle.frz_commands_table.specs.Sampling.{sampling, sample_text}
+use Rattle.frz_commands_table.specs.Sampling.{sampling}
 use Rattle.frz_commands_table.proofs.Sampled.{never_bad, size_is, some_at}
 use Rattle.frz_commands_table.proofs.sample.sample_at.Goals as goal
 

@@ -1,4 +1,4 @@
-use Rattle.std.proofs.Common.{refl, ap, ◌∙◌, ℕ, List, arith}
+use Rattle.std.proofs.Common.{refl, ap, ◌∙◌, ℕ, arith}
 use Rattle.frz_answer.specs.declared.status.Status.TheVariants.{Success}
 use Rattle.frz_answer.specs.declared.fault.Fault.TheVariants.{NoMemory}
 use Rattle.frz_answer.specs.Answers.{says}

@@ -1,4 +1,4 @@
-use Rattle.std.proofs.Common.{refl, ap, ◌∙◌, ℕ, List, Option, Some, None, arith}
+use Rattle.std.proofs.Common.{refl, ap, ◌∙◌, ℕ, List, Some, None, arith}
 use Rattle.frz_words.specs.Numbers.{number_of}
 use Rattle.frz_answer.specs.World.{world}
 use Rattle.frz_answer.proofs.Lemmas.{as_given, fine_same, quiet_same, said}
