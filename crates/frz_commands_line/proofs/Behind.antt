@@ -1,0 +1,100 @@
+-- A command whose first lines are written before its end is known.
+use Rattle.std.proofs.Common.{◌≡◌, inl, refl, sym, ap, ◌∙◌, ℕ, List, [], ◌++◌, take, drop, true, IsTrue, Option, Some, None, arith, append_assoc}
+use Rattle.std.specs.Prelude.{⊤}
+use Rattle.std.specs.Option.{option_map}
+use Rattle.std.proofs.lemmas.List.{take-append-drop}
+use Rattle.frz_store.specs.Files.{Files}
+use Rattle.frz_store.specs.Told.{SinkTold}
+use Rattle.frz_answer.specs.declared.end.End.{End}
+use Rattle.frz_answer.specs.declared.end.End.TheVariants.{SinkFault}
+use Rattle.frz_answer.specs.Statuses.{subset}
+use Rattle.frz_answer.specs.Texts.{TookText, FailedWithin}
+use Rattle.frz_answer.specs.World.{World, Agrees, Quiet}
+use Rattle.frz_answer.specs.Answers.{Answer, behind, held, IsLines}
+use Rattle.frz_answer.specs.Jobs.{Job, Sees, WithinCosts}
+use Rattle.frz_answer.specs.Ends.{WritesOnly, Ran}
+use Rattle.frz_answer.proofs.Lemmas.{IsStage, as_given, follows, text_came}
+
+-- what is left to do of a job behind this text
+abbrev pub rest_of : Job → List ℕ → Job
+rest_of job text = record job {
+  answers = λ files input a. job.answers files input (behind text 0 a);
+  means = λ _ _ _. ⊤;
+  costs = λ files input a. job.costs files input (behind text 0 a);
+}
+
+is_rest : (job : Job) (text : List ℕ) → subset job.statuses job.statuses ≡ true → IsStage (rest_of job text) job
+is_rest job text all = record {
+  statuses = all;
+  store = λ h. h;
+  reads = λ h. h;
+  sees = λ w h. h;
+  input = λ h. h;
+  memory = λ h. h;
+  speaks = λ h. h;
+  writes = refl;
+}
+
+-- the rest was done behind these lines
+pub behind_lines : (job : Job) (text : List ℕ) (end : End) (old : World) (out : SinkTold) (new : World) → TookText text old.out out → IsLines text
+    → IsTrue job.speaks → subset job.statuses job.statuses ≡ true → Ran (rest_of job text) end (record old { out = out }) new → Ran job end old new
+behind_lines job text end old out new took lines speaks all ran =
+    follows (rest_of job text) job text [] old (record old { out = out }) new (text_came text old out took) lines speaks (is_rest job text all) end (λ _. refl)
+    (λ sees files input agrees. record {
+      found = as_given job files input old agrees;
+      rest = input;
+      split = refl;
+      answers = λ m i a fits free untaken answer. answer;
+      costs = λ m i a fits free untaken answer costs. record { steps = costs.steps; calls = costs.calls; asked = costs.asked };
+    })
+    ran
+
+-- an answer of which these lines are the first
+pub record Beginning (job : Job) (text : List ℕ) (files : Files) (input : List ℕ) (old mid : World) : Type 0 where
+  pub a : Answer
+  pub answer : job.answers files input a
+  pub rest : List ℕ
+  pub begins : text ++ rest ≡ a.text
+  pub costs : WithinCosts (job.costs files input a) old mid
+
+drop_none : (o : Option (List ℕ)) → o ≡ option_map (drop 0) o
+drop_none None = refl
+drop_none (Some x) = refl
+
+-- the sink failed within the lines
+pub cut_within : (job : Job) (text : List ℕ) (old mid : World) (out : SinkTold) → job.writes ≡ None → Quiet old mid → FailedWithin text old.out out
+    → (Sees job.needs.reads old → (files : Files) (input : List ℕ) → Agrees old files input → Beginning job text files input old mid)
+    → Ran job SinkFault old (record mid { out = out })
+cut_within job text old mid out none quiet failed begun = record {
+  later = record { store = quiet.later.store; input = quiet.later.input; out = failed.later; steps = quiet.later.steps };
+  may = failed.rose;
+  lines = tt;
+  only = only_quiet job.writes none;
+  unwritten = λ _. quiet.store;
+  room = tt;
+  answered = λ sees files input agrees.
+      let here = begun sees files input agrees in
+      let k = failed.taken.0 in record {
+        files = files;
+        input = input;
+        agrees = agrees;
+        free = λ _. refl;
+        untaken = λ _. refl;
+        a = here.a;
+        answer = here.answer;
+        leaves = record {
+          written = take k text;
+          rest = drop k text ++ here.rest;
+          begins = sym (append_assoc (take k text) (drop k text) here.rest) ∙ ap (λ (l : List ℕ). l ++ here.rest) (take-append-drop k text) ∙ here.begins;
+          text = failed.taken.1;
+          others = record {
+            files = λ name. inl (ap (λ (o : Option Files). held o name) quiet.store.files);
+            left = (0, omega arith, quiet.left ∙ drop_none old.input.left);
+          };
+        };
+        costs = record { steps = here.costs.steps; calls = here.costs.calls; asked = here.costs.asked };
+      };
+} where
+  only_quiet : (writes : Option (List ℕ)) → writes ≡ None → WritesOnly writes old.store mid.store
+  only_quiet None e = quiet.store
+  only_quiet (Some name) e = cc

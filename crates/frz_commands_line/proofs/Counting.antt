@@ -1,0 +1,109 @@
+-- How many plies the text of a line has, and that it says something.
+use Rattle.std.proofs.Common.{◌≡◌, refl, ℕ, ◌+◌, ◌≤◌, ◌==◌, List, [], ◌∷◌, ◌++◌, length, cond, arith}
+use Rattle.std.specs.Prelude.{codes, decimal}
+use Rattle.std.proofs.lemmas.List.Sums.{sum_by-append}
+use Rattle.frz_board.specs.declared.man.Colour.{Colour}
+use Rattle.frz_board.specs.Texts.{text_of}
+use Rattle.frz_game.specs.declared.wrong.Wrong.{Wrong as WrongEntry}
+use Rattle.frz_arena.specs.WayEnds.{Wrong, NoBound, Mated, Stalemated, Exit, Cut, Stopped}
+use Rattle.frz_prelude.specs.BoundLines.{side_name, kept_words, kept_line}
+use Rattle.frz_prelude.specs.WrongLines.{place_text, codes_text, wrong_line}
+use Rattle.frz_line.specs.declared.end.LineEnd.{LineEnd}
+use Rattle.frz_line.specs.declared.end.LineEnd.TheVariants as ends
+use Rattle.frz_line.specs.Ends.{told, IsUnfinished}
+use Rattle.frz_line.specs.Lines.{LinePly, EndOfLine}
+use Rattle.frz_line.specs.Texts.{value_text, move_line, plies_text, end_line, last_line, start_line, line_text}
+use Rattle.frz_commands_line.specs.LineEnds.{naming_line}
+use Rattle.frz_commands_line.specs.LineOf.{lines_in, plies_in, told_text}
+
+-- of two texts
+lines_more : (xs ys : List ℕ) → lines_in (xs ++ ys) ≡ lines_in xs + lines_in ys
+lines_more xs ys = sum_by-append (λ b. cond (b == 10) 1 0) xs ys
+
+line_there : (xs : List ℕ) → 1 ≤ lines_in (xs ++ codes "\n")
+line_there xs = let more = lines_more xs (codes "\n") in omega (arith, more)
+
+-- a text with a line behind another
+lines_behind : (xs ys : List ℕ) → 1 ≤ lines_in ys → 1 ≤ lines_in (xs ++ ys)
+lines_behind xs ys one = let more = lines_more xs ys in omega (arith, more, one)
+
+-- a line for each ply
+plies_there : (plies : List LinePly) → length plies ≤ lines_in (plies_text plies)
+plies_there [] = omega arith
+plies_there (x ∷ plies) =
+    let more = lines_more (move_line x.arm.mv) (plies_text plies) in
+    let one = line_there (text_of x.arm.mv) in
+    let others = plies_there plies in
+    omega (arith, more, one, others)
+
+bound_there : (side : Colour) (code : ℕ) → 1 ≤ lines_in (kept_line side code)
+bound_there side code = line_there (side_name side ++ kept_words code)
+
+end_there : (end : LineEnd) → 1 ≤ lines_in (end_line end)
+end_there ends.Mate = line_there (codes "mate")
+end_there ends.Stalemate = line_there (codes "stalemate")
+end_there (ends.Exit v) = lines_behind (codes "exit ") (value_text v ++ codes "\n") (line_there (value_text v))
+end_there ends.Cut = line_there (codes "cut")
+
+wrong_there : (w : WrongEntry) → 1 ≤ lines_in (wrong_line w)
+wrong_there w =
+    lines_behind (place_text w) (codes_text w) (line_there (codes " kept " ++ decimal w.kept ++ (codes " given " ++ decimal w.given)))
+
+-- the end has a line, its own or the one that names it
+closing : (side : Colour) (end : EndOfLine) → 1 ≤ lines_in (last_line (told side end)) + lines_in (naming_line (told side end))
+closing side (Wrong number kept given) =
+    let one = wrong_there (record { side = side; number = number; kept = kept; given = given }) in omega (arith, one)
+closing side NoBound = let one = line_there (codes "no bound") in omega (arith, one)
+closing side (Mated mover) = let one = end_there ends.Mate in omega (arith, one)
+closing side (Stalemated mover) = let one = end_there ends.Stalemate in omega (arith, one)
+closing side (Exit v) = let one = end_there (ends.Exit v) in omega (arith, one)
+closing side Cut = let one = end_there ends.Cut in omega (arith, one)
+closing side (Stopped reason) = elim reason [ ]
+
+-- no fewer plies are told than were played
+pub plies_told : (side : Colour) (code : ℕ) (plies : List LinePly) (end : EndOfLine) → length plies ≤ plies_in (told_text side code plies (told side end))
+plies_told side code [] end = omega arith
+plies_told side code (x ∷ plies) end =
+    let answer = told side end in
+    let bound = bound_there side code in
+    let moves = plies_there (x ∷ plies) in
+    let last = closing side end in
+    let first = lines_more (kept_line side code) (plies_text (x ∷ plies) ++ last_line answer) in
+    let next = lines_more (plies_text (x ∷ plies)) (last_line answer) in
+    let all = lines_more (line_text side code (x ∷ plies) answer) (naming_line answer) in
+    omega (arith, bound, moves, last, first, next, all)
+
+not_nil : (xs : List ℕ) → 1 ≤ lines_in xs → xs ≡ [] → ⊥
+not_nil [] one e = omega (arith, one)
+not_nil (x ∷ xs) one e = cc
+
+no_left : (xs ys : List ℕ) → xs ++ ys ≡ [] → xs ≡ []
+no_left [] ys e = refl
+no_left (x ∷ xs) ys e = cc
+
+no_right : (xs ys : List ℕ) → xs ++ ys ≡ [] → ys ≡ []
+no_right [] ys e = e
+no_right (x ∷ xs) ys e = cc
+
+-- something is left to say of a line that the store stopped
+pub unfinished_said : (side : Colour) (end : EndOfLine) (rest : List ℕ) → IsUnfinished (told side end) rest → rest ++ naming_line (told side end) ≡ [] → ⊥
+unfinished_said side (Wrong number kept given) rest left e =
+    let w : WrongEntry = record { side = side; number = number; kept = kept; given = given } in
+    not_nil (wrong_line w) (wrong_there w) (no_right rest (wrong_line w) e)
+unfinished_said side NoBound rest left e = not_nil (codes "no bound\n") (line_there (codes "no bound")) (no_right rest (codes "no bound\n") e)
+unfinished_said side (Mated mover) rest left e = left (no_left rest [] e)
+unfinished_said side (Stalemated mover) rest left e = left (no_left rest [] e)
+unfinished_said side (Exit v) rest left e = left (no_left rest [] e)
+unfinished_said side Cut rest left e = left (no_left rest [] e)
+unfinished_said side (Stopped reason) rest left e = elim reason [ ]
+
+-- the text of a line says something
+pub told_said : (side : Colour) (code : ℕ) (plies : List LinePly) (end : EndOfLine) → told_text side code plies (told side end) ≡ [] → ⊥
+told_said side code plies end =
+    let answer = told side end in
+    let first = start_line side code plies answer in
+    let closes = closing side end in
+    let last = lines_more (plies_text plies) (last_line answer) in
+    let line = lines_more first (plies_text plies ++ last_line answer) in
+    let all = lines_more (line_text side code plies answer) (naming_line answer) in
+    not_nil (told_text side code plies answer) (omega (arith, closes, last, line, all))

@@ -1,0 +1,14 @@
+mod Behind
+mod Counting
+mod Lawful
+mod LineMeans
+mod Opened
+mod Played
+mod Seen
+mod SessionLawful
+mod SessionMeans
+mod SessionOpened
+mod SessionPlayed
+mod SessionSeen
+mod SessionTexts
+mod Taken

@@ -1,0 +1,225 @@
+-- How `line` ends by an open table.
+use Rattle.std.proofs.Common.{◌≡◌, ◌↔◌, refl, sym, ap, subst, ◌∙◌, ℕ, ◌≤◌, List, [], ◌++◌, Option, Result, Ok, Err, IfSome, arith, append_assoc, append-nil}
+use Rattle.std.specs.Prelude.{IsSome}
+use Rattle.frz_board.specs.declared.man.Colour.{Colour}
+use Rattle.frz_board.specs.Boards.{Board}
+use Rattle.frz_index.specs.Members.{Member}
+use Rattle.frz_store.specs.Files.{Files, bytes_at}
+use Rattle.frz_store.specs.Told.{StoreTold, SourceTold, SinkTold, StoreQuiet, StoreFine}
+use Rattle.frz_table.specs.Opening.{contents_of}
+use Rattle.frz_table.specs.Tables.{Table, Carries}
+use Rattle.frz_answer.specs.declared.fault.Fault.{Fault}
+use Rattle.frz_answer.specs.declared.fault.Fault.TheVariants.{Store, NoMemory}
+use Rattle.frz_answer.specs.declared.end.End.{End}
+use Rattle.frz_answer.specs.declared.end.End.TheVariants.{Stopped, SinkFault}
+use Rattle.frz_answer.specs.Statuses.{OneOf}
+use Rattle.frz_answer.specs.Texts.{TookText, FailedWithin}
+use Rattle.frz_answer.specs.World.{World, world, Agrees, Quiet}
+use Rattle.frz_answer.specs.Answers.{Answer, says, IsLines}
+use Rattle.frz_answer.specs.Jobs.{Job, WithinCosts}
+use Rattle.frz_answer.specs.Ends.{MayMeet, Ran, Said}
+use Rattle.frz_answer.proofs.Lemmas.{as_given, fine_store, said, stopped}
+use Rattle.frz_prelude.specs.Refusals.{status_of, refusal_line}
+use Rattle.frz_prelude.specs.declared.refused.Refused.TheVariants as refusals
+use Rattle.frz_line.specs.declared.end.LineEnd.{LineEnd}
+use Rattle.frz_line.specs.declared.end.LineFault.{LineFault}
+use Rattle.frz_line.specs.declared.end.LineFault.TheVariants as faults
+use Rattle.frz_line.specs.BestLine.{TellsLine}
+use Rattle.frz_line.specs.Ends.{told, IsUnfinished, Finishes}
+use Rattle.frz_line.specs.Faults.{StoreCause, WroteBy}
+use Rattle.frz_line.specs.Kept.{kept_codes}
+use Rattle.frz_line.specs.Texts.{line_text}
+use Rattle.frz_commands_line.specs.LineEnds.{end_status, naming_line, EndsLine}
+use Rattle.frz_commands_line.specs.LineOf.{code_at, plies_in, told_text, line_answer}
+use Rattle.frz_commands_line.specs.Lining.{lining_in}
+use Rattle.frz_commands_line.proofs.Behind.{rest_of, behind_lines, cut_within}
+use Rattle.frz_commands_line.proofs.Counting.{plies_told, unfinished_said}
+use Rattle.frz_commands_line.proofs.Seen.{LineThere, LineSo, by_member, lined_inside, lined_outside, line_so}
+
+-- what was written of the line
+abbrev pub Wrote : Table → Colour → Board → Option Files → Result LineEnd LineFault → SinkTold → SinkTold → (before now : ℕ) → Type 0
+Wrote table side p files result old new before now =
+    (text : List ℕ) × IsLines text × WroteBy result text old new
+    × IfSome (kept_codes table side files) (λ codes. TellsLine table.rules side codes p text result before now)
+
+module _ (there : LineThere) (table : Table) (side : Colour) (p : Board) (store left : StoreTold) (input : SourceTold) (out mid taken : SinkTold) (before now : ℕ)
+    (quiet : StoreQuiet store left) (later : before ≤ now) (carried : Carries store.files table) where
+  abbrev job : Job
+  job = lining_in table side p
+
+  abbrev old : World
+  old = world store input out before
+
+  abbrev between : World
+  between = world store input mid before
+
+  abbrev played : World
+  played = world left input mid now
+
+  quiet_between : Quiet between played
+  quiet_between = record {
+    later = record { store = quiet.later; input = omega arith; out = omega arith; steps = later };
+    store = quiet.unwritten;
+    left = refl;
+    taken = refl;
+  }
+
+  abbrev Line : List ℕ → Result LineEnd LineFault → Files → Type 0
+  Line text result m = LineSo (contents_of table) (bytes_at m table.name) side p text result store.asked left.asked
+
+  abbrev code_in : Files → ℕ
+  code_in m = code_at (contents_of table) (bytes_at m table.name) side p
+
+  -- so much was asked for
+  asked_costs : (text : List ℕ) (result : Result LineEnd LineFault) (m : Files) (i : List ℕ) (so : Line text result m) (a : Answer) (w : SinkTold)
+      → a.text ≡ told_text side (code_in m) so.plies (told side so.end) → WithinCosts (job.costs m i a) old (world left input w now)
+  asked_costs text result m i so a w e =
+      let few = plies_told side (code_in m) so.plies so.end in
+      let same = ap plies_in e in
+      let asked = so.asked in
+      record { steps = tt; calls = tt; asked = omega (arith, few, same, asked) }
+
+  -- an answer is this one of the line
+  is_answer : (inside : Member table.rules.groups p) (text : List ℕ) (result : Result LineEnd LineFault) (m : Files) (i : List ℕ) (so : Line text result m) (a : Answer)
+      → a ≡ line_answer side (code_in m) so.plies (told side so.end) m → job.answers m i a
+  is_answer inside text result m i so a e =
+      lined_inside (contents_of table) (bytes_at m table.name) side p m a inside (record { plies = so.plies; end = so.end; line = so.line; told = e })
+
+  module _ (inside : Member table.rules.groups p) (text : List ℕ) (lines : IsLines text) where
+    abbrev TellsIt : Result LineEnd LineFault → Type 0
+    TellsIt result = IfSome (kept_codes table side store.files) (λ codes. TellsLine table.rules side codes p text result store.asked left.asked)
+
+    so_in : (result : Result LineEnd LineFault) → TellsIt result → IsSome store.files → (m : Files) (i : List ℕ) → Agrees old m i → Line text result m
+    so_in result tells sees m i agrees =
+        line_so there table side p text result store.asked left.asked inside store.files m sees agrees.store carried tells
+
+    -- the whole line was written, and its end is told
+    all_told : (result : Result LineEnd LineFault) (end : End) → TellsIt result → TookText text out mid → StoreFine store left
+        → OneOf (end_status result) (rest_of job text).statuses → Said (end_status result) (naming_line result) end mid taken
+        → ((answer : Result LineEnd LineFault) (rest : List ℕ) → Finishes result answer rest → (result ≡ answer) × (rest ≡ []))
+        → Ran job end old (world left input taken now)
+    all_told result end tells took fine own said_it whole =
+        behind_lines job text end old mid (world left input taken now) took lines refl refl
+        (said (rest_of job text) (end_status result) (naming_line result) end between played taken quiet_between (fine_store store left input mid before now fine) own said_it
+        (λ sees m i agrees.
+        let so = so_in result tells sees m i (record { store = agrees.store; source = agrees.source }) in
+        let ended = whole (told side so.end) so.rest so.finishes in
+        let written : text ≡ line_text side (code_in m) so.plies (told side so.end) =
+        sym (append-nil text) ∙ ap (λ (l : List ℕ). text ++ l) (sym ended.1) ∙ so.whole in
+        let texts : text ++ naming_line result ≡ told_text side (code_in m) so.plies (told side so.end) =
+        ap (λ (l : List ℕ). l ++ naming_line result) written
+        ∙ ap (λ (r : Result LineEnd LineFault). line_text side (code_in m) so.plies (told side so.end) ++ naming_line r) ended.0 in
+        let same : says (end_status result) (text ++ naming_line result) m ≡ line_answer side (code_in m) so.plies (told side so.end) m =
+        ap (λ (l : List ℕ). says (end_status result) l m) texts
+        ∙ ap (λ (r : Result LineEnd LineFault). says (end_status r) (told_text side (code_in m) so.plies (told side so.end)) m) ended.0 in
+        let costs = asked_costs text result m i so (says (end_status result) (text ++ naming_line result) m) mid texts in
+        record {
+          found = as_given (rest_of job text) m i between agrees;
+          answer = is_answer inside text result m i so (says (end_status result) (text ++ naming_line result) m) same;
+          costs = record { steps = costs.steps; calls = costs.calls; asked = costs.asked };
+        }))
+
+    -- the rest of the line's answer
+    rest_answer : (result : Result LineEnd LineFault) (m : Files) (so : Line text result m)
+        → text ++ (so.rest ++ naming_line (told side so.end)) ≡ told_text side (code_in m) so.plies (told side so.end)
+    rest_answer result m so =
+        sym (append_assoc text so.rest (naming_line (told side so.end))) ∙ ap (λ (l : List ℕ). l ++ naming_line (told side so.end)) so.whole
+
+    -- the store stopped the line
+    stopped_short : (result : Result LineEnd LineFault) (fault : Fault) → TellsIt result → TookText text out mid → MayMeet (rest_of job text) fault between played
+        → ((answer : Result LineEnd LineFault) (rest : List ℕ) → Finishes result answer rest → IsUnfinished answer rest)
+        → Ran job (Stopped fault) old played
+    stopped_short result fault tells took meets short =
+        behind_lines job text (Stopped fault) old mid played took lines refl refl
+        (stopped (rest_of job text) fault between played quiet_between meets
+        (λ sees m i agrees.
+        let so = so_in result tells sees m i (record { store = agrees.store; source = agrees.source }) in
+        let answer = told side so.end in
+        let rest = so.rest ++ naming_line answer in
+        let whole = rest_answer result m so in
+        let a = says (end_status answer) rest m in
+        let same : says (end_status answer) (text ++ rest) m ≡ line_answer side (code_in m) so.plies answer m =
+        ap (λ (l : List ℕ). says (end_status answer) l m) whole in
+        let costs = asked_costs text result m i so (says (end_status answer) (text ++ rest) m) mid whole in
+        record {
+          found = as_given (rest_of job text) m i between agrees;
+          some = record {
+            a = a;
+            answer = is_answer inside text result m i so (says (end_status answer) (text ++ rest) m) same;
+            text = unfinished_said side so.end so.rest (short answer so.rest so.finishes);
+          };
+          costs = record { steps = costs.steps; calls = costs.calls; asked = costs.asked };
+        }))
+
+    -- the sink failed within the line
+    cut_short : TellsIt (Err faults.Output) → FailedWithin text out mid → Ran job SinkFault old played
+    cut_short tells failed =
+        cut_within job text old (world left input out now) mid refl
+        (record {
+          later = record { store = quiet.later; input = omega arith; out = omega arith; steps = later };
+          store = quiet.unwritten;
+          left = refl;
+          taken = refl;
+        })
+        failed
+        (λ sees m i agrees.
+        let so = so_in (Err faults.Output) tells sees m i agrees in
+        let answer = told side so.end in
+        let whole = rest_answer (Err faults.Output) m so in
+        let a = line_answer side (code_in m) so.plies answer m in
+        let costs = asked_costs text (Err faults.Output) m i so a out refl in
+        record {
+          a = a;
+          answer = is_answer inside text (Err faults.Output) m i so a refl;
+          rest = so.rest ++ naming_line answer;
+          begins = whole;
+          costs = record { steps = costs.steps; calls = costs.calls; asked = costs.asked };
+        })
+
+  -- the position is not in the set: neither object was touched
+  outside_told : (end : End) → (Member table.rules.groups p → ⊥) → left ≡ store → mid ≡ out → Said (status_of refusals.Outside) (refusal_line refusals.Outside) end mid taken
+      → Ran job end old (world left input taken now)
+  outside_told end none same unwritten said_it =
+      said job (status_of refusals.Outside) (refusal_line refusals.Outside) end old (world left input out now) taken
+      (record {
+        later = record { store = quiet.later; input = omega arith; out = omega arith; steps = later };
+        store = quiet.unwritten;
+        left = refl;
+        taken = refl;
+      })
+      (fine_store store left input out before now (subst (λ (s : StoreTold). StoreFine store s) (sym same) (record { faults = refl; wants = refl }))) refl
+      (subst (λ (o : SinkTold). Said (status_of refusals.Outside) (refusal_line refusals.Outside) end o taken) unwritten said_it)
+      (λ sees m i agrees. record {
+        found = as_given job m i old agrees;
+        answer = lined_outside (contents_of table) (bytes_at m table.name) side p m (says (status_of refusals.Outside) (refusal_line refusals.Outside) m) none refl;
+        costs = record { steps = tt; calls = tt; asked = (let e = ap (λ (s : StoreTold). s.asked) same in omega (arith, e)) };
+      })
+
+  is_inside : (result : Result LineEnd LineFault) → ((result ≡ Err faults.Outside) ↔ (Member table.rules.groups p → ⊥)) → (result ≡ Err faults.Outside → ⊥) → Member table.rules.groups p
+  is_inside result outside other = by_member table.rules.groups p (λ inside. inside) (λ none. absurd (other (outside.1 none)))
+
+  -- a fault ended the command, and nothing more was written
+  ended_as : (end wanted : End) → (end ≡ wanted) × (taken ≡ mid) → Ran job wanted old played → Ran job end old (world left input taken now)
+  ended_as end wanted ends ran =
+      subst (λ (o : SinkTold). Ran job end old (world left input o now)) (sym ends.1) (subst (λ (e : End). Ran job e old played) (sym ends.0) ran)
+
+  -- the line was played, and its end told
+  pub line_ran : (result : Result LineEnd LineFault) (end : End) → ((result ≡ Err faults.Outside) ↔ (Member table.rules.groups p → ⊥))
+      → (result ≡ Err faults.Outside → (left ≡ store) × (mid ≡ out)) → StoreCause result store left → EndsLine result end mid taken
+      → Wrote table side p store.files result out mid store.asked left.asked → Ran job end old (world left input taken now)
+  line_ran (Ok last) end outside touched cause ends wrote =
+      all_told (is_inside (Ok last) outside (λ e. cc)) wrote.0 wrote.1 (Ok last) end wrote.3 wrote.2 cause refl ends (λ answer rest h. h)
+  line_ran (Err faults.Outside) end outside touched cause ends wrote =
+      let same = touched refl in outside_told end (outside.0 refl) same.0 same.1 ends
+  line_ran (Err faults.NoBound) end outside touched cause ends wrote =
+      all_told (is_inside (Err faults.NoBound) outside (λ e. cc)) wrote.0 wrote.1 (Err faults.NoBound) end wrote.3 wrote.2 cause refl ends (λ answer rest h. h)
+  line_ran (Err (faults.Wrong w)) end outside touched cause ends wrote =
+      all_told (is_inside (Err (faults.Wrong w)) outside (λ e. cc)) wrote.0 wrote.1 (Err (faults.Wrong w)) end wrote.3 wrote.2 cause refl ends (λ answer rest h. h)
+  line_ran (Err faults.Store) end outside touched cause ends wrote =
+      ended_as end (Stopped Store) ends
+      (stopped_short (is_inside (Err faults.Store) outside (λ e. cc)) wrote.0 wrote.1 (Err faults.Store) Store wrote.3 wrote.2 (refl, cause) (λ answer rest h. h))
+  line_ran (Err faults.NoMemory) end outside touched cause ends wrote =
+      ended_as end (Stopped NoMemory) ends
+      (stopped_short (is_inside (Err faults.NoMemory) outside (λ e. cc)) wrote.0 wrote.1 (Err faults.NoMemory) NoMemory wrote.3 wrote.2 refl (λ answer rest h. h))
+  line_ran (Err faults.Output) end outside touched cause ends wrote =
+      ended_as end SinkFault ends (cut_short (is_inside (Err faults.Output) outside (λ e. cc)) wrote.0 wrote.1 wrote.3 wrote.2)

@@ -1,0 +1,96 @@
+-- What is known of a line that was played, by the file that the store tells.
+use Rattle.std.proofs.Common.{◌≡◌, refl, sym, subst, ◌∙◌, ℕ, ◌+◌, ◌*◌, ◌≤◌, List, [], ◌++◌, length, Bool, true, false, Option, Some, None, Result, IfSome}
+use Rattle.std.specs.Prelude.{IsSome, IsSomeAnd, MatchBool}
+use Rattle.std.specs.Option.{option_map, unwrap_or}
+use Rattle.frz_board.specs.declared.man.Colour.{Colour}
+use Rattle.frz_board.specs.Boards.{Board}
+use Rattle.frz_sets.specs.declared.exit.Value.{Value}
+use Rattle.frz_sets.specs.Views.{RuleLines, GroupLine}
+use Rattle.frz_exits.specs.Books.{value_by}
+use Rattle.frz_index.specs.Members.{Member, Num}
+use Rattle.frz_index.proofs.Lemmas.{member_of, of_member}
+use Rattle.frz_game.specs.Numbers.{is_member}
+use Rattle.frz_store.specs.Files.{Files, bytes_at}
+use Rattle.frz_table.specs.Layout.{codes_at}
+use Rattle.frz_table.specs.Opening.{Contents, contents_of}
+use Rattle.frz_table.specs.Tables.{Table, Carries, IsFileOf, table_size}
+use Rattle.frz_answer.specs.Answers.{Answer, says}
+use Rattle.frz_prelude.specs.Refusals.{status_of, refusal_line}
+use Rattle.frz_prelude.specs.declared.refused.Refused.TheVariants as refusals
+use Rattle.frz_line.specs.declared.end.LineEnd.{LineEnd}
+use Rattle.frz_line.specs.declared.end.LineFault.{LineFault}
+use Rattle.frz_line.specs.declared.reading.TheConstants.{MOST_ASKED}
+use Rattle.frz_line.specs.BestLine.{TellsLine}
+use Rattle.frz_line.specs.Ends.{told, Finishes}
+use Rattle.frz_line.specs.Kept.{kept_codes}
+use Rattle.frz_line.specs.Lines.{LinePly, EndOfLine, IsLine}
+use Rattle.frz_line.specs.Texts.{line_text}
+use Rattle.frz_commands_line.specs.LineOf.{code_at, IsLineBy, line_answer, IsLined, IsLinedIn}
+
+-- that there is a line from each number
+abbrev pub LineThere : Type 0
+LineThere = (rules : RuleLines) (value : Board → Value) (side : Colour) (codes : List ℕ) (start : ℕ) → (plies : List LinePly) × (end : EndOfLine) × IsLine rules value side codes start plies end
+
+-- a fact of the files that the store tells
+pub of_told : (o : Option Files) (m : Files) (P : Files → Type 0) → IsSome o → IfSome o (λ told. told ≡ m) → IfSome o P → P m
+of_told None m P some e h = let no : false ≡ true = some in cc
+of_told (Some held) m P some e h = subst P e h
+
+-- the position is in the set, or not
+pub by_member : {A : Type 0} (groups : List GroupLine) (p : Board) → (Member groups p → A) → ((Member groups p → ⊥) → A) → A
+by_member {A} groups p inside outside = by_test (is_member groups p) refl
+  where
+    by_test : (b : Bool) → is_member groups p ≡ b → A
+    by_test true e = inside (member_of groups p e)
+    by_test false e = outside (λ member. let no : false ≡ true = sym e ∙ of_member groups p member in cc)
+
+-- the answer at a position of the set, and at one that is outside
+module _ (contents : Contents) (bytes : List ℕ) (side : Colour) (p : Board) (files : Files) (a : Answer) where
+  pub lined_inside : Member contents.rules.groups p → IsLined contents bytes side p files a → IsLinedIn contents bytes side p files a
+  lined_inside inside lined =
+      subst (λ b. MatchBool b (IsLined contents bytes side p files a) (a ≡ says (status_of refusals.Outside) (refusal_line refusals.Outside) files))
+      (sym (of_member contents.rules.groups p inside)) lined
+
+  outside_test : (b : Bool) → is_member contents.rules.groups p ≡ b → (Member contents.rules.groups p → ⊥) → b ≡ false
+  outside_test true e none = absurd (none (member_of contents.rules.groups p e))
+  outside_test false e none = refl
+
+  pub lined_outside : (Member contents.rules.groups p → ⊥) → a ≡ says (status_of refusals.Outside) (refusal_line refusals.Outside) files → IsLinedIn contents bytes side p files a
+  lined_outside none e =
+      subst (λ b. MatchBool b (IsLined contents bytes side p files a) (a ≡ says (status_of refusals.Outside) (refusal_line refusals.Outside) files))
+      (sym (outside_test (is_member contents.rules.groups p) refl none)) e
+
+-- the line of which this text was written, with what was asked for
+pub record LineSo (contents : Contents) (bytes : List ℕ) (side : Colour) (p : Board) (text : List ℕ) (result : Result LineEnd LineFault) (before now : ℕ) : Type 0 where
+  pub plies : List LinePly
+  pub end : EndOfLine
+  pub line : IsLineBy contents bytes side p plies end
+  pub rest : List ℕ
+  pub whole : text ++ rest ≡ line_text side (code_at contents bytes side p) plies (told side end)
+  pub finishes : Finishes result (told side end) rest
+  pub asked : now ≤ before + (MOST_ASKED + 4) * (length plies + 1)
+
+module _ (there : LineThere) (table : Table) (side : Colour) (p : Board) (text : List ℕ) (result : Result LineEnd LineFault) (before now : ℕ) (inside : Member table.rules.groups p) where
+  abbrev codes_of : List ℕ → List ℕ
+  codes_of bytes = codes_at side table.text (table_size table) bytes
+
+  abbrev Tells : List ℕ → Type 0
+  Tells codes = TellsLine table.rules side codes p text result before now
+
+  in_file : (held : Option (List ℕ)) → IsSomeAnd held (IsFileOf table) → IfSome (option_map codes_of held) Tells
+      → LineSo (contents_of table) (unwrap_or held []) side p text result before now
+  in_file None carried tells = absurd carried
+  in_file (Some bytes) carried tells =
+      let line = there table.rules (value_by table.rules) side (codes_of bytes) (Num table.rules.groups p) in
+      let so = tells inside line.0 line.1 line.2 in
+      record { plies = line.0; end = line.1; line = line.2; rest = so.0; whole = so.1; finishes = so.2; asked = so.3 }
+
+  pub line_so : (o : Option Files) (m : Files) → IsSome o → IfSome o (λ f. f ≡ m) → Carries o table → IfSome (kept_codes table side o) Tells
+      → LineSo (contents_of table) (bytes_at m table.name) side p text result before now
+  line_so None m some e carried tells = let no : false ≡ true = some in cc
+  line_so (Some f) m some e carried tells =
+      subst (λ (g : Files). LineSo (contents_of table) (bytes_at g table.name) side p text result before now) e (in_file (f table.name) carried tells)
+
+-- the answer of the line
+abbrev pub answer_of : {contents : Contents} {bytes : List ℕ} {side : Colour} {p : Board} {text : List ℕ} {result : Result LineEnd LineFault} {before now : ℕ} → LineSo contents bytes side p text result before now → Files → Answer
+answer_of {contents} {bytes} {side} {p} so files = line_answer side (code_at contents bytes side p) so.plies (told side so.end) files

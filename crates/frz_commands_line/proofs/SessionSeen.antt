@@ -1,0 +1,84 @@
+-- What is known of a session that was played, by the file that the store tells and some input that may be told.
+use Rattle.std.proofs.Common.{◌≡◌, refl, sym, subst, ℕ, ◌+◌, ◌*◌, ◌≤◌, List, [], length, Bool, true, false, Option, Some, None, Result, IfSome}
+use Rattle.std.specs.Prelude.{IsSome, IsSomeAnd, MatchBool}
+use Rattle.std.specs.Option.{option_map, unwrap_or}
+use Rattle.frz_board.specs.declared.man.Colour.{Colour}
+use Rattle.frz_board.specs.Boards.{Board}
+use Rattle.frz_sets.specs.declared.exit.Value.{Value}
+use Rattle.frz_sets.specs.Views.{RuleLines}
+use Rattle.frz_exits.specs.Books.{value_by}
+use Rattle.frz_index.specs.Members.{Member, Num}
+use Rattle.frz_index.proofs.Lemmas.{of_member, member_of}
+use Rattle.frz_game.specs.Numbers.{is_member}
+use Rattle.frz_store.specs.Files.{Files, bytes_at}
+use Rattle.frz_store.specs.Told.{SourceTold}
+use Rattle.frz_table.specs.Layout.{codes_at}
+use Rattle.frz_table.specs.Opening.{Contents, contents_of}
+use Rattle.frz_table.specs.Tables.{Table, Carries, IsFileOf, table_size}
+use Rattle.frz_answer.specs.Answers.{Answer, says}
+use Rattle.frz_prelude.specs.Refusals.{status_of, refusal_line}
+use Rattle.frz_prelude.specs.declared.refused.Refused.TheVariants as refusals
+use Rattle.frz_line.specs.declared.reading.TheConstants.{MOST_ASKED}
+use Rattle.frz_line.specs.Kept.{kept_codes}
+use Rattle.frz_play.specs.declared.end.PlayFault.{PlayFault}
+use Rattle.frz_play.specs.declared.end.SessionEnd.{SessionEnd}
+use Rattle.frz_play.specs.Faults.{MayHold}
+use Rattle.frz_play.specs.PlaySession.{PlayedOf, TellsSession}
+use Rattle.frz_play.specs.Reading.{Input}
+use Rattle.frz_play.specs.Sessions.{SessionPly, EndOfSession, IsSession}
+use Rattle.frz_commands_line.specs.LineOf.{code_at}
+use Rattle.frz_commands_line.specs.SessionOf.{IsSessionBy, IsPlayed, IsPlayedIn}
+
+-- that there is a session from each number against each input
+abbrev pub SessionThere : Type 0
+SessionThere = (rules : RuleLines) (value : Board → Value) (side : Colour) (codes : List ℕ) (start : ℕ) (input : List ℕ)
+    → (plies : List SessionPly) × (end : EndOfSession) × (left : Input) × IsSession rules value side codes start input plies end left
+
+-- the answer at a position of the set, and at one that is outside
+module _ (contents : Contents) (bytes : List ℕ) (side : Colour) (p : Board) (files : Files) (input : List ℕ) (a : Answer) where
+  abbrev Refuses : Type 0
+  Refuses = a ≡ says (status_of refusals.Outside) (refusal_line refusals.Outside) files
+
+  pub played_inside : Member contents.rules.groups p → IsPlayed contents bytes side p files input a → IsPlayedIn contents bytes side p files input a
+  played_inside inside played =
+      subst (λ b. MatchBool b (IsPlayed contents bytes side p files input a) Refuses) (sym (of_member contents.rules.groups p inside)) played
+
+  outside_test : (b : Bool) → is_member contents.rules.groups p ≡ b → (Member contents.rules.groups p → ⊥) → b ≡ false
+  outside_test true e none = absurd (none (member_of contents.rules.groups p e))
+  outside_test false e none = refl
+
+  pub played_outside : (Member contents.rules.groups p → ⊥) → Refuses → IsPlayedIn contents bytes side p files input a
+  played_outside none e =
+      subst (λ b. MatchBool b (IsPlayed contents bytes side p files input a) Refuses) (sym (outside_test (is_member contents.rules.groups p) refl none)) e
+
+-- the session of which this text was written and these bytes taken, with what was asked for
+pub record SessionSo (contents : Contents) (bytes : List ℕ) (side : Colour) (p : Board) (text took : List ℕ) (result : Result SessionEnd PlayFault) (source : SourceTold) (before now : ℕ) : Type 0 where
+  pub input : List ℕ
+  pub may : MayHold source input
+  pub plies : List SessionPly
+  pub end : EndOfSession
+  pub left : Input
+  pub session : IsSessionBy contents bytes side p input plies end left
+  pub of : PlayedOf side (code_at contents bytes side p) input took text result plies end left
+  pub asked : now ≤ before + (MOST_ASKED + 4) * (length plies + 1)
+
+module _ (there : SessionThere) (table : Table) (side : Colour) (p : Board) (text took : List ℕ) (result : Result SessionEnd PlayFault) (source : SourceTold) (before now : ℕ) (inside : Member table.rules.groups p) where
+  abbrev codes_of : List ℕ → List ℕ
+  codes_of bytes = codes_at side table.text (table_size table) bytes
+
+  abbrev TellsIt : List ℕ → Type 0
+  TellsIt codes = (whole : List ℕ) × MayHold source whole × TellsSession table.rules side codes p whole took text result before now
+
+  in_file : (held : Option (List ℕ)) → IsSomeAnd held (IsFileOf table) → IfSome (option_map codes_of held) TellsIt
+      → SessionSo (contents_of table) (unwrap_or held []) side p text took result source before now
+  in_file None carried tells = absurd carried
+  in_file (Some bytes) carried tells =
+      let session = there table.rules (value_by table.rules) side (codes_of bytes) (Num table.rules.groups p) tells.0 in
+      let so = tells.2 inside session.0 session.1 session.2 session.3 in
+      record { input = tells.0; may = tells.1; plies = session.0; end = session.1; left = session.2; session = session.3; of = so.0; asked = so.1 }
+
+  pub session_so : (o : Option Files) (m : Files) → IsSome o → IfSome o (λ f. f ≡ m) → Carries o table → IfSome (kept_codes table side o) TellsIt
+      → SessionSo (contents_of table) (bytes_at m table.name) side p text took result source before now
+  session_so None m some e carried tells = let no : false ≡ true = some in cc
+  session_so (Some f) m some e carried tells =
+      subst (λ (g : Files). SessionSo (contents_of table) (bytes_at g table.name) side p text took result source before now) e (in_file (f table.name) carried tells)

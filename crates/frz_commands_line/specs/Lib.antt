@@ -1,0 +1,9 @@
+pub mod Sides
+pub mod LineEnds
+pub mod LineOf
+pub mod LineMeaning
+pub mod Lining
+pub mod SessionEnds
+pub mod SessionOf
+pub mod SessionMeaning
+pub mod Playing

@@ -1,0 +1,70 @@
+-- What `line TABLE FEN SIDE` answers: the best line of the side by the codes in the file. No file changes.
+use Rattle.std.specs.Prelude.{◌≡◌, ℕ, ◌-◌, ◌==◌, List, ◌++◌, count_by, slice_index, MatchBool, Result, Ok, Err}
+use Rattle.frz_board.specs.declared.man.Colour.{Colour}
+use Rattle.frz_board.specs.Boards.{Board}
+use Rattle.frz_exits.specs.Books.{value_by}
+use Rattle.frz_index.specs.Members.{Num}
+use Rattle.frz_game.specs.Numbers.{is_member}
+use Rattle.frz_store.specs.Files.{Files, bytes_at}
+use Rattle.frz_table.specs.declared.fault.TableFault.{TableFault}
+use Rattle.frz_table.specs.declared.kind.FileKind.TheVariants.{Plain}
+use Rattle.frz_table.specs.Opening.{Contents, opened, table_format}
+use Rattle.frz_check.specs.Kept.{kept_codes}
+use Rattle.frz_answer.specs.Answers.{Answer, says}
+use Rattle.frz_prelude.specs.Refusals.{status_of, refusal_line}
+use Rattle.frz_prelude.specs.declared.refused.Refused.TheVariants as refusals
+use Rattle.frz_line.specs.declared.end.LineEnd.{LineEnd}
+use Rattle.frz_line.specs.declared.end.LineFault.{LineFault}
+use Rattle.frz_line.specs.Ends as ends
+use Rattle.frz_line.specs.Lines.{LinePly, EndOfLine, IsLine}
+use Rattle.frz_line.specs.Texts.{line_text}
+use Rattle.frz_commands_line.specs.LineEnds.{end_status, naming_line}
+
+-- how many lines a text has
+abbrev pub lines_in : List ℕ → ℕ
+lines_in text = count_by (λ b. b == 10) text
+
+-- how many plies the text of a line has: a line each, between that of the bound and that of the end
+abbrev pub plies_in : List ℕ → ℕ
+plies_in text = lines_in text - 2
+
+-- the code that the bytes keep for the side at the number of the position
+abbrev pub code_at : Contents → List ℕ → Colour → Board → ℕ
+code_at contents bytes side p = slice_index (kept_codes contents bytes side) (Num contents.rules.groups p)
+
+-- the line of the side from the position, by the codes that the bytes keep, in the game of their rules
+abbrev pub IsLineBy : Contents → List ℕ → Colour → Board → List LinePly → EndOfLine → Type 0
+IsLineBy contents bytes side p plies end =
+    IsLine contents.rules (value_by contents.rules) side (kept_codes contents bytes side)
+    (Num contents.rules.groups p) plies end
+
+-- its text, and the line that names an end which has none of its own
+abbrev pub told_text : Colour → ℕ → List LinePly → Result LineEnd LineFault → List ℕ
+told_text side code plies answer = line_text side code plies answer ++ naming_line answer
+
+abbrev pub line_answer : Colour → ℕ → List LinePly → Result LineEnd LineFault → Files → Answer
+line_answer side code plies answer files = says (end_status answer) (told_text side code plies answer) files
+
+-- at a position of the set: its line is told
+pub record IsLined (contents : Contents) (bytes : List ℕ) (side : Colour) (p : Board) (files : Files) (a : Answer) : Type 0 where
+  pub plies : List LinePly
+  pub end : EndOfLine
+  pub line : IsLineBy contents bytes side p plies end
+  pub told : a ≡ line_answer side (code_at contents bytes side p) plies (ends.told side end) files
+
+-- by a file that opens: the position has a line, or is outside the set
+abbrev pub IsLinedIn : Contents → List ℕ → Colour → Board → Files → Answer → Type 0
+IsLinedIn contents bytes side p files a = MatchBool (is_member contents.rules.groups p)
+    (IsLined contents bytes side p files a)
+    (a ≡ says (status_of refusals.Outside) (refusal_line refusals.Outside) files)
+
+-- by how the file opens
+abbrev pub IsLinedBy : Result Contents TableFault → List ℕ → Colour → Board → Files → Answer → Type 0
+IsLinedBy (Ok contents) bytes side p files a = IsLinedIn contents bytes side p files a
+IsLinedBy (Err fault) bytes side p files a =
+    a ≡ says (status_of (refusals.Table fault)) (refusal_line (refusals.Table fault)) files
+
+-- by the file that has the name
+abbrev pub IsLinedAt : List ℕ → Colour → Board → Files → Answer → Type 0
+IsLinedAt table side p files a =
+    IsLinedBy (opened (table_format Plain) (files table)) (bytes_at files table) side p files a

@@ -1,0 +1,45 @@
+-- What `play TABLE FEN SIDE` is to do.
+use Rattle.std.specs.Prelude.{ℕ, ◌+◌, List, [], ◌∷◌, length, true}
+use Rattle.frz_board.specs.declared.man.Colour.{Colour}
+use Rattle.frz_board.specs.Boards.{Board}
+use Rattle.frz_fen.specs.Reading.{fen_of}
+use Rattle.frz_store.specs.Files.{bytes_at}
+use Rattle.frz_table.specs.Opening.{contents_of}
+use Rattle.frz_table.specs.Possible.{held_text}
+use Rattle.frz_table.specs.Tables.{Table as OpenTable}
+use Rattle.frz_answer.specs.declared.status.Status.TheVariants.{Success, Wrong, Table, Outside, Missing, Limit}
+use Rattle.frz_answer.specs.Jobs.{Job, Needs, plain}
+use Rattle.frz_answer.specs.Words.{taking, three_words_of}
+use Rattle.frz_prelude.specs.Positions.{on_position}
+use Rattle.frz_commands_line.specs.Lining.{playing_needs, asked_for, asked_alone}
+use Rattle.frz_commands_line.specs.SessionMeaning.{MeansPlay}
+use Rattle.frz_commands_line.specs.SessionOf.{plies_of, IsPlayedIn, IsPlayedAt}
+use Rattle.frz_commands_line.specs.Sides.{on_side, side_of}
+
+abbrev pub session_needs : Needs
+session_needs = record playing_needs { input = true }
+
+-- by an open table
+abbrev pub playing_in : OpenTable → Colour → Board → Job
+playing_in table side p =
+    record (plain (Success ∷ Wrong ∷ Outside ∷ Limit ∷ []) (λ files input a. IsPlayedIn (contents_of table) (bytes_at files table.name) side p files input a)) {
+      needs = session_needs;
+      speaks = true;
+      costs = λ files input a. asked_alone (asked_for (plies_of a.text));
+    }
+
+-- by the table of this name: to open it, 16 bytes and its text are asked for
+abbrev pub playing_at : List ℕ → Colour → Board → Job
+playing_at table side p =
+    record (plain (Success ∷ Wrong ∷ Table ∷ Outside ∷ Missing ∷ Limit ∷ []) (λ files input a. IsPlayedAt table side p files input a)) {
+      means = λ files input a. MeansPlay table side p files input a;
+      needs = session_needs;
+      speaks = true;
+      costs = λ files input a. asked_alone (16 + length (held_text (files table)) + asked_for (plies_of a.text));
+    }
+
+-- play TABLE FEN SIDE
+abbrev pub play_words : List (List ℕ) → Job
+play_words words =
+    taking (λ names. on_side (λ side. on_position (playing_at names.0 side) (fen_of names.1)) (side_of names.2))
+    (three_words_of words)

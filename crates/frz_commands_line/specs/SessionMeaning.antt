@@ -1,0 +1,134 @@
+-- What the answers of `play` mean.
+use Rattle.std.specs.Prelude.{◌≡◌, ◌⊎◌, ℕ, ◌+◌, ◌≤◌, List, length, Result, Ok, Err, None, Some, slice_get}
+use Rattle.std.specs.List.{Contains}
+use Rattle.frz_board.specs.declared.man.Colour.{Colour}
+use Rattle.frz_board.specs.Boards.{Board}
+use Rattle.frz_board.specs.Men.{other_of}
+use Rattle.frz_board.specs.Moving.{Step}
+use Rattle.frz_fide.specs.Legal.{after}
+use Rattle.frz_fide.specs.Listing.{legal_moves_of}
+use Rattle.frz_sets.specs.declared.exit.Value.{Value}
+use Rattle.frz_sets.specs.Views.{RuleLines}
+use Rattle.frz_exits.specs.Books.{value_by}
+use Rattle.frz_exits.specs.Values.{lag_of}
+use Rattle.frz_index.specs.Members.{Member}
+use Rattle.frz_store.specs.Files.{Files}
+use Rattle.frz_table.specs.declared.kind.FileKind.TheVariants.{Plain}
+use Rattle.frz_table.specs.Layout.{magic_of}
+use Rattle.frz_table.specs.Opening.{Contents}
+use Rattle.frz_check.specs.OneFile.{IsOneFile}
+use Rattle.frz_arena.specs.declared.bound.Bound.TheVariants.{Wins, Holds}
+use Rattle.frz_arena.specs.Chess.{NeverForcesMate}
+use Rattle.frz_arena.specs.Codes.{code_of}
+use Rattle.frz_arena.specs.WayEnds as ways
+use Rattle.frz_arena.specs.WayEnds.{EndsWon, EndsHeld}
+use Rattle.frz_game.specs.Games.{chess, graph_by}
+use Rattle.frz_game.specs.Numbers.{position_at}
+use Rattle.frz_game.specs.Values.{AreTrueExits}
+use Rattle.frz_answer.specs.declared.status.Status.{Status}
+use Rattle.frz_answer.specs.declared.status.Status.TheVariants.{Success, Wrong, Table, Outside, Missing, Limit}
+use Rattle.frz_answer.specs.Answers.{Answer}
+use Rattle.frz_prelude.specs.TableFiles.{OpensAs, TellsTableFault}
+use Rattle.frz_play.specs.declared.end.PlayFault.{PlayFault}
+use Rattle.frz_play.specs.declared.end.PlayFault.TheVariants as plays
+use Rattle.frz_play.specs.declared.end.PlayLimit.{PlayLimit}
+use Rattle.frz_play.specs.declared.end.SessionEnd.{SessionEnd}
+use Rattle.frz_play.specs.Ends.{Tells}
+use Rattle.frz_play.specs.Reading.{Input}
+use Rattle.frz_play.specs.Sessions.{SessionPly, EndOfSession}
+use Rattle.frz_commands_line.specs.LineMeaning.{KeepsBound, TellsOutside}
+use Rattle.frz_commands_line.specs.LineOf.{code_at}
+use Rattle.frz_commands_line.specs.SessionOf.{IsSessionBy, played_text}
+
+-- from a win within n plies: at most n plies are played, with the lag of an exit counted; the opponent is mated, or the
+-- exit wins for the side, unless the input ends it
+pub record PlaysWin (rules : RuleLines) (side : Colour) (n : ℕ) (plies : List SessionPly) (end : EndOfSession) : Type 0 where
+  pub few : length plies ≤ n
+  pub ends : EndsWon (graph_by rules (value_by rules)) side end
+  pub exit : (v : Value) → end ≡ ways.Exit v → length plies + lag_of v ≤ n
+
+-- from a hold: the side is not mated, and no exit is bad for it
+abbrev pub PlaysHold : RuleLines → Colour → EndOfSession → Type 0
+PlaysHold rules side end = EndsHeld (graph_by rules (value_by rules)) side end
+
+-- after each ply the opponent forces no mate
+abbrev pub IsSafe : RuleLines → Colour → List SessionPly → Type 0
+IsSafe rules side plies =
+    (x : SessionPly) → Contains plies x →
+    (p : Board) (m : Step) → position_at rules.groups x.from ≡ Some p →
+    slice_get (legal_moves_of p) x.place ≡ Some m → NeverForcesMate chess (other_of side) (after p m)
+
+-- the file opens, the position is in its set, and this is the session of the side by the codes in the file
+pub record HasSession (table : List ℕ) (side : Colour) (p : Board) (files : Files) (input : List ℕ) : Type 0 where
+  pub bytes : List ℕ
+  pub contents : Contents
+  pub open_file : OpensAs table files bytes contents
+  pub inside : Member contents.rules.groups p
+  pub plies : List SessionPly
+  pub end : EndOfSession
+  pub left : Input
+  pub session : IsSessionBy contents bytes side p input plies end left
+
+-- the code of its start
+abbrev pub start_code : {table : List ℕ} {side : Colour} {p : Board} {files : Files} {input : List ℕ} → HasSession table side p files input → ℕ
+start_code {side = side} {p = p} has = code_at has.contents has.bytes side p
+
+-- the file is the one file of its text
+abbrev pub IsExactFile : {table : List ℕ} {side : Colour} {p : Board} {files : Files} {input : List ℕ} → HasSession table side p files input → Type 0
+IsExactFile has =
+    IsOneFile (magic_of Plain) has.contents.text has.contents.rules (value_by has.contents.rules) has.bytes
+
+-- the session answers this, and the text is its own
+pub record Ends {table : List ℕ} {side : Colour} {p : Board} {files : Files} {input : List ℕ} (has : HasSession table side p files input) (text : List ℕ) (answer : Result SessionEnd PlayFault) : Type 0 where
+  pub tells : Tells side has.end answer
+  pub told : text ≡ played_text side (start_code has) has.plies has.end answer
+
+-- the whole session is told, with its end; a win and a hold are kept. In the one file of a text the code of the start is
+-- that of the bound, and where the exits are true each position after a ply is safe
+pub record TellsSession (table : List ℕ) (side : Colour) (p : Board) (files : Files) (input text : List ℕ) : Type 0 where
+  pub has : HasSession table side p files input
+  pub last : SessionEnd
+  pub ends : Ends has text (Ok last)
+  pub win : (n : ℕ) → start_code has ≡ code_of (Wins n) → PlaysWin has.contents.rules side n has.plies has.end
+  pub hold : start_code has ≡ code_of Holds → PlaysHold has.contents.rules side has.end
+  pub where_exact : IsExactFile has → KeepsBound has.contents.rules side p (start_code has)
+  pub safe : IsExactFile has → AreTrueExits has.contents.rules (value_by has.contents.rules) →
+      IsSafe has.contents.rules side has.plies
+
+-- a code on its way is not the local one, which does not happen in the one file of a text
+pub record TellsWrong (table : List ℕ) (side : Colour) (p : Board) (files : Files) (input text : List ℕ) : Type 0 where
+  pub has : HasSession table side p files input
+  pub fault : PlayFault
+  pub ends : Ends has text (Err fault)
+  pub wrong : (number : ℕ) × (kept : ℕ) × (given : ℕ) × (has.end ≡ ways.Wrong number kept given)
+  pub not_exact : IsExactFile has → ⊥
+
+-- the start fails
+pub record TellsNoBound (table : List ℕ) (side : Colour) (p : Board) (files : Files) (input text : List ℕ) : Type 0 where
+  pub has : HasSession table side p files input
+  pub fault : PlayFault
+  pub ends : Ends has text (Err fault)
+  pub no_bound : has.end ≡ ways.NoBound
+
+-- the input has come to a limit
+pub record TellsLimit (table : List ℕ) (side : Colour) (p : Board) (files : Files) (input text : List ℕ) : Type 0 where
+  pub has : HasSession table side p files input
+  pub limit : PlayLimit
+  pub ends : Ends has text (Err (plays.Limit limit))
+
+-- what an answer says, by its status
+abbrev pub MeansStatus : List ℕ → Colour → Board → Files → List ℕ → Status → List ℕ → Type 0
+MeansStatus table side p files input Success text = TellsSession table side p files input text
+MeansStatus table side p files input Wrong text = TellsWrong table side p files input text
+MeansStatus table side p files input Limit text = TellsLimit table side p files input text
+MeansStatus table side p files input Table text = TellsTableFault table files text
+MeansStatus table side p files input Outside text =
+    TellsOutside table p files text ⊎ TellsNoBound table side p files input text
+MeansStatus table side p files input Missing text = files table ≡ None
+MeansStatus table side p files input status text = ⊥
+
+-- what an answer of `play` means: it changes no file, and each status has its cause
+pub record MeansPlay (table : List ℕ) (side : Colour) (p : Board) (files : Files) (input : List ℕ) (a : Answer) : Type 0 where
+  pub same : a.files ≡ files
+  pub few : a.taken ≤ length input
+  pub says : MeansStatus table side p files input a.status a.text

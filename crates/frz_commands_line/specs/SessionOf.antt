@@ -1,0 +1,80 @@
+-- What `play TABLE FEN SIDE` answers: the session of the side by the codes in the file against the input. No file changes.
+use Rattle.std.specs.Prelude.{◌≡◌, ℕ, ◌+◌, ◌-◌, ◌||◌, Bool, List, [], ◌∷◌, ◌++◌, length, take, MatchBool, Result, Ok, Err, codes, if◌then◌else◌}
+use Rattle.std.specs.Str.{bytes_eq}
+use Rattle.frz_board.specs.declared.man.Colour.{Colour}
+use Rattle.frz_board.specs.Boards.{Board}
+use Rattle.frz_exits.specs.Books.{value_by}
+use Rattle.frz_index.specs.Members.{Num}
+use Rattle.frz_game.specs.Numbers.{is_member}
+use Rattle.frz_store.specs.Files.{Files, bytes_at}
+use Rattle.frz_table.specs.declared.fault.TableFault.{TableFault}
+use Rattle.frz_table.specs.declared.kind.FileKind.TheVariants.{Plain}
+use Rattle.frz_table.specs.Opening.{Contents, opened, table_format}
+use Rattle.frz_check.specs.Kept.{kept_codes}
+use Rattle.frz_answer.specs.Answers.{Answer, says}
+use Rattle.frz_prelude.specs.Refusals.{status_of, refusal_line}
+use Rattle.frz_prelude.specs.declared.refused.Refused.TheVariants as refusals
+use Rattle.frz_play.specs.declared.end.PlayFault.{PlayFault}
+use Rattle.frz_play.specs.declared.end.SessionEnd.{SessionEnd}
+use Rattle.frz_play.specs.Ends.{Tells}
+use Rattle.frz_play.specs.Reading.{Input}
+use Rattle.frz_play.specs.Sessions.{SessionPly, EndOfSession, IsSession}
+use Rattle.frz_play.specs.Texts.{session_text}
+use Rattle.frz_commands_line.specs.LineOf.{code_at}
+use Rattle.frz_commands_line.specs.SessionEnds.{session_status, session_naming}
+
+abbrev pub begins_with : List ℕ → List ℕ → Bool
+begins_with word text = bytes_eq (take (length word) text) word
+
+-- how many plies the text of a session has: `move ` and `reply ` stand before each, and nowhere else
+abbrev pub plies_of : List ℕ → ℕ
+plies_of [] = 0
+plies_of (b ∷ text) =
+    (if begins_with (codes "move ") (b ∷ text) || begins_with (codes "reply ") (b ∷ text) then 1 else 0) + plies_of text
+
+-- the session of the side from the position against the input, by the codes that the bytes keep, in the game of their
+-- rules; and what it leaves of the input
+abbrev pub IsSessionBy : Contents → List ℕ → Colour → Board → (input : List ℕ) → List SessionPly → EndOfSession → Input → Type 0
+IsSessionBy contents bytes side p input plies end left =
+    IsSession contents.rules (value_by contents.rules) side (kept_codes contents bytes side)
+    (Num contents.rules.groups p) input plies end left
+
+-- its text, and the line that names an end which has none of its own
+abbrev pub played_text : Colour → ℕ → List SessionPly → EndOfSession → Result SessionEnd PlayFault → List ℕ
+played_text side code plies end answer = session_text side code plies end ++ session_naming answer
+
+-- and all that the session does not leave of the input is taken
+abbrev pub session_answer : Colour → ℕ → (input : List ℕ) → List SessionPly → EndOfSession → Input → Result SessionEnd PlayFault → Files → Answer
+session_answer side code input plies end left answer files = record {
+  status = session_status answer;
+  text = played_text side code plies end answer;
+  files = files;
+  taken = length input - length left.left;
+}
+
+-- at a position of the set: its session is told
+pub record IsPlayed (contents : Contents) (bytes : List ℕ) (side : Colour) (p : Board) (files : Files) (input : List ℕ) (a : Answer) : Type 0 where
+  pub plies : List SessionPly
+  pub end : EndOfSession
+  pub left : Input
+  pub session : IsSessionBy contents bytes side p input plies end left
+  pub answer : Result SessionEnd PlayFault
+  pub tells : Tells side end answer
+  pub told : a ≡ session_answer side (code_at contents bytes side p) input plies end left answer files
+
+-- by a file that opens: the position has a session, or is outside the set
+abbrev pub IsPlayedIn : Contents → List ℕ → Colour → Board → Files → List ℕ → Answer → Type 0
+IsPlayedIn contents bytes side p files input a = MatchBool (is_member contents.rules.groups p)
+    (IsPlayed contents bytes side p files input a)
+    (a ≡ says (status_of refusals.Outside) (refusal_line refusals.Outside) files)
+
+-- by how the file opens
+abbrev pub IsPlayedBy : Result Contents TableFault → List ℕ → Colour → Board → Files → List ℕ → Answer → Type 0
+IsPlayedBy (Ok contents) bytes side p files input a = IsPlayedIn contents bytes side p files input a
+IsPlayedBy (Err fault) bytes side p files input a =
+    a ≡ says (status_of (refusals.Table fault)) (refusal_line (refusals.Table fault)) files
+
+-- by the file that has the name
+abbrev pub IsPlayedAt : List ℕ → Colour → Board → Files → List ℕ → Answer → Type 0
+IsPlayedAt table side p files input a =
+    IsPlayedBy (opened (table_format Plain) (files table)) (bytes_at files table) side p files input a

@@ -1,0 +1,10 @@
+//! The commands that play by a table: `line` and `play`.
+#![tactic(auto)]
+
+pub mod laws;
+mod line;
+mod play;
+mod side;
+
+pub use line::run_line;
+pub use play::run_play;
