@@ -1,0 +1,106 @@
+-- What `chain` has read, under both names.
+use Rattle.std.proofs.Common.{◌≡◌, sym, ap, subst, ◌∙◌, ℕ, ◌+◌, ◌≤◌, List, Option, Some, Result, Ok, Err, arith}
+use Rattle.frz_store.specs.Files.{Files}
+use Rattle.frz_store.specs.Told.{StoreTold, SourceTold, SinkTold}
+use Rattle.frz_table.specs.declared.kind.FileKind.TheVariants.{Plain}
+use Rattle.frz_table.specs.Opening.{opened, table_format}
+use Rattle.frz_table.specs.Possible.{MayHold}
+use Rattle.frz_chain.specs.Backs.{HasWrong, IsRefusedBack, OpensBack, RefusesBack}
+use Rattle.frz_chain.specs.Chains.{bytes_for, calls_for, steps_for}
+use Rattle.frz_chain.specs.FileOn.{loaded_back}
+use Rattle.frz_chain.specs.declared.fault.ChainFault.{ChainFault}
+use Rattle.frz_chain.specs.declared.fault.ChainFault.TheVariants as chain
+use Rattle.frz_check.specs.Kept.{WithinFile}
+use Rattle.frz_answer.specs.Jobs.{Sees}
+use Rattle.frz_answer.specs.World.{world}
+use Rattle.frz_prelude.specs.RulesFiles.{GivesText, IsTextRead, asked_of, or_fault, rules_held}
+use Rattle.frz_prelude.specs.declared.rules_at.RulesText.{RulesText}
+use Rattle.frz_prelude.specs.declared.stop.Stop.{Stop}
+use Rattle.frz_prelude.specs.declared.stop.Stop.TheVariants.{Refused, Fault}
+use Rattle.frz_prelude.proofs.Lemmas.{of_rules}
+use Rattle.frz_commands_chain.specs.Backs.{reads_of}
+use Rattle.frz_commands_chain.specs.Reading.{AreBothRead, GivesBoth, HasRules, IsRefusedBoth, StopsReading}
+use Rattle.frz_commands_chain.specs.Stops.{stop_of_chain}
+use Rattle.frz_commands_chain.specs.declared.reading.BothRead.{BothRead}
+use Rattle.frz_commands_chain.proofs.BothHeld.{HoldBoth, agreed_at, hold_both, same_held}
+
+-- the rules file was not read
+rules_due : (held back_held : Option (List ℕ)) (stop : Stop) → GivesText held (Err stop) → GivesBoth held back_held (Err stop)
+rules_due held back_held (Refused why) due =
+    of_rules (λ w. rules_held held ≡ Err w → IsRefusedBoth held back_held w) held why due (λ e. e) (λ fault e. e) due
+rules_due held back_held (Fault fault) due = tt
+
+pub rules_stop : (held : Option (List ℕ)) (stop : Stop) → GivesText held (Err stop) → StopsReading stop
+rules_stop held (Refused why) due = of_rules (λ w. StopsReading (Refused w)) held why due tt (λ fault. tt)
+rules_stop held (Fault fault) due = tt
+
+pub back_stop : (held : Option (List ℕ)) (fault : ChainFault) → IsRefusedBack held fault → StopsReading (stop_of_chain fault)
+back_stop held (chain.Rules fault) h = absurd h
+back_stop held (chain.Table fault) h = absurd h
+back_stop held (chain.Back fault) h = tt
+back_stop held (chain.BackWrong wrong) h = tt
+back_stop held chain.Failed h = tt
+back_stop held chain.NoMemory h = tt
+
+pub not_read : (rules back : List ℕ) (stop : Stop) (old new : StoreTold) (steps : ℕ) → IsTextRead rules (Err stop) old new → new.calls ≤ old.calls + 2
+    → AreBothRead rules back (Err stop) old new steps steps
+not_read rules back stop old new steps read calls =
+    let asked = read.asked in record {
+      files = read.files;
+      agrees = read.agrees;
+      due = rules_due (read.files rules) (read.files back) stop read.due;
+      steps = omega arith;
+      asked = omega (arith, asked);
+      calls = omega (arith, calls);
+    }
+
+-- the rules file was read, and then the back table was looked for
+module _ (rules back : List ℕ) (read : RulesText) (old mid new : StoreTold) (input : SourceTold) (out : SinkTold) (before now : ℕ)
+    (there : IsTextRead rules (Ok read) old mid) (calls : mid.calls ≤ old.calls + 2) (same : mid.files ≡ old.files)
+    (sees : Sees (reads_of rules back) (world old input out before)) where
+  both : (back_held : Option (List ℕ)) → MayHold mid.files back back_held → HoldBoth old.files rules back (there.files rules) back_held
+  both back_held may =
+      hold_both (world old input out before) rules back (there.files rules) back_held sees (agreed_at old.files there.files rules there.agrees)
+      (same_held old.files back back_held (subst (λ (o : Option Files). MayHold o back back_held) same may))
+
+  both_read : (result : Result BothRead Stop) (back_held : Option (List ℕ)) → MayHold mid.files back back_held → WithinFile back_held mid new before now
+      → ((m : Files) → m rules ≡ there.files rules → m back ≡ back_held → GivesBoth (m rules) (m back) result) → AreBothRead rules back result old new before now
+  both_read result back_held may within gives =
+      let at = both back_held may in
+      let asked : new.asked ≤ old.asked + (asked_of (there.files rules) + bytes_for Plain back_held) =
+      (let a = there.asked in let b = within.asked in omega (arith, a, b)) in
+      let call : new.calls ≤ old.calls + (2 + calls_for Plain back_held) = (let b = within.calls in omega (arith, calls, b)) in
+      record {
+        files = at.files;
+        agrees = at.agrees;
+        due = gives at.files at.first at.second;
+        steps = subst (λ (h : Option (List ℕ)). now ≤ before + steps_for Plain h) (sym at.second) within.steps;
+        asked =
+            subst (λ (h : Option (List ℕ)). new.asked ≤ old.asked + (asked_of h + bytes_for Plain (at.files back))) (sym at.first)
+            (subst (λ (h : Option (List ℕ)). new.asked ≤ old.asked + (asked_of (there.files rules) + bytes_for Plain h)) (sym at.second) asked);
+        calls = subst (λ (h : Option (List ℕ)). new.calls ≤ old.calls + (2 + calls_for Plain h)) (sym at.second) call;
+      }
+
+  pub back_read : (both_is : BothRead) → both_is.read ≡ read → OpensBack back (loaded_back both_is.back) mid new before now
+      → AreBothRead rules back (Ok both_is) old new before now
+  back_read both_is e h =
+      both_read (Ok both_is) (Some h.bytes) h.may h.within
+      (λ m first second. (
+        subst (λ (r : RulesText). GivesText (m rules) (Ok r)) (sym e) (first ∙ there.due.0, there.due.1),
+        record { bytes = h.bytes; there = second; contents = h.contents; judged = h.judged; keeps = h.keeps },
+      ))
+
+  has_rules : (m : Files) → m rules ≡ there.files rules → HasRules (m rules)
+  has_rules m e = (read.rules, ap rules_held (e ∙ there.due.0) ∙ ap or_fault there.due.1)
+
+  pub back_refused : (fault : ChainFault) → RefusesBack back mid new before now fault → AreBothRead rules back (Err (stop_of_chain fault)) old new before now
+  back_refused (chain.Rules fault) h = absurd h.refuses
+  back_refused (chain.Table fault) h = absurd h.refuses
+  back_refused (chain.Back fault) h =
+      both_read (Err (stop_of_chain (chain.Back fault))) h.held h.may h.within
+      (λ m first second. (has_rules m first, ap (opened (table_format Plain)) second ∙ h.refuses))
+  back_refused (chain.BackWrong wrong) h =
+      both_read (Err (stop_of_chain (chain.BackWrong wrong))) h.held h.may h.within
+      (λ m first second. (has_rules m first, subst (λ (x : Option (List ℕ)). HasWrong x wrong) (sym second) h.refuses))
+  back_refused chain.Failed h = both_read (Err (stop_of_chain chain.Failed)) h.held h.may h.within (λ m first second. tt)
+  back_refused chain.NoMemory h = both_read (Err (stop_of_chain chain.NoMemory)) h.held h.may h.within (λ m first second. tt)

@@ -1,0 +1,59 @@
+-- What `chain` answers where it was read by what.
+use Rattle.std.proofs.Common.{◌≡◌, refl, sym, ap, subst, ◌∙◌, ℕ, ◌+◌, ◌*◌, ◌≤◌, List, Ok, arith}
+use Rattle.frz_store.specs.Files.{Files}
+use Rattle.frz_sets.specs.Sets.{size_of}
+use Rattle.frz_table.specs.declared.kind.FileKind.TheVariants.{Plain}
+use Rattle.frz_answer.specs.Jobs.{WithinCosts}
+use Rattle.frz_answer.specs.World.{World, Agrees}
+use Rattle.frz_answer.proofs.Stages.{Stages}
+use Rattle.frz_build.specs.Building.{writing_calls}
+use Rattle.frz_chain.specs.Chains.{bytes_for, calls_for, steps_for}
+use Rattle.frz_chain.specs.FileOn.{loaded_back}
+use Rattle.frz_prelude.specs.RulesFiles.{asked_of, or_fault, rules_held}
+use Rattle.frz_commands_chain.specs.Backs.{IsBackIn}
+use Rattle.frz_commands_chain.specs.Chaining.{chain_costs, chaining_at, chaining_by, made, size_by}
+use Rattle.frz_commands_chain.specs.Reading.{AreBothRead}
+use Rattle.frz_commands_chain.specs.declared.reading.BothRead.{BothRead}
+use Rattle.frz_commands_chain.proofs.ChainAt.{found_both}
+
+module _ (rules back table : List ℕ) (both : BothRead) (files : Files) (input : List ℕ) (old mid new : World)
+    (h : AreBothRead rules back (Ok both) old.store mid.store old.steps mid.steps) (agrees : Agrees old files input) where
+  read_rules : (m : Files) → m ≡ h.files → rules_held (m rules) ≡ Ok both.read.rules
+  read_rules m e = ap (λ (f : Files). rules_held (f rules)) e ∙ ap rules_held h.due.0.0 ∙ ap or_fault h.due.0.1
+
+  abbrev size : ℕ
+  size = size_of both.read.rules.groups
+
+  spent : (m : Files) → m ≡ h.files → new.steps ≤ mid.steps + 4 * size → new.store.calls ≤ mid.store.calls + writing_calls size
+      → new.store.asked ≤ mid.store.asked + 0 → WithinCosts (chain_costs (m rules) (m back)) old new
+  spent m e steps calls asked =
+      let due = ap size_by (read_rules m e) in
+      let old_steps : mid.steps ≤ old.steps + steps_for Plain (m back) =
+      subst (λ (f : Files). mid.steps ≤ old.steps + steps_for Plain (f back)) (sym e) h.steps in
+      let old_asked : mid.store.asked ≤ old.store.asked + (asked_of (m rules) + bytes_for Plain (m back)) =
+      subst (λ (f : Files). mid.store.asked ≤ old.store.asked + (asked_of (f rules) + bytes_for Plain (f back))) (sym e) h.asked in
+      let old_calls : mid.store.calls ≤ old.store.calls + (2 + calls_for Plain (m back)) =
+      subst (λ (f : Files). mid.store.calls ≤ old.store.calls + (2 + calls_for Plain (f back))) (sym e) h.calls in
+      let writing : writing_calls (size_by (rules_held (m rules))) ≡ writing_calls size = ap writing_calls due in
+      record {
+        steps = omega (arith, steps, old_steps, due);
+        calls = omega (arith, calls, old_calls, writing);
+        asked = omega (arith, asked, old_asked);
+      }
+
+  pub stages : Stages (chaining_by both.read.text.items both.read.rules (loaded_back both.back) table) (chaining_at rules back table) files input old mid new
+  stages = record {
+    found = found_both rules back table (Ok both) files input old mid h agrees;
+    answers = λ m i a fits same untaken built.
+        let e : m ≡ h.files = same refl in
+        made (record {
+          text = both.read.text.items;
+          there = ap (λ (f : Files). f rules) e ∙ h.due.0.0;
+          lines = both.read.rules;
+          accepted = h.due.0.1;
+          behind = loaded_back both.back;
+          back_there = subst (λ (f : Files). IsBackIn (f back) (loaded_back both.back)) (sym e) h.due.1;
+          made = built;
+        });
+    costs = λ m i a fits same untaken built costs. spent m (same refl) costs.steps costs.calls costs.asked;
+  }

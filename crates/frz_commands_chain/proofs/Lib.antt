@@ -1,0 +1,12 @@
+mod BothHeld
+mod BackOnce
+mod Stopped
+mod PairOnce
+mod Pairs
+mod PairMeaning
+mod BothFound
+mod ChainOnce
+mod ChainAccepted
+mod ChainAt
+mod Chains
+pub mod Lemmas

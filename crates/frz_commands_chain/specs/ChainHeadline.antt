@@ -1,0 +1,54 @@
+-- What it says that `chaincheck` has ended with status 0.
+use Rattle.std.specs.Prelude.{◌≡◌, ℕ, List, Some, Ok}
+use Rattle.frz_board.specs.declared.man.Colour.TheVariants.{White, Black}
+use Rattle.frz_exits.specs.Books.{value_by}
+use Rattle.frz_game.specs.Bounds.{IsTableOf}
+use Rattle.frz_game.specs.Meaning.{TableMeans}
+use Rattle.frz_game.specs.Values.{AreTrueExits}
+use Rattle.frz_rules.specs.Text.{rules_of}
+use Rattle.frz_sets.specs.Sets.{size_of}
+use Rattle.frz_sets.specs.Views.{RuleLines}
+use Rattle.frz_store.specs.Files.{Files}
+use Rattle.frz_table.specs.declared.kind.FileKind.TheVariants.{Plain, Chained}
+use Rattle.frz_table.specs.Layout.{codes_at, magic_of}
+use Rattle.frz_table.specs.Numbers.{AreBytes}
+use Rattle.frz_table.specs.Tables.{IsTableFile}
+use Rattle.frz_check.specs.OneFile.{IsOneFile}
+use Rattle.frz_chain.specs.Books.{Back, back_with, chain_value}
+use Rattle.frz_chain.specs.FileOn.{IsExactBack, IsFileOn}
+
+-- BACK is an exact table by its own exit lines, and TABLE one over it
+pub record ChainHeadline (table back : List ℕ) (files : Files) : Type 0 where
+  -- BACK holds a text that is accepted, and behind it the tables of both sides
+  pub back_bytes : List ℕ
+  pub back_there : files back ≡ Some back_bytes
+  pub back_text : List ℕ
+  pub back_rules : RuleLines
+  pub back_accepted : rules_of back_text ≡ Ok back_rules
+  pub back_layout : IsTableFile (magic_of Plain) back_text (size_of back_rules.groups) back_bytes
+  pub behind : Back
+  pub behind_is : back_with back_rules.groups (codes_at White back_text (size_of back_rules.groups) back_bytes)
+      (codes_at Black back_text (size_of back_rules.groups) back_bytes) ≡ behind
+  pub back_exact : IsExactBack back_rules (value_by back_rules) behind
+  pub back_one_file : AreBytes back_bytes → IsOneFile (magic_of Plain) back_text back_rules (value_by back_rules) back_bytes
+  -- TABLE holds a text that is accepted, and behind it the tables of both sides, with the values of its exit lines and of BACK behind them
+  pub bytes : List ℕ
+  pub there : files table ≡ Some bytes
+  pub text : List ℕ
+  pub rules : RuleLines
+  pub accepted : rules_of text ≡ Ok rules
+  pub layout : IsTableFile (magic_of Chained) text (size_of rules.groups) bytes
+  pub white : List ℕ
+  pub black : List ℕ
+  pub white_is : codes_at White text (size_of rules.groups) bytes ≡ white
+  pub black_is : codes_at Black text (size_of rules.groups) bytes ≡ black
+  pub white_table : IsTableOf rules (chain_value rules behind) White white
+  pub black_table : IsTableOf rules (chain_value rules behind) Black black
+  pub one_file : AreBytes bytes → IsFileOn text rules behind bytes
+  -- a win forces mate or an assigned win within its plies; where the exits are true it forces mate, and with a win or a hold the
+  -- opponent forces none
+  pub white_means : TableMeans rules (chain_value rules behind) White white
+  pub black_means : TableMeans rules (chain_value rules behind) Black black
+  -- and the exits are true where the exit lines of both texts are
+  pub true_exits : AreTrueExits rules (value_by rules) → AreTrueExits back_rules (value_by back_rules)
+      → AreTrueExits rules (chain_value rules behind)

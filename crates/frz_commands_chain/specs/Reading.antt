@@ -1,0 +1,53 @@
+-- What `chain` reads: the rules file, and then the back table.
+use Rattle.std.specs.Prelude.{◌≡◌, ◌≤◌, ◌+◌, ℕ, List, Option, IfSome, Result, Ok, Err, ⊤}
+use Rattle.frz_sets.specs.Views.{RuleLines}
+use Rattle.frz_store.specs.Files.{Files}
+use Rattle.frz_store.specs.Told.{StoreTold}
+use Rattle.frz_table.specs.declared.kind.FileKind.TheVariants.{Plain}
+use Rattle.frz_table.specs.Opening.{opened, table_format}
+use Rattle.frz_chain.specs.Backs.{HasWrong}
+use Rattle.frz_chain.specs.Chains.{bytes_for, calls_for, steps_for}
+use Rattle.frz_chain.specs.FileOn.{loaded_back}
+use Rattle.frz_prelude.specs.RulesFiles.{GivesText, asked_of, rules_held}
+use Rattle.frz_prelude.specs.declared.refused.Refused.{Refused as Refusal}
+use Rattle.frz_prelude.specs.declared.refused.Refused.TheVariants as refusals
+use Rattle.frz_prelude.specs.declared.stop.Stop.{Stop}
+use Rattle.frz_prelude.specs.declared.stop.Stop.TheVariants.{Refused, Fault}
+use Rattle.frz_commands_chain.specs.Backs.{IsBackIn}
+use Rattle.frz_commands_chain.specs.declared.reading.BothRead.{BothRead}
+
+-- the name holds a rules text that is accepted
+abbrev pub HasRules : Option (List ℕ) → Type 0
+HasRules held = (r : RuleLines) × (rules_held held ≡ Ok r)
+
+-- the rules file is refused so, or it is accepted and the back table is refused so
+abbrev pub IsRefusedBoth : (held back_held : Option (List ℕ)) → Refusal → Type 0
+IsRefusedBoth held back_held refusals.MissingRules = rules_held held ≡ Err refusals.MissingRules
+IsRefusedBoth held back_held (refusals.Rules fault) = rules_held held ≡ Err (refusals.Rules fault)
+IsRefusedBoth held back_held (refusals.Back fault) = HasRules held × (opened (table_format Plain) back_held ≡ Err fault)
+IsRefusedBoth held back_held (refusals.BackWrong wrong) = HasRules held × HasWrong back_held wrong
+IsRefusedBoth held back_held why = ⊥
+
+-- what is refused while both are read: RULES or BACK
+abbrev pub StopsReading : Stop → Type 0
+StopsReading (Refused refusals.MissingRules) = ⊤
+StopsReading (Refused (refusals.Rules fault)) = ⊤
+StopsReading (Refused (refusals.Back fault)) = ⊤
+StopsReading (Refused (refusals.BackWrong wrong)) = ⊤
+StopsReading (Refused why) = ⊥
+StopsReading (Fault fault) = ⊤
+
+-- both were read, or one is refused. Nothing is said where a fault stopped the call
+abbrev pub GivesBoth : (held back_held : Option (List ℕ)) → Result BothRead Stop → Type 0
+GivesBoth held back_held (Ok both) = GivesText held (Ok both.read) × IsBackIn back_held (loaded_back both.back)
+GivesBoth held back_held (Err (Refused why)) = IsRefusedBoth held back_held why
+GivesBoth held back_held (Err (Fault fault)) = ⊤
+
+-- both are those of the two names in some files, which are those that the store tells where it does, and no more was spent than they cost
+pub record AreBothRead (rules back : List ℕ) (result : Result BothRead Stop) (old new : StoreTold) (steps_before steps_now : ℕ) : Type 0 where
+  pub files : Files
+  pub agrees : IfSome old.files (λ told. told ≡ files)
+  pub due : GivesBoth (files rules) (files back) result
+  pub steps : steps_now ≤ steps_before + steps_for Plain (files back)
+  pub asked : new.asked ≤ old.asked + (asked_of (files rules) + bytes_for Plain (files back))
+  pub calls : new.calls ≤ old.calls + (2 + calls_for Plain (files back))
