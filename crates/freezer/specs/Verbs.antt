@@ -3,7 +3,7 @@ use Rattle.std.specs.Prelude.{ℕ, List, [], ◌∷◌, Option, Some, None, if�
 use Rattle.std.specs.Option.{option_map}
 use Rattle.std.specs.Str.{bytes_eq}
 use Rattle.freezer.specs.declared.verb.Verb.{Verb}
-use Rattle.freezer.specs.declared.verb.Verb.TheVariants.{Solve, Moves, Sans, Move, Query, Check, Build, Sample}
+use Rattle.freezer.specs.declared.verb.Verb.TheVariants.{Solve, Moves, Sans, Move, Query, Line, Play, Check, Build, Migrate, Chain, ChainCheck, ChainQuery, Sample, Report}
 
 abbrev pub verb_of : List ℕ → Option Verb
 verb_of word =
@@ -12,9 +12,16 @@ verb_of word =
     (if bytes_eq word (codes "sans") then Some Sans else
     (if bytes_eq word (codes "move") then Some Move else
     (if bytes_eq word (codes "query") then Some Query else
+    (if bytes_eq word (codes "line") then Some Line else
+    (if bytes_eq word (codes "play") then Some Play else
     (if bytes_eq word (codes "check") then Some Check else
     (if bytes_eq word (codes "build") then Some Build else
-    (if bytes_eq word (codes "sample") then Some Sample else None)))))))
+    (if bytes_eq word (codes "migrate") then Some Migrate else
+    (if bytes_eq word (codes "chain") then Some Chain else
+    (if bytes_eq word (codes "chaincheck") then Some ChainCheck else
+    (if bytes_eq word (codes "chainquery") then Some ChainQuery else
+    (if bytes_eq word (codes "sample") then Some Sample else
+    (if bytes_eq word (codes "report") then Some Report else None))))))))))))))
 
 -- the command that the first word names, and the words behind it
 abbrev pub command_of : List (List ℕ) → Option (Verb × List (List ℕ))

@@ -8,6 +8,7 @@ ghost use Rattle.frz_answer.specs.Outcomes.{Outcome};
 ghost use Rattle.freezer.specs.Commands.{job_of};
 
 pub mod laws;
+pub mod sure;
 #[cfg(test)]
 mod tests;
 mod top;

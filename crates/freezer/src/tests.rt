@@ -1,12 +1,18 @@
 //! The program over objects in memory.
-ghost use Rattle.std.specs.Prelude.{None};
-
 mod building;
+mod chaining;
+mod faults;
+mod fickle;
+mod lines;
+mod migrating;
 mod notation;
+mod playing;
+mod reporting;
+mod steps;
 mod tables;
 
 use crate::run_once;
-use frz_store::{Fail, FailOn, Failed, MemSink, MemSource, MemStore, Store, StoreFault};
+use frz_store::{Fail, FailOn, MemSink, MemSource, MemStore, Store};
 use std::alloc::Global;
 use std::process::Abort;
 use std::test::Fail as TestFail;
@@ -350,72 +356,6 @@ fn a_full_sink_cuts_the_line(rt: HostRuntime) -> Result<(), TestFail> {
     let status = call(alloc, &moves, &mut store, &mut out)?;
     assert_eq!(rt; status, 9);
     assert_eq!(rt; out.taken(), b"a1a2 e5".as_slice());
-    Ok(())
-}
-
-/// A store that tells nothing and contradicts itself: a name is there at the first call alone, and
-/// then its bytes are a header without a group.
-#[derive(Drop)]
-struct Fickle {
-    calls: u64,
-    asked: u64,
-}
-
-impl Store for Fickle {
-    ghost files = { λ _. None };
-
-    ghost last = { λ _. None };
-
-    ghost faults = { λ _. 0 };
-
-    ghost wants = { λ _. 0 };
-
-    ghost asked = { λ store. store.asked };
-
-    ghost calls = { λ store. store.calls };
-
-    ghost room = { λ _. 0 };
-
-    fn size(&mut self, _name: &str) -> Result<Option<u64>, StoreFault> {
-        let there = self.calls == 0;
-        self.calls = self.calls.saturating_add(1);
-        Ok(if there { Some(10) } else { None })
-    }
-
-    fn read(&mut self, _name: &str, _at: u64, into: &mut [u8]) -> Result<(), StoreFault> {
-        self.calls = self.calls.saturating_add(1);
-        self.asked = self.asked.saturating_add(into.len() as u64);
-        if into.len() == 10 {
-            into.copy_from_slice(b"freezer 1\n");
-        }
-        Ok(())
-    }
-
-    fn create(&mut self, _name: &str, _due: u64) -> Result<(), StoreFault> {
-        self.calls = self.calls.saturating_add(1);
-        Err(StoreFault::NoMemory)
-    }
-
-    fn append(&mut self, _piece: &[u8]) -> Result<(), Failed> {
-        self.calls = self.calls.saturating_add(1);
-        Ok(())
-    }
-}
-
-#[test]
-fn a_fickle_store_is_asked_once(rt: HostRuntime) -> Result<(), TestFail> {
-    let alloc = rt.alloc();
-    let mut store = Fickle { calls: 0, asked: 0 };
-    let mut out = MemSink::new(alloc, 200, no_fails(alloc)).or(Err("sink"))?;
-    let solve = ["solve", "A", MATE_IN_ONE];
-    assert_eq!(rt; call(alloc, &solve, &mut store, &mut out)?, 3);
-    assert_eq!(rt; call(alloc, &solve, &mut store, &mut out)?, 12);
-    assert_eq!(rt;
-        out.taken(),
-        b"rules 0: king group\nmissing rules\n".as_slice()
-    );
-    assert_eq!(rt; store.calls, 3);
-    assert_eq!(rt; store.asked, 10);
     Ok(())
 }
 

@@ -8,9 +8,12 @@ ghost use Rattle.freezer.specs.Commands.{job_of};
 
 use crate::verb::{Verb, read_command};
 use frz_answer::{End, Refusal, finish, refuse};
-use frz_commands_ask::{run_query, run_solve};
+use frz_commands_ask::{run_chainquery, run_query, run_report, run_solve};
+use frz_commands_chain::{run_chain, run_chaincheck};
 use frz_commands_chess::{run_move, run_moves, run_sans};
-use frz_commands_table::{run_build, run_check, run_sample};
+use frz_commands_line::laws::{one_line_answer, one_play_answer};
+use frz_commands_line::{run_line, run_play};
+use frz_commands_table::{run_build, run_check, run_migrate, run_sample};
 use frz_steps::Steps;
 use frz_store::{Sink, Source, Store};
 use std::alloc::Global;
@@ -39,9 +42,16 @@ fn run<S: Store, I: Source, O: Sink, L: Ledger>(
         Some((Verb::Sans, rest)) => run_sans(rest, out, steps),
         Some((Verb::Move, rest)) => run_move(rest, out, steps),
         Some((Verb::Query, rest)) => run_query(alloc, rest, store, out),
+        Some((Verb::Line, rest)) => run_line(alloc, rest, store, out, steps),
+        Some((Verb::Play, rest)) => run_play(alloc, rest, store, input, out, steps),
         Some((Verb::Check, rest)) => run_check(alloc, rest, store, out, steps),
         Some((Verb::Build, rest)) => run_build(alloc, rest, store, out, steps),
+        Some((Verb::Migrate, rest)) => run_migrate(alloc, rest, store, out),
+        Some((Verb::Chain, rest)) => run_chain(alloc, rest, store, out, steps),
+        Some((Verb::ChainCheck, rest)) => run_chaincheck(alloc, rest, store, out, steps),
+        Some((Verb::ChainQuery, rest)) => run_chainquery(alloc, rest, store, out),
         Some((Verb::Sample, rest)) => run_sample(alloc, rest, out, steps),
+        Some((Verb::Report, rest)) => run_report(alloc, rest, store, out, steps),
         None => refuse(Refusal::NoCommand, out),
     }
 }
@@ -68,6 +78,8 @@ pub fn freezer<S: Store, I: Source, O: Sink, L: Ledger>(
     ensures input_unused { (job_of (map string_bytes words.now)).needs.input ≡ false
         → input.new ≡ input.old }
 {
+    one_line_answer();
+    one_play_answer();
     let end = run(alloc, words, store, input, out, steps);
     finish(end, out)
 }

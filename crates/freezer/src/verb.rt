@@ -12,9 +12,16 @@ pub enum Verb {
     Sans,
     Move,
     Query,
+    Line,
+    Play,
     Check,
     Build,
+    Migrate,
+    Chain,
+    ChainCheck,
+    ChainQuery,
     Sample,
+    Report,
 }
 
 /// The command that the word names.
@@ -27,9 +34,16 @@ fn read_verb(word: &str) -> Option<Verb>
         "sans" => Some(Verb::Sans),
         "move" => Some(Verb::Move),
         "query" => Some(Verb::Query),
+        "line" => Some(Verb::Line),
+        "play" => Some(Verb::Play),
         "check" => Some(Verb::Check),
         "build" => Some(Verb::Build),
+        "migrate" => Some(Verb::Migrate),
+        "chain" => Some(Verb::Chain),
+        "chaincheck" => Some(Verb::ChainCheck),
+        "chainquery" => Some(Verb::ChainQuery),
         "sample" => Some(Verb::Sample),
+        "report" => Some(Verb::Report),
         _ => None,
     }
 }

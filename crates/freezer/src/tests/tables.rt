@@ -10,7 +10,7 @@ const NEAR_ROOK: &[u8] =
     b"freezer 1\ngroup white 1 K:b6\ngroup white 1 R:c1,c2\ngroup black 1 K:a8,b8\n";
 
 /// The codes of both sides, White's first, each in four bytes.
-const ROOK_CODES: [u8; 16] = [4, 4, 0, 0, 6, 5, 2, 2, 5, 5, 0, 0, 7, 7, 3, 3];
+pub(super) const ROOK_CODES: [u8; 16] = [4, 4, 0, 0, 6, 5, 2, 2, 5, 5, 0, 0, 7, 7, 3, 3];
 
 const NEAR_ROOK_CODES: [u8; 16] = [1, 1, 1, 1, 1, 1, 1, 1, 5, 5, 5, 5, 7, 7, 7, 7];
 
@@ -71,11 +71,18 @@ const ASKED: &[(&str, u8, &str)] = &[
     ("k7/8/1K6/8/8/8/8/7R w - - 0", 4, "fen: fields\n"),
 ];
 
-/// The table of a text with 73 bytes and 8 numbers.
-fn table(alloc: Global, text: &[u8], codes: &[u8]) -> Result<Vec<u8>, TestFail> {
-    let mut file = b"FREEZER2\x49\0\0\0".to_vec(alloc)?;
+/// The table of a text with so many numbers.
+pub(super) fn table(
+    alloc: Global,
+    text: &[u8],
+    size: u32,
+    codes: &[u8],
+) -> Result<Vec<u8>, TestFail> {
+    let length = u32::try_from(text.len()).or(Err("length"))?;
+    let mut file = b"FREEZER2".to_vec(alloc)?;
+    file.extend_from_slice(&length.to_le_bytes())?;
     file.extend_from_slice(text)?;
-    file.extend_from_slice(b"\x08\0\0\0")?;
+    file.extend_from_slice(&size.to_le_bytes())?;
     for code in codes {
         file.extend_from_slice(&u32::from(*code).to_le_bytes())?;
     }
@@ -123,17 +130,47 @@ fn expect_changed(
 #[test]
 fn checks_tables(rt: HostRuntime) -> Result<(), TestFail> {
     let alloc = rt.alloc();
-    let rook = table(alloc, RULES, &ROOK_CODES)?;
+    let rook = table(alloc, RULES, 8, &ROOK_CODES)?;
     assert_eq!(rt; rook.len(), 153);
     expect_changed(&rt, alloc, &rook, ROOK_ROWS)?;
-    let near = table(alloc, NEAR_ROOK, &NEAR_ROOK_CODES)?;
+    let near = table(alloc, NEAR_ROOK, 8, &NEAR_ROOK_CODES)?;
     expect_changed(&rt, alloc, &near, NEAR_ROOK_ROWS)
+}
+
+/// Texts of great sets, each with what a check says of a file of the text that keeps the size 8.
+const GREAT: &[(&[u8], &str)] = &[
+    (
+        b"freezer 1\ngroup white 1 K:all\ngroup black 1 K:all\ngroup white 1 R:all\ngroup white 1 N:a1-h4\n",
+        "table: size 8 due 16777216\n",
+    ),
+    (
+        b"freezer 1\ngroup white 1 K:all\ngroup black 1 K:all\ngroup white 1 R:all\ngroup white 1 N:a1-h4,a5\n",
+        "table: size 8 due 17301504\n",
+    ),
+    (
+        b"freezer 1\ngroup white 1 K:all\ngroup black 1 K:all\ngroup white 1 R:all\ngroup white 1 N:all\ngroup white 1 B:a1-d1\n",
+        "table: size 8 due 134217728\n",
+    ),
+    (
+        b"freezer 1\ngroup white 1 K:all\ngroup black 1 K:all\ngroup white 1 R:all\ngroup white 1 N:all\ngroup white 1 B:a1-e1\n",
+        "table: rules 0: set too big 167772160\n",
+    ),
+];
+
+#[test]
+fn sizes_are_those_of_the_rules(rt: HostRuntime) -> Result<(), TestFail> {
+    let alloc = rt.alloc();
+    for (text, line) in GREAT {
+        let file = table(alloc, text, 8, &[])?;
+        expect(&rt, alloc, &file, &["check", "A.t"], 5, line)?;
+    }
+    Ok(())
 }
 
 #[test]
 fn refuses_tables_that_are_cut_too_long_or_missing(rt: HostRuntime) -> Result<(), TestFail> {
     let alloc = rt.alloc();
-    let mut file = table(alloc, RULES, &ROOK_CODES)?;
+    let mut file = table(alloc, RULES, 8, &ROOK_CODES)?;
     for (left, text) in CUT {
         let front = file.get(..*left).ok_or("front")?;
         expect(&rt, alloc, front, &["check", "A.t"], 5, text)?;
@@ -165,7 +202,7 @@ fn refuses_tables_that_are_cut_too_long_or_missing(rt: HostRuntime) -> Result<()
 #[test]
 fn asks_tables(rt: HostRuntime) -> Result<(), TestFail> {
     let alloc = rt.alloc();
-    let file = table(alloc, RULES, &ROOK_CODES)?;
+    let file = table(alloc, RULES, 8, &ROOK_CODES)?;
     for (fen, status, text) in ASKED {
         expect(&rt, alloc, &file, &["query", "A.t", fen], *status, text)?;
     }
@@ -176,7 +213,7 @@ fn asks_tables(rt: HostRuntime) -> Result<(), TestFail> {
 fn a_query_reads_two_codes_in_place(rt: HostRuntime) -> Result<(), TestFail> {
     let alloc = rt.alloc();
     let mut store = MemStore::new(alloc, no_fails(alloc));
-    let file = table(alloc, RULES, &ROOK_CODES)?;
+    let file = table(alloc, RULES, 8, &ROOK_CODES)?;
     store.put("A.t", &file).or(Err("put"))?;
     let mut out = MemSink::new(alloc, 200, no_fails(alloc)).or(Err("sink"))?;
     let status = call(alloc, &["query", "A.t", CORNER], &mut store, &mut out)?;
@@ -189,7 +226,7 @@ fn a_query_reads_two_codes_in_place(rt: HostRuntime) -> Result<(), TestFail> {
 fn a_check_stops_where_the_sink_fails(rt: HostRuntime) -> Result<(), TestFail> {
     let alloc = rt.alloc();
     let mut store = MemStore::new(alloc, no_fails(alloc));
-    let file = table(alloc, RULES, &ROOK_CODES)?;
+    let file = table(alloc, RULES, 8, &ROOK_CODES)?;
     store.put("A.t", &file).or(Err("put"))?;
     let fails = vec![in alloc;
         Fail {

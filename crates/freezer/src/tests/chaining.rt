@@ -1,0 +1,220 @@
+//! Tables that lean on a second table, beside files made by hand.
+use super::{NEXT_TO_IT, RULES, call, no_fails};
+use frz_store::{Fail, FailOn, MemSink, MemStore};
+use std::alloc::Global;
+use std::process::Abort;
+use std::test::Fail as TestFail;
+
+/// The black king has gone to c8, and White wins everywhere outside: 93 bytes, 2 numbers.
+const NEXT: &[u8] =
+    b"freezer 1\ngroup white 1 K:b6\ngroup white 1 R:h1\ngroup black 1 K:c8\nexit white wins if always\n";
+
+/// The codes of both sides, White's first: the rook's by its own exit lines, those over the table of
+/// NEXT, and those of NEXT.
+const ROOK_CODES: [u8; 16] = [4, 4, 0, 0, 6, 5, 2, 2, 5, 5, 0, 0, 7, 7, 3, 3];
+
+const CHAINED_CODES: [u8; 16] = [4, 4, 0, 0, 6, 6, 2, 2, 5, 5, 0, 0, 7, 7, 3, 3];
+
+const NEXT_CODES: [u8; 4] = [4, 4, 5, 5];
+
+/// The file with this head, this text, this size and these codes.
+fn by_hand(
+    alloc: Global,
+    head: &[u8; 12],
+    text: &[u8],
+    size: u8,
+    codes: &[u8],
+) -> Result<Vec<u8>, TestFail> {
+    let mut file = head.to_vec(alloc)?;
+    file.extend_from_slice(text)?;
+    file.extend_from_slice(&[size, 0, 0, 0])?;
+    for code in codes {
+        file.extend_from_slice(&[*code, 0, 0, 0])?;
+    }
+    Ok(file)
+}
+
+/// The rook's table over that of NEXT.
+fn chained(alloc: Global) -> Result<Vec<u8>, TestFail> {
+    by_hand(alloc, b"FREEZERC\x49\0\0\0", RULES, 8, &CHAINED_CODES)
+}
+
+/// A store with these failing calls, the two texts, their own tables, the rook's over the other, and
+/// a table of NEXT whose last code is wrong.
+fn store_with(alloc: Global, fails: Vec<Fail>) -> Result<MemStore, TestFail> {
+    let rook = by_hand(alloc, b"FREEZER2\x49\0\0\0", RULES, 8, &ROOK_CODES)?;
+    let next = by_hand(alloc, b"FREEZER2\x5d\0\0\0", NEXT, 2, &NEXT_CODES)?;
+    let wrong = by_hand(alloc, b"FREEZER2\x5d\0\0\0", NEXT, 2, &[4, 4, 5, 7])?;
+    let mut store = MemStore::new(alloc, fails);
+    store.put("A", RULES).or(Err("put"))?;
+    store.put("N", NEXT).or(Err("put"))?;
+    store.put("A.t", &rook).or(Err("put"))?;
+    store.put("N.t", &next).or(Err("put"))?;
+    store.put("W.t", &wrong).or(Err("put"))?;
+    store.put("AN.t", &chained(alloc)?).or(Err("put"))?;
+    Ok(store)
+}
+
+/// The words of a call, and what the program says.
+struct Said<'a>(&'a [&'a str], u8, &'a str);
+
+const CHECKED: &[Said] = &[
+    Said(&["chaincheck", "AN.t", "N.t"], 0, "exact 8 on 2\n"),
+    Said(
+        &["chaincheck", "AN.t", "A.t"],
+        6,
+        "wrong white 5 kept 6 given 5\n",
+    ),
+    Said(
+        &["chaincheck", "AN.t", "W.t"],
+        6,
+        "back wrong black 1 kept 7 given 5\n",
+    ),
+    Said(&["check", "AN.t"], 5, "table: magic\n"),
+    Said(&["chaincheck", "N.t", "N.t"], 5, "table: magic\n"),
+    Said(&["chaincheck", "AN.t", "AN.t"], 5, "back: magic\n"),
+    Said(&["chaincheck", "none.t", "none.t"], 12, "missing table\n"),
+    Said(&["chaincheck", "AN.t", "none.t"], 12, "missing back\n"),
+    Said(&["chaincheck", "A.t", "none.t"], 5, "table: magic\n"),
+    Said(&["chaincheck", "AN.t", "A"], 5, "back: magic\n"),
+    Said(&["chaincheck", "AN.t"], 2, "words: count\n"),
+    Said(
+        &["chainquery", "AN.t", NEXT_TO_IT],
+        0,
+        "white wins within 2\nblack none\n",
+    ),
+    Said(&["chainquery", "A.t", NEXT_TO_IT], 5, "table: magic\n"),
+    Said(&["query", "AN.t", NEXT_TO_IT], 5, "table: magic\n"),
+    Said(&["chainquery", "none.t", NEXT_TO_IT], 12, "missing table\n"),
+    Said(&["chainquery", "none.t", "-"], 4, "fen: fields\n"),
+    Said(
+        &["chainquery", "AN.t", "8/8/8/8/8/8/8/K1k5 w - - 0 1"],
+        7,
+        "outside\n",
+    ),
+];
+
+const NOT_CHAINED: &[Said] = &[
+    Said(&["chain", "A", "N.t"], 2, "words: count\n"),
+    Said(&["chain", "A", "N.t", "A"], 2, "words: same name\n"),
+    Said(&["chain", "A", "N.t", "N.t"], 2, "words: same name\n"),
+    Said(&["chain", "none", "none.t", "T"], 12, "missing rules\n"),
+    Said(&["chain", "A", "none.t", "T"], 12, "missing back\n"),
+    Said(&["chain", "A.t", "none.t", "T"], 3, "rules 1: header\n"),
+    Said(&["chain", "A", "AN.t", "T"], 5, "back: magic\n"),
+    Said(&["chain", "A", "A", "T"], 5, "back: magic\n"),
+    Said(
+        &["chain", "A", "W.t", "T"],
+        6,
+        "back wrong black 1 kept 7 given 5\n",
+    ),
+];
+
+/// Calls the program over the store, and shows that no table is under the name T.
+fn expect_said(rt: &impl Abort, alloc: Global, row: &Said<'_>) -> Result<(), TestFail> {
+    let Said(line, status, text) = row;
+    let mut store = store_with(alloc, no_fails(alloc))?;
+    let mut out = MemSink::new(alloc, 200, no_fails(alloc)).or(Err("sink"))?;
+    let answer = call(alloc, line, &mut store, &mut out)?;
+    assert_eq!(rt; out.taken(), text.as_bytes());
+    assert_eq!(rt; answer, *status);
+    assert!(rt; store.file("T").is_none());
+    Ok(())
+}
+
+#[test]
+fn checks_and_asks_tables_over_others(rt: HostRuntime) -> Result<(), TestFail> {
+    for row in CHECKED {
+        expect_said(&rt, rt.alloc(), row)?;
+    }
+    Ok(())
+}
+
+#[test]
+fn refuses_to_chain(rt: HostRuntime) -> Result<(), TestFail> {
+    for row in NOT_CHAINED {
+        expect_said(&rt, rt.alloc(), row)?;
+    }
+    Ok(())
+}
+
+#[test]
+fn chains_a_table(rt: HostRuntime) -> Result<(), TestFail> {
+    let alloc = rt.alloc();
+    let mut store = store_with(alloc, no_fails(alloc))?;
+    let mut out = MemSink::new(alloc, 200, no_fails(alloc)).or(Err("sink"))?;
+    let line = ["chain", "A", "N.t", "A.t"];
+    assert_eq!(rt; call(alloc, &line, &mut store, &mut out)?, 0);
+    assert_eq!(rt; out.taken(), b"chained 8\n".as_slice());
+    assert_eq!(rt;
+        store.file("A.t").ok_or("no file")?,
+        chained(alloc)?.as_slice()
+    );
+    Ok(())
+}
+
+/// Calls the program over a store whose call fails, and shows what is left under the name T.
+fn expect_failed(
+    rt: &impl Abort,
+    alloc: Global,
+    fail: Fail,
+    line: &[&str],
+    left: Option<usize>,
+) -> Result<(), TestFail> {
+    let mut fails = Vec::new(alloc);
+    fails.push(fail)?;
+    let mut store = store_with(alloc, fails)?;
+    let mut out = MemSink::new(alloc, 200, no_fails(alloc)).or(Err("sink"))?;
+    assert_eq!(rt; call(alloc, line, &mut store, &mut out)?, 8);
+    assert_eq!(rt; out.taken(), b"store fault\n".as_slice());
+    assert_eq!(rt; store.file("T").map(|file| file.len()), left);
+    Ok(())
+}
+
+#[test]
+fn each_call_of_the_store_may_fail(rt: HostRuntime) -> Result<(), TestFail> {
+    let alloc = rt.alloc();
+    for nth in 1..=12 {
+        let fail = Fail {
+            on: FailOn::Call,
+            nth,
+            keep: 0,
+        };
+        expect_failed(&rt, alloc, fail, &["chaincheck", "AN.t", "N.t"], None)?;
+    }
+    for nth in 1..=8 {
+        let fail = Fail {
+            on: FailOn::Call,
+            nth,
+            keep: 0,
+        };
+        expect_failed(&rt, alloc, fail, &["chain", "A", "N.t", "T"], None)?;
+    }
+    Ok(())
+}
+
+/// Which append fails, what it keeps of its piece, and the length of the file that is left.
+struct Cut(u64, u64, usize);
+
+const CUT: &[Cut] = &[
+    Cut(1, 11, 11),
+    Cut(2, 4, 16),
+    Cut(3, 2, 87),
+    Cut(4, 0, 89),
+    Cut(5, 31, 152),
+];
+
+#[test]
+fn leaves_a_part_where_the_store_fails(rt: HostRuntime) -> Result<(), TestFail> {
+    let alloc = rt.alloc();
+    for cut in CUT {
+        let Cut(nth, keep, left) = cut;
+        let fail = Fail {
+            on: FailOn::Append,
+            nth: *nth,
+            keep: *keep,
+        };
+        expect_failed(&rt, alloc, fail, &["chain", "A", "N.t", "T"], Some(*left))?;
+    }
+    Ok(())
+}

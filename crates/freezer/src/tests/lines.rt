@@ -1,0 +1,298 @@
+//! Lines over tables made by hand.
+use super::{
+    CORNER, COUNTED, DRAWN, MATE_IN_ONE, NEXT_TO_IT, RULES, STALEMATE, call, first_fails, no_fails,
+};
+use frz_store::{Fail, FailOn, MemSink, MemStore};
+use std::alloc::Global;
+use std::process::Abort;
+use std::test::Fail as TestFail;
+
+/// The rook beside its king: no mate is forced, and the king has no third square.
+const NEAR_ROOK: &[u8] =
+    b"freezer 1\ngroup white 1 K:b6\ngroup white 1 R:c1,c2\ngroup black 1 K:a8,b8\n";
+
+/// The codes of both sides, White's first.
+const ROOK: &[u8] = &[4, 4, 0, 0, 6, 5, 2, 2, 5, 5, 0, 0, 7, 7, 3, 3];
+
+const COUNTED_ROOK: &[u8] = &[4, 4, 0, 0, 6, 18, 2, 2, 5, 5, 0, 0, 7, 7, 3, 3];
+
+const HOLDS: &[u8] = &[1; 16];
+
+const QUEEN: &[u8] = &[4, 1, 5, 1];
+
+/// The text of the line to the mate.
+const MATED: &str = "white wins within 2\na8b8\nh1h8\nmate\n";
+
+/// A rules text with the codes of its table, and the position and the side of a line; the status and
+/// the text that it gives.
+struct Row<'a>(&'a [u8], &'a [u8], &'a str, &'a str, u8, &'a str);
+
+const ROWS: &[Row] = &[
+    Row(RULES, ROOK, CORNER, "white", 0, MATED),
+    Row(RULES, ROOK, NEXT_TO_IT, "white", 7, "no bound\n"),
+    Row(RULES, ROOK, CORNER, "black", 7, "no bound\n"),
+    Row(
+        RULES,
+        ROOK,
+        "k7/8/1K6/8/8/8/8/6R1 b - - 0 1",
+        "white",
+        7,
+        "outside\n",
+    ),
+    Row(
+        RULES,
+        ROOK,
+        "k7/8/1K6/8/8/8/8/7R b - - 0",
+        "white",
+        4,
+        "fen: fields\n",
+    ),
+    Row(RULES, ROOK, CORNER, "red", 2, "words: side\n"),
+    Row(RULES, ROOK, "no fen", "White", 2, "words: side\n"),
+    Row(
+        STALEMATE,
+        QUEEN,
+        "k7/2Q5/1K6/8/8/8/8/8 b - - 0 1",
+        "white",
+        0,
+        "white holds\nstalemate\n",
+    ),
+    Row(
+        STALEMATE,
+        QUEEN,
+        "k7/2Q5/1K6/8/8/8/8/8 b - - 0 1",
+        "black",
+        0,
+        "black holds\nstalemate\n",
+    ),
+    Row(
+        COUNTED,
+        COUNTED_ROOK,
+        NEXT_TO_IT,
+        "white",
+        0,
+        "white wins within 8\nb8c8\nexit white wins 7\n",
+    ),
+    Row(
+        DRAWN,
+        HOLDS,
+        "7k/8/8/8/8/8/8/K7 w - - 0 1",
+        "white",
+        0,
+        "white holds\na1b1\nh8g7\nexit draw\n",
+    ),
+];
+
+/// Tables with a wrong code: at the start, on the way, where no line comes, and 0 behind a hold.
+const WRONG: &[Row] = &[
+    Row(
+        RULES,
+        &[4, 4, 0, 0, 8, 5, 2, 2, 5, 5, 0, 0, 7, 7, 3, 3],
+        CORNER,
+        "white",
+        6,
+        "wrong white 4 kept 8 given 6\n",
+    ),
+    Row(
+        RULES,
+        &[4, 4, 0, 0, 6, 5, 2, 4, 5, 5, 0, 0, 7, 7, 3, 3],
+        CORNER,
+        "white",
+        6,
+        "white wins within 2\na8b8\nwrong white 1 kept 4 given 6\n",
+    ),
+    Row(
+        RULES,
+        &[4, 4, 0, 0, 6, 9, 2, 2, 9, 9, 9, 9, 9, 9, 9, 9],
+        CORNER,
+        "white",
+        0,
+        MATED,
+    ),
+    Row(
+        RULES,
+        &[4, 0, 0, 0, 1, 5, 2, 2, 5, 5, 0, 0, 7, 7, 3, 3],
+        CORNER,
+        "white",
+        6,
+        "white holds\na8b8\nwrong white 1 kept 0 given 4\n",
+    ),
+    Row(
+        RULES,
+        &[4, 4, 0, 0, 6, 7, 2, 2, 5, 5, 0, 0, 7, 7, 3, 3],
+        NEXT_TO_IT,
+        "white",
+        6,
+        "wrong white 5 kept 7 given 5\n",
+    ),
+];
+
+/// The table file of the text, with codes of one byte.
+pub fn table(alloc: Global, text: &[u8], codes: &[u8]) -> Result<Vec<u8>, TestFail> {
+    let length = u32::try_from(text.len()).or(Err("text"))?;
+    let size = u32::try_from(codes.len() / 2).or(Err("codes"))?;
+    let mut file = b"FREEZER2".to_vec(alloc)?;
+    file.extend_from_slice(&length.to_le_bytes())?;
+    file.extend_from_slice(text)?;
+    file.extend_from_slice(&size.to_le_bytes())?;
+    for code in codes {
+        file.extend_from_slice(&u32::from(*code).to_le_bytes())?;
+    }
+    Ok(file)
+}
+
+/// Plays the line of a row over these objects.
+fn play(
+    alloc: Global,
+    row: &Row<'_>,
+    fails: Vec<Fail>,
+    out: &mut MemSink,
+) -> Result<(u8, u64), TestFail> {
+    let Row(text, codes, fen, side, _, _) = row;
+    let mut store = MemStore::new(alloc, fails);
+    store
+        .put("A.t", &table(alloc, text, codes)?)
+        .or(Err("put"))?;
+    let status = call(alloc, &["line", "A.t", fen, side], &mut store, out)?;
+    Ok((status, store.asked()))
+}
+
+fn expect_all(rt: &impl Abort, alloc: Global, rows: &[Row<'_>]) -> Result<(), TestFail> {
+    for row in rows {
+        let Row(_, _, _, _, status, text) = row;
+        let mut out = MemSink::new(alloc, 200, no_fails(alloc)).or(Err("sink"))?;
+        let (answer, _) = play(alloc, row, no_fails(alloc), &mut out)?;
+        assert_eq!(rt; out.taken(), text.as_bytes());
+        assert_eq!(rt; answer, *status);
+    }
+    Ok(())
+}
+
+#[test]
+fn plays_lines(rt: HostRuntime) -> Result<(), TestFail> {
+    expect_all(&rt, rt.alloc(), ROWS)
+}
+
+#[test]
+fn names_the_first_wrong_code_on_the_way(rt: HostRuntime) -> Result<(), TestFail> {
+    expect_all(&rt, rt.alloc(), WRONG)
+}
+
+const MATING: Row = Row(RULES, ROOK, CORNER, "white", 0, MATED);
+
+/// The number of a call that fails, and the text of the line then.
+const FAULTS: &[(u64, u8, &str)] = &[
+    (1, 8, "store fault\n"),
+    (4, 8, "store fault\n"),
+    (6, 8, "store fault\n"),
+    (7, 8, "store fault\n"),
+    (8, 8, "white wins within 2\na8b8\nstore fault\n"),
+    (9, 0, MATED),
+];
+
+#[test]
+fn a_fault_is_named_behind_the_lines_before_it(rt: HostRuntime) -> Result<(), TestFail> {
+    let alloc = rt.alloc();
+    for (nth, status, text) in FAULTS {
+        let mut fails = Vec::new(alloc);
+        fails.push(Fail {
+            on: FailOn::Call,
+            nth: *nth,
+            keep: 0,
+        })?;
+        let mut out = MemSink::new(alloc, 200, no_fails(alloc)).or(Err("sink"))?;
+        let (answer, _) = play(alloc, &MATING, fails, &mut out)?;
+        assert_eq!(rt; out.taken(), text.as_bytes());
+        assert_eq!(rt; answer, *status);
+    }
+    Ok(())
+}
+
+/// How many bytes a sink takes before its reader is gone, and those that it took of the line.
+const CUT_OFF: &[(usize, &str)] = &[
+    (0, ""),
+    (3, "whi"),
+    (20, "white wins within 2\n"),
+    (27, "white wins within 2\na8b8\nh1"),
+    (34, "white wins within 2\na8b8\nh1h8\nmate"),
+];
+
+#[test]
+fn a_line_stops_where_the_sink_fails(rt: HostRuntime) -> Result<(), TestFail> {
+    let alloc = rt.alloc();
+    for (room, text) in CUT_OFF {
+        let mut out = MemSink::new(alloc, *room, no_fails(alloc)).or(Err("sink"))?;
+        let (answer, _) = play(alloc, &MATING, no_fails(alloc), &mut out)?;
+        assert_eq!(rt; out.taken(), text.as_bytes());
+        assert_eq!(rt; answer, 9);
+    }
+    Ok(())
+}
+
+#[test]
+fn a_line_asks_for_the_codes_of_its_moves(rt: HostRuntime) -> Result<(), TestFail> {
+    let alloc = rt.alloc();
+    let mut out = MemSink::new(alloc, 200, no_fails(alloc)).or(Err("sink"))?;
+    // 16 bytes and the text, the code of the start, and those of the two moves within the set.
+    let (_, asked) = play(alloc, &MATING, no_fails(alloc), &mut out)?;
+    assert_eq!(rt; asked, 16 + 73 + 4 + 8);
+    Ok(())
+}
+
+/// No mate is forced, and both sides go to and fro.
+const HOLDING: Row = Row(
+    NEAR_ROOK,
+    &[1, 1, 1, 1, 1, 1, 1, 1, 5, 5, 5, 5, 7, 7, 7, 7],
+    "k7/8/1K6/8/8/8/8/2R5 w - - 0 1",
+    "white",
+    0,
+    "",
+);
+
+#[test]
+fn a_hold_is_cut_after_a_hundred_plies(rt: HostRuntime) -> Result<(), TestFail> {
+    let alloc = rt.alloc();
+    let mut out = MemSink::new(alloc, 600, no_fails(alloc)).or(Err("sink"))?;
+    let (answer, _) = play(alloc, &HOLDING, no_fails(alloc), &mut out)?;
+    let mut text = b"white holds\n".to_vec(alloc)?;
+    for _ in 0..25 {
+        text.extend_from_slice(b"c1c2\na8b8\nc2c1\nb8a8\n")?;
+    }
+    text.extend_from_slice(b"cut\n")?;
+    assert_eq!(rt; out.taken(), text.as_slice());
+    assert_eq!(rt; answer, 0);
+    Ok(())
+}
+
+#[test]
+fn refuses_words_and_tables(rt: HostRuntime) -> Result<(), TestFail> {
+    let alloc = rt.alloc();
+    let mut store = MemStore::new(alloc, no_fails(alloc));
+    store.put("cut.t", b"FREEZER2").or(Err("put"))?;
+    let mut out = MemSink::new(alloc, 200, no_fails(alloc)).or(Err("sink"))?;
+    let rows: [(&[&str], u8); 5] = [
+        (&["line", "A.t", MATE_IN_ONE], 2),
+        (&["line", "A.t", MATE_IN_ONE, "white", "black"], 2),
+        (&["line", "none.t", MATE_IN_ONE, "white"], 12),
+        (&["line", "none.t", "k7 w", "white"], 4),
+        (&["line", "cut.t", MATE_IN_ONE, "white"], 5),
+    ];
+    for (line, status) in &rows {
+        assert_eq!(rt; call(alloc, line, &mut store, &mut out)?, *status);
+    }
+    assert_eq!(rt;
+        out.taken(),
+        b"words: count\nwords: count\nmissing table\nfen: fields\ntable: truncated 8 due 16\n".as_slice()
+    );
+    Ok(())
+}
+
+#[test]
+fn a_line_is_not_begun_where_the_sink_fails(rt: HostRuntime) -> Result<(), TestFail> {
+    let alloc = rt.alloc();
+    let mut out = MemSink::new(alloc, 200, first_fails(alloc)?).or(Err("sink"))?;
+    let (answer, _) = play(alloc, &MATING, no_fails(alloc), &mut out)?;
+    assert_eq!(rt; answer, 9);
+    assert_eq!(rt; out.taken(), b"".as_slice());
+    Ok(())
+}

@@ -1,0 +1,299 @@
+//! Tables of the former format, made by hand from its definition, and what `migrate` makes of them.
+use super::{call, no_fails};
+use byteorder::{ByteOrder, LittleEndian};
+use frz_store::{Fail, FailOn, MemSink, MemStore};
+use std::alloc::Global;
+use std::process::Abort;
+use std::test::Fail as TestFail;
+
+/// Up to two rooks on h1 and h8. A former number has a digit for each: 0 and 1 are its square, and
+/// 2 means that it is absent. So there are 2 * 3 * 3 * 2 former numbers, and today 2 * 4 * 2.
+const ROOKS: &[u8] =
+    b"freezer 1\ngroup white 1 K:b6\ngroup white 0-2 R:h1,h8\ngroup black 1 K:a8,b8\n";
+
+/// Eight pawns on eight squares: one place for them, and eight to the eighth former numbers for
+/// each side to move.
+const PAWNS: &[u8] = b"freezer 1\ngroup white 1 K:a1\ngroup black 1 K:a8\ngroup white 8 P:a2-h2\n";
+
+/// The codes of both sides, White's first, in order of the former numbers and of those of today.
+struct Rewritten<'a> {
+    former: [&'a [u32]; 2],
+    today: [&'a [u32]; 2],
+}
+
+const TODAY: [&[u32]; 2] = [
+    &[5, 5, 4, 4, 0, 0, 0, 0, 7, 5, 6, 5, 2, 2, 2, 2],
+    &[5, 5, 5, 5, 0, 0, 0, 0, 7, 7, 7, 7, 3, 3, 3, 3],
+];
+
+/// The side to move is White in the first 18. A pair for the black king stands at each two digits:
+/// at 0 1 with both rooks, at 0 2 with that on h1, at 1 2 with that on h8, at 2 2 with none.
+const FORMER: [&[u32]; 2] = [
+    &[
+        0, 0, 0, 0, 4, 4, 0, 0, 0, 0, 0, 0, 0, 0, 0, 0, 5, 5, //
+        0, 0, 2, 2, 6, 5, 0, 0, 0, 0, 2, 2, 0, 0, 0, 0, 7, 5,
+    ],
+    &[
+        0, 0, 0, 0, 5, 5, 0, 0, 0, 0, 0, 0, 0, 0, 0, 0, 5, 5, //
+        0, 0, 3, 3, 7, 7, 0, 0, 0, 0, 3, 3, 0, 0, 0, 0, 7, 7,
+    ],
+];
+
+/// The same with other codes than 0 at the broken numbers.
+const UNCLEAN: [&[u32]; 2] = [
+    &[
+        9, 9, 4, 8, 4, 4, 9, 9, 1, 1, 2, 6, 9, 9, 9, 9, 5, 5, //
+        9, 9, 2, 2, 6, 5, 9, 9, 1, 1, 2, 2, 9, 9, 9, 9, 7, 5,
+    ],
+    &[
+        7, 7, 7, 7, 5, 5, 7, 7, 7, 7, 7, 7, 7, 7, 7, 7, 5, 5, //
+        7, 7, 3, 3, 7, 7, 7, 7, 7, 7, 3, 3, 7, 7, 7, 7, 7, 7,
+    ],
+];
+
+/// Codes that no table has stay with their positions.
+const STRANGE: [&[u32]; 2] = [
+    &[
+        9, 9, 9, 9, 0, 1000, 9, 9, 9, 9, 9, 9, 9, 9, 9, 9, 4294967295, 5, //
+        9, 9, 11, 12, 65536, 5, 9, 9, 9, 9, 13, 14, 9, 9, 9, 9, 16777216, 256,
+    ],
+    &[
+        0, 0, 0, 0, 5, 5, 0, 0, 0, 0, 0, 0, 0, 0, 0, 0, 5, 5, //
+        0, 0, 3, 3, 7, 7, 0, 0, 0, 0, 3, 3, 0, 0, 0, 0, 7, 70,
+    ],
+];
+
+const STRANGE_TODAY: [&[u32]; 2] = [
+    &[
+        4294967295, 5, 0, 1000, 0, 0, 0, 0, 16777216, 256, 65536, 5, 13, 14, 11, 12,
+    ],
+    &[5, 5, 5, 5, 0, 0, 0, 0, 7, 70, 7, 7, 3, 3, 3, 3],
+];
+
+const REWRITTEN: &[Rewritten] = &[
+    Rewritten {
+        former: FORMER,
+        today: TODAY,
+    },
+    Rewritten {
+        former: UNCLEAN,
+        today: TODAY,
+    },
+    Rewritten {
+        former: STRANGE,
+        today: STRANGE_TODAY,
+    },
+];
+
+fn push_number(file: &mut Vec<u8>, number: u32) -> Result<(), TestFail> {
+    let mut field = [0; 4];
+    LittleEndian::write_u32(&mut field, number);
+    file.extend_from_slice(&field)?;
+    Ok(())
+}
+
+/// The file with this magic, text, size and codes.
+fn by_hand(
+    alloc: Global,
+    magic: &[u8],
+    text: &[u8],
+    size: u32,
+    codes: &[&[u32]],
+) -> Result<Vec<u8>, TestFail> {
+    let mut file = Vec::new(alloc);
+    file.extend_from_slice(magic)?;
+    push_number(&mut file, u32::try_from(text.len()).or(Err("length"))?)?;
+    file.extend_from_slice(text)?;
+    push_number(&mut file, size)?;
+    for side in codes {
+        for code in *side {
+            push_number(&mut file, *code)?;
+        }
+    }
+    Ok(file)
+}
+
+/// The former file of up to two rooks.
+pub fn former_rooks(alloc: Global) -> Result<Vec<u8>, TestFail> {
+    by_hand(alloc, b"FREEZER1", ROOKS, 36, &FORMER)
+}
+
+/// Calls the program over the store, which is to end so with this text.
+fn expect(
+    rt: &impl Abort,
+    alloc: Global,
+    store: &mut MemStore,
+    line: &[&str],
+    status: u8,
+    text: &str,
+) -> Result<(), TestFail> {
+    let mut out = MemSink::new(alloc, 200, no_fails(alloc)).or(Err("sink"))?;
+    let answer = call(alloc, line, store, &mut out)?;
+    assert_eq!(rt; out.taken(), text.as_bytes());
+    assert_eq!(rt; answer, status);
+    Ok(())
+}
+
+fn expect_rewritten(
+    rt: &impl Abort,
+    alloc: Global,
+    rewritten: &Rewritten<'_>,
+) -> Result<(), TestFail> {
+    let former = by_hand(alloc, b"FREEZER1", ROOKS, 36, &rewritten.former)?;
+    let today = by_hand(alloc, b"FREEZER2", ROOKS, 16, &rewritten.today)?;
+    let mut store = MemStore::new(alloc, no_fails(alloc));
+    store.put("O.t", &former).or(Err("put"))?;
+    store.put("N.t", b"another file").or(Err("put"))?;
+    let line = ["migrate", "O.t", "N.t"];
+    expect(rt, alloc, &mut store, &line, 0, "migrated 16\n")?;
+    assert_eq!(rt; store.file("N.t").ok_or("no file")?, today.as_slice());
+    assert_eq!(rt; store.file("O.t").ok_or("no file")?, former.as_slice());
+    Ok(())
+}
+
+#[test]
+fn rewrites_tables(rt: HostRuntime) -> Result<(), TestFail> {
+    for rewritten in REWRITTEN {
+        expect_rewritten(&rt, rt.alloc(), rewritten)?;
+    }
+    Ok(())
+}
+
+#[test]
+fn rewrites_the_former_file_of_a_text_to_what_build_makes(rt: HostRuntime) -> Result<(), TestFail> {
+    let alloc = rt.alloc();
+    let former = former_rooks(alloc)?;
+    assert_eq!(rt; former.len(), 379);
+    let mut store = MemStore::new(alloc, no_fails(alloc));
+    store.put("M", ROOKS).or(Err("put"))?;
+    store.put("O.t", &former).or(Err("put"))?;
+    let line = ["migrate", "O.t", "N.t"];
+    expect(&rt, alloc, &mut store, &line, 0, "migrated 16\n")?;
+    expect(&rt, alloc, &mut store, &["check", "N.t"], 0, "exact 16\n")?;
+    expect(
+        &rt,
+        alloc,
+        &mut store,
+        &["build", "M", "M.t"],
+        0,
+        "built 16\n",
+    )?;
+    let built = store.file("M.t").ok_or("no file")?;
+    assert_eq!(rt; store.file("N.t").ok_or("no file")?, built);
+    Ok(())
+}
+
+/// A call over a store with these bytes under `O.t`, and how it is refused.
+#[derive(Clone, Copy)]
+struct Refused<'a>(&'a [u8], &'a [&'a str], u8, &'a str);
+
+fn expect_refused(rt: &impl Abort, alloc: Global, refused: &Refused<'_>) -> Result<(), TestFail> {
+    let Refused(bytes, line, status, text) = refused;
+    let mut store = MemStore::new(alloc, no_fails(alloc));
+    store.put("O.t", bytes).or(Err("put"))?;
+    expect(rt, alloc, &mut store, line, *status, text)?;
+    assert_eq!(rt; store.file("O.t").ok_or("no file")?, *bytes);
+    assert_eq!(rt; store.file("N.t").is_none(), true);
+    Ok(())
+}
+
+const LINE: &[&str] = &["migrate", "O.t", "N.t"];
+
+const WORDS: &[Refused] = &[
+    Refused(b"", &["migrate", "O.t"], 2, "words: count\n"),
+    Refused(b"", &["migrate", "O.t", "N.t", "M.t"], 2, "words: count\n"),
+    Refused(b"", &["migrate", "O.t", "O.t"], 2, "words: same name\n"),
+    Refused(b"", &["migrate", "P.t", "N.t"], 12, "missing table\n"),
+    Refused(b"", LINE, 5, "table: truncated 0 due 16\n"),
+];
+
+#[test]
+fn refuses_words_and_missing_tables(rt: HostRuntime) -> Result<(), TestFail> {
+    for refused in WORDS {
+        expect_refused(&rt, rt.alloc(), refused)?;
+    }
+    Ok(())
+}
+
+#[test]
+fn refuses_files_that_are_cut_too_long_or_of_another_kind(rt: HostRuntime) -> Result<(), TestFail> {
+    let alloc = rt.alloc();
+    let mut former = former_rooks(alloc)?;
+    let magic = "table: magic\n";
+    expect_refused(&rt, alloc, &Refused(&former, &["check", "O.t"], 5, magic))?;
+    let today = by_hand(alloc, b"FREEZER2", ROOKS, 16, &TODAY)?;
+    expect_refused(&rt, alloc, &Refused(&today, LINE, 5, magic))?;
+    let cut = former.get(..378).ok_or("front")?;
+    let truncated = "table: truncated 378 due 379\n";
+    expect_refused(&rt, alloc, &Refused(cut, LINE, 5, truncated))?;
+    former.push(0)?;
+    let extra = "table: extra 380 due 379\n";
+    expect_refused(&rt, alloc, &Refused(&former, LINE, 5, extra))
+}
+
+#[test]
+fn refuses_other_sizes_and_too_many_former_numbers(rt: HostRuntime) -> Result<(), TestFail> {
+    let alloc = rt.alloc();
+    let sized = by_hand(alloc, b"FREEZER1", ROOKS, 16, &FORMER)?;
+    let size = "table: size 16 due 36\n";
+    expect_refused(&rt, alloc, &Refused(&sized, LINE, 5, size))?;
+    let many = by_hand(alloc, b"FREEZER1", PAWNS, 33_554_432, &[])?;
+    let big = "table: rules 0: set too big 33554432\n";
+    expect_refused(&rt, alloc, &Refused(&many, LINE, 5, big))
+}
+
+/// Which call fails, how often it was called, what it keeps of its piece, and the length of the
+/// file that is left.
+struct Cut(FailOn, u64, u64, Option<usize>);
+
+const CUT: &[Cut] = &[
+    Cut(FailOn::Size, 1, 0, None),
+    Cut(FailOn::Read, 1, 0, None),
+    Cut(FailOn::Read, 2, 0, None),
+    Cut(FailOn::Read, 3, 0, None),
+    Cut(FailOn::Read, 4, 0, None),
+    Cut(FailOn::Read, 5, 0, None),
+    Cut(FailOn::Create, 1, 0, None),
+    Cut(FailOn::Append, 1, 11, Some(11)),
+    Cut(FailOn::Append, 2, 4, Some(16)),
+    Cut(FailOn::Append, 3, 2, Some(89)),
+    Cut(FailOn::Append, 4, 63, Some(154)),
+    Cut(FailOn::Append, 5, 64, Some(219)),
+];
+
+fn expect_cut(rt: &impl Abort, alloc: Global, cut: &Cut) -> Result<(), TestFail> {
+    let Cut(on, nth, keep, left) = cut;
+    let mut fails = Vec::new(alloc);
+    fails.push(Fail {
+        on: *on,
+        nth: *nth,
+        keep: *keep,
+    })?;
+    let mut store = MemStore::new(alloc, fails);
+    store.put("O.t", &former_rooks(alloc)?).or(Err("put"))?;
+    expect(rt, alloc, &mut store, LINE, 8, "store fault\n")?;
+    let today = by_hand(alloc, b"FREEZER2", ROOKS, 16, &TODAY)?;
+    let part = left.and_then(|length| today.get(..length));
+    assert_eq!(rt; store.file("N.t"), part);
+    Ok(())
+}
+
+#[test]
+fn leaves_a_part_where_the_store_fails(rt: HostRuntime) -> Result<(), TestFail> {
+    for cut in CUT {
+        expect_cut(&rt, rt.alloc(), cut)?;
+    }
+    Ok(())
+}
+
+#[test]
+fn rewrites_the_file_where_only_the_line_is_not_taken(rt: HostRuntime) -> Result<(), TestFail> {
+    let alloc = rt.alloc();
+    let mut store = MemStore::new(alloc, no_fails(alloc));
+    store.put("O.t", &former_rooks(alloc)?).or(Err("put"))?;
+    let mut out = MemSink::new(alloc, 3, no_fails(alloc)).or(Err("sink"))?;
+    assert_eq!(rt; call(alloc, LINE, &mut store, &mut out)?, 9);
+    assert_eq!(rt; out.taken(), b"mig".as_slice());
+    assert_eq!(rt; store.file("N.t").map(|file| file.len()), Some(219));
+    Ok(())
+}

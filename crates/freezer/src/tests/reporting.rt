@@ -1,0 +1,126 @@
+//! Reports of tables, those that the program builds and one made by hand.
+use super::{RULES, call, no_fails};
+use frz_store::{Fail, FailOn, MemSink, MemStore};
+use std::alloc::Global;
+use std::process::Abort;
+use std::test::Fail as TestFail;
+
+/// Two kings, far apart: whoever is to move has lost, by the exits that are assigned.
+const LOST: &[u8] =
+    b"freezer 1\ngroup white 1 K:a1\ngroup black 1 K:h8\nexit black wins if turn:black\nexit white wins if turn:white\n";
+
+/// A king and a pawn before its last rank against a king. White wins where the pawn becomes a queen
+/// with its own king beside it, and it is drawn where the pawn falls.
+const PAWN: &[u8] =
+    b"freezer 1\ngroup white 1 K:all\ngroup white 1 P:d6,d7\ngroup black 1 K:all\nexit draw if count:white:P:0 count:white:Q:0\nexit white wins if count:white:Q:1 distance:white:d8:0-1\n";
+
+/// Builds the table of a text and reports on it, over a sink of so much room.
+fn reported(
+    alloc: Global,
+    rules: &[u8],
+    fails: Vec<Fail>,
+    room: usize,
+) -> Result<(u8, Vec<u8>), TestFail> {
+    let mut store = MemStore::new(alloc, fails);
+    store.put("A", rules).or(Err("put"))?;
+    let mut out = MemSink::new(alloc, 200, no_fails(alloc)).or(Err("sink"))?;
+    let _ = call(alloc, &["build", "A", "T"], &mut store, &mut out)?;
+    let mut out = MemSink::new(alloc, room, no_fails(alloc)).or(Err("sink"))?;
+    let status = call(alloc, &["report", "T"], &mut store, &mut out)?;
+    Ok((status, out.taken().to_vec(alloc)?))
+}
+
+/// A rules text, and the report of its table.
+const REPORTED: &[(&[u8], &str)] = &[
+    (RULES, "exits 38 KRk\nsqueezes 0 unassigned 38\n"),
+    (
+        LOST,
+        "squeeze 0 1 7k/8/8/8/8/8/8/K7 w - - 0 1\nsqueezes 1 unassigned 0\n",
+    ),
+];
+
+#[test]
+fn reports_on_tables(rt: HostRuntime) -> Result<(), TestFail> {
+    let alloc = rt.alloc();
+    for (rules, text) in REPORTED {
+        let (status, taken) = reported(alloc, rules, no_fails(alloc), 200)?;
+        assert_eq!(rt; taken.as_slice(), text.as_bytes());
+        assert_eq!(rt; status, 0);
+    }
+    Ok(())
+}
+
+#[test]
+fn finds_a_known_mutual_zugzwang(rt: HostRuntime) -> Result<(), TestFail> {
+    let alloc = rt.alloc();
+    let (status, taken) = reported(alloc, PAWN, no_fails(alloc), 20_000)?;
+    assert_eq!(rt; status, 0);
+    let text = str::from_utf8(&taken).or(Err("text"))?;
+    assert!(rt;
+        text.contains(" 2k5/8/2KP4/8/8/8/8/8 w - - 0 1\n"),
+        "{text}"
+    );
+    assert!(rt;
+        text.contains(" 4k3/8/3PK3/8/8/8/8/8 w - - 0 1\n"),
+        "{text}"
+    );
+    Ok(())
+}
+
+/// The words of a call, its status and its text, over a store with the table of the rook.
+fn expect(
+    rt: &impl Abort,
+    alloc: Global,
+    line: &[&str],
+    status: u8,
+    text: &str,
+) -> Result<(), TestFail> {
+    let mut store = MemStore::new(alloc, no_fails(alloc));
+    store
+        .put("C.t", b"FREEZERC and what may follow")
+        .or(Err("put"))?;
+    let mut out = MemSink::new(alloc, 200, no_fails(alloc)).or(Err("sink"))?;
+    assert_eq!(rt; call(alloc, line, &mut store, &mut out)?, status);
+    assert_eq!(rt; out.taken(), text.as_bytes());
+    Ok(())
+}
+
+#[test]
+fn refuses_what_is_no_table(rt: HostRuntime) -> Result<(), TestFail> {
+    let alloc = rt.alloc();
+    expect(&rt, alloc, &["report"], 2, "words: count\n")?;
+    expect(&rt, alloc, &["report", "C.t", "C.t"], 2, "words: count\n")?;
+    expect(&rt, alloc, &["report", "C.t"], 5, "table: magic\n")?;
+    expect(&rt, alloc, &["report", "none.t"], 12, "missing table\n")
+}
+
+/// `build` of the rules makes one read, and `report` four that open the table and two that load it.
+#[test]
+fn names_the_fault_of_each_read(rt: HostRuntime) -> Result<(), TestFail> {
+    let alloc = rt.alloc();
+    for nth in 2..8 {
+        let mut fails = Vec::new(alloc);
+        fails.push(Fail {
+            on: FailOn::Read,
+            nth,
+            keep: 0,
+        })?;
+        let (status, taken) = reported(alloc, LOST, fails, 200)?;
+        assert_eq!(rt; status, 8);
+        assert_eq!(rt; taken.as_slice(), b"store fault\n".as_slice());
+    }
+    Ok(())
+}
+
+#[test]
+fn stops_where_the_sink_is_full(rt: HostRuntime) -> Result<(), TestFail> {
+    let alloc = rt.alloc();
+    let (_, whole) = reported(alloc, LOST, no_fails(alloc), 200)?;
+    for room in 0..whole.len() {
+        let (status, taken) = reported(alloc, LOST, no_fails(alloc), room)?;
+        assert_eq!(rt; status, 9);
+        assert_eq!(rt; taken.len(), room);
+        assert!(rt; whole.starts_with(taken.as_slice()));
+    }
+    Ok(())
+}
