@@ -1,49 +1,84 @@
-//! Builds and checks the tables of the rules texts that are named as arguments, over real files.
+//! Builds and checks the tables of the rules texts that are named as arguments, over real files,
+//! and asks them at the positions of the file `bounds`.
 #![tactic(auto)]
 
 ghost use Rattle.std.specs.Prelude.{◌≡◌, ◌<◌};
 
 use frz_answer::finish;
+use frz_commands_ask::run_query;
 use frz_commands_table::{run_build, run_check};
 use frz_steps::Steps;
 use frz_store::{DiskStore, OutputSink, Sink, Store};
 use std::alloc::{AllocError, Global};
-use std::env;
 use std::io::{self, ErrorKind};
 use std::marker::Brand;
 use std::process::ExitCode;
 use std::sync::ledger::{Blank, Ledger};
+use std::{env, fs};
 
-/// Builds the table of a rules text under its name with `.t` behind it, and checks it. Gives the
-/// two statuses.
+/// Builds the table of a rules text under its name with `.t` behind it, and checks it. Gives whether
+/// both went well.
 fn build_and_check<S: Store, O: Sink, L: Ledger>(
     alloc: Global,
-    rules: String,
+    rules: &str,
     store: &mut S,
     out: &mut O,
     steps: &mut Steps<L>,
-) -> Result<(u8, u8), AllocError> {
-    let table = format!(in alloc; "{rules}.t")?;
-    let words = vec![in alloc; rules, table]?;
+) -> Result<bool, AllocError> {
+    let words = vec![in alloc;
+        format!(in alloc; "{rules}")?,
+        format!(in alloc; "{rules}.t")?,
+    ]?;
     let built = finish(run_build(alloc, &words, store, out, steps), out);
     let checked = finish(run_check(alloc, &words[1..], store, out, steps), out);
-    Ok((built, checked))
+    Ok(built == 0 && checked == 0)
 }
 
-/// Builds and checks the table of each name. Gives whether all went well.
-fn run<S: Store, O: Sink>(
+/// The position in a line `RULES | FEN | WHITE | BLACK` of bounds, where it tells of these rules.
+fn position_of<'a>(line: &'a str, rules: &str) -> Option<&'a str> {
+    let (name, told) = line.split_once(" | ")?;
+    let (fen, _) = told.split_once(" | ")?;
+    (name == rules).then_some(fen)
+}
+
+/// Asks a table at each position that the bounds tell of. Gives whether all had an answer.
+fn ask<S: Store, O: Sink>(
     alloc: Global,
-    names: env::Args,
+    rules: &str,
+    bounds: &str,
     store: &mut S,
     out: &mut O,
 ) -> Result<bool, AllocError> {
-    run_counted::<S, O, Brand>(alloc, names, store, out, Blank::new(1))
+    let mut fine = true;
+    for line in bounds.lines() {
+        if let Some(fen) = position_of(line, rules) {
+            let words = vec![in alloc;
+                format!(in alloc; "{rules}.t")?,
+                format!(in alloc; "{fen}")?,
+            ]?;
+            let asked = finish(run_query(alloc, &words, store, out), out);
+            fine = fine && asked == 0;
+        }
+    }
+    Ok(fine)
+}
+
+/// Builds, checks and asks the table of each name. Gives whether all went well.
+fn run<S: Store, O: Sink>(
+    alloc: Global,
+    names: env::Args,
+    bounds: String,
+    store: &mut S,
+    out: &mut O,
+) -> Result<bool, AllocError> {
+    run_counted::<S, O, Brand>(alloc, names, bounds, store, out, Blank::new(1))
 }
 
 /// The same with a count of steps that nobody reads.
 fn run_counted<S: Store, O: Sink, L: Ledger>(
     alloc: Global,
     names: env::Args,
+    bounds: String,
     store: &mut S,
     out: &mut O,
     blank: Blank,
@@ -55,18 +90,20 @@ fn run_counted<S: Store, O: Sink, L: Ledger>(
     let mut steps = Steps::<L>::new(blank);
     let mut fine = true;
     for name in names.skip(1) {
-        let (built, checked) = build_and_check(alloc, name, store, out, &mut steps)?;
-        fine = fine && built == 0 && checked == 0;
+        let sound = build_and_check(alloc, &name, store, out, &mut steps)?;
+        let answered = ask(alloc, &name, &bounds, store, out)?;
+        fine = fine && sound && answered;
     }
     Ok(fine)
 }
 
 fn main(rt: HostRuntime) -> io::Result<ExitCode> {
     let names = env::args(&rt)?;
+    let bounds = fs::read_to_string(&rt, "bounds")?;
     let alloc = rt.alloc();
     let mut out = OutputSink::new(rt.stdout());
     let mut store = DiskStore::new(rt);
-    match run(alloc, names, &mut store, &mut out) {
+    match run(alloc, names, bounds, &mut store, &mut out) {
         Ok(true) => Ok(ExitCode::SUCCESS),
         Ok(false) => Ok(ExitCode::FAILURE),
         Err(_) => Err(io::Error::from(ErrorKind::OutOfMemory)),
