@@ -1,0 +1,1 @@
+"""What the tools share; none of it comes from the program under test."""

@@ -1,0 +1,98 @@
+"""Lines and sessions over any codes, right or wrong: what `line` and `play` print."""
+
+from lib.chess import move_text
+from lib.game import HOLD, MOST_PLIES, bound_text, is_failure, is_win
+
+MOST_LINES, LONGEST_LINE = 10_000, 64
+
+
+class Input:
+    """The lines that a session reads, and how much of it is taken."""
+
+    def __init__(self, content):
+        self.content, self.taken, self.lines = content, 0, 0
+
+    def next_line(self):
+        """The next line without its blanks, or why there is none: a status and a last line."""
+        if self.lines == MOST_LINES:
+            return None, (13, "limit lines\n")
+        if self.taken == len(self.content):
+            return None, (0, "input ended\n")
+        end = self.content.find(b"\n", self.taken)
+        length = (len(self.content) if end < 0 else end) - self.taken
+        if length > LONGEST_LINE:
+            self.taken += LONGEST_LINE + 1
+            return None, (13, "limit line length\n")
+        line = self.content[self.taken:self.taken + length]
+        self.taken += length + (end >= 0)
+        self.lines += 1
+        return line.strip(b" \t\r"), None
+
+
+def begin_or_refuse(game, side, codes, number):
+    """The bound line at the start, or a status and the line that refuses it."""
+    if (wrong := wrong_at(game, side, codes, number)) is not None:
+        return None, wrong
+    if is_failure(codes[number]):
+        return None, (7, "no bound\n")
+    return bound_text(side, codes[number]), None
+
+
+def wrong_at(game, side, codes, number):
+    """Status 6 and its line, where the entry is not the local code."""
+    kept, given = codes[number], game.local_code(side, codes, number)
+    return None if kept == given else (6, f"wrong {side} {number} kept {kept} given {given}\n")
+
+
+def end_at(game, number):
+    """The last line where the mover has no legal move."""
+    if game.arms[number]:
+        return None
+    return "mate\n" if game.is_check(number) else "stalemate\n"
+
+
+def choose(game, side, codes, number):
+    """The move that the codes ask for, of the free moves of the side or all of the opponent."""
+    behind = [(game.arm_code(side, codes, arm), arm) for arm in game.chosen(side, number)]
+    wanted = [codes[number] - 2] if is_win(codes[number]) else [HOLD, 0]
+    return next(arm for code in wanted for given, arm in behind if given == code)
+
+
+def hear(game, number, source):
+    """The opponent's move and the text up to it, or the text and how the session stops."""
+    texts = {move_text(arm.move).encode(): arm for arm in game.arms[number]}
+    said = ""
+    while True:
+        line, stopped = source.next_line()
+        if stopped is not None:
+            return None, said, stopped
+        if line in texts:
+            return texts[line], f"{said}reply {move_text(texts[line].move)}\n", None
+        said += "illegal\n"
+
+
+def walk(game, side, codes, number, source=None):
+    """Status and text of `line`; with a source of lines, of `play`."""
+    text, refused = begin_or_refuse(game, side, codes, number)
+    if refused is not None:
+        return refused
+    plies = 0
+    while True:
+        if (wrong := wrong_at(game, side, codes, number)) is not None:
+            return wrong[0], text + wrong[1]
+        if (last := end_at(game, number)) is not None:
+            return 0, text + last
+        if source is None and codes[number] == HOLD and plies == MOST_PLIES:
+            return 0, text + "cut\n"
+        if source is not None and game.mover(number) != side:
+            arm, said, stopped = hear(game, number, source)
+            text += said
+            if stopped is not None:
+                return stopped[0], text + stopped[1]
+        else:
+            arm = choose(game, side, codes, number)
+            text += ("" if source is None else "move ") + move_text(arm.move) + "\n"
+        plies += 1
+        if arm.number is None:
+            return 0, text + f"exit {arm.value}\n"
+        number = arm.number
