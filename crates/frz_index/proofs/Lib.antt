@@ -8,6 +8,7 @@ pub mod GroupDigits
 pub mod GroupSteps
 pub mod KnownCells
 pub mod AtNumbers
+pub mod Partners
 pub mod Membership
 pub mod Charting
 pub mod Counting

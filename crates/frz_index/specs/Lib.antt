@@ -1,6 +1,7 @@
 pub mod Places
 pub mod TurnStates
 pub mod Members
+pub mod Partners
 pub mod Membership
 pub mod Candidates
 pub mod Charts

@@ -1,11 +1,13 @@
 //! The set of positions that the groups of some rules describe.
 ghost use Rattle.std.specs.Prelude.{◌≡◌, ◌↔◌, ◌<◌, ◌≤◌, IfOk, IfSome, IsNone, IsSome, IsTrue, MatchOption, None, Some};
 ghost use Rattle.frz_board.specs.Boards.{Board};
+ghost use Rattle.frz_board.specs.declared.man.Colour.TheVariants.{White};
 ghost use Rattle.frz_fide.specs.Valid.{IsValid};
 ghost use Rattle.frz_sets.specs.Sets.{size_of, targets};
 ghost use Rattle.frz_sets.specs.Sound.{IsSound};
 ghost use Rattle.frz_sets.specs.declared.limits.TheConstants.{MOST_NUMBERS};
 ghost use Rattle.frz_index.specs.Members.{Broken, HasNumber, Member, Num};
+ghost use Rattle.frz_index.specs.Partners.{with_black};
 ghost use Rattle.frz_index.specs.Membership.{number_of, position_at};
 ghost use Rattle.frz_index.specs.Candidates.{candidate, no_men};
 ghost use Rattle.frz_index.specs.Kept.{IsPlan, is_known};
@@ -170,6 +172,18 @@ impl Set {
         ensures turn { (p : Board) → HasNumber self.now i p → p.turn ≡ result }
     {
         mover_in(&self.plan, i)
+    }
+
+    /// The number of the same men with Black to move, for the number of a position with White to
+    /// move and no target.
+    pub fn with_black_to_move(&self, i: u32) -> u32
+        requires first { (p : Board) × HasNumber self.now i p × (p.turn ≡ White) × (p.ep ≡ None) }
+        ensures number { (p : Board) → HasNumber self.now i p → Num self.now (with_black p) ≡ result }
+        ensures member { (p : Board) → HasNumber self.now i p → IsValid (with_black p) →
+            Member self.now (with_black p) }
+        ensures inside { result < size_of self.now }
+    {
+        i + self.plan.whole
     }
 
     fn candidate(&self, i: u32) -> Bitboards
