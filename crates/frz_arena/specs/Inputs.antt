@@ -12,7 +12,8 @@ pub data Answer (S R : Type 0) : Type 0 where
   Stop : (reason : R) (left : S) → Answer S R
 
 -- each reply is an arm of the position, and leaves less of the input
-pub record IsInput {M N V S R : Type 0} (arena : Arena M N V) (size : S → ℕ) (read : N → S → Answer S R) : Type 0 where
+pub record IsInput {M N V S R : Type 0}
+    (arena : Arena M N V) (size : S → ℕ) (read : N → S → Answer S R) : Type 0 where
   pub there : (p : N) (mover : Colour) (s t : S) (refused place : ℕ) → arena.node p ≡ Going mover →
       read p s ≡ Reply refused place t → (a : Arm M N V) × (slice_get (arena.arms p) place ≡ Some a)
   pub less : (p : N) (s t : S) (refused place : ℕ) → read p s ≡ Reply refused place t →

@@ -18,7 +18,8 @@ abbrev pub named : {M A B V : Type 0} → (A → B) → Arm M A V → Arm M B V
 named name a = record { mv = a.mv; free = a.free; next = named_next name a.next }
 
 -- the second arena is the first one with other names
-pub record IsNaming {M A B V : Type 0} (name : A → B) (first : Arena M A V) (second : Arena M B V) : Type 0 where
+pub record IsNaming {M A B V : Type 0}
+    (name : A → B) (first : Arena M A V) (second : Arena M B V) : Type 0 where
   pub node : (p : A) → second.node (name p) ≡ first.node p
   pub arms : (p : A) (mover : Colour) → first.node p ≡ Going mover →
       second.arms (name p) ≡ map (named name) (first.arms p)

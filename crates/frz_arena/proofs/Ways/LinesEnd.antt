@@ -16,7 +16,7 @@ use Rattle.frz_arena.specs.Ways.{Player, Ply, Over, Moves, Opponent, ByCodes, By
 use Rattle.frz_arena.proofs.LocalCodes.ChosenCodes.{win_above}
 use Rattle.frz_arena.proofs.Ways.FoundArms.{chosen_there, win_or_hold}
 use Rattle.frz_arena.proofs.Ways.Stages as stages
-use Rattle.frz_arena.proofs.Ways.Stages.{IsSound, StageIs, stage_is}
+use Rattle.frz_arena.proofs.Ways.Stages.{IsSound, OverOrDue, over_or_due}
 use Rattle.frz_arena.proofs.Ways.WayParts.{ply_of}
 use Rattle.frz_arena.proofs.Ways.EachPly.{second_false, never_fails}
 use Rattle.frz_arena.proofs.Ways.KeptWays.{not_yet, line_of, either_way}
@@ -119,27 +119,17 @@ pub line_there : {M N V S R : Type 0} (player : Player M N V S R) (most : ℕ) �
     (k ≡ 0) ⊎ (is_failure (player.entry p) ≡ false) → Fuel most k fuel (player.entry p) →
     Line player k s p
 line_there {M} {N} {V} {S} {R} player most o law zero k s p start fuel =
-    elim (stage_is player k p) [
-      | stages.wrong n e ↦ over_line player k s p _ e
-      | stages.fails a f e ↦ over_line player k s p _ e
-      | stages.broken d b e ↦ over_line player k s p _ e
-      | stages.mated d m b e ↦ over_line player k s p _ e
-      | stages.stale d m b e ↦ over_line player k s p _ e
-      | stages.cut d m b t e ↦ over_line player k s p _ e
-      | stages.moves d m b t e ↦ absurd (
+    elim (over_or_due player k p) [
+      | stages.over end e ↦ over_line player k s p end e
+      | stages.due d m b t e ↦ absurd (
           let x = due_in_line player most o law k s p m d b start in
           no_fuel player most k p (player.entry p) (arm_code player.arena player.side player.entry x.arm) o fuel
           (λ w. ((x.keeps.win w).0, best_of player most o s p m x w)) t x.keeps.stands)
     ]
 line_there {M} {N} {V} {S} {R} player most o law (suc fuel) k s p start enough =
-    elim (stage_is player k p) [
-      | stages.wrong n e ↦ over_line player k s p _ e
-      | stages.fails a f e ↦ over_line player k s p _ e
-      | stages.broken d b e ↦ over_line player k s p _ e
-      | stages.mated d m b e ↦ over_line player k s p _ e
-      | stages.stale d m b e ↦ over_line player k s p _ e
-      | stages.cut d m b t e ↦ over_line player k s p _ e
-      | stages.moves d m b t e ↦ (
+    elim (over_or_due player k p) [
+      | stages.over end e ↦ over_line player k s p end e
+      | stages.due d m b t e ↦ (
           let x = due_in_line player most o law k s p m d b start in
           let less = less_fuel most k fuel (player.entry p) (arm_code player.arena player.side player.entry x.arm) enough (best_of player most o s p m x) (held_of player most o s p m x) x.keeps.stands in
           let never = never_fails player (record { from = p; place = x.place; arm = x.arm; mover = m; refused = 0 }) x.keeps in

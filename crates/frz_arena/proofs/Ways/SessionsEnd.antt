@@ -20,7 +20,7 @@ use Rattle.frz_arena.proofs.Plies.NodeKinds.{other_differs}
 use Rattle.frz_arena.proofs.Lists.FirstOnes.{at_in}
 use Rattle.frz_arena.proofs.Ways.FoundArms.{mover_is, itself, another, chosen_there, win_or_hold}
 use Rattle.frz_arena.proofs.Ways.Stages as stages
-use Rattle.frz_arena.proofs.Ways.Stages.{IsSound, StageIs, stage_is}
+use Rattle.frz_arena.proofs.Ways.Stages.{IsSound, OverOrDue, over_or_due}
 use Rattle.frz_arena.proofs.Ways.WayParts.{ply_of}
 use Rattle.frz_arena.proofs.Ways.EachPly.{second_false, never_fails}
 
@@ -137,27 +137,17 @@ pub session_there : {M N V S R : Type 0} (player : Player M N V S R) (read : N �
     (k ≡ 0) ⊎ (is_failure (player.entry p) ≡ false) → Enough player size fuel s p →
     Session player k s p
 session_there {M} {N} {V} {S} {R} player read b law alt size input zero k s p start enough =
-    elim (stage_is player k p) [
-      | stages.wrong n e ↦ over_session player k s p _ e
-      | stages.fails a f e ↦ over_session player k s p _ e
-      | stages.broken d z e ↦ over_session player k s p _ e
-      | stages.mated d m z e ↦ over_session player k s p _ e
-      | stages.stale d m z e ↦ over_session player k s p _ e
-      | stages.cut d m z t e ↦ over_session player k s p _ e
-      | stages.moves d m z t e ↦ elim (mover_is player.side m) [
+    elim (over_or_due player k p) [
+      | stages.over end e ↦ over_session player k s p end e
+      | stages.due d m z t e ↦ elim (mover_is player.side m) [
         | itself i c ↦ absurd (let h = enough.own (z ∙ ap Going i) in omega (arith, h))
         | another i c ↦ read_session player read b size input zero k s p (λ q t l. absurd (let h = enough.input in omega (arith, h, l))) start m c d z e
       ]
     ]
 session_there {M} {N} {V} {S} {R} player read b law alt size input (suc less) k s p start enough =
-    elim (stage_is player k p) [
-      | stages.wrong n e ↦ over_session player k s p _ e
-      | stages.fails a f e ↦ over_session player k s p _ e
-      | stages.broken d z e ↦ over_session player k s p _ e
-      | stages.mated d m z e ↦ over_session player k s p _ e
-      | stages.stale d m z e ↦ over_session player k s p _ e
-      | stages.cut d m z t e ↦ over_session player k s p _ e
-      | stages.moves d m z t e ↦ elim (mover_is player.side m) [
+    elim (over_or_due player k p) [
+      | stages.over end e ↦ over_session player k s p end e
+      | stages.due d m z t e ↦ elim (mover_is player.side m) [
         | itself i c ↦
             own_session player law alt size less k s p (λ q f g. session_there player read b law alt size input less (suc k) s q (inr f) g) start enough m i c d z e
         | another i c ↦

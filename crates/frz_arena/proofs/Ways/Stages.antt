@@ -6,7 +6,7 @@ use Rattle.frz_arena.specs.declared.node.Node.{Node}
 use Rattle.frz_arena.specs.declared.node.Node.TheVariants.{Broken, Mate, Stalemate, Going}
 use Rattle.frz_arena.specs.Codes.{is_failure}
 use Rattle.frz_arena.specs.LocalCodes.{local_code}
-use Rattle.frz_arena.specs.WayEnds.{Wrong, NoBound, Mated, Stalemated, Cut}
+use Rattle.frz_arena.specs.WayEnds.{End, Wrong, NoBound, Mated, Stalemated, Cut}
 use Rattle.frz_arena.specs.Ways.{Player, Stage, Over, Moves, is_cut, stage_of, stage}
 use Rattle.frz_arena.proofs.Lists.Members.{true_or_false}
 
@@ -67,4 +67,24 @@ stage_is player plies p =
             | inr n ↦
                 rw (t, n) (stage_of_is player plies p (record { agrees = e; starts = n }) (player.arena.node p) refl)
           ])
+    ]
+
+-- a way is over there, or a ply is due
+pub data OverOrDue {M N V S R : Type 0} (player : Player M N V S R) (plies : ℕ) (p : N) : Type 0 where
+  over : (end : End N V R) → stage player plies p ≡ Over end → OverOrDue player plies p
+  due : IsSound player plies p → (mover : Colour) → player.arena.node p ≡ Going mover →
+      is_cut player.opponent plies (player.entry p) ≡ false →
+      stage player plies p ≡ Moves mover → OverOrDue player plies p
+
+pub over_or_due : {M N V S R : Type 0} (player : Player M N V S R) (plies : ℕ) (p : N) →
+    OverOrDue player plies p
+over_or_due player plies p =
+    elim (stage_is player plies p) [
+      | wrong n e ↦ over _ e
+      | fails a f e ↦ over _ e
+      | broken d b e ↦ over _ e
+      | mated d m b e ↦ over _ e
+      | stale d m b e ↦ over _ e
+      | cut d m b t e ↦ over _ e
+      | moves d m b t e ↦ due d m b t e
     ]

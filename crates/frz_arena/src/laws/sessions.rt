@@ -25,5 +25,6 @@ pub fn sides_move_in_turn<P, M, V>()
         game.chess.turn (game.chess.play p m) ≡ other_of (game.chess.turn p)) → Alternates (arena_of game) }
     ensures numbers { (game : Game P M V) → ((p : P) (m : M) → Contains (game.chess.moves p) m →
         game.chess.turn (game.chess.play p m) ≡ other_of (game.chess.turn p)) →
-        (numbers : Numbering P) → IsNumbering numbers (arena_of game) → Alternates (numbers_of numbers (arena_of game)) }
+        (numbers : Numbering P) → IsNumbering numbers (arena_of game) →
+        Alternates (numbers_of numbers (arena_of game)) }
 {}

@@ -31,13 +31,16 @@ pub fn one_way<M, N, V, S, R>()
 
 /// Where the kept code is the local one, a win or a hold, the code asks for exactly one arm.
 pub fn arms_are_found<M, N, V>()
-    ensures there { (arena : Arena M N V) → IsLawful arena → (side : Colour) (entry : N → ℕ) (mover : Colour) (p : N) →
+    ensures there { (arena : Arena M N V) → IsLawful arena →
+        (side : Colour) (entry : N → ℕ) (mover : Colour) (p : N) →
         arena.node p ≡ Going mover → entry p ≡ local_code arena side entry p →
         (is_win (entry p) ≡ true) ⊎ (entry p ≡ 1) →
         (i : ℕ) × (a : Arm M N V) × IsChosen arena side entry mover p i a }
-    ensures one { (arena : Arena M N V) (side : Colour) (entry : N → ℕ) (mover : Colour) (p : N) (i j : ℕ) (a b : Arm M N V) →
+    ensures one { (arena : Arena M N V) (side : Colour) (entry : N → ℕ) (mover : Colour)
+        (p : N) (i j : ℕ) (a b : Arm M N V) →
         IsChosen arena side entry mover p i a → IsChosen arena side entry mover p j b → (i ≡ j) × (a ≡ b) }
-    ensures choice { (arena : Arena M N V) (side : Colour) (entry : N → ℕ) (mover : Colour) (p : N) (i : ℕ) (x : Choice) →
+    ensures choice { (arena : Arena M N V) (side : Colour) (entry : N → ℕ) (mover : Colour)
+        (p : N) (i : ℕ) (x : Choice) →
         IsFound has_code (is_win (entry p)) (entry p) (map (choice_of arena side entry mover) (arena.arms p)) i x →
         (a : Arm M N V) × IsChosen arena side entry mover p i a }
 {}
