@@ -1,13 +1,14 @@
 -- The tables are what the definitions give, by computing.
-use Rattle.std.proofs.Common.{◌≡◌, ℕ, ◌+◌, ◌*◌, ◌/◌, ◌%◌, ◌<◌, Bool, List, [], ◌∷◌, length, zero, suc, ◌^◌, map, refl, ap, sym, ◌∙◌, slice_index, arith}
+use Rattle.std.proofs.Common.{◌≡◌, ℕ, ◌+◌, ◌*◌, ◌/◌, ◌%◌, ◌<◌, Bool, List, [], ◌∷◌, length, zero, suc, ◌^◌, map, refl, ap, sym, ◌∙◌, slice_index, take, drop, arith}
 use Rattle.std.specs.List.{range_with_len}
+use Rattle.std.proofs.lemmas.List.{get_or-drop, get_or-take}
 use Rattle.std.proofs.lemmas.List.FromFn.{get_or-map-range_with_len}
 use Rattle.frz_board.specs.declared.man.Colour.TheVariants.{White, Black}
 use Rattle.frz_board.specs.Lines.{is_knight_jump, is_king_step, is_rook_line, is_bishop_line, is_between}
 use Rattle.frz_board.specs.Attacks.{pawn_reaches}
 use Rattle.frz_bits.specs.declared.lines.TheConstants.{BETWEEN_LOW, BETWEEN_HIGH}
 use Rattle.frz_bits.specs.declared.reach.TheConstants.{KNIGHT, KING, ROOK, BISHOP}
-use Rattle.frz_bits.specs.declared.pawns.TheConstants.{WHITE_PAWN, BLACK_PAWN, WHITE_PAWN_WAYS, BLACK_PAWN_WAYS}
+use Rattle.frz_bits.specs.declared.pawns.TheConstants.{PAWN, WHITE_PAWN_WAYS, BLACK_PAWN_WAYS}
 use Rattle.frz_squares.specs.SquareSets.{set_of}
 use Rattle.frz_bits.specs.Ways.{is_pawn_way}
 
@@ -16,46 +17,56 @@ in_table : (f : ℕ → ℕ) (n : ℕ) (xs : List ℕ) → map f (range_with_len
 in_table f n xs e i h =
     ap (λ ys. slice_index ys i) (sym e) ∙ get_or-map-range_with_len f 0 n i i 0 h (omega arith)
 
--- a table of 64 words, one for each square
-words_in : (f : ℕ → ℕ → Bool) (xs : List ℕ) → map (λ a. set_of (f a)) (range_with_len 0 64) ≡ xs →
-    (s : ℕ) → s < 64 → slice_index xs s ≡ set_of (f s)
-words_in f xs e s h = in_table (λ a. set_of (f a)) 64 xs e s h
+-- the first 64 words of the table are the sets of the squares for which the test holds
+abbrev pub IsTable : (ℕ → ℕ → Bool) → List ℕ → Type 0
+IsTable f xs = (s : ℕ) → s < 64 → slice_index xs s ≡ set_of (f s)
 
-pub knight_at : (s : ℕ) → s < 64 → slice_index KNIGHT s ≡ set_of (λ b. is_knight_jump s b)
+words_in : (f : ℕ → ℕ → Bool) (xs : List ℕ) →
+    map (λ a. set_of (f a)) (range_with_len 0 64) ≡ take 64 xs → IsTable f xs
+words_in f xs e s h =
+    sym (get_or-take 64 xs s 0 h) ∙ in_table (λ a. set_of (f a)) 64 (take 64 xs) e s h
+
+-- the same, where the words stand n places further
+words_behind : (f : ℕ → ℕ → Bool) (n : ℕ) (xs : List ℕ) →
+    map (λ a. set_of (f a)) (range_with_len 0 64) ≡ take 64 (drop n xs) →
+    (s : ℕ) → s < 64 → slice_index xs (s + n) ≡ set_of (f s)
+words_behind f n xs e s h =
+    let place : s + n ≡ n + s = omega arith in
+    ap (slice_index xs) place ∙ sym (get_or-drop n xs s 0) ∙ words_in f (drop n xs) e s h
+
+pub knight_at : IsTable is_knight_jump KNIGHT
 unfolding set_of
-knight_at s h = words_in is_knight_jump KNIGHT refl s h
+knight_at = words_in is_knight_jump KNIGHT refl
 
-pub king_at : (s : ℕ) → s < 64 → slice_index KING s ≡ set_of (λ b. is_king_step s b)
+pub king_at : IsTable is_king_step KING
 unfolding set_of
-king_at s h = words_in is_king_step KING refl s h
+king_at = words_in is_king_step KING refl
 
+pub rook_at : IsTable is_rook_line ROOK
+unfolding set_of
+rook_at = words_in is_rook_line ROOK refl
+
+pub bishop_at : IsTable is_bishop_line BISHOP
+unfolding set_of
+bishop_at = words_in is_bishop_line BISHOP refl
+
+pub white_pawn_way_at : IsTable (is_pawn_way White) WHITE_PAWN_WAYS
+unfolding set_of
+white_pawn_way_at = words_in (is_pawn_way White) WHITE_PAWN_WAYS refl
+
+pub black_pawn_way_at : IsTable (is_pawn_way Black) BLACK_PAWN_WAYS
+unfolding set_of
+black_pawn_way_at = words_in (is_pawn_way Black) BLACK_PAWN_WAYS refl
+
+-- one table for the pawns of both sides: White's words stand 16 places further
 pub white_pawn_at : (s : ℕ) → s < 64 →
-    slice_index WHITE_PAWN s ≡ set_of (λ b. pawn_reaches White s b)
+    slice_index PAWN (s + 16) ≡ set_of (λ b. pawn_reaches White s b)
 unfolding set_of
-white_pawn_at s h = words_in (pawn_reaches White) WHITE_PAWN refl s h
+white_pawn_at = words_behind (pawn_reaches White) 16 PAWN refl
 
-pub black_pawn_at : (s : ℕ) → s < 64 →
-    slice_index BLACK_PAWN s ≡ set_of (λ b. pawn_reaches Black s b)
+pub black_pawn_at : IsTable (pawn_reaches Black) PAWN
 unfolding set_of
-black_pawn_at s h = words_in (pawn_reaches Black) BLACK_PAWN refl s h
-
-pub rook_at : (s : ℕ) → s < 64 → slice_index ROOK s ≡ set_of (λ b. is_rook_line s b)
-unfolding set_of
-rook_at s h = words_in is_rook_line ROOK refl s h
-
-pub bishop_at : (s : ℕ) → s < 64 → slice_index BISHOP s ≡ set_of (λ b. is_bishop_line s b)
-unfolding set_of
-bishop_at s h = words_in is_bishop_line BISHOP refl s h
-
-pub white_pawn_way_at : (s : ℕ) → s < 64 →
-    slice_index WHITE_PAWN_WAYS s ≡ set_of (λ b. is_pawn_way White s b)
-unfolding set_of
-white_pawn_way_at s h = words_in (is_pawn_way White) WHITE_PAWN_WAYS refl s h
-
-pub black_pawn_way_at : (s : ℕ) → s < 64 →
-    slice_index BLACK_PAWN_WAYS s ≡ set_of (λ b. is_pawn_way Black s b)
-unfolding set_of
-black_pawn_way_at s h = words_in (is_pawn_way Black) BLACK_PAWN_WAYS refl s h
+black_pawn_at = words_in (pawn_reaches Black) PAWN refl
 
 -- the words of two lists of halves
 joined : List ℕ → List ℕ → List ℕ

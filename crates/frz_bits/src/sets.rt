@@ -6,7 +6,7 @@ ghost use Rattle.frz_board.specs.Attacks.{pawn_reaches};
 ghost use Rattle.frz_squares.specs.SquareSets.{set_of};
 
 use super::lines::{BETWEEN_HIGH, BETWEEN_LOW};
-use super::pawns::{BLACK_PAWN, WHITE_PAWN};
+use super::pawns::PAWN;
 use super::reach::{BISHOP, KING, KNIGHT, ROOK};
 use frz_board::{Colour, Square};
 
@@ -32,8 +32,8 @@ pub fn pawn_set(c: Colour, s: Square) -> u64
     ensures { result ≡ set_of (λ b. pawn_reaches c s b) }
 {
     match c {
-        Colour::White => WHITE_PAWN[s.number() as usize],
-        Colour::Black => BLACK_PAWN[s.number() as usize],
+        Colour::White => PAWN[s.number() as usize + 16],
+        Colour::Black => PAWN[s.number() as usize],
     }
 }
 
