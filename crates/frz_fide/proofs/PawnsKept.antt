@@ -20,24 +20,44 @@ use Rattle.frz_fide.proofs.LegalParts.{Move}
 use Rattle.frz_fide.proofs.Room.{forward_only}
 use Rattle.frz_fide.proofs.CellsAfter.{arrival, lf, none_then}
 
+-- the cell of a pawn of this side
+abbrev pub pawn_cell : Colour → ℕ
+pawn_cell c = cell_of_man (record { colour = c; kind = Pawn })
+
 abbrev pub is_pawn_cell : ℕ → Bool
-is_pawn_cell x =
-    x == cell_of_man (record { colour = White; kind = Pawn }) || x == cell_of_man (record { colour = Black; kind = Pawn })
+is_pawn_cell x = x == pawn_cell White || x == pawn_cell Black
+
+-- a man has the cell of its own side's pawn where it is a pawn, and never that of the other side's
+pub pawn_tests : (c : Colour) (k : Kind) →
+    ((cell_of_man (record { colour = c; kind = k }) == pawn_cell c) ≡ is_pawn k)
+    × ((cell_of_man (record { colour = c; kind = k }) == pawn_cell (other_of c)) ≡ false)
+pawn_tests White King = (refl, refl)
+pawn_tests White Queen = (refl, refl)
+pawn_tests White Rook = (refl, refl)
+pawn_tests White Bishop = (refl, refl)
+pawn_tests White Knight = (refl, refl)
+pawn_tests White Pawn = (refl, refl)
+pawn_tests Black King = (refl, refl)
+pawn_tests Black Queen = (refl, refl)
+pawn_tests Black Rook = (refl, refl)
+pawn_tests Black Bishop = (refl, refl)
+pawn_tests Black Knight = (refl, refl)
+pawn_tests Black Pawn = (refl, refl)
+
+or_none : (b : Bool) → (b || false) ≡ b
+or_none true = refl
+or_none false = refl
 
 pawn_test : (c : Colour) (k : Kind) →
     is_pawn_cell (cell_of_man (record { colour = c; kind = k })) ≡ is_pawn k
-pawn_test White King = refl
-pawn_test White Queen = refl
-pawn_test White Rook = refl
-pawn_test White Bishop = refl
-pawn_test White Knight = refl
-pawn_test White Pawn = refl
-pawn_test Black King = refl
-pawn_test Black Queen = refl
-pawn_test Black Rook = refl
-pawn_test Black Bishop = refl
-pawn_test Black Knight = refl
-pawn_test Black Pawn = refl
+pawn_test White k =
+    let tests = pawn_tests White k in
+    ap (λ b. b || cell_of_man (record { colour = White; kind = k }) == pawn_cell Black) tests.0
+    ∙ ap (λ b. is_pawn k || b) tests.1 ∙ or_none (is_pawn k)
+pawn_test Black k =
+    let tests = pawn_tests Black k in
+    ap (λ b. b || cell_of_man (record { colour = Black; kind = k }) == pawn_cell Black) tests.1
+    ∙ tests.0
 
 -- a pawn moves one or two ranks forward
 pawn_forward : (p : Board) (c : Colour) (a b : ℕ) → goes p c Pawn a b ≡ true →

@@ -11,7 +11,7 @@ use frz_bits::Bitboards;
 use frz_board::{Kind, Man, Move, Position, Square, cell_of};
 
 /// The square beside `a` on the file of `b`.
-fn beside(a: Square, b: Square) -> Square
+pub fn beside(a: Square, b: Square) -> Square
     ensures { result ≡ beside_on_file a b }
 {
     Square::at(8 * a.rank() + b.file())

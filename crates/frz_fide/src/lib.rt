@@ -14,6 +14,7 @@ mod tests;
 mod validity;
 mod ways;
 
+pub use aftermath::beside;
 pub use attack::{attacked, in_check};
 pub use finish::ending;
 pub use moves::{MoveList, legal_moves, put_legal_moves};
