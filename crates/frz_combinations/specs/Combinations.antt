@@ -18,7 +18,8 @@ IsBefore [] ds = ⊥
 IsBefore (c ∷ cs) [] = ⊥
 IsBefore (c ∷ cs) (d ∷ ds) = (c < d) ⊎ ((c ≡ d) × IsBefore cs ds)
 
--- the combination of j places below s with rank r: from the last place to the first, each is the greatest whose binomial is not above what is left
+-- the combination of j places below s with rank r: from the last place to the first, each is the greatest whose
+-- binomial is not above what is left
 abbrev pub unrank : ℕ → ℕ → ℕ → List ℕ
 unrank zero j r = []
 unrank (suc s) zero r = []

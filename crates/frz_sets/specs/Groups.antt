@@ -35,7 +35,8 @@ has_king_group groups c = list_any (λ g. same_colour g.colour c && list_any is_
 abbrev pub is_bad_king : List GroupLine → GroupLine → Bool
 is_bad_king earlier g =
     list_any is_king g.states
-    && (list_any (λ s. not (is_king s)) g.states || (not (g.least == 1 && g.most == 1) || has_king_group earlier g.colour))
+    && (list_any (λ s. not (is_king s)) g.states
+    || (not (g.least == 1 && g.most == 1) || has_king_group earlier g.colour))
 
 abbrev pub shares : List (Kind × ℕ) → List (Kind × ℕ) → Bool
 shares states others = list_any (λ s. list_any (same_state s) others) states

@@ -21,4 +21,4 @@ pub use limits::{
 };
 pub use rules::Rules;
 pub use size::{radix, set_size};
-pub use targets::{is_target, target_count};
+pub use targets::{is_target, pawn_cell, target_count};

@@ -2,14 +2,16 @@
 ghost use Rattle.std.specs.Prelude.{◌≡◌, ◌&&◌, ◌≤◌, length};
 ghost use Rattle.std.specs.List.{list_any};
 ghost use Rattle.frz_squares.specs.Squares.{is_beside, squares};
-ghost use Rattle.frz_sets.specs.Sets.{has_state as some_has_state, pawn as pawn_cell, is_pair, is_possible_for, is_possible, targets};
+ghost use Rattle.frz_sets.specs.Sets.{has_state as some_has_state, pawn, is_pair, is_possible_for, is_possible, targets};
 
 use crate::group::Group;
 use crate::having::has_state;
 use frz_board::{Colour, Kind, Man, Square, cell_of};
 
-fn pawn(colour: Colour) -> u8
-    ensures { result ≡ pawn_cell colour }
+/// The cell of a pawn of the colour.
+pub fn pawn_cell(colour: Colour) -> u8
+    ensures cell { result ≡ pawn colour }
+    ensures fits { result ≤ 12 }
 {
     cell_of(Man {
         colour,
@@ -21,15 +23,15 @@ fn pawn(colour: Colour) -> u8
 #[tactic(auto, unfolding(frz_board::specs::Squares::squares))]
 fn have_pawn_beside(groups: &[Group], colour: Colour, b: Square) -> bool
     ensures { result ≡
-        list_any (λ s. is_beside s b && some_has_state groups.now (pawn_cell colour) s) squares }
+        list_any (λ s. is_beside s b && some_has_state groups.now (pawn colour) s) squares }
 {
-    (0..64u8).any(|s| Square::at(s).is_beside(b) && has_state(groups, pawn(colour), Square::at(s)))
+    (0..64u8).any(|s| Square::at(s).is_beside(b) && has_state(groups, pawn_cell(colour), Square::at(s)))
 }
 
 fn has_pair(groups: &[Group], colour: Colour, b: Square) -> bool
     ensures { result ≡ is_pair groups.now colour b }
 {
-    has_state(groups, pawn(colour), b) && have_pawn_beside(groups, colour.other(), b)
+    has_state(groups, pawn_cell(colour), b) && have_pawn_beside(groups, colour.other(), b)
 }
 
 fn is_target_of(groups: &[Group], colour: Colour, t: Square) -> bool
