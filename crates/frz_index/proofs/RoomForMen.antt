@@ -6,9 +6,7 @@ use Rattle.std.proofs.lemmas.Bool.{cases_Bool, cases_eq, eqb-true, eq-eqb, lt-lt
 use Rattle.std.proofs.lemmas.List.Folds.{list_any_at}
 use Rattle.std.proofs.lemmas.Option.{get_or_from_slice_get, same_Some, slice_get_within}
 use Rattle.frz_board.specs.declared.man.Colour.{Colour}
-use Rattle.frz_board.specs.declared.man.Colour.TheVariants.{White, Black}
 use Rattle.frz_board.specs.declared.man.Kind.{Kind}
-use Rattle.frz_board.specs.declared.man.Kind.TheVariants.{King, Queen, Rook, Bishop, Knight, Pawn}
 use Rattle.frz_board.specs.declared.man.Man.{Man}
 use Rattle.frz_board.specs.Boards.{Board, has}
 use Rattle.frz_board.specs.Men.{cell_of_man, kind_of_number, man_of_cell, number_of_kind}
@@ -24,6 +22,7 @@ use Rattle.frz_index.specs.Kept.{is_known}
 use Rattle.frz_index.specs.Members.{Member}
 use Rattle.frz_index.specs.Places.{IsWithinCount, places, stands}
 use Rattle.frz_index.specs.Room.{has_room, takes_one_more}
+use Rattle.frz_index.proofs.Turns.{cell_some}
 use Rattle.frz_index.proofs.Charting.{kind_back, kind_numbers}
 
 -- an element that passes
@@ -149,18 +148,7 @@ counted_at P (x ∷ gs) zero g all e = subst P (same_Some x g e) all.0
 counted_at P (x ∷ gs) (suc i) g all e = counted_at P gs i g all.1 e
 
 some_cell : (c : Colour) (k : Kind) → cell_of_man (record { colour = c; kind = k }) ≢ 0
-some_cell White King = λ e. omega (arith, e)
-some_cell White Queen = λ e. omega (arith, e)
-some_cell White Rook = λ e. omega (arith, e)
-some_cell White Bishop = λ e. omega (arith, e)
-some_cell White Knight = λ e. omega (arith, e)
-some_cell White Pawn = λ e. omega (arith, e)
-some_cell Black King = λ e. omega (arith, e)
-some_cell Black Queen = λ e. omega (arith, e)
-some_cell Black Rook = λ e. omega (arith, e)
-some_cell Black Bishop = λ e. omega (arith, e)
-some_cell Black Knight = λ e. omega (arith, e)
-some_cell Black Pawn = λ e. omega (arith, e)
+some_cell c k = λ e. omega (arith, e, cell_some c k)
 
 -- r is p without the man of p on the square, as far as the man's side goes
 pub record LeavesOut (p r : Board) (man : Man) (s : ℕ) : Type 0 where

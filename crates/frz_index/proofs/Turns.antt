@@ -74,8 +74,8 @@ pub is_target_in : (gs : List GroupLine) (t : ℕ) → t < 64 → is_possible gs
     list_any (λ y. t == y) (targets gs) ≡ true
 is_target_in gs t h e = among_filter (is_possible gs) t squares e (square_among t h)
 
--- a man of the board has a state
-cell_some : (c : Colour) (k : Kind) → 0 < cell_of_man (record { colour = c; kind = k })
+-- the cell of a man is not empty
+pub cell_some : (c : Colour) (k : Kind) → 0 < cell_of_man (record { colour = c; kind = k })
 cell_some White King = lit< tt
 cell_some White Queen = lit< tt
 cell_some White Rook = lit< tt
@@ -89,6 +89,7 @@ cell_some Black Bishop = lit< tt
 cell_some Black Knight = lit< tt
 cell_some Black Pawn = lit< tt
 
+-- a man of the board has a state
 pub covered_from : (gs : List GroupLine) (p : Board) → Member gs p → (c : Colour) (k : Kind) (s : ℕ) → has p c k s ≡ true → has_state gs (cell_of_man (record { colour = c; kind = k })) s ≡ true
 covered_from gs p m c k s h =
     let e = eqb-true (slice_index p.cells s) (cell_of_man (record { colour = c; kind = k })) h in

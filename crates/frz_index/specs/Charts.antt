@@ -55,4 +55,5 @@ pub record AreCharts (gs : List GroupLine) (charts : List Chart) : Type 0 where
 -- how many of the group's men stand at its first n places, and the rank of their places
 abbrev pub IsCounted : Board → GroupLine → ℕ → ℕ × ℕ → Type 0
 IsCounted p g n x =
-    (x.0 ≡ length (places_among p g.colour g.states n)) × (x.0 ≤ g.most) × (x.1 ≡ capped (rank (places_among p g.colour g.states n)))
+    (x.0 ≡ length (places_among p g.colour g.states n)) × (x.0 ≤ g.most)
+    × (x.1 ≡ capped (rank (places_among p g.colour g.states n)))

@@ -17,10 +17,12 @@ abbrev pub radices_from : ℕ → ℕ → ℕ → ℕ → List ℕ
 radices_from states least k n = map (old_radix states least) (range_with_len k n)
 
 -- so many men stand at the first n states, and their places are digits behind the start
-pub record ArePlaced (p : Board) (c : Colour) (states : List (Kind × ℕ)) (least most start n count number : ℕ) : Type 0 where
+pub record ArePlaced (p : Board) (c : Colour) (states : List (Kind × ℕ))
+    (least most start n count number : ℕ) : Type 0 where
   pub count_is : count ≡ length (places_among p c states n)
   pub few : count ≤ most
-  pub number_is : number ≡ capped (value_onto start (radices_from (length states) least 0 count) (reverse (places_among p c states n)))
+  pub number_is : number
+      ≡ capped (value_onto start (radices_from (length states) least 0 count) (reverse (places_among p c states n)))
 
 -- the turn state: a target's is that of the possible targets before it, behind White and Black
 abbrev pub turn_before : List GroupLine → Colour → Option ℕ → ℕ

@@ -21,7 +21,8 @@ abbrev pub old_digits : Board → GroupLine → List ℕ
 old_digits p g =
     reverse (places p g) ++ replicate (g.most - length (places p g)) (length g.states)
 
--- a position's number: the turn state, and for each digit of each group the number so far times the digit's radix, plus the digit
+-- a position's number: the turn state, and for each digit of each group the number so far times the digit's
+-- radix, plus the digit
 unfoldable pub OldNum : List GroupLine → Board → ℕ
 OldNum gs p =
     value_onto (turn_number gs p.turn p.ep) (flat_map old_radices gs) (flat_map (old_digits p) gs)

@@ -29,7 +29,8 @@ pub(crate) fn number_of_digits(
     requires weights { AreWeights groups.now weights.now }
     requires rows { triangle.now ≡ MOST_STATES + 1 }
     ensures { let counted = AllByRecursion (IsWithinCount p.now) groups.now in
-        MatchOption result (counted → ⊥) (λ d. counted × (d ≡ value (map radix_of groups.now) (map (digit_of p.now) groups.now))) }
+        MatchOption result (counted → ⊥)
+        (λ d. counted × (d ≡ value (map radix_of groups.now) (map (digit_of p.now) groups.now))) }
 {
     let mut total: u32 = 0;
     for i in 0..groups.len() {

@@ -1,9 +1,10 @@
 //! The set of positions that the groups of some rules describe.
-ghost use Rattle.std.specs.Prelude.{◌≡◌, ◌↔◌, ◌<◌, ◌≤◌, IfOk, IfSome, IsNone, IsSome, IsTrue, MatchOption, None, Some};
+ghost use Rattle.std.specs.Prelude.{◌≡◌, ◌↔◌, ◌<◌, ◌≤◌, IfOk, IfSome, IsNone, IsSome, IsTrue, MatchOption, None, Some, ◌/◌, map};
 ghost use Rattle.frz_board.specs.Boards.{Board};
 ghost use Rattle.frz_board.specs.declared.man.Colour.TheVariants.{White};
+ghost use Rattle.frz_combinations.specs.MixedRadix.{product};
 ghost use Rattle.frz_fide.specs.Valid.{IsValid};
-ghost use Rattle.frz_sets.specs.Sets.{size_of, targets};
+ghost use Rattle.frz_sets.specs.Sets.{radix_of, size_of, targets};
 ghost use Rattle.frz_sets.specs.Sound.{IsSound};
 ghost use Rattle.frz_sets.specs.declared.limits.TheConstants.{MOST_NUMBERS};
 ghost use Rattle.frz_index.specs.Members.{Broken, HasNumber, Member, Num};
@@ -11,6 +12,7 @@ ghost use Rattle.frz_index.specs.Partners.{with_black};
 ghost use Rattle.frz_index.specs.Membership.{number_of, position_at};
 ghost use Rattle.frz_index.specs.Candidates.{candidate, no_men};
 ghost use Rattle.frz_index.specs.Kept.{IsPlan, is_known};
+ghost use Rattle.frz_index.specs.TurnStates.{turn_in};
 ghost use Rattle.frz_index.specs.Room.{has_room};
 
 use crate::digits::{number_of_digits, put_all};
@@ -68,12 +70,21 @@ fn empty_board(turn: Colour, ep: Option<Square>) -> Bitboards
     Bitboards::empty(turn, ep)
 }
 
+/// The turn state of a number.
+fn turn_state_in(plan: &Plan, i: u32) -> (Colour, Option<Square>)
+    requires { IsPlan plan.now }
+    ensures { let gs = plan.now.groups.items in
+        result ≡ turn_in (targets gs) (i / product (map radix_of gs)) }
+{
+    turn_at(&plan.targets, i / plan.whole)
+}
+
 /// The only position that may have this number.
 fn candidate_in(plan: &Plan, i: u32) -> Bitboards
     requires { IsPlan plan.now }
     ensures { result ≡ candidate plan.now.groups.items i }
 {
-    let (turn, ep) = turn_at(&plan.targets, i / plan.whole);
+    let (turn, ep) = turn_state_in(plan, i);
     let mut p = empty_board(turn, ep);
     put_all(
         &mut p,
@@ -90,7 +101,7 @@ fn mover_in(plan: &Plan, i: u32) -> Colour
     requires { IsPlan plan.now }
     ensures { result ≡ (candidate plan.now.groups.items i).turn }
 {
-    let (turn, _) = turn_at(&plan.targets, i / plan.whole);
+    let (turn, _) = turn_state_in(plan, i);
     turn
 }
 

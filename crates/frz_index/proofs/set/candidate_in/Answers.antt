@@ -1,15 +1,6 @@
-use Rattle.std.proofs.Common.{sym, subst, All, ◌<◌, ◌∙◌}
-use Rattle.frz_index.proofs.KnownCells.{targets_low, whole_some}
+use Rattle.frz_index.proofs.KnownCells.{whole_some}
 use Rattle.frz_index.proofs.set.candidate_in.Goals as goal
 
 pub nonzero_rem-i : goal.nonzero_rem-i
 nonzero_rem-i c =
     whole_some c.args.plan.now.groups.items c.args.plan.now.whole c.requires.numberable c.requires.whole_is
-
-pub nonzero_div-i : goal.nonzero_div-i
-nonzero_div-i c =
-    whole_some c.args.plan.now.groups.items c.args.plan.now.whole c.requires.numberable c.requires.whole_is
-
-pub turn_at-turn-requires : goal.turn_at-turn-requires
-turn_at-turn-requires c =
-    subst (All (λ t. t < 64)) (sym (c.deref.ensures.value ∙ c.requires.targets_are)) (targets_low c.args.plan.now.groups.items)
