@@ -54,7 +54,8 @@ IsPart a name old new =
     (held new name ≡ held old name)
     ⊎ ((k : ℕ) × (held new name ≡ option_map (λ _. option_map (take k) (a.files name)) old))
 
--- not more was done than the answer says: each name is as before or holds a prefix of what it is given, and no more of the input is taken
+-- not more was done than the answer says: each name is as before or holds a prefix of what it is
+-- given, and no more of the input is taken
 pub record NoMore (a : Answer) (old new : World) : Type 0 where
   pub files : (name : List ℕ) → IsPart a name old.store.files new.store.files
   pub left : (k : ℕ) × (k ≤ a.taken) × (new.input.left ≡ option_map (drop k) old.input.left)

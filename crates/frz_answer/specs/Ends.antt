@@ -37,7 +37,8 @@ MayHaveWritten (Stopped fault) = ⊥
 
 -- where a fault stopped the command, whole lines were written, or nothing
 abbrev pub EndsInLines : Bool → End → SinkTold → SinkTold → Type 0
-EndsInLines speaks (Stopped fault) old new = TookLines [] old new × (speaks ≡ false → new.taken ≡ old.taken)
+EndsInLines speaks (Stopped fault) old new =
+    TookLines [] old new × (speaks ≡ false → new.taken ≡ old.taken)
 EndsInLines speaks end old new = ⊤
 
 -- no other name was written
@@ -56,9 +57,11 @@ Leaves (Done status) a old new = (a.status ≡ status) × Gives a old new
 Leaves SinkFault a old new = Cuts a old new
 Leaves (Stopped fault) a old new = Begins a [] old new
 
--- an answer of the job over some files and some input that agree with what is told, and so much of it was given, within
--- its costs. What the job does not look at is free
-pub record Answered (job : Job) (free_files : Files) (free_input : List ℕ) (end : End) (old new : World) : Type 0 where
+-- an answer of the job over some files and some input that agree with what is told, and so much of
+-- it was given, within its costs. What the job does not look at is free
+pub record Answered
+    (job : Job) (free_files : Files) (free_input : List ℕ) (end : End)
+    (old new : World) : Type 0 where
   pub files : Files
   pub input : List ℕ
   pub agrees : Agrees old files input
@@ -77,8 +80,10 @@ pub record Ran (job : Job) (end : End) (old new : World) : Type 0 where
   pub only : WritesOnly job.writes old.store new.store
   pub unwritten : (MayHaveWritten end → ⊥) → Unwritten old.store new.store
   pub room : LeavesNoRoom end old.store new.store
-  pub answered : Sees job.needs.reads old → (files : Files) (input : List ℕ) → Agrees old files input → Answered job files input end old new
+  pub answered : Sees job.needs.reads old → (files : Files) (input : List ℕ) →
+      Agrees old files input → Answered job files input end old new
 
 -- the text was written and the command ends with this status, or the sink failed within the text
 pub record Said (status : Status) (text : List ℕ) (end : End) (old new : SinkTold) : Type 0 where
-  pub says : ((end ≡ Done status) × TookText text old new) ⊎ ((end ≡ SinkFault) × FailedWithin text old new)
+  pub says : ((end ≡ Done status) × TookText text old new)
+      ⊎ ((end ≡ SinkFault) × FailedWithin text old new)

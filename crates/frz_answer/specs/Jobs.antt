@@ -1,11 +1,13 @@
--- What a command is to do, all in one record: its answers and what they mean, which statuses and faults it may meet, what it writes, and what it costs.
+-- What a command is to do, all in one record: its answers and what they mean, which statuses and
+-- faults it may meet, what it writes, and what it costs.
 use Rattle.std.specs.Prelude.{ℕ, ◌+◌, ◌≤◌, List, Bool, false, Option, Some, None, IsSome, ⊤}
 use Rattle.frz_store.specs.Files.{Files}
 use Rattle.frz_answer.specs.declared.status.Status.{Status}
 use Rattle.frz_answer.specs.World.{World}
 use Rattle.frz_answer.specs.Answers.{Answer}
 
--- how a job reads the store: not at all; each place once; or some place again, where a store that does not tell may have changed its mind
+-- how a job reads the store: not at all; each place once; or some place again, where a store that
+-- does not tell may have changed its mind
 pub data Reads : Type 0 where
   Never : Reads
   Once : Reads
@@ -22,7 +24,8 @@ pub record Needs : Type 0 where
 abbrev pub nothing : Needs
 nothing = record { store = false; reads = Never; input = false; memory = false }
 
--- at most so many steps, calls of the store and bytes asked of it; where there is none, nothing is said
+-- at most so many steps, calls of the store and bytes asked of it; where there is none, nothing is
+-- said
 pub record Costs : Type 0 where
   pub steps : Option ℕ
   pub calls : Option ℕ
@@ -40,7 +43,8 @@ pub record Job : Type 1 where
   -- the statuses of its own that it can have
   pub statuses : List Status
   pub needs : Needs
-  -- lines of its text may stand before the line of a fault; else the text is written whole or not at all
+  -- lines of its text may stand before the line of a fault; else the text is written whole or not
+  -- at all
   pub speaks : Bool
   -- the name that it writes
   pub writes : Option (List ℕ)

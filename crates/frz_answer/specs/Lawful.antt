@@ -11,4 +11,5 @@ HasOneAnswer R = (a : Answer) × R a × ((b : Answer) → R b → b ≡ a)
 -- over any files and any input there is one answer, and it means what it is to mean
 pub record IsLawful (job : Job) : Type 0 where
   pub one : (files : Files) (input : List ℕ) → HasOneAnswer (job.answers files input)
-  pub means : (files : Files) (input : List ℕ) (a : Answer) → job.answers files input a → job.means files input a
+  pub means : (files : Files) (input : List ℕ) (a : Answer) → job.answers files input a →
+      job.means files input a

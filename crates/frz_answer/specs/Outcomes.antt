@@ -33,15 +33,16 @@ pub record Finished (end : End) (status : ℕ) (old new : SinkTold) : Type 0 whe
   pub later : old.faults ≤ new.faults
   pub gave : Gave end status old new
 
--- the status is one that the job can have: one of its own, and then no object has failed; or that of a fault, which has
--- its cause in this call
+-- the status is one that the job can have: one of its own, and then no object has failed; or that
+-- of a fault, which has its cause in this call
 abbrev pub HasStatus : Job → ℕ → World → World → Type 0
 HasStatus job status old new =
     ((s : Status) × OneOf s job.statuses × (status ≡ code_of s) × Fine old new)
     ⊎ ((fault : Fault) × MayMeet job fault old new × (status ≡ fault_code fault))
     ⊎ (Rose old.out.faults new.out.faults × (status ≡ sink_code))
 
--- an answer of the job over some files and some input that agree with what is told, within its costs
+-- an answer of the job over some files and some input that agree with what is told, within its
+-- costs
 pub record Answering (job : Job) (old new : World) : Type 0 where
   pub files : Files
   pub input : List ℕ
@@ -67,7 +68,8 @@ pub record Halted (job : Job) (fault : Fault) (old new : World) : Type 0 where
 abbrev pub IsCutOff : Job → Answer → World → World → Type 0
 IsCutOff job a old new =
     Cuts a old new
-    ⊎ ((fault : Fault) × MayMeet job fault old new × ((k : ℕ) × Begins a (take k (fault_line fault)) old new))
+    ⊎ ((fault : Fault) × MayMeet job fault old new
+    × ((k : ℕ) × Begins a (take k (fault_line fault)) old new))
 
 pub record CutOff (job : Job) (old new : World) : Type 0 where
   pub of : Answering job old new
@@ -93,14 +95,18 @@ pub record Outcome (job : Job) (status : ℕ) (old new : World) : Type 0 where
       → Unwritten old.store new.store
   -- with a status of its own, where there was no room to append there is none afterwards
   pub room : (s : Status) → status ≡ code_of s → old.store.room ≡ 0 → new.store.room ≡ 0
-  -- with the status of a fault, the sink took whole lines and then the fault's line, or that line alone
-  pub names : (fault : Fault) → status ≡ fault_code fault → TookLines (fault_line fault) old.out new.out
+  -- with the status of a fault, the sink took whole lines and then the fault's line, or that line
+  -- alone
+  pub names : (fault : Fault) → status ≡ fault_code fault →
+      TookLines (fault_line fault) old.out new.out
   pub alone : (fault : Fault) → status ≡ fault_code fault → job.speaks ≡ false
       → new.out.taken ≡ append_known old.out.taken (fault_line fault)
   -- with a status of its own, all is as an answer says, and the answer means what it is to mean
-  pub honest : (s : Status) → status ≡ code_of s → Sees job.needs.reads old → Whole job status old new
+  pub honest : (s : Status) → status ≡ code_of s → Sees job.needs.reads old →
+      Whole job status old new
   -- with that of a fault, whole lines begin an answer, and then comes the fault's line;
   -- where the sink failed, an answer is cut off
-  pub halted : (fault : Fault) → status ≡ fault_code fault → Sees job.needs.reads old → Halted job fault old new
+  pub halted : (fault : Fault) → status ≡ fault_code fault → Sees job.needs.reads old →
+      Halted job fault old new
   pub cut : status ≡ sink_code → Sees job.needs.reads old → CutOff job old new
   pub complete : Sees job.needs.reads old → IsComplete job status old new

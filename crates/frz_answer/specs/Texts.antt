@@ -16,6 +16,7 @@ pub record FailedWithin (text : List ℕ) (old new : SinkTold) : Type 0 where
   pub taken : (k : ℕ) × (new.taken ≡ append_known old.taken (take k text))
 
 -- the text was written, or the sink failed within it
-pub record WroteText {T E : Type 0} (text : List ℕ) (result : Result T E) (old new : SinkTold) : Type 0 where
+pub record WroteText {T E : Type 0}
+    (text : List ℕ) (result : Result T E) (old new : SinkTold) : Type 0 where
   pub ok : OnOk result (TookText text old new)
   pub failed : OnErr result (FailedWithin text old new)

@@ -17,10 +17,13 @@ pub record World : Type 0 where
 abbrev pub world : StoreTold → SourceTold → SinkTold → ℕ → World
 world store input out steps = record { store = store; input = input; out = out; steps = steps }
 
-abbrev pub world_of : {A B C : Type 0} → StoreGhosts A → SourceGhosts B → SinkGhosts C → A → B → C → ℕ → World
-world_of s i o store input out steps = world (store_of s store) (source_of i input) (sink_of o out) steps
+abbrev pub world_of : {A B C : Type 0} → StoreGhosts A → SourceGhosts B → SinkGhosts C →
+    A → B → C → ℕ → World
+world_of s i o store input out steps =
+    world (store_of s store) (source_of i input) (sink_of o out) steps
 
--- these may be what the store holds and what the input has left: where the objects tell, it is what they tell
+-- these may be what the store holds and what the input has left: where the objects tell, it is what
+-- they tell
 pub record Agrees (w : World) (files : Files) (input : List ℕ) : Type 0 where
   pub store : IfSome w.store.files (λ told. told ≡ files)
   pub source : IfSome w.input.left (λ told. told ≡ input)
@@ -45,7 +48,8 @@ pub record Quiet (old new : World) : Type 0 where
   pub left : new.input.left ≡ old.input.left
   pub taken : new.out.taken ≡ old.out.taken
 
--- nothing was written to the store; the sink took this text, and these bytes were taken from the input
+-- nothing was written to the store; the sink took this text, and these bytes were taken from the
+-- input
 pub record Came (text bytes : List ℕ) (old new : World) : Type 0 where
   pub later : Later old new
   pub fine : Fine old new
