@@ -1,4 +1,5 @@
--- What is to be done for each verb: a line for each command, whose job stands in a module of its own.
+-- What is to be done for each verb: a line for each command, whose job stands in a module of its
+-- own.
 use Rattle.std.specs.Prelude.{ℕ, List, Option, Some, None}
 use Rattle.frz_answer.specs.declared.words.Refusal.TheVariants.{NoCommand}
 use Rattle.frz_answer.specs.Jobs.{Job}

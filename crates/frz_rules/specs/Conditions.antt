@@ -32,12 +32,14 @@ distance_test _ _ _ = None
 -- a test, by its parts between colons
 abbrev pub test_of : List (List ℕ) → Option Test
 test_of (t ∷ []) =
-    if is (codes "check") t then Some Check else (if is (codes "always") t then Some Always else None)
+    if is (codes "check") t then Some Check else
+    (if is (codes "always") t then Some Always else None)
 test_of (t ∷ c ∷ []) = if is (codes "turn") t then turn_test (colour_of c) else None
 test_of (t ∷ c ∷ x ∷ r ∷ []) =
     if is (codes "count") t then count_test (colour_of c) (kind_of x) (range_of r) else
     (if is (codes "on") t then on_test (colour_of c) (kind_of x) (squares_of r) else
-    (if is (codes "distance") t then distance_test (colour_of c) (square_word x) (range_of r) else None))
+    (if is (codes "distance") t then distance_test (colour_of c) (square_word x) (range_of r) else
+    None))
 test_of _ = None
 
 abbrev pub with_sign : Bool → Option Test → Option Condition

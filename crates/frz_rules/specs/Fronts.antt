@@ -1,4 +1,5 @@
--- The place of the first word that does not fit, without counting: the greatest front of a line that begins one of its form.
+-- The place of the first word that does not fit, without counting: the greatest front of a line
+-- that begins one of its form.
 use Rattle.std.specs.Prelude.{ℕ, true, List, ◌++◌, ◌≡◌, ◌≤◌, take, length}
 use Rattle.frz_rules.specs.Grammar.{Form, fits}
 

@@ -46,7 +46,9 @@ only_form = Or Ends (Or (Then (is (codes "capture")) Ends) (Then (is (codes "pro
 -- COLOUR KIND from SQUARES to SQUARES, then nothing, `capture` or `promotion`
 abbrev pub forbid_form : Form
 forbid_form =
-    Then (has colour_of) (Then (has kind_of) (Then (is (codes "from")) (Then (has squares_of) (Then (is (codes "to")) (Then (has squares_of) only_form)))))
+    Then (has colour_of) (Then (has kind_of)
+    (Then (is (codes "from")) (Then (has squares_of)
+    (Then (is (codes "to")) (Then (has squares_of) only_form)))))
 
 -- if COND ..
 abbrev pub if_form : Form
@@ -57,7 +59,8 @@ wins_form = Or if_form (Then (has lag_of) if_form)
 
 abbrev pub side_form : Form
 side_form =
-    Then (has colour_of) (Or (Then (is (codes "holds")) if_form) (Then (is (codes "wins")) wins_form))
+    Then (has colour_of)
+    (Or (Then (is (codes "holds")) if_form) (Then (is (codes "wins")) wins_form))
 
 -- VALUE if COND ..
 abbrev pub exit_form : Form
@@ -67,4 +70,5 @@ exit_form =
 -- a line behind the header
 unfoldable pub line_form : Form
 line_form =
-    Or (Then (is (codes "group")) group_form) (Or (Then (is (codes "forbid")) forbid_form) (Then (is (codes "exit")) exit_form))
+    Or (Then (is (codes "group")) group_form)
+    (Or (Then (is (codes "forbid")) forbid_form) (Then (is (codes "exit")) exit_form))

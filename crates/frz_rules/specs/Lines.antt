@@ -44,7 +44,8 @@ group_of _ = None
 abbrev pub only_of : List (List ℕ) → Option Only
 only_of [] = Some Any
 only_of (w ∷ []) =
-    if is (codes "capture") w then Some Capture else (if is (codes "promotion") w then Some Promotion else None)
+    if is (codes "capture") w then Some Capture else
+    (if is (codes "promotion") w then Some Promotion else None)
 only_of _ = None
 
 abbrev pub forbid_from : Option Colour → Option Kind → Option ℕ → Option ℕ → Option Only →
@@ -75,7 +76,8 @@ wins_in Black n = BlackWinsIn n
 abbrev pub won_or_held : Option Colour → List ℕ → Option Value
 won_or_held None verb = None
 won_or_held (Some c) verb =
-    if is (codes "wins") verb then Some (wins c) else (if is (codes "holds") verb then Some (holds c) else None)
+    if is (codes "wins") verb then Some (wins c) else
+    (if is (codes "holds") verb then Some (holds c) else None)
 
 abbrev pub won_in : Option Colour → Option ℕ → Option Value
 won_in (Some c) (Some n) = Some (wins_in c n)
@@ -84,7 +86,8 @@ won_in _ _ = None
 -- VALUE: `draw` or `unknown`; COLOUR and `wins` or `holds`; COLOUR, `wins` and LAG
 abbrev pub value_of : List (List ℕ) → Option Value
 value_of (w ∷ []) =
-    if is (codes "draw") w then Some Draw else (if is (codes "unknown") w then Some Unknown else None)
+    if is (codes "draw") w then Some Draw else
+    (if is (codes "unknown") w then Some Unknown else None)
 value_of (c ∷ verb ∷ []) = won_or_held (colour_of c) verb
 value_of (c ∷ verb ∷ n ∷ []) =
     if is (codes "wins") verb then won_in (colour_of c) (lag_of n) else None
@@ -97,4 +100,5 @@ exit_from _ _ = None
 -- VALUE if COND ..
 unfoldable pub exit_of : List (List ℕ) → Option ExitLine
 exit_of ws =
-    exit_from (value_of (before_first (is (codes "if")) ws)) (some_of cond_of (after_first (is (codes "if")) ws))
+    exit_from (value_of (before_first (is (codes "if")) ws))
+    (some_of cond_of (after_first (is (codes "if")) ws))

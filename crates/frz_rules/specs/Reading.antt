@@ -1,4 +1,5 @@
--- What the private functions of the reader give, word by word: a value, or the words from the first that does not fit.
+-- What the private functions of the reader give, word by word: a value, or the words from the first
+-- that does not fit.
 use Rattle.std.specs.Prelude.{ℕ, ◌+◌, ◌-◌, List, [], ◌∷◌, ◌≡◌, length, Option, None, Some, Result, Ok, Err, if◌then◌else◌, codes}
 use Rattle.frz_board.specs.declared.man.Colour.{Colour}
 use Rattle.frz_board.specs.declared.man.Kind.{Kind}
@@ -82,9 +83,11 @@ group_words ws = do
 abbrev pub only_words : List (List ℕ) → Read Only
 only_words [] = Ok Any
 only_words (w ∷ []) =
-    if is (codes "capture") w then Ok Capture else (if is (codes "promotion") w then Ok Promotion else Err (w ∷ []))
+    if is (codes "capture") w then Ok Capture else
+    (if is (codes "promotion") w then Ok Promotion else Err (w ∷ []))
 only_words (w ∷ v ∷ vs) =
-    if is (codes "capture") w then Err (v ∷ vs) else (if is (codes "promotion") w then Err (v ∷ vs) else Err (w ∷ v ∷ vs))
+    if is (codes "capture") w then Err (v ∷ vs) else
+    (if is (codes "promotion") w then Err (v ∷ vs) else Err (w ∷ v ∷ vs))
 
 unfoldable pub forbid_words : List (List ℕ) → Read Forbid
 forbid_words ws = do
@@ -114,7 +117,8 @@ after_wins c (w ∷ ws) = if is (codes "if") w then Ok (wins c, ws) else lagged 
 abbrev pub after_colour : Colour → List (List ℕ) → Read (Value × List (List ℕ))
 after_colour c [] = Err []
 after_colour c (w ∷ ws) =
-    if is (codes "wins") w then after_wins c ws else (if is (codes "holds") w then then_if (holds c) ws else Err (w ∷ ws))
+    if is (codes "wins") w then after_wins c ws else
+    (if is (codes "holds") w then then_if (holds c) ws else Err (w ∷ ws))
 
 -- a value and `if`
 unfoldable pub value_words : List (List ℕ) → Read (Value × List (List ℕ))

@@ -30,7 +30,8 @@ unless (Some c) r = Err c
 
 abbrev pub add_group : RuleLines → GroupLine → Result RuleLines RulesCause
 add_group r g =
-    unless (cause_of_group r.groups g) (record { groups = r.groups ++ g ∷ []; forbids = r.forbids; exits = r.exits })
+    unless (cause_of_group r.groups g)
+    (record { groups = r.groups ++ g ∷ []; forbids = r.forbids; exits = r.exits })
 
 abbrev pub add_forbid : RuleLines → Forbid → Result RuleLines RulesCause
 add_forbid r f =
@@ -39,7 +40,8 @@ add_forbid r f =
 
 abbrev pub add_exit : RuleLines → ExitLine → Result RuleLines RulesCause
 add_exit r e =
-    if nat_le MOST_EXITS (length r.exits) || nat_lt MOST_CONDS (length e.conds) then Err causes.TooManyLines
+    if nat_le MOST_EXITS (length r.exits) || nat_lt MOST_CONDS (length e.conds)
+    then Err causes.TooManyLines
     else Ok (record { groups = r.groups; forbids = r.forbids; exits = r.exits ++ e ∷ [] })
 
 abbrev pub with_line : {A : Type 0} → (RuleLines → A → Result RuleLines RulesCause) → RuleLines →
@@ -53,7 +55,8 @@ line_of r [] = Ok r
 line_of r (w ∷ ws) =
     if is (codes "group") w then with_line add_group r (w ∷ ws) (group_of ws) else
     (if is (codes "forbid") w then with_line add_forbid r (w ∷ ws) (forbid_of ws) else
-    (if is (codes "exit") w then with_line add_exit r (w ∷ ws) (exit_of ws) else Err causes.UnknownLine))
+    (if is (codes "exit") w then with_line add_exit r (w ∷ ws) (exit_of ws) else
+    Err causes.UnknownLine))
 
 -- the first word is one of those that a line may begin with
 abbrev pub begins_known : List (List ℕ) → Bool
@@ -100,13 +103,16 @@ is_header _ = false
 -- the causes of the whole text
 abbrev pub whole : RuleLines → Result RuleLines RulesFault
 whole r =
-    if not (has_king_group r.groups White && has_king_group r.groups Black) then Err (record { line = 0; cause = causes.KingGroup }) else
-    (if nat_lt MOST_NUMBERS (size_of r.groups) then Err (record { line = 0; cause = causes.SetTooBig (capped (size_of r.groups)) }) else Ok r)
+    if not (has_king_group r.groups White && has_king_group r.groups Black)
+    then Err (record { line = 0; cause = causes.KingGroup }) else
+    (if nat_lt MOST_NUMBERS (size_of r.groups)
+    then Err (record { line = 0; cause = causes.SetTooBig (capped (size_of r.groups)) }) else Ok r)
 
 abbrev pub after_header : List (ℕ × List (List ℕ)) → Result RuleLines RulesFault
 after_header [] = Err (record { line = 0; cause = causes.Header })
 after_header (l ∷ ls) =
-    if is_header l.1 then lines_of no_rules ls >>= whole else Err (record { line = l.0; cause = causes.Header })
+    if is_header l.1 then lines_of no_rules ls >>= whole else
+    Err (record { line = l.0; cause = causes.Header })
 
 -- more than 65,536 bytes
 abbrev pub too_long : Result RuleLines RulesFault
@@ -125,7 +131,8 @@ abbrev pub has_known_line : List (ℕ × List (List ℕ)) → Bool
 has_known_line [] = false
 has_known_line (l ∷ ls) = is_header l.1 && first_known ls
 
--- want of memory: only where the text is within its limit, the header is right, and the first line behind it begins with a known word
+-- want of memory: only where the text is within its limit, the header is right, and the first line
+-- behind it begins with a known word
 unfoldable pub may_want_memory : List ℕ → Bool
 may_want_memory text =
     nat_le (length text) LONGEST_TEXT && has_known_line (significant (numbered 1 (lines text)))

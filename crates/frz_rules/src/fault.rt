@@ -13,7 +13,8 @@ pub enum RulesCause {
     Header,
     /// The first word is none of `group`, `forbid` and `exit`.
     UnknownLine,
-    /// The line has no form. The place, from 1, of the first word that no line of a form goes on with.
+    /// The line has no form. The place, from 1, of the first word that no line of a form goes on
+    /// with.
     Word(u32),
     /// The group has a pawn on rank 1 or 8.
     PawnSquare,

@@ -67,7 +67,8 @@ fn read_group_line(
 ) -> Result<Rules, LineError>
     requires few { length rules.groups ≤ MOST_GROUPS }
     requires short { length line.now ≤ LONGEST_TEXT }
-    ensures read { Reads result (read_to (λ r g. with_group r (read_group g)) rules (length (words line.now)) (group_words (words rest.now))) }
+    ensures read { Reads result (read_to (λ r g. with_group r (read_group g)) rules
+        (length (words line.now)) (group_words (words rest.now))) }
     ensures few { IfOk result (λ r. length r.groups ≤ MOST_GROUPS) }
 {
     match group_parts(alloc, rest) {
@@ -91,7 +92,8 @@ fn read_group_line(
 fn read_forbid_line(rules: Rules, line: &[u8], rest: &[u8]) -> Result<Rules, LineError>
     requires few { length rules.groups ≤ MOST_GROUPS }
     requires short { length line.now ≤ LONGEST_TEXT }
-    ensures read { Reads result (read_to with_forbid rules (length (words line.now)) (forbid_words (words rest.now))) }
+    ensures read { Reads result (read_to with_forbid rules
+        (length (words line.now)) (forbid_words (words rest.now))) }
     ensures few { IfOk result (λ r. length r.groups ≤ MOST_GROUPS) }
 {
     match forbid_parts(rest) {
@@ -103,7 +105,8 @@ fn read_forbid_line(rules: Rules, line: &[u8], rest: &[u8]) -> Result<Rules, Lin
 fn read_exit_line(alloc: Global, rules: Rules, line: &[u8], rest: &[u8]) -> Result<Rules, LineError>
     requires few { length rules.groups ≤ MOST_GROUPS }
     requires short { length line.now ≤ LONGEST_TEXT }
-    ensures read { Reads result (read_to (λ r e. with_exit r (read_exit e)) rules (length (words line.now)) (exit_words (words rest.now))) }
+    ensures read { Reads result (read_to (λ r e. with_exit r (read_exit e)) rules
+        (length (words line.now)) (exit_words (words rest.now))) }
     ensures few { IfOk result (λ r. length r.groups ≤ MOST_GROUPS) }
 {
     match exit_parts(alloc, rest) {

@@ -29,7 +29,8 @@ fn state_at(n: u16) -> (Kind, Square)
 }
 
 fn place_has(place: &(Kind, SquareSet), s: &(Kind, Square)) -> bool
-    ensures { result ≡ (number_of_kind place.now.0 == number_of_kind s.now.0 && has_square place.now.1 s.now.1) }
+    ensures { result ≡ (number_of_kind place.now.0 == number_of_kind s.now.0
+        && has_square place.now.1 s.now.1) }
 {
     place.0.number() == s.0.number() && place.1.has(s.1.number())
 }

@@ -69,7 +69,8 @@ pawn_text p man m = pawn_origin p man m ++ cross p man m ++ square_text m.to ++ 
 -- a piece's move: its letter (C.2), as much of its origin as is needed, x where it captures,
 -- the square of arrival (C.8)
 abbrev pub piece_text : Board → Man → Step → List ℕ
-piece_text p man m = (letter_of_kind man.kind ∷ []) ++ origin p m ++ cross p man m ++ square_text m.to
+piece_text p man m =
+    (letter_of_kind man.kind ∷ []) ++ origin p m ++ cross p man m ++ square_text m.to
 
 abbrev pub text_by : Board → Option Man → Step → List ℕ
 text_by p None m = []
