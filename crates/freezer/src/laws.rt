@@ -5,8 +5,8 @@ ghost use Rattle.frz_answer.specs.Lawful.{IsLawful};
 
 use frz_commands_line::laws::{one_line_answer, one_play_answer};
 
-/// Whatever the words are, there is one answer over any files and any input, and it means what it is
-/// to mean.
+/// Whatever the words are, there is one answer over any files and any input, and it means what it
+/// is to mean.
 pub fn one_answer()
     ensures { (words : List (List ℕ)) → IsLawful (job_of words) }
 {

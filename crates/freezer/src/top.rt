@@ -66,8 +66,8 @@ pub fn freezer<S: Store, I: Source, O: Sink, L: Ledger>(
     out: &mut O,
     steps: &mut Steps<L>,
 ) -> u8
-    // The status, the text, the files, the input taken, what they mean and what they cost, with each
-    // status and over every object, told or not: the fields of `Outcome` say it one by one.
+    // The status, the text, the files, the input taken, what they mean and what they cost, with
+    // each status and over every object, told or not: the fields of `Outcome` say it one by one.
     ensures outcome { Outcome (job_of (map string_bytes words.now)) result
         (world_of S.Store I.Source O.Sink store.old input.old out.old steps.old)
         (world_of S.Store I.Source O.Sink store.new input.new out.new steps.new) }

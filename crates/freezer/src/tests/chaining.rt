@@ -9,8 +9,8 @@ use std::test::Fail as TestFail;
 const NEXT: &[u8] =
     b"freezer 1\ngroup white 1 K:b6\ngroup white 1 R:h1\ngroup black 1 K:c8\nexit white wins if always\n";
 
-/// The codes of both sides, White's first: the rook's by its own exit lines, those over the table of
-/// NEXT, and those of NEXT.
+/// The codes of both sides, White's first: the rook's by its own exit lines, those over the table
+/// of NEXT, and those of NEXT.
 const ROOK_CODES: [u8; 16] = [4, 4, 0, 0, 6, 5, 2, 2, 5, 5, 0, 0, 7, 7, 3, 3];
 
 const CHAINED_CODES: [u8; 16] = [4, 4, 0, 0, 6, 6, 2, 2, 5, 5, 0, 0, 7, 7, 3, 3];
@@ -39,8 +39,8 @@ fn chained(alloc: Global) -> Result<Vec<u8>, TestFail> {
     by_hand(alloc, b"FREEZERC\x49\0\0\0", RULES, 8, &CHAINED_CODES)
 }
 
-/// A store with these failing calls, the two texts, their own tables, the rook's over the other, and
-/// a table of NEXT whose last code is wrong.
+/// A store with these failing calls, the two texts, their own tables, the rook's over the other,
+/// and a table of NEXT whose last code is wrong.
 fn store_with(alloc: Global, fails: Vec<Fail>) -> Result<MemStore, TestFail> {
     let rook = by_hand(alloc, b"FREEZER2\x49\0\0\0", RULES, 8, &ROOK_CODES)?;
     let next = by_hand(alloc, b"FREEZER2\x5d\0\0\0", NEXT, 2, &NEXT_CODES)?;

@@ -1,5 +1,5 @@
-//! Each command with the kth call of its store or of its input refused, and over a sink with room for
-//! k bytes, for k from the first until it ends well.
+//! Each command with the kth call of its store or of its input refused, and over a sink with room
+//! for k bytes, for k from the first until it ends well.
 use super::migrating::former_rooks;
 use super::tables::{ROOK_CODES, table};
 use super::{CORNER, MATE_IN_ONE, RULES, no_fails};

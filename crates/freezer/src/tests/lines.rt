@@ -23,8 +23,8 @@ const QUEEN: &[u8] = &[4, 1, 5, 1];
 /// The text of the line to the mate.
 const MATED: &str = "white wins within 2\na8b8\nh1h8\nmate\n";
 
-/// A rules text with the codes of its table, and the position and the side of a line; the status and
-/// the text that it gives.
+/// A rules text with the codes of its table, and the position and the side of a line; the status
+/// and the text that it gives.
 struct Row<'a>(&'a [u8], &'a [u8], &'a str, &'a str, u8, &'a str);
 
 const ROWS: &[Row] = &[

@@ -1,5 +1,5 @@
-//! The steps of a small table. A ledger counts them where only clauses see them: the clause says how
-//! many there are at most, and the run that the size is what the clause reckons with.
+//! The steps of a small table. A ledger counts them where only clauses see them: the clause says
+//! how many there are at most, and the run that the size is what the clause reckons with.
 ghost use Rattle.std.specs.Prelude.{◌≡◌, ◌≤◌, ◌<◌, ◌+◌, OnOk};
 
 use super::{RULES, no_fails};
