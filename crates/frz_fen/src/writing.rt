@@ -77,7 +77,7 @@ fn write_square(cell: u8, gap: u8, text: &mut ArrayString<100>) -> u8
         return gap + 1;
     }
     write_gap(gap, text);
-    push(letter(cell), text);
+    push(cell_letter(cell), text);
     0
 }
 
@@ -94,7 +94,7 @@ fn write_gap(gap: u8, text: &mut ArrayString<100>)
 }
 
 /// The letter of a cell that holds a man.
-fn letter(cell: u8) -> u8
+pub fn cell_letter(cell: u8) -> u8
     requires man { 0 < cell }
     requires fits { cell < 13 }
     ensures letter { result ≡ letter_of cell }
