@@ -1,5 +1,5 @@
 -- Words gathered square by square.
-use Rattle.std.proofs.Common.{◌≡◌, ℕ, zero, suc, ◌+◌, ◌-◌, ◌*◌, ◌^◌, ◌<◌, ◌≤◌, Bool, false, cond, ◌&&◌, List, refl, ap, sym, ◌∙◌, arith, add-one, slice_index, inl, inr}
+use Rattle.std.proofs.Common.{◌≡◌, ℕ, ◌+◌, ◌*◌, ◌^◌, ◌<◌, ◌≤◌, Bool, false, cond, ◌&&◌, List, refl, ap, sym, ◌∙◌, arith, slice_index, inl, inr}
 use Rattle.std.specs.Prelude.{◌==◌}
 use Rattle.std.proofs.lemmas.Bool.{cases_eq, cases_lt, and_left}
 use Rattle.std.proofs.lemmas.Bool.Decides.{nat_tests}

@@ -49,11 +49,11 @@ fn is_rank_empty(cells: &[u8; 64], first: u8) -> bool
     requires { first ≤ 56 }
     ensures { IsTrue result → (n : ℕ) → first ≤ n → n < first + 8 → slice_index cells.now n ≡ 0 }
 {
-    let mut sum = 0u16;
+    let mut empty = true;
     for n in first..first + 8 {
-        sum += u16::from(cells[n as usize]);
+        empty &= cells[n as usize] == 0;
     }
-    sum == 0
+    empty
 }
 
 /// The words of both sides' men below the rank that begins with this square, and those on it.
