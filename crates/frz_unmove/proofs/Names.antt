@@ -16,8 +16,9 @@ use Rattle.frz_sets.specs.Views.{GroupLine}
 use Rattle.frz_index.specs.Candidates.{candidate}
 use Rattle.frz_index.specs.Members.{HasNumber}
 use Rattle.frz_index.proofs.Lemmas.{is_candidate}
+use Rattle.frz_sets.specs.Sets.{pawn}
 use Rattle.frz_unmove.specs.declared.preds.Pred.{Pred}
-use Rattle.frz_unmove.specs.Earlier.{before, mover_cell, name, pawn_of, was_en_passant}
+use Rattle.frz_unmove.specs.Earlier.{before, mover_cell, name, was_en_passant}
 use Rattle.frz_unmove.specs.Gathering.{Comes, ComesFrom, taken_of, target_of, target_key}
 use Rattle.frz_unmove.proofs.Undone.{written, written-length}
 use Rattle.frz_unmove.proofs.Coming.{comes_before, v}
@@ -26,7 +27,7 @@ use Rattle.frz_unmove.proofs.Coming.{comes_before, v}
 before_size : (q : Board) (m : Step) (taken : ℕ) (target : Option ℕ) →
     length (before q (name m taken target)).cells ≡ 64 → length q.cells ≡ 64
 before_size q m taken target h =
-    sym (written-length q.cells m.from m.to (mover_cell q m) taken (beside_on_file m.from m.to) (pawn_of q.turn) (was_en_passant q m target))
+    sym (written-length q.cells m.from m.to (mover_cell q m) taken (beside_on_file m.from m.to) (pawn q.turn) (was_en_passant q m target))
     ∙ h
 
 back_by : (t : Bool) (e a b y v w x : ℕ) → (a ≡ b → ⊥) → (t ≡ true → b ≡ e → ⊥) →
@@ -40,9 +41,9 @@ taken_back : (q : Board) (m : Step) (taken : ℕ) (target : Option ℕ) → leng
 taken_back q m taken target size lf lt ne =
     let e = beside_on_file m.from m.to in
     let t = was_en_passant q m target in
-    written q.cells m.from m.to (mover_cell q m) taken e (pawn_of q.turn) m.to t (omega (arith, size)) (omega (arith, size)) (omega (arith, size))
-    ∙ back_by t e m.from m.to (pawn_of q.turn) (mover_cell q m) taken (slice_index q.cells m.to) ne
-    (λ h i. let reach = (and_parts (pawn_reaches (other_of q.turn) m.from m.to) (is_target target m.to) (and_parts (mover_cell q m == pawn_of (other_of q.turn)) (pawn_reaches (other_of q.turn) m.from m.to && is_target target m.to) h).1).0 in
+    written q.cells m.from m.to (mover_cell q m) taken e (pawn q.turn) m.to t (omega (arith, size)) (omega (arith, size)) (omega (arith, size))
+    ∙ back_by t e m.from m.to (pawn q.turn) (mover_cell q m) taken (slice_index q.cells m.to) ne
+    (λ h i. let reach = (and_parts (pawn_reaches (other_of q.turn) m.from m.to) (is_target target m.to) (and_parts (mover_cell q m == pawn (other_of q.turn)) (pawn_reaches (other_of q.turn) m.from m.to && is_target target m.to) h).1).0 in
     beside_apart (other_of q.turn) m.from m.to (and_parts (files_apart m.from m.to == 1) (is_forward (other_of q.turn) 1 m.from m.to) reach).1 i)
 
 -- an earlier position of this name, from which the move leads on

@@ -4,12 +4,11 @@ use Rattle.std.specs.Prelude.{◌==◌, is_some, if◌then◌else◌}
 use Rattle.std.proofs.lemmas.Bool.Decides.{eqb_tells}
 use Rattle.std.proofs.lemmas.Grind.{same_number_lists}
 use Rattle.frz_board.specs.declared.man.Colour.{Colour}
-use Rattle.frz_board.specs.declared.man.Colour.TheVariants.{White, Black}
 use Rattle.frz_board.specs.declared.man.Kind.{Kind}
 use Rattle.frz_board.specs.declared.man.Kind.TheVariants.{King, Queen, Rook, Bishop, Knight, Pawn}
 use Rattle.frz_board.specs.declared.man.Man.{Man}
 use Rattle.frz_board.specs.Boards.{Board}
-use Rattle.frz_board.specs.Men.{cell_of_man, other_of, is_pawn}
+use Rattle.frz_board.specs.Men.{cell_of_man, other_of}
 use Rattle.frz_board.specs.Moving.{Step}
 use Rattle.frz_board.specs.Attacks.{pawn_reaches, is_in_check}
 use Rattle.frz_board.proofs.Lemmas.{set_at, other_other}
@@ -18,7 +17,8 @@ use Rattle.frz_fide.specs.Valid.{IsValid}
 use Rattle.frz_fide.proofs.Lemmas.{Move}
 use Rattle.frz_fide.proofs.Lemmas.{arrived}
 use Rattle.frz_fide.proofs.Lemmas as kept
-use Rattle.frz_unmove.specs.Earlier.{before, cells_before, mover_cell, name, pawn_of, was_en_passant}
+use Rattle.frz_sets.specs.Sets.{pawn}
+use Rattle.frz_unmove.specs.Earlier.{before, cells_before, mover_cell, name, was_en_passant}
 
 pub written : (xs : List ℕ) (a b v w e y s : ℕ) (t : Bool) → a < length xs → b < length xs →
     e < length xs →
@@ -67,24 +67,10 @@ promotes_pawn c Rook b j h = cc
 promotes_pawn c Bishop b j h = cc
 promotes_pawn c Knight b j h = cc
 
-pawn_test : (c : Colour) (k : Kind) → (cell_of_man (record { colour = c; kind = k }) == pawn_of c) ≡ is_pawn k
-pawn_test White King = refl
-pawn_test White Queen = refl
-pawn_test White Rook = refl
-pawn_test White Bishop = refl
-pawn_test White Knight = refl
-pawn_test White Pawn = refl
-pawn_test Black King = refl
-pawn_test Black Queen = refl
-pawn_test Black Rook = refl
-pawn_test Black Bishop = refl
-pawn_test Black Knight = refl
-pawn_test Black Pawn = refl
-
 -- the mover's cell, whether the man became another or not
 mover_by : (c : Colour) (man : Man) (b : ℕ) (promo : Option Kind) (cell : ℕ) → man.colour ≡ c →
     promotes man.colour man.kind b promo ≡ true → cell ≡ cell_of_man (arrives man promo) →
-    (if is_some promo then pawn_of c else cell) ≡ cell_of_man man
+    (if is_some promo then pawn c else cell) ≡ cell_of_man man
 mover_by c man b None cell own h e = e
 mover_by c man b (Some j) cell own h e =
     let made : Colour → Kind → ℕ = λ c k. cell_of_man (record { colour = c; kind = k }) in
@@ -101,16 +87,16 @@ module _ (p : Board) (m : Step) (v : IsValid p) (lt : m.to < 64) (f : Move p m) 
 
   pub mover_is : mover_cell next m ≡ cell_of_man f.man
   mover_is =
-      ap (λ c. if is_some m.promo then pawn_of c else slice_index next.cells m.to) (other_other p.turn)
+      ap (λ c. if is_some m.promo then pawn c else slice_index next.cells m.to) (other_other p.turn)
       ∙ mover_by p.turn f.man m.to m.promo (slice_index next.cells m.to) f.own f.promo
       (kept.cell_there p m v lt f m.to ∙ arrived p m f)
 
   took : was_en_passant next m p.ep ≡ kept.takes p m v lt f
   took =
       let side : other_of next.turn ≡ f.man.colour = other_other p.turn ∙ sym f.own in
-      ap (λ c. mover_cell next m == pawn_of c && (pawn_reaches c m.from m.to && is_target p.ep m.to)) side
-      ∙ ap (λ x. x == pawn_of f.man.colour && (pawn_reaches f.man.colour m.from m.to && is_target p.ep m.to)) mover_is
-      ∙ ap (λ x. x && (pawn_reaches f.man.colour m.from m.to && is_target p.ep m.to)) (pawn_test f.man.colour f.man.kind)
+      ap (λ c. mover_cell next m == pawn c && (pawn_reaches c m.from m.to && is_target p.ep m.to)) side
+      ∙ ap (λ x. x == pawn f.man.colour && (pawn_reaches f.man.colour m.from m.to && is_target p.ep m.to)) mover_is
+      ∙ ap (λ x. x && (pawn_reaches f.man.colour m.from m.to && is_target p.ep m.to)) (kept.pawn_tests f.man.colour f.man.kind).0
 
   abbrev undone : List ℕ
   undone = cells_before next (name m (slice_index p.cells m.to) p.ep)
@@ -118,7 +104,7 @@ module _ (p : Board) (m : Step) (v : IsValid p) (lt : m.to < 64) (f : Move p m) 
   abbrev by_takes : Bool → List ℕ
   by_takes t =
       let back = slice_set (slice_set next.cells m.to (slice_index p.cells m.to)) m.from (mover_cell next m) in
-      cond t (slice_set back (beside_on_file m.from m.to) (pawn_of next.turn)) back
+      cond t (slice_set back (beside_on_file m.from m.to) (pawn next.turn)) back
 
   undone_is : undone ≡ by_takes (kept.takes p m v lt f)
   undone_is = ap by_takes took
@@ -137,9 +123,9 @@ module _ (p : Board) (m : Step) (v : IsValid p) (lt : m.to < 64) (f : Move p m) 
       let e = beside_on_file m.from m.to in
       let w = slice_index p.cells m.to in
       ap (λ xs. slice_index xs s) undone_is
-      ∙ written next.cells m.from m.to (mover_cell next m) w e (pawn_of next.turn) s t (omega (arith, size)) (omega (arith, size)) (omega (arith, size, beside_fits))
-      ∙ ap (λ x. cond (t && (s == e)) (pawn_of next.turn) (cond (s == m.from) (mover_cell next m) (cond (s == m.to) w x))) (kept.cell_there p m v lt f s)
-      ∙ undone_by t e m.from m.to s (slice_index p.cells s) (pawn_of next.turn) (mover_cell next m) w (cell_of_man (arrives f.man m.promo))
+      ∙ written next.cells m.from m.to (mover_cell next m) w e (pawn next.turn) s t (omega (arith, size)) (omega (arith, size)) (omega (arith, size, beside_fits))
+      ∙ ap (λ x. cond (t && (s == e)) (pawn next.turn) (cond (s == m.from) (mover_cell next m) (cond (s == m.to) w x))) (kept.cell_there p m v lt f s)
+      ∙ undone_by t e m.from m.to s (slice_index p.cells s) (pawn next.turn) (mover_cell next m) w (cell_of_man (arrives f.man m.promo))
       (λ h i. sym (kept.enemy p m v lt f h) ∙ ap (slice_index p.cells) (sym i))
       (λ i. mover_is ∙ sym (kept.mover p m v lt f) ∙ ap (slice_index p.cells) (sym i))
       (λ i. ap (slice_index p.cells) (sym i))
@@ -147,7 +133,7 @@ module _ (p : Board) (m : Step) (v : IsValid p) (lt : m.to < 64) (f : Move p m) 
   same_cells : undone ≡ p.cells
   same_cells =
       same_number_lists undone p.cells
-      (ap length undone_is ∙ written-length next.cells m.from m.to (mover_cell next m) (slice_index p.cells m.to) (beside_on_file m.from m.to) (pawn_of next.turn) (kept.takes p m v lt f) ∙ size ∙ sym v.fits.size)
+      (ap length undone_is ∙ written-length next.cells m.from m.to (mover_cell next m) (slice_index p.cells m.to) (beside_on_file m.from m.to) (pawn next.turn) (kept.takes p m v lt f) ∙ size ∙ sym v.fits.size)
       (λ k l. same_cell k)
 
   -- what the name of a move says gives back the position before it

@@ -1,4 +1,5 @@
--- The moves that lead to a position, kind by kind: where they end, what the man has become, what it took, the earlier target, and where they begin.
+-- The moves that lead to a position, kind by kind: where they end, what the man has become, what it took, the
+-- earlier target, and where they begin.
 use Rattle.std.specs.Prelude.{ℕ, ◌≡◌, ◌+◌, ◌<◌, ◌==◌, ◌&&◌, ◌||◌, Bool, true, List, Option, None, Some, slice_index}
 use Rattle.std.specs.List.{list_any}
 use Rattle.frz_board.specs.declared.man.Colour.{Colour}

@@ -19,4 +19,5 @@ pub record LeadsTo (gs : List GroupLine) (i : ℕ) (m : Step) (q : ℕ) : Type 0
 -- no two of the items have one number
 abbrev pub HaveDifferentNumbers : List Pred → Type 0
 HaveDifferentNumbers items =
-    (k l : ℕ) (x y : Pred) → slice_get items k ≡ Some x → slice_get items l ≡ Some y → x.number ≡ y.number → k ≡ l
+    (k l : ℕ) (x y : Pred) → slice_get items k ≡ Some x → slice_get items l ≡ Some y →
+    x.number ≡ y.number → k ≡ l

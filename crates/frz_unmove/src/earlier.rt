@@ -1,26 +1,16 @@
 //! The position before a move, and whether the set has it and the move leads on.
 ghost use Rattle.std.specs.Prelude.{◌≡◌, ◌≤◌, ◌&&◌, ◌↔◌, IsTrue, Some, true, ℕ};
-ghost use Rattle.frz_board.specs.Attacks.{pawn_reaches};
 ghost use Rattle.frz_board.specs.Moving.{IsStep};
-ghost use Rattle.frz_fide.specs.Legal.{after, beside_on_file, is_legal, is_target};
+ghost use Rattle.frz_fide.specs.Legal.{after, is_legal, is_target};
 ghost use Rattle.frz_fide.specs.Valid.{IsValid};
 ghost use Rattle.frz_index.specs.Members.{HasNumber};
-ghost use Rattle.frz_unmove.specs.Earlier.{before, mover_cell as cell_of_mover, name, pawn_of, was_en_passant};
+ghost use Rattle.frz_unmove.specs.Earlier.{before, mover_cell as cell_of_mover, name, was_en_passant};
 
-use frz_bits::{Bitboards, contains, pawn_set};
-use frz_board::{Colour, Kind, Man, Move, Square, cell_of};
-use frz_fide::{leads, valid_boards};
+use frz_bits::Bitboards;
+use frz_board::{Move, Square};
+use frz_fide::{beside, leads, valid_boards};
 use frz_index::Set;
-
-pub(crate) fn pawn(c: Colour) -> u8
-    ensures cell { result ≡ pawn_of c }
-    ensures fits { result ≤ 12 }
-{
-    cell_of(Man {
-        colour: c,
-        kind: Kind::Pawn,
-    })
-}
+use frz_sets::pawn_cell;
 
 /// The cell of the man that has moved, as it was before.
 pub(crate) fn mover_cell(q: &Bitboards, m: Move) -> u8
@@ -28,17 +18,10 @@ pub(crate) fn mover_cell(q: &Bitboards, m: Move) -> u8
     ensures fits { result ≤ 12 }
 {
     if m.promo.is_some() {
-        pawn(q.turn().other())
+        pawn_cell(q.turn().other())
     } else {
         q.as_position().cell(m.to)
     }
-}
-
-/// The square beside `a` on the file of `b`.
-fn beside(a: Square, b: Square) -> Square
-    ensures { result ≡ beside_on_file a b }
-{
-    Square::at(8 * a.rank() + b.file())
 }
 
 fn is_at(target: &Option<Square>, b: Square) -> bool
@@ -50,19 +33,13 @@ fn is_at(target: &Option<Square>, b: Square) -> bool
     }
 }
 
-#[tactic(auto, using(frz_squares::proofs::Lemmas::set_reading))]
-fn pawn_attacks(c: Colour, a: Square, b: Square) -> bool
-    ensures { result ≡ pawn_reaches c a b }
-{
-    contains(pawn_set(c, a), b)
-}
-
 /// Has a pawn gone to the target?
 fn took_passing(q: &Bitboards, m: Move, target: &Option<Square>) -> bool
     ensures { result ≡ was_en_passant q.now m target.now }
 {
     let mover = q.turn().other();
-    mover_cell(q, m) == pawn(mover) && (pawn_attacks(mover, m.from, m.to) && is_at(target, m.to))
+    mover_cell(q, m) == pawn_cell(mover)
+        && (m.from.is_pawn_attack(mover, m.to) && is_at(target, m.to))
 }
 
 /// The position before the move, where this stood on the move's end and this was the target.
@@ -75,7 +52,7 @@ fn earlier(q: &Bitboards, m: Move, taken: u8, target: &Option<Square>) -> Bitboa
     p.set(m.to, taken);
     p.set(m.from, cell);
     if took_passing(q, m, target) {
-        p.set(beside(m.from, m.to), pawn(q.turn()));
+        p.set(beside(m.from, m.to), pawn_cell(q.turn()));
     }
     p
 }

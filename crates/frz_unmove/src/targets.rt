@@ -1,24 +1,11 @@
 //! The targets that may have stood before a move.
 ghost use Rattle.std.specs.Prelude.{ℕ, ◌≡◌, ◌==◌, ◌&&◌, ◌||◌, ◌<◌, ◌≤◌, true};
 ghost use Rattle.frz_squares.specs.SquareSets.{has_square};
-ghost use Rattle.frz_board.specs.EnPassant.{is_passing_rank as passing_rank};
 ghost use Rattle.frz_unmove.specs.Gathering.{IsTargetWord, may_have_passed as may_have_passed_over, may_have_stood as stood_before};
 
 use frz_bits::{Bitboards, replaced};
-use frz_board::{Colour, Kind, Square};
+use frz_board::{Kind, Square};
 use frz_index::Set;
-
-/// Is it the rank that the side's pawns pass over?
-fn is_passing_rank(c: Colour, t: Square) -> bool
-    ensures rank { result ≡ passing_rank c t }
-    ensures low { result ≡ true → 8 ≤ t }
-    ensures high { result ≡ true → t < 56 }
-{
-    match c {
-        Colour::White => t.rank() == 2,
-        Colour::Black => t.rank() == 5,
-    }
-}
 
 /// Can the pawn that had passed over the square stand ahead of it still, or have been taken by a
 /// move to this square?
@@ -35,7 +22,7 @@ fn may_have_passed(q: &Bitboards, to: Square, t: Square) -> bool
 fn may_have_stood(q: &Bitboards, to: Square, t: Square) -> bool
     ensures { result ≡ stood_before q.now to t }
 {
-    is_passing_rank(q.turn(), t) && may_have_passed(q, to, t)
+    t.is_passing_rank(q.turn()) && may_have_passed(q, to, t)
 }
 
 /// The word with the target, if it may have stood.
