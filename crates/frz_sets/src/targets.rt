@@ -25,7 +25,8 @@ fn have_pawn_beside(groups: &[Group], colour: Colour, b: Square) -> bool
     ensures { result ≡
         list_any (λ s. is_beside s b && some_has_state groups.now (pawn colour) s) squares }
 {
-    (0..64u8).any(|s| Square::at(s).is_beside(b) && has_state(groups, pawn_cell(colour), Square::at(s)))
+    (0..64u8).any(|s| Square::at(s).is_beside(b)
+        && has_state(groups, pawn_cell(colour), Square::at(s)))
 }
 
 fn has_pair(groups: &[Group], colour: Colour, b: Square) -> bool
