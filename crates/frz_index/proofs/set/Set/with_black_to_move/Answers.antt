@@ -10,11 +10,15 @@ overflow_add-result c =
     let whole = c.self.invariant.whole_is ∙ ap (λ (gs : List GroupLine). product (map radix_of gs)) c.self.view_is in
     omega (arith, second_below c.args.self.now c.args.i c.self.inside.plan.whole c.requires.first whole, c.self.invariant.numberable.size, ap size_of c.self.view_is)
 
-pub returns : goal.returns
-returns c =
+pub returns-clause-number : goal.returns-clause-number
+returns-clause-number c p h =
     let whole = c.self.invariant.whole_is ∙ ap (λ (gs : List GroupLine). product (map radix_of gs)) c.self.view_is in
-    record {
-      number = second_is c.args.self.now c.args.i c.self.inside.plan.whole c.requires.first whole;
-      member = λ p h. Member-with_black c.args.self.now p h.member;
-      inside = second_below c.args.self.now c.args.i c.self.inside.plan.whole c.requires.first whole;
-    }
+    omega (arith, second_is c.args.self.now c.args.i c.self.inside.plan.whole c.requires.first whole p h)
+
+pub returns-clause-member : goal.returns-clause-member
+returns-clause-member c p h = Member-with_black c.args.self.now p h.member
+
+pub returns-clause-inside : goal.returns-clause-inside
+returns-clause-inside c =
+    let whole = c.self.invariant.whole_is ∙ ap (λ (gs : List GroupLine). product (map radix_of gs)) c.self.view_is in
+    omega (arith, second_below c.args.self.now c.args.i c.self.inside.plan.whole c.requires.first whole)
