@@ -1,11 +1,13 @@
 //! Builds and checks the tables of the rules texts that are named as arguments, over real files,
-//! and asks them at the positions of the file `bounds`.
+//! and asks them at the positions of the file `bounds`. The table of `RULES on BACK` is chained over
+//! that of BACK, which an argument before it named.
 #![tactic(auto)]
 
 ghost use Rattle.std.specs.Prelude.{◌≡◌, ◌<◌};
 
 use frz_answer::finish;
-use frz_commands_ask::run_query;
+use frz_commands_ask::{run_chainquery, run_query};
+use frz_commands_chain::{run_chain, run_chaincheck};
 use frz_commands_table::{run_build, run_check};
 use frz_steps::Steps;
 use frz_store::{DiskStore, OutputSink, Sink, Store};
@@ -34,36 +36,89 @@ fn build_and_check<S: Store, O: Sink, L: Ledger>(
     Ok(built == 0 && checked == 0)
 }
 
-/// The position in a line `RULES | FEN | WHITE | BLACK` of bounds, where it tells of these rules.
-fn position_of<'a>(line: &'a str, rules: &str) -> Option<&'a str> {
+/// The same for a rules text over a table that is there.
+fn chain_and_check<S: Store, O: Sink, L: Ledger>(
+    alloc: Global,
+    rules: &str,
+    back: &str,
+    store: &mut S,
+    out: &mut O,
+    steps: &mut Steps<L>,
+) -> Result<bool, AllocError> {
+    let words = vec![in alloc;
+        format!(in alloc; "{rules}")?,
+        format!(in alloc; "{back}.t")?,
+        format!(in alloc; "{rules}.t")?,
+    ]?;
+    let pair = vec![in alloc;
+        format!(in alloc; "{rules}.t")?,
+        format!(in alloc; "{back}.t")?,
+    ]?;
+    let chained = finish(run_chain(alloc, &words, store, out, steps), out);
+    let checked = finish(run_chaincheck(alloc, &pair, store, out, steps), out);
+    Ok(chained == 0 && checked == 0)
+}
+
+/// The position in a line `ENDING | FEN | WHITE | BLACK` of bounds, where it tells of this ending.
+fn position_of<'a>(line: &'a str, ending: &str) -> Option<&'a str> {
     let (name, told) = line.split_once(" | ")?;
     let (fen, _) = told.split_once(" | ")?;
-    (name == rules).then_some(fen)
+    (name == ending).then_some(fen)
+}
+
+/// The words of a question: the table of a rules text, and a position.
+fn question(alloc: Global, rules: &str, fen: &str) -> Result<Vec<String>, AllocError> {
+    let words = vec![in alloc;
+        format!(in alloc; "{rules}.t")?,
+        format!(in alloc; "{fen}")?,
+    ]?;
+    Ok(words)
 }
 
 /// Asks a table at each position that the bounds tell of. Gives whether all had an answer.
 fn ask<S: Store, O: Sink>(
     alloc: Global,
-    rules: &str,
+    ending: &str,
     bounds: &str,
     store: &mut S,
     out: &mut O,
 ) -> Result<bool, AllocError> {
     let mut fine = true;
     for line in bounds.lines() {
-        if let Some(fen) = position_of(line, rules) {
-            let words = vec![in alloc;
-                format!(in alloc; "{rules}.t")?,
-                format!(in alloc; "{fen}")?,
-            ]?;
-            let asked = finish(run_query(alloc, &words, store, out), out);
-            fine = fine && asked == 0;
+        if let Some(fen) = position_of(line, ending) {
+            let end = match ending.split_once(" on ") {
+                Some((rules, _)) => run_chainquery(
+                    alloc,
+                    &question(alloc, rules, fen)?,
+                    store,
+                    out,
+                ),
+                None => run_query(alloc, &question(alloc, ending, fen)?, store, out),
+            };
+            fine = finish(end, out) == 0 && fine;
         }
     }
     Ok(fine)
 }
 
-/// Builds, checks and asks the table of each name. Gives whether all went well.
+/// Builds, checks and asks the table of one ending. Gives whether all went well.
+fn try_ending<S: Store, O: Sink, L: Ledger>(
+    alloc: Global,
+    ending: &str,
+    bounds: &str,
+    store: &mut S,
+    out: &mut O,
+    steps: &mut Steps<L>,
+) -> Result<bool, AllocError> {
+    let sound = match ending.split_once(" on ") {
+        Some((rules, back)) => chain_and_check(alloc, rules, back, store, out, steps)?,
+        None => build_and_check(alloc, ending, store, out, steps)?,
+    };
+    let answered = ask(alloc, ending, bounds, store, out)?;
+    Ok(sound && answered)
+}
+
+/// Tries each ending. Gives whether all went well.
 fn run<S: Store, O: Sink>(
     alloc: Global,
     names: env::Args,
@@ -89,10 +144,9 @@ fn run_counted<S: Store, O: Sink, L: Ledger>(
 {
     let mut steps = Steps::<L>::new(blank);
     let mut fine = true;
-    for name in names.skip(1) {
-        let sound = build_and_check(alloc, &name, store, out, &mut steps)?;
-        let answered = ask(alloc, &name, &bounds, store, out)?;
-        fine = fine && sound && answered;
+    for ending in names.skip(1) {
+        let tried = try_ending(alloc, &ending, &bounds, store, out, &mut steps)?;
+        fine = fine && tried;
     }
     Ok(fine)
 }
