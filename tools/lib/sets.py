@@ -22,18 +22,25 @@ class Set:
         turn = (position.turn, position.target)
         if turn not in self.turns:
             return None
+        taken = self.taken(position)
+        if taken is None:
+            return None
+        number = self.turns.index(turn)
+        for group, places in zip(self.groups, taken):
+            if not group.least <= len(places) <= group.most:
+                return None
+            number = number * radix_of(group) + digit_of(group, places)
+        return number
+
+    def taken(self, position):
+        """For each group the places of its men, increasing; None where a man has no group."""
         taken = [[] for _ in self.groups]
         for square, man in position.men.items():
             owner = self.owner(side_of(man), (man.upper(), square))
             if owner is None:
                 return None
             taken[owner].append(self.places[owner][man.upper(), square])
-        number = self.turns.index(turn)
-        for group, places in zip(self.groups, taken):
-            if not group.least <= len(places) <= group.most:
-                return None
-            number = number * radix_of(group) + digit_of(group, sorted(places))
-        return number
+        return [sorted(places) for places in taken]
 
     def owner(self, side, state):
         """The place in the text of the group that has this state."""
