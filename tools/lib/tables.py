@@ -37,10 +37,10 @@ def due_length(content, due):
         raise NoTable(f"truncated {len(content)} due {due}")
 
 
-def open_table(content, read=read_rules):
+def open_table(content, read=read_rules, magic=MAGIC):
     """The table in these bytes, by the steps of opening in their order; or NoTable."""
     due_length(content, HEAD)
-    if content[:8] != MAGIC:
+    if content[:8] != magic:
         raise NoTable("magic")
     length = number_in(content, 8)
     if length > LONGEST_TEXT:
