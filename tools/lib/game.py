@@ -38,7 +38,7 @@ def is_covered(forbid, position, move):
 
 
 def pair_value(white, black):
-    """The value that the two codes of a table tell of a position."""
+    """The value that the two codes of a back table tell of a position."""
     if is_win(white) and is_failure(black):
         return "white wins"
     if is_failure(white) and is_win(black):
