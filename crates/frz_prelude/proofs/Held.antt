@@ -20,7 +20,7 @@ use Rattle.frz_prelude.specs.declared.rules_file.TheConstants.{TOO_LONG}
 use Rattle.frz_prelude.specs.declared.stop.Stop.TheVariants as stops
 use Rattle.frz_prelude.specs.declared.rules_at.RulesText.{RulesText}
 use Rattle.frz_prelude.specs.Stops.{Answers, stop_of_fault}
-use Rattle.frz_prelude.specs.RulesFiles.{IsHeld, asked_of, asked_by, or_fault, rules_held, GivesText, IsTextRead}
+use Rattle.frz_prelude.specs.RulesFiles.{IsHeld, asked_of, asked_by, reads_of, reads_by, or_fault, rules_held, GivesText, IsTextRead}
 
 -- files that agree with what is told, where the name holds this
 pub record Holding (told : Option Files) (name : List ℕ) (held : Option (List ℕ)) : Type 0 where
@@ -34,11 +34,12 @@ holding None name None e = record { files = no_files; agrees = tt; holds = refl 
 holding None name (Some bytes) e = record { files = put no_files name bytes; agrees = tt; holds = put-same no_files name bytes }
 
 -- what was found under the name, and what it may have cost
-pub record SeesRules (told : Option Files) (name : List ℕ) (answer : Result RulesFile StoreFault) (before now : ℕ) : Type 0 where
+pub record SeesRules (told : Option Files) (name : List ℕ) (answer : Result RulesFile StoreFault) (before now calls_before calls_now : ℕ) : Type 0 where
   pub held : Option (List ℕ)
   pub there : IfSome told (λ m. m name ≡ held)
   pub file : IfOk answer (IsHeld held)
   pub asked : now ≤ before + asked_of held
+  pub calls : calls_now ≤ calls_before + (1 + reads_of held)
 
 zeros : ℕ → List ℕ
 zeros n = replicate n 0
@@ -51,54 +52,64 @@ many_zeros n = length-replicate n 0
 asked_short : (bytes : List ℕ) → length bytes ≤ LONGEST_TEXT → asked_of (Some bytes) ≡ length bytes
 asked_short bytes short = ap (λ b. if b then 0 else length bytes) (le-ltb LONGEST_TEXT (length bytes) short)
 
-pub sees_rules : (told : Option Files) (name : List ℕ) (answer : Result RulesFile StoreFault) (before now : ℕ)
+-- a file that is not too long is read
+reads_short : (bytes : List ℕ) → length bytes ≤ LONGEST_TEXT → reads_of (Some bytes) ≡ 1
+reads_short bytes short = ap (λ b. if b then 0 else 1) (le-ltb LONGEST_TEXT (length bytes) short)
+
+pub sees_rules : (told : Option Files) (name : List ℕ) (answer : Result RulesFile StoreFault) (before now calls_before calls_now : ℕ)
     → IfOk answer (λ file. IfSome told (λ m. IsHeld (m name) file)) → IfSome told (λ m. now ≤ before + asked_of (m name))
     → IfOk answer (λ file. now ≤ before + asked_by file) → now ≤ before + LONGEST_TEXT → IfOk answer (λ file. asked_by file ≤ LONGEST_TEXT)
-    → SeesRules told name answer before now
-sees_rules (Some m) name (Ok file) before now held asked by most short = record { held = m name; there = refl; file = held; asked = asked }
-sees_rules (Some m) name (Err fault) before now held asked by most short = record { held = m name; there = refl; file = tt; asked = asked }
-sees_rules None name (Err fault) before now held asked by most short =
+    → IfSome told (λ m. calls_now ≤ calls_before + (1 + reads_of (m name))) → IfOk answer (λ file. calls_now ≤ calls_before + (1 + reads_by file))
+    → calls_now ≤ calls_before + 2
+    → SeesRules told name answer before now calls_before calls_now
+sees_rules (Some m) name (Ok file) before now calls_before calls_now held asked by most short told_calls calls_by few = record { held = m name; there = refl; file = held; asked = asked; calls = told_calls }
+sees_rules (Some m) name (Err fault) before now calls_before calls_now held asked by most short told_calls calls_by few = record { held = m name; there = refl; file = tt; asked = asked; calls = told_calls }
+sees_rules None name (Err fault) before now calls_before calls_now held asked by most short told_calls calls_by few =
     let all : List ℕ = zeros LONGEST_TEXT in
     let many : length all ≡ LONGEST_TEXT = many_zeros LONGEST_TEXT in
     let exact : asked_of (Some all) ≡ length all = asked_short all (omega (arith, many)) in
-    record { held = Some all; there = tt; file = tt; asked = omega (arith, most, exact, many) }
-sees_rules None name (Ok Missing) before now held asked by most short = record { held = None; there = tt; file = refl; asked = by }
-sees_rules None name (Ok TooLong) before now held asked by most short =
+    record { held = Some all; there = tt; file = tt; asked = omega (arith, most, exact, many); calls = omega (arith, few, reads_short all (omega (arith, many))) }
+sees_rules None name (Ok Missing) before now calls_before calls_now held asked by most short told_calls calls_by few = record { held = None; there = tt; file = refl; asked = by; calls = calls_by }
+sees_rules None name (Ok TooLong) before now calls_before calls_now held asked by most short told_calls calls_by few =
     let all : List ℕ = zeros (LONGEST_TEXT + 1) in
     let many : length all ≡ LONGEST_TEXT + 1 = many_zeros (LONGEST_TEXT + 1) in
-    record { held = Some all; there = tt; file = omega (arith, many); asked = omega (arith, by) }
-sees_rules None name (Ok (Text text)) before now held asked by most short =
+    record { held = Some all; there = tt; file = omega (arith, many); asked = omega (arith, by); calls = omega (arith, calls_by) }
+sees_rules None name (Ok (Text text)) before now calls_before calls_now held asked by most short told_calls calls_by few =
     let exact : asked_of (Some text.items) ≡ length text.items = asked_short text.items short in
-    record { held = Some text.items; there = tt; file = refl; asked = omega (arith, by, exact) }
+    record { held = Some text.items; there = tt; file = refl; asked = omega (arith, by, exact); calls = omega (arith, calls_by, reads_short text.items short) }
 
 -- the same, over files that agree with what is told
-pub record RulesSeen (told : Option Files) (name : List ℕ) (answer : Result RulesFile StoreFault) (before now : ℕ) : Type 0 where
+pub record RulesSeen (told : Option Files) (name : List ℕ) (answer : Result RulesFile StoreFault) (before now calls_before calls_now : ℕ) : Type 0 where
   pub files : Files
   pub agrees : IfSome told (λ m. m ≡ files)
   pub file : IfOk answer (IsHeld (files name))
   pub asked : now ≤ before + asked_of (files name)
+  pub calls : calls_now ≤ calls_before + (1 + reads_of (files name))
 
-pub rules_seen : (told : Option Files) (name : List ℕ) (answer : Result RulesFile StoreFault) (before now : ℕ)
+pub rules_seen : (told : Option Files) (name : List ℕ) (answer : Result RulesFile StoreFault) (before now calls_before calls_now : ℕ)
     → IfOk answer (λ file. IfSome told (λ m. IsHeld (m name) file)) → IfSome told (λ m. now ≤ before + asked_of (m name))
     → IfOk answer (λ file. now ≤ before + asked_by file) → now ≤ before + LONGEST_TEXT → IfOk answer (λ file. asked_by file ≤ LONGEST_TEXT)
-    → RulesSeen told name answer before now
-rules_seen told name answer before now held asked by most short =
-    let seen = sees_rules told name answer before now held asked by most short in
+    → IfSome told (λ m. calls_now ≤ calls_before + (1 + reads_of (m name))) → IfOk answer (λ file. calls_now ≤ calls_before + (1 + reads_by file))
+    → calls_now ≤ calls_before + 2
+    → RulesSeen told name answer before now calls_before calls_now
+rules_seen told name answer before now calls_before calls_now held asked by most short told_calls calls_by few =
+    let seen = sees_rules told name answer before now calls_before calls_now held asked by most short told_calls calls_by few in
     let at = holding told name seen.held seen.there in record {
       files = at.files;
       agrees = at.agrees;
       file = subst (λ x. IfOk answer (IsHeld x)) (sym at.holds) seen.file;
       asked = subst (λ x. now ≤ before + asked_of x) (sym at.holds) seen.asked;
+      calls = subst (λ x. calls_now ≤ calls_before + (1 + reads_of x)) (sym at.holds) seen.calls;
     }
 
 -- of an answer that is known
-pub file_seen : (told : Option Files) (name : List ℕ) (answer : Result RulesFile StoreFault) (before now : ℕ) (file : RulesFile)
-    → (seen : RulesSeen told name answer before now) → answer ≡ Ok file → IsHeld (seen.files name) file
-file_seen told name answer before now file seen is = subst (λ (x : Result RulesFile StoreFault). IfOk x (IsHeld (seen.files name))) is seen.file
+pub file_seen : (told : Option Files) (name : List ℕ) (answer : Result RulesFile StoreFault) (before now calls_before calls_now : ℕ) (file : RulesFile)
+    → (seen : RulesSeen told name answer before now calls_before calls_now) → answer ≡ Ok file → IsHeld (seen.files name) file
+file_seen told name answer before now calls_before calls_now file seen is = subst (λ (x : Result RulesFile StoreFault). IfOk x (IsHeld (seen.files name))) is seen.file
 
-pub seen_as : (told : Option Files) (name : List ℕ) (answer : Result RulesFile StoreFault) (before now : ℕ) (file shape : RulesFile)
-    → (seen : RulesSeen told name answer before now) → answer ≡ Ok file → file ≡ shape → IsHeld (seen.files name) shape
-seen_as told name answer before now file shape seen is has = subst (λ (x : RulesFile). IsHeld (seen.files name) x) has (file_seen told name answer before now file seen is)
+pub seen_as : (told : Option Files) (name : List ℕ) (answer : Result RulesFile StoreFault) (before now calls_before calls_now : ℕ) (file shape : RulesFile)
+    → (seen : RulesSeen told name answer before now calls_before calls_now) → answer ≡ Ok file → file ≡ shape → IsHeld (seen.files name) shape
+seen_as told name answer before now calls_before calls_now file shape seen is has = subst (λ (x : RulesFile). IsHeld (seen.files name) x) has (file_seen told name answer before now calls_before calls_now file seen is)
 
 -- the rules of a name that holds nothing, a text that is too long, or a text
 pub missing_due : (held : Option (List ℕ)) → IsHeld held Missing → rules_held held ≡ Err MissingRules
@@ -126,8 +137,8 @@ fault_due held refusal.NoMemory stop e = subst (λ (s : Stop). GivesText held (E
 
 -- what was read is what the name gives in these files
 pub read_in : (name : List ℕ) (answer : Result RulesFile StoreFault) (result : Result RulesText Stop) (old new : StoreTold)
-    → (seen : RulesSeen old.files name answer old.asked new.asked) → GivesText (seen.files name) result → IsTextRead name result old new
-read_in name answer result old new seen due = record { files = seen.files; agrees = seen.agrees; due = due; asked = seen.asked }
+    → (seen : RulesSeen old.files name answer old.asked new.asked old.calls new.calls) → GivesText (seen.files name) result → IsTextRead name result old new
+read_in name answer result old new seen due = record { files = seen.files; agrees = seen.agrees; due = due; asked = seen.asked; calls = seen.calls }
 
 -- the rules of a text that was read, and why none was
 pub rules_due : (held : Option (List ℕ)) (read : RulesText) → GivesText held (Ok read) → rules_held held ≡ Ok read.rules

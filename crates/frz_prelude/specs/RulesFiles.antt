@@ -1,4 +1,5 @@
--- What a store's name holds as a rules file, how many bytes are asked of it, and the rules that it gives.
+-- What a store's name holds as a rules file, how many bytes are asked of it in how many calls, and the
+-- rules that it gives.
 use Rattle.std.specs.Prelude.{◌≡◌, ℕ, ◌<◌, ◌≤◌, ◌+◌, List, length, Option, Some, None, IsSomeAnd, IfSome, Result, Ok, Err, nat_lt, ⊤, if◌then◌else◌}
 use Rattle.frz_rules.specs.declared.fault.TheConstants.{LONGEST_TEXT}
 use Rattle.frz_rules.specs.declared.fault.RulesFault.{RulesFault}
@@ -30,6 +31,16 @@ abbrev pub asked_by : RulesFile → ℕ
 asked_by (Text text) = length text.items
 asked_by file = 0
 
+-- how often a file is read: once, but never where it is missing or too long
+abbrev pub reads_of : Option (List ℕ) → ℕ
+reads_of None = 0
+reads_of (Some bytes) = if nat_lt LONGEST_TEXT (length bytes) then 0 else 1
+
+-- so often it was read
+abbrev pub reads_by : RulesFile → ℕ
+reads_by (Text text) = 1
+reads_by file = 0
+
 -- the rules that were read, or their fault
 abbrev pub or_fault : Result RuleLines RulesFault → Result RuleLines Refusal
 or_fault (Ok r) = Ok r
@@ -53,6 +64,7 @@ pub record IsTextRead (name : List ℕ) (result : Result RulesText Stop) (old ne
   pub agrees : IfSome old.files (λ told. told ≡ files)
   pub due : GivesText (files name) result
   pub asked : new.asked ≤ old.asked + asked_of (files name)
+  pub calls : new.calls ≤ old.calls + (1 + reads_of (files name))
 
 -- the answer is that of the name in some files, which are those that the store tells where it does, and no more was
 -- asked of the store than they need
@@ -61,3 +73,4 @@ pub record IsRead (name : List ℕ) (result : Result RuleLines Stop) (old new : 
   pub agrees : IfSome old.files (λ told. told ≡ files)
   pub due : Answers result (rules_held (files name))
   pub asked : new.asked ≤ old.asked + asked_of (files name)
+  pub calls : new.calls ≤ old.calls + (1 + reads_of (files name))

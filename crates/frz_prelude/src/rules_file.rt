@@ -2,7 +2,7 @@
 ghost use Rattle.std.specs.Prelude.{◌≡◌, ◌+◌, ◌≤◌, IfOk, IfSome};
 ghost use Rattle.frz_store.specs.Outside.{FreeCauses};
 ghost use Rattle.frz_store.specs.Told.{store_of, StoreQuiet};
-ghost use Rattle.frz_prelude.specs.RulesFiles.{IsHeld, asked_of, asked_by};
+ghost use Rattle.frz_prelude.specs.RulesFiles.{IsHeld, asked_of, asked_by, reads_of, reads_by};
 
 use frz_rules::{LONGEST_TEXT, RulesCause, RulesFault};
 use frz_store::{Store, StoreFault};
@@ -34,6 +34,10 @@ pub fn read_rules_file<S: Store>(
     ensures causes { FreeCauses (S.faults store.old) (S.faults store.new)
         (S.wants store.old) (S.wants store.new) result }
     ensures calls { S.calls store.new ≤ S.calls store.old + 2 }
+    ensures calls_told { IfSome (S.files store.old)
+        (λ m. S.calls store.new ≤ S.calls store.old + (1 + reads_of (m name.now))) }
+    ensures calls_by { IfOk result
+        (λ file. S.calls store.new ≤ S.calls store.old + (1 + reads_by file)) }
 
     // What is asked of it.
     ensures asked { IfSome (S.files store.old)
