@@ -48,17 +48,17 @@ own_stop held stop due why is =
 
 -- where the rules file was not read
 pub stopped_at : (rules : List ℕ) (p : Board) (stop : Stop) (files : Files) (input : List ℕ) (old new : World)
-    → IsRead rules (Err stop) old.store new.store → new.store.calls ≤ old.store.calls + 2 → Agrees old files input
+    → IsRead rules (Err stop) old.store new.store → Agrees old files input
     → StopsWith (solving_at rules p) stop files input old new
-stopped_at rules p (Refused why) files input old new read calls agrees = record {
+stopped_at rules p (Refused why) files input old new read agrees = record {
   found = found_rules rules p read.files files input old read.agrees agrees;
   answer = is_refused_at p read.files rules why read.due;
-  costs = record { steps = tt; calls = calls; asked = read.asked };
+  costs = record { steps = tt; calls = read.calls; asked = read.asked };
 }
-stopped_at rules p (Fault fault) files input old new read calls agrees = record {
+stopped_at rules p (Fault fault) files input old new read agrees = record {
   found = found_rules rules p read.files files input old read.agrees agrees;
   some = some_solved_at p rules read.files;
-  costs = record { steps = tt; calls = calls; asked = read.asked };
+  costs = record { steps = tt; calls = read.calls; asked = read.asked };
 }
 
 module _ (r : RuleLines) (p : Board) (store : StoreTold) (input : SourceTold) (out : SinkTold) (before now : ℕ) where

@@ -1,5 +1,5 @@
 -- What the lines of `solve` mean in chess.
-use Rattle.std.specs.Prelude.{◌≡◌, ℕ, List, [], ◌∷◌, true, false, Some, None, Ok, Err}
+use Rattle.std.specs.Prelude.{◌≡◌, ℕ, ◌+◌, List, [], ◌∷◌, true, false, Some, None, Ok, Err}
 use Rattle.frz_store.specs.Files.{Files}
 use Rattle.frz_answer.specs.declared.status.Status.TheVariants.{Success, Rules, Outside, Missing}
 use Rattle.frz_answer.specs.declared.status.Status.{Status}
@@ -11,7 +11,7 @@ use Rattle.frz_board.specs.Boards.{Board}
 use Rattle.frz_fen.specs.Reading.{fen_of}
 use Rattle.frz_prelude.specs.Causes.{rules_line}
 use Rattle.frz_prelude.specs.Positions.{on_position}
-use Rattle.frz_prelude.specs.RulesFiles.{asked_of}
+use Rattle.frz_prelude.specs.RulesFiles.{asked_of, reads_of}
 use Rattle.frz_rules.specs.declared.fault.RulesFault.{RulesFault}
 use Rattle.frz_index.specs.Members.{Member}
 use Rattle.frz_sets.specs.Views.{RuleLines}
@@ -74,14 +74,14 @@ pub record MeansSolve (rules : List ℕ) (p : Board) (files : Files) (a : Answer
   pub untaken : a.taken ≡ 0
   pub says : MeansStatus rules p files a.status a.text
 
--- `solve` at a position: one `size` and one `read` of the rules file, of which nothing is asked where it is
+-- `solve` at a position: one `size` and one `read` of the rules file, which is not read where it is
 -- missing or too long
 abbrev pub solving_at : List ℕ → Board → Job
 solving_at rules p = record (plain (Success ∷ Rules ∷ Outside ∷ Missing ∷ [])
     (λ files input a. IsSolvedAt p rules files a)) {
       means = λ files input a. MeansSolve rules p files a;
       needs = record { store = true; reads = Once; input = false; memory = true };
-      costs = λ files input a. record { steps = None; calls = Some 2; asked = Some (asked_of (files rules)) };
+      costs = λ files input a. record { steps = None; calls = Some (1 + reads_of (files rules)); asked = Some (asked_of (files rules)) };
     }
 
 -- solve RULES FEN
