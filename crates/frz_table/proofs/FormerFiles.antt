@@ -1,5 +1,5 @@
 -- Opening files of the former format.
-use Rattle.std.proofs.Common.{◌≡◌, refl, sym, ap, subst, ◌∙◌, ℕ, ◌≤◌, List, length, Option, Bool, Ok, Err, IfSome, cond, arith}
+use Rattle.std.proofs.Common.{◌≡◌, refl, sym, ap, subst, ◌∙◌, ℕ, ◌≤◌, List, length, Bool, Ok, Err, cond, arith}
 use Rattle.std.proofs.lemmas.Bool.{le-ltb}
 use Rattle.frz_combinations.specs.Binomials.{capped}
 use Rattle.frz_sets.specs.Views.{RuleLines}
@@ -8,13 +8,10 @@ use Rattle.frz_index.specs.declared.old.TheConstants.{MOST_OLD_NUMBERS}
 use Rattle.frz_rules.specs.Text.{rules_of}
 use Rattle.frz_rules.specs.declared.fault.RulesCause.TheVariants.{SetTooBig}
 use Rattle.frz_rules.specs.declared.fault.RulesFault.{RulesFault}
-use Rattle.frz_board.specs.declared.man.Colour.TheVariants.{White, Black}
-use Rattle.frz_store.specs.Files.{Files}
-use Rattle.frz_table.specs.Layout.{codes_at}
-use Rattle.frz_table.specs.Numbers.{AreBytes, AreNumbers}
-use Rattle.frz_table.specs.OldFiles.{CarriesOld, MayKeepOld, OldTable, limited, limited_read, old_format, old_magic, old_rules_of, old_table_size}
+use Rattle.frz_table.specs.Numbers.{AreBytes}
+use Rattle.frz_table.specs.OldFiles.{limited, limited_read, old_format, old_magic, old_rules_of}
 use Rattle.frz_table.specs.Steps.{IsFormatOf}
-use Rattle.frz_table.proofs.SomeFiles.{AreCodes, holds_codes, read_short, short_bytes}
+use Rattle.frz_table.proofs.SomeFiles.{IsHead, read_short, short_bytes}
 
 -- a text whose rules have few numbers is read so
 few_numbers : (rules : RuleLines) → old_size_of rules.groups ≤ MOST_OLD_NUMBERS → limited rules ≡ Ok rules
@@ -40,27 +37,12 @@ pub old_eight : (magic : List ℕ) → magic ≡ old_magic → (length magic ≡
 old_eight magic is =
     (ap (length {A = ℕ}) is, subst (λ (l : List ℕ). AreBytes l) (sym is) (short_bytes old_magic refl))
 
--- the lists are codes that the file's name may hold
-pub may_keep_old : (files mid : Option Files) (table : OldTable) (white black : List ℕ) →
-    rules_of table.text ≡ Ok table.rules → AreBytes table.text →
-    old_table_size table ≤ MOST_OLD_NUMBERS → length white ≡ old_table_size table →
-    length black ≡ old_table_size table → AreNumbers white → AreNumbers black →
-    CarriesOld files table →
-    IfSome files (λ m. IfSome (m table.name) (λ bytes. white ≡ codes_at White table.text (old_table_size table) bytes)) →
-    mid ≡ files →
-    IfSome mid (λ m. IfSome (m table.name) (λ bytes. black ≡ codes_at Black table.text (old_table_size table) bytes)) →
-    MayKeepOld files table white black
-may_keep_old files mid table white black read are few w b white_fit black_fit held white_is is_mid black_is =
-    let codes : AreCodes old_magic table.text (old_table_size table) white black = record {
-      eight = refl;
-      magic_bytes = short_bytes old_magic refl;
-      text_bytes = are;
-      short = read_short table.text table.rules read;
-      fits = omega (arith, few);
-      white_long = w;
-      black_long = b;
-      white_fit = white_fit;
-      black_fit = black_fit;
-    } in
-    let k = holds_codes files mid table.name old_magic table.text (old_table_size table) white black codes held white_is is_mid black_is in
-    record { bytes = k.bytes; may = k.may; file = k.file; white_is = k.white_is; black_is = k.black_is }
+-- a file of the former format can have this text and this size
+pub old_head : (text : List ℕ) (rules : RuleLines) (size : ℕ) → rules_of text ≡ Ok rules → AreBytes text → size ≤ MOST_OLD_NUMBERS → IsHead old_magic text size
+old_head text rules size read are few = record {
+  eight = refl;
+  magic_bytes = short_bytes old_magic refl;
+  text_bytes = are;
+  short = read_short text rules read;
+  fits = omega (arith, few);
+}

@@ -6,7 +6,6 @@ use Rattle.std.specs.Result.{IsErrOf}
 use Rattle.std.specs.Int.{w32, to_le_bytes}
 use Rattle.std.proofs.lemmas.Bool.{ltb-true, ltb-false, lt-ltb, le-ltb, eq-eqb, ne_eqb}
 use Rattle.std.proofs.lemmas.List.{length-replicate}
-use Rattle.frz_board.specs.declared.man.Colour.{Colour}
 use Rattle.frz_board.specs.declared.man.Colour.TheVariants.{White, Black}
 use Rattle.frz_sets.specs.Views.{RuleLines}
 use Rattle.frz_rules.specs.Text.{rules_of, Fails, too_long}
@@ -22,12 +21,12 @@ use Rattle.frz_table.specs.declared.fault.TableFault.TheVariants.{Missing, Magic
 use Rattle.frz_table.specs.declared.kind.FileKind.{FileKind}
 use Rattle.frz_table.specs.declared.kind.FileKind.TheVariants.{Plain, Chained}
 use Rattle.frz_table.specs.Faults.{IsOutside, TableCauses, fault_of, rules_fault}
-use Rattle.frz_table.specs.Layout.{magic_of, due_length, header_of, file_of, codes_at, place_of}
-use Rattle.frz_table.specs.Numbers.{AreBytes, AreNumbers, number_at, numbers, number_bytes}
+use Rattle.frz_table.specs.Layout.{magic_of, due_length, header_of, file_of, codes_at}
+use Rattle.frz_table.specs.Numbers.{AreBytes, number_at, number_bytes}
 use Rattle.frz_table.specs.Opening.{Format, Contents, Refuses, opened, of_size, of_length, kept_length, kept_text, kept_size}
-use Rattle.frz_table.specs.Possible.{MayHold, MayOpen, MayRefuse, MayKeep, SomeRefused, SomeSizeRefused}
-use Rattle.frz_table.specs.Steps.{IsFormatOf, AllRefuse, HasText}
-use Rattle.frz_table.specs.Tables.{Table, Holds, IsTableFile, Carries, table_size}
+use Rattle.frz_table.specs.Possible.{MayKeepCodes, MayOpen, MayRefuse, SomeRefused, SomeSizeRefused}
+use Rattle.frz_table.specs.Steps.{IsFormatOf, AllRefuse, AreLoaded, HasText}
+use Rattle.frz_table.specs.Tables.{Holds, IsTableFile}
 use Rattle.frz_table.proofs.Belonging.{opens_by}
 use Rattle.frz_table.proofs.Files.{written_belongs, written_is_loaded}
 use Rattle.frz_table.proofs.Made.{AreBytes-append, AreBytes-number, AreBytes-number_bytes, AreBytes-zeros, begun, begun_bytes, begun_long, begun_kept, begun_begins, made, made_bytes, made_long, made_text, made_size, unlike, unlike_bytes, unlike_begins}
@@ -160,46 +159,46 @@ some_size magic text count size kept eight are are_text short enough fits differ
       refuses = λ rules. sized bytes text rules size false (ne_eqb (kept_size bytes) size (λ e. differs (sym is ∙ e))) ∙ ap at is;
     }
 
-pub some_due_cut : (magic text : List ℕ) (count size due : ℕ) → length magic ≡ 8 → AreBytes magic → AreBytes text → length text ≤ 65536 → 16 + length text ≤ count
-    → size < 2 ^ 32 → due ≡ due_length text size → count < due → SomeSizeRefused magic text count size (Truncated count due)
-some_due_cut magic text count size due eight are are_text short enough fits is_due cut =
+-- what so many bytes give where so many are due
+abbrev by_length : ℕ → ℕ → Contents → Given
+by_length count due contents =
+    cond (ltb count due) (Err (Truncated count due)) (cond (ltb due count) (Err (Extra count due)) (Ok contents))
+
+-- the size is the one kept, so the length decides
+some_due : (magic text : List ℕ) (count size due : ℕ) (fault : TableFault) → length magic ≡ 8 → AreBytes magic → AreBytes text → length text ≤ 65536 → 16 + length text ≤ count
+    → size < 2 ^ 32 → due ≡ due_length text size
+    → ((contents : Contents) (given : Given) → given ≡ by_length count due contents → Refuses given fault)
+    → SomeSizeRefused magic text count size fault
+some_due magic text count size due fault eight are are_text short enough fits is_due refused =
     let bytes : List ℕ = made magic text size count in
     let is : kept_size bytes ≡ size = made_size magic text size count eight short fits in
     let long : length bytes ≡ count = made_long magic text size count eight enough in
-    let at : ℕ → ℕ → Given = λ k d. Err (Truncated k d) in
     record {
       held = bytes;
       bytes = made_bytes magic text size count are are_text;
       has_text = made_text magic text size count eight short enough;
       refuses = λ rules.
           (let contents : Contents = record { text = text; rules = rules } in
-          let d : ℕ = due_length text size in
-          sized bytes text rules size true (eq-eqb (kept_size bytes) size is)
-          ∙ ap (λ (t : Bool). cond t (Err (Truncated (length bytes) d)) (cond (ltb d (length bytes)) (Err (Extra (length bytes) d)) (Ok contents)))
-          (lt-ltb (length bytes) d (omega (arith, long, is_due, cut)))
-          ∙ ap (λ (k : ℕ). at k d) long ∙ ap (at count) (sym is_due));
+          refused contents _
+          (sized bytes text rules size true (eq-eqb (kept_size bytes) size is)
+          ∙ ap (λ (k : ℕ). by_length k (due_length text size) contents) long
+          ∙ ap (λ (d : ℕ). by_length count d contents) (sym is_due)));
     }
+
+pub some_due_cut : (magic text : List ℕ) (count size due : ℕ) → length magic ≡ 8 → AreBytes magic → AreBytes text → length text ≤ 65536 → 16 + length text ≤ count
+    → size < 2 ^ 32 → due ≡ due_length text size → count < due → SomeSizeRefused magic text count size (Truncated count due)
+some_due_cut magic text count size due eight are are_text short enough fits is_due cut =
+    some_due magic text count size due (Truncated count due) eight are are_text short enough fits is_due
+    (λ contents given is. is
+    ∙ ap (λ (t : Bool). cond t (Err (Truncated count due)) (cond (ltb due count) (Err (Extra count due)) (Ok contents))) (lt-ltb count due cut))
 
 pub some_due_extra : (magic text : List ℕ) (count size due : ℕ) → length magic ≡ 8 → AreBytes magic → AreBytes text → length text ≤ 65536 → 16 + length text ≤ count
     → size < 2 ^ 32 → due ≡ due_length text size → due < count → SomeSizeRefused magic text count size (Extra count due)
 some_due_extra magic text count size due eight are are_text short enough fits is_due more =
-    let bytes : List ℕ = made magic text size count in
-    let is : kept_size bytes ≡ size = made_size magic text size count eight short fits in
-    let long : length bytes ≡ count = made_long magic text size count eight enough in
-    let at : ℕ → ℕ → Given = λ k d. Err (Extra k d) in
-    record {
-      held = bytes;
-      bytes = made_bytes magic text size count are are_text;
-      has_text = made_text magic text size count eight short enough;
-      refuses = λ rules.
-          (let contents : Contents = record { text = text; rules = rules } in
-          let d : ℕ = due_length text size in
-          sized bytes text rules size true (eq-eqb (kept_size bytes) size is)
-          ∙ ap (λ (t : Bool). cond t (Err (Truncated (length bytes) d)) (cond (ltb d (length bytes)) (Err (Extra (length bytes) d)) (Ok contents)))
-          (le-ltb (length bytes) d (omega (arith, long, is_due, more)))
-          ∙ ap (λ (t : Bool). cond t (Err (Extra (length bytes) d)) (Ok contents)) (lt-ltb d (length bytes) (omega (arith, long, is_due, more)))
-          ∙ ap (λ (k : ℕ). at k d) long ∙ ap (at count) (sym is_due));
-    }
+    some_due magic text count size due (Extra count due) eight are are_text short enough fits is_due
+    (λ contents given is. is
+    ∙ ap (λ (t : Bool). cond t (Err (Truncated count due)) (cond (ltb due count) (Err (Extra count due)) (Ok contents))) (le-ltb count due (omega (arith, more)))
+    ∙ ap (λ (t : Bool). cond t (Err (Extra count due)) (Ok contents)) (lt-ltb due count more))
 
 pub some_size_outside : (magic text : List ℕ) (count size : ℕ) (fault : TableFault) → length magic ≡ 8 → AreBytes magic → AreBytes text → length text ≤ 65536 → 16 + length text ≤ count
     → IsOutside fault → SomeSizeRefused magic text count size fault
@@ -322,35 +321,23 @@ short_bytes [] h i = lit< tt
 short_bytes (x ∷ xs) h zero = ltb-true x 256 (both (ltb x 256) (list_all (λ y. ltb y 256) xs) h).0
 short_bytes (x ∷ xs) h (suc i) = short_bytes xs (both (ltb x 256) (list_all (λ y. ltb y 256) xs) h).1 i
 
-magic_bytes : (kind : FileKind) → AreBytes (magic_of kind)
+pub magic_bytes : (kind : FileKind) → AreBytes (magic_of kind)
 magic_bytes Plain = short_bytes (magic_of Plain) refl
 magic_bytes Chained = short_bytes (magic_of Chained) refl
 
--- the name may hold a file of this text in which these are the codes
-pub record HoldsCodes (files : Option Files) (name magic text : List ℕ) (size : ℕ) (white black : List ℕ) : Type 0 where
-  pub bytes : List ℕ
-  pub may : MayHold files name (Some bytes)
-  pub file : IsTableFile magic text size bytes
-  pub white_is : codes_at White text size bytes ≡ white
-  pub black_is : codes_at Black text size bytes ≡ black
-
--- lists that can be the codes of a file of this text
-pub record AreCodes (magic text : List ℕ) (size : ℕ) (white black : List ℕ) : Type 0 where
+-- a magic, a text and a size that a file can have
+pub record IsHead (magic text : List ℕ) (size : ℕ) : Type 0 where
   pub eight : length magic ≡ 8
   pub magic_bytes : AreBytes magic
   pub text_bytes : AreBytes text
   pub short : length text ≤ 65536
   pub fits : size < 2 ^ 32
-  pub white_long : length white ≡ size
-  pub black_long : length black ≡ size
-  pub white_fit : AreNumbers white
-  pub black_fit : AreNumbers black
 
--- a file with these codes
-written_file : (name magic text : List ℕ) (size : ℕ) (white black : List ℕ) → AreCodes magic text size white black
-    → HoldsCodes None name magic text size white black
-written_file name magic text size white black h =
-    let codes = written_is_loaded magic text size white black h.eight h.white_long h.black_long h.white_fit h.black_fit in
+-- a file with the codes that were loaded
+written_file : (files : Option Files) (name magic text : List ℕ) (size : ℕ) (white black : List ℕ) → IsHead magic text size
+    → AreLoaded files name text size white black → MayKeepCodes None name magic text size white black
+written_file files name magic text size white black h l =
+    let codes = written_is_loaded magic text size white black h.eight l.white_long l.black_long l.white_fit l.black_fit in
     record {
       bytes = file_of magic text size white black;
       may =
@@ -359,67 +346,33 @@ written_file name magic text size white black h =
           (AreBytes-append (to_le_bytes w32 (length text)) (text ++ to_le_bytes w32 size) (AreBytes-number (length text))
           (AreBytes-append text (to_le_bytes w32 size) h.text_bytes (AreBytes-number size))))
           (AreBytes-append (number_bytes white) (number_bytes black) (AreBytes-number_bytes white) (AreBytes-number_bytes black));
-      file = written_belongs magic text size white black h.eight (omega (arith, h.short)) h.fits h.white_long h.black_long;
+      file = written_belongs magic text size white black h.eight (omega (arith, h.short)) h.fits l.white_long l.black_long;
       white_is = codes.0;
       black_is = codes.1;
     }
 
--- the lists are codes that the name may hold
-pub holds_codes : (files mid : Option Files) (name magic text : List ℕ) (size : ℕ) (white black : List ℕ) → AreCodes magic text size white black
-    → Holds files name (IsTableFile magic text size)
-    → IfSome files (λ m. IfSome (m name) (λ bytes. white ≡ codes_at White text size bytes))
-    → mid ≡ files
-    → IfSome mid (λ m. IfSome (m name) (λ bytes. black ≡ codes_at Black text size bytes))
-    → HoldsCodes files name magic text size white black
-holds_codes None mid name magic text size white black h held white_is is_mid black_is = written_file name magic text size white black h
-holds_codes (Some m) mid name magic text size white black h held white_is is_mid black_is =
-    by_held (m name) refl held white_is
-    (subst (λ (o : Option Files). IfSome o (λ (f : Files). IfSome (f name) (λ bytes. black ≡ codes_at Black text size bytes))) is_mid black_is)
+-- the codes that were loaded are codes that the name may hold
+pub may_keep : (files : Option Files) (name magic text : List ℕ) (size : ℕ) (white black : List ℕ) → IsHead magic text size
+    → Holds files name (IsTableFile magic text size) → AreLoaded files name text size white black
+    → MayKeepCodes files name magic text size white black
+may_keep None name magic text size white black h held l = written_file None name magic text size white black h l
+may_keep (Some m) name magic text size white black h held l = by_held (m name) refl held l.white_is l.black_is
   where
     by_held : (o : Option (List ℕ)) → m name ≡ o → IsSomeAnd o (IsTableFile magic text size)
         → IfSome o (λ bytes. white ≡ codes_at White text size bytes)
         → IfSome o (λ bytes. black ≡ codes_at Black text size bytes)
-        → HoldsCodes (Some m) name magic text size white black
+        → MayKeepCodes (Some m) name magic text size white black
     by_held None same f p q = absurd f
     by_held (Some bytes) same f p q = record { bytes = bytes; may = same; file = f; white_is = sym p; black_is = sym q }
 
--- a table's text and lists of its size
-table_codes : (table : Table) (white black : List ℕ) → rules_of table.text ≡ Ok table.rules → AreBytes table.text → table_size table < 2 ^ 32
-    → length white ≡ table_size table → length black ≡ table_size table → AreNumbers white → AreNumbers black
-    → AreCodes (magic_of table.kind) table.text (table_size table) white black
-table_codes table white black read are fits w b white_fit black_fit = record {
-  eight = magic_long table.kind;
-  magic_bytes = magic_bytes table.kind;
-  text_bytes = are;
-  short = read_short table.text table.rules read;
-  fits = fits;
-  white_long = w;
-  black_long = b;
-  white_fit = white_fit;
-  black_fit = black_fit;
-}
-
--- a file of the table with any codes
-pub table_file : (table : Table) (white black : List ℕ) → rules_of table.text ≡ Ok table.rules → AreBytes table.text → table_size table < 2 ^ 32
-    → length white ≡ table_size table → length black ≡ table_size table
-    → AreNumbers white → AreNumbers black
-    → MayKeep None table white black
-table_file table white black read are fits w b white_fit black_fit =
-    let k = written_file table.name (magic_of table.kind) table.text (table_size table) white black (table_codes table white black read are fits w b white_fit black_fit) in
-    record { bytes = k.bytes; may = k.may; file = k.file; white_is = k.white_is; black_is = k.black_is }
-
--- the lists are codes that the table's name may hold
-pub may_keep : (files mid : Option Files) (table : Table) (white black : List ℕ) → rules_of table.text ≡ Ok table.rules → AreBytes table.text → table_size table < 2 ^ 32
-    → length white ≡ table_size table → length black ≡ table_size table
-    → AreNumbers white → AreNumbers black
-    → Carries files table
-    → IfSome files (λ m. IfSome (m table.name) (λ bytes. white ≡ codes_at White table.text (table_size table) bytes))
-    → mid ≡ files
-    → IfSome mid (λ m. IfSome (m table.name) (λ bytes. black ≡ codes_at Black table.text (table_size table) bytes))
-    → MayKeep files table white black
-may_keep files mid table white black read are fits w b white_fit black_fit held white_is is_mid black_is =
-    let k = holds_codes files mid table.name (magic_of table.kind) table.text (table_size table) white black (table_codes table white black read are fits w b white_fit black_fit) held white_is is_mid black_is in
-    record { bytes = k.bytes; may = k.may; file = k.file; white_is = k.white_is; black_is = k.black_is }
+-- the same name, text and size
+pub loaded_as : {files : Option Files} {name held_name text held_text : List ℕ} {size held_size : ℕ} {white black : List ℕ}
+    → held_name ≡ name → held_text ≡ text → held_size ≡ size
+    → AreLoaded files held_name held_text held_size white black → AreLoaded files name text size white black
+loaded_as {files} {name} {held_name} {text} {held_text} {size} {held_size} {white} {black} named texts sizes h =
+    subst (λ (n : ℕ). AreLoaded files name text n white black) sizes
+    (subst (λ (t : List ℕ). AreLoaded files name t held_size white black) texts
+    (subst (λ (n : List ℕ). AreLoaded files n held_text held_size white black) named h))
 
 -- no more is asked for behind the text than four bytes
 pub later_asked : (files : Option Files) (name : List ℕ) (before mid now : ℕ) → now ≤ mid + 4
@@ -437,15 +390,6 @@ told_outside format (Some m) name = tt
 pub eight_bytes : (kind : FileKind) (magic : List ℕ) → magic ≡ magic_of kind → (length magic ≡ 8) × AreBytes magic
 eight_bytes kind magic is =
     (ap (length {A = ℕ}) is ∙ magic_long kind, subst (λ (l : List ℕ). AreBytes l) (sym is) (magic_bytes kind))
-
--- numbers that were read are the codes of a side
-pub codes_read : (o : Option Files) (name held_name : List ℕ) (side : Colour) (text : List ℕ) (size count place : ℕ) (list : List ℕ) → held_name ≡ name → count ≡ size → place ≡ place_of side text size
-    → IfSome o (λ m. IfSome (m held_name) (λ bytes. list ≡ numbers count (drop place bytes)))
-    → IfSome o (λ m. IfSome (m name) (λ bytes. list ≡ codes_at side text size bytes))
-codes_read o name held_name side text size count place list named many at h =
-    subst (λ (p : ℕ). IfSome o (λ (m : Files). IfSome (m name) (λ (bytes : List ℕ). list ≡ numbers size (drop p bytes)))) at
-    (subst (λ (n : ℕ). IfSome o (λ (m : Files). IfSome (m name) (λ (bytes : List ℕ). list ≡ numbers n (drop place bytes)))) many
-    (subst (λ (q : List ℕ). IfSome o (λ (m : Files). IfSome (m q) (λ (bytes : List ℕ). list ≡ numbers count (drop place bytes)))) named h))
 
 same_fault : {U : Type 0} (a b : TableFault) → IsErrOf {T = U} {E = TableFault} (Err a) b → a ≡ b
 same_fault a b is = cc

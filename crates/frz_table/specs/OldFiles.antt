@@ -1,6 +1,5 @@
 -- Table files of the former format: opened as others are, but with another magic and another size, which is limited.
-use Rattle.std.specs.Prelude.{◌≡◌, ℕ, ◌≤◌, nat_lt, List, Option, Some, Result, Ok, Err, codes, if◌then◌else◌}
-use Rattle.frz_board.specs.declared.man.Colour.TheVariants.{White, Black}
+use Rattle.std.specs.Prelude.{ℕ, ◌≤◌, nat_lt, List, Option, Result, Ok, Err, codes, if◌then◌else◌}
 use Rattle.frz_combinations.specs.Binomials.{capped}
 use Rattle.frz_sets.specs.Views.{RuleLines}
 use Rattle.frz_index.specs.OldNumbers.{old_size_of}
@@ -10,8 +9,7 @@ use Rattle.frz_rules.specs.declared.fault.RulesCause.TheVariants.{SetTooBig}
 use Rattle.frz_rules.specs.declared.fault.RulesFault.{RulesFault}
 use Rattle.frz_store.specs.Files.{Files}
 use Rattle.frz_table.specs.Opening.{Contents, Format}
-use Rattle.frz_table.specs.Possible.{MayHold}
-use Rattle.frz_table.specs.Layout.{codes_at}
+use Rattle.frz_table.specs.Possible.{MayKeepCodes}
 use Rattle.frz_table.specs.Tables.{Holds, IsRead, IsTableFile}
 
 -- the first eight bytes
@@ -61,9 +59,6 @@ abbrev pub CarriesOld : Option Files → OldTable → Type 0
 CarriesOld files table = Holds files table.name (IsOldFileOf table)
 
 -- the file's name may hold a file of its text in the former format with these codes
-pub record MayKeepOld (files : Option Files) (table : OldTable) (white black : List ℕ) : Type 0 where
-  pub bytes : List ℕ
-  pub may : MayHold files table.name (Some bytes)
-  pub file : IsOldFileOf table bytes
-  pub white_is : codes_at White table.text (old_table_size table) bytes ≡ white
-  pub black_is : codes_at Black table.text (old_table_size table) bytes ≡ black
+abbrev pub MayKeepOld : Option Files → OldTable → List ℕ → List ℕ → Type 0
+MayKeepOld files table white black =
+    MayKeepCodes files table.name old_magic table.text (old_table_size table) white black

@@ -50,7 +50,8 @@ of_size bytes contents size =
 
 abbrev pub with_rules : Format → List ℕ → Result RuleLines RulesFault → Result Contents TableFault
 with_rules format bytes (Err fault) = Err (Rules fault)
-with_rules format bytes (Ok rules) = of_size bytes (record { text = kept_text bytes; rules = rules }) (format.size rules)
+with_rules format bytes (Ok rules) =
+    of_size bytes (record { text = kept_text bytes; rules = rules }) (format.size rules)
 
 abbrev pub with_text : Format → List ℕ → Result Contents TableFault
 with_text format bytes =

@@ -4,11 +4,11 @@ use Rattle.std.specs.Option.{unwrap_or}
 use Rattle.frz_board.specs.declared.man.Colour.TheVariants.{White, Black}
 use Rattle.frz_store.specs.Files.{Files}
 use Rattle.frz_table.specs.declared.fault.TableFault.{TableFault}
-use Rattle.frz_table.specs.Layout.{codes_at}
+use Rattle.frz_table.specs.Layout.{codes_at, magic_of}
 use Rattle.frz_table.specs.Numbers.{AreBytes}
 use Rattle.frz_table.specs.Opening.{Format, Contents, Refuses, opened, kept_text}
 use Rattle.frz_table.specs.Steps.{IsFormatOf, HasText, SizeRefused}
-use Rattle.frz_table.specs.Tables.{Table, IsFileOf, table_size}
+use Rattle.frz_table.specs.Tables.{Table, IsTableFile, table_size}
 
 -- the name may hold this: what the store tells that it holds, and any bytes or none where it does not tell
 abbrev pub MayHold : Option Files → List ℕ → Option (List ℕ) → Type 0
@@ -30,19 +30,26 @@ pub record MayOpen (format : Format) (files : Option Files) (name : List ℕ) (c
   pub opens : opened format (Some bytes) ≡ Ok contents
 
 -- the name may hold what is refused so
-pub record MayRefuse (format : Format) (files : Option Files) (name : List ℕ) (before now : ℕ) (fault : TableFault) : Type 0 where
+pub record MayRefuse (format : Format) (files : Option Files) (name : List ℕ)
+    (before now : ℕ) (fault : TableFault) : Type 0 where
   pub held : Option (List ℕ)
   pub may : MayHold files name held
   pub refuses : Refuses (opened format held) fault
   pub asked : AskedFor held before now
 
--- the table's name may hold a file of the table with these codes
-pub record MayKeep (files : Option Files) (table : Table) (white black : List ℕ) : Type 0 where
+-- the name may hold a file of this magic, text and size with these codes
+pub record MayKeepCodes (files : Option Files) (name magic text : List ℕ)
+    (size : ℕ) (white black : List ℕ) : Type 0 where
   pub bytes : List ℕ
-  pub may : MayHold files table.name (Some bytes)
-  pub file : IsFileOf table bytes
-  pub white_is : codes_at White table.text (table_size table) bytes ≡ white
-  pub black_is : codes_at Black table.text (table_size table) bytes ≡ black
+  pub may : MayHold files name (Some bytes)
+  pub file : IsTableFile magic text size bytes
+  pub white_is : codes_at White text size bytes ≡ white
+  pub black_is : codes_at Black text size bytes ≡ black
+
+-- the table's name may hold a file of the table with these codes
+abbrev pub MayKeep : Option Files → Table → List ℕ → List ℕ → Type 0
+MayKeep files table white black =
+    MayKeepCodes files table.name (magic_of table.kind) table.text (table_size table) white black
 
 -- something is refused so by each format of this magic
 pub record SomeRefused (magic : List ℕ) (before now : ℕ) (fault : TableFault) : Type 0 where

@@ -1,11 +1,13 @@
--- What is known of a file after each step of opening it.
+-- What is known of a file after each step of opening it, and of its codes once they are loaded.
 use Rattle.std.specs.Prelude.{ℕ, ◌+◌, ◌≡◌, ◌≤◌, List, length, take, Option, Err, IfSome}
+use Rattle.frz_board.specs.declared.man.Colour.TheVariants.{White, Black}
 use Rattle.frz_sets.specs.Views.{RuleLines}
 use Rattle.frz_rules.specs.Text.{rules_of}
 use Rattle.frz_rules.specs.declared.fault.RulesFault.{RulesFault}
 use Rattle.frz_store.specs.Files.{Files}
 use Rattle.frz_table.specs.declared.fault.TableFault.{TableFault}
-use Rattle.frz_table.specs.Layout.{due_length}
+use Rattle.frz_table.specs.Layout.{codes_at, due_length}
+use Rattle.frz_table.specs.Numbers.{AreNumbers}
 use Rattle.frz_table.specs.Opening.{Format, Refuses, opened, kept_length, kept_size, kept_text, of_size}
 
 -- a format with this magic that refuses what the reader of rules refuses
@@ -15,7 +17,8 @@ pub record IsFormatOf (magic : List ℕ) (format : Format) : Type 0 where
 
 -- where the store tells, each format of this magic refuses the name so
 abbrev pub AllRefuse : List ℕ → Option Files → List ℕ → TableFault → Type 0
-AllRefuse magic files name fault = IfSome files (λ m. (format : Format) → IsFormatOf magic format → Refuses (opened format (m name)) fault)
+AllRefuse magic files name fault =
+    IfSome files (λ m. (format : Format) → IsFormatOf magic format → Refuses (opened format (m name)) fault)
 
 -- the magic is there, and so many bytes of so many are the text
 pub record HasHead (magic : List ℕ) (count text_count : ℕ) (bytes : List ℕ) : Type 0 where
@@ -37,4 +40,14 @@ pub record HasSize (text : List ℕ) (size : ℕ) (bytes : List ℕ) : Type 0 wh
 
 -- the last two steps refuse so
 abbrev pub SizeRefused : List ℕ → ℕ → TableFault → List ℕ → Type 0
-SizeRefused text size fault bytes = (rules : RuleLines) → Refuses (of_size bytes (record { text = text; rules = rules }) size) fault
+SizeRefused text size fault bytes =
+    (rules : RuleLines) → Refuses (of_size bytes (record { text = text; rules = rules }) size) fault
+
+-- the lists are both sides' codes in the file of this name, text and size, where the store tells
+pub record AreLoaded (files : Option Files) (name text : List ℕ) (size : ℕ) (white black : List ℕ) : Type 0 where
+  pub white_is : IfSome files (λ m. IfSome (m name) (λ bytes. white ≡ codes_at White text size bytes))
+  pub black_is : IfSome files (λ m. IfSome (m name) (λ bytes. black ≡ codes_at Black text size bytes))
+  pub white_long : length white ≡ size
+  pub black_long : length black ≡ size
+  pub white_fit : AreNumbers white
+  pub black_fit : AreNumbers black

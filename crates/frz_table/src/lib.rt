@@ -2,6 +2,7 @@
 //! set. Files are opened, read and written here; what the codes mean is not known here.
 #![tactic(auto)]
 
+mod codes;
 mod fault;
 mod head;
 mod kind;

@@ -4,12 +4,11 @@ ghost use Rattle.frz_board.specs.declared.man.Colour.TheVariants.{White, Black};
 ghost use Rattle.frz_store.specs.Outside.{IsNext, StoreCauses};
 ghost use Rattle.frz_store.specs.Told.{store_of, StoreQuiet};
 ghost use Rattle.frz_table.specs.Faults.{IsOutside, TableCauses};
-ghost use Rattle.frz_table.specs.Layout.{codes_at, pieces_of, place_of};
+ghost use Rattle.frz_table.specs.Layout.{codes_at, pieces_of};
 ghost use Rattle.frz_table.specs.Possible.{MayKeep};
 ghost use Rattle.frz_table.specs.Tables.{Carries, table_size};
 
-use crate::laws::numbers_fit;
-use crate::lists::load_numbers;
+use crate::codes::{codes_place, load_codes};
 use crate::numbers::read_number;
 use crate::{TableFault, TableFile};
 use frz_board::Colour;
@@ -17,17 +16,6 @@ use frz_store::{Store, StoreFault};
 use std::alloc::Global;
 
 impl TableFile {
-    /// Where the side's codes begin.
-    fn place(&self, side: Colour) -> u64
-        ensures { result ≡ place_of side self.now.text (table_size self.now) }
-    {
-        let front = 16 + self.text.len() as u64;
-        match side {
-            Colour::White => front,
-            Colour::Black => front + 4 * u64::from(self.set.size()),
-        }
-    }
-
     /// The code of the side at the number.
     pub fn entry<S: Store>(&self, store: &mut S, side: Colour, i: u32) -> Result<u32, StoreFault>
         requires number { i < table_size self.now }
@@ -40,7 +28,8 @@ impl TableFile {
         ensures causes { StoreCauses (S.faults store.old) (S.faults store.new)
             (S.wants store.old) (S.wants store.new) result }
     {
-        read_number(store, &self.name, self.place(side) + 4 * u64::from(i))
+        let place = codes_place(side, &self.text, self.set.size());
+        read_number(store, &self.name, place + 4 * u64::from(i))
     }
 
     /// White's codes and Black's, in order of number.
@@ -64,11 +53,6 @@ impl TableFile {
         ensures causes { TableCauses (S.faults store.old) (S.faults store.new)
             (S.wants store.old) (S.wants store.new) result }
     {
-        let size = self.set.size();
-        let white = load_numbers(alloc, store, &self.name, self.place(Colour::White), size)?;
-        let black = load_numbers(alloc, store, &self.name, self.place(Colour::Black), size)?;
-        numbers_fit(&white);
-        numbers_fit(&black);
-        Ok((white, black))
+        load_codes(alloc, store, &self.name, &self.text, self.set.size())
     }
 }

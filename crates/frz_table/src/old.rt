@@ -7,18 +7,16 @@ ghost use Rattle.frz_sets.specs.Sound.{IsSound};
 ghost use Rattle.frz_store.specs.Files.{bytes_at};
 ghost use Rattle.frz_store.specs.Told.{store_of, StoreQuiet};
 ghost use Rattle.frz_table.specs.Faults.{IsOutside, TableCauses};
-ghost use Rattle.frz_table.specs.Layout.{codes_at, pieces_of, place_of};
+ghost use Rattle.frz_table.specs.Layout.{codes_at, pieces_of};
 ghost use Rattle.frz_table.specs.OldFiles.{CarriesOld, MayKeepOld, limited, old_contents_of, old_format, old_magic, old_table_size};
 ghost use Rattle.frz_table.specs.Opening.{Refuses, kept_text, opened};
 ghost use Rattle.frz_table.specs.Possible.{MayOpen, MayRefuse};
 ghost use Rattle.frz_index.specs.declared.old.TheConstants.{MOST_OLD_NUMBERS};
 
 use crate::TableFault;
-use crate::laws::numbers_fit;
-use crate::lists::load_numbers;
+use crate::codes::load_codes;
 use crate::sizes::check_size;
 use crate::texts::open_text;
-use frz_board::Colour;
 use frz_index::{MOST_OLD_NUMBERS, old_size};
 use frz_rules::{Rules, RulesCause, RulesFault};
 use frz_store::Store;
@@ -137,17 +135,6 @@ impl OldFile {
         old_size(&self.rules) as u32
     }
 
-    /// Where the side's codes begin.
-    fn place(&self, side: Colour) -> u64
-        ensures { result ≡ place_of side self.now.text (old_table_size self.now) }
-    {
-        let front = 16 + self.text.len() as u64;
-        match side {
-            Colour::White => front,
-            Colour::Black => front + 4 * u64::from(self.size()),
-        }
-    }
-
     /// White's codes and Black's, in order of number.
     pub fn load<S: Store>(
         &self,
@@ -169,11 +156,6 @@ impl OldFile {
         ensures causes { TableCauses (S.faults store.old) (S.faults store.new)
             (S.wants store.old) (S.wants store.new) result }
     {
-        let size = self.size();
-        let white = load_numbers(alloc, store, &self.name, self.place(Colour::White), size)?;
-        let black = load_numbers(alloc, store, &self.name, self.place(Colour::Black), size)?;
-        numbers_fit(&white);
-        numbers_fit(&black);
-        Ok((white, black))
+        load_codes(alloc, store, &self.name, &self.text, self.size())
     }
 }

@@ -1,4 +1,4 @@
-use Rattle.std.proofs.Common.{◌≡◌, Ok, ◌∙◌, arith, rules}
+use Rattle.std.proofs.Common.{◌≡◌, Ok, arith}
 use Rattle.std.proofs.lemmas.Result.{err_from_is_err_and}
 use Rattle.frz_table.specs.OldFiles.{old_format, old_rules_of}
 use Rattle.frz_table.proofs.FormerFiles.{old_eight, old_is_format, old_read, old_refused}

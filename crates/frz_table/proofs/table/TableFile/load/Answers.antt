@@ -1,22 +1,23 @@
-use Rattle.std.proofs.Common.{◌≡◌, ◌∙◌, List, ap, subst, ℕ, Ok, arith}
-use Rattle.frz_board.specs.declared.man.Colour.TheVariants.{White, Black}
+use Rattle.std.proofs.Common.{◌≡◌, ◌∙◌, ap, subst, Ok, arith}
+use Rattle.std.proofs.lemmas.Result.{IfOk-weaker}
 use Rattle.frz_sets.specs.Sets.{size_of}
 use Rattle.frz_rules.specs.Text.{rules_of}
-use Rattle.frz_table.specs.Numbers.{AreBytes, AreNumbers}
+use Rattle.frz_table.specs.Layout.{magic_of}
+use Rattle.frz_table.specs.Numbers.{AreBytes}
 use Rattle.frz_table.specs.Tables.{Table, table_size}
-use Rattle.frz_table.proofs.SomeFiles.{codes_read, may_keep}
+use Rattle.frz_table.proofs.SomeFiles.{loaded_as, magic_bytes, magic_long, may_keep, read_short}
 use Rattle.frz_table.proofs.table.TableFile.load.Goals as goal
 
 pub returns-clause-may_keep : goal.returns-clause-may_keep
 returns-clause-may_keep g c =
     let table : Table = c.args.self.now in
-    let sized : c.size-size.result ≡ table_size table = c.size-size.ensures.size ∙ (ap size_of c.self.invariant.1 ∙ ap table_size c.self.view_is) in
-    let named = ap (λ (t : Table). t.name) c.self.view_is in
-    may_keep (g.S.Store.files c.args.store.now) (g.S.Store.files c.load_numbers.new.store) table c.in_ok-white.white.items c.in_ok-black.black.items
-    (subst (λ (t : Table). rules_of t.text ≡ Ok t.rules) c.self.view_is c.self.invariant.0.read)
-    (subst (λ (t : Table). AreBytes t.text) c.self.view_is c.self.invariant.0.bytes)
-    (omega (arith, sized)) (omega (arith, c.in_ok-white.ensures.length, sized)) (omega (arith, c.in_ok-black.ensures.length, sized))
-    (subst (λ (l : List ℕ). AreNumbers l) c.deref-3.ensures.value c.numbers_fit.ensures) (subst (λ (l : List ℕ). AreNumbers l) c.deref-4.ensures.value c.numbers_fit-2.ensures) c.requires
-    (codes_read (g.S.Store.files c.args.store.now) table.name c.deref.result.now White table.text (table_size table) c.size-size.result c.place.result c.in_ok-white.white.items (c.deref.ensures ∙ named) sized c.place.ensures c.in_ok-white.ensures.numbers)
-    c.load_numbers.ensures.quiet.unwritten.files
-    (codes_read (g.S.Store.files c.load_numbers.new.store) table.name c.deref-2.result.now Black table.text (table_size table) c.size-size.result c.place-2.result c.in_ok-black.black.items (c.deref-2.ensures ∙ named) sized c.place-2.ensures c.in_ok-black.ensures.numbers)
+    let named = c.deref.ensures ∙ ap (λ (t : Table). t.name) c.self.view_is in
+    let texts = c.deref-2.ensures.value ∙ ap (λ (t : Table). t.text) c.self.view_is in
+    let sized : c.size.result ≡ table_size table = c.size.ensures.size ∙ (ap size_of c.self.invariant.1 ∙ ap table_size c.self.view_is) in
+    let are : AreBytes table.text = subst (λ (t : Table). AreBytes t.text) c.self.view_is c.self.invariant.0.bytes in
+    let read : rules_of table.text ≡ Ok table.rules = subst (λ (t : Table). rules_of t.text ≡ Ok t.rules) c.self.view_is c.self.invariant.0.read in
+    IfOk-weaker c.load_codes.result _ _
+    (λ lists loaded. may_keep (g.S.Store.files c.args.store.now) table.name (magic_of table.kind) table.text (table_size table) _ _
+    (record { eight = magic_long table.kind; magic_bytes = magic_bytes table.kind; text_bytes = are; short = read_short table.text table.rules read; fits = omega (arith, sized) })
+    c.requires (loaded_as named texts sized loaded))
+    c.load_codes.ensures.loaded

@@ -1,0 +1,52 @@
+//! The codes of a table file: where those of a side begin, and both sides' codes read.
+ghost use Rattle.std.specs.Prelude.{◌≡◌, ◌+◌, ◌*◌, ◌≤◌, length, IfOk, IfErr};
+ghost use Rattle.frz_store.specs.Told.{store_of, StoreQuiet};
+ghost use Rattle.frz_table.specs.Faults.{IsOutside, TableCauses};
+ghost use Rattle.frz_table.specs.Layout.{due_length, pieces_of, place_of};
+ghost use Rattle.frz_table.specs.Steps.{AreLoaded};
+ghost use Rattle.frz_table.specs.Tables.{Holds};
+
+use crate::TableFault;
+use crate::laws::numbers_fit;
+use crate::lists::load_numbers;
+use frz_board::Colour;
+use frz_store::Store;
+use std::alloc::Global;
+
+/// Where the side's codes begin in a file of this text and this size.
+pub(crate) fn codes_place(side: Colour, text: &[u8], size: u32) -> u64
+    ensures { result ≡ place_of side text.now size }
+{
+    let front = 16 + text.len() as u64;
+    match side {
+        Colour::White => front,
+        Colour::Black => front + 4 * u64::from(size),
+    }
+}
+
+/// White's codes and Black's, in order of number, in the file of this name, text and size.
+pub(crate) fn load_codes<S: Store>(
+    alloc: Global,
+    store: &mut S,
+    name: &str,
+    text: &[u8],
+    size: u32,
+) -> Result<(Vec<u32>, Vec<u32>), TableFault>
+    requires { Holds (S.files store.old) name.now (λ bytes. length bytes ≡ due_length text.now size) }
+    ensures loaded { IfOk result (λ lists.
+        AreLoaded (S.files store.old) name.now text.now size lists.0.items lists.1.items) }
+    ensures quiet { StoreQuiet (store_of S.Store store.old) (store_of S.Store store.new) }
+    ensures asked { S.asked store.new ≤ S.asked store.old + 8 * size }
+    ensures calls { S.calls store.new ≤ S.calls store.old + 2 * pieces_of size }
+    ensures outside { IfErr result IsOutside }
+    ensures causes { TableCauses (S.faults store.old) (S.faults store.new)
+        (S.wants store.old) (S.wants store.new) result }
+{
+    let white_place = codes_place(Colour::White, text, size);
+    let white = load_numbers(alloc, store, name, white_place, size)?;
+    let black_place = codes_place(Colour::Black, text, size);
+    let black = load_numbers(alloc, store, name, black_place, size)?;
+    numbers_fit(&white);
+    numbers_fit(&black);
+    Ok((white, black))
+}
