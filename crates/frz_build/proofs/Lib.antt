@@ -1,1 +1,3 @@
-mod Writing
+pub mod Parts
+pub mod Built
+pub mod Lemmas

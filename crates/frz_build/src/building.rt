@@ -9,6 +9,7 @@ ghost use Rattle.frz_table.specs.Layout.{magic_of, pieces_of};
 ghost use Rattle.frz_table.specs.Numbers.{number_bytes};
 ghost use Rattle.frz_build.specs.Building.{Builds, writing_calls};
 
+use crate::{append_codes, begin_table};
 use frz_board::Colour;
 use frz_exits::ExitBook;
 use frz_game::Game;
@@ -16,7 +17,7 @@ use frz_game::laws::tables::tables;
 use frz_retro::Workshop;
 use frz_steps::Steps;
 use frz_store::{Failed, Store, StoreFault};
-use frz_table::{FileKind, write_entries, write_header_kind};
+use frz_table::FileKind;
 use std::alloc::Global;
 use std::sync::ledger::Ledger;
 
@@ -50,7 +51,7 @@ fn write_side<S: Store, B: ExitBook, L: Ledger>(
     ensures later { steps.old ≤ steps.new }
 {
     workshop.run_game(game, side, steps);
-    write_entries(store, workshop.entries())
+    append_codes(workshop.entries(), store)
 }
 
 /// Creates the file and writes it: the header, White's codes, then Black's. Gives the size.
@@ -77,9 +78,7 @@ fn write_table<S: Store, B: ExitBook, L: Ledger>(
 {
     tables();
     let size = game.set.size();
-    let due = 16 + file.text.len() as u64 + 8 * u64::from(size);
-    store.create(file.name, due)?;
-    write_header_kind(store, file.kind, file.text, size)?;
+    begin_table(file, size, store)?;
     write_side(game, Colour::White, workshop, store, steps)?;
     write_side(game, Colour::Black, workshop, store, steps)?;
     Ok(size)

@@ -3,5 +3,7 @@
 #![tactic(auto)]
 
 mod building;
+mod writing;
 
 pub use building::{NewTable, build_table};
+pub use writing::{append_codes, begin_table};
