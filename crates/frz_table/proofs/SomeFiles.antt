@@ -14,6 +14,7 @@ use Rattle.frz_rules.specs.declared.fault.RulesCause.TheVariants.{TooLong}
 use Rattle.frz_rules.specs.declared.fault.RulesError.{RulesError}
 use Rattle.frz_rules.specs.declared.fault.RulesError.TheVariants as reading
 use Rattle.frz_store.specs.Files.{Files, bytes_at}
+use Rattle.frz_store.specs.Told.{StoreTold}
 use Rattle.frz_store.specs.declared.outside.StoreFault.{StoreFault}
 use Rattle.frz_store.specs.declared.outside.StoreFault.TheVariants as store
 use Rattle.frz_table.specs.declared.fault.TableFault.{TableFault}
@@ -23,13 +24,14 @@ use Rattle.frz_table.specs.declared.kind.FileKind.TheVariants.{Plain, Chained}
 use Rattle.frz_table.specs.Faults.{IsOutside, TableCauses, fault_of, rules_fault}
 use Rattle.frz_table.specs.Layout.{magic_of, due_length, header_of, file_of, codes_at}
 use Rattle.frz_table.specs.Numbers.{AreBytes, number_at, number_bytes}
-use Rattle.frz_table.specs.Opening.{Format, Contents, Refuses, opened, of_size, of_length, kept_length, kept_text, kept_size}
-use Rattle.frz_table.specs.Possible.{MayKeepCodes, MayOpen, MayRefuse, SomeRefused, SomeSizeRefused}
+use Rattle.frz_table.specs.Opening.{Format, Contents, Refuses, opened, opening_calls, of_size, of_length, kept_length, kept_text, kept_size}
+use Rattle.frz_table.specs.Possible.{MayHold, MayKeepCodes, MayOpen, held_text, MayRefuse, SomeRefused, SomeSizeRefused}
 use Rattle.frz_table.specs.Steps.{IsFormatOf, AllRefuse, AreLoaded, HasText}
 use Rattle.frz_table.specs.Tables.{Holds, IsTableFile}
 use Rattle.frz_table.proofs.Belonging.{opens_by}
 use Rattle.frz_table.proofs.Files.{written_belongs, written_is_loaded}
 use Rattle.frz_table.proofs.Made.{AreBytes-append, AreBytes-number, AreBytes-number_bytes, AreBytes-zeros, begun, begun_bytes, begun_long, begun_kept, begun_begins, made, made_bytes, made_long, made_text, made_size, unlike, unlike_bytes, unlike_begins}
+use Rattle.frz_table.proofs.OpeningCalls.{one_call, two_calls, three_calls, four_calls, five_calls}
 use Rattle.frz_table.proofs.Refusing.{Given, refuse_missing, refuse_short, refuse_magic, refuse_long, refuse_cut, refuse_read, refuse_rules, refuse_size, IsCounted}
 
 -- a store that tells and holds this under each name
@@ -37,25 +39,30 @@ abbrev holding : Option (List ℕ) → Option Files
 holding held = Some (λ _. held)
 
 -- what is held and refused, where little was asked for
-few_asked : (magic : List ℕ) (before now : ℕ) (fault : TableFault) (held : Option (List ℕ)) → IfSome held AreBytes
-    → AllRefuse magic (holding held) [] fault → now ≤ before + 12 → SomeRefused magic before now fault
-few_asked magic before now fault held bytes refuses few =
-    record { held = held; bytes = bytes; refuses = refuses; asked = omega (arith, few) }
+few_asked : (magic : List ℕ) (old new : StoreTold) (fault : TableFault) (held : Option (List ℕ)) → IfSome held AreBytes
+    → AllRefuse magic (holding held) [] fault → new.asked ≤ old.asked + 12
+    → ((format : Format) → IsFormatOf magic format → new.calls ≤ old.calls + opening_calls format held) → SomeRefused magic old new fault
+few_asked magic old new fault held bytes refuses few calls =
+    record { held = held; bytes = bytes; refuses = refuses; asked = omega (arith, few); calls = calls }
 
-pub some_missing : (magic : List ℕ) (before now : ℕ) → now ≤ before + 12 → SomeRefused magic before now Missing
-some_missing magic before now few = few_asked magic before now Missing None tt (refuse_missing magic (holding None) [] refl) few
+pub some_missing : (magic : List ℕ) (old new : StoreTold) → new.asked ≤ old.asked + 12 → new.calls ≤ old.calls + 1 → SomeRefused magic old new Missing
+some_missing magic old new few calls =
+    few_asked magic old new Missing None tt (refuse_missing magic (holding None) [] refl) few
+    (λ format is. (let due = one_call format None in omega (arith, calls, due)))
 
-pub some_short : (magic : List ℕ) (before now count : ℕ) → now ≤ before + 12 → count < 16 → SomeRefused magic before now (Truncated count 16)
-some_short magic before now count few is_short =
+pub some_short : (magic : List ℕ) (old new : StoreTold) (count : ℕ) → new.asked ≤ old.asked + 12 → new.calls ≤ old.calls + 1 → count < 16 → SomeRefused magic old new (Truncated count 16)
+some_short magic old new count few calls is_short =
     let bytes : List ℕ = replicate count 0 in
-    few_asked magic before now (Truncated count 16) (Some bytes) (AreBytes-zeros count)
+    few_asked magic old new (Truncated count 16) (Some bytes) (AreBytes-zeros count)
     (refuse_short magic (holding (Some bytes)) [] count (ap Some (sym (length-replicate {A = ℕ} count 0))) is_short) few
+    (λ format is. (let due = one_call format (Some bytes) in omega (arith, calls, due)))
 
-pub some_magic : (magic : List ℕ) (before now : ℕ) → now ≤ before + 12 → SomeRefused magic before now Magic
-some_magic magic before now few =
+pub some_magic : (magic : List ℕ) (old new : StoreTold) → new.asked ≤ old.asked + 12 → new.calls ≤ old.calls + 2 → SomeRefused magic old new Magic
+some_magic magic old new few calls =
     let files : Option Files = holding (Some (unlike magic)) in
-    few_asked magic before now Magic (Some (unlike magic)) (unlike_bytes magic)
+    few_asked magic old new Magic (Some (unlike magic)) (unlike_bytes magic)
     (refuse_magic magic files files [] 16 false refl (omega arith) refl (sym (unlike_begins magic)) refl) few
+    (λ format is. (let due = two_calls format (unlike magic) (omega arith) in omega (arith, calls, due)))
 
 -- what is known of a file that is begun
 is_counted : (magic : List ℕ) (n count : ℕ) (rest : List ℕ) → length magic ≡ 8 → n < 2 ^ 32 → 12 + length rest ≡ count → 16 ≤ count
@@ -67,21 +74,29 @@ is_counted magic n count rest eight fits long enough = record {
   kept = begun_kept magic n rest eight fits;
 }
 
-pub some_long : (magic : List ℕ) (before now n : ℕ) → now ≤ before + 12 → length magic ≡ 8 → AreBytes magic → n < 2 ^ 32 → 65536 < n
-    → SomeRefused magic before now (Rules (record { line = 0; cause = TooLong }))
-some_long magic before now n few eight are fits long =
-    let bytes : List ℕ = begun magic n (replicate 4 0) in
-    few_asked magic before now (Rules (record { line = 0; cause = TooLong })) (Some bytes) (begun_bytes magic n (replicate 4 0) are (AreBytes-zeros 4))
-    (refuse_long magic (holding (Some bytes)) [] 16 n (is_counted magic n 16 (replicate 4 0) eight fits refl (omega arith)) long) few
+-- three calls at least where it is begun
+three_due : (magic : List ℕ) (old new : StoreTold) (count n : ℕ) (bytes : List ℕ) → IsCounted magic count n bytes → new.calls ≤ old.calls + 3
+    → (format : Format) → IsFormatOf magic format → new.calls ≤ old.calls + opening_calls format (Some bytes)
+three_due magic old new count n bytes h calls format is =
+    let due = three_calls format bytes (omega (arith, h.all, h.enough)) (h.begins ∙ sym is.magic_is) in omega (arith, calls, due)
 
-pub some_cut : (magic : List ℕ) (before now count n due : ℕ) → now ≤ before + 12 → length magic ≡ 8 → AreBytes magic → 16 ≤ count → n ≤ 65536 → due ≡ 16 + n → count < due
-    → SomeRefused magic before now (Truncated count due)
-some_cut magic before now count n due few eight are enough short is_due cut =
+pub some_long : (magic : List ℕ) (old new : StoreTold) (n : ℕ) → new.asked ≤ old.asked + 12 → new.calls ≤ old.calls + 3 → length magic ≡ 8 → AreBytes magic → n < 2 ^ 32 → 65536 < n
+    → SomeRefused magic old new (Rules (record { line = 0; cause = TooLong }))
+some_long magic old new n few calls eight are fits long =
+    let bytes : List ℕ = begun magic n (replicate 4 0) in
+    let counts = is_counted magic n 16 (replicate 4 0) eight fits refl (omega arith) in
+    few_asked magic old new (Rules (record { line = 0; cause = TooLong })) (Some bytes) (begun_bytes magic n (replicate 4 0) are (AreBytes-zeros 4))
+    (refuse_long magic (holding (Some bytes)) [] 16 n counts long) few (three_due magic old new 16 n bytes counts calls)
+
+pub some_cut : (magic : List ℕ) (old new : StoreTold) (count n due : ℕ) → new.asked ≤ old.asked + 12 → new.calls ≤ old.calls + 3 → length magic ≡ 8 → AreBytes magic → 16 ≤ count → n ≤ 65536 → due ≡ 16 + n → count < due
+    → SomeRefused magic old new (Truncated count due)
+some_cut magic old new count n due few calls eight are enough short is_due cut =
     let rest : List ℕ = replicate (count - 12) 0 in
     let bytes : List ℕ = begun magic n rest in
     let long : 12 + length rest ≡ count = omega (arith, length-replicate {A = ℕ} (count - 12) 0, enough) in
-    few_asked magic before now (Truncated count due) (Some bytes) (begun_bytes magic n rest are (AreBytes-zeros (count - 12)))
-    (refuse_cut magic (holding (Some bytes)) [] count n due (is_counted magic n count rest eight (omega (arith, short)) long enough) short is_due cut) few
+    let counts = is_counted magic n count rest eight (omega (arith, short)) long enough in
+    few_asked magic old new (Truncated count due) (Some bytes) (begun_bytes magic n rest are (AreBytes-zeros (count - 12)))
+    (refuse_cut magic (holding (Some bytes)) [] count n due counts short is_due cut) few (three_due magic old new count n bytes counts calls)
 
 pub outside_refuses : (given : Given) (fault : TableFault) → IsOutside fault → Refuses given fault
 outside_refuses given Missing h = absurd h
@@ -93,10 +108,16 @@ outside_refuses given (Size a b) h = absurd h
 outside_refuses given Failed h = tt
 outside_refuses given NoMemory h = tt
 
+-- four calls at least where there is a text
+four_due : (magic text : List ℕ) (old new : StoreTold) (count : ℕ) (bytes : List ℕ) → HasText magic text count bytes → new.calls ≤ old.calls + 4
+    → (format : Format) → IsFormatOf magic format → new.calls ≤ old.calls + opening_calls format (Some bytes)
+four_due magic text old new count bytes has calls format is =
+    let due = four_calls magic format count (length text) bytes is has.head in omega (arith, calls, due)
+
 -- where the store fails or memory is wanted, the text may be as long as texts can be
-outside_by : (magic : List ℕ) (before now : ℕ) (fault : TableFault) (text : List ℕ) → length magic ≡ 8 → AreBytes magic → AreBytes text → length text ≡ 65536
-    → IsOutside fault → now ≤ before + (16 + 65536) → SomeRefused magic before now fault
-outside_by magic before now fault text eight are are_text long outside few =
+outside_by : (magic : List ℕ) (old new : StoreTold) (fault : TableFault) (text : List ℕ) → length magic ≡ 8 → AreBytes magic → AreBytes text → length text ≡ 65536
+    → IsOutside fault → new.asked ≤ old.asked + (16 + 65536) → new.calls ≤ old.calls + 4 → SomeRefused magic old new fault
+outside_by magic old new fault text eight are are_text long outside few calls =
     let count : ℕ = 16 + length text in
     let bytes : List ℕ = made magic text 0 count in
     let has : HasText magic text count bytes = made_text magic text 0 count eight (omega (arith, long)) (omega arith) in
@@ -105,26 +126,27 @@ outside_by magic before now fault text eight are are_text long outside few =
       bytes = made_bytes magic text 0 count are are_text;
       refuses = λ format is. outside_refuses (opened format (Some bytes)) fault outside;
       asked = omega (arith, few, ap (length {A = ℕ}) has.text_is, long);
+      calls = four_due magic text old new count bytes has calls;
     }
 
 some_text : (n : ℕ) → (text : List ℕ) × (AreBytes text × (length text ≡ n))
 some_text n = (replicate n 0, (AreBytes-zeros n, length-replicate n 0))
 
-pub some_outside : (magic : List ℕ) (before now : ℕ) (fault : TableFault) → length magic ≡ 8 → AreBytes magic
-    → IsOutside fault → now ≤ before + (16 + 65536) → SomeRefused magic before now fault
-some_outside magic before now fault eight are outside few =
+pub some_outside : (magic : List ℕ) (old new : StoreTold) (fault : TableFault) → length magic ≡ 8 → AreBytes magic
+    → IsOutside fault → new.asked ≤ old.asked + (16 + 65536) → new.calls ≤ old.calls + 4 → SomeRefused magic old new fault
+some_outside magic old new fault eight are outside few calls =
     let t = some_text 65536 in
-    outside_by magic before now fault t.0 eight are t.1.0 t.1.1 outside few
+    outside_by magic old new fault t.0 eight are t.1.0 t.1.1 outside few calls
 
 pub fault_outside : (fault : StoreFault) → IsOutside (fault_of fault)
 fault_outside store.Failed = tt
 fault_outside store.NoMemory = tt
 
 -- the text is refused
-pub some_rules : (magic text : List ℕ) (before now : ℕ) (refused : RulesError) → length magic ≡ 8 → AreBytes magic → AreBytes text → length text ≤ 65536
-    → now ≤ before + (12 + length text) → Fails refused (rules_of text) → SomeRefused magic before now (rules_fault refused)
-some_rules magic text before now reading.NoMemory eight are are_text short few fails = some_outside magic before now NoMemory eight are tt (omega (arith, few, short))
-some_rules magic text before now (reading.Bad fault) eight are are_text short few fails =
+pub some_rules : (magic text : List ℕ) (old new : StoreTold) (refused : RulesError) → length magic ≡ 8 → AreBytes magic → AreBytes text → length text ≤ 65536
+    → new.asked ≤ old.asked + (12 + length text) → new.calls ≤ old.calls + 4 → Fails refused (rules_of text) → SomeRefused magic old new (rules_fault refused)
+some_rules magic text old new reading.NoMemory eight are are_text short few calls fails = some_outside magic old new NoMemory eight are tt (omega (arith, few, short)) calls
+some_rules magic text old new (reading.Bad fault) eight are are_text short few calls fails =
     let count : ℕ = 16 + length text in
     let bytes : List ℕ = made magic text 0 count in
     let has : HasText magic text count bytes = made_text magic text 0 count eight short (omega arith) in
@@ -136,6 +158,7 @@ some_rules magic text before now (reading.Bad fault) eight are are_text short fe
           refuse_rules magic files files [] count (length text) text (reading.Bad fault) has.head refl
           (sym has.text_is ∙ ap (λ (k : ℕ). take k (drop 12 bytes)) has.head.kept) fails;
       asked = omega (arith, few, ap (length {A = ℕ}) has.text_is);
+      calls = four_due magic text old new count bytes has calls;
     }
 
 -- the last two steps
@@ -212,53 +235,74 @@ some_size_outside magic text count size fault eight are are_text short enough ou
     }
 
 -- what the store tells, or else what is made
-pub may_refuse : (magic : List ℕ) (format : Format) (files : Option Files) (name : List ℕ) (before now : ℕ) (fault : TableFault) → IsFormatOf magic format
-    → IfSome files (λ m. Refuses (opened format (m name)) fault)
-    → IfSome files (λ m. now ≤ before + (16 + length (kept_text (bytes_at m name))))
-    → SomeRefused magic before now fault → MayRefuse format files name before now fault
-may_refuse magic format None name before now fault is told asked some =
-    record { held = some.held; may = some.bytes; refuses = some.refuses format is; asked = some.asked }
-may_refuse magic format (Some m) name before now fault is told asked some =
-    record { held = m name; may = refl; refuses = told; asked = asked }
+module _ (format : Format) (name : List ℕ) (old new : StoreTold) (fault : TableFault)
+    (told : IfSome old.files (λ m. Refuses (opened format (m name)) fault))
+    (asked : IfSome old.files (λ m. new.asked ≤ old.asked + (16 + length (kept_text (bytes_at m name)))))
+    (calls : IfSome old.files (λ m. new.calls ≤ old.calls + opening_calls format (m name))) where
+  told_or : (files : Option Files) → old.files ≡ files → IfSome files (λ m. Refuses (opened format (m name)) fault)
+      → IfSome files (λ m. new.asked ≤ old.asked + (16 + length (kept_text (bytes_at m name))))
+      → IfSome files (λ m. new.calls ≤ old.calls + opening_calls format (m name))
+      → ((held : Option (List ℕ)) × (IfSome held AreBytes × Refuses (opened format held) fault
+      × (new.asked ≤ old.asked + (16 + length (held_text held))) × (new.calls ≤ old.calls + opening_calls format held)))
+      → MayRefuse format name old new fault
+  told_or None is t a c some = record {
+    held = some.0;
+    may = subst (λ (o : Option Files). MayHold o name some.0) (sym is) some.1.0;
+    refuses = some.1.1;
+    asked = some.1.2;
+    calls = some.1.3;
+  }
+  told_or (Some m) is t a c some = record {
+    held = m name;
+    may = subst (λ (o : Option Files). MayHold o name (m name)) (sym is) refl;
+    refuses = t;
+    asked = a;
+    calls = c;
+  }
 
--- the last two steps refuse
-pub may_refuse_size : (format : Format) (magic text : List ℕ) (rules : RuleLines) (count size : ℕ) (files : Option Files) (name : List ℕ) (before now : ℕ) (fault : TableFault)
-    → IsFormatOf magic format → format.read text ≡ Ok rules → size ≡ format.size rules
-    → IfSome files (λ m. Refuses (opened format (m name)) fault)
-    → IfSome files (λ m. now ≤ before + (16 + length (kept_text (bytes_at m name))))
-    → now ≤ before + (16 + length text)
-    → SomeSizeRefused magic text count size fault → MayRefuse format files name before now fault
-may_refuse_size format magic text rules count size None name before now fault at read is told asked few some =
-    let files : Option Files = holding (Some some.held) in
-    record {
-      held = Some some.held;
-      may = some.bytes;
-      refuses = refuse_size format magic files files [] text rules count size fault at some.has_text refl some.refuses read is;
-      asked = omega (arith, few, ap (length {A = ℕ}) some.has_text.text_is);
-    }
-may_refuse_size format magic text rules count size (Some m) name before now fault at read is told asked few some =
-    record { held = m name; may = refl; refuses = told; asked = asked }
+  -- every format of this magic refuses
+  pub may_refuse : (magic : List ℕ) → IsFormatOf magic format → SomeRefused magic old new fault → MayRefuse format name old new fault
+  may_refuse magic is some =
+      told_or old.files refl told asked calls (some.held, (some.bytes, some.refuses format is, some.asked, some.calls format is))
+
+  -- the last two steps refuse
+  pub may_refuse_size : (magic text : List ℕ) (rules : RuleLines) (count size : ℕ) → IsFormatOf magic format → format.read text ≡ Ok rules → size ≡ format.size rules
+      → new.asked ≤ old.asked + (16 + length text) → new.calls ≤ old.calls + 5
+      → SomeSizeRefused magic text count size fault → MayRefuse format name old new fault
+  may_refuse_size magic text rules count size at read is few few_calls some =
+      let files : Option Files = holding (Some some.held) in
+      let due = five_calls magic text format rules count some.held at some.has_text read in
+      told_or old.files refl told asked calls (
+        Some some.held,
+        (
+          some.bytes,
+          refuse_size format magic files files [] text rules count size fault at some.has_text refl some.refuses read is,
+          omega (arith, few, ap (length {A = ℕ}) some.has_text.text_is),
+          omega (arith, few_calls, due),
+        ),
+      )
 
 -- the format refuses the text
-pub may_refuse_read : (format : Format) (magic text : List ℕ) (fault : RulesFault) (files : Option Files) (name : List ℕ) (before now : ℕ)
-    → IsFormatOf magic format → length magic ≡ 8 → AreBytes magic → AreBytes text → length text ≤ 65536
-    → format.read text ≡ Err fault
-    → IfSome files (λ m. Refuses (opened format (m name)) (Rules fault))
-    → IfSome files (λ m. now ≤ before + (16 + length (kept_text (bytes_at m name))))
-    → now ≤ before + (16 + length text)
-    → MayRefuse format files name before now (Rules fault)
-may_refuse_read format magic text fault None name before now is eight are are_text short read told asked few =
+pub may_refuse_read : (format : Format) (name : List ℕ) (old new : StoreTold) (fault : RulesFault)
+    → IfSome old.files (λ m. Refuses (opened format (m name)) (Rules fault))
+    → IfSome old.files (λ m. new.asked ≤ old.asked + (16 + length (kept_text (bytes_at m name))))
+    → IfSome old.files (λ m. new.calls ≤ old.calls + opening_calls format (m name))
+    → (magic text : List ℕ) → IsFormatOf magic format → length magic ≡ 8 → AreBytes magic → AreBytes text → length text ≤ 65536
+    → format.read text ≡ Err fault → new.asked ≤ old.asked + (16 + length text) → new.calls ≤ old.calls + 4
+    → MayRefuse format name old new (Rules fault)
+may_refuse_read format name old new fault told asked calls magic text is eight are are_text short read few few_calls =
     let count : ℕ = 16 + length text in
     let bytes : List ℕ = made magic text 0 count in
     let has : HasText magic text count bytes = made_text magic text 0 count eight short (omega arith) in
-    record {
-      held = Some bytes;
-      may = made_bytes magic text 0 count are are_text;
-      refuses = refuse_read format magic (holding (Some bytes)) [] text count fault is has read;
-      asked = omega (arith, few, ap (length {A = ℕ}) has.text_is);
-    }
-may_refuse_read format magic text fault (Some m) name before now is eight are are_text short read told asked few =
-    record { held = m name; may = refl; refuses = told; asked = asked }
+    told_or format name old new (Rules fault) told asked calls old.files refl told asked calls (
+      Some bytes,
+      (
+        made_bytes magic text 0 count are are_text,
+        refuse_read format magic (holding (Some bytes)) [] text count fault is has read,
+        omega (arith, few, ap (length {A = ℕ}) has.text_is),
+        four_due magic text old new count bytes has few_calls format is,
+      ),
+    )
 
 -- a file of this text that is long enough and has its size
 made_file : (magic text : List ℕ) (size : ℕ) → length magic ≡ 8 → length text ≤ 65536 → size < 2 ^ 32

@@ -3,10 +3,11 @@ use Rattle.std.specs.Prelude.{◌≡◌, ℕ, ◌+◌, ◌≤◌, List, [], leng
 use Rattle.std.specs.Option.{unwrap_or}
 use Rattle.frz_board.specs.declared.man.Colour.TheVariants.{White, Black}
 use Rattle.frz_store.specs.Files.{Files}
+use Rattle.frz_store.specs.Told.{StoreTold}
 use Rattle.frz_table.specs.declared.fault.TableFault.{TableFault}
 use Rattle.frz_table.specs.Layout.{codes_at, magic_of}
 use Rattle.frz_table.specs.Numbers.{AreBytes}
-use Rattle.frz_table.specs.Opening.{Format, Contents, Refuses, opened, kept_text}
+use Rattle.frz_table.specs.Opening.{Format, Contents, Refuses, opened, opening_calls, kept_text}
 use Rattle.frz_table.specs.Steps.{IsFormatOf, HasText, SizeRefused}
 use Rattle.frz_table.specs.Tables.{Table, IsTableFile, table_size}
 
@@ -29,13 +30,13 @@ pub record MayOpen (format : Format) (files : Option Files) (name : List ℕ) (c
   pub may : MayHold files name (Some bytes)
   pub opens : opened format (Some bytes) ≡ Ok contents
 
--- the name may hold what is refused so
-pub record MayRefuse (format : Format) (files : Option Files) (name : List ℕ)
-    (before now : ℕ) (fault : TableFault) : Type 0 where
+-- the name may hold what is refused so, and no more bytes and calls were asked of the store than open it
+pub record MayRefuse (format : Format) (name : List ℕ) (old new : StoreTold) (fault : TableFault) : Type 0 where
   pub held : Option (List ℕ)
-  pub may : MayHold files name held
+  pub may : MayHold old.files name held
   pub refuses : Refuses (opened format held) fault
-  pub asked : AskedFor held before now
+  pub asked : AskedFor held old.asked new.asked
+  pub calls : new.calls ≤ old.calls + opening_calls format held
 
 -- the name may hold a file of this magic, text and size with these codes
 pub record MayKeepCodes (files : Option Files) (name magic text : List ℕ)
@@ -51,12 +52,13 @@ abbrev pub MayKeep : Option Files → Table → List ℕ → List ℕ → Type 0
 MayKeep files table white black =
     MayKeepCodes files table.name (magic_of table.kind) table.text (table_size table) white black
 
--- something is refused so by each format of this magic
-pub record SomeRefused (magic : List ℕ) (before now : ℕ) (fault : TableFault) : Type 0 where
+-- something is refused so by each format of this magic, and opened by so many calls
+pub record SomeRefused (magic : List ℕ) (old new : StoreTold) (fault : TableFault) : Type 0 where
   pub held : Option (List ℕ)
   pub bytes : IfSome held AreBytes
   pub refuses : (format : Format) → IsFormatOf magic format → Refuses (opened format held) fault
-  pub asked : AskedFor held before now
+  pub asked : AskedFor held old.asked new.asked
+  pub calls : (format : Format) → IsFormatOf magic format → new.calls ≤ old.calls + opening_calls format held
 
 -- some bytes with this text are refused so by the last two steps
 pub record SomeSizeRefused (magic text : List ℕ) (count size : ℕ) (fault : TableFault) : Type 0 where

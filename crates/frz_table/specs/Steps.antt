@@ -8,7 +8,7 @@ use Rattle.frz_store.specs.Files.{Files}
 use Rattle.frz_table.specs.declared.fault.TableFault.{TableFault}
 use Rattle.frz_table.specs.Layout.{codes_at, due_length}
 use Rattle.frz_table.specs.Numbers.{AreNumbers}
-use Rattle.frz_table.specs.Opening.{Format, Refuses, opened, kept_length, kept_size, kept_text, of_size}
+use Rattle.frz_table.specs.Opening.{Format, Refuses, opened, opening_calls, kept_length, kept_size, kept_text, of_size}
 
 -- a format with this magic that refuses what the reader of rules refuses
 pub record IsFormatOf (magic : List ℕ) (format : Format) : Type 0 where
@@ -19,6 +19,11 @@ pub record IsFormatOf (magic : List ℕ) (format : Format) : Type 0 where
 abbrev pub AllRefuse : List ℕ → Option Files → List ℕ → TableFault → Type 0
 AllRefuse magic files name fault =
     IfSome files (λ m. (format : Format) → IsFormatOf magic format → Refuses (opened format (m name)) fault)
+
+-- where the store tells, each format of this magic opens the name by so many calls or more
+abbrev pub AllCall : List ℕ → Option Files → List ℕ → (before now : ℕ) → Type 0
+AllCall magic files name before now =
+    IfSome files (λ m. (format : Format) → IsFormatOf magic format → now ≤ before + opening_calls format (m name))
 
 -- the magic is there, and so many bytes of so many are the text
 pub record HasHead (magic : List ℕ) (count text_count : ℕ) (bytes : List ℕ) : Type 0 where

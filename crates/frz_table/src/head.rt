@@ -6,7 +6,7 @@ ghost use Rattle.frz_store.specs.Outside.{IsNext, StoreCauses};
 ghost use Rattle.frz_store.specs.Told.{store_of, StoreQuiet};
 ghost use Rattle.frz_table.specs.Faults.{TableCauses};
 ghost use Rattle.frz_table.specs.Possible.{SomeRefused};
-ghost use Rattle.frz_table.specs.Steps.{AllRefuse, HasHead};
+ghost use Rattle.frz_table.specs.Steps.{AllCall, AllRefuse, HasHead};
 ghost use Rattle.frz_table.specs.Tables.{Holds};
 
 use crate::TableFault;
@@ -51,10 +51,12 @@ pub(crate) fn read_head<S: Store>(
     ensures short { IfOk result (λ h. h.text ≤ 65536) }
     ensures fits { IfOk result (λ h. 16 + h.text ≤ h.file) }
     ensures refused { IfErr result (AllRefuse magic.now (S.files store.old) name.now) }
-    ensures some_refused { IfErr result (SomeRefused magic.now (S.asked store.old) (S.asked store.new)) }
+    ensures some_refused { IfErr result (SomeRefused magic.now
+        (store_of S.Store store.old) (store_of S.Store store.new)) }
     ensures quiet { StoreQuiet (store_of S.Store store.old) (store_of S.Store store.new) }
     ensures asked { S.asked store.new ≤ S.asked store.old + 12 }
     ensures calls { S.calls store.new ≤ S.calls store.old + 3 }
+    ensures calls_told { AllCall magic.now (S.files store.old) name.now (S.calls store.old) (S.calls store.new) }
     ensures causes { TableCauses (S.faults store.old) (S.faults store.new)
         (S.wants store.old) (S.wants store.new) result }
 {

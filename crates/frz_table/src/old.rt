@@ -73,8 +73,8 @@ pub fn open_old<S: Store>(alloc: Global, store: &mut S, name: &str) -> Result<Ol
     ensures refused { IfErr result (λ f. IfSome (S.files store.old)
         (λ m. Refuses (opened old_format (m name.now)) f)) }
     ensures may_open { IfOk result (λ t. MayOpen old_format (S.files store.old) name.now (old_contents_of t)) }
-    ensures may_refuse { IfErr result (MayRefuse old_format (S.files store.old) name.now
-        (S.asked store.old) (S.asked store.new)) }
+    ensures may_refuse { IfErr result (MayRefuse old_format name.now
+        (store_of S.Store store.old) (store_of S.Store store.new)) }
     ensures name { IfOk result (λ t. t.name ≡ name.now) }
     ensures carries { IfOk result (CarriesOld (S.files store.new)) }
 

@@ -28,8 +28,8 @@ pub fn open_kind<S: Store>(
     ensures refused { IfErr result (λ f. IfSome (S.files store.old)
         (λ m. Refuses (opened (table_format kind) (m name.now)) f)) }
     ensures may_open { IfOk result (λ t. MayOpen (table_format kind) (S.files store.old) name.now (contents_of t)) }
-    ensures may_refuse { IfErr result (MayRefuse (table_format kind) (S.files store.old) name.now
-        (S.asked store.old) (S.asked store.new)) }
+    ensures may_refuse { IfErr result (MayRefuse (table_format kind) name.now
+        (store_of S.Store store.old) (store_of S.Store store.new)) }
     ensures name { IfOk result (λ t. t.name ≡ name.now) }
     ensures kind { IfOk result (λ t. t.kind ≡ kind) }
     ensures carries { IfOk result (Carries (S.files store.new)) }
@@ -68,8 +68,8 @@ pub fn open_table<S: Store>(
     ensures refused { IfErr result (λ f. IfSome (S.files store.old)
         (λ m. Refuses (opened (table_format Plain) (m name.now)) f)) }
     ensures may_open { IfOk result (λ t. MayOpen (table_format Plain) (S.files store.old) name.now (contents_of t)) }
-    ensures may_refuse { IfErr result (MayRefuse (table_format Plain) (S.files store.old) name.now
-        (S.asked store.old) (S.asked store.new)) }
+    ensures may_refuse { IfErr result (MayRefuse (table_format Plain) name.now
+        (store_of S.Store store.old) (store_of S.Store store.new)) }
     ensures name { IfOk result (λ t. t.name ≡ name.now) }
     ensures kind { IfOk result (λ t. t.kind ≡ Plain) }
     ensures carries { IfOk result (Carries (S.files store.new)) }

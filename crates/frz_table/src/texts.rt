@@ -6,7 +6,7 @@ ghost use Rattle.frz_store.specs.Told.{store_of, StoreQuiet};
 ghost use Rattle.frz_table.specs.Faults.{TableCauses};
 ghost use Rattle.frz_table.specs.Opening.{kept_text};
 ghost use Rattle.frz_table.specs.Possible.{SomeRefused};
-ghost use Rattle.frz_table.specs.Steps.{AllRefuse, HasText};
+ghost use Rattle.frz_table.specs.Steps.{AllCall, AllRefuse, HasText};
 ghost use Rattle.frz_table.specs.Tables.{Holds, IsRead};
 
 use crate::TableFault;
@@ -61,13 +61,15 @@ pub(crate) fn open_text<S: Store>(
     ensures short { IfOk result (λ t. length t.text.items ≤ 65536) }
     ensures fits { IfOk result (λ t. 16 + length t.text.items ≤ t.file) }
     ensures refused { IfErr result (AllRefuse magic.now (S.files store.old) name.now) }
-    ensures some_refused { IfErr result (SomeRefused magic.now (S.asked store.old) (S.asked store.new)) }
+    ensures some_refused { IfErr result (SomeRefused magic.now
+        (store_of S.Store store.old) (store_of S.Store store.new)) }
     ensures quiet { StoreQuiet (store_of S.Store store.old) (store_of S.Store store.new) }
     ensures asked { IfOk result (λ t. S.asked store.new ≤ S.asked store.old + (12 + length t.text.items)) }
     ensures asked_told { IfSome (S.files store.old) (λ m. S.asked store.new
         ≤ S.asked store.old + (12 + length (kept_text (bytes_at m name.now)))) }
     ensures asked_bound { S.asked store.new ≤ S.asked store.old + (12 + 65536) }
     ensures calls { S.calls store.new ≤ S.calls store.old + 4 }
+    ensures calls_told { AllCall magic.now (S.files store.old) name.now (S.calls store.old) (S.calls store.new) }
     ensures causes { TableCauses (S.faults store.old) (S.faults store.new)
         (S.wants store.old) (S.wants store.new) result }
 {

@@ -2,6 +2,7 @@ use Rattle.std.proofs.Common.{List, ℕ, subst, arith, rules}
 use Rattle.std.proofs.lemmas.Result.{err_from_is_err_and}
 use Rattle.frz_rules.specs.Text.{rules_of, Fails}
 use Rattle.frz_table.specs.Numbers.{AreBytes}
+use Rattle.frz_table.proofs.OpeningCalls.{all_call_head}
 use Rattle.frz_table.proofs.Refusing.{refuse_rules}
 use Rattle.frz_table.proofs.SomeFiles.{fault_outside, some_outside, some_rules}
 use Rattle.frz_table.proofs.texts.open_text.Goals as goal
@@ -17,11 +18,20 @@ pub returns-in_err-text-clause-some_refused : goal.returns-in_err-text-clause-so
 returns-in_err-text-clause-some_refused g c =
     let p = err_from_is_err_and c.from_residual-in_err-text.result c.from_residual-in_err-text.ensures.1 in
     rw (p.1, p.2)
-    (some_outside c.args.magic.now _ _ _ (search rules) (search rules) (fault_outside c.in_err-text.field-0.0) (omega (arith, c.in_ok-head.ensures.short)))
+    (some_outside c.args.magic.now _ _ _ (search rules) (search rules) (fault_outside c.in_err-text.field-0.0) (omega (arith, c.in_ok-head.ensures.short)) (omega arith))
 
 pub returns-in_err-rules-clause-some_refused : goal.returns-in_err-rules-clause-some_refused
 returns-in_err-rules-clause-some_refused g c =
     let p = err_from_is_err_and c.from_residual-in_err-rules.result c.from_residual-in_err-rules.ensures.1 in
     rw (p.1, p.2)
-    (some_rules c.args.magic.now c.in_ok-text.text.items _ _ c.in_err-rules.field-0.0 (search rules) (search rules) (subst (λ (t : List ℕ). AreBytes t) c.deref.ensures.value c.bytes_fit.ensures) (omega (arith, c.in_ok-text.ensures.length, c.in_ok-head.ensures.short)) (omega (arith, c.in_ok-text.ensures.length))
+    (some_rules c.args.magic.now c.in_ok-text.text.items _ _ c.in_err-rules.field-0.0 (search rules) (search rules) (subst (λ (t : List ℕ). AreBytes t) c.deref.ensures.value c.bytes_fit.ensures) (omega (arith, c.in_ok-text.ensures.length, c.in_ok-head.ensures.short)) (omega (arith, c.in_ok-text.ensures.length)) (omega arith)
     (subst (λ (t : List ℕ). Fails c.in_err-rules.field-0.0 (rules_of t)) c.deref-2.ensures.value c.in_err-rules.ensures.exact))
+
+pub returns-in_err-text-clause-calls_told : goal.returns-in_err-text-clause-calls_told
+returns-in_err-text-clause-calls_told g c = all_call_head _ _ _ _ _ _ _ c.in_ok-head.ensures.head (omega arith)
+
+pub returns-in_err-rules-clause-calls_told : goal.returns-in_err-rules-clause-calls_told
+returns-in_err-rules-clause-calls_told g c = all_call_head _ _ _ _ _ _ _ c.in_ok-head.ensures.head (omega arith)
+
+pub returns-clause-calls_told : goal.returns-clause-calls_told
+returns-clause-calls_told g c = all_call_head _ _ _ _ _ _ _ c.in_ok-head.ensures.head (omega arith)
