@@ -18,10 +18,10 @@ use Rattle.frz_table.specs.declared.kind.FileKind.{FileKind}
 use Rattle.frz_table.specs.declared.kind.FileKind.TheVariants.{Plain}
 use Rattle.frz_table.specs.Faults.{IsOutside}
 use Rattle.frz_table.specs.Layout.{pieces_of}
-use Rattle.frz_table.specs.Opening.{Contents, contents_of, kept_text, opened, table_format}
+use Rattle.frz_table.specs.Opening.{Contents, contents_of, kept_text, opened, opening_calls, table_format}
 use Rattle.frz_table.specs.Possible.{MayHold, MayKeep, MayOpen}
 use Rattle.frz_table.specs.Tables.{Table, IsTableFile, table_size}
-use Rattle.frz_table.proofs.Lemmas.{belongs, opens_by, outside_refuses, read_short}
+use Rattle.frz_table.proofs.Lemmas.{belongs, opened_calls, opens_by, outside_refuses, read_short}
 use Rattle.frz_game.specs.Bounds.{IsTableOf}
 use Rattle.frz_game.specs.Games.{graph_by}
 use Rattle.frz_check.specs.declared.verdict.Verdict.{Verdict}
@@ -90,14 +90,15 @@ within_file bytes contents old mid new steps_before steps_now opens asked calls 
     let file = belongs (table_format Plain) bytes contents opens in
     let text : length (kept_text bytes) ≡ length contents.text = ap (length {A = ℕ}) (text_kept _ contents.text size bytes file.file) in
     let pieces : pieces_of (opened_size (opened (table_format Plain) (Some bytes))) ≡ pieces_of size = ap pieces_of is in
+    let first = opened_calls (table_format Plain) bytes contents opens in
     record {
       steps = omega (arith, is, steps);
       asked = omega (arith, is, text, asked, more_asked);
-      calls = calls_within (pieces_of (opened_size (opened (table_format Plain) (Some bytes)))) (pieces_of size) pieces calls more_calls;
+      calls = calls_within (pieces_of (opened_size (opened (table_format Plain) (Some bytes)))) (pieces_of size) (opening_calls (table_format Plain) (Some bytes)) pieces first calls more_calls;
     }
   where
-    calls_within : (due pieces : ℕ) → due ≡ pieces → mid.calls ≤ old.calls + 5 → new.calls ≤ mid.calls + 2 * pieces → new.calls ≤ old.calls + (5 + 2 * due)
-    calls_within due pieces same few more = omega (arith, same, few, more)
+    calls_within : (due pieces first : ℕ) → due ≡ pieces → first ≡ 5 → mid.calls ≤ old.calls + 5 → new.calls ≤ mid.calls + 2 * pieces → new.calls ≤ old.calls + (first + 2 * due)
+    calls_within due pieces first same five few more = omega (arith, same, five, few, more)
 
 -- the table that was opened is the one in the file
 pub file_checked : (files : Option Files) (table : Table) (rules : RuleLines) (name : List ℕ) (old mid new : StoreTold) (steps_before steps_now : ℕ) (v : Verdict) →

@@ -26,7 +26,8 @@ IsCompared side number kept given (Some wrong) =
     (kept ≢ given) × (wrong ≡ record { side = side; number = number; kept = kept; given = given })
 
 -- the entry at this number is wrong, and if it is Black's, White's is not
-pub record IsWrongAt {M V : Type 0} (arena : Arena M ℕ V) (codes : Colour → List ℕ) (number : ℕ) (wrong : Wrong) : Type 0 where
+pub record IsWrongAt {M V : Type 0} (arena : Arena M ℕ V) (codes : Colour → List ℕ)
+    (number : ℕ) (wrong : Wrong) : Type 0 where
   pub here : wrong.number ≡ number
   pub kept : wrong.kept ≡ kept_code codes wrong.side number
   pub given : wrong.given ≡ given_code arena codes wrong.side number

@@ -11,7 +11,7 @@ use Rattle.frz_table.specs.declared.fault.TableFault.{TableFault}
 use Rattle.frz_table.specs.declared.kind.FileKind.{FileKind}
 use Rattle.frz_table.specs.declared.kind.FileKind.TheVariants.{Plain}
 use Rattle.frz_table.specs.Layout.{codes_at, magic_of, pieces_of}
-use Rattle.frz_table.specs.Opening.{Contents, Refuses, contents_of, table_format, opened}
+use Rattle.frz_table.specs.Opening.{Contents, Refuses, contents_of, table_format, opened, opening_calls}
 use Rattle.frz_table.specs.Numbers.{AreBytes}
 use Rattle.frz_table.specs.Possible.{MayHold, held_text}
 use Rattle.frz_table.specs.Tables.{Table, IsFileOf}
@@ -26,7 +26,8 @@ kept_codes contents bytes side = codes_at side contents.text (size_of contents.r
 
 -- the verdict on bytes that open so, by the values of a book; it is exact just where byte by byte they
 -- are the one file of their text
-pub record IsVerdictOn (kind : FileKind) (value : Board → Value) (contents : Contents) (bytes : List ℕ) (verdict : Verdict) : Type 0 where
+pub record IsVerdictOn (kind : FileKind) (value : Board → Value) (contents : Contents)
+    (bytes : List ℕ) (verdict : Verdict) : Type 0 where
   pub codes : IsVerdict contents.rules value (kept_codes contents bytes) verdict
   pub one_file : AreBytes bytes →
       (verdict ≡ Exact) ↔ IsOneFile (magic_of kind) contents.text contents.rules value bytes
@@ -48,10 +49,12 @@ pub record WithinFile (held : Option (List ℕ)) (old new : StoreTold) (steps_be
   pub steps : steps_now ≤ steps_before + opened_size (opened (table_format Plain) held)
   pub asked : new.asked ≤
       old.asked + (16 + length (held_text held) + 8 * opened_size (opened (table_format Plain) held))
-  pub calls : new.calls ≤ old.calls + (5 + 2 * pieces_of (opened_size (opened (table_format Plain) held)))
+  pub calls : new.calls ≤
+      old.calls + (opening_calls (table_format Plain) held + 2 * pieces_of (opened_size (opened (table_format Plain) held)))
 
 -- the verdict on a plain table that the name may hold
-pub record ChecksFile (name : List ℕ) (old new : StoreTold) (steps_before steps_now : ℕ) (verdict : Verdict) : Type 0 where
+pub record ChecksFile (name : List ℕ) (old new : StoreTold) (steps_before steps_now : ℕ)
+    (verdict : Verdict) : Type 0 where
   pub bytes : List ℕ
   pub may : MayHold old.files name (Some bytes)
   pub contents : Contents
@@ -60,7 +63,8 @@ pub record ChecksFile (name : List ℕ) (old new : StoreTold) (steps_before step
   pub within : WithinFile (Some bytes) old new steps_before steps_now
 
 -- the name may hold what is refused so
-pub record RefusesFile (name : List ℕ) (old new : StoreTold) (steps_before steps_now : ℕ) (fault : TableFault) : Type 0 where
+pub record RefusesFile (name : List ℕ) (old new : StoreTold) (steps_before steps_now : ℕ)
+    (fault : TableFault) : Type 0 where
   pub held : Option (List ℕ)
   pub may : MayHold old.files name held
   pub refuses : Refuses (opened (table_format Plain) held) fault

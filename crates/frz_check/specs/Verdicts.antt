@@ -29,7 +29,8 @@ AgreeAt arena codes i = (side : Colour) → kept_code codes side i ≡ given_cod
 
 -- this entry differs from its local code, and all before it agree: those of both sides at smaller
 -- numbers, and White's before Black's at one number
-pub record IsFirstWrong {M V : Type 0} (arena : Arena M ℕ V) (size : ℕ) (codes : Colour → List ℕ) (wrong : Wrong) : Type 0 where
+pub record IsFirstWrong {M V : Type 0} (arena : Arena M ℕ V) (size : ℕ)
+    (codes : Colour → List ℕ) (wrong : Wrong) : Type 0 where
   pub inside : wrong.number < size
   pub kept : wrong.kept ≡ kept_code codes wrong.side wrong.number
   pub given : wrong.given ≡ given_code arena codes wrong.side wrong.number

@@ -52,7 +52,7 @@ pub fn check_kept<B: ExitBook, S: Store, L: Ledger>(
 }
 
 /// Opens a plain table and checks its codes, with the values of its own exit lines outside. The
-/// calls of the store are the five of opening and those of `load`, and the steps at most the size.
+/// calls of the store are those of opening and of `load`, and the steps at most the size.
 pub fn check_table<S: Store, L: Ledger>(
     alloc: Global,
     store: &mut S,
