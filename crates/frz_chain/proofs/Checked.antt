@@ -8,15 +8,15 @@ use Rattle.frz_table.specs.declared.fault.TableFault.TheVariants.{Missing, Magic
 use Rattle.frz_table.specs.declared.kind.FileKind.{FileKind}
 use Rattle.frz_table.specs.declared.kind.FileKind.TheVariants.{Plain, Chained}
 use Rattle.frz_table.specs.Layout.{pieces_of}
-use Rattle.frz_table.specs.Opening.{Contents, Refuses, contents_of, kept_text, opened, table_format}
+use Rattle.frz_table.specs.Opening.{Contents, Refuses, contents_of, kept_text, opened, opening_calls, table_format}
 use Rattle.frz_table.specs.Possible.{MayHold, MayOpen, MayRefuse}
 use Rattle.frz_table.specs.Tables.{Table, IsTableFile, table_size}
-use Rattle.frz_table.proofs.Lemmas.{belongs, opens_by, read_short}
+use Rattle.frz_table.proofs.Lemmas.{belongs, opened_calls, opens_by, read_short}
 use Rattle.frz_check.specs.Kept.{ChecksTable, IsVerdictOn, WithinFile, opened_size}
 use Rattle.frz_chain.specs.Backs.{IsRefusedBack, OpensBack, RefusesBack}
 use Rattle.frz_chain.specs.Books.{Back, chain_value}
 use Rattle.frz_chain.specs.Causes.{IsOutsideFault, table_fault}
-use Rattle.frz_chain.specs.Chains.{CarriesSizes, ChecksChain, IsRefusedChain, RefusesChain, WithinBoth, judgement}
+use Rattle.frz_chain.specs.Chains.{CarriesSizes, ChecksChain, IsRefusedChain, RefusesChain, WithinBoth, bytes_for, calls_for, if_opened, judgement, steps_for}
 use Rattle.frz_chain.specs.FileOn.{back_of}
 use Rattle.frz_chain.specs.declared.checking.ChainVerdict.{ChainVerdict}
 use Rattle.frz_chain.specs.declared.fault.ChainFault.{ChainFault}
@@ -41,9 +41,8 @@ some_held (Some m) name = (m name, refl)
 
 -- the table was not opened
 pub not_opened : (table back : List ℕ) (old new : StoreTold) (steps : ℕ) (fault : TableFault)
-    → MayRefuse (table_format Chained) old.files table old.asked new.asked fault → new.calls ≤ old.calls + 5
-    → RefusesChain table back old new steps steps (table_fault fault)
-not_opened table back old new steps fault h calls =
+    → MayRefuse (table_format Chained) table old new fault → RefusesChain table back old new steps steps (table_fault fault)
+not_opened table back old new steps fault h =
     let other = some_held old.files back in record {
       held = h.held;
       may = h.may;
@@ -53,7 +52,7 @@ not_opened table back old new steps fault h calls =
       within = record {
         steps = omega arith;
         asked = (let a = h.asked in omega (arith, a));
-        calls = omega (arith, calls);
+        calls = (let a = h.calls in omega (arith, a));
       };
     }
 
@@ -78,16 +77,18 @@ within_both bytes contents back_held old mid then new steps_before steps_then st
     let pieces : pieces_of (opened_size (opened (table_format Chained) (Some bytes))) ≡ pieces_of size = ap pieces_of is in
     let back_steps = h.steps in
     let back_asked = h.asked in
+    let behind : (n : ℕ) → if_opened (opened (table_format Chained) (Some bytes)) n ≡ n = λ n. ap (λ (x : Result Contents TableFault). if_opened x n) opens in
     record {
-      steps = omega (arith, is, steps, back_steps);
-      asked = omega (arith, is, text, asked, back_asked, more_asked);
+      steps = omega (arith, is, steps, back_steps, behind (steps_for Plain back_held));
+      asked = omega (arith, is, text, asked, back_asked, more_asked, behind (bytes_for Plain back_held));
       calls = calls_both (pieces_of (opened_size (opened (table_format Chained) (Some bytes)))) (pieces_of size)
-          (pieces_of (opened_size (opened (table_format Plain) back_held))) pieces calls h.calls more_calls;
+          (opening_calls (table_format Chained) (Some bytes)) (calls_for Plain back_held) _ pieces (opened_calls (table_format Chained) bytes contents opens)
+          (behind (calls_for Plain back_held)) calls h.calls more_calls;
     }
   where
-    calls_both : (due pieces back : ℕ) → due ≡ pieces → mid.calls ≤ old.calls + 5 → then.calls ≤ mid.calls + (5 + 2 * back)
-        → new.calls ≤ then.calls + 2 * pieces → new.calls ≤ old.calls + ((5 + 2 * due) + (5 + 2 * back))
-    calls_both due pieces back same few middle more = omega (arith, same, few, middle, more)
+    calls_both : (due pieces first back back_due : ℕ) → due ≡ pieces → first ≡ 5 → back_due ≡ back → mid.calls ≤ old.calls + 5 → then.calls ≤ mid.calls + back
+        → new.calls ≤ then.calls + 2 * pieces → new.calls ≤ old.calls + ((first + 2 * due) + back_due)
+    calls_both due pieces first back back_due same five all few middle more = omega (arith, same, five, all, few, middle, more)
 
 -- the table was opened, and the back table refused
 behind : (bytes : List ℕ) (contents : Contents) (back_held : Option (List ℕ)) (fault : ChainFault)

@@ -1,15 +1,16 @@
 -- What is said of a table over a back table, by what the two names may hold.
-use Rattle.std.specs.Prelude.{◌≡◌, ◌≤◌, ◌+◌, ◌*◌, ℕ, List, length, Option, Some, Ok, Err, ⊤}
+use Rattle.std.specs.Prelude.{◌≡◌, ◌≤◌, ◌+◌, ◌*◌, ℕ, List, length, Option, Some, Result, Ok, Err, ⊤}
 use Rattle.frz_rules.specs.Text.{rules_of}
 use Rattle.frz_sets.specs.Sets.{size_of}
 use Rattle.frz_sets.specs.Views.{RuleLines}
 use Rattle.frz_store.specs.Outside.{Rose}
 use Rattle.frz_store.specs.Told.{StoreTold, StoreFine, StoreQuiet}
 use Rattle.frz_store.specs.Writes.{Wrote, WrotePart}
+use Rattle.frz_table.specs.declared.fault.TableFault.{TableFault}
 use Rattle.frz_table.specs.declared.kind.FileKind.{FileKind}
 use Rattle.frz_table.specs.declared.kind.FileKind.TheVariants.{Plain, Chained}
 use Rattle.frz_table.specs.Layout.{pieces_of}
-use Rattle.frz_table.specs.Opening.{Contents, opened, table_format}
+use Rattle.frz_table.specs.Opening.{Contents, opened, opening_calls, table_format}
 use Rattle.frz_table.specs.Possible.{MayHold, held_text}
 use Rattle.frz_check.specs.declared.verdict.Verdict.{Verdict}
 use Rattle.frz_check.specs.declared.verdict.Verdict.TheVariants as verdicts
@@ -32,7 +33,8 @@ abbrev pub CarriesSizes : ChainVerdict → ℕ → ℕ → Type 0
 CarriesSizes (Exact size back) due back_due = (size ≡ due) × (back ≡ back_due)
 CarriesSizes (Wrong wrong) due back_due = ⊤
 
--- what checking a file of this kind costs: a step for each number, and the bytes and the calls that open and load it
+-- what checking a file of this kind costs: a step for each number, and the bytes and the calls that open
+-- and load it
 abbrev pub steps_for : FileKind → Option (List ℕ) → ℕ
 steps_for kind held = opened_size (opened (table_format kind) held)
 
@@ -40,17 +42,38 @@ abbrev pub bytes_for : FileKind → Option (List ℕ) → ℕ
 bytes_for kind held = 16 + length (held_text held) + 8 * opened_size (opened (table_format kind) held)
 
 abbrev pub calls_for : FileKind → Option (List ℕ) → ℕ
-calls_for kind held = 5 + 2 * pieces_of (opened_size (opened (table_format kind) held))
+calls_for kind held =
+    opening_calls (table_format kind) held + 2 * pieces_of (opened_size (opened (table_format kind) held))
+
+-- so many where the file opens, and else none
+abbrev pub if_opened : Result Contents TableFault → ℕ → ℕ
+if_opened (Ok contents) count = count
+if_opened (Err fault) count = 0
+
+-- what checking both files costs, of which the second is not looked at where the first is refused
+abbrev pub steps_for_both : (held back_held : Option (List ℕ)) → ℕ
+steps_for_both held back_held =
+    steps_for Chained held + if_opened (opened (table_format Chained) held) (steps_for Plain back_held)
+
+abbrev pub bytes_for_both : (held back_held : Option (List ℕ)) → ℕ
+bytes_for_both held back_held =
+    bytes_for Chained held + if_opened (opened (table_format Chained) held) (bytes_for Plain back_held)
+
+abbrev pub calls_for_both : (held back_held : Option (List ℕ)) → ℕ
+calls_for_both held back_held =
+    calls_for Chained held + if_opened (opened (table_format Chained) held) (calls_for Plain back_held)
 
 -- no more than checking both files costs
-pub record WithinBoth (held back_held : Option (List ℕ)) (old new : StoreTold) (steps_before steps_now : ℕ) : Type 0 where
-  pub steps : steps_now ≤ steps_before + (steps_for Chained held + steps_for Plain back_held)
-  pub asked : new.asked ≤ old.asked + (bytes_for Chained held + bytes_for Plain back_held)
-  pub calls : new.calls ≤ old.calls + (calls_for Chained held + calls_for Plain back_held)
+pub record WithinBoth (held back_held : Option (List ℕ)) (old new : StoreTold)
+    (steps_before steps_now : ℕ) : Type 0 where
+  pub steps : steps_now ≤ steps_before + steps_for_both held back_held
+  pub asked : new.asked ≤ old.asked + bytes_for_both held back_held
+  pub calls : new.calls ≤ old.calls + calls_for_both held back_held
 
--- the verdict on a table and a back table that the two names may hold: the back table is exact, and the verdict on the table is by the
--- book that has the back table behind the exit lines
-pub record ChecksChain (table back : List ℕ) (old new : StoreTold) (steps_before steps_now : ℕ) (verdict : ChainVerdict) : Type 0 where
+-- the verdict on a table and a back table that the two names may hold: the back table is exact, and the
+-- verdict on the table is by the book that has the back table behind the exit lines
+pub record ChecksChain (table back : List ℕ) (old new : StoreTold) (steps_before steps_now : ℕ)
+    (verdict : ChainVerdict) : Type 0 where
   pub bytes : List ℕ
   pub may : MayHold old.files table (Some bytes)
   pub contents : Contents
@@ -59,7 +82,9 @@ pub record ChecksChain (table back : List ℕ) (old new : StoreTold) (steps_befo
   pub back_may : MayHold old.files back (Some back_bytes)
   pub back_contents : Contents
   pub back_judged : IsBackJudged back_bytes back_contents verdicts.Exact
-  pub told : IsVerdictOn Chained (chain_value contents.rules (back_of back_contents back_bytes)) contents bytes (judgement verdict)
+  pub told :
+      IsVerdictOn Chained (chain_value contents.rules (back_of back_contents back_bytes)) contents bytes
+      (judgement verdict)
   pub sizes : CarriesSizes verdict (size_of contents.rules.groups) (size_of back_contents.rules.groups)
   pub within : WithinBoth (Some bytes) (Some back_bytes) old new steps_before steps_now
 
@@ -77,7 +102,8 @@ IsRefusedChain held back_held NoMemory = ⊤
 IsRefusedChain held back_held (Rules fault) = ⊥
 
 -- the two names may hold what is refused so
-pub record RefusesChain (table back : List ℕ) (old new : StoreTold) (steps_before steps_now : ℕ) (fault : ChainFault) : Type 0 where
+pub record RefusesChain (table back : List ℕ) (old new : StoreTold) (steps_before steps_now : ℕ)
+    (fault : ChainFault) : Type 0 where
   pub held : Option (List ℕ)
   pub may : MayHold old.files table held
   pub back_held : Option (List ℕ)
@@ -85,8 +111,8 @@ pub record RefusesChain (table back : List ℕ) (old new : StoreTold) (steps_bef
   pub refuses : IsRefusedChain held back_held fault
   pub within : WithinBoth held back_held old new steps_before steps_now
 
--- the text is accepted, the name of the back table may hold one that is exact, before and afterwards, and the one file of the text over
--- it was written
+-- the text is accepted, the name of the back table may hold one that is exact, before and afterwards, and
+-- the one file of the text over it was written
 pub record Chains (text back name : List ℕ) (old new : StoreTold) (size : ℕ) : Type 0 where
   pub rules : RuleLines
   pub accepted : rules_of text ≡ Ok rules

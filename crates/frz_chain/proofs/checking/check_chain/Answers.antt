@@ -17,7 +17,7 @@ returns-in-Err-clause-refused g c =
     let old = store_of g.S.Store c.args.store.now in
     let new = store_of g.S.Store c.open_kind.new.store in
     subst (λ (f : ChainFault). RefusesChain table back old new c.args.steps.now c.args.steps.now f) (sym c.of_table.ensures)
-    (not_opened table back old new c.args.steps.now c.in-Err.fault c.in-Err.ensures.may_refuse c.in-Err.ensures.calls)
+    (not_opened table back old new c.args.steps.now c.in-Err.fault c.in-Err.ensures.may_refuse)
 
 pub returns-in_err-behind-clause-refused : goal.returns-in_err-behind-clause-refused
 returns-in_err-behind-clause-refused g c =
