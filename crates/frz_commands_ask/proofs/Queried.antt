@@ -67,17 +67,17 @@ some_kept kind p table files = record {
 
 -- where the codes were not read
 pub stopped_at : (kind : FileKind) (table : List ℕ) (p : Board) (stop : Stop) (files : Files) (input : List ℕ) (old new : World)
-    → IsKept kind p table (Err stop) old.store new.store → new.store.calls ≤ old.store.calls + 7 → new.steps ≤ old.steps → Agrees old files input
+    → IsKept kind p table (Err stop) old.store new.store → new.steps ≤ old.steps → Agrees old files input
     → StopsWith (querying_at kind table p) stop files input old new
-stopped_at kind table p (Refused why) files input old new kept calls steps agrees = record {
+stopped_at kind table p (Refused why) files input old new kept steps agrees = record {
   found = found_where (querying_at kind table p) kept.files files input old (λ e. cc) kept.agrees agrees;
   answer = ap (λ (r : Result KeptCodes Refusal). answer_by r kept.files) (sym kept.due);
-  costs = record { steps = omega (arith, steps); calls = calls; asked = kept.asked };
+  costs = record { steps = omega (arith, steps); calls = kept.calls; asked = kept.asked };
 }
-stopped_at kind table p (Fault fault) files input old new kept calls steps agrees = record {
+stopped_at kind table p (Fault fault) files input old new kept steps agrees = record {
   found = found_where (querying_at kind table p) kept.files files input old (λ e. cc) kept.agrees agrees;
   some = some_kept kind p table kept.files;
-  costs = record { steps = omega (arith, steps); calls = calls; asked = kept.asked };
+  costs = record { steps = omega (arith, steps); calls = kept.calls; asked = kept.asked };
 }
 
 querying_lawful : (kind : FileKind) (table : List ℕ) (p : Board) → IsLawful (querying_at kind table p)

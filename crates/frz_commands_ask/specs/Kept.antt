@@ -10,7 +10,7 @@ use Rattle.frz_store.specs.Files.{Files}
 use Rattle.frz_store.specs.Told.{StoreTold}
 use Rattle.frz_table.specs.declared.fault.TableFault.{TableFault}
 use Rattle.frz_table.specs.declared.kind.FileKind.{FileKind}
-use Rattle.frz_table.specs.Opening.{Contents, contents_of, opened, table_format}
+use Rattle.frz_table.specs.Opening.{Contents, contents_of, opened, opening_calls, table_format}
 use Rattle.frz_table.specs.Possible.{held_text}
 use Rattle.frz_table.specs.Tables.{Table}
 use Rattle.frz_check.specs.Kept.{kept_codes}
@@ -45,6 +45,16 @@ kept_by (Err fault) bytes p = Err (refusals.Table fault)
 abbrev pub kept_of : FileKind → Board → Option (List ℕ) → Result KeptCodes Refused
 kept_of kind p held = kept_by (opened (table_format kind) held) (unwrap_or held []) p
 
+-- how often a file is read for the codes: once for each, and never where there are none
+abbrev pub code_reads : Result KeptCodes Refused → ℕ
+code_reads (Ok codes) = 2
+code_reads (Err why) = 0
+
+-- how many calls of the store that takes which finds the codes in what a name holds
+abbrev pub keeping_calls : FileKind → Board → Option (List ℕ) → ℕ
+keeping_calls kind p held =
+    opening_calls (table_format kind) held + code_reads (kept_of kind p held)
+
 -- the lines of the codes, or the line that refuses
 abbrev pub answer_by : Result KeptCodes Refused → Files → Answer
 answer_by (Ok codes) files = says Success (kept_text codes.white codes.black) files
@@ -67,9 +77,10 @@ IsKeptIn table p told (Err (stops.Refused why)) = (Member table.rules.groups p �
 IsKeptIn table p told (Err (stops.Fault fault)) = ⊤
 
 -- the answer is that of the name in some files, which are those that the store tells where it does, and no more was
--- asked of the store than 24 bytes and the text
+-- asked of the store than 24 bytes and the text, in no more calls than these files take
 pub record IsKept (kind : FileKind) (p : Board) (name : List ℕ) (result : Result KeptCodes Stop) (old new : StoreTold) : Type 0 where
   pub files : Files
   pub agrees : IfSome old.files (λ told. told ≡ files)
   pub due : Answers result (kept_of kind p (files name))
   pub asked : new.asked ≤ old.asked + (24 + length (held_text (files name)))
+  pub calls : new.calls ≤ old.calls + keeping_calls kind p (files name)

@@ -23,7 +23,7 @@ use Rattle.frz_answer.specs.Words.{taking, two_words_of}
 use Rattle.frz_prelude.specs.BoundLines.{kept_text}
 use Rattle.frz_prelude.specs.Positions.{on_position}
 use Rattle.frz_prelude.specs.TableFiles.{OpensAsKind, TellsFaultOfKind}
-use Rattle.frz_commands_ask.specs.Kept.{kept_at, kept_of, answer_by}
+use Rattle.frz_commands_ask.specs.Kept.{keeping_calls, kept_at, kept_of, answer_by}
 use Rattle.frz_commands_ask.specs.Meaning.{TellsBounds}
 
 -- where the file is the one file of its text, the text tells the bounds of both sides, and they hold
@@ -67,14 +67,18 @@ pub record MeansQuery (kind : FileKind) (table : List ℕ) (p : Board) (files : 
   pub untaken : a.taken ≡ 0
   pub says : MeansStatus kind table p files a.status a.text
 
--- to query a table of this kind at a position: no step, at most five calls of the store to open the
--- table and one for each of the two codes, and no more bytes asked than 24 and the text of the table
+-- to query a table of this kind at a position: no step, the calls of the store that open what is there
+-- and one for each of the two codes, and no more bytes asked than 24 and the text of the table
 abbrev pub querying_at : FileKind → List ℕ → Board → Job
 querying_at kind table p = record (plain (Success ∷ Table ∷ Outside ∷ Missing ∷ [])
     (λ files input a. a ≡ answer_by (kept_of kind p (files table)) files)) {
       means = λ files input a. MeansQuery kind table p files a;
       needs = record { store = true; reads = Once; input = false; memory = true };
-      costs = λ files input a. record { steps = Some 0; calls = Some 7; asked = Some (24 + length (held_text (files table))) };
+      costs = λ files input a. record {
+        steps = Some 0;
+        calls = Some (keeping_calls kind p (files table));
+        asked = Some (24 + length (held_text (files table)));
+      };
     }
 
 -- TABLE FEN

@@ -1,6 +1,7 @@
 //! The codes that a table keeps at a position, read in place.
-ghost use Rattle.std.specs.Prelude.{◌+◌, ◌≤◌};
+ghost use Rattle.std.specs.Prelude.{◌≡◌, ◌+◌, ◌≤◌};
 ghost use Rattle.frz_fide.specs.Valid.{IsValid};
+ghost use Rattle.frz_index.specs.Members.{Member};
 ghost use Rattle.frz_store.specs.Told.{store_of, StoreQuiet};
 ghost use Rattle.frz_table.specs.Tables.{Carries};
 ghost use Rattle.frz_prelude.specs.Stops.{HasItsCause};
@@ -28,6 +29,8 @@ fn codes_in<S: Store>(table: &TableFile, p: &Position, store: &mut S) -> Result<
     ensures cause { HasItsCause result (store_of S.Store store.old) (store_of S.Store store.new) }
     ensures asked { S.asked store.new ≤ S.asked store.old + 8 }
     ensures calls { S.calls store.new ≤ S.calls store.old + 2 }
+    ensures unread { (Member table.now.rules.groups p.now → ⊥)
+        → S.calls store.new ≡ S.calls store.old }
 {
     let i = number_in(table.set(), p)?;
     let white = table.entry(store, Colour::White, i)?;
@@ -48,7 +51,6 @@ pub fn kept_codes_at<S: Store>(
         (store_of S.Store store.old) (store_of S.Store store.new) }
     ensures quiet { StoreQuiet (store_of S.Store store.old) (store_of S.Store store.new) }
     ensures cause { HasItsCause result (store_of S.Store store.old) (store_of S.Store store.new) }
-    ensures calls { S.calls store.new ≤ S.calls store.old + 7 }
 {
     match open_kind(alloc, store, name, kind) {
         Ok(table) => codes_in(&table, p, store),

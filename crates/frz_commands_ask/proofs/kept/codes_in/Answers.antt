@@ -27,3 +27,15 @@ returns-clause-kept g c =
           entry_kept table groups c.set.ensures c.args.p.now c.in_ok-i.i c.in_ok-i.ensures Black told
           (g.S.Store.files c.entry.new.store) c.in_ok-white.ensures.quiet.unwritten.files c.in_ok-black.black c.in_ok-black.ensures.code;
     }
+
+pub returns-clause-unread : goal.returns-clause-unread
+returns-clause-unread g c = λ none.
+    absurd (none (inside_it c.args.table.now c.set.result.now c.set.ensures c.args.p.now c.in_ok-i.i c.in_ok-i.ensures))
+
+pub returns-in_err-white-clause-unread : goal.returns-in_err-white-clause-unread
+returns-in_err-white-clause-unread g c = λ none.
+    absurd (none (inside_it c.args.table.now c.set.result.now c.set.ensures c.args.p.now c.in_ok-i.i c.in_ok-i.ensures))
+
+pub returns-in_err-black-clause-unread : goal.returns-in_err-black-clause-unread
+returns-in_err-black-clause-unread g c = λ none.
+    absurd (none (inside_it c.args.table.now c.set.result.now c.set.ensures c.args.p.now c.in_ok-i.i c.in_ok-i.ensures))

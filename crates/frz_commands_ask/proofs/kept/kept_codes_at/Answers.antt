@@ -13,6 +13,8 @@ returns-in-Ok-clause-kept g c =
     let table = c.in-Ok.table in
     let first = e.asked in
     let then = c.codes_in.ensures.asked in
+    let calls = e.calls in
+    let more = c.codes_in.ensures.calls in
     opened_kept c.args.kind table c.args.p.now c.args.name.now (store_of g.S.Store c.args.store.now) (store_of g.S.Store c.codes_in.new.store)
-    e.name (omega (arith, first, then)) e.may_open c.codes_in.result
+    e.name (omega (arith, first, then)) (omega (arith, calls, more)) (λ none. let same = c.codes_in.ensures.unread none in omega (arith, calls, same)) e.may_open c.codes_in.result
     (subst (λ told. IsKeptIn table c.args.p.now told c.codes_in.result) e.quiet.unwritten.files c.codes_in.ensures.kept)

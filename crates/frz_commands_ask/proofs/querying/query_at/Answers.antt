@@ -17,7 +17,7 @@ returns-in-Ok g c = λ input steps.
     (λ sees files left agrees. record {
       found = found_where (querying_at c.args.kind c.args.table.now c.args.p.now) kept.files files left _ (λ n. cc) kept.agrees agrees;
       answer = ap (λ (r : Result KeptCodes Refused). answer_by r kept.files) (sym kept.due);
-      costs = record { steps = omega arith; calls = e.calls; asked = kept.asked };
+      costs = record { steps = omega arith; calls = kept.calls; asked = kept.asked };
     })
 
 pub returns-in-Err : goal.returns-in-Err
@@ -26,4 +26,4 @@ returns-in-Err g c = λ input steps.
     let job = querying_at c.args.kind c.args.table.now c.args.p.now in
     ended job c.in-Err.stop _ _ (world _ _ _ _) _ (quiet_store _ _ _ _ _ e.quiet)
     (may_stop KeptCodes job c.in-Err.stop _ _ input _ steps steps refl refl (own_stop c.args.kind c.args.p.now _ c.in-Err.stop e.kept.due) e.cause) c.end.ensures
-    (λ sees files left agrees. stopped_at _ _ _ c.in-Err.stop files left _ _ e.kept e.calls (omega arith) agrees)
+    (λ sees files left agrees. stopped_at _ _ _ c.in-Err.stop files left _ _ e.kept (omega arith) agrees)
