@@ -13,30 +13,21 @@ use Rattle.frz_arena.specs.Inputs.{Answer, Reply, Stop}
 use Rattle.frz_line.specs.declared.end.LineFault.TheVariants as faults
 use Rattle.frz_play.specs.declared.end.PlayFault.{PlayFault}
 use Rattle.frz_play.specs.declared.end.PlayFault.TheVariants as plays
-use Rattle.frz_play.specs.declared.end.PlayLimit.TheVariants.{Lines, LineLength}
+use Rattle.frz_play.specs.declared.end.PlayLimit.TheVariants.{LineLength}
 use Rattle.frz_play.specs.declared.end.TheConstants.{MOST_LENGTH}
 use Rattle.frz_play.specs.declared.hearing.Heard.{Heard}
 use Rattle.frz_play.specs.declared.hearing.Heard.TheVariants as heard
 use Rattle.frz_play.specs.declared.hearing.Reader.{Reader}
 use Rattle.frz_play.specs.declared.hearing.Why.{Why}
+use Rattle.frz_play.specs.declared.line.NextLine.{NextLine}
+use Rattle.frz_play.specs.declared.line.NextLine.TheVariants.{Nothing, Whole, Last, TooLong}
 use Rattle.frz_play.specs.declared.hearing.Why.TheVariants.{Ended, Limit}
 use Rattle.frz_play.specs.Faults.{TookBytes}
-use Rattle.frz_play.specs.Hearing.{HasEnded, IsOneLine, TookTooLong, MayFollow, StaysEnded, EndsWith, HearsLine, Hears, left_by, refuse}
+use Rattle.frz_play.specs.Hearing.{HasEnded, IsOneLine, TookTooLong, GaveLine, MayFollow, StaysEnded, EndsWith, HearsLine, Hears, after_line, no_line, left_by, refuse}
 use Rattle.frz_play.specs.Reading.{Input, Halt, halted, place_said, refuse_one, reply_or, reads}
 use Rattle.frz_play.specs.Texts.{refused_text}
 use Rattle.frz_play.proofs.Reading.{reads_line, reads_too_long, reads_behind, reads_front, refuse_inside, refuse_reply, refuse_stop}
 use Rattle.frz_play.proofs.Taking.{took_none, took_on}
-
--- the most lines were read
-pub no_more : (old : Reader) → old.more ≡ 0 → (line : List ℕ) (source : SourceTold) → (old.ended ≡ true → HasEnded source) → HearsLine old old (Ok (Some (Limit Lines))) line source source
-no_more old e line source has = record {
-  bytes = [];
-  took = took_none source source refl;
-  ended = has;
-  stays = λ e. (refl, e);
-  fewer = refl;
-  heard = λ arms rest may. subst (λ n. reads arms n rest ≡ Stop (halted (Limit Lines)) (record { left = rest; more = n })) (sym e) refl;
-}
 
 at_end : (arms : List (Arm Step ℕ Value)) (more : ℕ) (rest : List ℕ) → 0 < more → rest ≡ [] → reads arms more rest ≡ Stop (halted Ended) (record { left = rest; more = more })
 at_end arms zero rest l e = absurd (omega arith)
@@ -44,7 +35,7 @@ at_end arms (suc more) [] l e = refl
 at_end arms (suc more) (b ∷ rest) l e = absurd (cc)
 
 -- the end was seen before, or now
-pub is_over : (old new : Reader) → 0 < old.more → new.more ≡ old.more → new.ended ≡ true → (line : List ℕ) (source left : SourceTold) → TookBytes [] source left → HasEnded left → HearsLine old new (Ok (Some Ended)) line source left
+is_over : (old new : Reader) → 0 < old.more → new.more ≡ old.more → new.ended ≡ true → (line : List ℕ) (source left : SourceTold) → TookBytes [] source left → HasEnded left → HearsLine old new (Ok (Some Ended)) line source left
 is_over old new some same ended line source left took has = record {
   bytes = [];
   took = took;
@@ -54,12 +45,16 @@ is_over old new some same ended line source left took has = record {
   heard = λ arms rest may. subst (λ n. reads arms old.more rest ≡ Stop (halted Ended) (record { left = rest; more = n })) (sym same) (at_end arms old.more rest some (may ended));
 }
 
+pub seen_before : (old : Reader) (line : List ℕ) (source : SourceTold) → 0 < old.more → old.ended ≡ true → (old.ended ≡ true → HasEnded source) → HearsLine old old (Ok (Some Ended)) line source source
+seen_before old line source some ended has =
+    is_over old old some refl ended line source source (took_none source source refl) (has ended)
+
 -- a number above 0 is one more than another
 one_less : (n : ℕ) → 0 < n → (m : ℕ) × (n ≡ suc m)
 one_less zero l = absurd (omega arith)
 one_less (suc n) l = (n, refl)
 
-pub too_long : (old : Reader) → 0 < old.more → old.ended ≡ false → (line : List ℕ) (source left : SourceTold) → TookTooLong source left → HearsLine old old (Ok (Some (Limit LineLength))) line source left
+too_long : (old : Reader) → 0 < old.more → old.ended ≡ false → (line : List ℕ) (source left : SourceTold) → TookTooLong source left → HearsLine old old (Ok (Some (Limit LineLength))) line source left
 too_long old some going line source left took =
     let m = one_less old.more some in record {
       bytes = took.0;
@@ -81,16 +76,16 @@ failed_line old some going fault line source left one few took =
       heard = λ arms rest may. subst (λ n. EndsWith (left_by (reads arms n (line ++ rest))) rest) (sym m.1) (reads_behind arms m.0 line rest one few);
     }
 
-pub failed_result : (old : Reader) → 0 < old.more → old.ended ≡ false → (result : Result (Option Why) Failed) → IsErr result → (line : List ℕ) (source left : SourceTold) → IsOneLine line → length line ≤ MOST_LENGTH → TookBytes line source left → HearsLine old old result line source left
-failed_result old some going (Ok x) failed line source left one few took = cc
-failed_result old some going (Err fault) failed line source left one few took =
-    failed_line old some going fault line source left one few took
+pub input_failed : (old : Reader) (result : Result (Option Why) Failed) (line : List ℕ) (source left : SourceTold) → 0 < old.more → old.ended ≡ false → IsErr result → length line ≤ MOST_LENGTH → IsOneLine line × TookBytes line source left → HearsLine old old result line source left
+input_failed old (Ok x) line source left some going failed few took = cc
+input_failed old (Err fault) line source left some going failed few took =
+    failed_line old some going fault line source left took.0 few took.1
 
 has_some : (line tail : List ℕ) (b : ℕ) → line ++ b ∷ tail ≢ []
 has_some [] tail b = λ e. absurd (cc)
 has_some (a ∷ line) tail b = λ e. absurd (cc)
 
-pub came_whole : (old new : Reader) → old.more ≡ new.more + 1 → old.ended ≡ false → new.ended ≡ false → (line : List ℕ) (source left : SourceTold) → IsOneLine line → length line ≤ MOST_LENGTH → TookBytes (line ++ 10 ∷ []) source left → HearsLine old new (Ok None) line source left
+came_whole : (old new : Reader) → old.more ≡ new.more + 1 → old.ended ≡ false → new.ended ≡ false → (line : List ℕ) (source left : SourceTold) → IsOneLine line → length line ≤ MOST_LENGTH → TookBytes (line ++ 10 ∷ []) source left → HearsLine old new (Ok None) line source left
 came_whole old new more before going line source left one few took =
     let next : old.more ≡ suc new.more = omega (arith, more) in record {
       bytes = line ++ 10 ∷ [];
@@ -102,7 +97,7 @@ came_whole old new more before going line source left one few took =
           (ap (λ (l : List ℕ). reads arms (suc new.more) l) (append_assoc line (10 ∷ []) rest) ∙ reads_line arms new.more line (10 ∷ rest) one refl few (has_some line rest 10));
     }
 
-pub came_last : (old new : Reader) → old.more ≡ new.more + 1 → old.ended ≡ false → new.ended ≡ true → (line : List ℕ) (source left : SourceTold) → IsOneLine line → length line ≤ MOST_LENGTH → line ≢ [] → TookBytes line source left → HasEnded left → HearsLine old new (Ok None) line source left
+came_last : (old new : Reader) → old.more ≡ new.more + 1 → old.ended ≡ false → new.ended ≡ true → (line : List ℕ) (source left : SourceTold) → IsOneLine line → length line ≤ MOST_LENGTH → line ≢ [] → TookBytes line source left → HasEnded left → HearsLine old new (Ok None) line source left
 came_last old new more before ended line source left one few some took has =
     let next : old.more ≡ suc new.more = omega (arith, more) in record {
       bytes = line;
@@ -114,6 +109,21 @@ came_last old new more before ended line source left one few some took has =
           (subst (λ (r : List ℕ). reads arms (suc new.more) (line ++ r) ≡ reply_or (place_said arms line) (record { left = r; more = new.more }) (reads arms new.more r)) (sym (may ended))
           (reads_line arms new.more line [] one refl few (λ e. some (sym (append-nil line) ∙ e))));
     }
+
+line_read : (next : NextLine) (old : Reader) → 0 < old.more → old.ended ≡ false → (line : List ℕ) (source left : SourceTold) → length line ≤ MOST_LENGTH → GaveLine (Ok next) line source left → HearsLine old (after_line old next) (Ok (no_line next)) line source left
+line_read Nothing old some going line source left few gave =
+    is_over old (after_line old Nothing) some refl refl line source left gave.0 gave.1
+line_read TooLong old some going line source left few gave = too_long old some going line source left gave
+line_read Whole old some going line source left few gave =
+    came_whole old (after_line old Whole) (omega arith) going going line source left gave.0 few gave.1
+line_read Last old some going line source left few gave =
+    came_last old (after_line old Last) (omega arith) going refl line source left gave.0 few gave.1 gave.2 gave.3
+
+-- the line that was read, as it was counted
+pub line_heard : (next : NextLine) (old new : Reader) (why : Option Why) (line : List ℕ) (source left : SourceTold) → 0 < old.more → old.ended ≡ false → length line ≤ MOST_LENGTH → GaveLine (Ok next) line source left → new ≡ after_line old next → why ≡ no_line next → HearsLine old new (Ok why) line source left
+line_heard next old new why line source left some going few gave e is =
+    subst (λ (o : Option Why). HearsLine old new (Ok o) line source left) (sym is)
+    (subst (λ (r : Reader). HearsLine old r (Ok (no_line next)) line source left) (sym e) (line_read next old some going line source left few gave))
 
 -- the lines that were refused so far
 pub record HearsOn (arms : List (Arm Step ℕ Value)) (old now : Reader) (source left : SourceTold) (out taken : SinkTold) : Type 0 where

@@ -1,5 +1,5 @@
 -- How the lines of an input are taken: a byte, a line, and the lines up to a reply.
-use Rattle.std.specs.Prelude.{◌≡◌, ◌≢◌, ◌⊎◌, ◌≤◌, ◌<◌, ◌+◌, ℕ, zero, suc, true, List, [], ◌∷◌, ◌++◌, length, Option, Some, None, IfSome, Result, Ok, Err, ⊤}
+use Rattle.std.specs.Prelude.{◌≡◌, ◌≢◌, ◌⊎◌, ◌≤◌, ◌<◌, ◌+◌, ◌-◌, ℕ, zero, suc, true, List, [], ◌∷◌, ◌++◌, length, Option, Some, None, IfSome, Result, Ok, Err, ⊤}
 use Rattle.frz_board.specs.Moving.{Step}
 use Rattle.frz_sets.specs.declared.exit.Value.{Value}
 use Rattle.frz_store.specs.Told.{SourceTold, SinkTold}
@@ -14,6 +14,8 @@ use Rattle.frz_play.specs.declared.hearing.Heard.{Heard}
 use Rattle.frz_play.specs.declared.hearing.Heard.TheVariants as heard
 use Rattle.frz_play.specs.declared.hearing.Reader.{Reader}
 use Rattle.frz_play.specs.declared.hearing.Why.{Why}
+use Rattle.frz_play.specs.declared.hearing.Why.TheVariants.{Ended, Limit}
+use Rattle.frz_play.specs.declared.end.PlayLimit.TheVariants.{LineLength}
 use Rattle.frz_play.specs.declared.line.NextLine.{NextLine}
 use Rattle.frz_play.specs.declared.line.NextLine.TheVariants.{Nothing, Whole, Last, TooLong}
 use Rattle.frz_play.specs.Faults.{WroteBy, TookBytes}
@@ -50,6 +52,19 @@ GaveLine (Err fault) line old new = IsOneLine line × TookBytes line old new
 -- behind the end of the input nothing is read
 abbrev pub MayFollow : Reader → (rest : List ℕ) → Type 0
 MayFollow reader rest = reader.ended ≡ true → rest ≡ []
+
+-- how a line that was read leaves the reader
+abbrev pub after_line : Reader → NextLine → Reader
+after_line reader Nothing = record { more = reader.more; ended = true }
+after_line reader Whole = record { more = reader.more - 1; ended = reader.ended }
+after_line reader Last = record { more = reader.more - 1; ended = true }
+after_line reader TooLong = reader
+
+-- why a line is none
+abbrev pub no_line : NextLine → Option Why
+no_line Nothing = Some Ended
+no_line TooLong = Some (Limit LineLength)
+no_line line = None
 
 -- where the end was seen before, nothing was taken
 abbrev pub StaysEnded : (old new : Reader) → (bytes : List ℕ) → Type 0

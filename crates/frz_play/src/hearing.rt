@@ -1,9 +1,9 @@
 //! The reply of the opponent: lines of the input are read until one says a legal move.
-ghost use Rattle.std.specs.Prelude.{◌≡◌, codes, length, true, IfOk};
+ghost use Rattle.std.specs.Prelude.{◌≡◌, ◌<◌, codes, length, true, IfOk};
 ghost use Rattle.frz_store.specs.Outside.{HasCause};
 ghost use Rattle.frz_store.specs.Told.{source_of, sink_of};
 ghost use Rattle.frz_answer.specs.Texts.{WroteText};
-ghost use Rattle.frz_play.specs.Hearing.{HasEnded, HearsLine, Hears, IsThere};
+ghost use Rattle.frz_play.specs.Hearing.{HasEnded, HearsLine, Hears, IsThere, after_line, no_line};
 ghost use Rattle.frz_play.specs.Faults.{InputCause};
 
 use crate::end::{PlayFault, PlayLimit};
@@ -43,8 +43,33 @@ fn write_refused<O: Sink>(out: &mut O) -> Result<(), Failed>
     write_piece(b"illegal\n", out)
 }
 
+/// Counts a line that was read, and tells why it is none, where it is none.
+fn counted(next: NextLine, reader: &mut Reader) -> Option<Why>
+    requires some { 0 < reader.old.more }
+    ensures reader { reader.new ≡ after_line reader.old next }
+    ensures why { result ≡ no_line next }
+{
+    match next {
+        NextLine::Nothing => {
+            reader.ended = true;
+            Some(Why::Ended)
+        }
+        NextLine::TooLong => Some(Why::Limit(PlayLimit::LineLength)),
+        NextLine::Whole => {
+            reader.more -= 1;
+            None
+        }
+        NextLine::Last => {
+            reader.more -= 1;
+            reader.ended = true;
+            None
+        }
+    }
+}
+
 /// Takes the next line, or tells why there is none: first the limit of lines is tried, then the
 /// end, then the length of the line.
+#[tactic(auto, using(crate::proofs::Heard::seen_before, crate::proofs::Heard::input_failed, crate::proofs::Heard::line_heard))]
 fn next_line<I: Source>(
     reader: &mut Reader,
     input: &mut I,
@@ -61,22 +86,8 @@ fn next_line<I: Source>(
     if reader.ended {
         return Ok(Some(Why::Ended));
     }
-    match read_line(input, line)? {
-        NextLine::Nothing => {
-            reader.ended = true;
-            Ok(Some(Why::Ended))
-        }
-        NextLine::TooLong => Ok(Some(Why::Limit(PlayLimit::LineLength))),
-        NextLine::Whole => {
-            reader.more -= 1;
-            Ok(None)
-        }
-        NextLine::Last => {
-            reader.more -= 1;
-            reader.ended = true;
-            Ok(None)
-        }
-    }
+    let next = read_line(input, line)?;
+    Ok(counted(next, reader))
 }
 
 /// Reads lines until one says a move of the list. Each other line is refused.
