@@ -2,5 +2,6 @@
 pub use Rattle.frz_line.proofs.Choices.{found_at, found_code}
 pub use Rattle.frz_line.proofs.Goings.{GoesTo, moves_on, over_here, seen_by_codes, stage_due, stage_told}
 pub use Rattle.frz_line.proofs.Seen.{move_there, next_code_is}
+pub use Rattle.frz_line.proofs.Spending.{ReadsOne, SpendsAt, at_one, code_read, nothing_spent, one_more, read_alone, read_first, spends_on}
 pub use Rattle.frz_line.proofs.Turned.{unfinished}
 pub use Rattle.frz_line.proofs.Turning.{PlyDue, never_failing, ply_due, still_early}

@@ -2,6 +2,7 @@ mod Choices
 mod Goings
 mod Played
 mod Seen
+mod Spending
 mod Starting
 mod Turned
 mod Turning

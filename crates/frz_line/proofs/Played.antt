@@ -17,15 +17,16 @@ use Rattle.frz_line.specs.declared.end.LineEnd.{LineEnd}
 use Rattle.frz_line.specs.declared.end.LineFault.{LineFault}
 use Rattle.frz_line.specs.declared.end.LineFault.TheVariants as faults
 use Rattle.frz_line.specs.declared.end.TheConstants.{MOST_PLIES}
-use Rattle.frz_line.specs.declared.reading.TheConstants.{MOST_ASKED}
 use Rattle.frz_line.specs.declared.playing.Spot.{Spot}
 use Rattle.frz_line.specs.declared.playing.Turn.{Turn}
 use Rattle.frz_line.specs.declared.playing.Turn.TheVariants.{Over, On}
+use Rattle.frz_line.specs.Costs.{Spent}
 use Rattle.frz_line.specs.Ends.{told, Finishes}
 use Rattle.frz_line.specs.Faults.{WroteBy}
 use Rattle.frz_line.specs.Lines.{LinePly, EndOfLine, GoesOn}
 use Rattle.frz_line.specs.Texts.{line_text, start_line, plies_text, last_line}
 use Rattle.frz_line.specs.Turns.{TurnsTo, rest_text, GoesBy, Plays}
+use Rattle.frz_line.proofs.Spending.{SpendsAt, spends_on}
 
 -- what is left of a line from the start, behind the text that was written
 pub record IsLeft (arena : Arena Step ℕ Value) (side : Colour) (kept : List ℕ) (code : ℕ) (spot : Spot) (text : List ℕ) (plies : List LinePly) (end : EndOfLine) : Type 0 where
@@ -113,16 +114,16 @@ AtEnd arena side kept spot more result =
     (plies : List LinePly) (end : EndOfLine) → GoesOn arena side kept spot.played spot.number plies end →
     (rest : List ℕ) × (more ++ rest ≡ rest_text side spot plies (told side end)) × Finishes result (told side end) rest
 
-played_out : (arena : Arena Step ℕ Value) (side : Colour) (kept : List ℕ) (start code : ℕ) (spot : Spot) (text more : List ℕ) (result : Result LineEnd LineFault) (before mid now : ℕ) → mid ≤ before + MOST_ASKED * spot.played → now ≤ mid + MOST_ASKED → ComeBy arena side kept start code spot text → AtEnd arena side kept spot more result → Plays arena side kept start code (text ++ more) result before now
+played_out : (arena : Arena Step ℕ Value) (side : Colour) (kept : List ℕ) (start code : ℕ) (spot : Spot) (text more : List ℕ) (result : Result LineEnd LineFault) (before mid now : Spent) → SpendsAt spot.played before mid → SpendsAt 1 mid now → ComeBy arena side kept start code spot text → AtEnd arena side kept spot more result → Plays arena side kept start code (text ++ more) result before now
 played_out arena side kept start code spot text more result before mid now b n comes ends = λ agrees plies end w.
     let l = comes agrees plies end w in
     let g = ends l.agrees l.others end l.way in
     let many = l.many in
-    let asked : now ≤ before + MOST_ASKED * (length plies + 1) = omega (arith, b, n, many) in
-    (g.0, append_assoc text more g.0 ∙ (ap (λ (z : List ℕ). text ++ z) g.1 ∙ l.is), g.2, asked)
+    let spent = spends_on spot.played (length plies) before mid now (omega (arith, many)) b n in
+    (g.0, append_assoc text more g.0 ∙ (ap (λ (z : List ℕ). text ++ z) g.1 ∙ l.is), g.2, spent)
 
 -- what a line wrote
-abbrev pub LineWrote : Option (List ℕ) → Arena Step ℕ Value → Colour → (start code : ℕ) → Result LineEnd LineFault → (old new : SinkTold) → (before now : ℕ) → Type 0
+abbrev pub LineWrote : Option (List ℕ) → Arena Step ℕ Value → Colour → (start code : ℕ) → Result LineEnd LineFault → (old new : SinkTold) → (before now : Spent) → Type 0
 LineWrote told_codes arena side start code result old new before now =
     (text : List ℕ) × IsLines text × WroteBy result text old new
     × IfSome told_codes (λ kept. Plays arena side kept start code text result before now)
@@ -136,7 +137,7 @@ wrote_after text more (Err faults.Store) old mid new t w = took_behind text more
 wrote_after text more (Err faults.Output) old mid new t w = failed_behind text more (text ++ more) old mid new t refl w
 wrote_after text more (Err faults.NoMemory) old mid new t w = took_behind text more (text ++ more) old mid new t refl w
 
-pub last_far : (told_codes : Option (List ℕ)) (arena : Arena Step ℕ Value) (side : Colour) (start code : ℕ) (spot : Spot) (old mid new : SinkTold) (before middle now : ℕ) → SoFar told_codes arena side start code spot old mid → middle ≤ before + MOST_ASKED * spot.played → now ≤ middle + MOST_ASKED → (result : Result LineEnd LineFault) (more : List ℕ) → IsLines more → WroteBy result more mid new → IfSome told_codes (λ kept. AtEnd arena side kept spot more result) → LineWrote told_codes arena side start code result old new before now
+pub last_far : (told_codes : Option (List ℕ)) (arena : Arena Step ℕ Value) (side : Colour) (start code : ℕ) (spot : Spot) (old mid new : SinkTold) (before middle now : Spent) → SoFar told_codes arena side start code spot old mid → SpendsAt spot.played before middle → SpendsAt 1 middle now → (result : Result LineEnd LineFault) (more : List ℕ) → IsLines more → WroteBy result more mid new → IfSome told_codes (λ kept. AtEnd arena side kept spot more result) → LineWrote told_codes arena side start code result old new before now
 last_far told_codes arena side start code spot old mid new before middle now far b n result more lines wrote ends = (
   far.text ++ more,
   lines_behind far.text more far.lines lines,
@@ -153,15 +154,15 @@ wrote_same faults.Output more old new w = w
 wrote_same faults.NoMemory more old new w = w
 
 -- the line's end, and a fault on its way
-pub over_far : (told_codes : Option (List ℕ)) (arena : Arena Step ℕ Value) (side : Colour) (start code : ℕ) (spot : Spot) (old mid new : SinkTold) (before middle now : ℕ) → SoFar told_codes arena side start code spot old mid → middle ≤ before + MOST_ASKED * spot.played → now ≤ middle + MOST_ASKED → (last : LineEnd) (more : List ℕ) → IsLines more → TookText more mid new → IfSome told_codes (λ kept. GoesBy arena side kept spot more (Ok (Over last))) → LineWrote told_codes arena side start code (Ok last) old new before now
+pub over_far : (told_codes : Option (List ℕ)) (arena : Arena Step ℕ Value) (side : Colour) (start code : ℕ) (spot : Spot) (old mid new : SinkTold) (before middle now : Spent) → SoFar told_codes arena side start code spot old mid → SpendsAt spot.played before middle → SpendsAt 1 middle now → (last : LineEnd) (more : List ℕ) → IsLines more → TookText more mid new → IfSome told_codes (λ kept. GoesBy arena side kept spot more (Ok (Over last))) → LineWrote told_codes arena side start code (Ok last) old new before now
 over_far told_codes arena side start code spot old mid new before middle now far b n last more lines took goes =
     last_far told_codes arena side start code spot old mid new before middle now far b n (Ok last) more lines took goes
 
-pub fault_far : (told_codes : Option (List ℕ)) (arena : Arena Step ℕ Value) (side : Colour) (start code : ℕ) (spot : Spot) (old mid new : SinkTold) (before middle now : ℕ) → SoFar told_codes arena side start code spot old mid → middle ≤ before + MOST_ASKED * spot.played → now ≤ middle + MOST_ASKED → (fault : LineFault) (more : List ℕ) → IsLines more → WroteBy {T = Turn} (Err fault) more mid new → IfSome told_codes (λ kept. GoesBy arena side kept spot more (Err fault)) → LineWrote told_codes arena side start code (Err fault) old new before now
+pub fault_far : (told_codes : Option (List ℕ)) (arena : Arena Step ℕ Value) (side : Colour) (start code : ℕ) (spot : Spot) (old mid new : SinkTold) (before middle now : Spent) → SoFar told_codes arena side start code spot old mid → SpendsAt spot.played before middle → SpendsAt 1 middle now → (fault : LineFault) (more : List ℕ) → IsLines more → WroteBy {T = Turn} (Err fault) more mid new → IfSome told_codes (λ kept. GoesBy arena side kept spot more (Err fault)) → LineWrote told_codes arena side start code (Err fault) old new before now
 fault_far told_codes arena side start code spot old mid new before middle now far b n fault more lines wrote goes =
     last_far told_codes arena side start code spot old mid new before middle now far b n (Err fault) more lines (wrote_same fault more mid new wrote) goes
 
-pub fault_wrote : (told_codes : Option (List ℕ)) (arena : Arena Step ℕ Value) (side : Colour) (start code : ℕ) (old new : SinkTold) (before now : ℕ) (fault : LineFault) (result : Result LineEnd LineFault) → IsErrAnd result (λ e. e ≡ fault) → LineWrote told_codes arena side start code (Err fault) old new before now → LineWrote told_codes arena side start code result old new before now
+pub fault_wrote : (told_codes : Option (List ℕ)) (arena : Arena Step ℕ Value) (side : Colour) (start code : ℕ) (old new : SinkTold) (before now : Spent) (fault : LineFault) (result : Result LineEnd LineFault) → IsErrAnd result (λ e. e ≡ fault) → LineWrote told_codes arena side start code (Err fault) old new before now → LineWrote told_codes arena side start code result old new before now
 fault_wrote told_codes arena side start code old new before now fault (Ok end) h w = absurd h
 fault_wrote told_codes arena side start code old new before now fault (Err e) h w =
     subst (λ (f : LineFault). LineWrote told_codes arena side start code (Err f) old new before now) (sym h) w

@@ -1,5 +1,5 @@
 -- A line from the number of a position.
-use Rattle.std.proofs.Common.{◌≡◌, ◌≤◌, ◌+◌, ℕ, inl, List, [], Option, Some, None, IfSome, Result, Ok, Err, refl, sym, subst, ap, ◌∙◌, arith}
+use Rattle.std.proofs.Common.{◌≡◌, ℕ, inl, List, [], Option, Some, None, IfSome, Result, Ok, Err, refl, sym, subst, ap, ◌∙◌, length}
 use Rattle.std.specs.Prelude.{slice_get, slice_index}
 use Rattle.std.specs.Option.{option_map}
 use Rattle.std.specs.Result.{IsErrAnd}
@@ -22,12 +22,14 @@ use Rattle.frz_line.specs.declared.end.LineEnd.{LineEnd}
 use Rattle.frz_line.specs.declared.end.LineFault.{LineFault}
 use Rattle.frz_line.specs.declared.end.LineFault.TheVariants as faults
 use Rattle.frz_line.specs.BestLine.{TellsLine}
+use Rattle.frz_line.specs.Costs.{Spent}
 use Rattle.frz_line.specs.Ends.{told, IsUnfinished, Finishes}
 use Rattle.frz_line.specs.Faults.{WroteBy, fault_of}
 use Rattle.frz_line.specs.Kept.{kept_codes}
 use Rattle.frz_line.specs.Lines.{GoesOn}
 use Rattle.frz_line.specs.Texts.{start_line, line_text}
 use Rattle.frz_line.specs.Turns.{Plays}
+use Rattle.frz_line.proofs.Spending.{ReadsOne, read_alone, read_first}
 use Rattle.frz_line.proofs.Turned.{unfinished}
 
 every : {A : Type 0} (o : Option A) (P : A → Type 0) → ((x : A) → P x) → IfSome o P
@@ -39,13 +41,13 @@ both None P Q R f p q = tt
 both (Some x) P Q R f p q = f x p q
 
 -- what was written of the line
-abbrev pub WroteLine : Option (List ℕ) → RuleLines → Colour → Board → Result LineEnd LineFault → (old new : SinkTold) → (before now : ℕ) → Type 0
+abbrev pub WroteLine : Option (List ℕ) → RuleLines → Colour → Board → Result LineEnd LineFault → (old new : SinkTold) → (before now : Spent) → Type 0
 WroteLine told_codes rules side p result old new before now =
     (text : List ℕ) × IsLines text × WroteBy result text old new
     × IfSome told_codes (λ codes. TellsLine rules side codes p text result before now)
 
 -- a position that is not in the set
-pub nothing_told : (told_codes : Option (List ℕ)) (rules : RuleLines) (side : Colour) (p : Board) (out : SinkTold) (before : ℕ) → (Member rules.groups p → ⊥) → WroteLine told_codes rules side p (Err faults.Outside) out out before before
+pub nothing_told : (told_codes : Option (List ℕ)) (rules : RuleLines) (side : Colour) (p : Board) (out : SinkTold) (before : Spent) → (Member rules.groups p → ⊥) → WroteLine told_codes rules side p (Err faults.Outside) out out before before
 nothing_told told_codes rules side p out before none = (
   [],
   inl refl,
@@ -54,14 +56,14 @@ nothing_told told_codes rules side p out before none = (
 )
 
 -- nothing was written of the line
-whole_left : (rules : RuleLines) (side : Colour) (codes : List ℕ) (p : Board) (result : Result LineEnd LineFault) (before now : ℕ) → now ≤ before + 4 → ((answer : Result LineEnd LineFault) (rest : List ℕ) → IsUnfinished answer rest → Finishes result answer rest) → TellsLine rules side codes p [] result before now
+whole_left : (rules : RuleLines) (side : Colour) (codes : List ℕ) (p : Board) (result : Result LineEnd LineFault) (before now : Spent) → ReadsOne before now → ((answer : Result LineEnd LineFault) (rest : List ℕ) → IsUnfinished answer rest → Finishes result answer rest) → TellsLine rules side codes p [] result before now
 whole_left rules side codes p result before now l stops = λ member plies end w.
     let code : ℕ = slice_index codes (Num rules.groups p) in
     let text = line_text side code plies (told side end) in
-    (text, refl, stops (told side end) text (unfinished (start_line side code plies (told side end)) plies (told side end)), omega (arith, l))
+    (text, refl, stops (told side end) text (unfinished (start_line side code plies (told side end)) plies (told side end)), read_alone (length plies) before now l)
 
 -- the code of the start was not read
-unread : (told_codes : Option (List ℕ)) (rules : RuleLines) (side : Colour) (p : Board) (out : SinkTold) (before now : ℕ) → now ≤ before + 4 → (fault : StoreFault) (f : LineFault) → f ≡ fault_of fault → WroteLine told_codes rules side p (Err f) out out before now
+unread : (told_codes : Option (List ℕ)) (rules : RuleLines) (side : Colour) (p : Board) (out : SinkTold) (before now : Spent) → ReadsOne before now → (fault : StoreFault) (f : LineFault) → f ≡ fault_of fault → WroteLine told_codes rules side p (Err f) out out before now
 unread told_codes rules side p out before now l Failed f e =
     subst (λ (z : LineFault). WroteLine told_codes rules side p (Err z) out out before now) (sym e)
     ([], inl refl, took_nothing out, every told_codes (λ codes. TellsLine rules side codes p [] (Err faults.Store) before now) (λ codes. whole_left rules side codes p (Err faults.Store) before now l (λ answer rest left. left)))
@@ -69,7 +71,7 @@ unread told_codes rules side p out before now l NoMemory f e =
     subst (λ (z : LineFault). WroteLine told_codes rules side p (Err z) out out before now) (sym e)
     ([], inl refl, took_nothing out, every told_codes (λ codes. TellsLine rules side codes p [] (Err faults.NoMemory) before now) (λ codes. whole_left rules side codes p (Err faults.NoMemory) before now l (λ answer rest left. left)))
 
-pub start_unread : (told_codes : Option (List ℕ)) (rules : RuleLines) (side : Colour) (p : Board) (out : SinkTold) (before now : ℕ) → now ≤ before + 4 → (fault : StoreFault) (result : Result LineEnd LineFault) → IsErrAnd result (λ e. e ≡ fault_of fault) → WroteLine told_codes rules side p result out out before now
+pub start_unread : (told_codes : Option (List ℕ)) (rules : RuleLines) (side : Colour) (p : Board) (out : SinkTold) (before now : Spent) → ReadsOne before now → (fault : StoreFault) (result : Result LineEnd LineFault) → IsErrAnd result (λ e. e ≡ fault_of fault) → WroteLine told_codes rules side p result out out before now
 start_unread told_codes rules side p out before now l fault (Ok end) h = absurd h
 start_unread told_codes rules side p out before now l fault (Err f) h = unread told_codes rules side p out before now l fault f h
 
@@ -83,14 +85,13 @@ code_kept table side None start code h = tt
 code_kept table side (Some m) start code h =
     code_in (codes_at side table.text (table_size table)) start code (m table.name) h
 
-tells : (rules : RuleLines) (side : Colour) (codes : List ℕ) (p : Board) (text : List ℕ) (result : Result LineEnd LineFault) (before mid now start code : ℕ) → start ≡ Num rules.groups p → mid ≤ before + 4 → slice_index codes start ≡ code → Plays (graph_by rules (value_by rules)) side codes start code text result mid now → TellsLine rules side codes p text result before now
+tells : (rules : RuleLines) (side : Colour) (codes : List ℕ) (p : Board) (text : List ℕ) (result : Result LineEnd LineFault) (before mid now : Spent) (start code : ℕ) → start ≡ Num rules.groups p → ReadsOne before mid → slice_index codes start ≡ code → Plays (graph_by rules (value_by rules)) side codes start code text result mid now → TellsLine rules side codes p text result before now
 tells rules side codes p text result before mid now start code is few agrees plays = λ member plies end w.
     let h = plays agrees plies end (subst (λ i. GoesOn (graph_by rules (value_by rules)) side codes 0 i plies end) (sym is) w) in
     let same : code ≡ slice_index codes (Num rules.groups p) = sym agrees ∙ ap (slice_index codes) is in
-    let asked = h.3 in
-    (h.0, h.1 ∙ ap (λ c. line_text side c plies (told side end)) same, h.2, omega (arith, asked, few))
+    (h.0, h.1 ∙ ap (λ c. line_text side c plies (told side end)) same, h.2, read_first (length plies) before mid now few h.3)
 
-pub line_told : (told_codes : Option (List ℕ)) (rules : RuleLines) (side : Colour) (p : Board) (result : Result LineEnd LineFault) (old new : SinkTold) (before mid now start code : ℕ) → start ≡ Num rules.groups p → mid ≤ before + 4 → IfSome told_codes (λ codes. slice_index codes start ≡ code) → (text : List ℕ) → IsLines text → WroteBy result text old new → IfSome told_codes (λ codes. Plays (graph_by rules (value_by rules)) side codes start code text result mid now) → WroteLine told_codes rules side p result old new before now
+pub line_told : (told_codes : Option (List ℕ)) (rules : RuleLines) (side : Colour) (p : Board) (result : Result LineEnd LineFault) (old new : SinkTold) (before mid now : Spent) (start code : ℕ) → start ≡ Num rules.groups p → ReadsOne before mid → IfSome told_codes (λ codes. slice_index codes start ≡ code) → (text : List ℕ) → IsLines text → WroteBy result text old new → IfSome told_codes (λ codes. Plays (graph_by rules (value_by rules)) side codes start code text result mid now) → WroteLine told_codes rules side p result old new before now
 line_told told_codes rules side p result old new before mid now start code is few agrees text lines wrote plays = (
   text,
   lines,

@@ -1,5 +1,5 @@
 -- What is written of the best line at a position of a set.
-use Rattle.std.specs.Prelude.{◌≡◌, ◌≤◌, ◌+◌, ◌*◌, ℕ, List, ◌++◌, length, Result, slice_index}
+use Rattle.std.specs.Prelude.{◌≡◌, ◌+◌, ℕ, List, ◌++◌, length, Result, slice_index}
 use Rattle.frz_board.specs.declared.man.Colour.{Colour}
 use Rattle.frz_board.specs.Boards.{Board}
 use Rattle.frz_sets.specs.Views.{RuleLines}
@@ -7,19 +7,20 @@ use Rattle.frz_exits.specs.Books.{value_by}
 use Rattle.frz_index.specs.Members.{Member, Num}
 use Rattle.frz_line.specs.declared.end.LineEnd.{LineEnd}
 use Rattle.frz_line.specs.declared.end.LineFault.{LineFault}
-use Rattle.frz_line.specs.declared.reading.TheConstants.{MOST_ASKED}
+use Rattle.frz_line.specs.declared.reading.TheConstants.{MOST_ASKED, MOST_READ}
+use Rattle.frz_line.specs.Costs.{Spent, Spends}
 use Rattle.frz_line.specs.Ends.{told, Finishes}
 use Rattle.frz_line.specs.Lines.{LinePly, EndOfLine, IsLine}
 use Rattle.frz_line.specs.Texts.{line_text}
 
 -- the text begins the text of the line from the position's number, and is all of it where the line's end is
--- answered; the code of the start is asked for once, and at each number those of its moves
-abbrev pub TellsLine : RuleLines → Colour → List ℕ → Board → (text : List ℕ) → Result LineEnd LineFault → (asked_before asked_now : ℕ) → Type 0
-TellsLine rules side codes p text result asked_before asked_now =
+-- answered; the code of the start is read once, and at each number the moves are made once and their codes read
+abbrev pub TellsLine : RuleLines → Colour → List ℕ → Board → (text : List ℕ) → Result LineEnd LineFault → (before now : Spent) → Type 0
+TellsLine rules side codes p text result before now =
     Member rules.groups p →
     (plies : List LinePly) (end : EndOfLine) →
     IsLine rules (value_by rules) side codes (Num rules.groups p) plies end →
     (rest : List ℕ)
     × (text ++ rest ≡ line_text side (slice_index codes (Num rules.groups p)) plies (told side end))
     × Finishes result (told side end) rest
-    × (asked_now ≤ asked_before + (MOST_ASKED + 4) * (length plies + 1))
+    × Spends (MOST_ASKED + 4) (MOST_READ + 1) (length plies + 1) before now

@@ -1,5 +1,5 @@
 -- One turn of a line: what is written and answered at a number.
-use Rattle.std.specs.Prelude.{◌≡◌, ◌⊎◌, ◌==◌, ◌<◌, ◌≤◌, ◌+◌, ◌*◌, ℕ, suc, List, [], ◌++◌, length, Result, Ok, Err, Some, slice_get, slice_index, if◌then◌else◌, ⊤}
+use Rattle.std.specs.Prelude.{◌≡◌, ◌⊎◌, ◌==◌, ◌<◌, ◌+◌, ℕ, suc, List, [], ◌++◌, length, Result, Ok, Err, Some, slice_get, slice_index, if◌then◌else◌, ⊤}
 use Rattle.frz_board.specs.declared.man.Colour.{Colour}
 use Rattle.frz_board.specs.Men.{same_colour}
 use Rattle.frz_board.specs.Moving.{Step}
@@ -25,7 +25,8 @@ use Rattle.frz_line.specs.declared.playing.Spot.{Spot}
 use Rattle.frz_line.specs.declared.playing.Turn.{Turn}
 use Rattle.frz_line.specs.declared.playing.Turn.TheVariants.{Over, On}
 use Rattle.frz_line.specs.declared.end.TheConstants.{MOST_PLIES}
-use Rattle.frz_line.specs.declared.reading.TheConstants.{MOST_ASKED}
+use Rattle.frz_line.specs.declared.reading.TheConstants.{MOST_ASKED, MOST_READ}
+use Rattle.frz_line.specs.Costs.{Spent, Spends}
 use Rattle.frz_line.specs.Ends.{told, Finishes}
 use Rattle.frz_line.specs.Lines.{LinePly, EndOfLine, GoesOn}
 use Rattle.frz_line.specs.Sights.{choices_by, IsNextCode}
@@ -117,11 +118,11 @@ GoesBy arena side codes spot text result =
     × Leaves arena side codes spot plies end rest result
 
 -- the text begins the text of each line from the start, and is all of it at the line's end; for each of its
--- numbers at most the most bytes were asked for
-abbrev pub Plays : Arena Step ℕ Value → Colour → List ℕ → (start code : ℕ) → (text : List ℕ) → Result LineEnd LineFault → (asked_before asked_now : ℕ) → Type 0
-Plays arena side codes start code text result asked_before asked_now =
+-- numbers its moves were made once and their codes read
+abbrev pub Plays : Arena Step ℕ Value → Colour → List ℕ → (start code : ℕ) → (text : List ℕ) → Result LineEnd LineFault → (before now : Spent) → Type 0
+Plays arena side codes start code text result before now =
     slice_index codes start ≡ code →
     (plies : List LinePly) (end : EndOfLine) → GoesOn arena side codes 0 start plies end →
     (rest : List ℕ) × (text ++ rest ≡ line_text side code plies (told side end))
     × Finishes result (told side end) rest
-    × (asked_now ≤ asked_before + MOST_ASKED * (length plies + 1))
+    × Spends MOST_ASKED MOST_READ (length plies + 1) before now

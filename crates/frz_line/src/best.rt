@@ -5,6 +5,7 @@ ghost use Rattle.frz_index.specs.Members.{Member};
 ghost use Rattle.frz_store.specs.Told.{store_of, sink_of, StoreQuiet};
 ghost use Rattle.frz_answer.specs.Answers.{IsLines};
 ghost use Rattle.frz_table.specs.Tables.{Carries};
+ghost use Rattle.frz_line.specs.Costs.{spent_by};
 ghost use Rattle.frz_line.specs.Faults.{StoreCause, WroteBy};
 ghost use Rattle.frz_line.specs.Kept.{kept_codes};
 ghost use Rattle.frz_line.specs.BestLine.{TellsLine};
@@ -35,12 +36,13 @@ pub fn best_line<S: Store, O: Sink, L: Ledger>(
     requires carried { Carries (S.files store.old) table.now }
     ensures outside { (result ≡ Err LineFault.Outside) ↔ (Member table.now.rules.groups p.now → ⊥) }
     ensures untouched { result ≡ Err LineFault.Outside
-        → (store.new ≡ store.old) × (out.new ≡ out.old) }
+        → (store.new ≡ store.old) × (out.new ≡ out.old) × (steps.new ≡ steps.old) }
     ensures wrote { (text : List ℕ) × IsLines text
         × WroteBy result text (sink_of O.Sink out.old) (sink_of O.Sink out.new)
         × IfSome (kept_codes table.now side (S.files store.old))
         (λ codes. TellsLine table.now.rules side codes p.now text result
-        (S.asked store.old) (S.asked store.new)) }
+        (spent_by (store_of S.Store store.old) steps.old)
+        (spent_by (store_of S.Store store.new) steps.new)) }
     ensures quiet { StoreQuiet (store_of S.Store store.old) (store_of S.Store store.new) }
     ensures cause { StoreCause result (store_of S.Store store.old) (store_of S.Store store.new) }
     ensures later { steps.old ≤ steps.new }

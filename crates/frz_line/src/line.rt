@@ -4,13 +4,14 @@ ghost use Rattle.frz_store.specs.Told.{store_of, sink_of, StoreQuiet};
 ghost use Rattle.frz_answer.specs.Answers.{IsLines};
 ghost use Rattle.frz_table.specs.Tables.{Carries, table_size};
 ghost use Rattle.frz_arena.specs.Codes.{is_failure};
+ghost use Rattle.frz_line.specs.Costs.{spent_by};
 ghost use Rattle.frz_line.specs.Faults.{StoreCause, WroteBy};
 ghost use Rattle.frz_line.specs.Kept.{kept_codes};
 ghost use Rattle.frz_line.specs.Turns.{GoesBy, TurnsTo, Plays};
 
 use crate::end::{LineEnd, LineFault, MOST_PLIES};
 use crate::playing::{Spot, Turn, play};
-use crate::reading::MOST_ASKED;
+use crate::reading::{MOST_ASKED, MOST_READ};
 use crate::seeing::sight;
 use frz_arena::laws::ways::arms_are_found;
 use frz_board::{Colour, Move};
@@ -46,7 +47,9 @@ fn turn<G: NumberedGame<L>, S: Store, O: Sink, L: Ledger>(
     ensures placed { result ≡ Err LineFault.Outside → ⊥ }
     ensures quiet { StoreQuiet (store_of S.Store store.old) (store_of S.Store store.new) }
     ensures asked { S.asked store.new ≤ S.asked store.old + MOST_ASKED }
+    ensures calls { S.calls store.new ≤ S.calls store.old + MOST_READ }
     ensures cause { StoreCause result (store_of S.Store store.old) (store_of S.Store store.new) }
+    ensures step { steps.new ≤ steps.old + 1 }
     ensures later { steps.old ≤ steps.new }
 {
     arms_are_found::<Move, u32, Value>();
@@ -85,7 +88,8 @@ pub fn play_line<G: NumberedGame<L>, S: Store, O: Sink, L: Ledger>(
         × WroteBy result text (sink_of O.Sink out.old) (sink_of O.Sink out.new)
         × IfSome (kept_codes table.now side (S.files store.old))
         (λ codes. Plays (G.arena game.now) side codes start code text result
-        (S.asked store.old) (S.asked store.new)) }
+        (spent_by (store_of S.Store store.old) steps.old)
+        (spent_by (store_of S.Store store.new) steps.new)) }
     ensures placed { result ≡ Err LineFault.Outside → ⊥ }
     ensures quiet { StoreQuiet (store_of S.Store store.old) (store_of S.Store store.new) }
     ensures cause { StoreCause result (store_of S.Store store.old) (store_of S.Store store.new) }

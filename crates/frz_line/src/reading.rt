@@ -11,7 +11,10 @@ use frz_graph::{CodeList, Next, NextList, exit_code};
 use frz_store::{Store, StoreFault};
 use frz_table::TableFile;
 
-/// How many bytes are asked for at one number at most: four for each of 1,024 moves.
+/// How many codes are read at one number at most, each by one call: one for each of its moves.
+pub const MOST_READ: u64 = 1_024;
+
+/// How many bytes are asked for at one number at most: four for each code.
 pub const MOST_ASKED: u64 = 4_096;
 
 /// The code of where a move leads.
@@ -27,6 +30,7 @@ fn read_code<S: Store>(
         (λ codes. code ≡ next_code side codes next)) }
     ensures quiet { StoreQuiet (store_of S.Store store.old) (store_of S.Store store.new) }
     ensures asked { S.asked store.new ≤ S.asked store.old + 4 }
+    ensures calls { S.calls store.new ≤ S.calls store.old + 1 }
     ensures causes { StoreCauses (S.faults store.old) (S.faults store.new)
         (S.wants store.old) (S.wants store.new) result }
 {
@@ -52,6 +56,7 @@ pub fn read_codes<S: Store>(
         (λ kept. codes.new.items ≡ map (arm_code side kept) list.now.items)) }
     ensures quiet { StoreQuiet (store_of S.Store store.old) (store_of S.Store store.new) }
     ensures asked { S.asked store.new ≤ S.asked store.old + MOST_ASKED }
+    ensures calls { S.calls store.new ≤ S.calls store.old + MOST_READ }
     ensures causes { StoreCauses (S.faults store.old) (S.faults store.new)
         (S.wants store.old) (S.wants store.new) result }
 {

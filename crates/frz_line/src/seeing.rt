@@ -11,7 +11,7 @@ ghost use Rattle.frz_line.specs.Kept.{kept_codes};
 ghost use Rattle.frz_line.specs.Dues.{due_by};
 
 use crate::due::{Due, what_is_due};
-use crate::reading::{MOST_ASKED, read_codes};
+use crate::reading::{MOST_ASKED, MOST_READ, read_codes};
 use frz_arena::Node;
 use frz_board::Colour;
 use frz_graph::laws::within;
@@ -42,8 +42,10 @@ fn look<G: NumberedGame<L>, S: Store, L: Ledger>(
         (λ kept. lists.new.codes.items ≡ map (arm_code side kept) lists.new.nexts.items)) }
     ensures quiet { StoreQuiet (store_of S.Store store.old) (store_of S.Store store.new) }
     ensures asked { S.asked store.new ≤ S.asked store.old + MOST_ASKED }
+    ensures calls { S.calls store.new ≤ S.calls store.old + MOST_READ }
     ensures causes { StoreCauses (S.faults store.old) (S.faults store.new)
         (S.wants store.old) (S.wants store.new) result }
+    ensures step { steps.new ≤ steps.old + 1 }
     ensures later { steps.old ≤ steps.new }
 {
     within();
@@ -80,8 +82,10 @@ pub fn sight<G: NumberedGame<L>, S: Store, L: Ledger>(
         (λ codes. lists.new.codes.items ≡ map (arm_code side codes) lists.new.nexts.items)) }
     ensures quiet { StoreQuiet (store_of S.Store store.old) (store_of S.Store store.new) }
     ensures asked { S.asked store.new ≤ S.asked store.old + MOST_ASKED }
+    ensures calls { S.calls store.new ≤ S.calls store.old + MOST_READ }
     ensures causes { StoreCauses (S.faults store.old) (S.faults store.new)
         (S.wants store.old) (S.wants store.new) result }
+    ensures step { steps.new ≤ steps.old + 1 }
     ensures later { steps.old ≤ steps.new }
 {
     let node = look(game, table, store, side, number, lists, steps)?;

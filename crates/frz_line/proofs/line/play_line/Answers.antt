@@ -4,9 +4,11 @@ use Rattle.frz_store.specs.Told.{store_of, sink_of}
 use Rattle.frz_line.specs.declared.playing.Spot.{Spot}
 use Rattle.frz_line.specs.declared.playing.Turn.{Turn}
 use Rattle.frz_line.specs.declared.playing.Turn.TheVariants.{On}
+use Rattle.frz_line.specs.Costs.{spent_by}
 use Rattle.frz_line.specs.Kept.{kept_codes}
 use Rattle.frz_line.specs.Turns.{TurnsTo, GoesBy}
 use Rattle.frz_line.proofs.Played.{at_start, next_far, over_far, fault_far, fault_wrote, quiet_behind, fine_behind, few_at_start, few_on, left_on, stands_on}
+use Rattle.frz_line.proofs.Spending.{at_one, nothing_spent, spends_on}
 use Rattle.frz_line.proofs.line.play_line.Goals as goal
 
 pub plies-init : goal.plies-init
@@ -20,30 +22,39 @@ plies-init g c = record {
     later = record { asked = omega arith; calls = omega arith; faults = omega arith; wants = omega arith };
   };
   fine = record { faults = refl; wants = refl };
-  asked = omega arith;
+  spent = nothing_spent (spent_by (store_of g.S.Store c.args.store.now) c.args.steps.now);
   later = omega arith;
 }
 
 pub returns-in_err-end-clause-wrote : goal.returns-in_err-end-clause-wrote
 returns-in_err-end-clause-wrote g c =
+    let before = spent_by (store_of g.S.Store c.args.store.now) c.args.steps.now in
+    let mid = spent_by (store_of g.S.Store c.plies.store) c.plies.steps in
+    let now = spent_by (store_of g.S.Store c.turn.new.store) c.turn.new.steps in
     let told_codes = kept_codes c.args.table.now c.args.side (g.S.Store.files c.args.store.now) in
     let arena = g.G.NumberedGame.arena c.args.game.now in
     let w = c.in_err-end.ensures.wrote in
     let goes = subst (λ (f : Option Files). IfSome (kept_codes c.args.table.now c.args.side f) (λ codes. GoesBy arena c.args.side codes c.plies.spot w.0 (Err c.in_err-end.field-0.0))) c.plies.invariant.quiet.unwritten.files w.3 in
-    fault_wrote told_codes arena c.args.side c.args.start c.args.code (sink_of g.O.Sink c.args.out.now) (sink_of g.O.Sink c.turn.new.out) (g.S.Store.asked c.args.store.now) (g.S.Store.asked c.turn.new.store) c.in_err-end.field-0.0 c.from_residual.result c.from_residual.ensures.1
-    (fault_far told_codes arena c.args.side c.args.start c.args.code c.plies.spot (sink_of g.O.Sink c.args.out.now) (sink_of g.O.Sink c.plies.out) (sink_of g.O.Sink c.turn.new.out) (g.S.Store.asked c.args.store.now) (g.S.Store.asked c.plies.store) (g.S.Store.asked c.turn.new.store) c.plies.invariant.far c.plies.invariant.asked c.in_err-end.ensures.asked c.in_err-end.field-0.0 w.0 w.1 w.2 goes)
+    fault_wrote told_codes arena c.args.side c.args.start c.args.code (sink_of g.O.Sink c.args.out.now) (sink_of g.O.Sink c.turn.new.out) before now c.in_err-end.field-0.0 c.from_residual.result c.from_residual.ensures.1
+    (fault_far told_codes arena c.args.side c.args.start c.args.code c.plies.spot (sink_of g.O.Sink c.args.out.now) (sink_of g.O.Sink c.plies.out) (sink_of g.O.Sink c.turn.new.out) before mid now c.plies.invariant.far c.plies.invariant.spent (at_one mid now c.in_err-end.ensures.asked c.in_err-end.ensures.calls c.in_err-end.ensures.step) c.in_err-end.field-0.0 w.0 w.1 w.2 goes)
 
 pub returns-in-Over-clause-wrote : goal.returns-in-Over-clause-wrote
 returns-in-Over-clause-wrote g c =
+    let before = spent_by (store_of g.S.Store c.args.store.now) c.args.steps.now in
+    let mid = spent_by (store_of g.S.Store c.plies.store) c.plies.steps in
+    let now = spent_by (store_of g.S.Store c.turn.new.store) c.turn.new.steps in
     let told_codes = kept_codes c.args.table.now c.args.side (g.S.Store.files c.args.store.now) in
     let arena = g.G.NumberedGame.arena c.args.game.now in
     let w = c.in_ok-end.ensures.wrote in
     let goes = subst (λ (f : Option Files). IfSome (kept_codes c.args.table.now c.args.side f) (λ codes. GoesBy arena c.args.side codes c.plies.spot w.0 (Ok c.in_ok-end.field-0))) c.plies.invariant.quiet.unwritten.files w.3 in
     let over = subst (λ (t : Turn). IfSome told_codes (λ codes. GoesBy arena c.args.side codes c.plies.spot w.0 (Ok t))) c.in-Over.is goes in
-    over_far told_codes arena c.args.side c.args.start c.args.code c.plies.spot (sink_of g.O.Sink c.args.out.now) (sink_of g.O.Sink c.plies.out) (sink_of g.O.Sink c.turn.new.out) (g.S.Store.asked c.args.store.now) (g.S.Store.asked c.plies.store) (g.S.Store.asked c.turn.new.store) c.plies.invariant.far c.plies.invariant.asked c.in_ok-end.ensures.asked c.in-Over.end w.0 w.1 w.2 over
+    over_far told_codes arena c.args.side c.args.start c.args.code c.plies.spot (sink_of g.O.Sink c.args.out.now) (sink_of g.O.Sink c.plies.out) (sink_of g.O.Sink c.turn.new.out) before mid now c.plies.invariant.far c.plies.invariant.spent (at_one mid now c.in_ok-end.ensures.asked c.in_ok-end.ensures.calls c.in_ok-end.ensures.step) c.in-Over.end w.0 w.1 w.2 over
 
 pub plies-preserved : goal.plies-preserved
 plies-preserved g c =
+    let before = spent_by (store_of g.S.Store c.args.store.now) c.args.steps.now in
+    let mid = spent_by (store_of g.S.Store c.plies.store) c.plies.steps in
+    let now = spent_by (store_of g.S.Store c.turn.new.store) c.turn.new.steps in
     let told_codes = kept_codes c.args.table.now c.args.side (g.S.Store.files c.args.store.now) in
     let arena = g.G.NumberedGame.arena c.args.game.now in
     let size = g.G.NumberedGame.count c.args.game.now in
@@ -60,7 +71,8 @@ plies-preserved g c =
       far = next_far told_codes arena c.args.side c.args.start c.args.code spot next (sink_of g.O.Sink c.args.out.now) (sink_of g.O.Sink c.plies.out) (sink_of g.O.Sink c.turn.new.out) c.plies.invariant.far refl w.0 w.1 w.2 on;
       quiet = quiet_behind (store_of g.S.Store c.args.store.now) (store_of g.S.Store c.plies.store) (store_of g.S.Store c.turn.new.store) c.plies.invariant.quiet c.in_ok-end.ensures.quiet;
       fine = fine_behind (store_of g.S.Store c.args.store.now) (store_of g.S.Store c.plies.store) (store_of g.S.Store c.turn.new.store) c.plies.invariant.fine c.in_ok-end.ensures.cause;
-      asked = (let a = c.plies.invariant.asked in let b = c.in_ok-end.ensures.asked in omega (arith, a, b));
+      spent = spends_on spot.played spot.played before mid now (omega arith) c.plies.invariant.spent
+          (at_one mid now c.in_ok-end.ensures.asked c.in_ok-end.ensures.calls c.in_ok-end.ensures.step);
       later = (let a = c.plies.invariant.later in let b = c.in_ok-end.ensures.later in omega (arith, a, b));
     }
 

@@ -11,6 +11,7 @@ invariant-loop-arm g l = record {
       (λ kept. l.codes.items ≡ map (arm_code l.side kept) (take l.arm-index l.arm-items));
   quiet : StoreQuiet (store_of g.S.Store l.initial.store) (store_of g.S.Store l.store);
   asked : g.S.Store.asked l.store ≤ g.S.Store.asked l.initial.store + 4 * l.arm-index;
+  calls : g.S.Store.calls l.store ≤ g.S.Store.calls l.initial.store + l.arm-index;
   faults : g.S.Store.faults l.store ≡ g.S.Store.faults l.initial.store;
   wants : g.S.Store.wants l.store ≡ g.S.Store.wants l.initial.store;
 }
