@@ -11,7 +11,8 @@ use Rattle.frz_answer.specs.Answers.{IsLines}
 use Rattle.frz_answer.specs.Texts.{TookText}
 use Rattle.frz_answer.proofs.Lemmas.{took_nothing, took_behind}
 use Rattle.frz_arena.specs.Arena.{Arena}
-use Rattle.frz_line.specs.declared.reading.TheConstants.{MOST_ASKED}
+use Rattle.frz_line.specs.Costs.{Spent}
+use Rattle.frz_line.proofs.Lemmas.{SpendsAt, nothing_spent, spends_on}
 use Rattle.frz_play.specs.declared.end.SessionEnd.{SessionEnd}
 use Rattle.frz_play.specs.declared.end.PlayFault.{PlayFault}
 use Rattle.frz_play.specs.declared.end.TheConstants.{MOST_LINES}
@@ -46,7 +47,7 @@ ComeBy arena side kept start code spot reader played bytes text =
     GoesOn arena side kept 0 (opened (bytes ++ left)) start plies end last →
     IsLeft arena side kept code spot (record { left = left; more = reader.more }) played text plies end last
 
-pub record SoFar (told : Option (List ℕ)) (arena : Arena Step ℕ Value) (side : Colour) (start code : ℕ) (spot : Spot) (reader : Reader) (source left : SourceTold) (out taken : SinkTold) (before now : ℕ) : Type 0 where
+pub record SoFar (told : Option (List ℕ)) (arena : Arena Step ℕ Value) (side : Colour) (start code : ℕ) (spot : Spot) (reader : Reader) (source left : SourceTold) (out taken : SinkTold) (before now : Spent) : Type 0 where
   pub text : List ℕ
   pub bytes : List ℕ
   pub lines : IsLines text
@@ -54,14 +55,14 @@ pub record SoFar (told : Option (List ℕ)) (arena : Arena Step ℕ Value) (side
   pub took : TookBytes bytes source left
   pub played : ℕ
   pub count : (played == 0) ≡ spot.is_start
-  pub asked : now ≤ before + MOST_ASKED * played
+  pub spent : SpendsAt played before now
   pub comes : IfSome told (λ kept. ComeBy arena side kept start code spot reader played bytes text)
 
 every : {A : Type 0} (o : Option A) (P : A → Type 0) → ((x : A) → P x) → IfSome o P
 every None P f = tt
 every (Some x) P f = f x
 
-pub at_start : (told : Option (List ℕ)) (arena : Arena Step ℕ Value) (side : Colour) (start code : ℕ) (source : SourceTold) (out : SinkTold) (now : ℕ) → SoFar told arena side start code (record { number = start; code = code; is_start = true }) (record { more = MOST_LINES; ended = false }) source source out out now now
+pub at_start : (told : Option (List ℕ)) (arena : Arena Step ℕ Value) (side : Colour) (start code : ℕ) (source : SourceTold) (out : SinkTold) (now : Spent) → SoFar told arena side start code (record { number = start; code = code; is_start = true }) (record { more = MOST_LINES; ended = false }) source source out out now now
 at_start told arena side start code source out now = record {
   text = [];
   bytes = [];
@@ -70,7 +71,7 @@ at_start told arena side start code source out now = record {
   took = took_none source source refl;
   played = 0;
   count = refl;
-  asked = omega arith;
+  spent = nothing_spent now;
   comes = every told (λ kept. ComeBy arena side kept start code (record { number = start; code = code; is_start = true }) (record { more = MOST_LINES; ended = false }) 0 [] []) (λ kept agrees left may plies end last w.
       record { agrees = agrees; others = plies; way = w; is = refl; many = omega arith });
 }
@@ -81,6 +82,10 @@ later_count k = grind (arith, nat_tests)
 follows_both : (old new : Reader) (bytes left : List ℕ) → StaysEnded old new bytes → MayFollow new left → MayFollow old (bytes ++ left)
 follows_both old new bytes left stays may = λ e.
     let s = stays e in ap (λ (l : List ℕ). l ++ left) s.0 ∙ may s.1
+
+spent_after : (played : ℕ) (before now after : Spent) → SpendsAt played before now → SpendsAt 1 now after → SpendsAt (suc played) before after
+spent_after played before now after first next =
+    subst (λ k. SpendsAt k before after) (omega arith) (spends_on played played before now after (omega arith) first next)
 
 -- a ply was played
 after_ply : (arena : Arena Step ℕ Value) (side : Colour) (kept : List ℕ) (start code : ℕ) (spot : Spot) (old new : Reader) (played number read : ℕ) (bytes more text next : List ℕ) → (played == 0) ≡ spot.is_start → StaysEnded old new more → ComeBy arena side kept start code spot old played bytes text → GoesBy arena side kept spot old new more next (Ok (On number read)) → ComeBy arena side kept start code (record { number = number; code = read; is_start = false }) new (suc played) (bytes ++ more) (text ++ next)
@@ -99,7 +104,7 @@ after_ply arena side kept start code spot old new played number read bytes more 
       many = omega (arith, long, many);
     }
 
-pub next_far : (told : Option (List ℕ)) (arena : Arena Step ℕ Value) (side : Colour) (start code : ℕ) (spot : Spot) (old new : Reader) (number read : ℕ) (source mid left : SourceTold) (out between taken : SinkTold) (before now after : ℕ) → SoFar told arena side start code spot old source mid out between before now → after ≤ now + MOST_ASKED → (next more : List ℕ) → IsLines next → TookText next between taken → TookBytes more mid left → StaysEnded old new more → IfSome told (λ kept. GoesBy arena side kept spot old new more next (Ok (On number read))) → SoFar told arena side start code (record { number = number; code = read; is_start = false }) new source left out taken before after
+pub next_far : (told : Option (List ℕ)) (arena : Arena Step ℕ Value) (side : Colour) (start code : ℕ) (spot : Spot) (old new : Reader) (number read : ℕ) (source mid left : SourceTold) (out between taken : SinkTold) (before now after : Spent) → SoFar told arena side start code spot old source mid out between before now → SpendsAt 1 now after → (next more : List ℕ) → IsLines next → TookText next between taken → TookBytes more mid left → StaysEnded old new more → IfSome told (λ kept. GoesBy arena side kept spot old new more next (Ok (On number read))) → SoFar told arena side start code (record { number = number; code = read; is_start = false }) new source left out taken before after
 next_far told arena side start code spot old new number read source mid left out between taken before now after far few next more lines wrote took stays goes = record {
   text = far.text ++ next;
   bytes = far.bytes ++ more;
@@ -108,7 +113,7 @@ next_far told arena side start code spot old new number read source mid left out
   took = took_on far.bytes more source mid left far.took took;
   played = suc far.played;
   count = later_count far.played;
-  asked = (let a = far.asked in omega (arith, a, few));
+  spent = spent_after far.played before now after far.spent few;
   comes = both told (λ kept. ComeBy arena side kept start code spot old far.played far.bytes far.text) (λ kept. GoesBy arena side kept spot old new more next (Ok (On number read))) (λ kept. ComeBy arena side kept start code (record { number = number; code = read; is_start = false }) new (suc far.played) (far.bytes ++ more) (far.text ++ next)) (λ kept c g.
       after_ply arena side kept start code spot old new far.played number read far.bytes more far.text next far.count stays c g) far.comes goes;
 }
@@ -118,7 +123,7 @@ left_over arena side kept played left plies end last rest (Ok answer) h = h
 left_over arena side kept played left plies end last rest (Err fault) h = h
 
 -- the last turn
-played_out : (arena : Arena Step ℕ Value) (side : Colour) (kept : List ℕ) (start code : ℕ) (spot : Spot) (old new : Reader) (played : ℕ) (bytes more text next : List ℕ) (answer : Result SessionEnd PlayFault) (before now after : ℕ) (source left : SourceTold) → (played == 0) ≡ spot.is_start → now ≤ before + MOST_ASKED * played → after ≤ now + MOST_ASKED → StaysEnded old new more → TookBytes (bytes ++ more) source left → (new.ended ≡ true → HasEnded left) → ComeBy arena side kept start code spot old played bytes text → GoesBy arena side kept spot old new more next (turn_over answer) → Plays arena side kept start code source (bytes ++ more) (text ++ next) answer before after
+played_out : (arena : Arena Step ℕ Value) (side : Colour) (kept : List ℕ) (start code : ℕ) (spot : Spot) (old new : Reader) (played : ℕ) (bytes more text next : List ℕ) (answer : Result SessionEnd PlayFault) (before now after : Spent) (source left : SourceTold) → (played == 0) ≡ spot.is_start → SpendsAt played before now → SpendsAt 1 now after → StaysEnded old new more → TookBytes (bytes ++ more) source left → (new.ended ≡ true → HasEnded left) → ComeBy arena side kept start code spot old played bytes text → GoesBy arena side kept spot old new more next (turn_over answer) → Plays arena side kept start code source (bytes ++ more) (text ++ next) answer before after
 played_out arena side kept start code spot old new played bytes more text next answer before now after source left count b n stays took has comes goes =
     let r = some_rest left (new.ended ≡ true) has in
     let rest = r.0 in (
@@ -130,7 +135,7 @@ played_out arena side kept start code spot old new played bytes more text next a
           let g = goes l.agrees played count rest r.2 l.others end last l.way in
           let o = left_over arena side kept played (record { left = rest; more = new.more }) l.others end last g.0 answer g.2 in
           let many = l.many in
-          let asked : after ≤ before + MOST_ASKED * (length plies + 1) = omega (arith, b, n, many) in (
+          let spent = spends_on played (length plies) before now after (omega (arith, many)) b n in (
             record {
               rest = g.0;
               unread = o.0;
@@ -138,12 +143,12 @@ played_out arena side kept start code spot old new played bytes more text next a
               takes = ap (λ (z : List ℕ). (bytes ++ more) ++ z) o.1;
               finishes = o.2;
             },
-            asked,
+            spent,
           ),
     )
 
 -- what a session wrote and took
-abbrev pub SessionWrote : Option (List ℕ) → Arena Step ℕ Value → Colour → (start code : ℕ) → Result SessionEnd PlayFault → (source left : SourceTold) → (out taken : SinkTold) → (before now : ℕ) → Type 0
+abbrev pub SessionWrote : Option (List ℕ) → Arena Step ℕ Value → Colour → (start code : ℕ) → Result SessionEnd PlayFault → (source left : SourceTold) → (out taken : SinkTold) → (before now : Spent) → Type 0
 SessionWrote told arena side start code result source left out taken before now =
     (text bytes : List ℕ) × IsLines text × WroteBy result text out taken × TookBytes bytes source left
     × IfSome told (λ kept. Plays arena side kept start code source bytes text result before now)
@@ -152,7 +157,7 @@ over_wrote : (answer : Result SessionEnd PlayFault) (text : List ℕ) (old new :
 over_wrote (Ok answer) text old new w = w
 over_wrote (Err fault) text old new w = same_wrote Turn SessionEnd fault text old new w
 
-pub last_far : (told : Option (List ℕ)) (arena : Arena Step ℕ Value) (side : Colour) (start code : ℕ) (spot : Spot) (old new : Reader) (source mid left : SourceTold) (out between taken : SinkTold) (before now after : ℕ) → SoFar told arena side start code spot old source mid out between before now → after ≤ now + MOST_ASKED → (new.ended ≡ true → HasEnded left) → (answer : Result SessionEnd PlayFault) (next more : List ℕ) → IsLines next → WroteBy (turn_over answer) next between taken → TookBytes more mid left → StaysEnded old new more → IfSome told (λ kept. GoesBy arena side kept spot old new more next (turn_over answer)) → SessionWrote told arena side start code answer source left out taken before after
+pub last_far : (told : Option (List ℕ)) (arena : Arena Step ℕ Value) (side : Colour) (start code : ℕ) (spot : Spot) (old new : Reader) (source mid left : SourceTold) (out between taken : SinkTold) (before now after : Spent) → SoFar told arena side start code spot old source mid out between before now → SpendsAt 1 now after → (new.ended ≡ true → HasEnded left) → (answer : Result SessionEnd PlayFault) (next more : List ℕ) → IsLines next → WroteBy (turn_over answer) next between taken → TookBytes more mid left → StaysEnded old new more → IfSome told (λ kept. GoesBy arena side kept spot old new more next (turn_over answer)) → SessionWrote told arena side start code answer source left out taken before after
 last_far told arena side start code spot old new source mid left out between taken before now after far few has answer next more lines wrote took stays goes =
     let all = took_on far.bytes more source mid left far.took took in (
       far.text ++ next,
@@ -161,10 +166,10 @@ last_far told arena side start code spot old new source mid left out between tak
       wrote_after far.text next answer out between taken far.wrote (over_wrote answer next between taken wrote),
       all,
       both told (λ kept. ComeBy arena side kept start code spot old far.played far.bytes far.text) (λ kept. GoesBy arena side kept spot old new more next (turn_over answer)) (λ kept. Plays arena side kept start code source (far.bytes ++ more) (far.text ++ next) answer before after) (λ kept c g.
-          played_out arena side kept start code spot old new far.played far.bytes more far.text next answer before now after source left far.count far.asked few stays all has c g) far.comes goes,
+          played_out arena side kept start code spot old new far.played far.bytes more far.text next answer before now after source left far.count far.spent few stays all has c g) far.comes goes,
     )
 
-pub fault_wrote : (told : Option (List ℕ)) (arena : Arena Step ℕ Value) (side : Colour) (start code : ℕ) (source left : SourceTold) (out taken : SinkTold) (before now : ℕ) (fault : PlayFault) (result : Result SessionEnd PlayFault) → IsErrAnd result (λ e. e ≡ fault) → SessionWrote told arena side start code (Err fault) source left out taken before now → SessionWrote told arena side start code result source left out taken before now
+pub fault_wrote : (told : Option (List ℕ)) (arena : Arena Step ℕ Value) (side : Colour) (start code : ℕ) (source left : SourceTold) (out taken : SinkTold) (before now : Spent) (fault : PlayFault) (result : Result SessionEnd PlayFault) → IsErrAnd result (λ e. e ≡ fault) → SessionWrote told arena side start code (Err fault) source left out taken before now → SessionWrote told arena side start code result source left out taken before now
 fault_wrote told arena side start code source left out taken before now fault (Ok end) h w = absurd h
 fault_wrote told arena side start code source left out taken before now fault (Err e) h w =
     subst (λ (f : PlayFault). SessionWrote told arena side start code (Err f) source left out taken before now) (sym h) w

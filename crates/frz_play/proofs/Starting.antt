@@ -1,5 +1,5 @@
 -- A session from the number of a position.
-use Rattle.std.proofs.Common.{◌≡◌, ◌≤◌, ◌+◌, ◌*◌, length, ℕ, inl, List, [], Option, Some, None, IfSome, Result, Ok, Err, refl, sym, subst, ap, ◌∙◌, arith}
+use Rattle.std.proofs.Common.{◌≡◌, length, ℕ, inl, List, [], Option, Some, None, IfSome, Result, Ok, Err, refl, sym, subst, ap, ◌∙◌}
 use Rattle.std.specs.Prelude.{slice_get, slice_index}
 use Rattle.std.specs.Option.{option_map}
 use Rattle.std.specs.Result.{IsErrAnd}
@@ -19,7 +19,8 @@ use Rattle.frz_index.specs.Members.{Member, Num}
 use Rattle.frz_table.specs.Layout.{codes_at}
 use Rattle.frz_table.specs.Tables.{Table, table_size}
 use Rattle.frz_line.specs.Faults.{fault_of}
-use Rattle.frz_line.specs.declared.reading.TheConstants.{MOST_ASKED}
+use Rattle.frz_line.specs.Costs.{Spent}
+use Rattle.frz_line.proofs.Lemmas.{ReadsOne, read_alone, read_first}
 use Rattle.frz_line.specs.Kept.{kept_codes}
 use Rattle.frz_line.specs.declared.end.LineFault.TheVariants as faults
 use Rattle.frz_play.specs.declared.end.SessionEnd.{SessionEnd}
@@ -41,13 +42,13 @@ every None P f = tt
 every (Some x) P f = f x
 
 -- what was written and taken of the session
-abbrev pub WroteSession : Option (List ℕ) → RuleLines → Colour → Board → Result SessionEnd PlayFault → (source left : SourceTold) → (out taken : SinkTold) → (before now : ℕ) → Type 0
+abbrev pub WroteSession : Option (List ℕ) → RuleLines → Colour → Board → Result SessionEnd PlayFault → (source left : SourceTold) → (out taken : SinkTold) → (before now : Spent) → Type 0
 WroteSession told rules side p result source left out taken before now =
     (text bytes : List ℕ) × IsLines text × WroteBy result text out taken × TookBytes bytes source left
     × IfSome told (λ codes. (whole : List ℕ) × MayHold source whole × TellsSession rules side codes p whole bytes text result before now)
 
 -- a position that is not in the set
-pub nothing_told : (told : Option (List ℕ)) (rules : RuleLines) (side : Colour) (p : Board) (source : SourceTold) (out : SinkTold) (before : ℕ) → (Member rules.groups p → ⊥) → WroteSession told rules side p (Err (plays.Line faults.Outside)) source source out out before before
+pub nothing_told : (told : Option (List ℕ)) (rules : RuleLines) (side : Colour) (p : Board) (source : SourceTold) (out : SinkTold) (before : Spent) → (Member rules.groups p → ⊥) → WroteSession told rules side p (Err (plays.Line faults.Outside)) source source out out before before
 nothing_told told rules side p source out before none =
     let r = some_rest source ⊥ (λ e. absurd e) in (
       [],
@@ -58,7 +59,7 @@ nothing_told told rules side p source out before none =
       every told (λ codes. (whole : List ℕ) × MayHold source whole × TellsSession rules side codes p whole [] [] (Err (plays.Line faults.Outside)) before before) (λ codes. (r.0, r.1, λ member plies end last w. absurd (none member))),
     )
 
-unread : (told : Option (List ℕ)) (rules : RuleLines) (side : Colour) (p : Board) (source : SourceTold) (out : SinkTold) (before now : ℕ) → now ≤ before + 4 → (fault : PlayFault) → IsStoreFault fault → WroteBy {T = SessionEnd} (Err fault) [] out out → WroteSession told rules side p (Err fault) source source out out before now
+unread : (told : Option (List ℕ)) (rules : RuleLines) (side : Colour) (p : Board) (source : SourceTold) (out : SinkTold) (before now : Spent) → ReadsOne before now → (fault : PlayFault) → IsStoreFault fault → WroteBy {T = SessionEnd} (Err fault) [] out out → WroteSession told rules side p (Err fault) source source out out before now
 unread told rules side p source out before now few fault is wrote =
     let r = some_rest source ⊥ (λ e. absurd e) in (
       [],
@@ -71,8 +72,7 @@ unread told rules side p source out before now few fault is wrote =
         r.1,
         λ member plies end last w.
             let front = way_front (graph_by rules (value_by rules)) side codes 0 (opened r.0) last (Num rules.groups p) plies end w in
-            let code = slice_index codes (Num rules.groups p) in
-            let asked : now ≤ before + (MOST_ASKED + 4) * (length plies + 1) = omega (arith, few) in (
+            let code = slice_index codes (Num rules.groups p) in (
               record {
                 rest = session_text side code plies end;
                 unread = front.0;
@@ -80,7 +80,7 @@ unread told rules side p source out before now few fault is wrote =
                 takes = front.1;
                 finishes = short_of fault side end (session_text side code plies end) front.0 is (short_text side end (start_line side code plies end) (plies_text side plies));
               },
-              asked,
+              read_alone (length plies) before now few,
             ),
       )),
     )
@@ -90,7 +90,7 @@ store_wrote Failed out = took_nothing out
 store_wrote NoMemory out = took_nothing out
 
 -- the code of the start was not read
-pub start_unread : (told : Option (List ℕ)) (rules : RuleLines) (side : Colour) (p : Board) (source : SourceTold) (out : SinkTold) (before now : ℕ) → now ≤ before + 4 → (fault : StoreFault) (result : Result SessionEnd PlayFault) → IsErrAnd result (λ e. e ≡ plays.Line (fault_of fault)) → WroteSession told rules side p result source source out out before now
+pub start_unread : (told : Option (List ℕ)) (rules : RuleLines) (side : Colour) (p : Board) (source : SourceTold) (out : SinkTold) (before now : Spent) → ReadsOne before now → (fault : StoreFault) (result : Result SessionEnd PlayFault) → IsErrAnd result (λ e. e ≡ plays.Line (fault_of fault)) → WroteSession told rules side p result source source out out before now
 start_unread told rules side p source out before now few fault (Ok end) h = absurd h
 start_unread told rules side p source out before now few fault (Err f) h =
     subst (λ (z : PlayFault). WroteSession told rules side p (Err z) source source out out before now) (sym h)
@@ -106,18 +106,17 @@ code_kept table side None start code h = tt
 code_kept table side (Some m) start code h =
     code_in (codes_at side table.text (table_size table)) start code (m table.name) h
 
-tells : (rules : RuleLines) (side : Colour) (codes : List ℕ) (p : Board) (source : SourceTold) (bytes text : List ℕ) (result : Result SessionEnd PlayFault) (before mid now start code : ℕ) → start ≡ Num rules.groups p → mid ≤ before + 4 → slice_index codes start ≡ code → Plays (graph_by rules (value_by rules)) side codes start code source bytes text result mid now → (whole : List ℕ) × MayHold source whole × TellsSession rules side codes p whole bytes text result before now
+tells : (rules : RuleLines) (side : Colour) (codes : List ℕ) (p : Board) (source : SourceTold) (bytes text : List ℕ) (result : Result SessionEnd PlayFault) (before mid now : Spent) (start code : ℕ) → start ≡ Num rules.groups p → ReadsOne before mid → slice_index codes start ≡ code → Plays (graph_by rules (value_by rules)) side codes start code source bytes text result mid now → (whole : List ℕ) × MayHold source whole × TellsSession rules side codes p whole bytes text result before now
 tells rules side codes p source bytes text result before mid now start code is few agrees plays = (
   plays.0,
   plays.1,
   λ member plies end last w.
       let h = plays.2 agrees plies end last (subst (λ i. GoesOn (graph_by rules (value_by rules)) side codes 0 (opened plays.0) i plies end last) (sym is) w) in
       let same : code ≡ slice_index codes (Num rules.groups p) = sym agrees ∙ ap (slice_index codes) is in
-      let asked = h.1 in
-      (subst (λ c. PlayedOf side c plays.0 bytes text result plies end last) same h.0, omega (arith, asked, few)),
+      (subst (λ c. PlayedOf side c plays.0 bytes text result plies end last) same h.0, read_first (length plies) before mid now few h.1),
 )
 
-pub session_told : (told : Option (List ℕ)) (rules : RuleLines) (side : Colour) (p : Board) (result : Result SessionEnd PlayFault) (source left : SourceTold) (out taken : SinkTold) (before mid now start code : ℕ) → start ≡ Num rules.groups p → mid ≤ before + 4 → IfSome told (λ codes. slice_index codes start ≡ code) → (text bytes : List ℕ) → IsLines text → WroteBy result text out taken → TookBytes bytes source left → IfSome told (λ codes. Plays (graph_by rules (value_by rules)) side codes start code source bytes text result mid now) → WroteSession told rules side p result source left out taken before now
+pub session_told : (told : Option (List ℕ)) (rules : RuleLines) (side : Colour) (p : Board) (result : Result SessionEnd PlayFault) (source left : SourceTold) (out taken : SinkTold) (before mid now : Spent) (start code : ℕ) → start ≡ Num rules.groups p → ReadsOne before mid → IfSome told (λ codes. slice_index codes start ≡ code) → (text bytes : List ℕ) → IsLines text → WroteBy result text out taken → TookBytes bytes source left → IfSome told (λ codes. Plays (graph_by rules (value_by rules)) side codes start code source bytes text result mid now) → WroteSession told rules side p result source left out taken before now
 session_told told rules side p result source left out taken before mid now start code is few agrees text bytes lines wrote took plays = (
   text,
   bytes,

@@ -1,11 +1,12 @@
 -- What is written and taken in the session at a position of a set.
-use Rattle.std.specs.Prelude.{◌≡◌, ◌≤◌, ◌+◌, ◌*◌, ℕ, List, ◌++◌, length, Result, slice_index}
+use Rattle.std.specs.Prelude.{◌≡◌, ◌+◌, ℕ, List, ◌++◌, length, Result, slice_index}
 use Rattle.frz_board.specs.declared.man.Colour.{Colour}
 use Rattle.frz_board.specs.Boards.{Board}
 use Rattle.frz_sets.specs.Views.{RuleLines}
 use Rattle.frz_exits.specs.Books.{value_by}
 use Rattle.frz_index.specs.Members.{Member, Num}
-use Rattle.frz_line.specs.declared.reading.TheConstants.{MOST_ASKED}
+use Rattle.frz_line.specs.declared.reading.TheConstants.{MOST_ASKED, MOST_READ}
+use Rattle.frz_line.specs.Costs.{Spent, Spends}
 use Rattle.frz_play.specs.declared.end.SessionEnd.{SessionEnd}
 use Rattle.frz_play.specs.declared.end.PlayFault.{PlayFault}
 use Rattle.frz_play.specs.Ends.{Finishes}
@@ -23,11 +24,11 @@ pub record PlayedOf (side : Colour) (code : ℕ) (input bytes text : List ℕ) (
   pub finishes : Finishes result side end rest unread
 
 -- the text and the bytes are those of the session from the position's number against the input; the code of the start
--- is asked for once, and at each number those of its moves
-abbrev pub TellsSession : RuleLines → Colour → List ℕ → Board → (input bytes text : List ℕ) → Result SessionEnd PlayFault → (asked_before asked_now : ℕ) → Type 0
-TellsSession rules side codes p input bytes text result asked_before asked_now =
+-- is read once, and at each number the moves are made once and their codes read
+abbrev pub TellsSession : RuleLines → Colour → List ℕ → Board → (input bytes text : List ℕ) → Result SessionEnd PlayFault → (before now : Spent) → Type 0
+TellsSession rules side codes p input bytes text result before now =
     Member rules.groups p →
     (plies : List SessionPly) (end : EndOfSession) (left : Input) →
     IsSession rules (value_by rules) side codes (Num rules.groups p) input plies end left →
     PlayedOf side (slice_index codes (Num rules.groups p)) input bytes text result plies end left
-    × (asked_now ≤ asked_before + (MOST_ASKED + 4) * (length plies + 1))
+    × Spends (MOST_ASKED + 4) (MOST_READ + 1) (length plies + 1) before now

@@ -1,5 +1,5 @@
 -- One turn of a session: what is written, taken and answered at a number.
-use Rattle.std.specs.Prelude.{◌≡◌, ◌⊎◌, ◌==◌, ◌<◌, ◌≤◌, ◌+◌, ◌*◌, ℕ, suc, Bool, true, false, List, [], ◌++◌, length, Result, Ok, Err, Some, slice_get, slice_index, get_or, if◌then◌else◌, codes, ⊤}
+use Rattle.std.specs.Prelude.{◌≡◌, ◌⊎◌, ◌==◌, ◌<◌, ◌+◌, ◌*◌, ℕ, suc, Bool, true, false, List, [], ◌++◌, length, Result, Ok, Err, Some, slice_get, slice_index, get_or, if◌then◌else◌, codes, ⊤}
 use Rattle.frz_board.specs.declared.man.Colour.{Colour}
 use Rattle.frz_board.specs.Men.{same_colour}
 use Rattle.frz_board.specs.Moving.{Step}
@@ -20,7 +20,8 @@ use Rattle.frz_prelude.specs.BoundLines.{kept_line}
 use Rattle.frz_line.specs.declared.due.Due.{Due}
 use Rattle.frz_line.specs.declared.due.Due.TheVariants as dues
 use Rattle.frz_line.specs.declared.end.LineFault.TheVariants as faults
-use Rattle.frz_line.specs.declared.reading.TheConstants.{MOST_ASKED}
+use Rattle.frz_line.specs.declared.reading.TheConstants.{MOST_ASKED, MOST_READ}
+use Rattle.frz_line.specs.Costs.{Spent, Spends}
 use Rattle.frz_line.specs.Sights.{choices_by}
 use Rattle.frz_line.specs.Texts.{exit_line, move_line}
 use Rattle.frz_play.specs.declared.end.SessionEnd.{SessionEnd}
@@ -180,11 +181,11 @@ GoesBy arena side kept spot old new bytes text result =
     × Leaves arena side kept played (record { left = left; more = new.more }) plies end last rest result
 
 -- the same of all turns from the start, against some input that may be the one that is told
-abbrev pub Plays : Arena Step ℕ Value → Colour → List ℕ → (start code : ℕ) → SourceTold → (bytes text : List ℕ) → Result SessionEnd PlayFault → (asked_before asked_now : ℕ) → Type 0
-Plays arena side kept start code source bytes text result asked_before asked_now =
+abbrev pub Plays : Arena Step ℕ Value → Colour → List ℕ → (start code : ℕ) → SourceTold → (bytes text : List ℕ) → Result SessionEnd PlayFault → (before now : Spent) → Type 0
+Plays arena side kept start code source bytes text result before now =
     (input : List ℕ) × MayHold source input
     × (slice_index kept start ≡ code →
     (plies : List SessionPly) (end : EndOfSession) (last : Input) →
     GoesOn arena side kept 0 (opened input) start plies end last →
     PlayedOf side code input bytes text result plies end last
-    × (asked_now ≤ asked_before + MOST_ASKED * (length plies + 1)))
+    × Spends MOST_ASKED MOST_READ (length plies + 1) before now)

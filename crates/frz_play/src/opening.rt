@@ -5,6 +5,7 @@ ghost use Rattle.frz_index.specs.Members.{Member};
 ghost use Rattle.frz_store.specs.Told.{store_of, source_of, sink_of, StoreQuiet};
 ghost use Rattle.frz_answer.specs.Answers.{IsLines};
 ghost use Rattle.frz_table.specs.Tables.{Carries};
+ghost use Rattle.frz_line.specs.Costs.{spent_by};
 ghost use Rattle.frz_line.specs.Kept.{kept_codes};
 ghost use Rattle.frz_line.specs.declared.end.LineFault.TheVariants as faults;
 ghost use Rattle.frz_play.specs.declared.end.PlayFault.TheVariants.{Line};
@@ -52,7 +53,8 @@ pub fn play_session<S: Store, I: Source, O: Sink, L: Ledger>(
         × IfSome (kept_codes table.now side (S.files store.old))
         (λ codes. (whole : List ℕ) × MayHold (source_of I.Source input.old) whole
         × TellsSession table.now.rules side codes p.now whole bytes text result
-        (S.asked store.old) (S.asked store.new)) }
+        (spent_by (store_of S.Store store.old) steps.old)
+        (spent_by (store_of S.Store store.new) steps.new)) }
     ensures quiet { StoreQuiet (store_of S.Store store.old) (store_of S.Store store.new) }
     ensures cause { StoreCause result (store_of S.Store store.old) (store_of S.Store store.new) }
     ensures input { InputCause result (source_of I.Source input.old)

@@ -5,6 +5,7 @@ ghost use Rattle.frz_answer.specs.Answers.{IsLines};
 ghost use Rattle.frz_table.specs.Tables.{Carries, table_size};
 ghost use Rattle.frz_arena.specs.Codes.{is_failure};
 ghost use Rattle.frz_arena.specs.Turns.{Alternates};
+ghost use Rattle.frz_line.specs.Costs.{spent_by};
 ghost use Rattle.frz_line.specs.Kept.{kept_codes};
 ghost use Rattle.frz_line.specs.declared.end.LineFault.TheVariants as faults;
 ghost use Rattle.frz_play.specs.declared.end.PlayFault.TheVariants.{Line};
@@ -19,7 +20,7 @@ use frz_arena::laws::ways::arms_are_found;
 use frz_board::{Colour, Move};
 use frz_graph::laws::filled;
 use frz_graph::{Lists, NumberedGame};
-use frz_line::{MOST_ASKED, sight};
+use frz_line::{MOST_ASKED, MOST_READ, sight};
 use frz_sets::Value;
 use frz_steps::Steps;
 use frz_store::{Sink, Source, Store};
@@ -59,9 +60,11 @@ fn turn<G: NumberedGame<L>, S: Store, I: Source, O: Sink, L: Ledger>(
     ensures placed { result ≡ Err (Line faults.Outside) → ⊥ }
     ensures quiet { StoreQuiet (store_of S.Store store.old) (store_of S.Store store.new) }
     ensures asked { S.asked store.new ≤ S.asked store.old + MOST_ASKED }
+    ensures calls { S.calls store.new ≤ S.calls store.old + MOST_READ }
     ensures cause { StoreCause result (store_of S.Store store.old) (store_of S.Store store.new) }
     ensures input { InputCause result (source_of I.Source input.old)
         (source_of I.Source input.new) }
+    ensures step { steps.new ≤ steps.old + 1 }
     ensures later { steps.old ≤ steps.new }
 {
     arms_are_found::<Move, u32, Value>();
@@ -105,7 +108,8 @@ pub fn play_from<G: NumberedGame<L>, S: Store, I: Source, O: Sink, L: Ledger>(
         × IfSome (kept_codes table.now side (S.files store.old))
         (λ codes. Plays (G.arena game.now) side codes start code
         (source_of I.Source input.old) bytes text result
-        (S.asked store.old) (S.asked store.new)) }
+        (spent_by (store_of S.Store store.old) steps.old)
+        (spent_by (store_of S.Store store.new) steps.new)) }
     ensures placed { result ≡ Err (Line faults.Outside) → ⊥ }
     ensures quiet { StoreQuiet (store_of S.Store store.old) (store_of S.Store store.new) }
     ensures cause { StoreCause result (store_of S.Store store.old) (store_of S.Store store.new) }
