@@ -77,9 +77,10 @@ some_at there table side p files = some_by there (opened (table_format Plain) (f
 
 -- the table was not opened
 module _ (there : LineThere) (name : List ℕ) (side : Colour) (p : Board) (m : Files) (i : List ℕ) (old new : World) (agrees : Agrees old m i)
-    (asked : new.store.asked ≤ old.store.asked + (16 + length (kept_text (bytes_at m name)))) where
+    (asked : new.store.asked ≤ old.store.asked + (16 + length (kept_text (bytes_at m name))))
+    (calls : new.store.calls ≤ old.store.calls + 5) (steps : new.steps ≡ old.steps) where
   within : (a : Answer) → WithinCosts ((lining_at name side p).costs m i a) old new
-  within a = record { steps = tt; calls = tt; asked = omega (arith, asked) }
+  within a = record { steps = omega (arith, steps); calls = omega (arith, calls); asked = omega (arith, asked) }
 
   refused_so : (fault : TableFault) → opened (table_format Plain) (m name) ≡ Err fault → StopsWith (lining_at name side p) (Refused (refusals.Table fault)) m i old new
   refused_so fault e = record {

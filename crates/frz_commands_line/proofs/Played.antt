@@ -25,6 +25,7 @@ use Rattle.frz_line.specs.declared.end.LineEnd.{LineEnd}
 use Rattle.frz_line.specs.declared.end.LineFault.{LineFault}
 use Rattle.frz_line.specs.declared.end.LineFault.TheVariants as faults
 use Rattle.frz_line.specs.BestLine.{TellsLine}
+use Rattle.frz_line.specs.Costs.{Spent, spent_by}
 use Rattle.frz_line.specs.Ends.{told, IsUnfinished, Finishes}
 use Rattle.frz_line.specs.Faults.{StoreCause, WroteBy}
 use Rattle.frz_line.specs.Kept.{kept_codes}
@@ -37,7 +38,7 @@ use Rattle.frz_commands_line.proofs.Counting.{plies_told, unfinished_said}
 use Rattle.frz_commands_line.proofs.Seen.{LineThere, LineSo, by_member, lined_inside, lined_outside, line_so}
 
 -- what was written of the line
-abbrev pub Wrote : Table → Colour → Board → Option Files → Result LineEnd LineFault → SinkTold → SinkTold → (before now : ℕ) → Type 0
+abbrev pub Wrote : Table → Colour → Board → Option Files → Result LineEnd LineFault → SinkTold → SinkTold → (before now : Spent) → Type 0
 Wrote table side p files result old new before now =
     (text : List ℕ) × IsLines text × WroteBy result text old new
     × IfSome (kept_codes table side files) (λ codes. TellsLine table.rules side codes p text result before now)
@@ -65,7 +66,7 @@ module _ (there : LineThere) (table : Table) (side : Colour) (p : Board) (store 
   }
 
   abbrev Line : List ℕ → Result LineEnd LineFault → Files → Type 0
-  Line text result m = LineSo (contents_of table) (bytes_at m table.name) side p text result store.asked left.asked
+  Line text result m = LineSo (contents_of table) (bytes_at m table.name) side p text result (spent_by store before) (spent_by left now)
 
   abbrev code_in : Files → ℕ
   code_in m = code_at (contents_of table) (bytes_at m table.name) side p
@@ -76,8 +77,10 @@ module _ (there : LineThere) (table : Table) (side : Colour) (p : Board) (store 
   asked_costs text result m i so a w e =
       let few = plies_told side (code_in m) so.plies so.end in
       let same = ap plies_in e in
-      let asked = so.asked in
-      record { steps = tt; calls = tt; asked = omega (arith, few, same, asked) }
+      let bytes = so.spent.bytes in
+      let called = so.spent.called in
+      let stepped = so.spent.stepped in
+      record { steps = omega (arith, few, same, stepped); calls = omega (arith, few, same, called); asked = omega (arith, few, same, bytes) }
 
   -- an answer is this one of the line
   is_answer : (inside : Member table.rules.groups p) (text : List ℕ) (result : Result LineEnd LineFault) (m : Files) (i : List ℕ) (so : Line text result m) (a : Answer)
@@ -87,11 +90,11 @@ module _ (there : LineThere) (table : Table) (side : Colour) (p : Board) (store 
 
   module _ (inside : Member table.rules.groups p) (text : List ℕ) (lines : IsLines text) where
     abbrev TellsIt : Result LineEnd LineFault → Type 0
-    TellsIt result = IfSome (kept_codes table side store.files) (λ codes. TellsLine table.rules side codes p text result store.asked left.asked)
+    TellsIt result = IfSome (kept_codes table side store.files) (λ codes. TellsLine table.rules side codes p text result (spent_by store before) (spent_by left now))
 
     so_in : (result : Result LineEnd LineFault) → TellsIt result → IsSome store.files → (m : Files) (i : List ℕ) → Agrees old m i → Line text result m
     so_in result tells sees m i agrees =
-        line_so there table side p text result store.asked left.asked inside store.files m sees agrees.store carried tells
+        line_so there table side p text result (spent_by store before) (spent_by left now) inside store.files m sees agrees.store carried tells
 
     -- the whole line was written, and its end is told
     all_told : (result : Result LineEnd LineFault) (end : End) → TellsIt result → TookText text out mid → StoreFine store left
@@ -177,9 +180,9 @@ module _ (there : LineThere) (table : Table) (side : Colour) (p : Board) (store 
         })
 
   -- the position is not in the set: neither object was touched
-  outside_told : (end : End) → (Member table.rules.groups p → ⊥) → left ≡ store → mid ≡ out → Said (status_of refusals.Outside) (refusal_line refusals.Outside) end mid taken
+  outside_told : (end : End) → (Member table.rules.groups p → ⊥) → left ≡ store → mid ≡ out → now ≡ before → Said (status_of refusals.Outside) (refusal_line refusals.Outside) end mid taken
       → Ran job end old (world left input taken now)
-  outside_told end none same unwritten said_it =
+  outside_told end none same unwritten unstepped said_it =
       said job (status_of refusals.Outside) (refusal_line refusals.Outside) end old (world left input out now) taken
       (record {
         later = record { store = quiet.later; input = omega arith; out = omega arith; steps = later };
@@ -192,7 +195,11 @@ module _ (there : LineThere) (table : Table) (side : Colour) (p : Board) (store 
       (λ sees m i agrees. record {
         found = as_given job m i old agrees;
         answer = lined_outside (contents_of table) (bytes_at m table.name) side p m (says (status_of refusals.Outside) (refusal_line refusals.Outside) m) none refl;
-        costs = record { steps = tt; calls = tt; asked = (let e = ap (λ (s : StoreTold). s.asked) same in omega (arith, e)) };
+        costs = record {
+          steps = omega (arith, unstepped);
+          calls = (let e = ap (λ (s : StoreTold). s.calls) same in omega (arith, e));
+          asked = (let e = ap (λ (s : StoreTold). s.asked) same in omega (arith, e));
+        };
       })
 
   is_inside : (result : Result LineEnd LineFault) → ((result ≡ Err faults.Outside) ↔ (Member table.rules.groups p → ⊥)) → (result ≡ Err faults.Outside → ⊥) → Member table.rules.groups p
@@ -205,12 +212,12 @@ module _ (there : LineThere) (table : Table) (side : Colour) (p : Board) (store 
 
   -- the line was played, and its end told
   pub line_ran : (result : Result LineEnd LineFault) (end : End) → ((result ≡ Err faults.Outside) ↔ (Member table.rules.groups p → ⊥))
-      → (result ≡ Err faults.Outside → (left ≡ store) × (mid ≡ out)) → StoreCause result store left → EndsLine result end mid taken
-      → Wrote table side p store.files result out mid store.asked left.asked → Ran job end old (world left input taken now)
+      → (result ≡ Err faults.Outside → (left ≡ store) × (mid ≡ out) × (now ≡ before)) → StoreCause result store left → EndsLine result end mid taken
+      → Wrote table side p store.files result out mid (spent_by store before) (spent_by left now) → Ran job end old (world left input taken now)
   line_ran (Ok last) end outside touched cause ends wrote =
       all_told (is_inside (Ok last) outside (λ e. cc)) wrote.0 wrote.1 (Ok last) end wrote.3 wrote.2 cause refl ends (λ answer rest h. h)
   line_ran (Err faults.Outside) end outside touched cause ends wrote =
-      let same = touched refl in outside_told end (outside.0 refl) same.0 same.1 ends
+      let same = touched refl in outside_told end (outside.0 refl) same.0 same.1 same.2 ends
   line_ran (Err faults.NoBound) end outside touched cause ends wrote =
       all_told (is_inside (Err faults.NoBound) outside (λ e. cc)) wrote.0 wrote.1 (Err faults.NoBound) end wrote.3 wrote.2 cause refl ends (λ answer rest h. h)
   line_ran (Err (faults.Wrong w)) end outside touched cause ends wrote =

@@ -19,8 +19,9 @@ use Rattle.frz_prelude.specs.Refusals.{status_of, refusal_line}
 use Rattle.frz_prelude.specs.declared.refused.Refused.TheVariants as refusals
 use Rattle.frz_line.specs.declared.end.LineEnd.{LineEnd}
 use Rattle.frz_line.specs.declared.end.LineFault.{LineFault}
-use Rattle.frz_line.specs.declared.reading.TheConstants.{MOST_ASKED}
+use Rattle.frz_line.specs.declared.reading.TheConstants.{MOST_ASKED, MOST_READ}
 use Rattle.frz_line.specs.BestLine.{TellsLine}
+use Rattle.frz_line.specs.Costs.{Spent, Spends}
 use Rattle.frz_line.specs.Ends.{told, Finishes}
 use Rattle.frz_line.specs.Kept.{kept_codes}
 use Rattle.frz_line.specs.Lines.{LinePly, EndOfLine, IsLine}
@@ -61,16 +62,16 @@ module _ (contents : Contents) (bytes : List ℕ) (side : Colour) (p : Board) (f
       (sym (outside_test (is_member contents.rules.groups p) refl none)) e
 
 -- the line of which this text was written, with what was asked for
-pub record LineSo (contents : Contents) (bytes : List ℕ) (side : Colour) (p : Board) (text : List ℕ) (result : Result LineEnd LineFault) (before now : ℕ) : Type 0 where
+pub record LineSo (contents : Contents) (bytes : List ℕ) (side : Colour) (p : Board) (text : List ℕ) (result : Result LineEnd LineFault) (before now : Spent) : Type 0 where
   pub plies : List LinePly
   pub end : EndOfLine
   pub line : IsLineBy contents bytes side p plies end
   pub rest : List ℕ
   pub whole : text ++ rest ≡ line_text side (code_at contents bytes side p) plies (told side end)
   pub finishes : Finishes result (told side end) rest
-  pub asked : now ≤ before + (MOST_ASKED + 4) * (length plies + 1)
+  pub spent : Spends (MOST_ASKED + 4) (MOST_READ + 1) (length plies + 1) before now
 
-module _ (there : LineThere) (table : Table) (side : Colour) (p : Board) (text : List ℕ) (result : Result LineEnd LineFault) (before now : ℕ) (inside : Member table.rules.groups p) where
+module _ (there : LineThere) (table : Table) (side : Colour) (p : Board) (text : List ℕ) (result : Result LineEnd LineFault) (before now : Spent) (inside : Member table.rules.groups p) where
   abbrev codes_of : List ℕ → List ℕ
   codes_of bytes = codes_at side table.text (table_size table) bytes
 
@@ -83,7 +84,7 @@ module _ (there : LineThere) (table : Table) (side : Colour) (p : Board) (text :
   in_file (Some bytes) carried tells =
       let line = there table.rules (value_by table.rules) side (codes_of bytes) (Num table.rules.groups p) in
       let so = tells inside line.0 line.1 line.2 in
-      record { plies = line.0; end = line.1; line = line.2; rest = so.0; whole = so.1; finishes = so.2; asked = so.3 }
+      record { plies = line.0; end = line.1; line = line.2; rest = so.0; whole = so.1; finishes = so.2; spent = so.3 }
 
   pub line_so : (o : Option Files) (m : Files) → IsSome o → IfSome o (λ f. f ≡ m) → Carries o table → IfSome (kept_codes table side o) Tells
       → LineSo (contents_of table) (bytes_at m table.name) side p text result before now
@@ -92,5 +93,5 @@ module _ (there : LineThere) (table : Table) (side : Colour) (p : Board) (text :
       subst (λ (g : Files). LineSo (contents_of table) (bytes_at g table.name) side p text result before now) e (in_file (f table.name) carried tells)
 
 -- the answer of the line
-abbrev pub answer_of : {contents : Contents} {bytes : List ℕ} {side : Colour} {p : Board} {text : List ℕ} {result : Result LineEnd LineFault} {before now : ℕ} → LineSo contents bytes side p text result before now → Files → Answer
+abbrev pub answer_of : {contents : Contents} {bytes : List ℕ} {side : Colour} {p : Board} {text : List ℕ} {result : Result LineEnd LineFault} {before now : Spent} → LineSo contents bytes side p text result before now → Files → Answer
 answer_of {contents} {bytes} {side} {p} so files = line_answer side (code_at contents bytes side p) so.plies (told side so.end) files

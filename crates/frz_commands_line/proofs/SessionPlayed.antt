@@ -39,13 +39,14 @@ use Rattle.frz_game.specs.Games.{graph_by}
 use Rattle.frz_exits.specs.Books.{value_by}
 use Rattle.frz_check.specs.Kept.{kept_codes as codes_in}
 use Rattle.frz_index.specs.Members.{Num}
+use Rattle.frz_line.specs.Costs.{Spent, spent_by}
 use Rattle.frz_play.specs.Reading.{opened}
 use Rattle.frz_commands_line.proofs.SessionSeen.{SessionThere, SessionSo, played_inside, played_outside, session_so}
 use Rattle.frz_commands_line.proofs.SessionTexts.{Answered, answered_at, never_cut, plies_played}
 use Rattle.frz_commands_line.proofs.Taken.{rest_after, Split, found_in, after_lines, rest_left, cut_after}
 
 -- what was written of the session and taken of the input
-abbrev pub Played : Table → Colour → Board → Option Files → Result SessionEnd PlayFault → SourceTold → SourceTold → SinkTold → SinkTold → (before now : ℕ) → Type 0
+abbrev pub Played : Table → Colour → Board → Option Files → Result SessionEnd PlayFault → SourceTold → SourceTold → SinkTold → SinkTold → (before now : Spent) → Type 0
 Played table side p files result source gone old new before now =
     (text : List ℕ) × (took : List ℕ) × IsLines text × WroteBy result text old new × TookBytes took source gone
     × IfSome (kept_codes table side files)
@@ -67,8 +68,11 @@ module _ (there : SessionThere) (table : Table) (side : Colour) (p : Board) (sto
   old = world store source out before
 
   -- the input as it was left, with no fault yet
+  abbrev unfailed_source : SourceTold
+  unfailed_source = record { left = gone.left; faults = source.faults }
+
   abbrev between : World
-  between = world store (record { left = gone.left; faults = source.faults }) mid before
+  between = world store unfailed_source mid before
 
   abbrev played : World
   played = world left gone mid now
@@ -78,12 +82,12 @@ module _ (there : SessionThere) (table : Table) (side : Colour) (p : Board) (sto
 
   module _ (inside : Member table.rules.groups p) (text took : List ℕ) (lines : IsLines text) (bytes : TookBytes took source gone) (fell : source.faults ≤ gone.faults) where
     abbrev Session : Result SessionEnd PlayFault → Files → Type 0
-    Session result m = SessionSo (contents_of table) (bytes_at m table.name) side p text took result source store.asked left.asked
+    Session result m = SessionSo (contents_of table) (bytes_at m table.name) side p text took result source (spent_by store before) (spent_by left now)
 
     abbrev TellsIt : Result SessionEnd PlayFault → Type 0
     TellsIt result =
         IfSome (kept_codes table side store.files)
-        (λ codes. (whole : List ℕ) × MayHold source whole × TellsSession table.rules side codes p whole took text result store.asked left.asked)
+        (λ codes. (whole : List ℕ) × MayHold source whole × TellsSession table.rules side codes p whole took text result (spent_by store before) (spent_by left now))
 
     came : TookText text out mid → Came text took old between
     came wrote = record {
@@ -110,7 +114,7 @@ module _ (there : SessionThere) (table : Table) (side : Colour) (p : Board) (sto
 
     so_in : (result : Result SessionEnd PlayFault) → TellsIt result → IsSome store.files → (m : Files) → IfSome store.files (λ told. told ≡ m) → Session result m
     so_in result tells sees m agrees =
-        session_so there table side p text took result source store.asked left.asked inside store.files m sees agrees carried tells
+        session_so there table side p text took result source (spent_by store before) (spent_by left now) inside store.files m sees agrees carried tells
 
     abbrev rest_of : (result : Result SessionEnd PlayFault) (m : Files) → Session result m → List ℕ
     rest_of result m so = so.of.unread ++ so.left.left
@@ -121,13 +125,15 @@ module _ (there : SessionThere) (table : Table) (side : Colour) (p : Board) (sto
         record { input = so.input; rest = rest_of result m so; may = so.may; split = so.of.takes }
 
     -- so much was asked for
-    asked_costs : (result : Result SessionEnd PlayFault) (m : Files) (i : List ℕ) (so : Session result m) (answer : Result SessionEnd PlayFault) (a : Answer) (from to : World)
-        → from.store.asked ≡ store.asked → to.store.asked ≡ left.asked → a.text ≡ played_text side (code_in m) so.plies so.end answer → WithinCosts (job.costs m i a) from to
-    asked_costs result m i so answer a from to first then e =
+    asked_costs : (result : Result SessionEnd PlayFault) (m : Files) (i : List ℕ) (so : Session result m) (answer : Result SessionEnd PlayFault) (a : Answer) (here there : SourceTold) (first last : SinkTold)
+        → a.text ≡ played_text side (code_in m) so.plies so.end answer → WithinCosts (job.costs m i a) (world store here first before) (world left there last now)
+    asked_costs result m i so answer a here there first last e =
         let few = plies_played side (code_in m) so.plies so.end answer in
         let same = ap plies_of e in
-        let asked = so.asked in
-        record { steps = tt; calls = tt; asked = omega (arith, few, same, asked, first, then) }
+        let bytes = so.spent.bytes in
+        let called = so.spent.called in
+        let stepped = so.spent.stepped in
+        record { steps = omega (arith, few, same, stepped); calls = omega (arith, few, same, called); asked = omega (arith, few, same, bytes) }
 
     -- an answer is this one of the session
     is_answer : (result : Result SessionEnd PlayFault) (m : Files) (so : Session result m) (answer : Result SessionEnd PlayFault) → Tells side so.end answer → (a : Answer)
@@ -178,7 +184,7 @@ module _ (there : SessionThere) (table : Table) (side : Colour) (p : Board) (sto
         let ended = whole so.end so.of.rest so.of.unread so.of.finishes in
         let texts : text ++ session_naming result ≡ played_text side (code_in m) so.plies so.end result =
         ap (λ (l : List ℕ). l ++ session_naming result) (sym (append-nil text) ∙ ap (λ (l : List ℕ). text ++ l) (sym ended.1) ∙ so.of.begins) in
-        let costs = asked_costs result m (rest_of result m so) so result (this m (session_status result) (text ++ session_naming result) (length took + 0)) between played refl refl texts in
+        let costs = asked_costs result m (rest_of result m so) so result (this m (session_status result) (text ++ session_naming result) (length took + 0)) unfailed_source gone mid mid texts in
         record {
           found = found_in (rest_after job text took) m i between (rest_of result m so) refl agrees.store (left_told result m so);
           answer = behind_it result m so result ended.0 (session_naming result) 0 texts (sym (ap length ended.2));
@@ -212,7 +218,7 @@ module _ (there : SessionThere) (table : Table) (side : Colour) (p : Board) (sto
         let answer = final.answer in
         let line = so.of.rest ++ session_naming answer in
         let texts = rest_told result m so answer in
-        let costs = asked_costs result m (rest_of result m so) so answer (this m (session_status answer) (text ++ line) (length took + length so.of.unread)) between played refl refl texts in
+        let costs = asked_costs result m (rest_of result m so) so answer (this m (session_status answer) (text ++ line) (length took + length so.of.unread)) unfailed_source gone mid mid texts in
         record {
           found = found_in (rest_after job text took) m i between (rest_of result m so) refl agrees.store (left_told result m so);
           some = record {
@@ -239,7 +245,7 @@ module _ (there : SessionThere) (table : Table) (side : Colour) (p : Board) (sto
         let final = answer_in result m so in
         let answer = final.answer in
         let a = session_answer side (code_in m) so.input so.plies so.end so.left answer m in
-        let costs = asked_costs result m so.input so answer a old (world left gone out now) refl refl refl in
+        let costs = asked_costs result m so.input so answer a source gone out out refl in
         let many = many_taken result m so in
         record {
           input = so.input;
@@ -260,7 +266,7 @@ module _ (there : SessionThere) (table : Table) (side : Colour) (p : Board) (sto
   -- the session was played from a position of the set, and its end told
   pub session_ran : Member table.rules.groups p → (result : Result SessionEnd PlayFault) (end : End) → ((result ≡ Err (plays.Line faults.Outside)) ↔ (Member table.rules.groups p → ⊥))
       → StoreCause result store left → InputCause result source gone → EndsSession result end mid taken
-      → Played table side p store.files result source gone out mid store.asked left.asked → Ran job end old (world left gone taken now)
+      → Played table side p store.files result source gone out mid (spent_by store before) (spent_by left now) → Ran job end old (world left gone taken now)
   session_ran inside (Ok last) end outside cause input ends w =
       all_told inside w.0 w.1 w.2 w.4 (input_later (Ok last) source gone input) (Ok last) end w.5 w.3 cause input refl ends (λ final rest unread h. h)
   session_ran inside (Err (plays.Limit limit)) end outside cause input ends w =
@@ -292,5 +298,5 @@ outside_ran table side p store source out taken steps end none said_it =
     (λ sees m i agrees. record {
       found = as_given (playing_in table side p) m i (world store source out steps) agrees;
       answer = played_outside (contents_of table) (bytes_at m table.name) side p m i (says (status_of refusals.Outside) (refusal_line refusals.Outside) m) none refl;
-      costs = record { steps = tt; calls = tt; asked = omega arith };
+      costs = record { steps = omega arith; calls = omega arith; asked = omega arith };
     })

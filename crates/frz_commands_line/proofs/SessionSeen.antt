@@ -18,7 +18,8 @@ use Rattle.frz_table.specs.Tables.{Table, Carries, IsFileOf, table_size}
 use Rattle.frz_answer.specs.Answers.{Answer, says}
 use Rattle.frz_prelude.specs.Refusals.{status_of, refusal_line}
 use Rattle.frz_prelude.specs.declared.refused.Refused.TheVariants as refusals
-use Rattle.frz_line.specs.declared.reading.TheConstants.{MOST_ASKED}
+use Rattle.frz_line.specs.declared.reading.TheConstants.{MOST_ASKED, MOST_READ}
+use Rattle.frz_line.specs.Costs.{Spent, Spends}
 use Rattle.frz_line.specs.Kept.{kept_codes}
 use Rattle.frz_play.specs.declared.end.PlayFault.{PlayFault}
 use Rattle.frz_play.specs.declared.end.SessionEnd.{SessionEnd}
@@ -52,7 +53,7 @@ module _ (contents : Contents) (bytes : List ℕ) (side : Colour) (p : Board) (f
       subst (λ b. MatchBool b (IsPlayed contents bytes side p files input a) Refuses) (sym (outside_test (is_member contents.rules.groups p) refl none)) e
 
 -- the session of which this text was written and these bytes taken, with what was asked for
-pub record SessionSo (contents : Contents) (bytes : List ℕ) (side : Colour) (p : Board) (text took : List ℕ) (result : Result SessionEnd PlayFault) (source : SourceTold) (before now : ℕ) : Type 0 where
+pub record SessionSo (contents : Contents) (bytes : List ℕ) (side : Colour) (p : Board) (text took : List ℕ) (result : Result SessionEnd PlayFault) (source : SourceTold) (before now : Spent) : Type 0 where
   pub input : List ℕ
   pub may : MayHold source input
   pub plies : List SessionPly
@@ -60,9 +61,9 @@ pub record SessionSo (contents : Contents) (bytes : List ℕ) (side : Colour) (p
   pub left : Input
   pub session : IsSessionBy contents bytes side p input plies end left
   pub of : PlayedOf side (code_at contents bytes side p) input took text result plies end left
-  pub asked : now ≤ before + (MOST_ASKED + 4) * (length plies + 1)
+  pub spent : Spends (MOST_ASKED + 4) (MOST_READ + 1) (length plies + 1) before now
 
-module _ (there : SessionThere) (table : Table) (side : Colour) (p : Board) (text took : List ℕ) (result : Result SessionEnd PlayFault) (source : SourceTold) (before now : ℕ) (inside : Member table.rules.groups p) where
+module _ (there : SessionThere) (table : Table) (side : Colour) (p : Board) (text took : List ℕ) (result : Result SessionEnd PlayFault) (source : SourceTold) (before now : Spent) (inside : Member table.rules.groups p) where
   abbrev codes_of : List ℕ → List ℕ
   codes_of bytes = codes_at side table.text (table_size table) bytes
 
@@ -75,7 +76,7 @@ module _ (there : SessionThere) (table : Table) (side : Colour) (p : Board) (tex
   in_file (Some bytes) carried tells =
       let session = there table.rules (value_by table.rules) side (codes_of bytes) (Num table.rules.groups p) tells.0 in
       let so = tells.2 inside session.0 session.1 session.2 session.3 in
-      record { input = tells.0; may = tells.1; plies = session.0; end = session.1; left = session.2; session = session.3; of = so.0; asked = so.1 }
+      record { input = tells.0; may = tells.1; plies = session.0; end = session.1; left = session.2; session = session.3; of = so.0; spent = so.1 }
 
   pub session_so : (o : Option Files) (m : Files) → IsSome o → IfSome o (λ f. f ≡ m) → Carries o table → IfSome (kept_codes table side o) TellsIt
       → SessionSo (contents_of table) (bytes_at m table.name) side p text took result source before now

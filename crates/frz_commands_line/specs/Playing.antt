@@ -11,7 +11,7 @@ use Rattle.frz_answer.specs.declared.status.Status.TheVariants.{Success, Wrong, 
 use Rattle.frz_answer.specs.Jobs.{Job, Needs, plain}
 use Rattle.frz_answer.specs.Words.{taking, three_words_of}
 use Rattle.frz_prelude.specs.Positions.{on_position}
-use Rattle.frz_commands_line.specs.Lining.{playing_needs, asked_for, asked_alone}
+use Rattle.frz_commands_line.specs.Lining.{playing_needs, playing_costs}
 use Rattle.frz_commands_line.specs.SessionMeaning.{MeansPlay}
 use Rattle.frz_commands_line.specs.SessionOf.{plies_of, IsPlayedIn, IsPlayedAt}
 use Rattle.frz_commands_line.specs.Sides.{on_side, side_of}
@@ -25,17 +25,17 @@ playing_in table side p =
     record (plain (Success ∷ Wrong ∷ Outside ∷ Limit ∷ []) (λ files input a. IsPlayedIn (contents_of table) (bytes_at files table.name) side p files input a)) {
       needs = session_needs;
       speaks = true;
-      costs = λ files input a. asked_alone (asked_for (plies_of a.text));
+      costs = λ files input a. playing_costs 0 0 (plies_of a.text);
     }
 
--- by the table of this name: to open it, 16 bytes and its text are asked for
+-- by the table of this name: to open it, the store is called five times at most, and asked for 16 bytes and the text
 abbrev pub playing_at : List ℕ → Colour → Board → Job
 playing_at table side p =
     record (plain (Success ∷ Wrong ∷ Table ∷ Outside ∷ Missing ∷ Limit ∷ []) (λ files input a. IsPlayedAt table side p files input a)) {
       means = λ files input a. MeansPlay table side p files input a;
       needs = session_needs;
       speaks = true;
-      costs = λ files input a. asked_alone (16 + length (held_text (files table)) + asked_for (plies_of a.text));
+      costs = λ files input a. playing_costs 5 (16 + length (held_text (files table))) (plies_of a.text);
     }
 
 -- play TABLE FEN SIDE

@@ -24,8 +24,10 @@ returns-in-Ok g c =
           (of_told (g.S.Store.files c.args.store.now) m (λ f. opened (table_format Plain) (f c.args.table.now) ≡ Ok (contents_of table)) sees fits.store e.opened) answer;
       costs = λ m i a fits free untaken answer costs.
           let first = of_told (g.S.Store.files c.args.store.now) m (λ f. g.S.Store.asked c.open_table.new.store ≤ g.S.Store.asked c.args.store.now + (16 + length (kept_text (bytes_at f c.args.table.now)))) sees fits.store e.asked_told in
-          let then = costs.asked in
-          record { steps = tt; calls = tt; asked = omega (arith, first, then) };
+          let asked = costs.asked in
+          let opening = e.calls in
+          let calls = costs.calls in
+          record { steps = costs.steps; calls = omega (arith, opening, calls); asked = omega (arith, first, asked) };
     })
     c.play_in.ensures
 
@@ -40,4 +42,4 @@ returns-in-Err g c =
     (λ sees files left agrees.
     stopped_so c.one_session.ensures.there c.args.table.now c.args.side c.args.p.now files left _ _ agrees
     (of_told (g.S.Store.files c.args.store.now) files (λ f. g.S.Store.asked c.open_table.new.store ≤ g.S.Store.asked c.args.store.now + (16 + length (kept_text (bytes_at f c.args.table.now)))) sees agrees.store e.asked_told)
-    fault (of_told (g.S.Store.files c.args.store.now) files (λ f. Refuses (opened (table_format Plain) (f c.args.table.now)) fault) sees agrees.store e.refused))
+    e.calls refl fault (of_told (g.S.Store.files c.args.store.now) files (λ f. Refuses (opened (table_format Plain) (f c.args.table.now)) fault) sees agrees.store e.refused))
