@@ -1,7 +1,12 @@
 -- The lemmas that the crates above use.
 pub use Rattle.frz_line.proofs.Choices.{found_at, found_code}
+pub use Rattle.frz_line.proofs.Chosen.{AsksForOne, FillsLocal, arm_found, at_in, local_code_of}
 pub use Rattle.frz_line.proofs.Goings.{GoesTo, moves_on, over_here, seen_by_codes, stage_due, stage_told}
+pub use Rattle.frz_line.proofs.Options.{both, every, some_of}
+pub use Rattle.frz_line.proofs.Played.{fine_behind, quiet_behind}
 pub use Rattle.frz_line.proofs.Seen.{move_there, next_code_is}
-pub use Rattle.frz_line.proofs.Spending.{ReadsOne, SpendsAt, at_one, code_read, nothing_spent, one_more, read_alone, read_first, spends_on}
+pub use Rattle.frz_line.proofs.Spending.{ReadsOne, SpendsAt, at_one, code_read, nothing_spent, read_alone, read_first, spends_on}
+pub use Rattle.frz_line.proofs.Starting.{code_kept}
+pub use Rattle.frz_line.proofs.TextLines.{as_lines, ends_arm, ends_behind, lines_behind}
 pub use Rattle.frz_line.proofs.Turned.{unfinished}
 pub use Rattle.frz_line.proofs.Turning.{PlyDue, never_failing, ply_due, still_early}

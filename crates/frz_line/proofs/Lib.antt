@@ -1,9 +1,12 @@
 mod Choices
+mod Chosen
 mod Goings
+mod Options
 mod Played
 mod Seen
 mod Spending
 mod Starting
+mod TextLines
 mod Turned
 mod Turning
 pub mod Lemmas

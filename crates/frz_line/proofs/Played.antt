@@ -1,5 +1,5 @@
 -- A line as far as it was played.
-use Rattle.std.proofs.Common.{◌≡◌, ◌≤◌, ◌<◌, ◌+◌, ◌*◌, ◌==◌, ◌++◌, ℕ, suc, ◌⊎◌, inl, inr, Bool, true, false, List, [], ◌∷◌, Option, Some, None, length, refl, sym, subst, ap, ◌∙◌, arith, if◌then◌else◌, Result, Ok, Err, IfSome, append_assoc, append-nil}
+use Rattle.std.proofs.Common.{◌≡◌, ◌≤◌, ◌<◌, ◌+◌, ◌==◌, ◌++◌, ℕ, suc, ◌⊎◌, inl, inr, Bool, true, false, List, [], Option, length, refl, sym, subst, ap, ◌∙◌, arith, if◌then◌else◌, Result, Ok, Err, IfSome, append_assoc}
 use Rattle.std.specs.Prelude.{slice_index}
 use Rattle.std.proofs.lemmas.Bool.Decides.{nat_tests}
 use Rattle.frz_board.specs.declared.man.Colour.{Colour}
@@ -26,6 +26,8 @@ use Rattle.frz_line.specs.Faults.{WroteBy}
 use Rattle.frz_line.specs.Lines.{LinePly, EndOfLine, GoesOn}
 use Rattle.frz_line.specs.Texts.{line_text, start_line, plies_text, last_line}
 use Rattle.frz_line.specs.Turns.{TurnsTo, rest_text, GoesBy, Plays}
+use Rattle.frz_line.proofs.Options.{both, every}
+use Rattle.frz_line.proofs.TextLines.{lines_behind}
 use Rattle.frz_line.proofs.Spending.{SpendsAt, spends_on}
 
 -- what is left of a line from the start, behind the text that was written
@@ -49,14 +51,6 @@ pub record SoFar (told_codes : Option (List ℕ)) (arena : Arena Step ℕ Value)
   pub took : TookText text old new
   pub comes : IfSome told_codes (λ kept. ComeBy arena side kept start code spot text)
 
-every : {A : Type 0} (o : Option A) (P : A → Type 0) → ((x : A) → P x) → IfSome o P
-every None P f = tt
-every (Some x) P f = f x
-
-both : {A : Type 0} (o : Option A) (P Q R : A → Type 0) → ((x : A) → P x → Q x → R x) → IfSome o P → IfSome o Q → IfSome o R
-both None P Q R f p q = tt
-both (Some x) P Q R f p q = f x p q
-
 zero_is : (k : ℕ) → k ≡ 0 → (k == 0) ≡ true
 zero_is k e = subst (λ (n : ℕ). (n == 0) ≡ true) (sym e) refl
 
@@ -73,11 +67,6 @@ at_start told_codes arena side start code out =
       comes = every told_codes (λ kept. ComeBy arena side kept start code spot []) (λ kept agrees plies end w.
           record { agrees = agrees; others = plies; way = w; is = refl; many = omega arith });
     }
-
-lines_behind : (a b : List ℕ) → IsLines a → IsLines b → IsLines (a ++ b)
-lines_behind a b la (inl none) = subst (λ (z : List ℕ). IsLines (a ++ z)) (sym none) (subst IsLines (sym (append-nil a)) la)
-lines_behind a b la (inr l) =
-    inr (a ++ l.0, ap (λ (z : List ℕ). a ++ z) l.1 ∙ sym (append_assoc a l.0 (10 ∷ [])))
 
 -- a ply was played
 after_ply : (arena : Arena Step ℕ Value) (side : Colour) (kept : List ℕ) (start code : ℕ) (spot next : Spot) (text more : List ℕ) → next.played ≡ spot.played + 1 → ComeBy arena side kept start code spot text → GoesBy arena side kept spot more (Ok (On next.number next.code)) → ComeBy arena side kept start code next (text ++ more)

@@ -1,5 +1,5 @@
 -- What is spent at one number and then at others.
-use Rattle.std.proofs.Common.{◌≤◌, ◌+◌, ◌*◌, ℕ, arith}
+use Rattle.std.proofs.Common.{◌≤◌, ◌+◌, ℕ, arith}
 use Rattle.frz_store.specs.Outside.{IsNext}
 use Rattle.frz_store.specs.Told.{StoreTold}
 use Rattle.frz_line.specs.declared.reading.TheConstants.{MOST_ASKED, MOST_READ}
@@ -27,7 +27,7 @@ spends_on played numbers old mid new few first next = record {
   stepped = (let a = first.stepped in let b = next.stepped in omega (arith, few, a, b));
 }
 
-pub one_more : (old new : ℕ) → IsNext old new → new ≤ old + 1
+one_more : (old new : ℕ) → IsNext old new → new ≤ old + 1
 one_more old new next = (let n = next.next in omega (arith, n))
 
 -- the code of one number was read

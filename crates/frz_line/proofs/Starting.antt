@@ -29,16 +29,9 @@ use Rattle.frz_line.specs.Kept.{kept_codes}
 use Rattle.frz_line.specs.Lines.{GoesOn}
 use Rattle.frz_line.specs.Texts.{start_line, line_text}
 use Rattle.frz_line.specs.Turns.{Plays}
+use Rattle.frz_line.proofs.Options.{both, every}
 use Rattle.frz_line.proofs.Spending.{ReadsOne, read_alone, read_first}
 use Rattle.frz_line.proofs.Turned.{unfinished}
-
-every : {A : Type 0} (o : Option A) (P : A → Type 0) → ((x : A) → P x) → IfSome o P
-every None P f = tt
-every (Some x) P f = f x
-
-both : {A : Type 0} (o : Option A) (P Q R : A → Type 0) → ((x : A) → P x → Q x → R x) → IfSome o P → IfSome o Q → IfSome o R
-both None P Q R f p q = tt
-both (Some x) P Q R f p q = f x p q
 
 -- what was written of the line
 abbrev pub WroteLine : Option (List ℕ) → RuleLines → Colour → Board → Result LineEnd LineFault → (old new : SinkTold) → (before now : Spent) → Type 0

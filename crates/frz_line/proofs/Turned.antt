@@ -1,13 +1,10 @@
 -- What a turn of a line leaves: its text, where it leads, and how the line goes on.
-use Rattle.std.proofs.Common.{◌≡◌, ◌<◌, ◌==◌, ◌&&◌, ◌++◌, ℕ, suc, ◌⊎◌, inl, inr, Bool, true, false, List, [], ◌∷◌, Option, Some, map, length, refl, sym, subst, ap, ◌∙◌, if◌then◌else◌, nat_le, Result, Ok, Err, IfOk, None, IfSome, append_assoc, append-nil}
+use Rattle.std.proofs.Common.{◌≡◌, ◌<◌, ◌==◌, ◌&&◌, ◌++◌, ℕ, suc, ◌⊎◌, inl, inr, Bool, true, false, List, [], ◌∷◌, Option, Some, map, length, refl, sym, subst, ap, ◌∙◌, if◌then◌else◌, nat_le, Result, Ok, Err, IfOk, IfSome, append_assoc, append-nil}
 use Rattle.std.specs.Prelude.{slice_get, slice_index, codes}
-use Rattle.std.proofs.lemmas.List.Elements.{All-contains_itself}
-use Rattle.std.proofs.lemmas.Option.{slice_get-map, slice_get_within, get_or_from_slice_get}
 use Rattle.std.specs.List.{Contains}
 use Rattle.frz_board.specs.declared.man.Colour.{Colour}
 use Rattle.frz_board.specs.Men.{same_colour}
 use Rattle.frz_board.specs.Moving.{Step}
-use Rattle.frz_board.specs.Texts.{text_of}
 use Rattle.frz_sets.specs.declared.exit.Value.{Value}
 use Rattle.frz_store.specs.Told.{SinkTold}
 use Rattle.frz_answer.specs.Answers.{IsLines}
@@ -18,16 +15,14 @@ use Rattle.frz_arena.specs.declared.arm.Next.TheVariants.{Inside, Outside}
 use Rattle.frz_arena.specs.declared.choice.Choice.{Choice}
 use Rattle.frz_arena.specs.declared.node.Node.{Node}
 use Rattle.frz_arena.specs.Arena.{Arena, IsArm}
-use Rattle.frz_arena.specs.Choices.{has_code, choice_of}
-use Rattle.frz_arena.specs.Chosen.{IsFound, IsChosen, is_candidate}
+use Rattle.frz_arena.specs.Choices.{has_code}
+use Rattle.frz_arena.specs.Chosen.{IsFound}
 use Rattle.frz_arena.specs.Codes.{is_win, is_failure}
 use Rattle.frz_arena.specs.LocalCodes as words
 use Rattle.frz_arena.specs.LocalCodes.{node_code, local_code}
 use Rattle.frz_arena.specs.Plies.{LeadsTo}
 use Rattle.frz_arena.specs.WayEnds.{Wrong, NoBound, Mated, Stalemated, Exit, Cut}
 use Rattle.frz_arena.specs.Ways.{Over as OverWay, Moves, stage, IsWay}
-use Rattle.frz_arena.proofs.Lemmas.{choice_is_arm}
-use Rattle.frz_exits.specs.Values.{class_of, lag_of}
 use Rattle.frz_graph.specs.EntryCodes.{arm_code}
 use Rattle.frz_graph.specs.Finite.{IsFinite}
 use Rattle.frz_graph.specs.FreeCodes.{free_among}
@@ -50,34 +45,20 @@ use Rattle.frz_line.specs.Ends.{told, IsUnfinished, Finishes}
 use Rattle.frz_line.specs.Faults.{WroteBy, fault_of}
 use Rattle.frz_line.specs.Lines.{LinePly, EndOfLine, line_player}
 use Rattle.frz_line.specs.Sights.{choices_by, IsNextCode}
-use Rattle.frz_line.specs.Texts.{end_line, exit_line, move_line, value_text, plies_text, start_line, last_line}
-use Rattle.frz_line.specs.Turns.{first_line, next_line, moved_text, over_text, turn_of, Answers, IsPlayed, TurnsTo, rest_text, Leaves, GoesBy}
-use Rattle.frz_line.proofs.Choices.{found_at}
-use Rattle.frz_line.proofs.Goings.{stage_told, stage_due, seen_by_codes, over_here, moves_on}
+use Rattle.frz_line.specs.Texts.{arm_text, end_line, exit_line, move_line, next_line, plies_text, start_line, last_line}
+use Rattle.frz_line.specs.Turns.{first_line, moved_text, over_text, turn_of, Answers, IsPlayed, TurnsTo, rest_text, Leaves, GoesBy}
+use Rattle.frz_line.proofs.Chosen.{AsksForOne, FillsLocal, arm_found, at_in, local_code_of}
+use Rattle.frz_line.proofs.Goings.{stage_told, stage_due, over_here, moves_on}
+use Rattle.frz_line.proofs.Options.{every, some_of}
 use Rattle.frz_line.proofs.Seen.{next_code_is}
+use Rattle.frz_line.proofs.TextLines.{EndsLine, as_lines, ends_arm, ends_behind, ends_exit}
 use Rattle.frz_line.proofs.Turning.{ply_due, never_failing, still_early}
-
--- a text that ends with a line feed
-record EndsLine (text : List ℕ) : Type 0 where
-  pub front : List ℕ
-  pub is : text ≡ front ++ 10 ∷ []
-
-ends_behind : (a b : List ℕ) → EndsLine b → EndsLine (a ++ b)
-ends_behind a b e =
-    record { front = a ++ e.front; is = ap (λ (z : List ℕ). a ++ z) e.is ∙ sym (append_assoc a e.front (10 ∷ [])) }
 
 ends_end : (end : LineEnd) → EndsLine (end_line end)
 ends_end ends.Mate = record { front = codes "mate"; is = refl }
 ends_end ends.Stalemate = record { front = codes "stalemate"; is = refl }
-ends_end (ends.Exit v) = ends_behind (codes "exit ") (value_text v ++ codes "\n") (record { front = value_text v; is = refl })
+ends_end (ends.Exit v) = ends_exit v
 ends_end ends.Cut = record { front = codes "cut"; is = refl }
-
-ends_move : (m : Step) (next : Next ℕ Value) → EndsLine (move_line m ++ next_line next)
-ends_move m (Inside n) = record { front = text_of m; is = append-nil (move_line m) }
-ends_move m (Outside v) = ends_behind (move_line m) (exit_line v) (ends_end (ends.Exit v))
-
-as_lines : (text : List ℕ) → EndsLine text → IsLines text
-as_lines text e = inr (e.front, e.is)
 
 not_empty : (front : List ℕ) → front ++ 10 ∷ [] ≡ [] → ⊥
 not_empty [] e = cc
@@ -112,10 +93,6 @@ to_next size spot (Outside v) code inside is early = tt
 if_answers : (P : Turn → Type 0) (turn : Turn) (text : List ℕ) (result : Result Turn LineFault) (old new : SinkTold) → P turn → Answers turn text result old new → IfOk result P
 if_answers P turn text result old new p (inl a) = subst (λ (z : Result Turn LineFault). IfOk z P) (sym a.0) p
 if_answers P turn text result old new p (inr a) = subst (λ (z : Result Turn LineFault). IfOk z P) (sym a.0) tt
-
-at_in : (arms : List (Arm Step ℕ Value)) (i : ℕ) (a : Arm Step ℕ Value) → slice_get arms i ≡ Some a → Contains arms a
-at_in arms i a e =
-    subst (λ (z : Arm Step ℕ Value). Contains arms z) (get_or_from_slice_get arms i a a e) (All-contains_itself arms i a (slice_get_within arms i a e))
 
 pub turn_next : (arena : Arena Step ℕ Value) (size : ℕ) → IsFinite arena size → (side : Colour) (spot : Spot) (arms : List (Arm Step ℕ Value)) (cs : List ℕ) → arms ≡ arena.arms spot.number → length cs ≡ length arms → (spot.played ≡ 0) ⊎ (is_failure spot.code ≡ false) → (due : Due) → due ≡ due_by (spot.played == 0) (nat_le MOST_PLIES spot.played) spot.code (node_code side (arena.node spot.number) (free_among arms cs) cs) (arena.node spot.number) → (result : Result Turn LineFault) (old new : SinkTold) → IsPlayed side spot due arms cs result old new → IfOk result (TurnsTo size spot)
 turn_next arena size finite side spot arms cs are many stands (dues.Wrong given) e result old new h =
@@ -182,20 +159,6 @@ ply_leaves arena side kept spot a (Outside v) code first others end result old n
     (subst (λ (ys : List LinePly). (rest : List ℕ) × (text ++ rest ≡ rest_text side spot (first ∷ ys) (told side out)) × Leaves arena side kept spot (first ∷ ys) out rest result) (sym leads.0)
     ([], whole, leaves_by arena side kept spot (first ∷ []) out [] (Over (ends.Exit v)) text result old new (refl, refl) answers))
 
--- that the code asks for one move alone
-abbrev pub AsksForOne : Type 0
-AsksForOne = (arena : Arena Step ℕ Value) (side : Colour) (entry : ℕ → ℕ) (mover : Colour) (p : ℕ) (i j : ℕ) (a b : Arm Step ℕ Value) → IsChosen arena side entry mover p i a → IsChosen arena side entry mover p j b → (i ≡ j) × (a ≡ b)
-
--- that the moves of a number and their codes give its local code
-abbrev pub FillsLocal : Type 0
-FillsLocal = (arena : Arena Step ℕ Value) → arena.class ≡ class_of → arena.lag ≡ lag_of → (side : Colour) (kept : List ℕ) (i : ℕ) → node_code side (arena.node i) (free_among (arena.arms i) (map (arm_code side kept) (arena.arms i))) (map (arm_code side kept) (arena.arms i)) ≡ local_code arena side (λ k. slice_index kept k) i
-
-local_code_of : FillsLocal → (arena : Arena Step ℕ Value) (size : ℕ) → IsFinite arena size → (side : Colour) (kept : List ℕ) (i : ℕ) (arms : List (Arm Step ℕ Value)) (cs : List ℕ) → arms ≡ arena.arms i → cs ≡ map (arm_code side kept) arms → node_code side (arena.node i) (free_among arms cs) cs ≡ local_code arena side (λ k. slice_index kept k) i
-local_code_of fills arena size finite side kept i arms cs are same =
-    ap (λ (z : List ℕ). node_code side (arena.node i) (free_among arms z) z) same
-    ∙ (ap (λ (z : List (Arm Step ℕ Value)). node_code side (arena.node i) (free_among z (map (arm_code side kept) z)) (map (arm_code side kept) z)) are
-    ∙ fills arena finite.class finite.lag side kept i)
-
 -- by what is due, the stage of the line's player
 line_stage : FillsLocal → (arena : Arena Step ℕ Value) (size : ℕ) → IsFinite arena size → (side : Colour) (spot : Spot) (arms : List (Arm Step ℕ Value)) (cs kept : List ℕ) → arms ≡ arena.arms spot.number → cs ≡ map (arm_code side kept) arms → slice_index kept spot.number ≡ spot.code → (due : Due) → due ≡ due_by (spot.played == 0) (nat_le MOST_PLIES spot.played) spot.code (node_code side (arena.node spot.number) (free_among arms cs) cs) (arena.node spot.number) → stage (line_player arena side kept) spot.played spot.number ≡ stage_told spot.number spot.code due
 line_stage fills arena size finite side spot arms cs kept are same agrees due e =
@@ -204,33 +167,6 @@ line_stage fills arena size finite side spot arms cs kept are same agrees due e 
     stage_due (line_player arena side kept) spot.played spot.number spot.code (node_code side (arena.node spot.number) (free_among arms cs) cs) (spot.played == 0) (nat_le MOST_PLIES spot.played) agrees (sym local) refl cut
     ∙ ap (stage_told spot.number spot.code) (sym e)
 
--- the move that was found is the arm that the player's code asks for, and its code is the one of the file
-record IsArmOf (arena : Arena Step ℕ Value) (side mover : Colour) (kept : List ℕ) (number place : ℕ) (a : Arm Step ℕ Value) (code : ℕ) : Type 0 where
-  pub chosen : IsChosen arena side (λ i. slice_index kept i) mover number place a
-  pub is : words.arm_code arena side (λ i. slice_index kept i) a ≡ code
-
-arm_found : (arena : Arena Step ℕ Value) (size : ℕ) → IsFinite arena size → (side mover : Colour) (spot : Spot) (arms : List (Arm Step ℕ Value)) (cs kept : List ℕ) → arms ≡ arena.arms spot.number → cs ≡ map (arm_code side kept) arms → slice_index kept spot.number ≡ spot.code → (place : ℕ) (x : Choice) (a : Arm Step ℕ Value) → IsFound has_code (is_win spot.code) spot.code (choices_by (same_colour mover side) arms cs) place x → slice_get arms place ≡ Some a → IsArmOf arena side mover kept spot.number place a x.code
-arm_found arena size finite side mover spot arms cs kept are same agrees place x a found there =
-    let entry : ℕ → ℕ = λ i. slice_index kept i in
-    let seen = choice_of arena side entry mover in
-    let choices : choices_by (same_colour mover side) arms cs ≡ map seen (arena.arms spot.number) = (
-    ap (choices_by (same_colour mover side) arms) same
-    ∙ (seen_by_codes arena finite.class finite.lag side mover kept arms ∙ ap (λ (z : List (Arm Step ℕ Value)). map seen z) are)) in
-    let mapped : IsFound has_code (is_win spot.code) spot.code (map seen (arena.arms spot.number)) place x = subst (λ (z : List Choice). IsFound has_code (is_win spot.code) spot.code z place x) choices found in
-    let own : IsFound has_code (is_win (entry spot.number)) (entry spot.number) (map seen (arena.arms spot.number)) place x = subst (λ (c : ℕ). IsFound has_code (is_win c) c (map seen (arena.arms spot.number)) place x) (sym agrees) mapped in
-    let r = choice_is_arm arena side entry mover spot.number place x own in
-    let r_there = found_at (is_candidate arena side entry mover) (is_win (entry spot.number)) (entry spot.number) (arena.arms spot.number) place r.0 r.1 in
-    let a_there : slice_get (arena.arms spot.number) place ≡ Some a = subst (λ (z : List (Arm Step ℕ Value)). slice_get z place ≡ Some a) are there in
-    let arm : r.0 ≡ a = cc in
-    let x_there = found_at has_code (is_win spot.code) spot.code (map seen (arena.arms spot.number)) place x mapped in
-    let m = slice_get-map seen (arena.arms spot.number) place in
-    let image : slice_get (map seen (arena.arms spot.number)) place ≡ Some (seen a) = rw (m, a_there) refl in
-    let choice : x ≡ seen a = cc in
-    record {
-      chosen = subst (λ (z : Arm Step ℕ Value). IsChosen arena side entry mover spot.number place z) arm r.1;
-      is = sym (ap (λ (z : Choice). z.code) choice);
-    }
-
 inside_code : (arena : Arena Step ℕ Value) (side : Colour) (kept : List ℕ) (next : Next ℕ Value) (code : ℕ) → words.next_code arena side (λ i. slice_index kept i) next ≡ code → (n : ℕ) → next ≡ Inside n → slice_index kept n ≡ code
 inside_code arena side kept next code is n e =
     ap (λ (z : Next ℕ Value). words.next_code arena side (λ i. slice_index kept i) z) (sym e) ∙ is
@@ -238,19 +174,11 @@ inside_code arena side kept next code is n e =
 ply_goes : AsksForOne → (arena : Arena Step ℕ Value) (size : ℕ) → IsFinite arena size → (side mover : Colour) (spot : Spot) (arms : List (Arm Step ℕ Value)) (cs kept : List ℕ) → arms ≡ arena.arms spot.number → cs ≡ map (arm_code side kept) arms → (slice_index kept spot.number ≡ spot.code → stage (line_player arena side kept) spot.played spot.number ≡ Moves mover) → (place : ℕ) (x : Choice) (a : Arm Step ℕ Value) → IsFound has_code (is_win spot.code) spot.code (choices_by (same_colour mover side) arms cs) place x → slice_get arms place ≡ Some a → (result : Result Turn LineFault) (old new : SinkTold) → Answers (turn_of a.next x.code) (moved_text side spot a) result old new → GoesBy arena side kept spot (moved_text side spot a) result
 ply_goes one arena size finite side mover spot arms cs kept are same due place x a found there result old new answers = λ agrees plies end w.
     let g = moves_on (line_player arena side kept) MOST_PLIES spot.played refl tt tt spot.number plies end mover w (due agrees) in
-    let f = arm_found arena size finite side mover spot arms cs kept are same agrees place x a found there in
+    let f = arm_found arena size finite side mover kept spot.number spot.code arms cs are same agrees place x a found there in
     let arm : g.first.arm ≡ a = (one arena side (λ i. slice_index kept i) mover spot.number g.first.place place g.first.arm a g.chosen f.chosen).1 in
     let leads = subst (λ (z : Arm Step ℕ Value). LeadsTo (λ p. IsWay (line_player arena side kept) (suc spot.played) tt p g.others end tt) (λ v. (g.others ≡ []) × (end ≡ Exit v) × (tt {0} ≡ tt)) z.next) arm g.leads in
     subst (λ (ys : List LinePly). (rest : List ℕ) × (moved_text side spot a ++ rest ≡ rest_text side spot ys (told side end)) × Leaves arena side kept spot ys end rest result) (sym g.are)
     (ply_leaves arena side kept spot a a.next x.code g.first g.others end result old new (inside_code arena side kept a.next x.code f.is) (ap (λ (z : Arm Step ℕ Value). z.mv) arm) leads answers)
-
-some_of : {A : Type 0} (o : Option A) (P Q : A → Type 0) → ((x : A) → P x → Q x) → IfSome o P → IfSome o Q
-some_of None P Q f h = tt
-some_of (Some x) P Q f h = f x h
-
-all_of : {A : Type 0} (o : Option A) (P : A → Type 0) → ((x : A) → P x) → IfSome o P
-all_of None P f = tt
-all_of (Some x) P f = f x
 
 -- nothing but a fault was answered
 stop_wrote : (told_codes : Option (List ℕ)) (arena : Arena Step ℕ Value) (side : Colour) (spot : Spot) (result : Result Turn LineFault) (old new : SinkTold) (fault : LineFault) → WroteBy {T = Turn} (Err fault) [] old new → result ≡ Err fault → IfSome told_codes (λ kept. GoesBy arena side kept spot [] result) → (text : List ℕ) × IsLines text × WroteBy result text old new × IfSome told_codes (λ kept. GoesBy arena side kept spot text result)
@@ -294,7 +222,7 @@ turn_wrote one fills told_codes arena size finite side spot arms cs are (dues.Pl
     let a = h.2 in
     let text = moved_text side spot a in (
       text,
-      as_lines text (ends_behind (first_line side spot) (move_line a.mv ++ next_line a.next) (ends_move a.mv a.next)),
+      as_lines text (ends_behind (first_line side spot) (arm_text a) (ends_arm a)),
       by_answers (turn_of a.next h.1.code) text result old new h.5,
       some_of told_codes (λ kept. cs ≡ map (arm_code side kept) arms) (λ kept. GoesBy arena side kept spot text result) (λ kept same.
           ply_goes one arena size finite side m spot arms cs kept are same (λ agrees. line_stage fills arena size finite side spot arms cs kept are same agrees (dues.Ply m) e) h.0 h.1 a h.3 h.4 result old new h.5) codes_told,
@@ -305,12 +233,12 @@ stopped_before : (told_codes : Option (List ℕ)) (arena : Arena Step ℕ Value)
 stopped_before told_codes arena side spot fault result out (inl s) e =
     let r : result ≡ Err faults.Store = e ∙ ap Err s in
     stop_wrote told_codes arena side spot result out out faults.Store (took_nothing out) r
-    (all_of told_codes (λ kept. GoesBy arena side kept spot [] result) (λ kept agrees plies end w.
+    (every told_codes (λ kept. GoesBy arena side kept spot [] result) (λ kept agrees plies end w.
     (rest_text side spot plies (told side end), refl, subst (λ (z : Result Turn LineFault). Leaves arena side kept spot plies end (rest_text side spot plies (told side end)) z) (sym r) (rest_unfinished side spot plies (told side end)))))
 stopped_before told_codes arena side spot fault result out (inr s) e =
     let r : result ≡ Err faults.NoMemory = e ∙ ap Err s in
     stop_wrote told_codes arena side spot result out out faults.NoMemory (took_nothing out) r
-    (all_of told_codes (λ kept. GoesBy arena side kept spot [] result) (λ kept agrees plies end w.
+    (every told_codes (λ kept. GoesBy arena side kept spot [] result) (λ kept agrees plies end w.
     (rest_text side spot plies (told side end), refl, subst (λ (z : Result Turn LineFault). Leaves arena side kept spot plies end (rest_text side spot plies (told side end)) z) (sym r) (rest_unfinished side spot plies (told side end)))))
 
 pub stopped_by : (told_codes : Option (List ℕ)) (arena : Arena Step ℕ Value) (side : Colour) (spot : Spot) (fault : StoreFault) (result : Result Turn LineFault) (out : SinkTold) → IsErrAnd result (λ e. e ≡ fault_of fault) → (text : List ℕ) × IsLines text × WroteBy result text out out × IfSome told_codes (λ kept. GoesBy arena side kept spot text result)

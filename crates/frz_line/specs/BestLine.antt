@@ -15,7 +15,8 @@ use Rattle.frz_line.specs.Texts.{line_text}
 
 -- the text begins the text of the line from the position's number, and is all of it where the line's end is
 -- answered; the code of the start is read once, and at each number the moves are made once and their codes read
-abbrev pub TellsLine : RuleLines → Colour → List ℕ → Board → (text : List ℕ) → Result LineEnd LineFault → (before now : Spent) → Type 0
+abbrev pub TellsLine : RuleLines → Colour → List ℕ → Board → (text : List ℕ) → Result LineEnd LineFault →
+    (before now : Spent) → Type 0
 TellsLine rules side codes p text result before now =
     Member rules.groups p →
     (plies : List LinePly) (end : EndOfLine) →

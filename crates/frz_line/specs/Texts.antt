@@ -5,6 +5,9 @@ use Rattle.frz_board.specs.Moving.{Step}
 use Rattle.frz_board.specs.Texts.{text_of}
 use Rattle.frz_sets.specs.declared.exit.Value.{Value}
 use Rattle.frz_sets.specs.declared.exit.Value.TheVariants.{WhiteWins, BlackWins, Draw, WhiteHolds, BlackHolds, Unknown, WhiteWinsIn, BlackWinsIn}
+use Rattle.frz_arena.specs.declared.arm.Arm.{Arm}
+use Rattle.frz_arena.specs.declared.arm.Next.{Next}
+use Rattle.frz_arena.specs.declared.arm.Next.TheVariants.{Inside, Outside}
 use Rattle.frz_prelude.specs.BoundLines.{kept_line}
 use Rattle.frz_line.specs.declared.end.LineEnd.{LineEnd}
 use Rattle.frz_line.specs.declared.end.LineEnd.TheVariants as ends
@@ -27,6 +30,14 @@ exit_line v = codes "exit " ++ (value_text v ++ codes "\n")
 
 abbrev pub move_line : Step → List ℕ
 move_line m = text_of m ++ codes "\n"
+
+-- a move that leaves the set has the line of its exit behind it
+abbrev pub next_line : Next ℕ Value → List ℕ
+next_line (Inside number) = []
+next_line (Outside v) = exit_line v
+
+abbrev pub arm_text : Arm Step ℕ Value → List ℕ
+arm_text a = move_line a.mv ++ next_line a.next
 
 abbrev pub plies_text : List LinePly → List ℕ
 plies_text [] = []

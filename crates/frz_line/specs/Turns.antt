@@ -30,19 +30,14 @@ use Rattle.frz_line.specs.Costs.{Spent, Spends}
 use Rattle.frz_line.specs.Ends.{told, Finishes}
 use Rattle.frz_line.specs.Lines.{LinePly, EndOfLine, GoesOn}
 use Rattle.frz_line.specs.Sights.{choices_by, IsNextCode}
-use Rattle.frz_line.specs.Texts.{end_line, exit_line, move_line, plies_text, start_line, last_line, line_text}
+use Rattle.frz_line.specs.Texts.{arm_text, end_line, plies_text, start_line, last_line, line_text}
 
 -- the bound of the start stands before the first of all other lines
 abbrev pub first_line : Colour → Spot → List ℕ
 first_line side spot = if spot.played == 0 then kept_line side spot.code else []
 
--- a move that leaves the set has the line of its exit behind it
-abbrev pub next_line : Next ℕ Value → List ℕ
-next_line (Inside number) = []
-next_line (Outside v) = exit_line v
-
 abbrev pub moved_text : Colour → Spot → Arm Step ℕ Value → List ℕ
-moved_text side spot a = first_line side spot ++ (move_line a.mv ++ next_line a.next)
+moved_text side spot a = first_line side spot ++ arm_text a
 
 abbrev pub over_text : Colour → Spot → LineEnd → List ℕ
 over_text side spot end = first_line side spot ++ end_line end
@@ -63,7 +58,8 @@ abbrev pub Stops : LineFault → Result Turn LineFault → SinkTold → SinkTold
 Stops fault result old new = (result ≡ Err fault) × TookText [] old new
 
 -- what is due was done, with these moves and their codes
-abbrev pub IsPlayed : Colour → Spot → Due → List (Arm Step ℕ Value) → List ℕ → Result Turn LineFault → SinkTold → SinkTold → Type 0
+abbrev pub IsPlayed : Colour → Spot → Due → List (Arm Step ℕ Value) → List ℕ → Result Turn LineFault → SinkTold →
+    SinkTold → Type 0
 IsPlayed side spot (dues.Wrong given) arms cs result old new =
     Stops (faults.Wrong (record { side = side; number = spot.number; kept = spot.code; given = given })) result old new
 IsPlayed side spot dues.NoBound arms cs result old new = Stops faults.NoBound result old new
@@ -82,7 +78,8 @@ IsPlayed side spot (dues.Ply mover) arms cs result old new =
 -- where a ply is due the code asks for a move
 abbrev pub HasMove : Colour → Spot → Due → List (Arm Step ℕ Value) → List ℕ → Type 0
 HasMove side spot (dues.Ply mover) arms cs =
-    (i : ℕ) × (x : Choice) × IsFound has_code (is_win spot.code) spot.code (choices_by (same_colour mover side) arms cs) i x
+    (i : ℕ) × (x : Choice)
+    × IsFound has_code (is_win spot.code) spot.code (choices_by (same_colour mover side) arms cs) i x
 HasMove side spot due arms cs = ⊤
 
 -- a ply leads to a number of the set, whose code is as the kept one asks; a hold is not played past its plies
@@ -98,7 +95,8 @@ rest_text side spot plies answer =
     ++ (plies_text plies ++ last_line answer)
 
 -- how a turn leaves a line: it goes on with a ply less, or it finished
-abbrev pub Leaves : Arena Step ℕ Value → Colour → List ℕ → Spot → List LinePly → EndOfLine → (rest : List ℕ) → Result Turn LineFault → Type 0
+abbrev pub Leaves : Arena Step ℕ Value → Colour → List ℕ → Spot → List LinePly → EndOfLine → (rest : List ℕ) →
+    Result Turn LineFault → Type 0
 Leaves arena side codes spot plies end rest (Ok (On number code)) =
     (slice_index codes number ≡ code)
     × ((others : List LinePly) × (length plies ≡ suc (length others))
@@ -119,7 +117,8 @@ GoesBy arena side codes spot text result =
 
 -- the text begins the text of each line from the start, and is all of it at the line's end; for each of its
 -- numbers its moves were made once and their codes read
-abbrev pub Plays : Arena Step ℕ Value → Colour → List ℕ → (start code : ℕ) → (text : List ℕ) → Result LineEnd LineFault → (before now : Spent) → Type 0
+abbrev pub Plays : Arena Step ℕ Value → Colour → List ℕ → (start code : ℕ) → (text : List ℕ) →
+    Result LineEnd LineFault → (before now : Spent) → Type 0
 Plays arena side codes start code text result before now =
     slice_index codes start ≡ code →
     (plies : List LinePly) (end : EndOfLine) → GoesOn arena side codes 0 start plies end →

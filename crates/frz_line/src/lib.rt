@@ -20,7 +20,7 @@ pub use due::{Due, what_is_due};
 pub use end::{LineEnd, LineFault, MOST_PLIES};
 pub use reading::{MOST_ASKED, MOST_READ, read_codes};
 pub use seeing::sight;
-pub use texts::{write_exit, write_move};
+pub use texts::write_arm;
 
 #[cfg(test)]
 mod tests;

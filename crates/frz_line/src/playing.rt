@@ -3,12 +3,12 @@ ghost use Rattle.std.specs.Prelude.{◌≡◌, ℕ, List, length};
 ghost use Rattle.frz_board.specs.Men.{same_colour};
 ghost use Rattle.frz_store.specs.Told.{SinkTold, sink_of};
 ghost use Rattle.frz_answer.specs.Texts.{WroteText};
-ghost use Rattle.frz_line.specs.Turns.{first_line, next_line, moved_text, over_text, turn_of, Answers, IsPlayed, HasMove};
+ghost use Rattle.frz_line.specs.Turns.{first_line, moved_text, over_text, turn_of, Answers, IsPlayed, HasMove};
 
 use crate::choosing::place_for;
 use crate::due::Due;
 use crate::end::{LineEnd, LineFault};
-use crate::texts::{write_end, write_exit, write_move};
+use crate::texts::{write_arm, write_end};
 use frz_board::Colour;
 use frz_game::Wrong;
 use frz_graph::{Arm, Lists, Next};
@@ -50,22 +50,12 @@ fn write_over<O: Sink>(side: Colour, spot: Spot, end: LineEnd, out: &mut O) -> R
     write_end(end, out)
 }
 
-fn write_next<O: Sink>(next: Next, out: &mut O) -> Result<(), Failed>
-    ensures { WroteText (next_line next) result (sink_of O.Sink out.old) (sink_of O.Sink out.new) }
-{
-    match next {
-        Next::Inside(_) => Ok(()),
-        Next::Outside(value) => write_exit(value, out),
-    }
-}
-
 fn write_moved<O: Sink>(side: Colour, spot: Spot, arm: Arm, out: &mut O) -> Result<(), Failed>
     ensures { WroteText (moved_text side spot arm) result
         (sink_of O.Sink out.old) (sink_of O.Sink out.new) }
 {
     write_first(side, spot, out)?;
-    write_move(arm.mv, out)?;
-    write_next(arm.next, out)
+    write_arm(arm, out)
 }
 
 /// Answers this where it was written.

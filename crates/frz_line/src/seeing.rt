@@ -12,7 +12,6 @@ ghost use Rattle.frz_line.specs.Dues.{due_by};
 
 use crate::due::{Due, what_is_due};
 use crate::reading::{MOST_ASKED, MOST_READ, read_codes};
-use frz_arena::Node;
 use frz_board::Colour;
 use frz_graph::laws::within;
 use frz_graph::{Lists, NumberedGame, local_by};
@@ -20,39 +19,6 @@ use frz_steps::Steps;
 use frz_store::{Store, StoreFault};
 use frz_table::TableFile;
 use std::sync::ledger::Ledger;
-
-/// Makes the moves of the number and reads their codes. The lists then have them.
-fn look<G: NumberedGame<L>, S: Store, L: Ledger>(
-    game: &G,
-    table: &TableFile,
-    store: &mut S,
-    side: Colour,
-    number: u32,
-    lists: &mut Lists,
-    steps: &mut Steps<L>,
-) -> Result<Node, StoreFault>
-    requires sound { G.sound game.now }
-    requires inside { number < G.count game.now }
-    requires many { table_size table.now ≡ G.count game.now }
-    requires carried { Carries (S.files store.old) table.now }
-    ensures node { IfOk result (λ node. node ≡ (G.arena game.now).node number) }
-    ensures arms { OnOk result (lists.new.nexts.items ≡ (G.arena game.now).arms number) }
-    ensures read { OnOk result (length lists.new.codes.items ≡ length lists.new.nexts.items) }
-    ensures codes { OnOk result (IfSome (kept_codes table.now side (S.files store.old))
-        (λ kept. lists.new.codes.items ≡ map (arm_code side kept) lists.new.nexts.items)) }
-    ensures quiet { StoreQuiet (store_of S.Store store.old) (store_of S.Store store.new) }
-    ensures asked { S.asked store.new ≤ S.asked store.old + MOST_ASKED }
-    ensures calls { S.calls store.new ≤ S.calls store.old + MOST_READ }
-    ensures causes { StoreCauses (S.faults store.old) (S.faults store.new)
-        (S.wants store.old) (S.wants store.new) result }
-    ensures step { steps.new ≤ steps.old + 1 }
-    ensures later { steps.old ≤ steps.new }
-{
-    within();
-    let node = game.nexts_by(number, lists, steps);
-    read_codes(table, store, side, &lists.nexts, &mut lists.codes)?;
-    Ok(node)
-}
 
 /// What is due at a number with this kept code, by its moves and their codes. The lists then have
 /// them.
@@ -88,7 +54,9 @@ pub fn sight<G: NumberedGame<L>, S: Store, L: Ledger>(
     ensures step { steps.new ≤ steps.old + 1 }
     ensures later { steps.old ≤ steps.new }
 {
-    let node = look(game, table, store, side, number, lists, steps)?;
+    within();
+    let node = game.nexts_by(number, lists, steps);
+    read_codes(table, store, side, &lists.nexts, &mut lists.codes)?;
     let given = local_by(side, node, &lists.nexts, &lists.codes, &mut lists.free);
     Ok(what_is_due(node, kept, given, is_start, is_late))
 }

@@ -3,11 +3,12 @@ ghost use Rattle.std.specs.Prelude.{◌≡◌, ◌++◌};
 ghost use Rattle.frz_board.specs.Texts.{text_of};
 ghost use Rattle.frz_store.specs.Told.{sink_of};
 ghost use Rattle.frz_answer.specs.Texts.{WroteText};
-ghost use Rattle.frz_line.specs.Texts.{value_text, exit_line, move_line, end_line};
+ghost use Rattle.frz_line.specs.Texts.{value_text, exit_line, move_line, next_line, arm_text, end_line};
 
 use crate::end::LineEnd;
 use frz_answer::{write_numbered, write_piece};
 use frz_board::{Move, move_text};
+use frz_graph::{Arm, Next};
 use frz_sets::Value;
 use frz_store::{Failed, Sink};
 
@@ -29,7 +30,7 @@ fn write_value<O: Sink>(value: Value, out: &mut O) -> Result<(), Failed>
 }
 
 /// Writes the line of an exit to this value.
-pub fn write_exit<O: Sink>(value: Value, out: &mut O) -> Result<(), Failed>
+fn write_exit<O: Sink>(value: Value, out: &mut O) -> Result<(), Failed>
     ensures { WroteText (exit_line value) result (sink_of O.Sink out.old) (sink_of O.Sink out.new) }
 {
     write_piece(b"exit ", out)?;
@@ -44,11 +45,29 @@ fn write_move_text<O: Sink>(m: Move, out: &mut O) -> Result<(), Failed>
 }
 
 /// Writes the line of a move, as `e2e4`.
-pub fn write_move<O: Sink>(m: Move, out: &mut O) -> Result<(), Failed>
+fn write_move<O: Sink>(m: Move, out: &mut O) -> Result<(), Failed>
     ensures { WroteText (move_line m) result (sink_of O.Sink out.old) (sink_of O.Sink out.new) }
 {
     write_move_text(m, out)?;
     write_piece(b"\n", out)
+}
+
+/// Writes the line of the exit, where the move leaves the set.
+fn write_next<O: Sink>(next: Next, out: &mut O) -> Result<(), Failed>
+    ensures { WroteText (next_line next) result (sink_of O.Sink out.old) (sink_of O.Sink out.new) }
+{
+    match next {
+        Next::Inside(_) => Ok(()),
+        Next::Outside(value) => write_exit(value, out),
+    }
+}
+
+/// Writes the line of a move and that of its exit.
+pub fn write_arm<O: Sink>(arm: Arm, out: &mut O) -> Result<(), Failed>
+    ensures { WroteText (arm_text arm) result (sink_of O.Sink out.old) (sink_of O.Sink out.new) }
+{
+    write_move(arm.mv, out)?;
+    write_next(arm.next, out)
 }
 
 /// Writes the line of the end.

@@ -4,7 +4,7 @@ use Rattle.frz_sets.specs.declared.exit.Value.{Value}
 use Rattle.frz_arena.specs.declared.arm.Arm.{Arm}
 use Rattle.frz_graph.specs.EntryCodes.{IsWithin}
 use Rattle.frz_table.specs.Tables.{table_size}
-use Rattle.frz_line.proofs.seeing.look.Goals as goal
+use Rattle.frz_line.proofs.seeing.sight.Goals as goal
 
 pub read_codes-requires-clause-within : goal.read_codes-requires-clause-within
 read_codes-requires-clause-within g c =
