@@ -1,64 +1,19 @@
 -- The move of a number that was found or said, as an arm of the session's player.
 use Rattle.std.proofs.Common.{◌≡◌, ◌<◌, ◌+◌, ℕ, zero, suc, inl, inr, true, false, List, [], ◌∷◌, Some, map, min, length, refl, sym, subst, ap, ◌∙◌, arith, get_or}
 use Rattle.std.specs.Prelude.{slice_get, slice_index, ⊤}
-use Rattle.std.specs.List.{Contains, list_any, filter}
+use Rattle.std.specs.List.{list_any, filter}
 use Rattle.std.proofs.lemmas.Bool.{cases_lt}
 use Rattle.std.proofs.lemmas.Bool.Decides.{nat_tests}
-use Rattle.std.proofs.lemmas.List.Elements.{All-contains_itself}
-use Rattle.std.proofs.lemmas.Option.{slice_get-map, slice_get_within, get_or_from_slice_get}
+use Rattle.std.proofs.lemmas.Option.{slice_get-map, get_or_from_slice_get}
 use Rattle.frz_board.specs.declared.man.Colour.{Colour}
-use Rattle.frz_board.specs.Men.{same_colour}
 use Rattle.frz_board.specs.Moving.{Step}
 use Rattle.frz_sets.specs.declared.exit.Value.{Value}
 use Rattle.frz_arena.specs.declared.arm.Arm.{Arm}
 use Rattle.frz_arena.specs.declared.arm.Next.TheVariants.{Inside}
-use Rattle.frz_arena.specs.declared.choice.Choice.{Choice}
-use Rattle.frz_arena.specs.Arena.{Arena}
-use Rattle.frz_arena.specs.Choices.{has_code, choice_of}
-use Rattle.frz_arena.specs.Chosen.{IsFound, IsChosen, is_candidate}
-use Rattle.frz_arena.specs.Codes.{is_win, is_failure}
-use Rattle.frz_arena.specs.LocalCodes.{node_code, local_code, other_code, least}
-use Rattle.frz_arena.proofs.Lemmas.{choice_is_arm, true_or_false}
-use Rattle.frz_exits.specs.Values.{class_of, lag_of}
+use Rattle.frz_arena.specs.Codes.{is_failure}
+use Rattle.frz_arena.specs.LocalCodes.{other_code, least}
+use Rattle.frz_arena.proofs.Lemmas.{true_or_false}
 use Rattle.frz_graph.specs.EntryCodes.{arm_code, next_code}
-use Rattle.frz_graph.specs.Finite.{IsFinite}
-use Rattle.frz_graph.specs.FreeCodes.{free_among}
-use Rattle.frz_line.specs.Sights.{choices_by}
-use Rattle.frz_line.proofs.Lemmas.{found_at, seen_by_codes}
-
-pub at_in : (arms : List (Arm Step ℕ Value)) (i : ℕ) (a : Arm Step ℕ Value) → slice_get arms i ≡ Some a → Contains arms a
-at_in arms i a e =
-    subst (λ (z : Arm Step ℕ Value). Contains arms z) (get_or_from_slice_get arms i a a e) (All-contains_itself arms i a (slice_get_within arms i a e))
-
--- that the code asks for one move alone
-abbrev pub AsksForOne : Type 0
-AsksForOne = (arena : Arena Step ℕ Value) (side : Colour) (entry : ℕ → ℕ) (mover : Colour) (p : ℕ) (i j : ℕ) (a b : Arm Step ℕ Value) → IsChosen arena side entry mover p i a → IsChosen arena side entry mover p j b → (i ≡ j) × (a ≡ b)
-
--- that the moves of a number and their codes give its local code
-abbrev pub FillsLocal : Type 0
-FillsLocal = (arena : Arena Step ℕ Value) → arena.class ≡ class_of → arena.lag ≡ lag_of → (side : Colour) (kept : List ℕ) (i : ℕ) → node_code side (arena.node i) (free_among (arena.arms i) (map (arm_code side kept) (arena.arms i))) (map (arm_code side kept) (arena.arms i)) ≡ local_code arena side (λ k. slice_index kept k) i
-
-pub local_code_of : FillsLocal → (arena : Arena Step ℕ Value) (size : ℕ) → IsFinite arena size → (side : Colour) (kept : List ℕ) (i : ℕ) (arms : List (Arm Step ℕ Value)) (cs : List ℕ) → arms ≡ arena.arms i → cs ≡ map (arm_code side kept) arms → node_code side (arena.node i) (free_among arms cs) cs ≡ local_code arena side (λ k. slice_index kept k) i
-local_code_of fills arena size finite side kept i arms cs are same =
-    ap (λ (z : List ℕ). node_code side (arena.node i) (free_among arms z) z) same
-    ∙ (ap (λ (z : List (Arm Step ℕ Value)). node_code side (arena.node i) (free_among z (map (arm_code side kept) z)) (map (arm_code side kept) z)) are
-    ∙ fills arena finite.class finite.lag side kept i)
-
--- the move that was found is the arm that the player's code asks for
-pub arm_found : (arena : Arena Step ℕ Value) (size : ℕ) → IsFinite arena size → (side mover : Colour) (kept : List ℕ) (number code : ℕ) (arms : List (Arm Step ℕ Value)) (cs : List ℕ) → arms ≡ arena.arms number → cs ≡ map (arm_code side kept) arms → slice_index kept number ≡ code → (place : ℕ) (x : Choice) (a : Arm Step ℕ Value) → IsFound has_code (is_win code) code (choices_by (same_colour mover side) arms cs) place x → slice_get arms place ≡ Some a → IsChosen arena side (λ i. slice_index kept i) mover number place a
-arm_found arena size finite side mover kept number code arms cs are same agrees place x a found there =
-    let entry : ℕ → ℕ = λ i. slice_index kept i in
-    let seen = choice_of arena side entry mover in
-    let choices : choices_by (same_colour mover side) arms cs ≡ map seen (arena.arms number) = (
-    ap (choices_by (same_colour mover side) arms) same
-    ∙ (seen_by_codes arena finite.class finite.lag side mover kept arms ∙ ap (λ (z : List (Arm Step ℕ Value)). map seen z) are)) in
-    let mapped : IsFound has_code (is_win code) code (map seen (arena.arms number)) place x = subst (λ (z : List Choice). IsFound has_code (is_win code) code z place x) choices found in
-    let own : IsFound has_code (is_win (entry number)) (entry number) (map seen (arena.arms number)) place x = subst (λ (c : ℕ). IsFound has_code (is_win c) c (map seen (arena.arms number)) place x) (sym agrees) mapped in
-    let r = choice_is_arm arena side entry mover number place x own in
-    let r_there = found_at (is_candidate arena side entry mover) (is_win (entry number)) (entry number) (arena.arms number) place r.0 r.1 in
-    let a_there : slice_get (arena.arms number) place ≡ Some a = subst (λ (z : List (Arm Step ℕ Value)). slice_get z place ≡ Some a) are there in
-    let arm : r.0 ≡ a = cc in
-    subst (λ (z : Arm Step ℕ Value). IsChosen arena side entry mover number place z) arm r.1
 
 -- the code that was read for a move is the one that the file keeps of where it leads
 pub code_inside : (side : Colour) (kept : List ℕ) (arms : List (Arm Step ℕ Value)) (cs : List ℕ) → cs ≡ map (arm_code side kept) arms → (place : ℕ) (a : Arm Step ℕ Value) → slice_get arms place ≡ Some a → (n : ℕ) → a.next ≡ Inside n → slice_index kept n ≡ get_or cs place 0

@@ -1,18 +1,18 @@
 -- A session as far as it was played.
-use Rattle.std.proofs.Common.{◌≡◌, ◌≤◌, ◌+◌, ◌*◌, ◌==◌, ◌++◌, ℕ, suc, inl, true, false, List, [], Option, Some, None, length, refl, sym, subst, ap, ◌∙◌, arith, Result, Ok, Err, IfSome, append_assoc}
+use Rattle.std.proofs.Common.{◌≡◌, ◌+◌, ◌==◌, ◌++◌, ℕ, suc, inl, true, false, List, [], Option, length, refl, sym, subst, ap, ◌∙◌, arith, Result, Ok, Err, IfSome, append_assoc}
 use Rattle.std.specs.Prelude.{slice_index}
 use Rattle.std.specs.Result.{IsErrAnd}
 use Rattle.std.proofs.lemmas.Bool.Decides.{nat_tests}
 use Rattle.frz_board.specs.declared.man.Colour.{Colour}
 use Rattle.frz_board.specs.Moving.{Step}
 use Rattle.frz_sets.specs.declared.exit.Value.{Value}
-use Rattle.frz_store.specs.Told.{SourceTold, SinkTold, StoreTold, StoreQuiet, StoreFine}
+use Rattle.frz_store.specs.Told.{SourceTold, SinkTold}
 use Rattle.frz_answer.specs.Answers.{IsLines}
 use Rattle.frz_answer.specs.Texts.{TookText}
 use Rattle.frz_answer.proofs.Lemmas.{took_nothing, took_behind}
 use Rattle.frz_arena.specs.Arena.{Arena}
 use Rattle.frz_line.specs.Costs.{Spent}
-use Rattle.frz_line.proofs.Lemmas.{SpendsAt, nothing_spent, spends_on}
+use Rattle.frz_line.proofs.Lemmas.{SpendsAt, both, every, lines_behind, nothing_spent, spends_on}
 use Rattle.frz_play.specs.declared.end.SessionEnd.{SessionEnd}
 use Rattle.frz_play.specs.declared.end.PlayFault.{PlayFault}
 use Rattle.frz_play.specs.declared.end.TheConstants.{MOST_LINES}
@@ -29,7 +29,7 @@ use Rattle.frz_play.specs.Texts.{session_text}
 use Rattle.frz_play.specs.Turns.{rest_text, Leaves, GoesBy, Plays}
 use Rattle.frz_play.proofs.Taking.{took_none, took_on, held_whole, some_rest}
 use Rattle.frz_play.proofs.Turned.{turn_over}
-use Rattle.frz_play.proofs.Written.{lines_behind, wrote_after, same_wrote, both}
+use Rattle.frz_play.proofs.Written.{wrote_after, same_wrote}
 
 -- what is left of a session from the start, behind the text that was written
 pub record IsLeft (arena : Arena Step ℕ Value) (side : Colour) (kept : List ℕ) (code : ℕ) (spot : Spot) (input : Input) (played : ℕ) (text : List ℕ) (plies : List SessionPly) (end : EndOfSession) (last : Input) : Type 0 where
@@ -57,10 +57,6 @@ pub record SoFar (told : Option (List ℕ)) (arena : Arena Step ℕ Value) (side
   pub count : (played == 0) ≡ spot.is_start
   pub spent : SpendsAt played before now
   pub comes : IfSome told (λ kept. ComeBy arena side kept start code spot reader played bytes text)
-
-every : {A : Type 0} (o : Option A) (P : A → Type 0) → ((x : A) → P x) → IfSome o P
-every None P f = tt
-every (Some x) P f = f x
 
 pub at_start : (told : Option (List ℕ)) (arena : Arena Step ℕ Value) (side : Colour) (start code : ℕ) (source : SourceTold) (out : SinkTold) (now : Spent) → SoFar told arena side start code (record { number = start; code = code; is_start = true }) (record { more = MOST_LINES; ended = false }) source source out out now now
 at_start told arena side start code source out now = record {
@@ -173,18 +169,3 @@ pub fault_wrote : (told : Option (List ℕ)) (arena : Arena Step ℕ Value) (sid
 fault_wrote told arena side start code source left out taken before now fault (Ok end) h w = absurd h
 fault_wrote told arena side start code source left out taken before now fault (Err e) h w =
     subst (λ (f : PlayFault). SessionWrote told arena side start code (Err f) source left out taken before now) (sym h) w
-
--- the store was called twice
-pub quiet_behind : (old mid new : StoreTold) → StoreQuiet old mid → StoreQuiet mid new → StoreQuiet old new
-quiet_behind old mid new a b = record {
-  unwritten = record { files = b.unwritten.files ∙ a.unwritten.files; last = b.unwritten.last ∙ a.unwritten.last; room = b.unwritten.room ∙ a.unwritten.room };
-  later = record {
-    asked = (let x = a.later.asked in let y = b.later.asked in omega arith);
-    calls = (let x = a.later.calls in let y = b.later.calls in omega arith);
-    faults = (let x = a.later.faults in let y = b.later.faults in omega arith);
-    wants = (let x = a.later.wants in let y = b.later.wants in omega arith);
-  };
-}
-
-pub fine_behind : (old mid new : StoreTold) → StoreFine old mid → StoreFine mid new → StoreFine old new
-fine_behind old mid new a b = record { faults = b.faults ∙ a.faults; wants = b.wants ∙ a.wants }

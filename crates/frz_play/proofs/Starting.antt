@@ -1,13 +1,10 @@
 -- A session from the number of a position.
-use Rattle.std.proofs.Common.{◌≡◌, length, ℕ, inl, List, [], Option, Some, None, IfSome, Result, Ok, Err, refl, sym, subst, ap, ◌∙◌}
-use Rattle.std.specs.Prelude.{slice_get, slice_index}
-use Rattle.std.specs.Option.{option_map}
+use Rattle.std.proofs.Common.{◌≡◌, length, ℕ, inl, List, [], Option, IfSome, Result, Ok, Err, refl, sym, subst, ap, ◌∙◌}
+use Rattle.std.specs.Prelude.{slice_index}
 use Rattle.std.specs.Result.{IsErrAnd}
-use Rattle.std.proofs.lemmas.Option.{get_or_from_slice_get}
 use Rattle.frz_board.specs.declared.man.Colour.{Colour}
 use Rattle.frz_board.specs.Boards.{Board}
 use Rattle.frz_sets.specs.Views.{RuleLines}
-use Rattle.frz_store.specs.Files.{Files}
 use Rattle.frz_store.specs.Told.{SourceTold, SinkTold}
 use Rattle.frz_store.specs.declared.outside.StoreFault.{StoreFault}
 use Rattle.frz_store.specs.declared.outside.StoreFault.TheVariants.{Failed, NoMemory}
@@ -16,12 +13,9 @@ use Rattle.frz_answer.proofs.Lemmas.{took_nothing}
 use Rattle.frz_exits.specs.Books.{value_by}
 use Rattle.frz_game.specs.Games.{graph_by}
 use Rattle.frz_index.specs.Members.{Member, Num}
-use Rattle.frz_table.specs.Layout.{codes_at}
-use Rattle.frz_table.specs.Tables.{Table, table_size}
 use Rattle.frz_line.specs.Faults.{fault_of}
 use Rattle.frz_line.specs.Costs.{Spent}
-use Rattle.frz_line.proofs.Lemmas.{ReadsOne, read_alone, read_first}
-use Rattle.frz_line.specs.Kept.{kept_codes}
+use Rattle.frz_line.proofs.Lemmas.{ReadsOne, both, every, read_alone, read_first}
 use Rattle.frz_line.specs.declared.end.LineFault.TheVariants as faults
 use Rattle.frz_play.specs.declared.end.SessionEnd.{SessionEnd}
 use Rattle.frz_play.specs.declared.end.PlayFault.{PlayFault}
@@ -35,11 +29,7 @@ use Rattle.frz_play.specs.Turns.{Plays}
 use Rattle.frz_play.proofs.Faulted.{IsStoreFault, short_of, short_text}
 use Rattle.frz_play.proofs.Goings.{way_front}
 use Rattle.frz_play.proofs.Taking.{took_none, some_rest}
-use Rattle.frz_play.proofs.Written.{both, store_fault}
-
-every : {A : Type 0} (o : Option A) (P : A → Type 0) → ((x : A) → P x) → IfSome o P
-every None P f = tt
-every (Some x) P f = f x
+use Rattle.frz_play.proofs.Written.{store_fault}
 
 -- what was written and taken of the session
 abbrev pub WroteSession : Option (List ℕ) → RuleLines → Colour → Board → Result SessionEnd PlayFault → (source left : SourceTold) → (out taken : SinkTold) → (before now : Spent) → Type 0
@@ -95,16 +85,6 @@ start_unread told rules side p source out before now few fault (Ok end) h = absu
 start_unread told rules side p source out before now few fault (Err f) h =
     subst (λ (z : PlayFault). WroteSession told rules side p (Err z) source source out out before now) (sym h)
     (unread told rules side p source out before now few (plays.Line (fault_of fault)) (store_fault fault) (store_wrote fault out))
-
-code_in : (f : List ℕ → List ℕ) (start code : ℕ) (o : Option (List ℕ)) → IfSome o (λ bytes. slice_get (f bytes) start ≡ Some code) → IfSome (option_map f o) (λ codes. slice_index codes start ≡ code)
-code_in f start code None h = tt
-code_in f start code (Some bytes) h = get_or_from_slice_get (f bytes) start code 0 h
-
--- the code that was read is the one of the file
-pub code_kept : (table : Table) (side : Colour) (files : Option Files) (start code : ℕ) → IfSome files (λ m. IfSome (m table.name) (λ bytes. slice_get (codes_at side table.text (table_size table) bytes) start ≡ Some code)) → IfSome (kept_codes table side files) (λ codes. slice_index codes start ≡ code)
-code_kept table side None start code h = tt
-code_kept table side (Some m) start code h =
-    code_in (codes_at side table.text (table_size table)) start code (m table.name) h
 
 tells : (rules : RuleLines) (side : Colour) (codes : List ℕ) (p : Board) (source : SourceTold) (bytes text : List ℕ) (result : Result SessionEnd PlayFault) (before mid now : Spent) (start code : ℕ) → start ≡ Num rules.groups p → ReadsOne before mid → slice_index codes start ≡ code → Plays (graph_by rules (value_by rules)) side codes start code source bytes text result mid now → (whole : List ℕ) × MayHold source whole × TellsSession rules side codes p whole bytes text result before now
 tells rules side codes p source bytes text result before mid now start code is few agrees plays = (

@@ -26,8 +26,8 @@ use Rattle.frz_line.specs.declared.due.Due.{Due}
 use Rattle.frz_line.specs.declared.end.LineFault.TheVariants as faults
 use Rattle.frz_line.specs.Dues.{due_by}
 use Rattle.frz_line.specs.Sights.{choices_by}
-use Rattle.frz_line.specs.Texts.{exit_line, move_line}
-use Rattle.frz_line.proofs.Lemmas.{stage_told, stage_due}
+use Rattle.frz_line.specs.Texts.{exit_line, move_line, next_line}
+use Rattle.frz_line.proofs.Lemmas.{AsksForOne, FillsLocal, arm_found, local_code_of, stage_told, stage_due}
 use Rattle.frz_play.specs.declared.end.SessionEnd.{SessionEnd}
 use Rattle.frz_play.specs.declared.end.SessionEnd.TheVariants as ends
 use Rattle.frz_play.specs.declared.end.PlayFault.{PlayFault}
@@ -43,8 +43,8 @@ use Rattle.frz_play.specs.Hearing.{EndsWith, MayFollow, Hears}
 use Rattle.frz_play.specs.Reading.{Input, Halt, reads}
 use Rattle.frz_play.specs.Sessions.{SessionPly, EndOfSession, session_player, GoesOn}
 use Rattle.frz_play.specs.Texts.{refused_text, ply_text, plies_text, why_line, end_text}
-use Rattle.frz_play.specs.Turns.{next_line, moved_text, turn_of, Answers, Leaves}
-use Rattle.frz_play.proofs.Chosen.{AsksForOne, FillsLocal, local_code_of, arm_found, code_inside}
+use Rattle.frz_play.specs.Turns.{moved_text, turn_of, Answers, Leaves}
+use Rattle.frz_play.proofs.Chosen.{code_inside}
 use Rattle.frz_play.proofs.Goings.{over_here, moves_own, stops_here, replies_here, leads_front, way_front}
 
 -- what is due at the spot, in the session's words
@@ -146,7 +146,7 @@ pub own_tail : AsksForOne → (arena : Arena Step ℕ Value) (size : ℕ) → Is
 own_tail one arena size finite side mover spot reader arms cs kept own are same stands place x a found there result old new answers = λ agrees played start left may plies end last w.
     let here : Input = record { left = left; more = reader.more } in
     let g = moves_own arena side kept played here last spot.number plies end mover own w (stands agrees played start) in
-    let chosen = arm_found arena size finite side mover kept spot.number spot.code arms cs are same agrees place x a (subst (λ b. IsFound has_code (is_win spot.code) spot.code (choices_by b arms cs) place x) (sym own) found) there in
+    let chosen = (arm_found arena size finite side mover kept spot.number spot.code arms cs are same agrees place x a (subst (λ b. IsFound has_code (is_win spot.code) spot.code (choices_by b arms cs) place x) (sym own) found) there).chosen in
     let arm : g.0.first.arm ≡ a = (one arena side (λ i. slice_index kept i) mover spot.number g.0.first.place place g.0.first.arm a g.1 chosen).1 in
     let leads = subst (λ (z : Arm Step ℕ Value). LeadsTo (λ p. GoesOn arena side kept (suc played) here p g.0.others end last) (λ v. (g.0.others ≡ []) × (end ≡ Exit v) × (last ≡ here)) z.next) arm g.0.leads in
     let text = own_text side mover g.0.first a.mv g.0.moves own (ap (λ (z : Arm Step ℕ Value). z.mv) arm) in

@@ -29,7 +29,7 @@ use Rattle.frz_line.specs.declared.due.Due.{Due}
 use Rattle.frz_line.specs.declared.due.Due.TheVariants as dues
 use Rattle.frz_line.specs.Dues.{due_by, due_on}
 use Rattle.frz_line.specs.Sights.{choices_by, IsNextCode}
-use Rattle.frz_line.proofs.Lemmas.{PlyDue, ply_due, move_there, next_code_is, found_code}
+use Rattle.frz_line.proofs.Lemmas.{PlyDue, at_in, found_code, move_there, next_code_is, ply_due}
 use Rattle.frz_play.specs.declared.end.SessionEnd.TheVariants as ends
 use Rattle.frz_play.specs.declared.end.PlayFault.{PlayFault}
 use Rattle.frz_play.specs.declared.hearing.Heard.{Heard}
@@ -41,7 +41,7 @@ use Rattle.frz_play.specs.declared.playing.Turn.{Turn}
 use Rattle.frz_play.specs.declared.playing.Turn.TheVariants.{Over}
 use Rattle.frz_play.specs.Hearing.{Hears}
 use Rattle.frz_play.specs.Turns.{turn_of, Answers, AfterHeard, PlaysPly, IsPlayed, HasMove, own_turn, session_left, TurnsTo}
-use Rattle.frz_play.proofs.Chosen.{at_in, other_stands}
+use Rattle.frz_play.proofs.Chosen.{other_stands}
 
 second : (a b : Bool) → a ≡ true → (a && b) ≡ false → b ≡ false
 second true b t f = f

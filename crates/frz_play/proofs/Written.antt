@@ -1,11 +1,10 @@
 -- What a turn of a session wrote and took, by what was due.
-use Rattle.std.proofs.Common.{◌≡◌, ◌++◌, ℕ, zero, suc, inl, inr, Bool, true, false, List, [], ◌∷◌, Option, Some, None, map, refl, sym, subst, ap, ◌∙◌, get_or, if◌then◌else◌, Result, Ok, Err, IfSome, append_assoc, append-nil}
+use Rattle.std.proofs.Common.{◌≡◌, ◌++◌, ℕ, zero, suc, inl, inr, Bool, true, false, List, [], Option, map, refl, sym, subst, ap, ◌∙◌, get_or, if◌then◌else◌, Result, Ok, Err, IfSome, append-nil}
 use Rattle.std.specs.Prelude.{codes}
 use Rattle.std.specs.Result.{IsErrAnd}
 use Rattle.frz_board.specs.declared.man.Colour.{Colour}
 use Rattle.frz_board.specs.Men.{same_colour}
 use Rattle.frz_board.specs.Moving.{Step}
-use Rattle.frz_board.specs.Texts.{text_of}
 use Rattle.frz_sets.specs.declared.exit.Value.{Value}
 use Rattle.frz_store.specs.Told.{SourceTold, SinkTold}
 use Rattle.frz_store.specs.declared.outside.StoreFault.{StoreFault}
@@ -14,8 +13,6 @@ use Rattle.frz_answer.specs.Answers.{IsLines}
 use Rattle.frz_answer.specs.Texts.{TookText, FailedWithin}
 use Rattle.frz_answer.proofs.Lemmas.{took_nothing, took_behind, failed_behind}
 use Rattle.frz_arena.specs.declared.arm.Arm.{Arm}
-use Rattle.frz_arena.specs.declared.arm.Next.{Next}
-use Rattle.frz_arena.specs.declared.arm.Next.TheVariants.{Inside, Outside}
 use Rattle.frz_arena.specs.Arena.{Arena}
 use Rattle.frz_arena.specs.LocalCodes.{node_code}
 use Rattle.frz_arena.specs.WayEnds.{Wrong, NoBound, Mated, Stalemated, Stopped}
@@ -29,8 +26,8 @@ use Rattle.frz_line.specs.declared.due.Due.TheVariants as dues
 use Rattle.frz_line.specs.declared.end.LineFault.TheVariants as faults
 use Rattle.frz_line.specs.Dues.{due_by}
 use Rattle.frz_line.specs.Faults.{fault_of}
-use Rattle.frz_line.specs.Texts.{exit_line, move_line, value_text}
-use Rattle.frz_line.proofs.Lemmas.{stage_told}
+use Rattle.frz_line.specs.Texts.{arm_text}
+use Rattle.frz_line.proofs.Lemmas.{AsksForOne, FillsLocal, as_lines, both, ends_arm, ends_behind, every, lines_behind, some_of, stage_told}
 use Rattle.frz_play.specs.declared.end.SessionEnd.{SessionEnd}
 use Rattle.frz_play.specs.declared.end.SessionEnd.TheVariants as ends
 use Rattle.frz_play.specs.declared.end.PlayFault.{PlayFault}
@@ -47,37 +44,13 @@ use Rattle.frz_play.specs.Faults.{WroteBy, TookBytes}
 use Rattle.frz_play.specs.Hearing.{StaysEnded, Hears}
 use Rattle.frz_play.specs.Sessions.{EndOfSession}
 use Rattle.frz_play.specs.Texts.{refused_text, end_text}
-use Rattle.frz_play.specs.Turns.{next_line, moved_text, opening, turn_of, Answers, PlaysOwn, PlaysPly, AfterHeard, Unread, IsPlayed, GoesBy}
-use Rattle.frz_play.proofs.Chosen.{AsksForOne, FillsLocal}
+use Rattle.frz_play.specs.Turns.{moved_text, opening, turn_of, Answers, PlaysOwn, PlaysPly, AfterHeard, Unread, IsPlayed, GoesBy}
 use Rattle.frz_play.proofs.Faulted.{IsStoreFault, store_goes, opening_failed, opened_tail, fault_tail}
 use Rattle.frz_play.proofs.Taking.{took_none}
 use Rattle.frz_play.proofs.Turned.{Stands, TailBy, turn_over, session_stage, over_tail, own_tail, reply_tail, stop_tail}
 
--- lines, one text behind the other
-pub lines_behind : (a b : List ℕ) → IsLines a → IsLines b → IsLines (a ++ b)
-lines_behind a b la (inl none) = subst (λ (z : List ℕ). IsLines (a ++ z)) (sym none) (subst IsLines (sym (append-nil a)) la)
-lines_behind a b la (inr l) =
-    inr (a ++ l.0, ap (λ (z : List ℕ). a ++ z) l.1 ∙ sym (append_assoc a l.0 (10 ∷ [])))
-
--- a text that ends with a line feed
-record EndsLine (text : List ℕ) : Type 0 where
-  pub front : List ℕ
-  pub is : text ≡ front ++ 10 ∷ []
-
-ends_behind : (a b : List ℕ) → EndsLine b → EndsLine (a ++ b)
-ends_behind a b e =
-    record { front = a ++ e.front; is = ap (λ (z : List ℕ). a ++ z) e.is ∙ sym (append_assoc a e.front (10 ∷ [])) }
-
-as_lines : (text : List ℕ) → EndsLine text → IsLines text
-as_lines text e = inr (e.front, e.is)
-
-ends_move : (m : Step) (next : Next ℕ Value) → EndsLine (move_line m ++ next_line next)
-ends_move m (Inside n) = record { front = text_of m; is = append-nil (move_line m) }
-ends_move m (Outside v) =
-    ends_behind (move_line m) (exit_line v) (ends_behind (codes "exit ") (value_text v ++ codes "\n") (record { front = value_text v; is = refl }))
-
 moved_lines : (word : List ℕ) (a : Arm Step ℕ Value) → IsLines (moved_text word a)
-moved_lines word a = as_lines (moved_text word a) (ends_behind word (move_line a.mv ++ next_line a.next) (ends_move a.mv a.next))
+moved_lines word a = as_lines (moved_text word a) (ends_behind word (arm_text a) (ends_arm a))
 
 refused_lines : (n : ℕ) → IsLines (refused_text n)
 refused_lines zero = inl refl
@@ -127,18 +100,6 @@ by_answers turn text result old new (inl a) =
 by_answers turn text result old new (inr a) =
     subst (λ (z : Result Turn PlayFault). WroteBy z text old new) (sym a.0) a.1
 
-some_of : {A : Type 0} (o : Option A) (P Q : A → Type 0) → ((x : A) → P x → Q x) → IfSome o P → IfSome o Q
-some_of None P Q f h = tt
-some_of (Some x) P Q f h = f x h
-
-pub both : {A : Type 0} (o : Option A) (P Q R : A → Type 0) → ((x : A) → P x → Q x → R x) → IfSome o P → IfSome o Q → IfSome o R
-both None P Q R f p q = tt
-both (Some x) P Q R f p q = f x p q
-
-all_of : {A : Type 0} (o : Option A) (P : A → Type 0) → ((x : A) → P x) → IfSome o P
-all_of None P f = tt
-all_of (Some x) P f = f x
-
 -- what a turn wrote and took
 abbrev pub TurnWrote : Option (List ℕ) → Arena Step ℕ Value → Colour → Spot → (old new : Reader) → Result Turn PlayFault → (source left : SourceTold) → (out taken : SinkTold) → Type 0
 TurnWrote told arena side spot old new result source left out taken =
@@ -168,7 +129,7 @@ pub stopped_by : (told : Option (List ℕ)) (arena : Arena Step ℕ Value) (side
 stopped_by told arena side spot reader fault (Ok turn) source out h = absurd h
 stopped_by told arena side spot reader fault (Err e) source out h =
     subst (λ (f : PlayFault). TurnWrote told arena side spot reader reader (Err f) source source out out) (sym h)
-    ([], [], inl refl, store_wrote fault out, took_none source source refl, λ e. (refl, e), all_of told (λ kept. GoesBy arena side kept spot reader reader [] [] (Err (plays.Line (fault_of fault)))) (λ kept. store_goes arena side kept spot reader (plays.Line (fault_of fault)) (store_fault fault)))
+    ([], [], inl refl, store_wrote fault out, took_none source source refl, λ e. (refl, e), every told (λ kept. GoesBy arena side kept spot reader reader [] [] (Err (plays.Line (fault_of fault)))) (λ kept. store_goes arena side kept spot reader (plays.Line (fault_of fault)) (store_fault fault)))
 
 module _ (one : AsksForOne) (fills : FillsLocal) (told : Option (List ℕ)) (arena : Arena Step ℕ Value) (size : ℕ) (finite : IsFinite arena size) (side : Colour) (spot : Spot) (arms : List (Arm Step ℕ Value)) (cs : List ℕ) (are : arms ≡ arena.arms spot.number) (codes_told : IfSome told (λ kept. cs ≡ map (arm_code side kept) arms)) where
   abbrev IsDue : Due → Type 0

@@ -81,7 +81,8 @@ EndsWith end bytes = (unread : List ℕ) × (unread ++ end ≡ bytes)
 
 -- what the input gives to an opponent with these moves: a line, or why there is none; at a fault the rest of what it
 -- takes is not taken yet
-abbrev pub IsLineHeard : List (Arm Step ℕ Value) → Answer Input Halt → (line rest : List ℕ) → (more : ℕ) → Result (Option Why) Failed → Type 0
+abbrev pub IsLineHeard : List (Arm Step ℕ Value) → Answer Input Halt → (line rest : List ℕ) → (more : ℕ) →
+    Result (Option Why) Failed → Type 0
 IsLineHeard arms answer line rest more (Ok None) =
     answer ≡ reply_or (place_said arms line) (record { left = rest; more = more }) (reads arms more rest)
 IsLineHeard arms answer line rest more (Ok (Some why)) =
@@ -94,7 +95,8 @@ AreFewer (Ok None) old new = new < old
 AreFewer result old new = new ≡ old
 
 -- the next line was taken, whatever follows it
-pub record HearsLine (old new : Reader) (result : Result (Option Why) Failed) (line : List ℕ) (source left : SourceTold) : Type 0 where
+pub record HearsLine
+    (old new : Reader) (result : Result (Option Why) Failed) (line : List ℕ) (source left : SourceTold) : Type 0 where
   pub bytes : List ℕ
   pub took : TookBytes bytes source left
   pub ended : new.ended ≡ true → HasEnded left
@@ -130,7 +132,9 @@ abbrev pub MayFail : PlayFault → Type 0
 MayFail fault = (fault ≡ plays.Input) ⊎ (fault ≡ plays.Line faults.Output)
 
 -- so many lines were refused and these bytes taken, whatever follows them
-pub record Hears (arms : List (Arm Step ℕ Value)) (old new : Reader) (result : Result Heard PlayFault) (source left : SourceTold) (out taken : SinkTold) : Type 0 where
+pub record Hears
+    (arms : List (Arm Step ℕ Value)) (old new : Reader) (result : Result Heard PlayFault) (source left : SourceTold)
+    (out taken : SinkTold) : Type 0 where
   pub refused : ℕ
   pub bytes : List ℕ
   pub wrote : WroteBy result (refused_text refused) out taken

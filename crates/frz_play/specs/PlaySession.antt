@@ -16,7 +16,9 @@ use Rattle.frz_play.specs.Texts.{session_text}
 
 -- how much of a session was played: its text begins with what was written, what it takes of the input begins with
 -- what was taken, and both are all of it at an end of its own
-pub record PlayedOf (side : Colour) (code : ℕ) (input bytes text : List ℕ) (result : Result SessionEnd PlayFault) (plies : List SessionPly) (end : EndOfSession) (left : Input) : Type 0 where
+pub record PlayedOf
+    (side : Colour) (code : ℕ) (input bytes text : List ℕ) (result : Result SessionEnd PlayFault)
+    (plies : List SessionPly) (end : EndOfSession) (left : Input) : Type 0 where
   pub rest : List ℕ
   pub unread : List ℕ
   pub begins : text ++ rest ≡ session_text side code plies end
@@ -25,7 +27,8 @@ pub record PlayedOf (side : Colour) (code : ℕ) (input bytes text : List ℕ) (
 
 -- the text and the bytes are those of the session from the position's number against the input; the code of the start
 -- is read once, and at each number the moves are made once and their codes read
-abbrev pub TellsSession : RuleLines → Colour → List ℕ → Board → (input bytes text : List ℕ) → Result SessionEnd PlayFault → (before now : Spent) → Type 0
+abbrev pub TellsSession : RuleLines → Colour → List ℕ → Board → (input bytes text : List ℕ) →
+    Result SessionEnd PlayFault → (before now : Spent) → Type 0
 TellsSession rules side codes p input bytes text result before now =
     Member rules.groups p →
     (plies : List SessionPly) (end : EndOfSession) (left : Input) →

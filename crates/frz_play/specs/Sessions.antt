@@ -27,11 +27,13 @@ session_player arena side codes = record {
 }
 
 -- after so many plies the session goes on from the number and this input with these plies to this end, and leaves this
-abbrev pub GoesOn : Arena Step ℕ Value → Colour → List ℕ → (played : ℕ) → Input → (number : ℕ) → List SessionPly → EndOfSession → Input → Type 0
+abbrev pub GoesOn : Arena Step ℕ Value → Colour → List ℕ → (played : ℕ) → Input → (number : ℕ) → List SessionPly →
+    EndOfSession → Input → Type 0
 GoesOn arena side codes played input number plies end left =
     IsWay (session_player arena side codes) played input number plies end left
 
 -- the session of the side from the number, in the game of the rules with these values outside its set
-abbrev pub IsSession : RuleLines → (Board → Value) → Colour → List ℕ → (start : ℕ) → (input : List ℕ) → List SessionPly → EndOfSession → Input → Type 0
+abbrev pub IsSession : RuleLines → (Board → Value) → Colour → List ℕ → (start : ℕ) → (input : List ℕ) →
+    List SessionPly → EndOfSession → Input → Type 0
 IsSession rules value side codes start input plies end left =
     GoesOn (graph_by rules value) side codes 0 (opened input) start plies end left

@@ -23,7 +23,7 @@ use Rattle.frz_line.specs.declared.end.LineFault.TheVariants as faults
 use Rattle.frz_line.specs.declared.reading.TheConstants.{MOST_ASKED, MOST_READ}
 use Rattle.frz_line.specs.Costs.{Spent, Spends}
 use Rattle.frz_line.specs.Sights.{choices_by}
-use Rattle.frz_line.specs.Texts.{exit_line, move_line}
+use Rattle.frz_line.specs.Texts.{arm_text}
 use Rattle.frz_play.specs.declared.end.SessionEnd.{SessionEnd}
 use Rattle.frz_play.specs.declared.end.SessionEnd.TheVariants as ends
 use Rattle.frz_play.specs.declared.end.PlayFault.{PlayFault}
@@ -43,13 +43,8 @@ use Rattle.frz_play.specs.Reading.{Input, opened}
 use Rattle.frz_play.specs.Sessions.{SessionPly, EndOfSession, GoesOn}
 use Rattle.frz_play.specs.Texts.{plies_text, end_text, start_line}
 
--- a move that leaves the set has the line of its exit behind it
-abbrev pub next_line : Next ℕ Value → List ℕ
-next_line (Inside number) = []
-next_line (Outside v) = exit_line v
-
 abbrev pub moved_text : (word : List ℕ) → Arm Step ℕ Value → List ℕ
-moved_text word a = word ++ (move_line a.mv ++ next_line a.next)
+moved_text word a = word ++ arm_text a
 
 -- the bound of a start that is not refused
 abbrev pub opening : Colour → Spot → Due → List ℕ
@@ -69,7 +64,8 @@ Answers turn text result old new =
     ⊎ ((result ≡ Err (plays.Line faults.Output)) × FailedWithin text old new)
 
 -- the move at this place was played, and written behind this word
-abbrev pub PlaysAt : (word : List ℕ) → (place : ℕ) → List (Arm Step ℕ Value) → List ℕ → Result Turn PlayFault → SinkTold → SinkTold → Type 0
+abbrev pub PlaysAt : (word : List ℕ) → (place : ℕ) → List (Arm Step ℕ Value) → List ℕ → Result Turn PlayFault →
+    SinkTold → SinkTold → Type 0
 PlaysAt word place arms cs result old new =
     (a : Arm Step ℕ Value) × (slice_get arms place ≡ Some a)
     × Answers (turn_of a.next (get_or cs place 0)) (moved_text word a) result old new
@@ -82,7 +78,8 @@ PlaysOwn spot arms cs result old new =
     × PlaysAt (codes "move ") place arms cs result old new
 
 -- what was heard is done
-abbrev pub AfterHeard : List (Arm Step ℕ Value) → List ℕ → Result Heard PlayFault → Result Turn PlayFault → SinkTold → SinkTold → Type 0
+abbrev pub AfterHeard : List (Arm Step ℕ Value) → List ℕ → Result Heard PlayFault → Result Turn PlayFault → SinkTold →
+    SinkTold → Type 0
 AfterHeard arms cs (Ok (heard.Reply place)) result old new =
     PlaysAt (codes "reply ") place arms cs result old new
 AfterHeard arms cs (Ok (heard.Stop Ended)) result old new =
@@ -92,7 +89,9 @@ AfterHeard arms cs (Ok (heard.Stop (Limit limit))) result old new =
 AfterHeard arms cs (Err fault) result old new = (result ≡ Err fault) × (new ≡ old)
 
 -- the reply of the opponent
-pub record PlaysReply (arms : List (Arm Step ℕ Value)) (cs : List ℕ) (old new : Reader) (result : Result Turn PlayFault) (source left : SourceTold) (out taken : SinkTold) : Type 0 where
+pub record PlaysReply
+    (arms : List (Arm Step ℕ Value)) (cs : List ℕ) (old new : Reader) (result : Result Turn PlayFault)
+    (source left : SourceTold) (out taken : SinkTold) : Type 0 where
   pub heard : Result Heard PlayFault
   pub between : SinkTold
   pub hears : Hears arms old new heard source left out between
@@ -103,7 +102,8 @@ abbrev pub Unread : Reader → Reader → SourceTold → SourceTold → Type 0
 Unread old new source left = (new ≡ old) × (left ≡ source)
 
 -- a ply of the side, or of the opponent
-abbrev pub PlaysPly : (own : Bool) → Spot → List (Arm Step ℕ Value) → List ℕ → Reader → Reader → Result Turn PlayFault → SourceTold → SourceTold → SinkTold → SinkTold → Type 0
+abbrev pub PlaysPly : (own : Bool) → Spot → List (Arm Step ℕ Value) → List ℕ → Reader → Reader →
+    Result Turn PlayFault → SourceTold → SourceTold → SinkTold → SinkTold → Type 0
 PlaysPly true spot arms cs old new result source left out taken =
     Unread old new source left × PlaysOwn spot arms cs result out taken
 PlaysPly false spot arms cs old new result source left out taken =
@@ -113,11 +113,17 @@ PlaysPly false spot arms cs old new result source left out taken =
 abbrev pub Stops : PlayFault → Result Turn PlayFault → SinkTold → SinkTold → Type 0
 Stops fault result old new = (result ≡ Err fault) × (new ≡ old)
 
+-- the kept code of the spot is not the local one, which is this
+abbrev pub wrong_at : Colour → Spot → (given : ℕ) → PlayFault
+wrong_at side spot given =
+    plays.Line (faults.Wrong (record { side = side; number = spot.number; kept = spot.code; given = given }))
+
 -- what is due was done, with these moves and their codes. No session is cut
-abbrev pub IsPlayed : Colour → Spot → Due → List (Arm Step ℕ Value) → List ℕ → Reader → Reader → Result Turn PlayFault → SourceTold → SourceTold → SinkTold → SinkTold → Type 0
+abbrev pub IsPlayed : Colour → Spot → Due → List (Arm Step ℕ Value) → List ℕ → Reader → Reader →
+    Result Turn PlayFault → SourceTold → SourceTold → SinkTold → SinkTold → Type 0
 IsPlayed side spot (dues.Wrong given) arms cs old new result source left out taken =
     Unread old new source left
-    × Stops (plays.Line (faults.Wrong (record { side = side; number = spot.number; kept = spot.code; given = given }))) result out taken
+    × Stops (wrong_at side spot given) result out taken
 IsPlayed side spot dues.NoBound arms cs old new result source left out taken =
     Unread old new source left × Stops (plays.Line faults.NoBound) result out taken
 IsPlayed side spot (dues.Mate mover) arms cs old new result source left out taken =
@@ -158,7 +164,8 @@ rest_text side spot plies end =
     ++ (plies_text side plies ++ end_text end)
 
 -- how a turn leaves a session: it goes on with a ply less, or it finished
-abbrev pub Leaves : Arena Step ℕ Value → Colour → List ℕ → (played : ℕ) → Input → List SessionPly → EndOfSession → (last : Input) → (rest : List ℕ) → Result Turn PlayFault → Type 0
+abbrev pub Leaves : Arena Step ℕ Value → Colour → List ℕ → (played : ℕ) → Input → List SessionPly → EndOfSession →
+    (last : Input) → (rest : List ℕ) → Result Turn PlayFault → Type 0
 Leaves arena side kept played left plies end last rest (Ok (On number code)) =
     (slice_index kept number ≡ code)
     × ((others : List SessionPly) × (length plies ≡ suc (length others))
@@ -170,7 +177,8 @@ Leaves arena side kept played left plies end last rest (Err fault) =
     (unread : List ℕ) × (unread ++ last.left ≡ left.left) × Finishes (Err fault) side end rest unread
 
 -- the text and the bytes are what the turn adds to each session that goes on from here
-abbrev pub GoesBy : Arena Step ℕ Value → Colour → List ℕ → Spot → (old new : Reader) → (bytes text : List ℕ) → Result Turn PlayFault → Type 0
+abbrev pub GoesBy : Arena Step ℕ Value → Colour → List ℕ → Spot → (old new : Reader) → (bytes text : List ℕ) →
+    Result Turn PlayFault → Type 0
 GoesBy arena side kept spot old new bytes text result =
     slice_index kept spot.number ≡ spot.code →
     (played : ℕ) → (played == 0) ≡ spot.is_start →
@@ -181,7 +189,8 @@ GoesBy arena side kept spot old new bytes text result =
     × Leaves arena side kept played (record { left = left; more = new.more }) plies end last rest result
 
 -- the same of all turns from the start, against some input that may be the one that is told
-abbrev pub Plays : Arena Step ℕ Value → Colour → List ℕ → (start code : ℕ) → SourceTold → (bytes text : List ℕ) → Result SessionEnd PlayFault → (before now : Spent) → Type 0
+abbrev pub Plays : Arena Step ℕ Value → Colour → List ℕ → (start code : ℕ) → SourceTold → (bytes text : List ℕ) →
+    Result SessionEnd PlayFault → (before now : Spent) → Type 0
 Plays arena side kept start code source bytes text result before now =
     (input : List ℕ) × MayHold source input
     × (slice_index kept start ≡ code →

@@ -13,10 +13,10 @@ use Rattle.frz_game.proofs.Lemmas.{finite}
 use Rattle.frz_index.specs.Members.{Member, Num}
 use Rattle.frz_line.specs.Costs.{spent_by}
 use Rattle.frz_line.specs.Kept.{kept_codes}
-use Rattle.frz_line.proofs.Lemmas.{code_read}
+use Rattle.frz_line.proofs.Lemmas.{code_kept, code_read}
 use Rattle.frz_play.specs.Turns.{Plays}
 use Rattle.frz_play.proofs.Alternating.{turn_after}
-use Rattle.frz_play.proofs.Starting.{nothing_told, start_unread, code_kept, session_told}
+use Rattle.frz_play.proofs.Starting.{nothing_told, start_unread, session_told}
 use Rattle.frz_play.proofs.opening.play_session.Goals as goal
 
 pub returns-in_default-clause-played : goal.returns-in_default-clause-played

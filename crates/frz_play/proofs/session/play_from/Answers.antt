@@ -3,11 +3,11 @@ use Rattle.frz_store.specs.Files.{Files}
 use Rattle.frz_store.specs.Told.{store_of, source_of, sink_of}
 use Rattle.frz_line.specs.Costs.{spent_by}
 use Rattle.frz_line.specs.Kept.{kept_codes}
-use Rattle.frz_line.proofs.Lemmas.{at_one}
+use Rattle.frz_line.proofs.Lemmas.{at_one, fine_behind, quiet_behind}
 use Rattle.frz_play.specs.declared.playing.Turn.{Turn}
 use Rattle.frz_play.specs.declared.playing.Turn.TheVariants.{On}
 use Rattle.frz_play.specs.Turns.{TurnsTo, GoesBy}
-use Rattle.frz_play.proofs.Played.{at_start, next_far, last_far, fault_wrote, quiet_behind, fine_behind}
+use Rattle.frz_play.proofs.Played.{at_start, next_far, last_far, fault_wrote}
 use Rattle.frz_play.proofs.session.play_from.Goals as goal
 
 pub plies-init : goal.plies-init

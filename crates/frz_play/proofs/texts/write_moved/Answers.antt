@@ -1,15 +1,10 @@
 use Rattle.std.proofs.Common.{refl}
-use Rattle.frz_answer.proofs.Lemmas.{failed_before, failed_behind, gave_up, wrote_behind}
+use Rattle.frz_answer.proofs.Lemmas.{failed_before, gave_up, wrote_behind}
 use Rattle.frz_play.proofs.texts.write_moved.Goals as goal
 
 pub returns-in_err-write_piece : goal.returns-in_err-write_piece
 returns-in_err-write_piece g c =
     gave_up _ _ _ _ c.from_residual.ensures.0 (failed_before _ _ _ _ _ c.in_err-write_piece.ensures.failed refl)
 
-pub returns-in_err-write_move : goal.returns-in_err-write_move
-returns-in_err-write_move g c =
-    gave_up _ _ _ _ c.from_residual-in_err-write_move.ensures.0 (failed_behind _ _ _ _ _ _ c.in_ok-write_piece.ensures.ok refl (failed_before _ _ _ _ _ c.in_err-write_move.ensures.failed refl))
-
 pub returns : goal.returns
-returns g c =
-    wrote_behind _ _ _ _ _ _ c.in_ok-write_piece.ensures.ok refl _ (wrote_behind _ _ _ _ _ _ c.in_ok-write_move.ensures.ok refl _ c.write_next.ensures)
+returns g c = wrote_behind _ _ _ _ _ _ c.in_ok-write_piece.ensures.ok refl _ c.write_arm.ensures
