@@ -16,7 +16,7 @@ use Rattle.frz_check.specs.Kept.{kept_codes}
 use Rattle.frz_answer.specs.Statuses.{OneOf}
 use Rattle.frz_answer.specs.World.{World, Agrees}
 use Rattle.frz_answer.specs.Answers.{Answer, says, SomeAnswer}
-use Rattle.frz_answer.specs.Jobs.{WithinCosts}
+use Rattle.frz_answer.specs.Jobs.{Job, WithinCosts}
 use Rattle.frz_answer.proofs.Lemmas.{IsStage, as_given}
 use Rattle.frz_prelude.specs.Refusals.{status_of, refusal_line}
 use Rattle.frz_prelude.specs.Stops.{stop_of_table}
@@ -75,6 +75,20 @@ some_by there (Err fault) bytes side p files = record {
 pub some_at : LineThere → (table : List ℕ) (side : Colour) (p : Board) (files : Files) → SomeAnswer (λ a. IsLinedAt table side p files a)
 some_at there table side p files = some_by there (opened (table_format Plain) (files table)) (bytes_at files table) side p files
 
+-- how a job stops where its table was not opened: what the file is refused for is named, and a fault of the store or want
+-- of memory ends it
+pub stops_by : (job : Job) (m : Files) (i : List ℕ) (old new : World) (x : Result Contents TableFault)
+    → ((fault : TableFault) → x ≡ Err fault → StopsWith job (Refused (refusals.Table fault)) m i old new) → StopsWith job (stop_of_table Failed) m i old new
+    → (fault : TableFault) → Refuses x fault → StopsWith job (stop_of_table fault) m i old new
+stops_by job m i old new x refused begun Missing e = refused Missing e
+stops_by job m i old new x refused begun Magic e = refused Magic e
+stops_by job m i old new x refused begun (Truncated length due) e = refused (Truncated length due) e
+stops_by job m i old new x refused begun (Extra length due) e = refused (Extra length due) e
+stops_by job m i old new x refused begun (Rules fault) e = refused (Rules fault) e
+stops_by job m i old new x refused begun (Size kept due) e = refused (Size kept due) e
+stops_by job m i old new x refused begun Failed e = begun
+stops_by job m i old new x refused begun NoMemory e = begun
+
 -- the table was not opened
 module _ (there : LineThere) (name : List ℕ) (side : Colour) (p : Board) (m : Files) (i : List ℕ) (old new : World) (agrees : Agrees old m i)
     (asked : new.store.asked ≤ old.store.asked + (16 + length (kept_text (bytes_at m name))))
@@ -89,20 +103,13 @@ module _ (there : LineThere) (name : List ℕ) (side : Colour) (p : Board) (m : 
     costs = within (says (status_of (refusals.Table fault)) (refusal_line (refusals.Table fault)) m);
   }
 
-  begun_so : (fault : TableFault) → StopsWith (lining_at name side p) (stop_of_table Failed) m i old new
-  begun_so fault =
+  begun_so : StopsWith (lining_at name side p) (stop_of_table Failed) m i old new
+  begun_so =
       let some = some_at there name side p m in
       record { found = as_given (lining_at name side p) m i old agrees; some = some; costs = within some.a }
 
   pub stopped_so : (fault : TableFault) → Refuses (opened (table_format Plain) (m name)) fault → StopsWith (lining_at name side p) (stop_of_table fault) m i old new
-  stopped_so Missing e = refused_so Missing e
-  stopped_so Magic e = refused_so Magic e
-  stopped_so (Truncated length due) e = refused_so (Truncated length due) e
-  stopped_so (Extra length due) e = refused_so (Extra length due) e
-  stopped_so (Rules fault) e = refused_so (Rules fault) e
-  stopped_so (Size kept due) e = refused_so (Size kept due) e
-  stopped_so Failed e = begun_so Failed
-  stopped_so NoMemory e = begun_so NoMemory
+  stopped_so = stops_by (lining_at name side p) m i old new (opened (table_format Plain) (m name)) refused_so begun_so
 
 pub from_table : (fault : TableFault) (why : Refusal) → stop_of_table fault ≡ Refused why → refusals.Table fault ≡ why
 from_table Missing why e = cc

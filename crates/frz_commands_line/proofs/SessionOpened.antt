@@ -9,7 +9,7 @@ use Rattle.frz_exits.specs.Books.{value_by}
 use Rattle.frz_index.specs.Members.{Num}
 use Rattle.frz_store.specs.Files.{Files, bytes_at}
 use Rattle.frz_table.specs.declared.fault.TableFault.{TableFault}
-use Rattle.frz_table.specs.declared.fault.TableFault.TheVariants.{Missing, Magic, Truncated, Extra, Rules, Size, Failed, NoMemory}
+use Rattle.frz_table.specs.declared.fault.TableFault.TheVariants.{Failed}
 use Rattle.frz_table.specs.declared.kind.FileKind.TheVariants.{Plain}
 use Rattle.frz_table.specs.Opening.{Contents, contents_of, opened, Refuses, kept_text, table_format}
 use Rattle.frz_table.specs.Tables.{Table}
@@ -30,7 +30,7 @@ use Rattle.frz_play.specs.Sessions.{EndOfSession, IsSession}
 use Rattle.frz_commands_line.specs.LineOf.{code_at}
 use Rattle.frz_commands_line.specs.SessionOf.{session_answer, IsPlayed, IsPlayedIn, IsPlayedBy, IsPlayedAt}
 use Rattle.frz_commands_line.specs.Playing.{playing_in, playing_at}
-use Rattle.frz_commands_line.proofs.Opened.{from_table}
+use Rattle.frz_commands_line.proofs.Opened.{from_table, stops_by}
 use Rattle.frz_commands_line.proofs.SessionSeen.{SessionThere}
 use Rattle.frz_commands_line.proofs.SessionTexts.{answered_at, never_cut, session_said}
 
@@ -98,20 +98,13 @@ module _ (there : SessionThere) (name : List ℕ) (side : Colour) (p : Board) (m
     costs = within (says (status_of (refusals.Table fault)) (refusal_line (refusals.Table fault)) m);
   }
 
-  begun_so : (fault : TableFault) → StopsWith (playing_at name side p) (stop_of_table Failed) m i old new
-  begun_so fault =
+  begun_so : StopsWith (playing_at name side p) (stop_of_table Failed) m i old new
+  begun_so =
       let some = some_at there name side p m i in
       record { found = as_given (playing_at name side p) m i old agrees; some = some; costs = within some.a }
 
   pub stopped_so : (fault : TableFault) → Refuses (opened (table_format Plain) (m name)) fault → StopsWith (playing_at name side p) (stop_of_table fault) m i old new
-  stopped_so Missing e = refused_so Missing e
-  stopped_so Magic e = refused_so Magic e
-  stopped_so (Truncated length due) e = refused_so (Truncated length due) e
-  stopped_so (Extra length due) e = refused_so (Extra length due) e
-  stopped_so (Rules fault) e = refused_so (Rules fault) e
-  stopped_so (Size kept due) e = refused_so (Size kept due) e
-  stopped_so Failed e = begun_so Failed
-  stopped_so NoMemory e = begun_so NoMemory
+  stopped_so = stops_by (playing_at name side p) m i old new (opened (table_format Plain) (m name)) refused_so begun_so
 
 -- the statuses of `play`
 pub own_refusal : (name : List ℕ) (side : Colour) (p : Board) (fault : TableFault) (why : Refusal) → stop_of_table fault ≡ Refused why → OneOf (status_of why) (playing_at name side p).statuses

@@ -66,12 +66,14 @@ abbrev pub start_code : {table : List ℕ} {side : Colour} {p : Board} {files : 
 start_code {side = side} {p = p} has = code_at has.contents has.bytes side p
 
 -- the file is the one file of its text
-abbrev pub IsExactFile : {table : List ℕ} {side : Colour} {p : Board} {files : Files} → HasLine table side p files → Type 0
+abbrev pub IsExactFile : {table : List ℕ} {side : Colour} {p : Board} {files : Files} → HasLine table side p files →
+    Type 0
 IsExactFile has =
     IsOneFile (magic_of Plain) has.contents.text has.contents.rules (value_by has.contents.rules) has.bytes
 
 -- the text is that of the line
-abbrev pub TellsText : {table : List ℕ} {side : Colour} {p : Board} {files : Files} → HasLine table side p files → List ℕ → Type 0
+abbrev pub TellsText : {table : List ℕ} {side : Colour} {p : Board} {files : Files} → HasLine table side p files →
+    List ℕ → Type 0
 TellsText {side = side} has text = text ≡ told_text side (start_code has) has.plies (line_ends.told side has.end)
 
 -- the whole line is told, with its end; a win is brought home in its plies, and a hold stays one; in the one file of a

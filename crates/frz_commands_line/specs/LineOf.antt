@@ -46,7 +46,8 @@ abbrev pub line_answer : Colour → ℕ → List LinePly → Result LineEnd Line
 line_answer side code plies answer files = says (end_status answer) (told_text side code plies answer) files
 
 -- at a position of the set: its line is told
-pub record IsLined (contents : Contents) (bytes : List ℕ) (side : Colour) (p : Board) (files : Files) (a : Answer) : Type 0 where
+pub record IsLined
+    (contents : Contents) (bytes : List ℕ) (side : Colour) (p : Board) (files : Files) (a : Answer) : Type 0 where
   pub plies : List LinePly
   pub end : EndOfLine
   pub line : IsLineBy contents bytes side p plies end

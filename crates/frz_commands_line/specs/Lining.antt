@@ -32,7 +32,8 @@ playing_costs calls asked plies = record {
 -- by an open table
 abbrev pub lining_in : OpenTable → Colour → Board → Job
 lining_in table side p =
-    record (plain (Success ∷ Wrong ∷ Outside ∷ []) (λ files input a. IsLinedIn (contents_of table) (bytes_at files table.name) side p files a)) {
+    record (plain (Success ∷ Wrong ∷ Outside ∷ [])
+    (λ files input a. IsLinedIn (contents_of table) (bytes_at files table.name) side p files a)) {
       needs = playing_needs;
       speaks = true;
       costs = λ files input a. playing_costs 0 0 (plies_in a.text);
@@ -41,7 +42,8 @@ lining_in table side p =
 -- by the table of this name: to open it, the store is called five times at most, and asked for 16 bytes and the text
 abbrev pub lining_at : List ℕ → Colour → Board → Job
 lining_at table side p =
-    record (plain (Success ∷ Wrong ∷ Table ∷ Outside ∷ Missing ∷ []) (λ files input a. IsLinedAt table side p files a)) {
+    record (plain (Success ∷ Wrong ∷ Table ∷ Outside ∷ Missing ∷ [])
+    (λ files input a. IsLinedAt table side p files a)) {
       means = λ files input a. MeansLine table side p files a;
       needs = playing_needs;
       speaks = true;

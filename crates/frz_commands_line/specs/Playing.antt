@@ -22,7 +22,8 @@ session_needs = record playing_needs { input = true }
 -- by an open table
 abbrev pub playing_in : OpenTable → Colour → Board → Job
 playing_in table side p =
-    record (plain (Success ∷ Wrong ∷ Outside ∷ Limit ∷ []) (λ files input a. IsPlayedIn (contents_of table) (bytes_at files table.name) side p files input a)) {
+    record (plain (Success ∷ Wrong ∷ Outside ∷ Limit ∷ [])
+    (λ files input a. IsPlayedIn (contents_of table) (bytes_at files table.name) side p files input a)) {
       needs = session_needs;
       speaks = true;
       costs = λ files input a. playing_costs 0 0 (plies_of a.text);
@@ -31,7 +32,8 @@ playing_in table side p =
 -- by the table of this name: to open it, the store is called five times at most, and asked for 16 bytes and the text
 abbrev pub playing_at : List ℕ → Colour → Board → Job
 playing_at table side p =
-    record (plain (Success ∷ Wrong ∷ Table ∷ Outside ∷ Missing ∷ Limit ∷ []) (λ files input a. IsPlayedAt table side p files input a)) {
+    record (plain (Success ∷ Wrong ∷ Table ∷ Outside ∷ Missing ∷ Limit ∷ [])
+    (λ files input a. IsPlayedAt table side p files input a)) {
       means = λ files input a. MeansPlay table side p files input a;
       needs = session_needs;
       speaks = true;

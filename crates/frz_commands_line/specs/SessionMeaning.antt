@@ -42,7 +42,8 @@ use Rattle.frz_commands_line.specs.SessionOf.{IsSessionBy, played_text}
 
 -- from a win within n plies: at most n plies are played, with the lag of an exit counted; the opponent is mated, or the
 -- exit wins for the side, unless the input ends it
-pub record PlaysWin (rules : RuleLines) (side : Colour) (n : ℕ) (plies : List SessionPly) (end : EndOfSession) : Type 0 where
+pub record PlaysWin
+    (rules : RuleLines) (side : Colour) (n : ℕ) (plies : List SessionPly) (end : EndOfSession) : Type 0 where
   pub few : length plies ≤ n
   pub ends : EndsWon (graph_by rules (value_by rules)) side end
   pub exit : (v : Value) → end ≡ ways.Exit v → length plies + lag_of v ≤ n
@@ -70,22 +71,27 @@ pub record HasSession (table : List ℕ) (side : Colour) (p : Board) (files : Fi
   pub session : IsSessionBy contents bytes side p input plies end left
 
 -- the code of its start
-abbrev pub start_code : {table : List ℕ} {side : Colour} {p : Board} {files : Files} {input : List ℕ} → HasSession table side p files input → ℕ
+abbrev pub start_code : {table : List ℕ} {side : Colour} {p : Board} {files : Files} {input : List ℕ} →
+    HasSession table side p files input → ℕ
 start_code {side = side} {p = p} has = code_at has.contents has.bytes side p
 
 -- the file is the one file of its text
-abbrev pub IsExactFile : {table : List ℕ} {side : Colour} {p : Board} {files : Files} {input : List ℕ} → HasSession table side p files input → Type 0
+abbrev pub IsExactFile : {table : List ℕ} {side : Colour} {p : Board} {files : Files} {input : List ℕ} →
+    HasSession table side p files input → Type 0
 IsExactFile has =
     IsOneFile (magic_of Plain) has.contents.text has.contents.rules (value_by has.contents.rules) has.bytes
 
 -- the session answers this, and the text is its own
-pub record Ends {table : List ℕ} {side : Colour} {p : Board} {files : Files} {input : List ℕ} (has : HasSession table side p files input) (text : List ℕ) (answer : Result SessionEnd PlayFault) : Type 0 where
+pub record Ends
+    {table : List ℕ} {side : Colour} {p : Board} {files : Files} {input : List ℕ}
+    (has : HasSession table side p files input) (text : List ℕ) (answer : Result SessionEnd PlayFault) : Type 0 where
   pub tells : Tells side has.end answer
   pub told : text ≡ played_text side (start_code has) has.plies has.end answer
 
--- the whole session is told, with its end; a win and a hold are kept. In the one file of a text the code of the start is
--- that of the bound, and where the exits are true each position after a ply is safe
-pub record TellsSession (table : List ℕ) (side : Colour) (p : Board) (files : Files) (input text : List ℕ) : Type 0 where
+-- the whole session is told, with its end; a win and a hold are kept. In the one file of a text the code of the start
+-- is that of the bound, and where the exits are true each position after a ply is safe
+pub record TellsSession
+    (table : List ℕ) (side : Colour) (p : Board) (files : Files) (input text : List ℕ) : Type 0 where
   pub has : HasSession table side p files input
   pub last : SessionEnd
   pub ends : Ends has text (Ok last)
@@ -104,7 +110,8 @@ pub record TellsWrong (table : List ℕ) (side : Colour) (p : Board) (files : Fi
   pub not_exact : IsExactFile has → ⊥
 
 -- the start fails
-pub record TellsNoBound (table : List ℕ) (side : Colour) (p : Board) (files : Files) (input text : List ℕ) : Type 0 where
+pub record TellsNoBound
+    (table : List ℕ) (side : Colour) (p : Board) (files : Files) (input text : List ℕ) : Type 0 where
   pub has : HasSession table side p files input
   pub fault : PlayFault
   pub ends : Ends has text (Err fault)
@@ -128,7 +135,8 @@ MeansStatus table side p files input Missing text = files table ≡ None
 MeansStatus table side p files input status text = ⊥
 
 -- what an answer of `play` means: it changes no file, and each status has its cause
-pub record MeansPlay (table : List ℕ) (side : Colour) (p : Board) (files : Files) (input : List ℕ) (a : Answer) : Type 0 where
+pub record MeansPlay
+    (table : List ℕ) (side : Colour) (p : Board) (files : Files) (input : List ℕ) (a : Answer) : Type 0 where
   pub same : a.files ≡ files
   pub few : a.taken ≤ length input
   pub says : MeansStatus table side p files input a.status a.text

@@ -1,4 +1,5 @@
--- What `play TABLE FEN SIDE` answers: the session of the side by the codes in the file against the input. No file changes.
+-- What `play TABLE FEN SIDE` answers: the session of the side by the codes in the file against the input. No file
+-- changes.
 use Rattle.std.specs.Prelude.{◌≡◌, ℕ, ◌+◌, ◌-◌, ◌||◌, Bool, List, [], ◌∷◌, ◌++◌, length, take, MatchBool, Result, Ok, Err, codes, if◌then◌else◌}
 use Rattle.std.specs.Str.{bytes_eq}
 use Rattle.frz_board.specs.declared.man.Colour.{Colour}
@@ -34,7 +35,8 @@ plies_of (b ∷ text) =
 
 -- the session of the side from the position against the input, by the codes that the bytes keep, in the game of their
 -- rules; and what it leaves of the input
-abbrev pub IsSessionBy : Contents → List ℕ → Colour → Board → (input : List ℕ) → List SessionPly → EndOfSession → Input → Type 0
+abbrev pub IsSessionBy : Contents → List ℕ → Colour → Board → (input : List ℕ) → List SessionPly → EndOfSession →
+    Input → Type 0
 IsSessionBy contents bytes side p input plies end left =
     IsSession contents.rules (value_by contents.rules) side (kept_codes contents bytes side)
     (Num contents.rules.groups p) input plies end left
@@ -44,7 +46,8 @@ abbrev pub played_text : Colour → ℕ → List SessionPly → EndOfSession →
 played_text side code plies end answer = session_text side code plies end ++ session_naming answer
 
 -- and all that the session does not leave of the input is taken
-abbrev pub session_answer : Colour → ℕ → (input : List ℕ) → List SessionPly → EndOfSession → Input → Result SessionEnd PlayFault → Files → Answer
+abbrev pub session_answer : Colour → ℕ → (input : List ℕ) → List SessionPly → EndOfSession → Input →
+    Result SessionEnd PlayFault → Files → Answer
 session_answer side code input plies end left answer files = record {
   status = session_status answer;
   text = played_text side code plies end answer;
@@ -53,7 +56,9 @@ session_answer side code input plies end left answer files = record {
 }
 
 -- at a position of the set: its session is told
-pub record IsPlayed (contents : Contents) (bytes : List ℕ) (side : Colour) (p : Board) (files : Files) (input : List ℕ) (a : Answer) : Type 0 where
+pub record IsPlayed
+    (contents : Contents) (bytes : List ℕ) (side : Colour) (p : Board) (files : Files) (input : List ℕ) (a : Answer)
+    : Type 0 where
   pub plies : List SessionPly
   pub end : EndOfSession
   pub left : Input
