@@ -73,7 +73,8 @@ impl Census {
             Counts self.new.classes.entries (exits ++ classes_after p.now (arm ∷ []))) }
     {
         if is_open(arm.next) {
-            self.note(class_of(after(p, arm.mv).as_position()))
+            let q = after(p, arm.mv);
+            self.note(class_of(q.as_position()))
         } else {
             Ok(())
         }
