@@ -12,14 +12,15 @@ use Rattle.frz_board.specs.Men.{same_colour}
 use Rattle.frz_sets.specs.Sets.{size_of}
 use Rattle.frz_sets.specs.Views.{GroupLine}
 use Rattle.frz_index.specs.Membership.{number_of, position_at}
+use Rattle.frz_index.specs.Partners.{with_black}
 use Rattle.frz_index.proofs.Lemmas.{Num_below, position_of, position_tells, number_tells, number_there, member_of, of_member}
-use Rattle.frz_report.specs.Squeezes.{Squeeze, IsSqueeze, is_first, is_worse_to_move, rank_at, squeeze_at, squeeze_on, squeeze_with, squeezes, with_black}
+use Rattle.frz_report.specs.Squeezes.{Squeeze, IsSqueeze, is_first, is_worse_to_move, rank_at, squeeze_at, squeeze_on, squeeze_with, squeezes}
 
-is_white : (c : Colour) → same_colour c White ≡ true → c ≡ White
+pub is_white : (c : Colour) → same_colour c White ≡ true → c ≡ White
 is_white White h = refl
 is_white Black h = cc
 
-has_none : (o : Option ℕ) → is_none o ≡ true → o ≡ None
+pub has_none : (o : Option ℕ) → is_none o ≡ true → o ≡ None
 has_none None h = refl
 has_none (Some x) h = cc
 

@@ -11,6 +11,7 @@ use Rattle.frz_sets.specs.Views.{GroupLine}
 use Rattle.frz_arena.specs.Codes.{is_win}
 use Rattle.frz_index.specs.Members.{HasNumber}
 use Rattle.frz_index.specs.Membership.{number_of, position_at}
+use Rattle.frz_index.specs.Partners.{with_black}
 
 -- what a code is worth: a win 2, a hold 1, and every other code 0
 abbrev pub rank_of : ℕ → ℕ
@@ -43,10 +44,6 @@ pub record IsSqueeze (groups : List GroupLine) (codes : Colour → List ℕ) (s 
 -- White is to move, and there is no target
 abbrev pub is_first : Board → Bool
 is_first p = same_colour p.turn White && is_none p.ep
-
--- the same men with Black to move and no target
-abbrev pub with_black : Board → Board
-with_black p = record { cells = p.cells; turn = Black; ep = None }
 
 -- the number of the second position, where there is one
 abbrev pub partner_of : List GroupLine → Board → Option ℕ

@@ -1,9 +1,10 @@
 //! Squeezes: pairs of numbers at which neither side would like to move.
-ghost use Rattle.std.specs.Prelude.{◌≡◌, ◌<◌, ◌≤◌, length, IfSome, Some, None};
-ghost use Rattle.frz_board.specs.Men.{same_colour};
+ghost use Rattle.std.specs.Prelude.{◌≡◌, ◌<◌, length, IfSome, None};
+ghost use Rattle.frz_board.specs.Boards.{Board};
 ghost use Rattle.frz_board.specs.declared.man.Colour.TheVariants.{White};
-ghost use Rattle.frz_fide.specs.Valid.{IsValid};
+ghost use Rattle.frz_index.specs.Members.{HasNumber};
 ghost use Rattle.frz_index.specs.Membership.{number_of};
+ghost use Rattle.frz_index.specs.Partners.{with_black};
 ghost use Rattle.frz_sets.specs.Sets.{size_of};
 ghost use Rattle.frz_report.specs.Squeezes as words;
 ghost use Rattle.frz_report.specs.Squeezes.{rank_of, rank_at, is_first as stands_first, is_worse_to_move as worse, partner_of, squeeze_on};
@@ -52,25 +53,28 @@ fn is_first(p: &Position) -> bool
     p.turn() == Colour::White && p.ep().is_none()
 }
 
-/// The number of a position that may be none of the set, or not valid.
-fn number_if_valid(set: &Set, q: &Position) -> Option<u32>
+/// The number of the men of the position with this number, where Black is to move with no target,
+/// and `None` where that is not valid.
+fn number_if_valid(set: &Set, w: u32, q: &Position) -> Option<u32>
+    requires { (p : Board) × HasNumber set.now w p × (p.turn ≡ White) × (p.ep ≡ None)
+        × (q.now ≡ with_black p) }
     ensures number { result ≡ number_of set.now q.now }
     ensures inside { IfSome result (λ b. b < size_of set.now) }
 {
     match valid(q) {
-        Ok(()) => set.number(q),
+        Ok(()) => Some(set.with_black_to_move(w)),
         Err(_) => None,
     }
 }
 
 /// The number of the same men with Black to move, where White is to move with no target.
-fn partner(set: &Set, p: &Position) -> Option<u32>
-    requires { IsValid p.now }
+fn partner(set: &Set, w: u32, p: &Position) -> Option<u32>
+    requires { HasNumber set.now w p.now }
     ensures number { result ≡ partner_of set.now p.now }
     ensures inside { IfSome result (λ b. b < size_of set.now) }
 {
     if is_first(p) {
-        number_if_valid(set, &p.hand_over(None))
+        number_if_valid(set, w, &p.hand_over(None))
     } else {
         None
     }
@@ -78,12 +82,12 @@ fn partner(set: &Set, p: &Position) -> Option<u32>
 
 /// The number of the second position of a squeeze whose first is this one.
 pub fn squeezed_with<E: Entries>(set: &Set, entries: &E, w: u32, p: &Position) -> Option<u32>
-    requires valid { IsValid p.now }
+    requires position { HasNumber set.now w p.now }
     requires inside { w < size_of set.now }
     requires many { length (E.codes entries.now White) ≡ size_of set.now }
     ensures { words.squeezed_by w p.now result ≡ squeeze_on set.now (E.codes entries.now) w p.now }
 {
-    let b = partner(set, p)?;
+    let b = partner(set, w, p)?;
     if is_worse_to_move(entries, w, b) {
         Some(b)
     } else {

@@ -1,7 +1,7 @@
 //! The walk over the numbers of a set: each is looked at once.
 ghost use Rattle.std.specs.Prelude.{◌≡◌, ◌≤◌, ◌<◌, ◌+◌, ◌*◌, [], length, Err, Some, IfOk, OnOk};
 ghost use Rattle.frz_board.specs.declared.man.Colour.TheVariants.{White};
-ghost use Rattle.frz_fide.specs.Valid.{IsValid};
+ghost use Rattle.frz_index.specs.Members.{HasNumber};
 ghost use Rattle.frz_index.specs.Membership.{position_at};
 ghost use Rattle.frz_sets.specs.Sets.{size_of};
 ghost use Rattle.frz_sets.specs.Sound.{IsSound};
@@ -35,7 +35,7 @@ fn write_if_squeeze<E: Entries, O: Sink>(
     p: &Position,
     out: &mut O,
 ) -> Result<u64, Failed>
-    requires valid { IsValid p.now }
+    requires position { HasNumber set.now number p.now }
     requires inside { number < size_of set.now }
     requires many { length (E.codes entries.now White) ≡ size_of set.now }
     ensures wrote { WroteText (line_of (squeeze_on set.now (E.codes entries.now) number p.now)) result

@@ -1,4 +1,6 @@
-use Rattle.std.proofs.Common.{◌≡◌, Some, None}
+use Rattle.std.proofs.Common.{◌≡◌, refl, sym, subst, Some, None}
+use Rattle.frz_board.specs.Boards.{Board}
+use Rattle.frz_index.specs.Members.{HasNumber}
 use Rattle.frz_index.specs.Membership.{position_at}
 use Rattle.frz_store.specs.Told.{sink_of}
 use Rattle.frz_report.specs.declared.fault.ReportFault.TheVariants.{NoMemory, Output}
@@ -36,6 +38,10 @@ returns-in_err-count_exits-clause-wrote g c =
     let out = sink_of g.O.Sink c.args.out.now in
     as_fault (λ r. WritesSome r (line_of (squeeze_at groups codes c.args.number)) (one_of (squeeze_at groups codes c.args.number)) out out) NoMemory c.from_residual.result c.from_residual.ensures.1
     (wanted_here groups codes c.args.number out)
+
+pub write_if_squeeze-requires-clause-position : goal.write_if_squeeze-requires-clause-position
+write_if_squeeze-requires-clause-position g c =
+    subst (λ (p : Board). HasNumber c.args.game.now.set.now c.args.number p) (sym c.as_position.ensures) ((c.in-Some.ensures.exact c.in-Some.p).0 refl)
 
 pub returns-in_err-squeezes-clause-wrote : goal.returns-in_err-squeezes-clause-wrote
 returns-in_err-squeezes-clause-wrote g c =
