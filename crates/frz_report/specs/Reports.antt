@@ -55,7 +55,9 @@ Finishes (Err Output) answer rest = ⊤
 Finishes (Err fault) answer rest = rest ≢ []
 
 -- whole lines that begin the report were written, and all of it where the totals are answered
-pub record WritesReport (rules : RuleLines) (value : Board → Value) (codes : Colour → List ℕ) (result : Result Totals ReportFault) (old new : SinkTold) : Type 0 where
+pub record WritesReport
+    (rules : RuleLines) (value : Board → Value) (codes : Colour → List ℕ) (result : Result Totals ReportFault)
+    (old new : SinkTold) : Type 0 where
   pub text : List ℕ
   pub rest : List ℕ
   pub lines : IsLines text
@@ -64,7 +66,8 @@ pub record WritesReport (rules : RuleLines) (value : Board → Value) (codes : C
   pub finishes : Finishes result (totals_of rules value codes) rest
 
 -- so much was written of the report of a file that the table's name may hold
-pub record WritesOfFile (files : Option Files) (table : Table) (result : Result Totals ReportFault) (old new : SinkTold) : Type 0 where
+pub record WritesOfFile
+    (files : Option Files) (table : Table) (result : Result Totals ReportFault) (old new : SinkTold) : Type 0 where
   pub bytes : List ℕ
   pub may : MayHold files table.name (Some bytes)
   pub file : IsFileOf table bytes

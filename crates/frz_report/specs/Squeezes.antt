@@ -27,8 +27,8 @@ pub record Squeeze : Type 0 where
   pub black_to_move : ℕ
   pub position : Board
 
--- the same men with the other side to move: two positions of the set without a target, White to move at the first and Black at
--- the second, where White's rank is lower at the first, and Black's at the second
+-- the same men with the other side to move: two positions of the set without a target, White to move at the first and
+-- Black at the second, where White's rank is lower at the first, and Black's at the second
 pub record IsSqueeze (groups : List GroupLine) (codes : Colour → List ℕ) (s : Squeeze) : Type 0 where
   pub other : Board
   pub first_is : HasNumber groups s.white_to_move s.position
