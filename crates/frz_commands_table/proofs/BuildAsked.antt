@@ -30,15 +30,15 @@ own_stop held stop due why is = own_refusal held why (subst (λ (s : Stop). Give
 
 -- where the rules file was not read
 pub stopped_at : (rules table : List ℕ) (stop : Stop) (files : Files) (input : List ℕ) (old new : World)
-    → IsTextRead rules (Err stop) old.store new.store → new.store.calls ≤ old.store.calls + 2 → new.steps ≤ old.steps → Agrees old files input
+    → IsTextRead rules (Err stop) old.store new.store → new.steps ≤ old.steps → Agrees old files input
     → StopsWith (building_at rules table) stop files input old new
-stopped_at rules table (Refused why) files input old new read calls steps agrees = record {
+stopped_at rules table (Refused why) files input old new read steps agrees = record {
   found = found_rules rules table read.files files input old read.agrees agrees;
   answer = is_refused_at table read.files rules why read.due;
-  costs = record { steps = omega (arith, steps); calls = omega (arith, calls); asked = read.asked };
+  costs = record { steps = omega (arith, steps); calls = (let a = read.calls in omega (arith, a)); asked = read.asked };
 }
-stopped_at rules table (Fault fault) files input old new read calls steps agrees = record {
+stopped_at rules table (Fault fault) files input old new read steps agrees = record {
   found = found_rules rules table read.files files input old read.agrees agrees;
   some = some_built_at rules table read.files;
-  costs = record { steps = omega (arith, steps); calls = omega (arith, calls); asked = read.asked };
+  costs = record { steps = omega (arith, steps); calls = (let a = read.calls in omega (arith, a)); asked = read.asked };
 }

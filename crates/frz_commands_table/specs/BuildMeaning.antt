@@ -8,7 +8,7 @@ use Rattle.frz_answer.specs.Answers.{Answer}
 use Rattle.frz_answer.specs.Jobs.{Job, Once, plain}
 use Rattle.frz_answer.specs.Words.{taking, two_words_of, unless}
 use Rattle.frz_prelude.specs.Causes.{rules_line}
-use Rattle.frz_prelude.specs.RulesFiles.{asked_of, rules_held}
+use Rattle.frz_prelude.specs.RulesFiles.{asked_of, reads_of, rules_held}
 use Rattle.frz_sets.specs.Views.{RuleLines}
 use Rattle.frz_sets.specs.Sets.{size_of}
 use Rattle.frz_rules.specs.Text.{rules_of}
@@ -56,7 +56,8 @@ pub record MeansBuild (rules table : List ℕ) (files : Files) (a : Answer) : Ty
   pub untaken : a.taken ≡ 0
   pub says : MeansByStatus rules table files a a.status
 
--- `build` at two names that differ: one `size` and one `read` of the rules file, and the calls that write the table
+-- `build` at two names that differ: one `size` and one `read` of the rules file, which is not read where
+-- it is missing or too long, and the calls that write the table
 abbrev pub building_at : List ℕ → List ℕ → Job
 building_at rules table = record (plain (Success ∷ Rules ∷ Missing ∷ [])
     (λ files input a. IsBuiltAt rules table files a)) {
@@ -65,7 +66,7 @@ building_at rules table = record (plain (Success ∷ Rules ∷ Missing ∷ [])
       writes = Some table;
       costs = λ files input a. record {
         steps = Some (steps_by (rules_held (files rules)));
-        calls = Some (2 + calls_by (rules_held (files rules)));
+        calls = Some (1 + reads_of (files rules) + calls_by (rules_held (files rules)));
         asked = Some (asked_of (files rules));
       };
     }
