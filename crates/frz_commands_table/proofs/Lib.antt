@@ -15,5 +15,4 @@ mod MovedCodes
 mod MovedFiles
 mod MigrateMeaning
 mod MigratedOnce
-mod WritingNew
 mod MigrateEnds

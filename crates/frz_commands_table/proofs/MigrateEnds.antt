@@ -12,7 +12,7 @@ use Rattle.frz_table.specs.declared.fault.TableFault.TheVariants.{Missing, Magic
 use Rattle.frz_table.specs.declared.kind.FileKind.TheVariants.{Plain}
 use Rattle.frz_table.specs.Layout.{file_of, magic_of, pieces_of}
 use Rattle.frz_table.specs.OldFiles.{old_contents_of, old_format}
-use Rattle.frz_table.specs.Opening.{Contents, opened}
+use Rattle.frz_table.specs.Opening.{Contents, opened, opening_calls}
 use Rattle.frz_table.specs.Possible.{MayHold}
 use Rattle.frz_build.specs.Building.{writing_calls}
 use Rattle.frz_index.specs.OldNumbers.{old_size_of}
@@ -30,7 +30,7 @@ use Rattle.frz_prelude.specs.declared.stop.Stop.TheVariants.{Refused}
 use Rattle.frz_prelude.proofs.Lemmas.{found_where, holding, table_own, StopsWith}
 use Rattle.frz_commands_table.specs.declared.moving.Moved.{Moved}
 use Rattle.frz_commands_table.specs.Rewriting.{MovesFile, RefusesFormer, WithinFormer, former_size}
-use Rattle.frz_commands_table.specs.Migrating.{migrated_line, IsMigratedAt, IsMigratedBy, migrating_calls, migrating_costs, writing_new}
+use Rattle.frz_commands_table.specs.Migrating.{migrated_line, IsMigratedAt, IsMigratedBy, moving_calls, migrating_costs, writing_new}
 use Rattle.frz_commands_table.specs.MigrateMeans.{migrating_at}
 use Rattle.frz_commands_table.proofs.Checked.{from_table, same_held}
 use Rattle.frz_commands_table.proofs.MigratedOnce.{some_migrated_at}
@@ -103,19 +103,19 @@ module _ (old new : List ℕ) where
       → WithinCosts (record { steps = Some 0; calls = Some (writing_calls size); asked = Some 0 }) mid now → WithinCosts (migrating_costs held) before now
   costs_on held contents size before mid now opens sized within same costs =
       let former : ℕ = former_size (opened old_format held) in
-      let due : migrating_calls (opened old_format held) ≡ 5 + 2 * pieces_of (old_size_of contents.rules.groups) + writing_calls (size_of contents.rules.groups) =
-      ap migrating_calls opens in
+      let due : moving_calls (opened old_format held) ≡ 2 * pieces_of (old_size_of contents.rules.groups) + writing_calls (size_of contents.rules.groups) =
+      ap moving_calls opens in
       let pieces : pieces_of former ≡ pieces_of (old_size_of contents.rules.groups) = ap (λ (x : Result Contents TableFault). pieces_of (former_size x)) opens in
       let calls : writing_calls size ≡ writing_calls (size_of contents.rules.groups) = ap writing_calls sized in
       record {
         steps = (let s = costs.steps in omega (arith, s, same));
-        calls = in_all (migrating_calls (opened old_format held)) (pieces_of former) (pieces_of (old_size_of contents.rules.groups)) (writing_calls size) (writing_calls (size_of contents.rules.groups)) due pieces calls within.calls costs.calls;
+        calls = in_all (moving_calls (opened old_format held)) (opening_calls old_format held) (pieces_of former) (pieces_of (old_size_of contents.rules.groups)) (writing_calls size) (writing_calls (size_of contents.rules.groups)) due pieces calls within.calls costs.calls;
         asked = (let a = within.asked in let b = costs.asked in omega (arith, a, b));
       }
     where
-      in_all : (due p q w v : ℕ) → due ≡ 5 + 2 * q + v → p ≡ q → w ≡ v → mid.store.calls ≤ before.store.calls + (5 + 2 * p)
-          → now.store.calls ≤ mid.store.calls + w → now.store.calls ≤ before.store.calls + due
-      in_all due p q w v e f g few more = omega (arith, e, f, g, few, more)
+      in_all : (due first p q w v : ℕ) → due ≡ 2 * q + v → p ≡ q → w ≡ v → mid.store.calls ≤ before.store.calls + (first + 2 * p)
+          → now.store.calls ≤ mid.store.calls + w → now.store.calls ≤ before.store.calls + (first + due)
+      in_all due first p q w v e f g few more = omega (arith, e, f, g, few, more)
 
   pub costs_at : (m : Files) (bytes : List ℕ) (contents : Contents) (size : ℕ) (before mid now : World) → m old ≡ Some bytes
       → opened old_format (Some bytes) ≡ Ok contents → size ≡ size_of contents.rules.groups → WithinFormer (Some bytes) before.store mid.store
@@ -126,8 +126,8 @@ module _ (old new : List ℕ) where
       (costs_on (Some bytes) contents size before mid now opens sized within same costs)
 
   -- what is spent where nothing is written
-  refused_calls : (x : Result Contents TableFault) → 5 + 2 * pieces_of (former_size x) ≤ migrating_calls x
-  refused_calls (Ok contents) = more (5 + 2 * pieces_of (old_size_of contents.rules.groups)) (writing_calls (size_of contents.rules.groups))
+  refused_calls : (x : Result Contents TableFault) → 2 * pieces_of (former_size x) ≤ moving_calls x
+  refused_calls (Ok contents) = more (2 * pieces_of (old_size_of contents.rules.groups)) (writing_calls (size_of contents.rules.groups))
     where
       more : (a b : ℕ) → a ≤ a + b
       more a b = omega arith
@@ -139,12 +139,12 @@ module _ (old new : List ℕ) where
       let few = refused_calls (opened old_format held) in
       record {
         steps = omega (arith, same);
-        calls = enough (5 + 2 * pieces_of (former_size (opened old_format held))) (migrating_calls (opened old_format held)) few within.calls;
+        calls = enough (opening_calls old_format held) (2 * pieces_of (former_size (opened old_format held))) (moving_calls (opened old_format held)) few within.calls;
         asked = within.asked;
       }
     where
-      enough : (part whole : ℕ) → part ≤ whole → mid.store.calls ≤ before.store.calls + part → mid.store.calls ≤ before.store.calls + whole
-      enough part whole h few = omega (arith, h, few)
+      enough : (first part whole : ℕ) → part ≤ whole → mid.store.calls ≤ before.store.calls + (first + part) → mid.store.calls ≤ before.store.calls + (first + whole)
+      enough first part whole h few = omega (arith, h, few)
 
   module _ (files : Files) (input : List ℕ) (before mid : World) (agrees : Agrees before files input) (steps : mid.steps ≡ before.steps) where
     -- the table was refused

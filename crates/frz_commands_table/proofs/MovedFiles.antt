@@ -10,9 +10,9 @@ use Rattle.frz_table.specs.declared.fault.TableFault.TheVariants.{NoMemory}
 use Rattle.frz_table.specs.Faults.{IsOutside, TableCauses}
 use Rattle.frz_table.specs.Layout.{codes_at, pieces_of}
 use Rattle.frz_table.specs.OldFiles.{MayKeepOld, OldTable, old_contents_of, old_format, old_table_size}
-use Rattle.frz_table.specs.Opening.{Contents, kept_text, opened}
+use Rattle.frz_table.specs.Opening.{Contents, kept_text, opened, opening_calls}
 use Rattle.frz_table.specs.Possible.{MayHold, MayOpen, MayRefuse}
-use Rattle.frz_table.proofs.Lemmas.{belongs, opens_by, outside_refuses}
+use Rattle.frz_table.proofs.Lemmas.{belongs, opened_calls, opens_by, outside_refuses}
 use Rattle.frz_commands_table.specs.Migrated.{AreMoved, former_codes}
 use Rattle.frz_commands_table.specs.Rewriting.{MovesFile, MovesLists, RefusesFormer, WithinFormer, former_size}
 use Rattle.frz_commands_table.specs.declared.moving.Moved.{Moved}
@@ -55,21 +55,21 @@ within_former bytes contents old mid new opens asked calls more_asked more_calls
     let pieces : pieces_of (former_size (opened old_format (Some bytes))) ≡ pieces_of size = ap pieces_of is in
     record {
       asked = omega (arith, is, text, asked, more_asked);
-      calls = calls_within (pieces_of (former_size (opened old_format (Some bytes)))) (pieces_of size) pieces calls more_calls;
+      calls = calls_within (pieces_of (former_size (opened old_format (Some bytes)))) (pieces_of size) (opening_calls old_format (Some bytes)) pieces
+          (opened_calls old_format bytes contents opens) calls more_calls;
     }
   where
-    calls_within : (due pieces : ℕ) → due ≡ pieces → mid.calls ≤ old.calls + 5 → new.calls ≤ mid.calls + 2 * pieces → new.calls ≤ old.calls + (5 + 2 * due)
-    calls_within due pieces same few more = omega (arith, same, few, more)
+    calls_within : (due pieces first : ℕ) → due ≡ pieces → first ≡ 5 → mid.calls ≤ old.calls + 5 → new.calls ≤ mid.calls + 2 * pieces → new.calls ≤ old.calls + (first + 2 * due)
+    calls_within due pieces first same five few more = omega (arith, same, five, few, more)
 
 module _ (name : List ℕ) (old mid new : StoreTold) where
   -- the table was not opened
-  pub not_opened : (fault : TableFault) → MayRefuse old_format old.files name old.asked new.asked fault → new.calls ≤ old.calls + 5
-      → RefusesFormer name old new fault
-  not_opened fault h calls = record {
+  pub not_opened : (fault : TableFault) → MayRefuse old_format name old new fault → RefusesFormer name old new fault
+  not_opened fault h = record {
     held = h.held;
     may = h.may;
     refuses = h.refuses;
-    within = record { asked = (let a = h.asked in omega (arith, a)); calls = omega (arith, calls) };
+    within = record { asked = (let a = h.asked in omega (arith, a)); calls = (let b = h.calls in omega (arith, b)) };
   }
 
   module _ (table : OldTable) (opens : MayOpen old_format old.files name (old_contents_of table))

@@ -6,7 +6,7 @@ use Rattle.frz_store.specs.Files.{Files, bytes_at}
 use Rattle.frz_table.specs.declared.fault.TableFault.{TableFault}
 use Rattle.frz_table.specs.declared.kind.FileKind.TheVariants.{Plain}
 use Rattle.frz_table.specs.Layout.{pieces_of}
-use Rattle.frz_table.specs.Opening.{Contents, opened, table_format}
+use Rattle.frz_table.specs.Opening.{Contents, opened, opening_calls, table_format}
 use Rattle.frz_table.specs.Possible.{held_text}
 use Rattle.frz_check.specs.declared.verdict.Verdict.{Verdict}
 use Rattle.frz_check.specs.declared.verdict.Verdict.TheVariants as verdict
@@ -47,13 +47,13 @@ IsCheckedBy (Err fault) bytes files a = a ≡ says (table_status fault) (table_l
 abbrev pub IsCheckedAt : List ℕ → Files → Answer → Type 0
 IsCheckedAt table files a = IsCheckedBy (opened (table_format Plain) (files table)) (bytes_at files table) files a
 
--- at most a step a number; five calls of the store to open the file and two for each piece of a side's codes;
--- and no more bytes asked than the file has
+-- at most a step a number; the calls of the store that open the file and two for each piece of a side's
+-- codes; and no more bytes asked than the file has
 abbrev pub checking_costs : Option (List ℕ) → Costs
 checking_costs held =
     let size = opened_size (opened (table_format Plain) held) in
     record {
       steps = Some size;
-      calls = Some (5 + 2 * pieces_of size);
+      calls = Some (opening_calls (table_format Plain) held + 2 * pieces_of size);
       asked = Some (16 + length (held_text held) + 8 * size);
     }

@@ -7,7 +7,7 @@ use Rattle.frz_table.specs.declared.fault.TableFault.{TableFault}
 use Rattle.frz_table.specs.declared.kind.FileKind.TheVariants.{Plain}
 use Rattle.frz_table.specs.Layout.{file_of, magic_of, pieces_of}
 use Rattle.frz_table.specs.OldFiles.{old_format}
-use Rattle.frz_table.specs.Opening.{Contents, opened}
+use Rattle.frz_table.specs.Opening.{Contents, opened, opening_calls}
 use Rattle.frz_table.specs.Possible.{held_text}
 use Rattle.frz_build.specs.Building.{writing_calls}
 use Rattle.frz_answer.specs.declared.status.Status.TheVariants.{Success}
@@ -40,21 +40,23 @@ IsMigratedAt old new files a = IsMigratedBy (opened old_format (files old)) (byt
 -- to write a table of this text and size with these codes under the name, and to say its size
 abbrev pub writing_new : (text : List ℕ) (size : ℕ) (white black name : List ℕ) → Job
 writing_new text size white black name =
-    record (plain (Success ∷ []) (λ files input a. a ≡ says Success (migrated_line size) (put files name (file_of (magic_of Plain) text size white black)))) {
+    record (plain (Success ∷ []) (λ files input a.
+    a ≡ says Success (migrated_line size) (put files name (file_of (magic_of Plain) text size white black)))) {
       needs = record nothing { store = true; memory = true };
       writes = Some name;
       costs = λ files input a. record { steps = Some 0; calls = Some (writing_calls size); asked = Some 0 };
     }
 
--- five calls open the file; where it opens, each side's codes are read in pieces, and the new file is written
-abbrev pub migrating_calls : Result Contents TableFault → ℕ
-migrating_calls (Ok contents) = 5 + 2 * pieces_of (old_size_of contents.rules.groups) + writing_calls (size_of contents.rules.groups)
-migrating_calls (Err fault) = 5
+-- where the file opens, each side's codes are read in pieces, and the new file is written
+abbrev pub moving_calls : Result Contents TableFault → ℕ
+moving_calls (Ok contents) =
+    2 * pieces_of (old_size_of contents.rules.groups) + writing_calls (size_of contents.rules.groups)
+moving_calls (Err fault) = 0
 
 -- no step, these calls of the store, and no more bytes asked than the file has
 abbrev pub migrating_costs : Option (List ℕ) → Costs
 migrating_costs held = record {
   steps = Some 0;
-  calls = Some (migrating_calls (opened old_format held));
+  calls = Some (opening_calls old_format held + moving_calls (opened old_format held));
   asked = Some (16 + length (held_text held) + 8 * former_size (opened old_format held));
 }

@@ -7,7 +7,7 @@ use Rattle.frz_store.specs.Told.{StoreTold}
 use Rattle.frz_table.specs.declared.fault.TableFault.{TableFault}
 use Rattle.frz_table.specs.Layout.{pieces_of}
 use Rattle.frz_table.specs.OldFiles.{IsOldFileOf, OldTable, old_contents_of, old_format}
-use Rattle.frz_table.specs.Opening.{Contents, Refuses, opened}
+use Rattle.frz_table.specs.Opening.{Contents, Refuses, opened, opening_calls}
 use Rattle.frz_table.specs.Possible.{MayHold, held_text}
 use Rattle.frz_commands_table.specs.Migrated.{AreMoved, former_codes}
 use Rattle.frz_commands_table.specs.declared.moving.Moved.{Moved}
@@ -20,7 +20,7 @@ former_size (Err fault) = 0
 -- no more bytes and calls than to open what is held, and to load its codes
 pub record WithinFormer (held : Option (List ℕ)) (old new : StoreTold) : Type 0 where
   pub asked : new.asked ≤ old.asked + (16 + length (held_text held) + 8 * former_size (opened old_format held))
-  pub calls : new.calls ≤ old.calls + (5 + 2 * pieces_of (former_size (opened old_format held)))
+  pub calls : new.calls ≤ old.calls + (opening_calls old_format held + 2 * pieces_of (former_size (opened old_format held)))
 
 -- the lists are the moved codes of a file that the open table's name may hold
 pub record MovesLists (files : Option Files) (table : OldTable) (white black : List ℕ) : Type 0 where

@@ -1,14 +1,13 @@
 //! The command `migrate OLD NEW`: rewrites a table of the former format.
-ghost use Rattle.std.specs.Prelude.{◌≡◌, ℕ, ◌+◌, ◌*◌, ◌≤◌, length, map, false, OnOk};
+ghost use Rattle.std.specs.Prelude.{◌≡◌, ℕ, ◌+◌, ◌≤◌, length, map, false, OnOk};
 ghost use Rattle.std.specs.Str.{bytes_eq};
 ghost use Rattle.std.specs.String.{string_bytes};
 ghost use Rattle.frz_rules.specs.declared.fault.TheConstants.{LONGEST_TEXT};
 ghost use Rattle.frz_sets.specs.declared.limits.TheConstants.{MOST_NUMBERS};
 ghost use Rattle.frz_store.specs.Told.{SourceTold, store_of, sink_of};
-ghost use Rattle.frz_store.specs.Writes.{Appended, Written};
+ghost use Rattle.frz_store.specs.Writes.{Written};
 ghost use Rattle.frz_table.specs.declared.kind.FileKind.TheVariants.{Plain};
-ghost use Rattle.frz_table.specs.Layout.{file_of, magic_of, pieces_of};
-ghost use Rattle.frz_table.specs.Numbers.{number_bytes};
+ghost use Rattle.frz_table.specs.Layout.{file_of, magic_of};
 ghost use Rattle.frz_build.specs.Building.{writing_calls};
 ghost use Rattle.frz_answer.specs.World.{world};
 ghost use Rattle.frz_answer.specs.Words.{unless};
@@ -19,9 +18,10 @@ ghost use Rattle.frz_commands_table.specs.MigrateMeans.{migrating_at, migrate_wo
 
 use crate::moving::{Moved, move_file};
 use frz_answer::{End, Refusal, Status, refuse, said, two_words, write_numbered, write_piece};
+use frz_build::{NewTable, append_codes, begin_table};
 use frz_prelude::Stop;
 use frz_store::{Failed, Sink, Store, StoreFault};
-use frz_table::{write_entries, write_header};
+use frz_table::FileKind;
 use std::alloc::Global;
 
 /// Says how many numbers the new table has.
@@ -31,19 +31,6 @@ fn write_migrated<O: Sink>(size: u32, out: &mut O) -> Result<(), Failed>
 {
     write_numbered(b"migrated ", size as u64, out)?;
     write_piece(b"\n", out)
-}
-
-/// Appends the codes of one side.
-fn write_side<S: Store>(codes: &[u32], store: &mut S) -> Result<(), Failed>
-    requires some { 1 ≤ length codes.now }
-    requires room { 4 * length codes.now ≤ S.room store.old }
-    ensures appended { Appended (number_bytes codes.now) result
-        (store_of S.Store store.old) (store_of S.Store store.new) }
-    ensures room { OnOk result (S.room store.new + 4 * length codes.now ≡ S.room store.old) }
-    ensures asked { S.asked store.new ≡ S.asked store.old }
-    ensures calls { S.calls store.new ≤ S.calls store.old + pieces_of (length codes.now) }
-{
-    write_entries(store, codes)
 }
 
 /// Creates the file and writes it: the header, White's codes, then Black's.
@@ -66,11 +53,10 @@ fn write_file<S: Store>(
     ensures asked { S.asked store.new ≡ S.asked store.old }
     ensures calls { S.calls store.new ≤ S.calls store.old + writing_calls size }
 {
-    let due = 16 + text.len() as u64 + 8 * u64::from(size);
-    store.create(name, due)?;
-    write_header(store, text, size)?;
-    write_side(white, store)?;
-    write_side(black, store)?;
+    let kind = FileKind::Plain;
+    begin_table(&NewTable { name, kind, text }, size, store)?;
+    append_codes(white, store)?;
+    append_codes(black, store)?;
     Ok(())
 }
 

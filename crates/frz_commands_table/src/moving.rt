@@ -141,7 +141,7 @@ fn load_moved<S: Store>(
 }
 
 /// Opens the table of the former format that has this name, and moves its codes. The calls of the
-/// store are the five of opening and those of loading.
+/// store are those of opening and those of loading.
 pub fn move_file<S: Store>(alloc: Global, name: &str, store: &mut S) -> Result<Moved, TableFault>
     ensures moved { IfOk result (MovesFile name.now
         (store_of S.Store store.old) (store_of S.Store store.new)) }
