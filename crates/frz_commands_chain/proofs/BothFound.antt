@@ -13,13 +13,13 @@ use Rattle.frz_chain.specs.declared.fault.ChainFault.TheVariants as chain
 use Rattle.frz_check.specs.Kept.{WithinFile}
 use Rattle.frz_answer.specs.Jobs.{Sees}
 use Rattle.frz_answer.specs.World.{world}
-use Rattle.frz_prelude.specs.RulesFiles.{GivesText, IsTextRead, asked_of, or_fault, rules_held}
+use Rattle.frz_prelude.specs.RulesFiles.{GivesText, IsTextRead, asked_of, or_fault, reads_of as rules_reads, rules_held}
 use Rattle.frz_prelude.specs.declared.rules_at.RulesText.{RulesText}
 use Rattle.frz_prelude.specs.declared.stop.Stop.{Stop}
 use Rattle.frz_prelude.specs.declared.stop.Stop.TheVariants.{Refused, Fault}
 use Rattle.frz_prelude.proofs.Lemmas.{of_rules}
 use Rattle.frz_commands_chain.specs.Backs.{reads_of}
-use Rattle.frz_commands_chain.specs.Reading.{AreBothRead, GivesBoth, HasRules, IsRefusedBoth, StopsReading}
+use Rattle.frz_commands_chain.specs.Reading.{AreBothRead, GivesBoth, HasRules, IsRefusedBoth, StopsReading, if_accepted}
 use Rattle.frz_commands_chain.specs.Stops.{stop_of_chain}
 use Rattle.frz_commands_chain.specs.declared.reading.BothRead.{BothRead}
 use Rattle.frz_commands_chain.proofs.BothHeld.{HoldBoth, agreed_at, hold_both, same_held}
@@ -42,10 +42,11 @@ back_stop held (chain.BackWrong wrong) h = tt
 back_stop held chain.Failed h = tt
 back_stop held chain.NoMemory h = tt
 
-pub not_read : (rules back : List ℕ) (stop : Stop) (old new : StoreTold) (steps : ℕ) → IsTextRead rules (Err stop) old new → new.calls ≤ old.calls + 2
+pub not_read : (rules back : List ℕ) (stop : Stop) (old new : StoreTold) (steps : ℕ) → IsTextRead rules (Err stop) old new
     → AreBothRead rules back (Err stop) old new steps steps
-not_read rules back stop old new steps read calls =
-    let asked = read.asked in record {
+not_read rules back stop old new steps read =
+    let asked = read.asked in
+    let calls = read.calls in record {
       files = read.files;
       agrees = read.agrees;
       due = rules_due (read.files rules) (read.files back) stop read.due;
@@ -56,12 +57,15 @@ not_read rules back stop old new steps read calls =
 
 -- the rules file was read, and then the back table was looked for
 module _ (rules back : List ℕ) (read : RulesText) (old mid new : StoreTold) (input : SourceTold) (out : SinkTold) (before now : ℕ)
-    (there : IsTextRead rules (Ok read) old mid) (calls : mid.calls ≤ old.calls + 2) (same : mid.files ≡ old.files)
+    (there : IsTextRead rules (Ok read) old mid) (same : mid.files ≡ old.files)
     (sees : Sees (reads_of rules back) (world old input out before)) where
   both : (back_held : Option (List ℕ)) → MayHold mid.files back back_held → HoldBoth old.files rules back (there.files rules) back_held
   both back_held may =
       hold_both (world old input out before) rules back (there.files rules) back_held sees (agreed_at old.files there.files rules there.agrees)
       (same_held old.files back back_held (subst (λ (o : Option Files). MayHold o back back_held) same may))
+
+  has_rules : (m : Files) → m rules ≡ there.files rules → HasRules (m rules)
+  has_rules m e = (read.rules, ap rules_held (e ∙ there.due.0) ∙ ap or_fault there.due.1)
 
   both_read : (result : Result BothRead Stop) (back_held : Option (List ℕ)) → MayHold mid.files back back_held → WithinFile back_held mid new before now
       → ((m : Files) → m rules ≡ there.files rules → m back ≡ back_held → GivesBoth (m rules) (m back) result) → AreBothRead rules back result old new before now
@@ -69,16 +73,25 @@ module _ (rules back : List ℕ) (read : RulesText) (old mid new : StoreTold) (i
       let at = both back_held may in
       let asked : new.asked ≤ old.asked + (asked_of (there.files rules) + bytes_for Plain back_held) =
       (let a = there.asked in let b = within.asked in omega (arith, a, b)) in
-      let call : new.calls ≤ old.calls + (2 + calls_for Plain back_held) = (let b = within.calls in omega (arith, calls, b)) in
+      let call : new.calls ≤ old.calls + (1 + rules_reads (there.files rules) + calls_for Plain back_held) =
+      (let a = there.calls in let b = within.calls in omega (arith, a, b)) in
+      let accepted = (has_rules at.files at.first).1 in
+      let all : (n : ℕ) → n ≡ if_accepted (rules_held (at.files rules)) n = λ n. sym (ap (λ x. if_accepted x n) accepted) in
       record {
         files = at.files;
         agrees = at.agrees;
         due = gives at.files at.first at.second;
-        steps = subst (λ (h : Option (List ℕ)). now ≤ before + steps_for Plain h) (sym at.second) within.steps;
+        steps =
+            subst (λ (n : ℕ). now ≤ before + n) (all (steps_for Plain (at.files back)))
+            (subst (λ (h : Option (List ℕ)). now ≤ before + steps_for Plain h) (sym at.second) within.steps);
         asked =
-            subst (λ (h : Option (List ℕ)). new.asked ≤ old.asked + (asked_of h + bytes_for Plain (at.files back))) (sym at.first)
-            (subst (λ (h : Option (List ℕ)). new.asked ≤ old.asked + (asked_of (there.files rules) + bytes_for Plain h)) (sym at.second) asked);
-        calls = subst (λ (h : Option (List ℕ)). new.calls ≤ old.calls + (2 + calls_for Plain h)) (sym at.second) call;
+            subst (λ (n : ℕ). new.asked ≤ old.asked + (asked_of (at.files rules) + n)) (all (bytes_for Plain (at.files back)))
+            (subst (λ (h : Option (List ℕ)). new.asked ≤ old.asked + (asked_of h + bytes_for Plain (at.files back))) (sym at.first)
+            (subst (λ (h : Option (List ℕ)). new.asked ≤ old.asked + (asked_of (there.files rules) + bytes_for Plain h)) (sym at.second) asked));
+        calls =
+            subst (λ (n : ℕ). new.calls ≤ old.calls + (1 + rules_reads (at.files rules) + n)) (all (calls_for Plain (at.files back)))
+            (subst (λ (h : Option (List ℕ)). new.calls ≤ old.calls + (1 + rules_reads h + calls_for Plain (at.files back))) (sym at.first)
+            (subst (λ (h : Option (List ℕ)). new.calls ≤ old.calls + (1 + rules_reads (there.files rules) + calls_for Plain h)) (sym at.second) call));
       }
 
   pub back_read : (both_is : BothRead) → both_is.read ≡ read → OpensBack back (loaded_back both_is.back) mid new before now
@@ -89,9 +102,6 @@ module _ (rules back : List ℕ) (read : RulesText) (old mid new : StoreTold) (i
         subst (λ (r : RulesText). GivesText (m rules) (Ok r)) (sym e) (first ∙ there.due.0, there.due.1),
         record { bytes = h.bytes; there = second; contents = h.contents; judged = h.judged; keeps = h.keeps },
       ))
-
-  has_rules : (m : Files) → m rules ≡ there.files rules → HasRules (m rules)
-  has_rules m e = (read.rules, ap rules_held (e ∙ there.due.0) ∙ ap or_fault there.due.1)
 
   pub back_refused : (fault : ChainFault) → RefusesBack back mid new before now fault → AreBothRead rules back (Err (stop_of_chain fault)) old new before now
   back_refused (chain.Rules fault) h = absurd h.refuses

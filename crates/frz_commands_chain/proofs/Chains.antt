@@ -5,14 +5,13 @@ use Rattle.frz_sets.specs.Sets.{size_of}
 use Rattle.frz_table.specs.declared.kind.FileKind.TheVariants.{Plain}
 use Rattle.frz_answer.specs.Jobs.{WithinCosts}
 use Rattle.frz_answer.specs.World.{World, Agrees}
-use Rattle.frz_answer.proofs.Stages.{Stages}
+use Rattle.frz_answer.proofs.Lemmas.{Stages}
 use Rattle.frz_build.specs.Building.{writing_calls}
-use Rattle.frz_chain.specs.Chains.{bytes_for, calls_for, steps_for}
 use Rattle.frz_chain.specs.FileOn.{loaded_back}
 use Rattle.frz_prelude.specs.RulesFiles.{asked_of, or_fault, rules_held}
 use Rattle.frz_commands_chain.specs.Backs.{IsBackIn}
-use Rattle.frz_commands_chain.specs.Chaining.{chain_costs, chaining_at, chaining_by, made, size_by}
-use Rattle.frz_commands_chain.specs.Reading.{AreBothRead}
+use Rattle.frz_commands_chain.specs.Chaining.{chain_costs, chaining_at, chaining_by, made, size_by, writing_by}
+use Rattle.frz_commands_chain.specs.Reading.{AreBothRead, reading_bytes, reading_calls, reading_steps}
 use Rattle.frz_commands_chain.specs.declared.reading.BothRead.{BothRead}
 use Rattle.frz_commands_chain.proofs.ChainAt.{found_both}
 
@@ -28,13 +27,13 @@ module _ (rules back table : List ℕ) (both : BothRead) (files : Files) (input 
       → new.store.asked ≤ mid.store.asked + 0 → WithinCosts (chain_costs (m rules) (m back)) old new
   spent m e steps calls asked =
       let due = ap size_by (read_rules m e) in
-      let old_steps : mid.steps ≤ old.steps + steps_for Plain (m back) =
-      subst (λ (f : Files). mid.steps ≤ old.steps + steps_for Plain (f back)) (sym e) h.steps in
-      let old_asked : mid.store.asked ≤ old.store.asked + (asked_of (m rules) + bytes_for Plain (m back)) =
-      subst (λ (f : Files). mid.store.asked ≤ old.store.asked + (asked_of (f rules) + bytes_for Plain (f back))) (sym e) h.asked in
-      let old_calls : mid.store.calls ≤ old.store.calls + (2 + calls_for Plain (m back)) =
-      subst (λ (f : Files). mid.store.calls ≤ old.store.calls + (2 + calls_for Plain (f back))) (sym e) h.calls in
-      let writing : writing_calls (size_by (rules_held (m rules))) ≡ writing_calls size = ap writing_calls due in
+      let old_steps : mid.steps ≤ old.steps + reading_steps (m rules) (m back) =
+      subst (λ (f : Files). mid.steps ≤ old.steps + reading_steps (f rules) (f back)) (sym e) h.steps in
+      let old_asked : mid.store.asked ≤ old.store.asked + reading_bytes (m rules) (m back) =
+      subst (λ (f : Files). mid.store.asked ≤ old.store.asked + reading_bytes (f rules) (f back)) (sym e) h.asked in
+      let old_calls : mid.store.calls ≤ old.store.calls + reading_calls (m rules) (m back) =
+      subst (λ (f : Files). mid.store.calls ≤ old.store.calls + reading_calls (f rules) (f back)) (sym e) h.calls in
+      let writing : writing_by (rules_held (m rules)) ≡ writing_calls size = ap writing_by (read_rules m e) in
       record {
         steps = omega (arith, steps, old_steps, due);
         calls = omega (arith, calls, old_calls, writing);

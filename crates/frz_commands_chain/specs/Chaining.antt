@@ -8,7 +8,7 @@ use Rattle.frz_answer.specs.Answers.{Answer, says}
 use Rattle.frz_answer.specs.Jobs.{Costs, Job, plain, nothing}
 use Rattle.frz_answer.specs.Words.{taking, three_words_of, unless}
 use Rattle.frz_prelude.specs.Refusals.{refusal_line, status_of}
-use Rattle.frz_prelude.specs.RulesFiles.{asked_of, rules_held}
+use Rattle.frz_prelude.specs.RulesFiles.{rules_held}
 use Rattle.frz_prelude.specs.declared.refused.Refused.{Refused}
 use Rattle.frz_sets.specs.Views.{RuleLines}
 use Rattle.frz_sets.specs.Sets.{size_of}
@@ -16,10 +16,9 @@ use Rattle.frz_rules.specs.Text.{rules_of}
 use Rattle.frz_table.specs.declared.kind.FileKind.TheVariants.{Plain}
 use Rattle.frz_build.specs.Building.{writing_calls}
 use Rattle.frz_chain.specs.Books.{Back}
-use Rattle.frz_chain.specs.Chains.{bytes_for, calls_for, steps_for}
 use Rattle.frz_chain.specs.FileOn.{IsFileOn}
 use Rattle.frz_commands_chain.specs.Backs.{IsBackIn, reads_of}
-use Rattle.frz_commands_chain.specs.Reading.{IsRefusedBoth}
+use Rattle.frz_commands_chain.specs.Reading.{IsRefusedBoth, reading_bytes, reading_calls, reading_steps}
 
 -- the size of the set
 abbrev pub chained_line : ℕ → List ℕ
@@ -60,29 +59,40 @@ pub record MeansChain (rules back table : List ℕ) (files : Files) (a : Answer)
 
 -- `chain` by what was read: four steps a number, and the calls that write the file
 abbrev pub chaining_by : List ℕ → RuleLines → Back → List ℕ → Job
-chaining_by text r back table = record (plain (statuses.Success ∷ []) (λ files input a. IsChainedBy text r back table files a)) {
+chaining_by text r back table = record (plain (statuses.Success ∷ [])
+    (λ files input a. IsChainedBy text r back table files a)) {
   needs = record nothing { store = true; memory = true };
   writes = Some table;
-  costs = λ files input a. record { steps = Some (4 * size_of r.groups); calls = Some (writing_calls (size_of r.groups)); asked = Some 0 };
+  costs = λ files input a. record {
+    steps = Some (4 * size_of r.groups);
+    calls = Some (writing_calls (size_of r.groups));
+    asked = Some 0;
+  };
 }
 
--- the size of rules that were read, and 0 where none were
+-- the calls that write the table of rules that were read, and the size of these; 0 where none were
+abbrev pub writing_by : Result RuleLines Refused → ℕ
+writing_by (Ok r) = writing_calls (size_of r.groups)
+writing_by (Err why) = 0
+
 abbrev pub size_by : Result RuleLines Refused → ℕ
 size_by (Ok r) = size_of r.groups
 size_by (Err why) = 0
 
--- one `size` and one `read` of the rules file, what checking the back table costs, and then four steps a number and the calls that write
--- the table
+-- what reading the rules file and checking the back table costs, and then four steps a number and the
+-- calls that write the table
 abbrev pub chain_costs : (held back_held : Option (List ℕ)) → Costs
 chain_costs held back_held = record {
-  steps = Some (4 * size_by (rules_held held) + steps_for Plain back_held);
-  calls = Some ((2 + calls_for Plain back_held) + writing_calls (size_by (rules_held held)));
-  asked = Some (asked_of held + bytes_for Plain back_held);
+  steps = Some (4 * size_by (rules_held held) + reading_steps held back_held);
+  calls = Some (reading_calls held back_held + writing_by (rules_held held));
+  asked = Some (reading_bytes held back_held);
 }
 
 -- `chain` where TABLE is neither of the other names
 abbrev pub chaining_at : List ℕ → List ℕ → List ℕ → Job
-chaining_at rules back table = record (plain (statuses.Success ∷ statuses.Rules ∷ statuses.Table ∷ statuses.Wrong ∷ statuses.Missing ∷ []) (λ files input a. IsChainedAt rules back table files a)) {
+chaining_at rules back table = record (plain
+    (statuses.Success ∷ statuses.Rules ∷ statuses.Table ∷ statuses.Wrong ∷ statuses.Missing ∷ [])
+    (λ files input a. IsChainedAt rules back table files a)) {
   means = λ files input a. MeansChain rules back table files a;
   needs = record { store = true; reads = reads_of rules back; input = false; memory = true };
   writes = Some table;

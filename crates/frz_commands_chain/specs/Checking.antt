@@ -10,7 +10,7 @@ use Rattle.frz_check.specs.Kept.{kept_codes}
 use Rattle.frz_check.specs.Verdicts.{IsVerdict}
 use Rattle.frz_chain.specs.Backs.{HasWrong}
 use Rattle.frz_chain.specs.Books.{Back, chain_value}
-use Rattle.frz_chain.specs.Chains.{OpensChained, bytes_for, calls_for, steps_for}
+use Rattle.frz_chain.specs.Chains.{OpensChained, bytes_for_both, calls_for_both, steps_for_both}
 use Rattle.frz_answer.specs.declared.status.Status.{Status}
 use Rattle.frz_answer.specs.declared.status.Status.TheVariants as statuses
 use Rattle.frz_answer.specs.Answers.{Answer, says}
@@ -62,7 +62,7 @@ pub data IsCheckedPair (table back : List ℕ) (files : Files) (a : Answer) : Ty
 -- no more than checking both files costs
 abbrev pub pair_costs : (held back_held : Option (List ℕ)) → Costs
 pair_costs held back_held = record {
-  steps = Some (steps_for Chained held + steps_for Plain back_held);
-  calls = Some (calls_for Chained held + calls_for Plain back_held);
-  asked = Some (bytes_for Chained held + bytes_for Plain back_held);
+  steps = Some (steps_for_both held back_held);
+  calls = Some (calls_for_both held back_held);
+  asked = Some (bytes_for_both held back_held);
 }

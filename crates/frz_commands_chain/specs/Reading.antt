@@ -8,7 +8,7 @@ use Rattle.frz_table.specs.Opening.{opened, table_format}
 use Rattle.frz_chain.specs.Backs.{HasWrong}
 use Rattle.frz_chain.specs.Chains.{bytes_for, calls_for, steps_for}
 use Rattle.frz_chain.specs.FileOn.{loaded_back}
-use Rattle.frz_prelude.specs.RulesFiles.{GivesText, asked_of, rules_held}
+use Rattle.frz_prelude.specs.RulesFiles.{GivesText, asked_of, reads_of, rules_held}
 use Rattle.frz_prelude.specs.declared.refused.Refused.{Refused as Refusal}
 use Rattle.frz_prelude.specs.declared.refused.Refused.TheVariants as refusals
 use Rattle.frz_prelude.specs.declared.stop.Stop.{Stop}
@@ -43,11 +43,28 @@ GivesBoth held back_held (Ok both) = GivesText held (Ok both.read) × IsBackIn b
 GivesBoth held back_held (Err (Refused why)) = IsRefusedBoth held back_held why
 GivesBoth held back_held (Err (Fault fault)) = ⊤
 
--- both are those of the two names in some files, which are those that the store tells where it does, and no more was spent than they cost
-pub record AreBothRead (rules back : List ℕ) (result : Result BothRead Stop) (old new : StoreTold) (steps_before steps_now : ℕ) : Type 0 where
+-- so many where the rules are accepted, and else none
+abbrev pub if_accepted : Result RuleLines Refusal → ℕ → ℕ
+if_accepted (Ok r) count = count
+if_accepted (Err why) count = 0
+
+-- what reading both costs, of which the back table is not looked at where the rules are refused
+abbrev pub reading_steps : (held back_held : Option (List ℕ)) → ℕ
+reading_steps held back_held = if_accepted (rules_held held) (steps_for Plain back_held)
+
+abbrev pub reading_bytes : (held back_held : Option (List ℕ)) → ℕ
+reading_bytes held back_held = asked_of held + if_accepted (rules_held held) (bytes_for Plain back_held)
+
+abbrev pub reading_calls : (held back_held : Option (List ℕ)) → ℕ
+reading_calls held back_held = 1 + reads_of held + if_accepted (rules_held held) (calls_for Plain back_held)
+
+-- both are those of the two names in some files, which are those that the store tells where it does, and
+-- no more was spent than they cost
+pub record AreBothRead (rules back : List ℕ) (result : Result BothRead Stop) (old new : StoreTold)
+    (steps_before steps_now : ℕ) : Type 0 where
   pub files : Files
   pub agrees : IfSome old.files (λ told. told ≡ files)
   pub due : GivesBoth (files rules) (files back) result
-  pub steps : steps_now ≤ steps_before + steps_for Plain (files back)
-  pub asked : new.asked ≤ old.asked + (asked_of (files rules) + bytes_for Plain (files back))
-  pub calls : new.calls ≤ old.calls + (2 + calls_for Plain (files back))
+  pub steps : steps_now ≤ steps_before + reading_steps (files rules) (files back)
+  pub asked : new.asked ≤ old.asked + reading_bytes (files rules) (files back)
+  pub calls : new.calls ≤ old.calls + reading_calls (files rules) (files back)
