@@ -52,7 +52,8 @@ IsRefusedBack held (Rules fault) = ⊥
 IsRefusedBack held (Table fault) = ⊥
 
 -- the name may hold what is refused so
-pub record RefusesBack (name : List ℕ) (old new : StoreTold) (steps_before steps_now : ℕ) (fault : ChainFault) : Type 0 where
+pub record RefusesBack (name : List ℕ) (old new : StoreTold) (steps_before steps_now : ℕ)
+    (fault : ChainFault) : Type 0 where
   pub held : Option (List ℕ)
   pub may : MayHold old.files name held
   pub refuses : IsRefusedBack held fault

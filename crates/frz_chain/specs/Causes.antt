@@ -31,7 +31,8 @@ back_fault table.Failed = Failed
 back_fault table.NoMemory = NoMemory
 back_fault fault = Back fault
 
--- a failure has raised the count of faults, want of memory is free, and with any other answer no call of the store was refused
+-- a failure has raised the count of faults, want of memory is free, and with any other answer no call of
+-- the store was refused
 abbrev pub HasChainCause : {T : Type 0} → Result T ChainFault → StoreTold → StoreTold → Type 0
 HasChainCause (Err Failed) old new = Rose old.faults new.faults
 HasChainCause (Err NoMemory) old new = ⊤
