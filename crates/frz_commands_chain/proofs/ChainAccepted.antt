@@ -1,10 +1,9 @@
 -- What `chain` wrote, `chaincheck` finds exact over the same back table.
-use Rattle.std.proofs.Common.{◌≡◌, refl, sym, ap, subst, ◌∙◌, ℕ, List, Bool, true, false, ◌||◌, Option, Some}
+use Rattle.std.proofs.Common.{◌≡◌, sym, ap, subst, ◌∙◌, ℕ, List, Bool, true, false, ◌||◌, Option, Some}
 use Rattle.std.specs.Str.{bytes_eq}
 use Rattle.frz_store.specs.Files.{Files, put}
 use Rattle.frz_store.proofs.Lemmas.{put-off, put-same}
 use Rattle.frz_check.specs.declared.verdict.Verdict.TheVariants as verdict
-use Rattle.frz_answer.specs.declared.status.Status.{Status}
 use Rattle.frz_answer.specs.declared.status.Status.TheVariants.{Success}
 use Rattle.frz_answer.specs.Answers.{Answer}
 use Rattle.frz_prelude.specs.Refusals.{status_of}

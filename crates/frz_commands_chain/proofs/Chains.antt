@@ -2,13 +2,12 @@
 use Rattle.std.proofs.Common.{◌≡◌, refl, sym, ap, subst, ◌∙◌, ℕ, ◌+◌, ◌*◌, ◌≤◌, List, Ok, arith}
 use Rattle.frz_store.specs.Files.{Files}
 use Rattle.frz_sets.specs.Sets.{size_of}
-use Rattle.frz_table.specs.declared.kind.FileKind.TheVariants.{Plain}
 use Rattle.frz_answer.specs.Jobs.{WithinCosts}
 use Rattle.frz_answer.specs.World.{World, Agrees}
 use Rattle.frz_answer.proofs.Lemmas.{Stages}
 use Rattle.frz_build.specs.Building.{writing_calls}
 use Rattle.frz_chain.specs.FileOn.{loaded_back}
-use Rattle.frz_prelude.specs.RulesFiles.{asked_of, or_fault, rules_held}
+use Rattle.frz_prelude.specs.RulesFiles.{or_fault, rules_held}
 use Rattle.frz_commands_chain.specs.Backs.{IsBackIn}
 use Rattle.frz_commands_chain.specs.Chaining.{chain_costs, chaining_at, chaining_by, made, size_by, writing_by}
 use Rattle.frz_commands_chain.specs.Reading.{AreBothRead, reading_bytes, reading_calls, reading_steps}

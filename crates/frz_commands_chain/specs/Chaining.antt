@@ -1,4 +1,5 @@
--- What `chain RULES BACK TABLE` is to do: the table file of the rules over the back table is written under the name TABLE.
+-- What `chain RULES BACK TABLE` is to do: the table file of the rules over the back table is written
+-- under the name TABLE.
 use Rattle.std.specs.Prelude.{◌≡◌, ℕ, ◌+◌, ◌*◌, List, [], ◌∷◌, ◌++◌, true, false, Bool, ◌||◌, Option, Some, Result, Ok, Err, codes, decimal}
 use Rattle.std.specs.Str.{bytes_eq}
 use Rattle.frz_store.specs.Files.{Files, put}
@@ -13,7 +14,6 @@ use Rattle.frz_prelude.specs.declared.refused.Refused.{Refused}
 use Rattle.frz_sets.specs.Views.{RuleLines}
 use Rattle.frz_sets.specs.Sets.{size_of}
 use Rattle.frz_rules.specs.Text.{rules_of}
-use Rattle.frz_table.specs.declared.kind.FileKind.TheVariants.{Plain}
 use Rattle.frz_build.specs.Building.{writing_calls}
 use Rattle.frz_chain.specs.Books.{Back}
 use Rattle.frz_chain.specs.FileOn.{IsFileOn}
@@ -30,7 +30,8 @@ IsChainedBy text r back table files a =
     (bytes : List ℕ) × IsFileOn text r back bytes
     × (a ≡ says statuses.Success (chained_line (size_of r.groups)) (put files table bytes))
 
--- RULES holds a text that is accepted, BACK a back table that is exact, and TABLE the one file of the text over it afterwards
+-- RULES holds a text that is accepted, BACK a back table that is exact, and TABLE the one file of the
+-- text over it afterwards
 pub record MakesChain (rules back table : List ℕ) (files : Files) (a : Answer) : Type 0 where
   pub text : List ℕ
   pub there : files rules ≡ Some text
@@ -42,7 +43,8 @@ pub record MakesChain (rules back table : List ℕ) (files : Files) (a : Answer)
 
 -- what RULES or BACK names is refused, in this order, or the table is made
 pub data IsChainedAt (rules back table : List ℕ) (files : Files) (a : Answer) : Type 0 where
-  refused : (why : Refused) → IsRefusedBoth (files rules) (files back) why → a ≡ says (status_of why) (refusal_line why) files
+  refused : (why : Refused) → IsRefusedBoth (files rules) (files back) why
+      → a ≡ says (status_of why) (refusal_line why) files
       → IsChainedAt rules back table files a
   made : MakesChain rules back table files a → IsChainedAt rules back table files a
 
@@ -61,14 +63,14 @@ pub record MeansChain (rules back table : List ℕ) (files : Files) (a : Answer)
 abbrev pub chaining_by : List ℕ → RuleLines → Back → List ℕ → Job
 chaining_by text r back table = record (plain (statuses.Success ∷ [])
     (λ files input a. IsChainedBy text r back table files a)) {
-  needs = record nothing { store = true; memory = true };
-  writes = Some table;
-  costs = λ files input a. record {
-    steps = Some (4 * size_of r.groups);
-    calls = Some (writing_calls (size_of r.groups));
-    asked = Some 0;
-  };
-}
+      needs = record nothing { store = true; memory = true };
+      writes = Some table;
+      costs = λ files input a. record {
+        steps = Some (4 * size_of r.groups);
+        calls = Some (writing_calls (size_of r.groups));
+        asked = Some 0;
+      };
+    }
 
 -- the calls that write the table of rules that were read, and the size of these; 0 where none were
 abbrev pub writing_by : Result RuleLines Refused → ℕ
@@ -93,11 +95,11 @@ abbrev pub chaining_at : List ℕ → List ℕ → List ℕ → Job
 chaining_at rules back table = record (plain
     (statuses.Success ∷ statuses.Rules ∷ statuses.Table ∷ statuses.Wrong ∷ statuses.Missing ∷ [])
     (λ files input a. IsChainedAt rules back table files a)) {
-  means = λ files input a. MeansChain rules back table files a;
-  needs = record { store = true; reads = reads_of rules back; input = false; memory = true };
-  writes = Some table;
-  costs = λ files input a. chain_costs (files rules) (files back);
-}
+      means = λ files input a. MeansChain rules back table files a;
+      needs = record { store = true; reads = reads_of rules back; input = false; memory = true };
+      writes = Some table;
+      costs = λ files input a. chain_costs (files rules) (files back);
+    }
 
 -- TABLE is one of the other two names
 abbrev pub is_named_twice : List ℕ → List ℕ → List ℕ → Bool
@@ -106,4 +108,5 @@ is_named_twice rules back table = bytes_eq table rules || bytes_eq table back
 -- chain RULES BACK TABLE
 abbrev pub chain_words : List (List ℕ) → Job
 chain_words words =
-    taking (λ names. unless (is_named_twice names.0 names.1 names.2) (chaining_at names.0 names.1 names.2)) (three_words_of words)
+    taking (λ names. unless (is_named_twice names.0 names.1 names.2) (chaining_at names.0 names.1 names.2))
+    (three_words_of words)

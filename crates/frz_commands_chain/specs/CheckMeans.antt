@@ -61,7 +61,8 @@ pub record HoldsPair (table back : List ℕ) (files : Files) : Type 0 where
   pub back_there : files back ≡ Some back_bytes
   pub back_contents : Contents
   pub back_accepted : rules_of back_contents.text ≡ Ok back_contents.rules
-  pub back_file : IsOneFile (magic_of Plain) back_contents.text back_contents.rules (value_by back_contents.rules) back_bytes
+  pub back_file :
+      IsOneFile (magic_of Plain) back_contents.text back_contents.rules (value_by back_contents.rules) back_bytes
   pub bytes : List ℕ
   pub there : files table ≡ Some bytes
   pub text : List ℕ
@@ -69,8 +70,8 @@ pub record HoldsPair (table back : List ℕ) (files : Files) : Type 0 where
   pub accepted : rules_of text ≡ Ok rules
   pub one_file : IsFileOn text rules (back_of back_contents back_bytes) bytes
 
--- what an answer of `chaincheck` means: it changes no file and takes no input, each status has its cause, and the one file of a text over
--- the one file of another is found exact
+-- what an answer of `chaincheck` means: it changes no file and takes no input, each status has its
+-- cause, and the one file of a text over the one file of another is found exact
 pub record MeansChainCheck (table back : List ℕ) (files : Files) (a : Answer) : Type 0 where
   pub same : a.files ≡ files
   pub untaken : a.taken ≡ 0
@@ -79,11 +80,13 @@ pub record MeansChainCheck (table back : List ℕ) (files : Files) (a : Answer) 
 
 -- `chaincheck` of these names
 abbrev pub checking_pair : List ℕ → List ℕ → Job
-checking_pair table back = record (plain (statuses.Success ∷ statuses.Wrong ∷ statuses.Table ∷ statuses.Missing ∷ []) (λ files input a. IsCheckedPair table back files a)) {
-  means = λ files input a. MeansChainCheck table back files a;
-  needs = record { store = true; reads = reads_of table back; input = false; memory = true };
-  costs = λ files input a. pair_costs (files table) (files back);
-}
+checking_pair table back = record (plain
+    (statuses.Success ∷ statuses.Wrong ∷ statuses.Table ∷ statuses.Missing ∷ [])
+    (λ files input a. IsCheckedPair table back files a)) {
+      means = λ files input a. MeansChainCheck table back files a;
+      needs = record { store = true; reads = reads_of table back; input = false; memory = true };
+      costs = λ files input a. pair_costs (files table) (files back);
+    }
 
 -- chaincheck TABLE BACK
 abbrev pub chaincheck_words : List (List ℕ) → Job

@@ -1,5 +1,6 @@
--- What `chaincheck TABLE BACK` answers: the sizes of two tables that are exact, or the first entry that is wrong. No file changes.
-use Rattle.std.specs.Prelude.{◌≡◌, ℕ, ◌+◌, List, ◌++◌, Option, Some, Ok, Err, codes, decimal}
+-- What `chaincheck TABLE BACK` answers: the sizes of two tables that are exact, or the first entry that
+-- is wrong. No file changes.
+use Rattle.std.specs.Prelude.{◌≡◌, ℕ, List, ◌++◌, Option, Some, Ok, Err, codes, decimal}
 use Rattle.frz_sets.specs.Sets.{size_of}
 use Rattle.frz_store.specs.Files.{Files}
 use Rattle.frz_table.specs.declared.kind.FileKind.TheVariants.{Plain, Chained}
@@ -37,7 +38,8 @@ chain_verdict_line size back (verdict.Wrong wrong) = wrong_line wrong
 -- what TABLE holds is refused so, or it opens and what BACK holds is refused so
 abbrev pub IsRefusedPair : (held back_held : Option (List ℕ)) → Refused → Type 0
 IsRefusedPair held back_held (refusals.Table fault) = opened (table_format Chained) held ≡ Err fault
-IsRefusedPair held back_held (refusals.Back fault) = OpensChained held × (opened (table_format Plain) back_held ≡ Err fault)
+IsRefusedPair held back_held (refusals.Back fault) =
+    OpensChained held × (opened (table_format Plain) back_held ≡ Err fault)
 IsRefusedPair held back_held (refusals.BackWrong wrong) = OpensChained held × HasWrong back_held wrong
 IsRefusedPair held back_held why = ⊥
 
@@ -53,10 +55,12 @@ pub record IsJudgedPair (held back_held : Option (List ℕ)) (judgement : Verdic
 
 -- what one of the names holds is refused, or the verdict is told
 pub data IsCheckedPair (table back : List ℕ) (files : Files) (a : Answer) : Type 0 where
-  refused : (why : Refused) → IsRefusedPair (files table) (files back) why → a ≡ says (status_of why) (refusal_line why) files
+  refused : (why : Refused) → IsRefusedPair (files table) (files back) why
+      → a ≡ says (status_of why) (refusal_line why) files
       → IsCheckedPair table back files a
   judged : (v : Verdict) → (h : IsJudgedPair (files table) (files back) v)
-      → a ≡ says (chain_status v) (chain_verdict_line (size_of h.contents.rules.groups) (size_of h.behind.groups) v) files
+      → a ≡ says (chain_status v)
+      (chain_verdict_line (size_of h.contents.rules.groups) (size_of h.behind.groups) v) files
       → IsCheckedPair table back files a
 
 -- no more than checking both files costs
