@@ -8,7 +8,8 @@ use Rattle.frz_table.specs.Opening.{Contents, opened, table_format}
 use Rattle.frz_prelude.specs.TableCauses.{table_line}
 
 -- the name holds these bytes, and they open as a table of this kind
-pub record OpensAsKind (kind : FileKind) (table : List ℕ) (files : Files) (bytes : List ℕ) (contents : Contents) : Type 0 where
+pub record OpensAsKind
+    (kind : FileKind) (table : List ℕ) (files : Files) (bytes : List ℕ) (contents : Contents) : Type 0 where
   pub there : files table ≡ Some bytes
   pub opens : opened (table_format kind) (Some bytes) ≡ Ok contents
 
