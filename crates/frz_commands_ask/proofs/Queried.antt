@@ -1,5 +1,5 @@
 -- How `query` ends where something stopped it, and that it has one answer.
-use Rattle.std.proofs.Common.{◌≡◌, refl, sym, ap, subst, ℕ, ◌+◌, ◌≤◌, List, [], ◌∷◌, Bool, true, false, Option, Result, Ok, Err, if◌then◌else◌, arith}
+use Rattle.std.proofs.Common.{◌≡◌, refl, sym, ap, subst, ℕ, ◌≤◌, List, [], ◌∷◌, Bool, true, false, Option, Result, Ok, Err, if◌then◌else◌, arith}
 use Rattle.std.specs.Option.{unwrap_or}
 use Rattle.frz_store.specs.Files.{Files}
 use Rattle.frz_board.specs.Boards.{Board}

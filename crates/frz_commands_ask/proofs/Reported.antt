@@ -266,10 +266,13 @@ own_refusal fault why e =
     (table_own fault (Success ∷ Refused ∷ Absent ∷ []) refl refl)
 
 module _ (name : List ℕ) (files : Files) (input : List ℕ) (old new : World) (agrees : Agrees old files input) (fault : TableFault)
-    (h : MayRefuse (table_format Plain) old.store.files name old.store.asked new.store.asked fault) (calls : new.store.calls ≤ old.store.calls + 5) (steps : new.steps ≤ old.steps) where
+    (h : MayRefuse (table_format Plain) name old.store new.store fault) (steps : new.steps ≤ old.steps) where
   -- opening costs no more than the report
   opening_costs : WithinCosts (reporting_costs h.held) old new
-  opening_costs = let asked = h.asked in record { steps = omega (arith, steps); calls = omega (arith, calls); asked = omega (arith, asked) }
+  opening_costs =
+      let asked = h.asked in
+      let calls = h.calls in
+      record { steps = omega (arith, steps); calls = omega (arith, calls); asked = omega (arith, asked) }
 
   refused_so : opened (table_format Plain) h.held ≡ Err fault → SaysAll (reporting_at name) (table_status fault) (table_line fault) files input old new
   refused_so e =
@@ -291,16 +294,16 @@ module _ (name : List ℕ) (files : Files) (input : List ℕ) (old new : World) 
 
 -- the table was not opened
 pub stopped_so : (name : List ℕ) (files : Files) (input : List ℕ) (old new : World) → Agrees old files input → (fault : TableFault)
-    → MayRefuse (table_format Plain) old.store.files name old.store.asked new.store.asked fault → new.store.calls ≤ old.store.calls + 5 → new.steps ≤ old.steps
+    → MayRefuse (table_format Plain) name old.store new.store fault → new.steps ≤ old.steps
     → StopsWith (reporting_at name) (stop_of_table fault) files input old new
-stopped_so name files input old new agrees Missing h calls steps = refused_so name files input old new agrees Missing h calls steps h.refuses
-stopped_so name files input old new agrees Magic h calls steps = refused_so name files input old new agrees Magic h calls steps h.refuses
-stopped_so name files input old new agrees (Truncated length due) h calls steps = refused_so name files input old new agrees (Truncated length due) h calls steps h.refuses
-stopped_so name files input old new agrees (Extra length due) h calls steps = refused_so name files input old new agrees (Extra length due) h calls steps h.refuses
-stopped_so name files input old new agrees (Rules fault) h calls steps = refused_so name files input old new agrees (Rules fault) h calls steps h.refuses
-stopped_so name files input old new agrees (Size kept due) h calls steps = refused_so name files input old new agrees (Size kept due) h calls steps h.refuses
-stopped_so name files input old new agrees Failed h calls steps = begun_so name files input old new agrees Failed h calls steps
-stopped_so name files input old new agrees NoMemory h calls steps = begun_so name files input old new agrees NoMemory h calls steps
+stopped_so name files input old new agrees Missing h steps = refused_so name files input old new agrees Missing h steps h.refuses
+stopped_so name files input old new agrees Magic h steps = refused_so name files input old new agrees Magic h steps h.refuses
+stopped_so name files input old new agrees (Truncated length due) h steps = refused_so name files input old new agrees (Truncated length due) h steps h.refuses
+stopped_so name files input old new agrees (Extra length due) h steps = refused_so name files input old new agrees (Extra length due) h steps h.refuses
+stopped_so name files input old new agrees (Rules fault) h steps = refused_so name files input old new agrees (Rules fault) h steps h.refuses
+stopped_so name files input old new agrees (Size kept due) h steps = refused_so name files input old new agrees (Size kept due) h steps h.refuses
+stopped_so name files input old new agrees Failed h steps = begun_so name files input old new agrees Failed h steps
+stopped_so name files input old new agrees NoMemory h steps = begun_so name files input old new agrees NoMemory h steps
 
 reporting_lawful : (table : List ℕ) → IsLawful (reporting_at table)
 reporting_lawful table = record {

@@ -7,7 +7,7 @@ use Rattle.frz_store.specs.Files.{Files, bytes_at}
 use Rattle.frz_table.specs.declared.fault.TableFault.{TableFault}
 use Rattle.frz_table.specs.declared.kind.FileKind.TheVariants.{Plain}
 use Rattle.frz_table.specs.Layout.{magic_of, pieces_of}
-use Rattle.frz_table.specs.Opening.{Contents, opened, table_format}
+use Rattle.frz_table.specs.Opening.{Contents, opened, opening_calls, table_format}
 use Rattle.frz_table.specs.Possible.{held_text}
 use Rattle.frz_check.specs.Kept.{kept_codes, opened_size}
 use Rattle.frz_check.specs.OneFile.{IsOneFile}
@@ -69,14 +69,14 @@ pub record MeansReport (table : List ℕ) (files : Files) (a : Answer) : Type 0 
   pub untaken : a.taken ≡ 0
   pub says : MeansStatus table files a.status a.text
 
--- at most a step a number; five calls of the store to open the file and two for each piece of a side's codes; and no
+-- at most a step a number; the calls of the store that open the file and two for each piece of a side's codes; and no
 -- more bytes asked than the file has
 abbrev pub reporting_costs : Option (List ℕ) → Costs
 reporting_costs held =
     let size = opened_size (opened (table_format Plain) held) in
     record {
       steps = Some size;
-      calls = Some (5 + 2 * pieces_of size);
+      calls = Some (opening_calls (table_format Plain) held + 2 * pieces_of size);
       asked = Some (16 + length (held_text held) + 8 * size);
     }
 

@@ -41,4 +41,4 @@ returns-in-Err g c = λ input.
     ended job (stop_of_table fault) _ _ (world _ _ _ _) _ (quiet_store _ _ _ _ _ e.quiet)
     (may_stop Totals job (stop_of_table fault) _ _ input _ _ _ refl refl (own_refusal fault) (table_cause Table Totals fault _ _ e.causes))
     (rw c.from.ensures at c.end.ensures)
-    (λ sees files left agrees. stopped_so _ files left _ _ agrees fault e.may_refuse c.open_table.ensures.calls (omega arith))
+    (λ sees files left agrees. stopped_so _ files left _ _ agrees fault e.may_refuse (omega arith))
