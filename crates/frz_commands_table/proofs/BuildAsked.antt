@@ -1,5 +1,5 @@
 -- What `build` finds where it has read its rules file, and how it ends where something stopped it.
-use Rattle.std.proofs.Common.{◌≡◌, refl, subst, ℕ, ◌+◌, ◌≤◌, List, [], ◌∷◌, Option, Err, arith}
+use Rattle.std.proofs.Common.{◌≡◌, refl, subst, ℕ, ◌≤◌, List, [], ◌∷◌, Option, Err, arith}
 use Rattle.std.specs.Prelude.{IfSome}
 use Rattle.frz_store.specs.Files.{Files}
 use Rattle.frz_answer.specs.declared.status.Status.TheVariants.{Success, Rules, Missing}

@@ -63,12 +63,14 @@ MeansByStatus old new files a Table = RefusesOld old files a
 MeansByStatus old new files a Missing = MissesOld old files a
 MeansByStatus old new files a status = ⊥
 
--- a former file of a text: its header with the former magic and the former size, and for each side, at the former number of
--- each position of the set, the code of its bound. What stands at the other numbers is free
+-- a former file of a text: its header with the former magic and the former size, and for each side, at
+-- the former number of each position of the set, the code of its bound. What stands at the other numbers
+-- is free
 pub record IsFormerFile (text : List ℕ) (rules : RuleLines) (value : Board → Value) (bytes : List ℕ) : Type 0 where
   pub layout : IsTableFile old_magic text (old_size_of rules.groups) bytes
   pub bound : (side : Colour) (p : Board) → Member rules.groups p →
-      (b : Bound) × (slice_index (codes_at side text (old_size_of rules.groups) bytes) (OldNum rules.groups p) ≡ code_of b)
+      (b : Bound)
+      × (slice_index (codes_at side text (old_size_of rules.groups) bytes) (OldNum rules.groups p) ≡ code_of b)
       × IsBoundAt rules value side p b
 
 -- the name holds a former file of a text that is accepted, whose set has few numbers by the former format
@@ -88,8 +90,8 @@ pub record BecomesOneFile (text : List ℕ) (rules : RuleLines) (new : List ℕ)
   pub one_file : IsOneFile (magic_of Plain) text rules (value_by rules) new_bytes
   pub written : a.files ≡ put files new new_bytes
 
--- what an answer of `migrate` means: it takes no input, each status has its cause, and a former file of a text becomes the one
--- file of this text, which `check` accepts
+-- what an answer of `migrate` means: it takes no input, each status has its cause, and a former file of
+-- a text becomes the one file of this text, which `check` accepts
 pub record MeansMigrate (old new : List ℕ) (files : Files) (a : Answer) : Type 0 where
   pub untaken : a.taken ≡ 0
   pub says : MeansByStatus old new files a a.status
@@ -106,4 +108,5 @@ migrating_at old new = record (plain (Success ∷ Table ∷ Missing ∷ []) (λ 
 
 -- migrate OLD NEW
 abbrev pub migrate_words : List (List ℕ) → Job
-migrate_words words = taking (λ names. unless (bytes_eq names.0 names.1) (migrating_at names.0 names.1)) (two_words_of words)
+migrate_words words =
+    taking (λ names. unless (bytes_eq names.0 names.1) (migrating_at names.0 names.1)) (two_words_of words)

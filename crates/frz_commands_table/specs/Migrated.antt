@@ -17,8 +17,8 @@ abbrev pub moved_code : List GroupLine → List ℕ → Option Board → ℕ
 moved_code groups old None = BROKEN
 moved_code groups old (Some p) = slice_index old (OldNum groups p)
 
--- a side's codes in order of the numbers of today, by its codes in order of the former ones: what stood at broken former
--- numbers is dropped
+-- a side's codes in order of the numbers of today, by its codes in order of the former ones: what stood
+-- at broken former numbers is dropped
 pub record AreMoved (groups : List GroupLine) (old new : List ℕ) : Type 0 where
   pub many : length new ≡ size_of groups
   pub moved : (i : ℕ) → i < size_of groups → slice_index new i ≡ moved_code groups old (position_at groups i)
