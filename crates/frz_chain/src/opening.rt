@@ -72,7 +72,7 @@ fn load_checked<S: Store, L: Ledger>(
 }
 
 /// Opens the plain table of this name, loads its codes and checks them. The calls of the store are
-/// the five of opening and those of loading, and the steps at most the size.
+/// those of opening and of loading, and the steps at most the size.
 pub fn open_back<S: Store, L: Ledger>(
     alloc: Global,
     store: &mut S,
