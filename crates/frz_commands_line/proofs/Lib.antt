@@ -2,6 +2,7 @@ mod Behind
 mod Counting
 mod Lawful
 mod LineMeans
+mod OpeningCosts
 mod Opened
 mod Played
 mod Seen

@@ -1,5 +1,5 @@
 -- How `line` ends where its table was opened, and where it was not.
-use Rattle.std.proofs.Common.{◌≡◌, refl, sym, subst, ℕ, ◌+◌, ◌≤◌, List, length, Bool, true, false, Result, Ok, Err, arith}
+use Rattle.std.proofs.Common.{◌≡◌, refl, sym, subst, ℕ, ◌+◌, ◌≤◌, List, length, Bool, true, false, Result, Ok, Err}
 use Rattle.std.specs.Prelude.{MatchBool}
 use Rattle.frz_board.specs.declared.man.Colour.{Colour}
 use Rattle.frz_board.specs.Boards.{Board}
@@ -10,7 +10,7 @@ use Rattle.frz_store.specs.Files.{Files, bytes_at}
 use Rattle.frz_table.specs.declared.fault.TableFault.{TableFault}
 use Rattle.frz_table.specs.declared.fault.TableFault.TheVariants.{Missing, Magic, Truncated, Extra, Rules, Size, Failed, NoMemory}
 use Rattle.frz_table.specs.declared.kind.FileKind.TheVariants.{Plain}
-use Rattle.frz_table.specs.Opening.{Contents, contents_of, opened, Refuses, kept_text, table_format}
+use Rattle.frz_table.specs.Opening.{Contents, contents_of, opened, Refuses, kept_text, table_format, opening_calls}
 use Rattle.frz_table.specs.Tables.{Table}
 use Rattle.frz_check.specs.Kept.{kept_codes}
 use Rattle.frz_answer.specs.Statuses.{OneOf}
@@ -25,9 +25,10 @@ use Rattle.frz_prelude.specs.declared.refused.Refused.TheVariants as refusals
 use Rattle.frz_prelude.specs.declared.stop.Stop.TheVariants.{Refused}
 use Rattle.frz_prelude.proofs.Lemmas.{StopsWith, refusal_said, table_own}
 use Rattle.frz_line.specs.Ends as ends
-use Rattle.frz_commands_line.specs.LineOf.{code_at, line_answer, IsLined, IsLinedIn, IsLinedBy, IsLinedAt}
+use Rattle.frz_commands_line.specs.LineOf.{code_at, plies_in, line_answer, IsLined, IsLinedIn, IsLinedBy, IsLinedAt}
 use Rattle.frz_commands_line.specs.Lining.{lining_in, lining_at}
 use Rattle.frz_commands_line.proofs.Counting.{told_said}
+use Rattle.frz_commands_line.proofs.OpeningCosts.{opening_within}
 use Rattle.frz_commands_line.proofs.Seen.{LineThere}
 
 -- the line by an open table is a stage of the command
@@ -92,9 +93,10 @@ stops_by job m i old new x refused begun NoMemory e = begun
 -- the table was not opened
 module _ (there : LineThere) (name : List ℕ) (side : Colour) (p : Board) (m : Files) (i : List ℕ) (old new : World) (agrees : Agrees old m i)
     (asked : new.store.asked ≤ old.store.asked + (16 + length (kept_text (bytes_at m name))))
-    (calls : new.store.calls ≤ old.store.calls + 5) (steps : new.steps ≡ old.steps) where
+    (calls : new.store.calls ≤ old.store.calls + opening_calls (table_format Plain) (m name)) (steps : new.steps ≡ old.steps) where
   within : (a : Answer) → WithinCosts ((lining_at name side p).costs m i a) old new
-  within a = record { steps = omega (arith, steps); calls = omega (arith, calls); asked = omega (arith, asked) }
+  within a =
+      opening_within (opened (table_format Plain) (m name)) (opening_calls (table_format Plain) (m name)) (16 + length (kept_text (bytes_at m name))) (plies_in a.text) old new steps calls asked
 
   refused_so : (fault : TableFault) → opened (table_format Plain) (m name) ≡ Err fault → StopsWith (lining_at name side p) (Refused (refusals.Table fault)) m i old new
   refused_so fault e = record {

@@ -1,5 +1,5 @@
 -- How `play` ends where its table was opened, and where it was not.
-use Rattle.std.proofs.Common.{◌≡◌, refl, sym, subst, ℕ, ◌+◌, ◌≤◌, List, length, Bool, true, false, Result, Ok, Err, arith}
+use Rattle.std.proofs.Common.{◌≡◌, refl, sym, subst, ℕ, ◌+◌, ◌≤◌, List, length, Bool, true, false, Result, Ok, Err}
 use Rattle.std.specs.Prelude.{MatchBool}
 use Rattle.frz_board.specs.declared.man.Colour.{Colour}
 use Rattle.frz_board.specs.Boards.{Board}
@@ -11,7 +11,7 @@ use Rattle.frz_store.specs.Files.{Files, bytes_at}
 use Rattle.frz_table.specs.declared.fault.TableFault.{TableFault}
 use Rattle.frz_table.specs.declared.fault.TableFault.TheVariants.{Failed}
 use Rattle.frz_table.specs.declared.kind.FileKind.TheVariants.{Plain}
-use Rattle.frz_table.specs.Opening.{Contents, contents_of, opened, Refuses, kept_text, table_format}
+use Rattle.frz_table.specs.Opening.{Contents, contents_of, opened, Refuses, kept_text, table_format, opening_calls}
 use Rattle.frz_table.specs.Tables.{Table}
 use Rattle.frz_check.specs.Kept.{kept_codes}
 use Rattle.frz_answer.specs.Statuses.{OneOf}
@@ -28,9 +28,10 @@ use Rattle.frz_prelude.proofs.Lemmas.{StopsWith, refusal_said, table_own}
 use Rattle.frz_play.specs.Reading as reading
 use Rattle.frz_play.specs.Sessions.{EndOfSession, IsSession}
 use Rattle.frz_commands_line.specs.LineOf.{code_at}
-use Rattle.frz_commands_line.specs.SessionOf.{session_answer, IsPlayed, IsPlayedIn, IsPlayedBy, IsPlayedAt}
+use Rattle.frz_commands_line.specs.SessionOf.{session_answer, IsPlayed, IsPlayedIn, IsPlayedBy, IsPlayedAt, plies_of}
 use Rattle.frz_commands_line.specs.Playing.{playing_in, playing_at}
 use Rattle.frz_commands_line.proofs.Opened.{from_table, stops_by}
+use Rattle.frz_commands_line.proofs.OpeningCosts.{opening_within}
 use Rattle.frz_commands_line.proofs.SessionSeen.{SessionThere}
 use Rattle.frz_commands_line.proofs.SessionTexts.{answered_at, never_cut, session_said}
 
@@ -87,9 +88,10 @@ some_at there table side p files input = some_by there (opened (table_format Pla
 -- the table was not opened
 module _ (there : SessionThere) (name : List ℕ) (side : Colour) (p : Board) (m : Files) (i : List ℕ) (old new : World) (agrees : Agrees old m i)
     (asked : new.store.asked ≤ old.store.asked + (16 + length (kept_text (bytes_at m name))))
-    (calls : new.store.calls ≤ old.store.calls + 5) (steps : new.steps ≡ old.steps) where
+    (calls : new.store.calls ≤ old.store.calls + opening_calls (table_format Plain) (m name)) (steps : new.steps ≡ old.steps) where
   within : (a : Answer) → WithinCosts ((playing_at name side p).costs m i a) old new
-  within a = record { steps = omega (arith, steps); calls = omega (arith, calls); asked = omega (arith, asked) }
+  within a =
+      opening_within (opened (table_format Plain) (m name)) (opening_calls (table_format Plain) (m name)) (16 + length (kept_text (bytes_at m name))) (plies_of a.text) old new steps calls asked
 
   refused_so : (fault : TableFault) → opened (table_format Plain) (m name) ≡ Err fault → StopsWith (playing_at name side p) (Refused (refusals.Table fault)) m i old new
   refused_so fault e = record {

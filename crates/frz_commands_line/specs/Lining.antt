@@ -1,10 +1,12 @@
 -- What `line TABLE FEN SIDE` is to do.
-use Rattle.std.specs.Prelude.{ℕ, ◌+◌, ◌*◌, List, [], ◌∷◌, length, true, false, Some}
+use Rattle.std.specs.Prelude.{ℕ, ◌+◌, ◌*◌, List, [], ◌∷◌, length, true, false, Option, Some, Result, Ok, Err}
 use Rattle.frz_board.specs.declared.man.Colour.{Colour}
 use Rattle.frz_board.specs.Boards.{Board}
 use Rattle.frz_fen.specs.Reading.{fen_of}
 use Rattle.frz_store.specs.Files.{bytes_at}
-use Rattle.frz_table.specs.Opening.{contents_of}
+use Rattle.frz_table.specs.declared.fault.TableFault.{TableFault}
+use Rattle.frz_table.specs.declared.kind.FileKind.TheVariants.{Plain}
+use Rattle.frz_table.specs.Opening.{Contents, contents_of, opened, opening_calls, table_format}
 use Rattle.frz_table.specs.Possible.{held_text}
 use Rattle.frz_table.specs.Tables.{Table as OpenTable}
 use Rattle.frz_answer.specs.declared.status.Status.TheVariants.{Success, Wrong, Table, Outside, Missing}
@@ -29,6 +31,17 @@ playing_costs calls asked plies = record {
   asked = Some (asked + (MOST_ASKED + 4) * (plies + 1));
 }
 
+-- where the table does not open, what opening costs is all
+abbrev pub costs_by : Result Contents TableFault → (calls asked plies : ℕ) → Costs
+costs_by (Ok contents) calls asked plies = playing_costs calls asked plies
+costs_by (Err fault) calls asked plies = record { steps = Some 0; calls = Some calls; asked = Some asked }
+
+-- by what the name holds: to open it, the store is asked for 16 bytes and the text
+abbrev pub costs_at : Option (List ℕ) → (plies : ℕ) → Costs
+costs_at held plies =
+    costs_by (opened (table_format Plain) held) (opening_calls (table_format Plain) held)
+    (16 + length (held_text held)) plies
+
 -- by an open table
 abbrev pub lining_in : OpenTable → Colour → Board → Job
 lining_in table side p =
@@ -39,7 +52,7 @@ lining_in table side p =
       costs = λ files input a. playing_costs 0 0 (plies_in a.text);
     }
 
--- by the table of this name: to open it, the store is called five times at most, and asked for 16 bytes and the text
+-- by the table of this name
 abbrev pub lining_at : List ℕ → Colour → Board → Job
 lining_at table side p =
     record (plain (Success ∷ Wrong ∷ Table ∷ Outside ∷ Missing ∷ [])
@@ -47,7 +60,7 @@ lining_at table side p =
       means = λ files input a. MeansLine table side p files a;
       needs = playing_needs;
       speaks = true;
-      costs = λ files input a. playing_costs 5 (16 + length (held_text (files table))) (plies_in a.text);
+      costs = λ files input a. costs_at (files table) (plies_in a.text);
     }
 
 -- line TABLE FEN SIDE

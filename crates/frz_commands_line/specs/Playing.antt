@@ -1,17 +1,16 @@
 -- What `play TABLE FEN SIDE` is to do.
-use Rattle.std.specs.Prelude.{ℕ, ◌+◌, List, [], ◌∷◌, length, true}
+use Rattle.std.specs.Prelude.{ℕ, List, [], ◌∷◌, true}
 use Rattle.frz_board.specs.declared.man.Colour.{Colour}
 use Rattle.frz_board.specs.Boards.{Board}
 use Rattle.frz_fen.specs.Reading.{fen_of}
 use Rattle.frz_store.specs.Files.{bytes_at}
 use Rattle.frz_table.specs.Opening.{contents_of}
-use Rattle.frz_table.specs.Possible.{held_text}
 use Rattle.frz_table.specs.Tables.{Table as OpenTable}
 use Rattle.frz_answer.specs.declared.status.Status.TheVariants.{Success, Wrong, Table, Outside, Missing, Limit}
 use Rattle.frz_answer.specs.Jobs.{Job, Needs, plain}
 use Rattle.frz_answer.specs.Words.{taking, three_words_of}
 use Rattle.frz_prelude.specs.Positions.{on_position}
-use Rattle.frz_commands_line.specs.Lining.{playing_needs, playing_costs}
+use Rattle.frz_commands_line.specs.Lining.{playing_needs, playing_costs, costs_at}
 use Rattle.frz_commands_line.specs.SessionMeaning.{MeansPlay}
 use Rattle.frz_commands_line.specs.SessionOf.{plies_of, IsPlayedIn, IsPlayedAt}
 use Rattle.frz_commands_line.specs.Sides.{on_side, side_of}
@@ -29,7 +28,7 @@ playing_in table side p =
       costs = λ files input a. playing_costs 0 0 (plies_of a.text);
     }
 
--- by the table of this name: to open it, the store is called five times at most, and asked for 16 bytes and the text
+-- by the table of this name
 abbrev pub playing_at : List ℕ → Colour → Board → Job
 playing_at table side p =
     record (plain (Success ∷ Wrong ∷ Table ∷ Outside ∷ Missing ∷ Limit ∷ [])
@@ -37,7 +36,7 @@ playing_at table side p =
       means = λ files input a. MeansPlay table side p files input a;
       needs = session_needs;
       speaks = true;
-      costs = λ files input a. playing_costs 5 (16 + length (held_text (files table))) (plies_of a.text);
+      costs = λ files input a. costs_at (files table) (plies_of a.text);
     }
 
 -- play TABLE FEN SIDE
