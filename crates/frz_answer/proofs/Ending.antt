@@ -15,9 +15,9 @@ use Rattle.frz_answer.specs.declared.end.End.{End}
 use Rattle.frz_answer.specs.declared.end.End.TheVariants.{Done, SinkFault, Stopped}
 use Rattle.frz_answer.specs.Statuses.{OneOf, end_of_fault}
 use Rattle.frz_answer.specs.Texts.{TookText, FailedWithin}
-use Rattle.frz_answer.specs.World.{World, Agrees, Later, Fine, Quiet}
+use Rattle.frz_answer.specs.World.{World, Agrees, Later, Fine, Quiet, spent}
 use Rattle.frz_answer.specs.Answers.{Answer, says, SomeAnswer, held, NoMore}
-use Rattle.frz_answer.specs.Jobs.{Job, Sees, Never, WithinCosts}
+use Rattle.frz_answer.specs.Jobs.{Job, Sees, Never}
 use Rattle.frz_answer.specs.Ends.{MayMeet, MayHaveWritten, WritesOnly, Ran, Said}
 use Rattle.frz_answer.proofs.Telling.{agreed, drop_none, append_nothing, append_twice}
 use Rattle.frz_answer.proofs.Worlds.{only_unwritten, risen_later, given_part}
@@ -39,7 +39,7 @@ pub record Doing (job : Job) (files : Files) (input : List ℕ) (old new : World
   pub found : Found job files input old
   pub some : SomeAnswer (job.answers found.files found.input)
   pub others : NoMore some.a old new
-  pub costs : WithinCosts (job.costs found.files found.input some.a) old new
+  pub costs : job.costs found.files found.input some.a (spent old) (spent new)
 
 -- a fault before any text was written
 pub stopped_doing : (job : Job) (fault : Fault) (old new : World) → Later old new → MayMeet job fault old new → WritesOnly job.writes old.store new.store
@@ -81,7 +81,7 @@ stopped_doing job fault old new later meets only unwritten same doing =
 pub record Begun (job : Job) (files : Files) (input : List ℕ) (old new : World) : Type 0 where
   pub found : Found job files input old
   pub some : SomeAnswer (job.answers found.files found.input)
-  pub costs : WithinCosts (job.costs found.files found.input some.a) old new
+  pub costs : job.costs found.files found.input some.a (spent old) (spent new)
 
 nothing_done : (a : Answer) (old new : World) → Quiet old new → NoMore a old new
 nothing_done a old new quiet = record {
@@ -118,7 +118,7 @@ pub record Closes (job : Job) (status : Status) (line : List ℕ) (files : Files
   pub lines : List ℕ
   pub before : mid.out.taken ≡ append_known old.out.taken lines
   pub text : lines ++ line ≡ a.text
-  pub costs : WithinCosts (job.costs found.files found.input a) old mid
+  pub costs : job.costs found.files found.input a (spent old) (spent mid)
 
 module _ (job : Job) (status : Status) (line : List ℕ) (old mid : World) (out : SinkTold) where
   no_more : (a : Answer) → mid.store.files ≡ option_map (λ _. a.files) old.store.files
@@ -159,7 +159,7 @@ module _ (job : Job) (status : Status) (line : List ℕ) (old mid : World) (out 
                   text = done.1.taken ∙ ap (λ o. append_known o line) here.before ∙ append_twice old.out.taken here.lines line ∙ ap (append_known old.out.taken) here.text;
                 },
               );
-              costs = record { steps = here.costs.steps; calls = here.costs.calls; asked = here.costs.asked };
+              costs = here.costs;
             };
       })
       by_end (inr cut) =
@@ -187,7 +187,7 @@ module _ (job : Job) (status : Status) (line : List ℕ) (old mid : World) (out 
                     text = cut.1.taken.1 ∙ ap (λ o. append_known o (take k line)) here.before ∙ append_twice old.out.taken here.lines (take k line);
                     others = no_more here.a here.given here.left;
                   };
-                  costs = record { steps = here.costs.steps; calls = here.costs.calls; asked = here.costs.asked };
+                  costs = here.costs;
                 };
           })
 
@@ -195,7 +195,7 @@ module _ (job : Job) (status : Status) (line : List ℕ) (old mid : World) (out 
 pub record SaysAll (job : Job) (status : Status) (line : List ℕ) (files : Files) (input : List ℕ) (old mid : World) : Type 0 where
   pub found : Found job files input old
   pub answer : job.answers found.files found.input (says status line found.files)
-  pub costs : WithinCosts (job.costs found.files found.input (says status line found.files)) old mid
+  pub costs : job.costs found.files found.input (says status line found.files) (spent old) (spent mid)
 
 -- the line is the whole text, and nothing was written before
 pub said : (job : Job) (status : Status) (line : List ℕ) (end : End) (old mid : World) (out : SinkTold) → Quiet old mid → Fine old mid → OneOf status job.statuses

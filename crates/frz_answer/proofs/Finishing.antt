@@ -121,7 +121,7 @@ module _ (job : Job) (status : ℕ) (old mid : World) (out : SinkTold) where
     a = here.a;
     answer = here.answer;
     meant = law here.files here.input here.a here.answer;
-    costs = record { steps = here.costs.steps; calls = here.costs.calls; asked = here.costs.asked };
+    costs = here.costs;
   }
 
   no_more : (a : Answer) → NoMore a old mid → NoMore a old new

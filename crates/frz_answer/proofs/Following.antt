@@ -8,9 +8,9 @@ use Rattle.std.specs.Io.KnownBytes.{append_known}
 use Rattle.frz_store.specs.Files.{Files}
 use Rattle.frz_answer.specs.declared.end.End.{End}
 use Rattle.frz_answer.specs.declared.end.End.TheVariants.{Done, SinkFault, Stopped}
-use Rattle.frz_answer.specs.World.{World, Agrees, Came}
+use Rattle.frz_answer.specs.World.{World, Agrees, Came, spent}
 use Rattle.frz_answer.specs.Answers.{Answer, behind, IsLines, NoMore}
-use Rattle.frz_answer.specs.Jobs.{Job, Never, Sees, WithinCosts}
+use Rattle.frz_answer.specs.Jobs.{Job, Never, Sees}
 use Rattle.frz_answer.specs.Ends.{EndsInLines, Leaves, Ran}
 use Rattle.frz_answer.proofs.Ending.{Found}
 use Rattle.frz_answer.proofs.Stages.{IsStage, no_more_true, ends_later, only_later, room_later, sees_later, part_later}
@@ -29,7 +29,7 @@ pub record Follows (part whole : Job) (text bytes : List ℕ) (files : Files) (i
   pub answers : (m : Files) (i : List ℕ) (a : Answer) → Agrees mid m i → (part.needs.reads ≡ Never → m ≡ found.files) → (part.needs.input ≡ false → i ≡ rest)
       → part.answers m i a → whole.answers m (bytes ++ i) (behind text (length bytes) a)
   pub costs : (m : Files) (i : List ℕ) (a : Answer) → Agrees mid m i → (part.needs.reads ≡ Never → m ≡ found.files) → (part.needs.input ≡ false → i ≡ rest)
-      → part.answers m i a → WithinCosts (part.costs m i a) mid new → WithinCosts (whole.costs m (bytes ++ i) (behind text (length bytes) a)) old new
+      → part.answers m i a → part.costs m i a (spent mid) (spent new) → whole.costs m (bytes ++ i) (behind text (length bytes) a) (spent old) (spent new)
 
 -- what is left behind the bytes, where it is told, is the rest
 rest_told : (bytes rest : List ℕ) (old mid : Option (List ℕ)) → mid ≡ option_map (drop (length bytes)) old → IfSome old (λ told. told ≡ bytes ++ rest) → IfSome mid (λ told. told ≡ rest)

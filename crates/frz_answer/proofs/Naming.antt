@@ -12,9 +12,9 @@ use Rattle.frz_answer.specs.declared.fault.Fault.TheVariants as faults
 use Rattle.frz_answer.specs.declared.end.End.{End}
 use Rattle.frz_answer.specs.declared.end.End.TheVariants.{Stopped}
 use Rattle.frz_answer.specs.Statuses.{OneOf, end_of_fault}
-use Rattle.frz_answer.specs.World.{World, Agrees, Later}
+use Rattle.frz_answer.specs.World.{World, Agrees, Later, spent}
 use Rattle.frz_answer.specs.Answers.{says, SomeAnswer}
-use Rattle.frz_answer.specs.Jobs.{Job, Sees, WithinCosts}
+use Rattle.frz_answer.specs.Jobs.{Job, Sees}
 use Rattle.frz_answer.specs.Ends.{WritesOnly, Ran, Said}
 use Rattle.frz_answer.proofs.Ending.{Found, stopped, stopped_doing, closed}
 use Rattle.frz_answer.proofs.Telling.{drop_none, append_nothing}
@@ -26,13 +26,13 @@ pub record GivesName (job : Job) (name whole : List ℕ) (files : Files) (input 
   pub found : Found job files input old
   pub some : SomeAnswer (job.answers found.files found.input)
   pub given : some.a.files ≡ put found.files name whole
-  pub costs : WithinCosts (job.costs found.files found.input some.a) old new
+  pub costs : job.costs found.files found.input some.a (spent old) (spent new)
 
 -- the line that is said when all is written
 pub record SaysName (job : Job) (line name whole : List ℕ) (files : Files) (input : List ℕ) (old new : World) : Type 0 where
   pub found : Found job files input old
   pub answer : job.answers found.files found.input (says statuses.Success line (put found.files name whole))
-  pub costs : WithinCosts (job.costs found.files found.input (says statuses.Success line (put found.files name whole))) old new
+  pub costs : job.costs found.files found.input (says statuses.Success line (put found.files name whole)) (spent old) (spent new)
 
 -- a command that writes one name, and has made steps but done nothing else yet
 module _ (job : Job) (name whole : List ℕ) (old : World) (store : StoreTold) (steps : ℕ) (more : old.steps ≤ steps) (asks : IsTrue job.needs.store) (writes : Some name ≡ job.writes) where

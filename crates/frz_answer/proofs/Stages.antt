@@ -12,9 +12,9 @@ use Rattle.frz_answer.specs.declared.fault.Fault.TheVariants as faults
 use Rattle.frz_answer.specs.declared.end.End.{End}
 use Rattle.frz_answer.specs.declared.end.End.TheVariants.{Done, SinkFault, Stopped}
 use Rattle.frz_answer.specs.Statuses.{code_of, has_code, subset, OneOf}
-use Rattle.frz_answer.specs.World.{World, Agrees, Later, Quiet, Fine}
+use Rattle.frz_answer.specs.World.{World, Agrees, Later, Quiet, Fine, spent}
 use Rattle.frz_answer.specs.Answers.{Answer, IsPart, NoMore}
-use Rattle.frz_answer.specs.Jobs.{Job, Reads, Never, Once, Again, Sees, WithinCosts}
+use Rattle.frz_answer.specs.Jobs.{Job, Reads, Never, Once, Again, Sees}
 use Rattle.frz_answer.specs.Ends.{MayMeet, MayEnd, EndsInLines, WritesOnly, LeavesNoRoom, Leaves, Ran}
 use Rattle.frz_answer.proofs.Ending.{Found}
 use Rattle.frz_answer.proofs.Worlds.{later_on, fine_on, unwritten_on, only_unwritten, only_on, risen_later, agrees_on}
@@ -61,7 +61,7 @@ pub record Stages (part whole : Job) (files : Files) (input : List ℕ) (old mid
   pub answers : (m : Files) (i : List ℕ) (a : Answer) → Agrees old m i → (part.needs.reads ≡ Never → m ≡ found.files) → (part.needs.input ≡ false → i ≡ found.input)
       → part.answers m i a → whole.answers m i a
   pub costs : (m : Files) (i : List ℕ) (a : Answer) → Agrees old m i → (part.needs.reads ≡ Never → m ≡ found.files) → (part.needs.input ≡ false → i ≡ found.input)
-      → part.answers m i a → WithinCosts (part.costs m i a) mid new → WithinCosts (whole.costs m i a) old new
+      → part.answers m i a → part.costs m i a (spent mid) (spent new) → whole.costs m i a (spent old) (spent new)
 
 -- what a stage may do, the whole may do, where nothing was written to the store before and no object failed
 module _ (part whole : Job) (old mid new : World) (later : Later old mid) (fine : Fine old mid) (same : Unwritten old.store mid.store) (stage : IsStage part whole) where

@@ -11,9 +11,9 @@ use Rattle.frz_answer.specs.declared.end.End.{End}
 use Rattle.frz_answer.specs.declared.end.End.TheVariants.{Done, SinkFault, Stopped}
 use Rattle.frz_answer.specs.Statuses.{OneOf}
 use Rattle.frz_answer.specs.Texts.{TookText, FailedWithin}
-use Rattle.frz_answer.specs.World.{World, Agrees, Later, Fine}
+use Rattle.frz_answer.specs.World.{World, Agrees, Later, Fine, spent}
 use Rattle.frz_answer.specs.Answers.{Answer, Gives, Begins, Cuts, TookLines, held}
-use Rattle.frz_answer.specs.Jobs.{Job, Never, Sees, WithinCosts}
+use Rattle.frz_answer.specs.Jobs.{Job, Never, Sees}
 
 -- the job may meet this fault, and has met its cause
 abbrev pub MayMeet : Job → Fault → World → World → Type 0
@@ -70,7 +70,7 @@ pub record Answered
   pub a : Answer
   pub answer : job.answers files input a
   pub leaves : Leaves end a old new
-  pub costs : WithinCosts (job.costs files input a) old new
+  pub costs : job.costs files input a (spent old) (spent new)
 
 -- the job was done rightly, and ends so
 pub record Ran (job : Job) (end : End) (old new : World) : Type 0 where

@@ -3,7 +3,7 @@
 use Rattle.std.specs.Prelude.{ℕ, ◌+◌, ◌≤◌, List, Bool, false, Option, Some, None, IsSome, ⊤}
 use Rattle.frz_store.specs.Files.{Files}
 use Rattle.frz_answer.specs.declared.status.Status.{Status}
-use Rattle.frz_answer.specs.World.{World}
+use Rattle.frz_answer.specs.World.{World, Spent}
 use Rattle.frz_answer.specs.Answers.{Answer}
 
 -- how a job reads the store: not at all; each place once; or some place again, where a store that
@@ -35,6 +35,16 @@ pub record Costs : Type 0 where
 abbrev pub steps_alone : Option ℕ → Costs
 steps_alone steps = record { steps = steps; calls = Some 0; asked = Some 0 }
 
+-- a count has risen by so much at most
+abbrev pub Within : Option ℕ → ℕ → ℕ → Type 0
+Within None before now = ⊤
+Within (Some most) before now = now ≤ before + most
+
+pub record WithinCosts (costs : Costs) (before now : Spent) : Type 0 where
+  pub steps : Within costs.steps before.steps now.steps
+  pub calls : Within costs.calls before.calls now.calls
+  pub asked : Within costs.asked before.asked now.asked
+
 pub record Job : Type 1 where
   -- its answers, over the files and the input
   pub answers : Files → List ℕ → Answer → Type 0
@@ -48,8 +58,8 @@ pub record Job : Type 1 where
   pub speaks : Bool
   -- the name that it writes
   pub writes : Option (List ℕ)
-  -- what it may cost where this is its answer
-  pub costs : Files → List ℕ → Answer → Costs
+  -- what may have been spent before and after where this is its answer
+  pub costs : Files → List ℕ → Answer → Spent → Spent → Type 0
 
 -- a job that needs nothing of the outside but the sink, and makes no step
 abbrev pub plain : List Status → (Files → List ℕ → Answer → Type 0) → Job
@@ -60,20 +70,10 @@ plain statuses answers = record {
   needs = nothing;
   speaks = false;
   writes = None;
-  costs = λ _ _ _. steps_alone (Some 0);
+  costs = λ _ _ _. WithinCosts (steps_alone (Some 0));
 }
 
 -- where a place is read again, answers are said only over a store that tells
 abbrev pub Sees : Reads → World → Type 0
 Sees Again old = IsSome old.store.files
 Sees _ old = ⊤
-
--- a count has risen by so much at most
-abbrev pub Within : Option ℕ → ℕ → ℕ → Type 0
-Within None before now = ⊤
-Within (Some most) before now = now ≤ before + most
-
-pub record WithinCosts (costs : Costs) (old new : World) : Type 0 where
-  pub steps : Within costs.steps old.steps new.steps
-  pub calls : Within costs.calls old.store.calls new.store.calls
-  pub asked : Within costs.asked old.store.asked new.store.asked

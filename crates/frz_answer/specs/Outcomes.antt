@@ -12,9 +12,9 @@ use Rattle.frz_answer.specs.declared.end.End.{End}
 use Rattle.frz_answer.specs.declared.end.End.TheVariants.{Done, SinkFault, Stopped}
 use Rattle.frz_answer.specs.Statuses.{code_of, fault_code, sink_code, fault_line, OneOf}
 use Rattle.frz_answer.specs.Texts.{TookText, FailedWithin}
-use Rattle.frz_answer.specs.World.{World, Agrees, Later, Fine}
+use Rattle.frz_answer.specs.World.{World, Agrees, Later, Fine, spent}
 use Rattle.frz_answer.specs.Answers.{Answer, Gives, Begins, Cuts, TookLines}
-use Rattle.frz_answer.specs.Jobs.{Job, Sees, WithinCosts}
+use Rattle.frz_answer.specs.Jobs.{Job, Sees}
 use Rattle.frz_answer.specs.Ends.{MayMeet, WritesOnly}
 
 -- the line of a fault was written and its status given, or the sink failed within the line
@@ -50,7 +50,7 @@ pub record Answering (job : Job) (old new : World) : Type 0 where
   pub a : Answer
   pub answer : job.answers files input a
   pub meant : job.means files input a
-  pub costs : WithinCosts (job.costs files input a) old new
+  pub costs : job.costs files input a (spent old) (spent new)
 
 -- an answer was given whole
 pub record Whole (job : Job) (status : ℕ) (old new : World) : Type 0 where

@@ -22,6 +22,18 @@ abbrev pub world_of : {A B C : Type 0} → StoreGhosts A → SourceGhosts B → 
 world_of s i o store input out steps =
     world (store_of s store) (source_of i input) (sink_of o out) steps
 
+-- what was spent until now: the steps that were made, the calls of the store and the bytes asked of it
+pub record Spent : Type 0 where
+  pub steps : ℕ
+  pub calls : ℕ
+  pub asked : ℕ
+
+abbrev pub spent_by : StoreTold → (steps : ℕ) → Spent
+spent_by store steps = record { steps = steps; calls = store.calls; asked = store.asked }
+
+abbrev pub spent : World → Spent
+spent w = spent_by w.store w.steps
+
 -- these may be what the store holds and what the input has left: where the objects tell, it is what
 -- they tell
 pub record Agrees (w : World) (files : Files) (input : List ℕ) : Type 0 where

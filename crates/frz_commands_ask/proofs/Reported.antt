@@ -32,7 +32,7 @@ use Rattle.frz_answer.specs.Jobs.{WithinCosts}
 use Rattle.frz_answer.specs.Lawful.{IsLawful}
 use Rattle.frz_answer.specs.Texts.{TookText}
 use Rattle.frz_answer.specs.Words.{one_word_of}
-use Rattle.frz_answer.specs.World.{World, world, Agrees, Quiet}
+use Rattle.frz_answer.specs.World.{World, world, Agrees, Quiet, spent}
 use Rattle.frz_answer.proofs.Lemmas.{Begun, Found, SaysAll, failed_before, fine_store, one_answer, said, taking_lawful, took_nothing}
 use Rattle.frz_prelude.specs.Refusals.{status_of, table_status}
 use Rattle.frz_prelude.specs.Stops.{stop_of_table}
@@ -70,7 +70,7 @@ pub record FileSeen (name : List ℕ) (old new : StoreTold) (before now : ℕ) (
   pub within : WithinFile (Some bytes) old new before now
 
 within_costs : (held : Option (List ℕ)) (old new : World) → WithinFile held old.store new.store old.steps new.steps
-    → WithinCosts (reporting_costs held) old new
+    → WithinCosts (reporting_costs held) (spent old) (spent new)
 within_costs held old new h = record { steps = h.steps; calls = h.calls; asked = h.asked }
 
 drop_nothing : (o : Option (List ℕ)) → o ≡ option_map (drop 0) o
@@ -93,7 +93,7 @@ some_at table files = record {
 pub record GivenBy (name : List ℕ) (contents : Contents) (bytes : List ℕ) (files : Files) (input : List ℕ) (old new : World) : Type 0 where
   pub found : Found (reporting_at name) files input old
   pub answer : says Success (report_of contents bytes) found.files ≡ report_at name found.files
-  pub costs : WithinCosts (reporting_costs (found.files name)) old new
+  pub costs : WithinCosts (reporting_costs (found.files name)) (spent old) (spent new)
 
 given_by : (name : List ℕ) (contents : Contents) (bytes : List ℕ) (files : Files) (input : List ℕ) (old new : World) → Agrees old files input
     → FileSeen name old.store new.store old.steps new.steps contents bytes → GivenBy name contents bytes files input old new
@@ -103,7 +103,7 @@ given_by name contents bytes files input old new agrees seen =
       answer = sym
           (ap (λ (h : Option (List ℕ)). report_by (opened (table_format Plain) h) (unwrap_or h []) at.files) at.holds
           ∙ ap (λ (x : Result Contents TableFault). report_by x bytes at.files) seen.opens);
-      costs = subst (λ (h : Option (List ℕ)). WithinCosts (reporting_costs h) old new) (sym at.holds) (within_costs (Some bytes) old new seen.within);
+      costs = subst (λ (h : Option (List ℕ)). WithinCosts (reporting_costs h) (spent old) (spent new)) (sym at.holds) (within_costs (Some bytes) old new seen.within);
     }
 
 module _ (name : List ℕ) (contents : Contents) (bytes : List ℕ) (old new : StoreTold) (input : SourceTold) (out_old out_new : SinkTold) (before now : ℕ)
@@ -268,7 +268,7 @@ own_refusal fault why e =
 module _ (name : List ℕ) (files : Files) (input : List ℕ) (old new : World) (agrees : Agrees old files input) (fault : TableFault)
     (h : MayRefuse (table_format Plain) name old.store new.store fault) (steps : new.steps ≤ old.steps) where
   -- opening costs no more than the report
-  opening_costs : WithinCosts (reporting_costs h.held) old new
+  opening_costs : WithinCosts (reporting_costs h.held) (spent old) (spent new)
   opening_costs =
       let asked = h.asked in
       let calls = h.calls in
@@ -281,7 +281,7 @@ module _ (name : List ℕ) (files : Files) (input : List ℕ) (old new : World) 
         answer = sym
             (ap (λ (x : Option (List ℕ)). report_by (opened (table_format Plain) x) (unwrap_or x []) at.files) at.holds
             ∙ ap (λ (x : Result Contents TableFault). report_by x (unwrap_or h.held []) at.files) e);
-        costs = subst (λ (x : Option (List ℕ)). WithinCosts (reporting_costs x) old new) (sym at.holds) opening_costs;
+        costs = subst (λ (x : Option (List ℕ)). WithinCosts (reporting_costs x) (spent old) (spent new)) (sym at.holds) opening_costs;
       }
 
   begun_so : Begun (reporting_at name) files input old new
@@ -289,7 +289,7 @@ module _ (name : List ℕ) (files : Files) (input : List ℕ) (old new : World) 
       let at = holding old.store.files name h.held (same_held old.store.files name h.held h.may) in record {
         found = found_where (reporting_at name) at.files files input old (λ x. cc) at.agrees agrees;
         some = some_at name at.files;
-        costs = subst (λ (x : Option (List ℕ)). WithinCosts (reporting_costs x) old new) (sym at.holds) opening_costs;
+        costs = subst (λ (x : Option (List ℕ)). WithinCosts (reporting_costs x) (spent old) (spent new)) (sym at.holds) opening_costs;
       }
 
 -- the table was not opened

@@ -3,7 +3,7 @@ use Rattle.std.specs.Prelude.{◌≡◌, ℕ, ◌+◌, List, [], ◌∷◌, true
 use Rattle.frz_store.specs.Files.{Files}
 use Rattle.frz_answer.specs.declared.status.Status.TheVariants.{Success, Rules, Outside, Missing}
 use Rattle.frz_answer.specs.declared.status.Status.{Status}
-use Rattle.frz_answer.specs.Jobs.{Job, Once, plain}
+use Rattle.frz_answer.specs.Jobs.{Job, Once, plain, WithinCosts}
 use Rattle.frz_answer.specs.Words.{taking, two_words_of}
 use Rattle.frz_answer.specs.Answers.{Answer}
 use Rattle.frz_board.specs.declared.man.Colour.TheVariants.{White, Black}
@@ -81,7 +81,11 @@ solving_at rules p = record (plain (Success ∷ Rules ∷ Outside ∷ Missing �
     (λ files input a. IsSolvedAt p rules files a)) {
       means = λ files input a. MeansSolve rules p files a;
       needs = record { store = true; reads = Once; input = false; memory = true };
-      costs = λ files input a. record { steps = None; calls = Some (1 + reads_of (files rules)); asked = Some (asked_of (files rules)) };
+      costs = λ files input a. WithinCosts (record {
+        steps = None;
+        calls = Some (1 + reads_of (files rules));
+        asked = Some (asked_of (files rules));
+      });
     }
 
 -- solve RULES FEN

@@ -18,7 +18,7 @@ use Rattle.frz_check.specs.OneFile.{IsOneFile}
 use Rattle.frz_answer.specs.declared.status.Status.{Status}
 use Rattle.frz_answer.specs.declared.status.Status.TheVariants.{Success, Table, Outside, Missing}
 use Rattle.frz_answer.specs.Answers.{Answer}
-use Rattle.frz_answer.specs.Jobs.{Job, Once, plain}
+use Rattle.frz_answer.specs.Jobs.{Job, Once, plain, WithinCosts}
 use Rattle.frz_answer.specs.Words.{taking, two_words_of}
 use Rattle.frz_prelude.specs.BoundLines.{kept_text}
 use Rattle.frz_prelude.specs.Positions.{on_position}
@@ -74,11 +74,11 @@ querying_at kind table p = record (plain (Success ∷ Table ∷ Outside ∷ Miss
     (λ files input a. a ≡ answer_by (kept_of kind p (files table)) files)) {
       means = λ files input a. MeansQuery kind table p files a;
       needs = record { store = true; reads = Once; input = false; memory = true };
-      costs = λ files input a. record {
+      costs = λ files input a. WithinCosts (record {
         steps = Some 0;
         calls = Some (keeping_calls kind p (files table));
         asked = Some (24 + length (held_text (files table)));
-      };
+      });
     }
 
 -- TABLE FEN

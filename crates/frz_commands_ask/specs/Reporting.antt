@@ -21,7 +21,7 @@ use Rattle.frz_answer.specs.declared.fault.Fault.TheVariants as stops
 use Rattle.frz_answer.specs.declared.status.Status.{Status}
 use Rattle.frz_answer.specs.declared.status.Status.TheVariants.{Success, Table, Missing}
 use Rattle.frz_answer.specs.Answers.{Answer, says}
-use Rattle.frz_answer.specs.Jobs.{Costs, Job, Once, plain}
+use Rattle.frz_answer.specs.Jobs.{Costs, Job, Once, plain, WithinCosts}
 use Rattle.frz_answer.specs.Words.{taking, one_word_of}
 use Rattle.frz_prelude.specs.Refusals.{table_status}
 use Rattle.frz_prelude.specs.TableCauses.{table_line}
@@ -86,7 +86,7 @@ reporting_at table = record (plain (Success ∷ Table ∷ Missing ∷ []) (λ fi
   means = λ files input a. MeansReport table files a;
   needs = record { store = true; reads = Once; input = false; memory = true };
   speaks = true;
-  costs = λ files input a. reporting_costs (files table);
+  costs = λ files input a. WithinCosts (reporting_costs (files table));
 }
 
 -- report TABLE

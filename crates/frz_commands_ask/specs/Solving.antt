@@ -3,7 +3,7 @@ use Rattle.std.specs.Prelude.{◌≡◌, ℕ, List, [], ◌∷◌, true, MatchRe
 use Rattle.frz_store.specs.Files.{Files}
 use Rattle.frz_answer.specs.declared.status.Status.TheVariants.{Success, Rules, Outside, Missing}
 use Rattle.frz_answer.specs.Answers.{Answer, says}
-use Rattle.frz_answer.specs.Jobs.{Job, plain, nothing, steps_alone}
+use Rattle.frz_answer.specs.Jobs.{Job, plain, nothing, steps_alone, WithinCosts}
 use Rattle.frz_board.specs.declared.man.Colour.TheVariants.{White, Black}
 use Rattle.frz_board.specs.Boards.{Board}
 use Rattle.frz_sets.specs.Views.{RuleLines}
@@ -61,5 +61,5 @@ IsSolvedAt p rules files a = MatchOption (files rules)
 abbrev pub solving_by : RuleLines → Board → Job
 solving_by r p = record (plain (Success ∷ Outside ∷ []) (λ files input a. IsSolvedBy r p files a)) {
   needs = record nothing { memory = true };
-  costs = λ files input a. steps_alone None;
+  costs = λ files input a. WithinCosts (steps_alone None);
 }

@@ -3,7 +3,7 @@ use Rattle.std.proofs.Common.{◌≡◌, refl, sym, ap, subst, ◌∙◌, ℕ, �
 use Rattle.frz_store.specs.Files.{Files}
 use Rattle.frz_sets.specs.Sets.{size_of}
 use Rattle.frz_answer.specs.Jobs.{WithinCosts}
-use Rattle.frz_answer.specs.World.{World, Agrees}
+use Rattle.frz_answer.specs.World.{World, Agrees, spent}
 use Rattle.frz_answer.proofs.Lemmas.{Stages}
 use Rattle.frz_build.specs.Building.{writing_calls}
 use Rattle.frz_chain.specs.FileOn.{loaded_back}
@@ -22,9 +22,9 @@ module _ (rules back table : List ℕ) (both : BothRead) (files : Files) (input 
   abbrev size : ℕ
   size = size_of both.read.rules.groups
 
-  spent : (m : Files) → m ≡ h.files → new.steps ≤ mid.steps + 4 * size → new.store.calls ≤ mid.store.calls + writing_calls size
-      → new.store.asked ≤ mid.store.asked + 0 → WithinCosts (chain_costs (m rules) (m back)) old new
-  spent m e steps calls asked =
+  all_spent : (m : Files) → m ≡ h.files → new.steps ≤ mid.steps + 4 * size → new.store.calls ≤ mid.store.calls + writing_calls size
+      → new.store.asked ≤ mid.store.asked + 0 → WithinCosts (chain_costs (m rules) (m back)) (spent old) (spent new)
+  all_spent m e steps calls asked =
       let due = ap size_by (read_rules m e) in
       let old_steps : mid.steps ≤ old.steps + reading_steps (m rules) (m back) =
       subst (λ (f : Files). mid.steps ≤ old.steps + reading_steps (f rules) (f back)) (sym e) h.steps in
@@ -53,5 +53,5 @@ module _ (rules back table : List ℕ) (both : BothRead) (files : Files) (input 
           back_there = subst (λ (f : Files). IsBackIn (f back) (loaded_back both.back)) (sym e) h.due.1;
           made = built;
         });
-    costs = λ m i a fits same untaken built costs. spent m (same refl) costs.steps costs.calls costs.asked;
+    costs = λ m i a fits same untaken built costs. all_spent m (same refl) costs.steps costs.calls costs.asked;
   }

@@ -13,7 +13,7 @@ use Rattle.frz_chain.specs.declared.fault.ChainFault.TheVariants as chain
 use Rattle.frz_answer.specs.declared.status.Status.TheVariants.{Success, Wrong, Table, Missing}
 use Rattle.frz_answer.specs.Statuses.{OneOf}
 use Rattle.frz_answer.specs.Jobs.{Sees, WithinCosts}
-use Rattle.frz_answer.specs.World.{World, Agrees}
+use Rattle.frz_answer.specs.World.{World, Agrees, spent}
 use Rattle.frz_answer.proofs.Lemmas.{SaysAll}
 use Rattle.frz_prelude.specs.Refusals.{refusal_line, status_of}
 use Rattle.frz_prelude.specs.declared.refused.Refused.{Refused as Refusal}
@@ -49,10 +49,10 @@ own_refusal held back_held chain.NoMemory h why e = cc
 
 -- what was spent is within the costs of what the names hold
 within_pair : (table back : List ℕ) (m : Files) (held back_held : Option (List ℕ)) (old new : World) → m table ≡ held → m back ≡ back_held
-    → WithinBoth held back_held old.store new.store old.steps new.steps → WithinCosts (pair_costs (m table) (m back)) old new
+    → WithinBoth held back_held old.store new.store old.steps new.steps → WithinCosts (pair_costs (m table) (m back)) (spent old) (spent new)
 within_pair table back m held back_held old new e f h =
-    subst (λ (x : Option (List ℕ)). WithinCosts (pair_costs x (m back)) old new) (sym e)
-    (subst (λ (x : Option (List ℕ)). WithinCosts (pair_costs held x) old new) (sym f) (record { steps = h.steps; calls = h.calls; asked = h.asked }))
+    subst (λ (x : Option (List ℕ)). WithinCosts (pair_costs x (m back)) (spent old) (spent new)) (sym e)
+    (subst (λ (x : Option (List ℕ)). WithinCosts (pair_costs held x) (spent old) (spent new)) (sym f) (record { steps = h.steps; calls = h.calls; asked = h.asked }))
 
 module _ (table back : List ℕ) (files : Files) (input : List ℕ) (old new : World) (sees : Sees (reads_of table back) old) (agrees : Agrees old files input) where
   -- files in which the names hold what they may hold

@@ -6,7 +6,7 @@ use Rattle.frz_store.specs.Files.{Files, put}
 use Rattle.frz_answer.specs.declared.status.Status.{Status}
 use Rattle.frz_answer.specs.declared.status.Status.TheVariants as statuses
 use Rattle.frz_answer.specs.Answers.{Answer, says}
-use Rattle.frz_answer.specs.Jobs.{Costs, Job, plain, nothing}
+use Rattle.frz_answer.specs.Jobs.{Costs, Job, plain, nothing, WithinCosts}
 use Rattle.frz_answer.specs.Words.{taking, three_words_of, unless}
 use Rattle.frz_prelude.specs.Refusals.{refusal_line, status_of}
 use Rattle.frz_prelude.specs.RulesFiles.{rules_held}
@@ -65,11 +65,11 @@ chaining_by text r back table = record (plain (statuses.Success ∷ [])
     (λ files input a. IsChainedBy text r back table files a)) {
       needs = record nothing { store = true; memory = true };
       writes = Some table;
-      costs = λ files input a. record {
+      costs = λ files input a. WithinCosts (record {
         steps = Some (4 * size_of r.groups);
         calls = Some (writing_calls (size_of r.groups));
         asked = Some 0;
-      };
+      });
     }
 
 -- the calls that write the table of rules that were read, and the size of these; 0 where none were
@@ -98,7 +98,7 @@ chaining_at rules back table = record (plain
       means = λ files input a. MeansChain rules back table files a;
       needs = record { store = true; reads = reads_of rules back; input = false; memory = true };
       writes = Some table;
-      costs = λ files input a. chain_costs (files rules) (files back);
+      costs = λ files input a. WithinCosts (chain_costs (files rules) (files back));
     }
 
 -- TABLE is one of the other two names

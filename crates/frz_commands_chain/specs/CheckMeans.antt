@@ -15,7 +15,7 @@ use Rattle.frz_chain.specs.FileOn.{IsFileOn, back_of}
 use Rattle.frz_answer.specs.declared.status.Status.{Status}
 use Rattle.frz_answer.specs.declared.status.Status.TheVariants as statuses
 use Rattle.frz_answer.specs.Answers.{Answer}
-use Rattle.frz_answer.specs.Jobs.{Job, plain}
+use Rattle.frz_answer.specs.Jobs.{Job, plain, WithinCosts}
 use Rattle.frz_answer.specs.Words.{taking, two_words_of}
 use Rattle.frz_prelude.specs.Refusals.{refusal_line, status_of}
 use Rattle.frz_prelude.specs.WrongLines.{wrong_line}
@@ -85,7 +85,7 @@ checking_pair table back = record (plain
     (λ files input a. IsCheckedPair table back files a)) {
       means = λ files input a. MeansChainCheck table back files a;
       needs = record { store = true; reads = reads_of table back; input = false; memory = true };
-      costs = λ files input a. pair_costs (files table) (files back);
+      costs = λ files input a. WithinCosts (pair_costs (files table) (files back));
     }
 
 -- chaincheck TABLE BACK

@@ -3,7 +3,7 @@ use Rattle.std.specs.Prelude.{◌≡◌, ℕ, ◌+◌, Bool, true, false, List, 
 use Rattle.std.specs.List.{join_with_byte}
 use Rattle.frz_answer.specs.declared.status.Status.TheVariants.{Success}
 use Rattle.frz_answer.specs.Answers.{says}
-use Rattle.frz_answer.specs.Jobs.{Job, plain, steps_alone}
+use Rattle.frz_answer.specs.Jobs.{Job, plain, steps_alone, WithinCosts}
 use Rattle.frz_answer.specs.Words.{taking, one_word_of}
 use Rattle.frz_board.specs.Boards.{Board}
 use Rattle.frz_board.specs.Moving.{Step}
@@ -44,7 +44,7 @@ moves_line text p = line_of_moves text (legal_moves_of p) (is_in_check p p.turn)
 abbrev pub listing : Notation → Board → Job
 listing notation p = record (plain (Success ∷ [])
     (λ files input a. a ≡ says Success (moves_line (text_by notation p) p) files)) {
-      costs = λ files input a. steps_alone (Some (1 + steps_by notation (length (legal_moves_of p))));
+      costs = λ files input a. WithinCosts (steps_alone (Some (1 + steps_by notation (length (legal_moves_of p)))));
     }
 
 -- moves FEN

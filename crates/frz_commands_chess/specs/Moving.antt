@@ -3,7 +3,7 @@ use Rattle.std.specs.Prelude.{◌≡◌, ℕ, true, List, [], ◌∷◌, ◌++�
 use Rattle.frz_store.specs.Files.{Files}
 use Rattle.frz_answer.specs.declared.status.Status.TheVariants.{Success, NoMove}
 use Rattle.frz_answer.specs.Answers.{Answer, says}
-use Rattle.frz_answer.specs.Jobs.{Job, plain, steps_alone}
+use Rattle.frz_answer.specs.Jobs.{Job, plain, steps_alone, WithinCosts}
 use Rattle.frz_answer.specs.Words.{taking, two_words_of}
 use Rattle.frz_board.specs.Boards.{Board}
 use Rattle.frz_board.specs.Moving.{Step, IsStep}
@@ -28,7 +28,7 @@ pub data IsMoved (text : List ℕ) (p : Board) (files : Files) (a : Answer) : Ty
 -- the move of this text, in two steps at most
 abbrev pub moving : List ℕ → Board → Job
 moving text p = record (plain (Success ∷ NoMove ∷ []) (λ files input a. IsMoved text p files a)) {
-  costs = λ files input a. steps_alone (Some 2);
+  costs = λ files input a. WithinCosts (steps_alone (Some 2));
 }
 
 -- move FEN SAN

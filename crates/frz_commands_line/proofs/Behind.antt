@@ -9,9 +9,9 @@ use Rattle.frz_answer.specs.declared.end.End.{End}
 use Rattle.frz_answer.specs.declared.end.End.TheVariants.{SinkFault}
 use Rattle.frz_answer.specs.Statuses.{subset}
 use Rattle.frz_answer.specs.Texts.{TookText, FailedWithin}
-use Rattle.frz_answer.specs.World.{World, Agrees, Quiet}
+use Rattle.frz_answer.specs.World.{World, Agrees, Quiet, spent}
 use Rattle.frz_answer.specs.Answers.{Answer, behind, held, IsLines}
-use Rattle.frz_answer.specs.Jobs.{Job, Sees, WithinCosts}
+use Rattle.frz_answer.specs.Jobs.{Job, Sees}
 use Rattle.frz_answer.specs.Ends.{WritesOnly, Ran}
 use Rattle.frz_answer.proofs.Lemmas.{IsStage, as_given, follows, text_came}
 
@@ -45,7 +45,7 @@ behind_lines job text end old out new took lines speaks all ran =
       rest = input;
       split = refl;
       answers = λ m i a fits free untaken answer. answer;
-      costs = λ m i a fits free untaken answer costs. record { steps = costs.steps; calls = costs.calls; asked = costs.asked };
+      costs = λ m i a fits free untaken answer costs. costs;
     })
     ran
 
@@ -55,7 +55,7 @@ pub record Beginning (job : Job) (text : List ℕ) (files : Files) (input : List
   pub answer : job.answers files input a
   pub rest : List ℕ
   pub begins : text ++ rest ≡ a.text
-  pub costs : WithinCosts (job.costs files input a) old mid
+  pub costs : job.costs files input a (spent old) (spent mid)
 
 drop_none : (o : Option (List ℕ)) → o ≡ option_map (drop 0) o
 drop_none None = refl
@@ -92,7 +92,7 @@ cut_within job text old mid out none quiet failed begun = record {
             left = (0, omega arith, quiet.left ∙ drop_none old.input.left);
           };
         };
-        costs = record { steps = here.costs.steps; calls = here.costs.calls; asked = here.costs.asked };
+        costs = here.costs;
       };
 } where
   only_quiet : (writes : Option (List ℕ)) → writes ≡ None → WritesOnly writes old.store mid.store

@@ -14,9 +14,9 @@ use Rattle.frz_table.specs.Opening.{Contents, contents_of, opened, Refuses, kept
 use Rattle.frz_table.specs.Tables.{Table}
 use Rattle.frz_check.specs.Kept.{kept_codes}
 use Rattle.frz_answer.specs.Statuses.{OneOf}
-use Rattle.frz_answer.specs.World.{World, Agrees}
+use Rattle.frz_answer.specs.World.{World, Agrees, spent}
 use Rattle.frz_answer.specs.Answers.{Answer, says, SomeAnswer}
-use Rattle.frz_answer.specs.Jobs.{Job, WithinCosts}
+use Rattle.frz_answer.specs.Jobs.{Job}
 use Rattle.frz_answer.proofs.Lemmas.{IsStage, as_given}
 use Rattle.frz_prelude.specs.Refusals.{status_of, refusal_line}
 use Rattle.frz_prelude.specs.Stops.{stop_of_table}
@@ -94,7 +94,7 @@ stops_by job m i old new x refused begun NoMemory e = begun
 module _ (there : LineThere) (name : List ℕ) (side : Colour) (p : Board) (m : Files) (i : List ℕ) (old new : World) (agrees : Agrees old m i)
     (asked : new.store.asked ≤ old.store.asked + (16 + length (kept_text (bytes_at m name))))
     (calls : new.store.calls ≤ old.store.calls + opening_calls (table_format Plain) (m name)) (steps : new.steps ≡ old.steps) where
-  within : (a : Answer) → WithinCosts ((lining_at name side p).costs m i a) old new
+  within : (a : Answer) → (lining_at name side p).costs m i a (spent old) (spent new)
   within a =
       opening_within (opened (table_format Plain) (m name)) (opening_calls (table_format Plain) (m name)) (16 + length (kept_text (bytes_at m name))) (plies_in a.text) old new steps calls asked
 

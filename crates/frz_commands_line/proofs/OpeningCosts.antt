@@ -9,7 +9,7 @@ use Rattle.frz_table.specs.declared.kind.FileKind.TheVariants.{Plain}
 use Rattle.frz_table.specs.Opening.{Contents, opened, opening_calls, table_format}
 use Rattle.frz_table.specs.Possible.{MayHold, MayRefuse}
 use Rattle.frz_table.proofs.Lemmas.{opened_calls}
-use Rattle.frz_answer.specs.World.{World}
+use Rattle.frz_answer.specs.World.{World, spent}
 use Rattle.frz_answer.specs.Jobs.{WithinCosts}
 use Rattle.frz_prelude.proofs.Lemmas.{opened_missing}
 use Rattle.frz_commands_line.specs.Lining.{playing_costs, costs_by}
@@ -17,7 +17,7 @@ use Rattle.frz_commands_line.proofs.Seen.{of_told}
 
 -- opening alone is within the costs
 pub opening_within : (x : Result Contents TableFault) (calls asked plies : ℕ) (old new : World) → new.steps ≡ old.steps → new.store.calls ≤ old.store.calls + calls
-    → new.store.asked ≤ old.store.asked + asked → WithinCosts (costs_by x calls asked plies) old new
+    → new.store.asked ≤ old.store.asked + asked → WithinCosts (costs_by x calls asked plies) (spent old) (spent new)
 opening_within (Ok contents) calls asked plies old new steps few bytes = record { steps = omega (arith, steps); calls = omega (arith, few); asked = omega (arith, bytes) }
 opening_within (Err fault) calls asked plies old new steps few bytes = record { steps = omega (arith, steps); calls = omega (arith, few); asked = omega (arith, bytes) }
 
@@ -28,14 +28,14 @@ opened_by_five (Some bytes) contents e = opened_calls (table_format Plain) bytes
 
 -- opening and playing are within the costs
 pub playing_within : (held : Option (List ℕ)) (contents : Contents) (asked plies : ℕ) (old mid new : World) → opened (table_format Plain) held ≡ Ok contents
-    → mid.steps ≡ old.steps → mid.store.calls ≤ old.store.calls + 5 → mid.store.asked ≤ old.store.asked + asked → WithinCosts (playing_costs 0 0 plies) mid new
-    → WithinCosts (costs_by (opened (table_format Plain) held) (opening_calls (table_format Plain) held) asked plies) old new
+    → mid.steps ≡ old.steps → mid.store.calls ≤ old.store.calls + 5 → mid.store.asked ≤ old.store.asked + asked → WithinCosts (playing_costs 0 0 plies) (spent mid) (spent new)
+    → WithinCosts (costs_by (opened (table_format Plain) held) (opening_calls (table_format Plain) held) asked plies) (spent old) (spent new)
 playing_within held contents asked plies old mid new e steps few bytes costs =
     let five = opened_by_five held contents e in
     let s = costs.steps in
     let c = costs.calls in
     let a = costs.asked in
-    subst (λ (x : Result Contents TableFault). WithinCosts (costs_by x (opening_calls (table_format Plain) held) asked plies) old new) (sym e)
+    subst (λ (x : Result Contents TableFault). WithinCosts (costs_by x (opening_calls (table_format Plain) held) asked plies) (spent old) (spent new)) (sym e)
     (record { steps = omega (arith, steps, s); calls = omega (arith, five, few, c); asked = omega (arith, bytes, a) })
 
 tells : (told : Option Files) (name : List ℕ) (held : Option (List ℕ)) → MayHold told name held → IfSome told (λ m. m name ≡ held)

@@ -14,9 +14,9 @@ use Rattle.frz_answer.specs.declared.end.End.{End}
 use Rattle.frz_answer.specs.declared.end.End.TheVariants.{Stopped, SinkFault}
 use Rattle.frz_answer.specs.Statuses.{OneOf}
 use Rattle.frz_answer.specs.Texts.{TookText, FailedWithin}
-use Rattle.frz_answer.specs.World.{World, world, Agrees, Quiet}
+use Rattle.frz_answer.specs.World.{World, world, Agrees, Quiet, spent}
 use Rattle.frz_answer.specs.Answers.{Answer, says, IsLines}
-use Rattle.frz_answer.specs.Jobs.{Job, WithinCosts}
+use Rattle.frz_answer.specs.Jobs.{Job}
 use Rattle.frz_answer.specs.Ends.{MayMeet, Ran, Said}
 use Rattle.frz_answer.proofs.Lemmas.{as_given, fine_store, said, stopped}
 use Rattle.frz_prelude.specs.Refusals.{status_of, refusal_line}
@@ -73,7 +73,7 @@ module _ (there : LineThere) (table : Table) (side : Colour) (p : Board) (store 
 
   -- so much was asked for
   asked_costs : (text : List ℕ) (result : Result LineEnd LineFault) (m : Files) (i : List ℕ) (so : Line text result m) (a : Answer) (w : SinkTold)
-      → a.text ≡ told_text side (code_in m) so.plies (told side so.end) → WithinCosts (job.costs m i a) old (world left input w now)
+      → a.text ≡ told_text side (code_in m) so.plies (told side so.end) → job.costs m i a (spent old) (spent (world left input w now))
   asked_costs text result m i so a w e =
       let few = plies_told side (code_in m) so.plies so.end in
       let same = ap plies_in e in

@@ -15,9 +15,9 @@ use Rattle.frz_answer.specs.declared.end.End.{End}
 use Rattle.frz_answer.specs.declared.end.End.TheVariants.{Stopped, SinkFault}
 use Rattle.frz_answer.specs.Statuses.{OneOf}
 use Rattle.frz_answer.specs.Texts.{TookText, FailedWithin}
-use Rattle.frz_answer.specs.World.{World, world, Quiet, Came}
+use Rattle.frz_answer.specs.World.{World, world, Quiet, Came, spent}
 use Rattle.frz_answer.specs.Answers.{Answer, says, behind, IsLines}
-use Rattle.frz_answer.specs.Jobs.{Job, WithinCosts}
+use Rattle.frz_answer.specs.Jobs.{Job}
 use Rattle.frz_answer.specs.Ends.{MayMeet, Ran, Said}
 use Rattle.frz_answer.proofs.Lemmas.{as_given, fine_same, quiet_same, said, stopped}
 use Rattle.frz_prelude.specs.Refusals.{status_of, refusal_line}
@@ -126,7 +126,7 @@ module _ (there : SessionThere) (table : Table) (side : Colour) (p : Board) (sto
 
     -- so much was asked for
     asked_costs : (result : Result SessionEnd PlayFault) (m : Files) (i : List ℕ) (so : Session result m) (answer : Result SessionEnd PlayFault) (a : Answer) (here there : SourceTold) (first last : SinkTold)
-        → a.text ≡ played_text side (code_in m) so.plies so.end answer → WithinCosts (job.costs m i a) (world store here first before) (world left there last now)
+        → a.text ≡ played_text side (code_in m) so.plies so.end answer → job.costs m i a (spent (world store here first before)) (spent (world left there last now))
     asked_costs result m i so answer a here there first last e =
         let few = plies_played side (code_in m) so.plies so.end answer in
         let same = ap plies_of e in

@@ -10,9 +10,9 @@ use Rattle.frz_answer.specs.declared.end.End.{End}
 use Rattle.frz_answer.specs.declared.end.End.TheVariants.{SinkFault}
 use Rattle.frz_answer.specs.Statuses.{subset}
 use Rattle.frz_answer.specs.Texts.{FailedWithin}
-use Rattle.frz_answer.specs.World.{World, Came, Later}
+use Rattle.frz_answer.specs.World.{World, Came, Later, spent}
 use Rattle.frz_answer.specs.Answers.{Answer, behind, held, IsLines}
-use Rattle.frz_answer.specs.Jobs.{Job, Sees, WithinCosts}
+use Rattle.frz_answer.specs.Jobs.{Job, Sees}
 use Rattle.frz_answer.specs.Ends.{WritesOnly, Ran}
 use Rattle.frz_answer.proofs.Lemmas.{IsStage, Found, follows}
 use Rattle.frz_store.specs.Told.{Unwritten}
@@ -61,7 +61,7 @@ found_in job files free old input takes there may = record {
 -- the rest was done behind these lines and bytes
 pub after_lines : (job : Job) (text bytes : List ℕ) (end : End) (old mid new : World) → Came text bytes old mid → IsLines text → IsTrue job.speaks → IsTrue job.needs.input
     → subset job.statuses job.statuses ≡ true → (Sees job.needs.reads old → (files : Files) → IfSome old.store.files (λ told. told ≡ files) → Split bytes old.input.left)
-    → ((m : Files) (i : List ℕ) (a : Answer) → WithinCosts ((rest_after job text bytes).costs m i a) mid new → WithinCosts (job.costs m (bytes ++ i) (behind text (length bytes) a)) old new)
+    → ((m : Files) (i : List ℕ) (a : Answer) → (rest_after job text bytes).costs m i a (spent mid) (spent new) → job.costs m (bytes ++ i) (behind text (length bytes) a) (spent old) (spent new))
     → Ran (rest_after job text bytes) end mid new → Ran job end old new
 after_lines job text bytes end old mid new came lines speaks takes all split costs ran =
     follows (rest_after job text bytes) job text bytes old mid new came lines speaks (is_rest job text bytes all) end
@@ -91,7 +91,7 @@ pub record Begins (job : Job) (text bytes : List ℕ) (files : Files) (old mid :
   pub rest : List ℕ
   pub begins : text ++ rest ≡ a.text
   pub few : length bytes ≤ a.taken
-  pub costs : WithinCosts (job.costs files input a) old mid
+  pub costs : job.costs files input a (spent old) (spent mid)
 
 -- the sink failed within the lines
 pub cut_after : (job : Job) (text bytes : List ℕ) (old mid : World) (out : SinkTold) → job.writes ≡ None → IsTrue job.needs.input
@@ -126,7 +126,7 @@ cut_after job text bytes old mid out none takes later same left failed begun = r
             left = (length bytes, here.few, left);
           };
         };
-        costs = record { steps = here.costs.steps; calls = here.costs.calls; asked = here.costs.asked };
+        costs = here.costs;
       };
 } where
   only_quiet : (writes : Option (List ℕ)) → writes ≡ None → WritesOnly writes old.store mid.store

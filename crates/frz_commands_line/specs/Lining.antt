@@ -10,7 +10,7 @@ use Rattle.frz_table.specs.Opening.{Contents, contents_of, opened, opening_calls
 use Rattle.frz_table.specs.Possible.{held_text}
 use Rattle.frz_table.specs.Tables.{Table as OpenTable}
 use Rattle.frz_answer.specs.declared.status.Status.TheVariants.{Success, Wrong, Table, Outside, Missing}
-use Rattle.frz_answer.specs.Jobs.{Job, Needs, Costs, Again, plain}
+use Rattle.frz_answer.specs.Jobs.{Job, Needs, Costs, Again, plain, WithinCosts}
 use Rattle.frz_answer.specs.Words.{taking, three_words_of}
 use Rattle.frz_prelude.specs.Positions.{on_position}
 use Rattle.frz_line.specs.declared.reading.TheConstants.{MOST_ASKED, MOST_READ}
@@ -49,7 +49,7 @@ lining_in table side p =
     (λ files input a. IsLinedIn (contents_of table) (bytes_at files table.name) side p files a)) {
       needs = playing_needs;
       speaks = true;
-      costs = λ files input a. playing_costs 0 0 (plies_in a.text);
+      costs = λ files input a. WithinCosts (playing_costs 0 0 (plies_in a.text));
     }
 
 -- by the table of this name
@@ -60,7 +60,7 @@ lining_at table side p =
       means = λ files input a. MeansLine table side p files a;
       needs = playing_needs;
       speaks = true;
-      costs = λ files input a. costs_at (files table) (plies_in a.text);
+      costs = λ files input a. WithinCosts (costs_at (files table) (plies_in a.text));
     }
 
 -- line TABLE FEN SIDE

@@ -7,7 +7,7 @@ use Rattle.frz_store.specs.Files.{bytes_at}
 use Rattle.frz_table.specs.Opening.{contents_of}
 use Rattle.frz_table.specs.Tables.{Table as OpenTable}
 use Rattle.frz_answer.specs.declared.status.Status.TheVariants.{Success, Wrong, Table, Outside, Missing, Limit}
-use Rattle.frz_answer.specs.Jobs.{Job, Needs, plain}
+use Rattle.frz_answer.specs.Jobs.{Job, Needs, plain, WithinCosts}
 use Rattle.frz_answer.specs.Words.{taking, three_words_of}
 use Rattle.frz_prelude.specs.Positions.{on_position}
 use Rattle.frz_commands_line.specs.Lining.{playing_needs, playing_costs, costs_at}
@@ -25,7 +25,7 @@ playing_in table side p =
     (λ files input a. IsPlayedIn (contents_of table) (bytes_at files table.name) side p files input a)) {
       needs = session_needs;
       speaks = true;
-      costs = λ files input a. playing_costs 0 0 (plies_of a.text);
+      costs = λ files input a. WithinCosts (playing_costs 0 0 (plies_of a.text));
     }
 
 -- by the table of this name
@@ -36,7 +36,7 @@ playing_at table side p =
       means = λ files input a. MeansPlay table side p files input a;
       needs = session_needs;
       speaks = true;
-      costs = λ files input a. costs_at (files table) (plies_of a.text);
+      costs = λ files input a. WithinCosts (costs_at (files table) (plies_of a.text));
     }
 
 -- play TABLE FEN SIDE

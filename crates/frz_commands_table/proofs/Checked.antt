@@ -26,7 +26,7 @@ use Rattle.frz_answer.specs.Answers.{Answer, says, SomeAnswer}
 use Rattle.frz_answer.specs.Jobs.{WithinCosts}
 use Rattle.frz_answer.specs.Lawful.{HasOneAnswer, IsLawful}
 use Rattle.frz_answer.specs.Words.{one_word_of}
-use Rattle.frz_answer.specs.World.{World, world, Agrees, Quiet}
+use Rattle.frz_answer.specs.World.{World, world, Agrees, Quiet, spent}
 use Rattle.frz_answer.proofs.Lemmas.{SaysAll, taking_lawful}
 use Rattle.frz_prelude.specs.Refusals.{status_of, table_status}
 use Rattle.frz_prelude.specs.Stops.{stop_of_table}
@@ -103,7 +103,7 @@ check_lawful words = taking_lawful checking_at (one_word_of words) checking_lawf
 
 -- what was spent is within the costs of the file
 within_costs : (held : Option (List ℕ)) (old new : World) → WithinFile held old.store new.store old.steps new.steps
-    → WithinCosts (checking_costs held) old new
+    → WithinCosts (checking_costs held) (spent old) (spent new)
 within_costs held old new h = record { steps = h.steps; calls = h.calls; asked = h.asked }
 
 pub same_held : (told : Option Files) (name : List ℕ) (held : Option (List ℕ)) → MayHold told name held → IfSome told (λ m. m name ≡ held)
@@ -119,7 +119,7 @@ module _ (table : List ℕ) (files : Files) (input : List ℕ) (old new : World)
       let at = holding old.store.files table held (same_held old.store.files table held may) in record {
         found = found_where (checking_at table) at.files files input old (λ e. cc) at.agrees agrees;
         answer = subst (λ (h : Option (List ℕ)). IsCheckedBy (opened (table_format Plain) h) (unwrap_or h []) at.files (says status line at.files)) (sym at.holds) (answer at.files);
-        costs = subst (λ (h : Option (List ℕ)). WithinCosts (checking_costs h) old new) (sym at.holds) (within_costs held old new within);
+        costs = subst (λ (h : Option (List ℕ)). WithinCosts (checking_costs h) (spent old) (spent new)) (sym at.holds) (within_costs held old new within);
       }
 
   -- the verdict was told
@@ -148,7 +148,7 @@ module _ (table : List ℕ) (files : Files) (input : List ℕ) (old new : World)
       let at = holding old.store.files table h.held (same_held old.store.files table h.held h.may) in record {
         found = found_where (checking_at table) at.files files input old (λ e. cc) at.agrees agrees;
         some = some_at table at.files;
-        costs = subst (λ (x : Option (List ℕ)). WithinCosts (checking_costs x) old new) (sym at.holds) (within_costs h.held old new h.within);
+        costs = subst (λ (x : Option (List ℕ)). WithinCosts (checking_costs x) (spent old) (spent new)) (sym at.holds) (within_costs h.held old new h.within);
       }
 
   pub stopped_so : (fault : TableFault) → RefusesFile table old.store new.store old.steps new.steps fault

@@ -20,7 +20,7 @@ use Rattle.frz_answer.specs.declared.status.Status.TheVariants.{Success, Table, 
 use Rattle.frz_answer.specs.Statuses.{OneOf}
 use Rattle.frz_answer.specs.Answers.{Answer, says}
 use Rattle.frz_answer.specs.Jobs.{WithinCosts}
-use Rattle.frz_answer.specs.World.{World, Agrees}
+use Rattle.frz_answer.specs.World.{World, Agrees, spent}
 use Rattle.frz_answer.proofs.Lemmas.{IsStage, SaysAll}
 use Rattle.frz_prelude.specs.Refusals.{status_of, table_status}
 use Rattle.frz_prelude.specs.Stops.{stop_of_table}
@@ -100,7 +100,7 @@ module _ (old new : List ℕ) where
   -- what is spent in all
   costs_on : (held : Option (List ℕ)) (contents : Contents) (size : ℕ) (before mid now : World) → opened old_format held ≡ Ok contents
       → size ≡ size_of contents.rules.groups → WithinFormer held before.store mid.store → mid.steps ≡ before.steps
-      → WithinCosts (record { steps = Some 0; calls = Some (writing_calls size); asked = Some 0 }) mid now → WithinCosts (migrating_costs held) before now
+      → WithinCosts (record { steps = Some 0; calls = Some (writing_calls size); asked = Some 0 }) (spent mid) (spent now) → WithinCosts (migrating_costs held) (spent before) (spent now)
   costs_on held contents size before mid now opens sized within same costs =
       let former : ℕ = former_size (opened old_format held) in
       let due : moving_calls (opened old_format held) ≡ 2 * pieces_of (old_size_of contents.rules.groups) + writing_calls (size_of contents.rules.groups) =
@@ -119,10 +119,10 @@ module _ (old new : List ℕ) where
 
   pub costs_at : (m : Files) (bytes : List ℕ) (contents : Contents) (size : ℕ) (before mid now : World) → m old ≡ Some bytes
       → opened old_format (Some bytes) ≡ Ok contents → size ≡ size_of contents.rules.groups → WithinFormer (Some bytes) before.store mid.store
-      → mid.steps ≡ before.steps → WithinCosts (record { steps = Some 0; calls = Some (writing_calls size); asked = Some 0 }) mid now
-      → WithinCosts (migrating_costs (m old)) before now
+      → mid.steps ≡ before.steps → WithinCosts (record { steps = Some 0; calls = Some (writing_calls size); asked = Some 0 }) (spent mid) (spent now)
+      → WithinCosts (migrating_costs (m old)) (spent before) (spent now)
   costs_at m bytes contents size before mid now holds opens sized within same costs =
-      subst (λ (o : Option (List ℕ)). WithinCosts (migrating_costs o) before now) (sym holds)
+      subst (λ (o : Option (List ℕ)). WithinCosts (migrating_costs o) (spent before) (spent now)) (sym holds)
       (costs_on (Some bytes) contents size before mid now opens sized within same costs)
 
   -- what is spent where nothing is written
@@ -134,7 +134,7 @@ module _ (old new : List ℕ) where
   refused_calls (Err fault) = omega arith
 
   unwritten_costs : (held : Option (List ℕ)) (before mid : World) → WithinFormer held before.store mid.store → mid.steps ≡ before.steps
-      → WithinCosts (migrating_costs held) before mid
+      → WithinCosts (migrating_costs held) (spent before) (spent mid)
   unwritten_costs held before mid within same =
       let few = refused_calls (opened old_format held) in
       record {
@@ -154,7 +154,7 @@ module _ (old new : List ℕ) where
         let at = holds_old old h.held before.store mid.store h.may h.within in record {
           found = found_where (migrating_at old new) at.files files input before (λ e. cc) at.agrees agrees;
           answer = answer_of h.held (Err fault) at.files (says (table_status fault) (table_line fault) at.files) at.holds e refl;
-          costs = subst (λ (o : Option (List ℕ)). WithinCosts (migrating_costs o) before mid) (sym at.holds) (unwritten_costs h.held before mid h.within steps);
+          costs = subst (λ (o : Option (List ℕ)). WithinCosts (migrating_costs o) (spent before) (spent mid)) (sym at.holds) (unwritten_costs h.held before mid h.within steps);
         }
 
     begun_so : (fault : TableFault) → (h : RefusesFormer old before.store mid.store fault)
@@ -163,7 +163,7 @@ module _ (old new : List ℕ) where
         let at = holds_old old h.held before.store mid.store h.may h.within in record {
           found = found_where (migrating_at old new) at.files files input before (λ e. cc) at.agrees agrees;
           some = some_migrated_at old new at.files;
-          costs = subst (λ (o : Option (List ℕ)). WithinCosts (migrating_costs o) before mid) (sym at.holds) (unwritten_costs h.held before mid h.within steps);
+          costs = subst (λ (o : Option (List ℕ)). WithinCosts (migrating_costs o) (spent before) (spent mid)) (sym at.holds) (unwritten_costs h.held before mid h.within steps);
         }
 
     pub stopped_so : (fault : TableFault) → RefusesFormer old before.store mid.store fault

@@ -5,7 +5,7 @@ use Rattle.frz_store.specs.Files.{Files, put}
 use Rattle.frz_answer.specs.declared.status.Status.{Status}
 use Rattle.frz_answer.specs.declared.status.Status.TheVariants.{Success, Rules, Missing}
 use Rattle.frz_answer.specs.Answers.{Answer}
-use Rattle.frz_answer.specs.Jobs.{Job, Once, plain}
+use Rattle.frz_answer.specs.Jobs.{Job, Once, plain, WithinCosts}
 use Rattle.frz_answer.specs.Words.{taking, two_words_of, unless}
 use Rattle.frz_prelude.specs.Causes.{rules_line}
 use Rattle.frz_prelude.specs.RulesFiles.{asked_of, reads_of, rules_held}
@@ -64,11 +64,11 @@ building_at rules table = record (plain (Success ∷ Rules ∷ Missing ∷ [])
       means = λ files input a. MeansBuild rules table files a;
       needs = record { store = true; reads = Once; input = false; memory = true };
       writes = Some table;
-      costs = λ files input a. record {
+      costs = λ files input a. WithinCosts (record {
         steps = Some (steps_by (rules_held (files rules)));
         calls = Some (1 + reads_of (files rules) + calls_by (rules_held (files rules)));
         asked = Some (asked_of (files rules));
-      };
+      });
     }
 
 -- build RULES TABLE

@@ -3,7 +3,7 @@ use Rattle.std.specs.Prelude.{◌≡◌, ℕ, ◌*◌, List, [], ◌∷◌, ◌+
 use Rattle.frz_store.specs.Files.{Files, put}
 use Rattle.frz_answer.specs.declared.status.Status.TheVariants.{Success, Rules, Missing}
 use Rattle.frz_answer.specs.Answers.{Answer, says}
-use Rattle.frz_answer.specs.Jobs.{Job, plain, nothing}
+use Rattle.frz_answer.specs.Jobs.{Job, plain, nothing, WithinCosts}
 use Rattle.frz_prelude.specs.Causes.{rules_line}
 use Rattle.frz_prelude.specs.declared.refused.Refused.{Refused}
 use Rattle.frz_sets.specs.Views.{RuleLines}
@@ -42,11 +42,11 @@ abbrev pub building_by : List ℕ → RuleLines → List ℕ → Job
 building_by text r table = record (plain (Success ∷ []) (λ files input a. IsBuiltBy text r table files a)) {
   needs = record nothing { store = true; memory = true };
   writes = Some table;
-  costs = λ files input a. record {
+  costs = λ files input a. WithinCosts (record {
     steps = Some (4 * size_of r.groups);
     calls = Some (writing_calls (size_of r.groups));
     asked = Some 0;
-  };
+  });
 }
 
 -- what the rules of a name cost, and nothing where it has none

@@ -16,7 +16,7 @@ use Rattle.frz_check.specs.Verdicts.{IsFirstWrong}
 use Rattle.frz_answer.specs.declared.status.Status.{Status}
 use Rattle.frz_answer.specs.declared.status.Status.TheVariants as statuses
 use Rattle.frz_answer.specs.Answers.{Answer}
-use Rattle.frz_answer.specs.Jobs.{Job, Once, plain}
+use Rattle.frz_answer.specs.Jobs.{Job, Once, plain, WithinCosts}
 use Rattle.frz_answer.specs.Words.{taking, one_word_of}
 use Rattle.frz_prelude.specs.TableFiles.{OpensAs, TellsTableFault}
 use Rattle.frz_prelude.specs.WrongLines.{wrong_line}
@@ -69,7 +69,7 @@ checking_at table = record (plain (statuses.Success ∷ statuses.Wrong ∷ statu
     (λ files input a. IsCheckedAt table files a)) {
       means = λ files input a. MeansCheck table files a;
       needs = record { store = true; reads = Once; input = false; memory = true };
-      costs = λ files input a. checking_costs (files table);
+      costs = λ files input a. WithinCosts (checking_costs (files table));
     }
 
 -- check TABLE

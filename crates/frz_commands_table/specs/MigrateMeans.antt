@@ -25,7 +25,7 @@ use Rattle.frz_check.specs.OneFile.{IsOneFile}
 use Rattle.frz_answer.specs.declared.status.Status.{Status}
 use Rattle.frz_answer.specs.declared.status.Status.TheVariants.{Success, Table, Missing}
 use Rattle.frz_answer.specs.Answers.{Answer}
-use Rattle.frz_answer.specs.Jobs.{Job, Once, plain}
+use Rattle.frz_answer.specs.Jobs.{Job, Once, plain, WithinCosts}
 use Rattle.frz_answer.specs.Words.{taking, two_words_of, unless}
 use Rattle.frz_prelude.specs.TableCauses.{table_line}
 use Rattle.frz_commands_table.specs.Migrated.{IsMigrated}
@@ -103,7 +103,7 @@ migrating_at old new = record (plain (Success ∷ Table ∷ Missing ∷ []) (λ 
   means = λ files input a. MeansMigrate old new files a;
   needs = record { store = true; reads = Once; input = false; memory = true };
   writes = Some new;
-  costs = λ files input a. migrating_costs (files old);
+  costs = λ files input a. WithinCosts (migrating_costs (files old));
 }
 
 -- migrate OLD NEW

@@ -12,7 +12,7 @@ use Rattle.frz_table.specs.Possible.{held_text}
 use Rattle.frz_build.specs.Building.{writing_calls}
 use Rattle.frz_answer.specs.declared.status.Status.TheVariants.{Success}
 use Rattle.frz_answer.specs.Answers.{Answer, says}
-use Rattle.frz_answer.specs.Jobs.{Costs, Job, nothing, plain}
+use Rattle.frz_answer.specs.Jobs.{Costs, Job, nothing, plain, WithinCosts}
 use Rattle.frz_prelude.specs.Refusals.{table_status}
 use Rattle.frz_prelude.specs.TableCauses.{table_line}
 use Rattle.frz_commands_table.specs.Migrated.{IsMigrated}
@@ -44,7 +44,11 @@ writing_new text size white black name =
     a ≡ says Success (migrated_line size) (put files name (file_of (magic_of Plain) text size white black)))) {
       needs = record nothing { store = true; memory = true };
       writes = Some name;
-      costs = λ files input a. record { steps = Some 0; calls = Some (writing_calls size); asked = Some 0 };
+      costs = λ files input a. WithinCosts (record {
+        steps = Some 0;
+        calls = Some (writing_calls size);
+        asked = Some 0;
+      });
     }
 
 -- where the file opens, each side's codes are read in pieces, and the new file is written

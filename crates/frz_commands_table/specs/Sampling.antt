@@ -4,7 +4,7 @@ use Rattle.std.specs.List.{count_by, fold}
 use Rattle.frz_store.specs.Files.{Files}
 use Rattle.frz_answer.specs.declared.status.Status.TheVariants.{Success, Words}
 use Rattle.frz_answer.specs.Answers.{Answer, says}
-use Rattle.frz_answer.specs.Jobs.{Job, plain, nothing, steps_alone}
+use Rattle.frz_answer.specs.Jobs.{Job, plain, nothing, steps_alone, WithinCosts}
 use Rattle.frz_answer.specs.Words.{taking, one_word_of}
 use Rattle.frz_board.specs.declared.man.Colour.{Colour}
 use Rattle.frz_board.specs.declared.man.Colour.TheVariants.{White, Black}
@@ -84,7 +84,7 @@ IsSampled k files a = (r : RuleLines) × (rules_of (sample_text k) ≡ Ok r) × 
 abbrev pub sampling : ℕ → Job
 sampling k = record (plain (Success ∷ []) (λ files input a. IsSampled k files a)) {
   needs = record nothing { memory = true };
-  costs = λ files input a. steps_alone (Some (5 * sample_size));
+  costs = λ files input a. WithinCosts (steps_alone (Some (5 * sample_size)));
 }
 
 -- the line that refuses a word that is no number of a square

@@ -1,6 +1,6 @@
 use Rattle.std.proofs.Common.{refl, ap, ◌∙◌, length}
 use Rattle.frz_store.specs.Files.{Files}
-use Rattle.frz_store.specs.Told.{store_of}
+use Rattle.frz_store.specs.Told.{sink_of, store_of}
 use Rattle.frz_table.specs.OldFiles.{old_contents_of, old_format}
 use Rattle.frz_table.proofs.Lemmas.{belongs}
 use Rattle.frz_answer.specs.World.{world}
@@ -25,6 +25,10 @@ returns-in-Ok g c = λ input steps.
     let new = c.args.new.now in
     let moved = c.in-Ok.moved in
     let h = e.moved in
+    let out = sink_of g.O.Sink c.args.out.now in
+    let before = world (store_of g.S.Store c.args.store.now) input out steps in
+    let mid = world (store_of g.S.Store c.move_file.new.store) input out steps in
+    let now = world (store_of g.S.Store c.write_new.new.store) input (sink_of g.O.Sink c.write_new.new.out) steps in
     let at = holds_old old _ (store_of g.S.Store c.args.store.now) (store_of g.S.Store c.move_file.new.store) h.may h.within in
     through (writing_new moved.file.text (length moved.white.items) moved.white.items moved.black.items new) (migrating_at old new) _ _ _
     (quiet_store _ _ _ _ _ e.quiet) (fine_store _ _ _ _ _ _ (record { faults = e.causes.fine; wants = e.causes.wants_fine }))
@@ -33,7 +37,7 @@ returns-in-Ok g c = λ input steps.
       found = found_where (migrating_at old new) at.files files left _ (λ e. cc) at.agrees agrees;
       answers = λ m i a fits same untaken told. moved_answer old new _ _ moved h m a (ap (λ (f : Files). f old) (same refl) ∙ at.holds) told;
       costs = λ m i a fits same untaken told costs.
-          costs_at old new m h.bytes (old_contents_of moved.file) (length moved.white.items) _ _ _ (ap (λ (f : Files). f old) (same refl) ∙ at.holds)
+          costs_at old new m h.bytes (old_contents_of moved.file) (length moved.white.items) before mid now (ap (λ (f : Files). f old) (same refl) ∙ at.holds)
           h.opens h.white_moved.many h.within refl costs;
     })
     (c.write_new.ensures input steps)
