@@ -1,0 +1,24 @@
+//! Stores in memory that hold files.
+ghost use Rattle.std.specs.Prelude.{◌≡◌, fold, Some, IfOk};
+ghost use Rattle.frz_store.specs.Files.{no_files, put};
+
+use frz_store::{Fail as Failing, MemStore, Store};
+use std::alloc::Global;
+use std::test::Fail;
+
+/// A store whose calls fail so and that holds these files, each a name and its bytes.
+pub fn store_with(
+    alloc: Global,
+    fails: Vec<Failing>,
+    files: &[(&str, &[u8])],
+) -> Result<MemStore, Fail>
+    ensures files { IfOk result (λ store. ⟦<MemStore as Store>⟧.files store
+        ≡ Some (fold (λ held file. put held file.0.now file.1.now) no_files files.now)) }
+    ensures room { IfOk result (λ store. ⟦<MemStore as Store>⟧.room store ≡ 0) }
+{
+    let mut store = MemStore::new(alloc, fails);
+    for (name, bytes) in files {
+        store.put(name, bytes)?;
+    }
+    Ok(store)
+}
