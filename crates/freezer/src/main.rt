@@ -1,11 +1,14 @@
 //! The program `freezer`: it makes the real objects and calls the top call over them.
 #![tactic(auto)]
 
-ghost use Rattle.std.specs.Prelude.{◌≡◌, ◌<◌, ℕ, map, false};
+ghost use Rattle.std.specs.Prelude.{◌≡◌, ◌<◌, ℕ, map, drop, false, IfOk, IfErr, MatchResult};
+ghost use Rattle.std.specs.IoError.{error_kind};
 ghost use Rattle.std.specs.String.{string_bytes};
+ghost use Rattle.std.specs.Vec.Iter.{into_iter_items};
 ghost use Rattle.frz_answer.specs.World.{world_of};
 ghost use Rattle.frz_answer.specs.Outcomes.{Outcome};
 ghost use Rattle.freezer.specs.Commands.{job_of};
+ghost use Rattle.freezer.specs.NoWords.{no_words_code, reason_of};
 
 pub mod laws;
 pub mod sure;
@@ -18,7 +21,8 @@ use crate::top::freezer;
 use frz_answer::{Fault, Status};
 use frz_steps::Steps;
 use frz_store::{DiskStore, InputSource, OutputSink, Sink, Source, Store};
-use std::alloc::Global;
+use std::alloc::{AllocError, Global};
+use std::env::Args;
 use std::io::ErrorKind;
 use std::marker::Brand;
 use std::process::ExitCode;
@@ -33,7 +37,9 @@ enum NoWords {
 }
 
 impl NoWords {
-    fn code(&self) -> u8 {
+    fn code(&self) -> u8
+        ensures { result ≡ no_words_code self.now }
+    {
         match self {
             NoWords::NotText => Status::Words.code(),
             NoWords::NoMemory => Fault::NoMemory.code(),
@@ -42,7 +48,9 @@ impl NoWords {
 }
 
 /// Why the runtime gave no words: where it had memory, one of them is no text.
-fn why_none(fault: &io::Error) -> NoWords {
+fn why_none(fault: &io::Error) -> NoWords
+    ensures { result ≡ reason_of (error_kind fault.now) }
+{
     match fault.kind() {
         ErrorKind::OutOfMemory => NoWords::NoMemory,
         _ => NoWords::NotText,
@@ -50,26 +58,31 @@ fn why_none(fault: &io::Error) -> NoWords {
 }
 
 /// The words after the program's name.
-fn collect(rt: &HostRuntime) -> Result<Vec<String>, NoWords> {
-    let args = match env::args(rt) {
-        Ok(args) => args,
-        Err(fault) => return Err(why_none(&fault)),
-    };
-    let mut words = Vec::new(rt.alloc());
-    for word in args.skip(1) {
-        if words.push(word).is_err() {
-            return Err(NoWords::NoMemory);
-        }
+fn behind_name(alloc: Global, args: Args) -> Result<Vec<String>, AllocError>
+    ensures { IfOk result (λ words. words.items ≡ drop 1 (into_iter_items args)) }
+{
+    args.skip(1).collect(alloc)
+}
+
+/// The words after the program's name, of what the runtime gave.
+fn collect(alloc: Global, given: io::Result<Args>) -> Result<Vec<String>, NoWords>
+    ensures words { IfOk given (λ args. MatchResult result
+        (λ words. words.items ≡ drop 1 (into_iter_items args))
+        (λ why. why ≡ NoWords.NoMemory)) }
+    ensures none { IfErr given (λ fault. result ≡ Err (reason_of (error_kind fault))) }
+{
+    match given {
+        Ok(args) => behind_name(alloc, args).or(Err(NoWords::NoMemory)),
+        Err(fault) => Err(why_none(&fault)),
     }
-    Ok(words)
 }
 
 fn main(rt: HostRuntime) -> ExitCode {
-    let words = match collect(&rt) {
+    let alloc = rt.alloc();
+    let words = match collect(alloc, env::args(&rt)) {
         Ok(words) => words,
         Err(why) => return ExitCode::from(why.code()),
     };
-    let alloc = rt.alloc();
     let mut input = InputSource::new(rt.stdin());
     let mut out = OutputSink::new(rt.stdout());
     let mut store = DiskStore::new(rt);
