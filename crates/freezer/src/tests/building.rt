@@ -223,7 +223,7 @@ fn builds_the_file_where_only_the_line_is_not_taken(rt: HostRuntime) -> Result<(
 }
 
 /// Four blocked pawns a side: 278 bytes, 6,400 numbers.
-const BLOCKED: &[u8] =
+pub(super) const BLOCKED: &[u8] =
     b"freezer 1\ngroup white 1 K:a1-h5\ngroup black 1 K:a4-h8\ngroup white 1 P:a4\ngroup white 1 P:b3\ngroup white 1 P:c4\ngroup white 1 P:e4\ngroup black 1 P:a5\ngroup black 1 P:b4\ngroup black 1 P:c5\ngroup black 1 P:e5\nexit white holds if count:white:P:4\nexit black holds if count:black:P:4\n";
 
 /// White to move. Both sides hold, by a search of the kings' moves that was made apart from these

@@ -1,7 +1,8 @@
-//! The steps of a small table. A ledger counts them where only clauses see them: the clause says
-//! how many there are at most, and the run that the size is what the clause reckons with.
-ghost use Rattle.std.specs.Prelude.{◌≡◌, ◌≤◌, ◌<◌, ◌+◌, OnOk};
+//! The steps of small tables. A ledger counts them where only clauses see them: the clause says how
+//! many there are at most, and the run that the size is what the clause reckons with.
+ghost use Rattle.std.specs.Prelude.{◌≡◌, ◌≤◌, ◌<◌, ◌+◌, ◌*◌, ◌^◌, OnOk, length};
 
+use super::building::BLOCKED;
 use super::{RULES, no_fails};
 use frz_build::{NewTable, build_table};
 use frz_check::{Verdict, check_kept};
@@ -17,15 +18,18 @@ use std::marker::Brand;
 use std::sync::ledger::{Blank, Ledger};
 use std::test::Fail;
 
-/// Builds the table of the rook, of eight numbers, under the name `T`.
-fn build_rook<L: Ledger>(
+/// Builds the table of a text whose set has this size, under the name `T`.
+fn build_text<L: Ledger>(
     alloc: Global,
+    text: &[u8],
+    size: u32,
     store: &mut MemStore,
     steps: &mut Steps<L>,
 ) -> Result<(), Fail>
-    ensures { OnOk result (steps.new ≤ steps.old + 32) }
+    requires { length text.now < 2 ^ 32 }
+    ensures { OnOk result (steps.new ≤ steps.old + 4 * size) }
 {
-    let rules = read_rules(alloc, RULES)?;
+    let rules = read_rules(alloc, text)?;
     let set = Set::new(alloc, &rules)?;
     let game = Game {
         set: &set,
@@ -35,46 +39,67 @@ fn build_rook<L: Ledger>(
     let file = NewTable {
         name: "T",
         kind: FileKind::Plain,
-        text: RULES,
+        text,
     };
-    match build_table(alloc, &game, &file, store, steps) {
-        Ok(8) => Ok(()),
-        _ => Err(Fail::from("build")),
+    let built = build_table(alloc, &game, &file, store, steps)?;
+    if built == size {
+        Ok(())
+    } else {
+        Err(Fail::from("build"))
     }
 }
 
-/// Checks the table of the rook.
-fn check_rook<L: Ledger>(
+/// Checks the table of this size.
+fn check_built<L: Ledger>(
     alloc: Global,
+    size: u32,
     store: &mut MemStore,
     steps: &mut Steps<L>,
 ) -> Result<(), Fail>
-    ensures { OnOk result (steps.new ≤ steps.old + 8) }
+    ensures { OnOk result (steps.new ≤ steps.old + size) }
 {
     let table = open_table(alloc, store, "T")?;
-    let size = table.set().size();
+    let kept = table.set().size();
     let book = RuleBook::new(table.rules());
     let verdict = check_kept(alloc, &table, store, &book, steps)?;
-    if size == 8 && verdict == Verdict::Exact {
+    if kept == size && verdict == Verdict::Exact {
         Ok(())
     } else {
         Err(Fail::from("check"))
     }
 }
 
-fn build_and_check<L: Ledger>(alloc: Global, blank: Blank) -> Result<(), Fail>
+fn build_and_check<L: Ledger>(
+    alloc: Global,
+    text: &[u8],
+    size: u32,
+    blank: Blank,
+) -> Result<(), Fail>
+    requires text { length text.now < 2 ^ 32 }
     requires name { blank.name ≡ L.name }
     requires parts { blank.parts ≡ L.parts }
     requires some { 0 < blank.parts }
 {
     let mut store = MemStore::new(alloc, no_fails(alloc));
     let mut steps = Steps::<L>::new(blank);
-    build_rook(alloc, &mut store, &mut steps)?;
-    check_rook(alloc, &mut store, &mut steps)
+    build_text(alloc, text, size, &mut store, &mut steps)?;
+    check_built(alloc, size, &mut store, &mut steps)
+}
+
+/// Builds and checks with a ledger of its own.
+fn expect_few_steps(alloc: Global, text: &[u8], size: u32) -> Result<(), Fail>
+    requires { length text.now < 2 ^ 32 }
+{
+    let blank = Blank::new(1);
+    build_and_check::<Brand>(alloc, text, size, blank)
 }
 
 #[test]
-fn few_steps_build_and_check(rt: HostRuntime) -> Result<(), Fail> {
-    let blank = Blank::new(1);
-    build_and_check::<Brand>(rt.alloc(), blank)
+fn few_steps_build_and_check_the_rook(rt: HostRuntime) -> Result<(), Fail> {
+    expect_few_steps(rt.alloc(), RULES, 8)
+}
+
+#[test]
+fn few_steps_build_and_check_blocked_pawns(rt: HostRuntime) -> Result<(), Fail> {
+    expect_few_steps(rt.alloc(), BLOCKED, 6_400)
 }
