@@ -12,6 +12,7 @@ mod steps;
 mod tables;
 
 use crate::run_once;
+use frz_handmade::store_with;
 use frz_store::{Fail, FailOn, MemSink, MemSource, MemStore, Store};
 use std::alloc::Global;
 use std::process::Abort;
@@ -26,14 +27,27 @@ const MATE_IN_ONE: &str = "k7/8/1K6/8/8/8/8/7R w - - 0 1";
 /// A call over a store in which `A` holds the rules, and the status and the text that it gives.
 struct Row<'a>(&'a [u8], &'a [&'a str], u8, &'a str);
 
-const WITH_EXIT: &[u8] =
-    b"freezer 1\ngroup white 1 K:b6\ngroup white 1 R:h1,h8\ngroup black 1 K:a8,b8\nexit white wins if on:black:K:c8\n";
+const WITH_EXIT: &[u8] = b"freezer 1
+group white 1 K:b6
+group white 1 R:h1,h8
+group black 1 K:a8,b8
+exit white wins if on:black:K:c8
+";
 
-const COUNTED: &[u8] =
-    b"freezer 1\ngroup white 1 K:b6\ngroup white 1 R:h1,h8\ngroup black 1 K:a8,b8\nexit white wins 7 if on:black:K:c8\n";
+const COUNTED: &[u8] = b"freezer 1
+group white 1 K:b6
+group white 1 R:h1,h8
+group black 1 K:a8,b8
+exit white wins 7 if on:black:K:c8
+";
 
-const RENOUNCED: &[u8] =
-    b"freezer 1\ngroup white 1 K:b6\ngroup white 1 R:h1,h8\ngroup black 1 K:a8,b8\nforbid white K from all to all\nforbid white R from all to all\n";
+const RENOUNCED: &[u8] = b"freezer 1
+group white 1 K:b6
+group white 1 R:h1,h8
+group black 1 K:a8,b8
+forbid white K from all to all
+forbid white R from all to all
+";
 
 const DRAWN: &[u8] =
     b"freezer 1\ngroup white 1 K:a1,b1\ngroup black 1 K:g8,h8\nexit draw if always\n";
@@ -122,11 +136,19 @@ const SOLVED: &[Row] = &[
 
 const NO_BLACK_KING: &[u8] = b"freezer 1\ngroup white 1 K:b6\ngroup white 1 R:h1,h8\n";
 
-const WITH_PAWNS: &[u8] =
-    b"freezer 1\ngroup white 1 K:b6\ngroup white 1 R:h1,h8\ngroup black 1 K:a8,b8\ngroup white 1 P:all\n";
+const WITH_PAWNS: &[u8] = b"freezer 1
+group white 1 K:b6
+group white 1 R:h1,h8
+group black 1 K:a8,b8
+group white 1 P:all
+";
 
-const TWO_ON_ONE: &[u8] =
-    b"freezer 1\ngroup white 1 K:b6\ngroup white 1 R:h1,h8\ngroup black 1 K:a8,b8\ngroup white 2 N:b1\n";
+const TWO_ON_ONE: &[u8] = b"freezer 1
+group white 1 K:b6
+group white 1 R:h1,h8
+group black 1 K:a8,b8
+group white 2 N:b1
+";
 
 const NO_PLACE: &[u8] =
     b"freezer 1\ngroup white 1 K:b6\ngroup white 1 R:h1,h8\ngroup black 1 K:a8,b8\ngroup white 1\n";
@@ -166,8 +188,8 @@ const REFUSED: &[Row] = &[
     Row(RULES, &["sample", "h8"], 2, "words: number\n"),
 ];
 
-const TWENTY: &str =
-    "b1a3 b1c3 g1f3 g1h3 a2a3 a2a4 b2b3 b2b4 c2c3 c2c4 d2d3 d2d4 e2e3 e2e4 f2f3 f2f4 g2g3 g2g4 h2h3 h2h4\n";
+const TWENTY: &str = "b1a3 b1c3 g1f3 g1h3 a2a3 a2a4 b2b3 b2b4 c2c3 c2c4 d2d3 d2d4 \
+    e2e3 e2e4 f2f3 f2f4 g2g3 g2g4 h2h3 h2h4\n";
 
 const LISTED: &[Row] = &[
     Row(
@@ -266,14 +288,20 @@ fn no_fails(alloc: Global) -> Vec<Fail> {
     Vec::new(alloc)
 }
 
-fn first_fails(alloc: Global) -> Result<Vec<Fail>, TestFail> {
-    let mut fails = Vec::new(alloc);
-    fails.push(Fail {
-        on: FailOn::Call,
-        nth: 1,
-        keep: 0,
-    })?;
-    Ok(fails)
+/// The nth call fails.
+fn call_fails(alloc: Global, nth: u64) -> Result<Vec<Fail>, TestFail> {
+    Ok(vec![in alloc;
+        Fail {
+            on: FailOn::Call,
+            nth,
+            keep: 0
+        },
+    ]?)
+}
+
+/// A sink that takes so many bytes.
+fn sink(alloc: Global, room: usize) -> Result<MemSink, TestFail> {
+    Ok(MemSink::new(alloc, room, no_fails(alloc)).or(Err("sink"))?)
 }
 
 /// Calls the program over a store, a sink and an empty input.
@@ -291,15 +319,26 @@ fn call(
     Ok(run_once(alloc, &words, store, &mut input, out))
 }
 
+/// Calls the program over the store, which is to end so with this text.
+fn expect_call(
+    rt: &impl Abort,
+    alloc: Global,
+    store: &mut MemStore,
+    line: &[&str],
+    status: u8,
+    text: &str,
+) -> Result<(), TestFail> {
+    let mut out = sink(alloc, 200)?;
+    let answer = call(alloc, line, store, &mut out)?;
+    assert_eq!(rt; out.taken(), text.as_bytes());
+    assert_eq!(rt; answer, status);
+    Ok(())
+}
+
 fn expect(rt: &impl Abort, alloc: Global, row: &Row<'_>) -> Result<(), TestFail> {
     let Row(rules, line, status, text) = row;
-    let mut store = MemStore::new(alloc, no_fails(alloc));
-    store.put("A", rules).or(Err("put"))?;
-    let mut out = MemSink::new(alloc, 200, no_fails(alloc)).or(Err("sink"))?;
-    let answer = call(alloc, line, &mut store, &mut out)?;
-    assert_eq!(rt; out.taken(), text.as_bytes());
-    assert_eq!(rt; answer, *status);
-    Ok(())
+    let mut store = store_with(alloc, no_fails(alloc), &[("A", rules)])?;
+    expect_call(rt, alloc, &mut store, line, *status, text)
 }
 
 fn expect_all(rt: &impl Abort, alloc: Global, rows: &[Row<'_>]) -> Result<(), TestFail> {
@@ -327,19 +366,16 @@ fn lists_moves(rt: HostRuntime) -> Result<(), TestFail> {
 #[test]
 fn names_a_fault_of_the_store(rt: HostRuntime) -> Result<(), TestFail> {
     let alloc = rt.alloc();
-    let mut store = MemStore::new(alloc, first_fails(alloc)?);
-    let mut out = MemSink::new(alloc, 200, no_fails(alloc)).or(Err("sink"))?;
-    let status = call(alloc, &["solve", "A", MATE_IN_ONE], &mut store, &mut out)?;
-    assert_eq!(rt; status, 8);
-    assert_eq!(rt; out.taken(), b"store fault\n".as_slice());
-    Ok(())
+    let mut store = MemStore::new(alloc, call_fails(alloc, 1)?);
+    let line = ["solve", "A", MATE_IN_ONE];
+    expect_call(&rt, alloc, &mut store, &line, 8, "store fault\n")
 }
 
 #[test]
 fn stops_where_the_sink_fails(rt: HostRuntime) -> Result<(), TestFail> {
     let alloc = rt.alloc();
     let mut store = MemStore::new(alloc, no_fails(alloc));
-    let mut out = MemSink::new(alloc, 200, first_fails(alloc)?).or(Err("sink"))?;
+    let mut out = MemSink::new(alloc, 200, call_fails(alloc, 1)?).or(Err("sink"))?;
     let moves = ["moves", "8/8/8/3pP3/8/8/8/K1k5 w - d6 0 1"];
     let status = call(alloc, &moves, &mut store, &mut out)?;
     assert_eq!(rt; status, 9);
@@ -351,7 +387,7 @@ fn stops_where_the_sink_fails(rt: HostRuntime) -> Result<(), TestFail> {
 fn a_full_sink_cuts_the_line(rt: HostRuntime) -> Result<(), TestFail> {
     let alloc = rt.alloc();
     let mut store = MemStore::new(alloc, no_fails(alloc));
-    let mut out = MemSink::new(alloc, 7, no_fails(alloc)).or(Err("sink"))?;
+    let mut out = sink(alloc, 7)?;
     let moves = ["moves", "8/8/8/3pP3/8/8/8/K1k5 w - d6 0 1"];
     let status = call(alloc, &moves, &mut store, &mut out)?;
     assert_eq!(rt; status, 9);
@@ -362,12 +398,10 @@ fn a_full_sink_cuts_the_line(rt: HostRuntime) -> Result<(), TestFail> {
 #[test]
 fn a_file_that_is_too_long_is_not_read(rt: HostRuntime) -> Result<(), TestFail> {
     let alloc = rt.alloc();
-    let mut store = MemStore::new(alloc, no_fails(alloc));
-    store.put("A", &vec![in alloc; 32; 65_537]?).or(Err("put"))?;
-    let mut out = MemSink::new(alloc, 200, no_fails(alloc)).or(Err("sink"))?;
+    let rules = vec![in alloc; 32; 65_537]?;
+    let mut store = store_with(alloc, no_fails(alloc), &[("A", &rules)])?;
     let solve = ["solve", "A", MATE_IN_ONE];
-    assert_eq!(rt; call(alloc, &solve, &mut store, &mut out)?, 3);
-    assert_eq!(rt; out.taken(), b"rules 0: too long\n".as_slice());
+    expect_call(&rt, alloc, &mut store, &solve, 3, "rules 0: too long\n")?;
     assert_eq!(rt; store.asked(), 0);
     Ok(())
 }

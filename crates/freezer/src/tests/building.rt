@@ -1,7 +1,7 @@
 //! Tables that the program builds, beside files made by hand.
-use super::tables::table;
-use super::{COUNTED, RULES, Row, call, expect_all, no_fails};
-use frz_store::{Fail, FailOn, MemSink, MemStore};
+use super::{COUNTED, RULES, Row, call, expect_all, expect_call, no_fails, sink};
+use frz_handmade::{rook, store_with, table_file};
+use frz_store::{Fail, FailOn};
 use std::alloc::Global;
 use std::process::Abort;
 use std::test::Fail as TestFail;
@@ -11,22 +11,19 @@ const ROOKS: &[u8] =
     b"freezer 1\ngroup white 1 K:b6\ngroup white 0-2 R:h1,h8\ngroup black 1 K:a8,b8\n";
 
 /// One position for each side to move, whose exits are assigned wins.
-const ALL_WON: &[u8] =
-    b"freezer 1\ngroup white 1 K:b6\ngroup white 1 R:h1\ngroup black 1 K:c8\nexit white wins if always\n";
+const ALL_WON: &[u8] = b"freezer 1
+group white 1 K:b6
+group white 1 R:h1
+group black 1 K:c8
+exit white wins if always
+";
 
 /// A rules text, its size, White's codes and then Black's, how many bytes the file has, and what
 /// `build` and `check` say.
-struct Built<'a>(&'a [u8], u32, &'a [u8], usize, &'a str, &'a str);
+struct Built<'a>(&'a [u8], u32, &'a [u32], usize, &'a str, &'a str);
 
 const BUILT: &[Built] = &[
-    Built(
-        RULES,
-        8,
-        &[4, 4, 0, 0, 6, 5, 2, 2, 5, 5, 0, 0, 7, 7, 3, 3],
-        153,
-        "built 8\n",
-        "exact 8\n",
-    ),
+    Built(RULES, 8, &rook::CODES, 153, "built 8\n", "exact 8\n"),
     Built(
         COUNTED,
         8,
@@ -49,29 +46,13 @@ const BUILT: &[Built] = &[
     Built(ALL_WON, 2, &[4, 4, 5, 5], 125, "built 2\n", "exact 2\n"),
 ];
 
-/// A store that holds the text, and a sink.
-fn objects(
-    alloc: Global,
-    rules: &[u8],
-    fails: Vec<Fail>,
-    room: usize,
-) -> Result<(MemStore, MemSink), TestFail> {
-    let mut store = MemStore::new(alloc, fails);
-    store.put("A", rules).or(Err("put"))?;
-    let out = MemSink::new(alloc, room, no_fails(alloc)).or(Err("sink"))?;
-    Ok((store, out))
-}
-
 /// Builds over a store that holds the text and a file under the table's name.
 fn expect_built(rt: &impl Abort, alloc: Global, built: &Built<'_>) -> Result<(), TestFail> {
     let Built(rules, size, codes, length, text, _) = built;
-    let mut store = MemStore::new(alloc, no_fails(alloc));
-    store.put("A", rules).or(Err("put"))?;
-    store.put("T", b"another file").or(Err("put"))?;
-    let mut out = MemSink::new(alloc, 200, no_fails(alloc)).or(Err("sink"))?;
-    assert_eq!(rt; call(alloc, &["build", "A", "T"], &mut store, &mut out)?, 0);
-    assert_eq!(rt; out.taken(), text.as_bytes());
-    let file = table(alloc, rules, *size, codes)?;
+    let files = [("A", *rules), ("T", b"another file".as_slice())];
+    let mut store = store_with(alloc, no_fails(alloc), &files)?;
+    expect_call(rt, alloc, &mut store, &["build", "A", "T"], 0, text)?;
+    let file = table_file(alloc, b"FREEZER2", rules, *size, codes)?;
     assert_eq!(rt; file.len(), *length);
     assert_eq!(rt; store.file("T").ok_or("no file")?, file.as_slice());
     assert_eq!(rt; store.file("A").ok_or("no file")?, *rules);
@@ -80,13 +61,11 @@ fn expect_built(rt: &impl Abort, alloc: Global, built: &Built<'_>) -> Result<(),
 
 /// Builds again, and checks what was built: both ask for as many bytes as their files have.
 fn expect_exact(rt: &impl Abort, alloc: Global, built: &Built<'_>) -> Result<(), TestFail> {
-    let Built(rules, _, _, length, _, verdict) = built;
-    let (mut store, mut out) = objects(alloc, rules, no_fails(alloc), 200)?;
-    assert_eq!(rt; call(alloc, &["build", "A", "T"], &mut store, &mut out)?, 0);
+    let Built(rules, _, _, length, text, verdict) = built;
+    let mut store = store_with(alloc, no_fails(alloc), &[("A", rules)])?;
+    expect_call(rt, alloc, &mut store, &["build", "A", "T"], 0, text)?;
     assert_eq!(rt; store.asked(), rules.len() as u64);
-    let mut out = MemSink::new(alloc, 200, no_fails(alloc)).or(Err("sink"))?;
-    assert_eq!(rt; call(alloc, &["check", "T"], &mut store, &mut out)?, 0);
-    assert_eq!(rt; out.taken(), verdict.as_bytes());
+    expect_call(rt, alloc, &mut store, &["check", "T"], 0, verdict)?;
     let asked = (rules.len() as u64).saturating_add(*length as u64);
     assert_eq!(rt; store.asked(), asked);
     Ok(())
@@ -187,21 +166,16 @@ const CUT: &[Cut] = &[
 /// Builds over a store that fails so, and checks what it left.
 fn expect_cut(rt: &impl Abort, alloc: Global, cut: &Cut<'_>) -> Result<(), TestFail> {
     let Cut(on, nth, keep, left, status, text) = cut;
-    let mut fails = Vec::new(alloc);
-    fails.push(Fail {
+    let fail = Fail {
         on: *on,
         nth: *nth,
         keep: *keep,
-    })?;
-    let (mut store, mut out) = objects(alloc, RULES, fails, 200)?;
-    assert_eq!(rt; call(alloc, &["build", "A", "T"], &mut store, &mut out)?, 8);
-    assert_eq!(rt; out.taken(), b"store fault\n".as_slice());
+    };
+    let mut store = store_with(alloc, vec![in alloc; fail]?, &[("A", RULES)])?;
+    let line = ["build", "A", "T"];
+    expect_call(rt, alloc, &mut store, &line, 8, "store fault\n")?;
     assert_eq!(rt; store.file("T").map(|file| file.len()), *left);
-    let mut out = MemSink::new(alloc, 200, no_fails(alloc)).or(Err("sink"))?;
-    let answer = call(alloc, &["check", "T"], &mut store, &mut out)?;
-    assert_eq!(rt; out.taken(), text.as_bytes());
-    assert_eq!(rt; answer, *status);
-    Ok(())
+    expect_call(rt, alloc, &mut store, &["check", "T"], *status, text)
 }
 
 #[test]
@@ -215,7 +189,8 @@ fn leaves_a_part_where_the_store_fails(rt: HostRuntime) -> Result<(), TestFail> 
 #[test]
 fn builds_the_file_where_only_the_line_is_not_taken(rt: HostRuntime) -> Result<(), TestFail> {
     let alloc = rt.alloc();
-    let (mut store, mut out) = objects(alloc, RULES, no_fails(alloc), 3)?;
+    let mut store = store_with(alloc, no_fails(alloc), &[("A", RULES)])?;
+    let mut out = sink(alloc, 3)?;
     assert_eq!(rt; call(alloc, &["build", "A", "T"], &mut store, &mut out)?, 9);
     assert_eq!(rt; out.taken(), b"bui".as_slice());
     assert_eq!(rt; store.file("T").map(|file| file.len()), Some(153));
@@ -223,8 +198,20 @@ fn builds_the_file_where_only_the_line_is_not_taken(rt: HostRuntime) -> Result<(
 }
 
 /// Four blocked pawns a side: 278 bytes, 6,400 numbers.
-pub(super) const BLOCKED: &[u8] =
-    b"freezer 1\ngroup white 1 K:a1-h5\ngroup black 1 K:a4-h8\ngroup white 1 P:a4\ngroup white 1 P:b3\ngroup white 1 P:c4\ngroup white 1 P:e4\ngroup black 1 P:a5\ngroup black 1 P:b4\ngroup black 1 P:c5\ngroup black 1 P:e5\nexit white holds if count:white:P:4\nexit black holds if count:black:P:4\n";
+pub(super) const BLOCKED: &[u8] = b"freezer 1
+group white 1 K:a1-h5
+group black 1 K:a4-h8
+group white 1 P:a4
+group white 1 P:b3
+group white 1 P:c4
+group white 1 P:e4
+group black 1 P:a5
+group black 1 P:b4
+group black 1 P:c5
+group black 1 P:e5
+exit white holds if count:white:P:4
+exit black holds if count:black:P:4
+";
 
 /// White to move. Both sides hold, by a search of the kings' moves that was made apart from these
 /// crates.
@@ -233,16 +220,15 @@ const AMONG_PAWNS: &str = "8/8/6k1/p1p1p3/PpP1P1K1/1P6/8/8 w - - 0 1";
 #[test]
 fn blocked_pawns_are_built_checked_and_asked(rt: HostRuntime) -> Result<(), TestFail> {
     let alloc = rt.alloc();
-    let (mut store, mut out) = objects(alloc, BLOCKED, no_fails(alloc), 200)?;
-    assert_eq!(rt; call(alloc, &["build", "A", "T"], &mut store, &mut out)?, 0);
-    assert_eq!(rt; call(alloc, &["check", "T"], &mut store, &mut out)?, 0);
-    assert_eq!(rt; out.taken(), b"built 6400\nexact 6400\n".as_slice());
+    let mut store = store_with(alloc, no_fails(alloc), &[("A", BLOCKED)])?;
+    let build = ["build", "A", "T"];
+    expect_call(&rt, alloc, &mut store, &build, 0, "built 6400\n")?;
+    expect_call(&rt, alloc, &mut store, &["check", "T"], 0, "exact 6400\n")?;
     assert_eq!(rt; store.file("T").map(|file| file.len()), Some(51_494));
     let before = store.asked();
-    let mut out = MemSink::new(alloc, 200, no_fails(alloc)).or(Err("sink"))?;
     let query = ["query", "T", AMONG_PAWNS];
-    assert_eq!(rt; call(alloc, &query, &mut store, &mut out)?, 0);
-    assert_eq!(rt; out.taken(), b"white holds\nblack holds\n".as_slice());
+    let hold = "white holds\nblack holds\n";
+    expect_call(&rt, alloc, &mut store, &query, 0, hold)?;
     assert_eq!(rt; store.asked(), before.saturating_add(302));
     Ok(())
 }

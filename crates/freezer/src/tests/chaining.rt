@@ -1,58 +1,43 @@
 //! Tables that lean on a second table, beside files made by hand.
-use super::{NEXT_TO_IT, RULES, call, no_fails};
-use frz_store::{Fail, FailOn, MemSink, MemStore};
+use super::{NEXT_TO_IT, RULES, expect_call, no_fails};
+use frz_handmade::{plain_file, rook, store_with, table_file};
+use frz_store::{Fail, FailOn, MemStore};
 use std::alloc::Global;
 use std::process::Abort;
 use std::test::Fail as TestFail;
 
 /// The black king has gone to c8, and White wins everywhere outside: 93 bytes, 2 numbers.
-const NEXT: &[u8] =
-    b"freezer 1\ngroup white 1 K:b6\ngroup white 1 R:h1\ngroup black 1 K:c8\nexit white wins if always\n";
+const NEXT: &[u8] = b"freezer 1
+group white 1 K:b6
+group white 1 R:h1
+group black 1 K:c8
+exit white wins if always
+";
 
-/// The codes of both sides, White's first: the rook's by its own exit lines, those over the table
-/// of NEXT, and those of NEXT.
-const ROOK_CODES: [u8; 16] = [4, 4, 0, 0, 6, 5, 2, 2, 5, 5, 0, 0, 7, 7, 3, 3];
-
-const CHAINED_CODES: [u8; 16] = [4, 4, 0, 0, 6, 6, 2, 2, 5, 5, 0, 0, 7, 7, 3, 3];
-
-const NEXT_CODES: [u8; 4] = [4, 4, 5, 5];
-
-/// The file with this head, this text, this size and these codes.
-fn by_hand(
-    alloc: Global,
-    head: &[u8; 12],
-    text: &[u8],
-    size: u8,
-    codes: &[u8],
-) -> Result<Vec<u8>, TestFail> {
-    let mut file = head.to_vec(alloc)?;
-    file.extend_from_slice(text)?;
-    file.extend_from_slice(&[size, 0, 0, 0])?;
-    for code in codes {
-        file.extend_from_slice(&[*code, 0, 0, 0])?;
-    }
-    Ok(file)
-}
+/// The codes of both sides over the table of NEXT, White's first.
+const CHAINED_CODES: [u32; 16] = [4, 4, 0, 0, 6, 6, 2, 2, 5, 5, 0, 0, 7, 7, 3, 3];
 
 /// The rook's table over that of NEXT.
 fn chained(alloc: Global) -> Result<Vec<u8>, TestFail> {
-    by_hand(alloc, b"FREEZERC\x49\0\0\0", RULES, 8, &CHAINED_CODES)
+    table_file(alloc, b"FREEZERC", RULES, 8, &CHAINED_CODES)
 }
 
 /// A store with these failing calls, the two texts, their own tables, the rook's over the other,
 /// and a table of NEXT whose last code is wrong.
-fn store_with(alloc: Global, fails: Vec<Fail>) -> Result<MemStore, TestFail> {
-    let rook = by_hand(alloc, b"FREEZER2\x49\0\0\0", RULES, 8, &ROOK_CODES)?;
-    let next = by_hand(alloc, b"FREEZER2\x5d\0\0\0", NEXT, 2, &NEXT_CODES)?;
-    let wrong = by_hand(alloc, b"FREEZER2\x5d\0\0\0", NEXT, 2, &[4, 4, 5, 7])?;
-    let mut store = MemStore::new(alloc, fails);
-    store.put("A", RULES).or(Err("put"))?;
-    store.put("N", NEXT).or(Err("put"))?;
-    store.put("A.t", &rook).or(Err("put"))?;
-    store.put("N.t", &next).or(Err("put"))?;
-    store.put("W.t", &wrong).or(Err("put"))?;
-    store.put("AN.t", &chained(alloc)?).or(Err("put"))?;
-    Ok(store)
+fn filled(alloc: Global, fails: Vec<Fail>) -> Result<MemStore, TestFail> {
+    let rook = plain_file(alloc, RULES, &rook::CODES)?;
+    let next = plain_file(alloc, NEXT, &[4, 4, 5, 5])?;
+    let wrong = plain_file(alloc, NEXT, &[4, 4, 5, 7])?;
+    let both = chained(alloc)?;
+    let files = [
+        ("A", RULES),
+        ("N", NEXT),
+        ("A.t", rook.as_slice()),
+        ("N.t", next.as_slice()),
+        ("W.t", wrong.as_slice()),
+        ("AN.t", both.as_slice()),
+    ];
+    store_with(alloc, fails, &files)
 }
 
 /// The words of a call, and what the program says.
@@ -113,11 +98,8 @@ const NOT_CHAINED: &[Said] = &[
 /// Calls the program over the store, and shows that no table is under the name T.
 fn expect_said(rt: &impl Abort, alloc: Global, row: &Said<'_>) -> Result<(), TestFail> {
     let Said(line, status, text) = row;
-    let mut store = store_with(alloc, no_fails(alloc))?;
-    let mut out = MemSink::new(alloc, 200, no_fails(alloc)).or(Err("sink"))?;
-    let answer = call(alloc, line, &mut store, &mut out)?;
-    assert_eq!(rt; out.taken(), text.as_bytes());
-    assert_eq!(rt; answer, *status);
+    let mut store = filled(alloc, no_fails(alloc))?;
+    expect_call(rt, alloc, &mut store, line, *status, text)?;
     assert!(rt; store.file("T").is_none());
     Ok(())
 }
@@ -141,11 +123,9 @@ fn refuses_to_chain(rt: HostRuntime) -> Result<(), TestFail> {
 #[test]
 fn chains_a_table(rt: HostRuntime) -> Result<(), TestFail> {
     let alloc = rt.alloc();
-    let mut store = store_with(alloc, no_fails(alloc))?;
-    let mut out = MemSink::new(alloc, 200, no_fails(alloc)).or(Err("sink"))?;
+    let mut store = filled(alloc, no_fails(alloc))?;
     let line = ["chain", "A", "N.t", "A.t"];
-    assert_eq!(rt; call(alloc, &line, &mut store, &mut out)?, 0);
-    assert_eq!(rt; out.taken(), b"chained 8\n".as_slice());
+    expect_call(&rt, alloc, &mut store, &line, 0, "chained 8\n")?;
     assert_eq!(rt;
         store.file("A.t").ok_or("no file")?,
         chained(alloc)?.as_slice()
@@ -161,12 +141,8 @@ fn expect_failed(
     line: &[&str],
     left: Option<usize>,
 ) -> Result<(), TestFail> {
-    let mut fails = Vec::new(alloc);
-    fails.push(fail)?;
-    let mut store = store_with(alloc, fails)?;
-    let mut out = MemSink::new(alloc, 200, no_fails(alloc)).or(Err("sink"))?;
-    assert_eq!(rt; call(alloc, line, &mut store, &mut out)?, 8);
-    assert_eq!(rt; out.taken(), b"store fault\n".as_slice());
+    let mut store = filled(alloc, vec![in alloc; fail]?)?;
+    expect_call(rt, alloc, &mut store, line, 8, "store fault\n")?;
     assert_eq!(rt; store.file("T").map(|file| file.len()), left);
     Ok(())
 }

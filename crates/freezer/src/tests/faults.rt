@@ -1,10 +1,10 @@
 //! Each command with the kth call of its store or of its input refused, and over a sink with room
 //! for k bytes, for k from the first until it ends well.
 use super::migrating::former_rooks;
-use super::tables::{ROOK_CODES, table};
-use super::{CORNER, MATE_IN_ONE, RULES, no_fails};
+use super::{CORNER, MATE_IN_ONE, RULES, call_fails, no_fails, sink};
 use crate::run_once;
-use frz_store::{Fail, FailOn, MemSink, MemSource, MemStore};
+use frz_handmade::{plain_file, rook, store_with};
+use frz_store::{Fail, MemSource, MemStore};
 use std::alloc::Global;
 use std::process::Abort;
 use std::test::Fail as TestFail;
@@ -64,12 +64,14 @@ struct Left {
 
 /// A store with the files that the commands ask for.
 fn filled(alloc: Global, fails: Vec<Fail>) -> Result<MemStore, TestFail> {
-    let mut store = MemStore::new(alloc, fails);
-    store.put("A", RULES).or(Err("put"))?;
-    let rook = table(alloc, RULES, 8, &ROOK_CODES)?;
-    store.put("A.t", &rook).or(Err("put"))?;
-    store.put("O.t", &former_rooks(alloc)?).or(Err("put"))?;
-    Ok(store)
+    let rook = plain_file(alloc, RULES, &rook::CODES)?;
+    let former = former_rooks(alloc)?;
+    let files = [
+        ("A", RULES),
+        ("A.t", rook.as_slice()),
+        ("O.t", former.as_slice()),
+    ];
+    store_with(alloc, fails, &files)
 }
 
 /// The calls of a store and of an input that fail, and the room of a sink.
@@ -92,7 +94,7 @@ fn nothing_fails(alloc: Global) -> Refusals {
 fn left_by(alloc: Global, words: &[&str], refusals: Refusals) -> Result<Left, TestFail> {
     let mut store = filled(alloc, refusals.store)?;
     let mut input = MemSource::new(INPUT.to_vec(alloc)?, refusals.input);
-    let mut out = MemSink::new(alloc, refusals.room, no_fails(alloc)).or(Err("sink"))?;
+    let mut out = sink(alloc, refusals.room)?;
     let mut line = Vec::new(alloc);
     for word in words {
         line.push(String::from_str(alloc, word)?)?;
@@ -104,17 +106,6 @@ fn left_by(alloc: Global, words: &[&str], refusals: Refusals) -> Result<Left, Te
         text,
         store,
     })
-}
-
-/// Only the kth call fails.
-fn refused_call(alloc: Global, nth: u64) -> Result<Vec<Fail>, TestFail> {
-    let mut fails = Vec::new(alloc);
-    fails.push(Fail {
-        on: FailOn::Call,
-        nth,
-        keep: 0,
-    })?;
-    Ok(fails)
 }
 
 /// The text is whole lines that begin the answer, and then the fault's.
@@ -148,7 +139,7 @@ fn refuse_calls(rt: &impl Abort, alloc: Global, asked: &Asked<'_>) -> Result<u64
     assert_eq!(rt; whole.status, 0);
     for nth in 1..MOST_CALLS {
         let refusals = Refusals {
-            store: refused_call(alloc, nth)?,
+            store: call_fails(alloc, nth)?,
             ..nothing_fails(alloc)
         };
         let left = left_by(alloc, words, refusals)?;
@@ -202,7 +193,7 @@ fn each_read_of_the_input_may_fail(rt: HostRuntime) -> Result<(), TestFail> {
     let Asked(words, text, _) = PLAYED;
     for nth in 1..=INPUT.len() as u64 {
         let refusals = Refusals {
-            input: refused_call(alloc, nth)?,
+            input: call_fails(alloc, nth)?,
             ..nothing_fails(alloc)
         };
         let left = left_by(alloc, words, refusals)?;

@@ -1,9 +1,9 @@
 //! The program over a store that tells nothing of what it holds and contradicts itself.
 ghost use Rattle.std.specs.Prelude.{None};
 
-use super::tables::{ROOK_CODES, table};
-use super::{MATE_IN_ONE, RULES, call, no_fails};
-use frz_store::{Failed, MemSink, Store, StoreFault};
+use super::{MATE_IN_ONE, RULES, call, sink};
+use frz_handmade::{plain_file, rook, table_file};
+use frz_store::{Failed, Store, StoreFault};
 use std::alloc::Global;
 use std::process::Abort;
 use std::test::Fail as TestFail;
@@ -89,7 +89,7 @@ fn expect_twice(
         calls: 0,
         asked: 0,
     };
-    let mut out = MemSink::new(alloc, 200, no_fails(alloc)).or(Err("sink"))?;
+    let mut out = sink(alloc, 200)?;
     let first = call(alloc, twice.line, &mut store, &mut out)?;
     let second = call(alloc, twice.line, &mut store, &mut out)?;
     assert_eq!(rt; out.taken(), twice.text.as_bytes());
@@ -147,8 +147,8 @@ const QUERY_OF_NOTHING: Twice = Twice {
 #[test]
 fn tables_are_read_once(rt: HostRuntime) -> Result<(), TestFail> {
     let alloc = rt.alloc();
-    let file = table(alloc, RULES, 8, &ROOK_CODES)?;
-    let header = table(alloc, RULES, 8, &[])?;
+    let file = plain_file(alloc, RULES, &rook::CODES)?;
+    let header = table_file(alloc, b"FREEZER2", RULES, 8, &[])?;
     expect_twice(&rt, alloc, &file, 153, &QUERY)?;
     expect_twice(&rt, alloc, &file, 153, &CHECK)?;
     expect_twice(&rt, alloc, &header, 153, &CHECK_OF_HEADER)?;

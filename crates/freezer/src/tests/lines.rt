@@ -1,8 +1,10 @@
 //! Lines over tables made by hand.
 use super::{
-    CORNER, COUNTED, DRAWN, MATE_IN_ONE, NEXT_TO_IT, RULES, STALEMATE, call, first_fails, no_fails,
+    CORNER, COUNTED, DRAWN, MATE_IN_ONE, NEXT_TO_IT, RULES, STALEMATE, call, call_fails, no_fails,
+    sink,
 };
-use frz_store::{Fail, FailOn, MemSink, MemStore};
+use frz_handmade::{plain_file, rook, store_with};
+use frz_store::{Fail, MemSink, MemStore};
 use std::alloc::Global;
 use std::process::Abort;
 use std::test::Fail as TestFail;
@@ -12,20 +14,20 @@ const NEAR_ROOK: &[u8] =
     b"freezer 1\ngroup white 1 K:b6\ngroup white 1 R:c1,c2\ngroup black 1 K:a8,b8\n";
 
 /// The codes of both sides, White's first.
-const ROOK: &[u8] = &[4, 4, 0, 0, 6, 5, 2, 2, 5, 5, 0, 0, 7, 7, 3, 3];
+const ROOK: &[u32] = &rook::CODES;
 
-const COUNTED_ROOK: &[u8] = &[4, 4, 0, 0, 6, 18, 2, 2, 5, 5, 0, 0, 7, 7, 3, 3];
+const COUNTED_ROOK: &[u32] = &[4, 4, 0, 0, 6, 18, 2, 2, 5, 5, 0, 0, 7, 7, 3, 3];
 
-const HOLDS: &[u8] = &[1; 16];
+const HOLDS: &[u32] = &[1; 16];
 
-const QUEEN: &[u8] = &[4, 1, 5, 1];
+const QUEEN: &[u32] = &[4, 1, 5, 1];
 
 /// The text of the line to the mate.
 const MATED: &str = "white wins within 2\na8b8\nh1h8\nmate\n";
 
 /// A rules text with the codes of its table, and the position and the side of a line; the status
 /// and the text that it gives.
-struct Row<'a>(&'a [u8], &'a [u8], &'a str, &'a str, u8, &'a str);
+struct Row<'a>(&'a [u8], &'a [u32], &'a str, &'a str, u8, &'a str);
 
 const ROWS: &[Row] = &[
     Row(RULES, ROOK, CORNER, "white", 0, MATED),
@@ -127,20 +129,6 @@ const WRONG: &[Row] = &[
     ),
 ];
 
-/// The table file of the text, with codes of one byte.
-pub fn table(alloc: Global, text: &[u8], codes: &[u8]) -> Result<Vec<u8>, TestFail> {
-    let length = u32::try_from(text.len()).or(Err("text"))?;
-    let size = u32::try_from(codes.len() / 2).or(Err("codes"))?;
-    let mut file = b"FREEZER2".to_vec(alloc)?;
-    file.extend_from_slice(&length.to_le_bytes())?;
-    file.extend_from_slice(text)?;
-    file.extend_from_slice(&size.to_le_bytes())?;
-    for code in codes {
-        file.extend_from_slice(&u32::from(*code).to_le_bytes())?;
-    }
-    Ok(file)
-}
-
 /// Plays the line of a row over these objects.
 fn play(
     alloc: Global,
@@ -149,10 +137,8 @@ fn play(
     out: &mut MemSink,
 ) -> Result<(u8, u64), TestFail> {
     let Row(text, codes, fen, side, _, _) = row;
-    let mut store = MemStore::new(alloc, fails);
-    store
-        .put("A.t", &table(alloc, text, codes)?)
-        .or(Err("put"))?;
+    let file = plain_file(alloc, text, codes)?;
+    let mut store = store_with(alloc, fails, &[("A.t", &file)])?;
     let status = call(alloc, &["line", "A.t", fen, side], &mut store, out)?;
     Ok((status, store.asked()))
 }
@@ -160,7 +146,7 @@ fn play(
 fn expect_all(rt: &impl Abort, alloc: Global, rows: &[Row<'_>]) -> Result<(), TestFail> {
     for row in rows {
         let Row(_, _, _, _, status, text) = row;
-        let mut out = MemSink::new(alloc, 200, no_fails(alloc)).or(Err("sink"))?;
+        let mut out = sink(alloc, 200)?;
         let (answer, _) = play(alloc, row, no_fails(alloc), &mut out)?;
         assert_eq!(rt; out.taken(), text.as_bytes());
         assert_eq!(rt; answer, *status);
@@ -194,14 +180,8 @@ const FAULTS: &[(u64, u8, &str)] = &[
 fn a_fault_is_named_behind_the_lines_before_it(rt: HostRuntime) -> Result<(), TestFail> {
     let alloc = rt.alloc();
     for (nth, status, text) in FAULTS {
-        let mut fails = Vec::new(alloc);
-        fails.push(Fail {
-            on: FailOn::Call,
-            nth: *nth,
-            keep: 0,
-        })?;
-        let mut out = MemSink::new(alloc, 200, no_fails(alloc)).or(Err("sink"))?;
-        let (answer, _) = play(alloc, &MATING, fails, &mut out)?;
+        let mut out = sink(alloc, 200)?;
+        let (answer, _) = play(alloc, &MATING, call_fails(alloc, *nth)?, &mut out)?;
         assert_eq!(rt; out.taken(), text.as_bytes());
         assert_eq!(rt; answer, *status);
     }
@@ -221,7 +201,7 @@ const CUT_OFF: &[(usize, &str)] = &[
 fn a_line_stops_where_the_sink_fails(rt: HostRuntime) -> Result<(), TestFail> {
     let alloc = rt.alloc();
     for (room, text) in CUT_OFF {
-        let mut out = MemSink::new(alloc, *room, no_fails(alloc)).or(Err("sink"))?;
+        let mut out = sink(alloc, *room)?;
         let (answer, _) = play(alloc, &MATING, no_fails(alloc), &mut out)?;
         assert_eq!(rt; out.taken(), text.as_bytes());
         assert_eq!(rt; answer, 9);
@@ -232,7 +212,7 @@ fn a_line_stops_where_the_sink_fails(rt: HostRuntime) -> Result<(), TestFail> {
 #[test]
 fn a_line_asks_for_the_codes_of_its_moves(rt: HostRuntime) -> Result<(), TestFail> {
     let alloc = rt.alloc();
-    let mut out = MemSink::new(alloc, 200, no_fails(alloc)).or(Err("sink"))?;
+    let mut out = sink(alloc, 200)?;
     // 16 bytes and the text, the code of the start, and those of the two moves within the set.
     let (_, asked) = play(alloc, &MATING, no_fails(alloc), &mut out)?;
     assert_eq!(rt; asked, 16 + 73 + 4 + 8);
@@ -252,7 +232,7 @@ const HOLDING: Row = Row(
 #[test]
 fn a_hold_is_cut_after_a_hundred_plies(rt: HostRuntime) -> Result<(), TestFail> {
     let alloc = rt.alloc();
-    let mut out = MemSink::new(alloc, 600, no_fails(alloc)).or(Err("sink"))?;
+    let mut out = sink(alloc, 600)?;
     let (answer, _) = play(alloc, &HOLDING, no_fails(alloc), &mut out)?;
     let mut text = b"white holds\n".to_vec(alloc)?;
     for _ in 0..25 {
@@ -269,7 +249,7 @@ fn refuses_words_and_tables(rt: HostRuntime) -> Result<(), TestFail> {
     let alloc = rt.alloc();
     let mut store = MemStore::new(alloc, no_fails(alloc));
     store.put("cut.t", b"FREEZER2").or(Err("put"))?;
-    let mut out = MemSink::new(alloc, 200, no_fails(alloc)).or(Err("sink"))?;
+    let mut out = sink(alloc, 200)?;
     let rows: [(&[&str], u8); 5] = [
         (&["line", "A.t", MATE_IN_ONE], 2),
         (&["line", "A.t", MATE_IN_ONE, "white", "black"], 2),
@@ -282,7 +262,9 @@ fn refuses_words_and_tables(rt: HostRuntime) -> Result<(), TestFail> {
     }
     assert_eq!(rt;
         out.taken(),
-        b"words: count\nwords: count\nmissing table\nfen: fields\ntable: truncated 8 due 16\n".as_slice()
+        b"words: count\nwords: count\nmissing table\nfen: fields\n\
+          table: truncated 8 due 16\n"
+            .as_slice()
     );
     Ok(())
 }
@@ -290,7 +272,7 @@ fn refuses_words_and_tables(rt: HostRuntime) -> Result<(), TestFail> {
 #[test]
 fn a_line_is_not_begun_where_the_sink_fails(rt: HostRuntime) -> Result<(), TestFail> {
     let alloc = rt.alloc();
-    let mut out = MemSink::new(alloc, 200, first_fails(alloc)?).or(Err("sink"))?;
+    let mut out = MemSink::new(alloc, 200, call_fails(alloc, 1)?).or(Err("sink"))?;
     let (answer, _) = play(alloc, &MATING, no_fails(alloc), &mut out)?;
     assert_eq!(rt; answer, 9);
     assert_eq!(rt; out.taken(), b"".as_slice());

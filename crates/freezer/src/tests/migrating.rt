@@ -1,7 +1,7 @@
 //! Tables of the former format, made by hand from its definition, and what `migrate` makes of them.
-use super::{call, no_fails};
-use byteorder::{ByteOrder, LittleEndian};
-use frz_store::{Fail, FailOn, MemSink, MemStore};
+use super::{call, expect_call, no_fails, sink};
+use frz_handmade::{plain_file, store_with, table_file};
+use frz_store::{Fail, FailOn};
 use std::alloc::Global;
 use std::process::Abort;
 use std::test::Fail as TestFail;
@@ -17,57 +17,44 @@ const PAWNS: &[u8] = b"freezer 1\ngroup white 1 K:a1\ngroup black 1 K:a8\ngroup 
 
 /// The codes of both sides, White's first, in order of the former numbers and of those of today.
 struct Rewritten<'a> {
-    former: [&'a [u32]; 2],
-    today: [&'a [u32]; 2],
+    former: &'a [u32],
+    today: &'a [u32],
 }
 
-const TODAY: [&[u32]; 2] = [
-    &[5, 5, 4, 4, 0, 0, 0, 0, 7, 5, 6, 5, 2, 2, 2, 2],
-    &[5, 5, 5, 5, 0, 0, 0, 0, 7, 7, 7, 7, 3, 3, 3, 3],
+const TODAY: &[u32] = &[
+    5, 5, 4, 4, 0, 0, 0, 0, 7, 5, 6, 5, 2, 2, 2, 2, //
+    5, 5, 5, 5, 0, 0, 0, 0, 7, 7, 7, 7, 3, 3, 3, 3,
 ];
 
-/// The side to move is White in the first 18. A pair for the black king stands at each two digits:
-/// at 0 1 with both rooks, at 0 2 with that on h1, at 1 2 with that on h8, at 2 2 with none.
-const FORMER: [&[u32]; 2] = [
-    &[
-        0, 0, 0, 0, 4, 4, 0, 0, 0, 0, 0, 0, 0, 0, 0, 0, 5, 5, //
-        0, 0, 2, 2, 6, 5, 0, 0, 0, 0, 2, 2, 0, 0, 0, 0, 7, 5,
-    ],
-    &[
-        0, 0, 0, 0, 5, 5, 0, 0, 0, 0, 0, 0, 0, 0, 0, 0, 5, 5, //
-        0, 0, 3, 3, 7, 7, 0, 0, 0, 0, 3, 3, 0, 0, 0, 0, 7, 7,
-    ],
+/// The side to move is White in the first 18 of each side. A pair for the black king stands at each
+/// two digits: at 0 1 with both rooks, at 0 2 with that on h1, at 1 2 with that on h8, at 2 2 with
+/// none.
+const FORMER: &[u32] = &[
+    0, 0, 0, 0, 4, 4, 0, 0, 0, 0, 0, 0, 0, 0, 0, 0, 5, 5, //
+    0, 0, 2, 2, 6, 5, 0, 0, 0, 0, 2, 2, 0, 0, 0, 0, 7, 5, //
+    0, 0, 0, 0, 5, 5, 0, 0, 0, 0, 0, 0, 0, 0, 0, 0, 5, 5, //
+    0, 0, 3, 3, 7, 7, 0, 0, 0, 0, 3, 3, 0, 0, 0, 0, 7, 7,
 ];
 
 /// The same with other codes than 0 at the broken numbers.
-const UNCLEAN: [&[u32]; 2] = [
-    &[
-        9, 9, 4, 8, 4, 4, 9, 9, 1, 1, 2, 6, 9, 9, 9, 9, 5, 5, //
-        9, 9, 2, 2, 6, 5, 9, 9, 1, 1, 2, 2, 9, 9, 9, 9, 7, 5,
-    ],
-    &[
-        7, 7, 7, 7, 5, 5, 7, 7, 7, 7, 7, 7, 7, 7, 7, 7, 5, 5, //
-        7, 7, 3, 3, 7, 7, 7, 7, 7, 7, 3, 3, 7, 7, 7, 7, 7, 7,
-    ],
+const UNCLEAN: &[u32] = &[
+    9, 9, 4, 8, 4, 4, 9, 9, 1, 1, 2, 6, 9, 9, 9, 9, 5, 5, //
+    9, 9, 2, 2, 6, 5, 9, 9, 1, 1, 2, 2, 9, 9, 9, 9, 7, 5, //
+    7, 7, 7, 7, 5, 5, 7, 7, 7, 7, 7, 7, 7, 7, 7, 7, 5, 5, //
+    7, 7, 3, 3, 7, 7, 7, 7, 7, 7, 3, 3, 7, 7, 7, 7, 7, 7,
 ];
 
 /// Codes that no table has stay with their positions.
-const STRANGE: [&[u32]; 2] = [
-    &[
-        9, 9, 9, 9, 0, 1000, 9, 9, 9, 9, 9, 9, 9, 9, 9, 9, 4294967295, 5, //
-        9, 9, 11, 12, 65536, 5, 9, 9, 9, 9, 13, 14, 9, 9, 9, 9, 16777216, 256,
-    ],
-    &[
-        0, 0, 0, 0, 5, 5, 0, 0, 0, 0, 0, 0, 0, 0, 0, 0, 5, 5, //
-        0, 0, 3, 3, 7, 7, 0, 0, 0, 0, 3, 3, 0, 0, 0, 0, 7, 70,
-    ],
+const STRANGE: &[u32] = &[
+    9, 9, 9, 9, 0, 1000, 9, 9, 9, 9, 9, 9, 9, 9, 9, 9, 4294967295, 5, //
+    9, 9, 11, 12, 65536, 5, 9, 9, 9, 9, 13, 14, 9, 9, 9, 9, 16777216, 256, //
+    0, 0, 0, 0, 5, 5, 0, 0, 0, 0, 0, 0, 0, 0, 0, 0, 5, 5, //
+    0, 0, 3, 3, 7, 7, 0, 0, 0, 0, 3, 3, 0, 0, 0, 0, 7, 70,
 ];
 
-const STRANGE_TODAY: [&[u32]; 2] = [
-    &[
-        4294967295, 5, 0, 1000, 0, 0, 0, 0, 16777216, 256, 65536, 5, 13, 14, 11, 12,
-    ],
-    &[5, 5, 5, 5, 0, 0, 0, 0, 7, 70, 7, 7, 3, 3, 3, 3],
+const STRANGE_TODAY: &[u32] = &[
+    4294967295, 5, 0, 1000, 0, 0, 0, 0, 16777216, 256, 65536, 5, 13, 14, 11, 12, //
+    5, 5, 5, 5, 0, 0, 0, 0, 7, 70, 7, 7, 3, 3, 3, 3,
 ];
 
 const REWRITTEN: &[Rewritten] = &[
@@ -85,53 +72,14 @@ const REWRITTEN: &[Rewritten] = &[
     },
 ];
 
-fn push_number(file: &mut Vec<u8>, number: u32) -> Result<(), TestFail> {
-    let mut field = [0; 4];
-    LittleEndian::write_u32(&mut field, number);
-    file.extend_from_slice(&field)?;
-    Ok(())
-}
-
-/// The file with this magic, text, size and codes.
-fn by_hand(
-    alloc: Global,
-    magic: &[u8],
-    text: &[u8],
-    size: u32,
-    codes: &[&[u32]],
-) -> Result<Vec<u8>, TestFail> {
-    let mut file = Vec::new(alloc);
-    file.extend_from_slice(magic)?;
-    push_number(&mut file, u32::try_from(text.len()).or(Err("length"))?)?;
-    file.extend_from_slice(text)?;
-    push_number(&mut file, size)?;
-    for side in codes {
-        for code in *side {
-            push_number(&mut file, *code)?;
-        }
-    }
-    Ok(file)
+/// The file of up to two rooks with these codes in the former format, which has 36 numbers.
+fn former(alloc: Global, codes: &[u32]) -> Result<Vec<u8>, TestFail> {
+    table_file(alloc, b"FREEZER1", ROOKS, 36, codes)
 }
 
 /// The former file of up to two rooks.
-pub fn former_rooks(alloc: Global) -> Result<Vec<u8>, TestFail> {
-    by_hand(alloc, b"FREEZER1", ROOKS, 36, &FORMER)
-}
-
-/// Calls the program over the store, which is to end so with this text.
-fn expect(
-    rt: &impl Abort,
-    alloc: Global,
-    store: &mut MemStore,
-    line: &[&str],
-    status: u8,
-    text: &str,
-) -> Result<(), TestFail> {
-    let mut out = MemSink::new(alloc, 200, no_fails(alloc)).or(Err("sink"))?;
-    let answer = call(alloc, line, store, &mut out)?;
-    assert_eq!(rt; out.taken(), text.as_bytes());
-    assert_eq!(rt; answer, status);
-    Ok(())
+pub(super) fn former_rooks(alloc: Global) -> Result<Vec<u8>, TestFail> {
+    former(alloc, FORMER)
 }
 
 fn expect_rewritten(
@@ -139,13 +87,14 @@ fn expect_rewritten(
     alloc: Global,
     rewritten: &Rewritten<'_>,
 ) -> Result<(), TestFail> {
-    let former = by_hand(alloc, b"FREEZER1", ROOKS, 36, &rewritten.former)?;
-    let today = by_hand(alloc, b"FREEZER2", ROOKS, 16, &rewritten.today)?;
-    let mut store = MemStore::new(alloc, no_fails(alloc));
-    store.put("O.t", &former).or(Err("put"))?;
-    store.put("N.t", b"another file").or(Err("put"))?;
-    let line = ["migrate", "O.t", "N.t"];
-    expect(rt, alloc, &mut store, &line, 0, "migrated 16\n")?;
+    let former = former(alloc, rewritten.former)?;
+    let today = plain_file(alloc, ROOKS, rewritten.today)?;
+    let files = [
+        ("O.t", former.as_slice()),
+        ("N.t", b"another file".as_slice()),
+    ];
+    let mut store = store_with(alloc, no_fails(alloc), &files)?;
+    expect_call(rt, alloc, &mut store, LINE, 0, "migrated 16\n")?;
     assert_eq!(rt; store.file("N.t").ok_or("no file")?, today.as_slice());
     assert_eq!(rt; store.file("O.t").ok_or("no file")?, former.as_slice());
     Ok(())
@@ -164,20 +113,12 @@ fn rewrites_the_former_file_of_a_text_to_what_build_makes(rt: HostRuntime) -> Re
     let alloc = rt.alloc();
     let former = former_rooks(alloc)?;
     assert_eq!(rt; former.len(), 379);
-    let mut store = MemStore::new(alloc, no_fails(alloc));
-    store.put("M", ROOKS).or(Err("put"))?;
-    store.put("O.t", &former).or(Err("put"))?;
-    let line = ["migrate", "O.t", "N.t"];
-    expect(&rt, alloc, &mut store, &line, 0, "migrated 16\n")?;
-    expect(&rt, alloc, &mut store, &["check", "N.t"], 0, "exact 16\n")?;
-    expect(
-        &rt,
-        alloc,
-        &mut store,
-        &["build", "M", "M.t"],
-        0,
-        "built 16\n",
-    )?;
+    let files = [("M", ROOKS), ("O.t", former.as_slice())];
+    let mut store = store_with(alloc, no_fails(alloc), &files)?;
+    expect_call(&rt, alloc, &mut store, LINE, 0, "migrated 16\n")?;
+    expect_call(&rt, alloc, &mut store, &["check", "N.t"], 0, "exact 16\n")?;
+    let build = ["build", "M", "M.t"];
+    expect_call(&rt, alloc, &mut store, &build, 0, "built 16\n")?;
     let built = store.file("M.t").ok_or("no file")?;
     assert_eq!(rt; store.file("N.t").ok_or("no file")?, built);
     Ok(())
@@ -189,9 +130,8 @@ struct Refused<'a>(&'a [u8], &'a [&'a str], u8, &'a str);
 
 fn expect_refused(rt: &impl Abort, alloc: Global, refused: &Refused<'_>) -> Result<(), TestFail> {
     let Refused(bytes, line, status, text) = refused;
-    let mut store = MemStore::new(alloc, no_fails(alloc));
-    store.put("O.t", bytes).or(Err("put"))?;
-    expect(rt, alloc, &mut store, line, *status, text)?;
+    let mut store = store_with(alloc, no_fails(alloc), &[("O.t", bytes)])?;
+    expect_call(rt, alloc, &mut store, line, *status, text)?;
     assert_eq!(rt; store.file("O.t").ok_or("no file")?, *bytes);
     assert_eq!(rt; store.file("N.t").is_none(), true);
     Ok(())
@@ -221,7 +161,7 @@ fn refuses_files_that_are_cut_too_long_or_of_another_kind(rt: HostRuntime) -> Re
     let mut former = former_rooks(alloc)?;
     let magic = "table: magic\n";
     expect_refused(&rt, alloc, &Refused(&former, &["check", "O.t"], 5, magic))?;
-    let today = by_hand(alloc, b"FREEZER2", ROOKS, 16, &TODAY)?;
+    let today = plain_file(alloc, ROOKS, TODAY)?;
     expect_refused(&rt, alloc, &Refused(&today, LINE, 5, magic))?;
     let cut = former.get(..378).ok_or("front")?;
     let truncated = "table: truncated 378 due 379\n";
@@ -234,10 +174,10 @@ fn refuses_files_that_are_cut_too_long_or_of_another_kind(rt: HostRuntime) -> Re
 #[test]
 fn refuses_other_sizes_and_too_many_former_numbers(rt: HostRuntime) -> Result<(), TestFail> {
     let alloc = rt.alloc();
-    let sized = by_hand(alloc, b"FREEZER1", ROOKS, 16, &FORMER)?;
+    let sized = table_file(alloc, b"FREEZER1", ROOKS, 16, FORMER)?;
     let size = "table: size 16 due 36\n";
     expect_refused(&rt, alloc, &Refused(&sized, LINE, 5, size))?;
-    let many = by_hand(alloc, b"FREEZER1", PAWNS, 33_554_432, &[])?;
+    let many = table_file(alloc, b"FREEZER1", PAWNS, 33_554_432, &[])?;
     let big = "table: rules 0: set too big 33554432\n";
     expect_refused(&rt, alloc, &Refused(&many, LINE, 5, big))
 }
@@ -263,16 +203,15 @@ const CUT: &[Cut] = &[
 
 fn expect_cut(rt: &impl Abort, alloc: Global, cut: &Cut) -> Result<(), TestFail> {
     let Cut(on, nth, keep, left) = cut;
-    let mut fails = Vec::new(alloc);
-    fails.push(Fail {
+    let fail = Fail {
         on: *on,
         nth: *nth,
         keep: *keep,
-    })?;
-    let mut store = MemStore::new(alloc, fails);
-    store.put("O.t", &former_rooks(alloc)?).or(Err("put"))?;
-    expect(rt, alloc, &mut store, LINE, 8, "store fault\n")?;
-    let today = by_hand(alloc, b"FREEZER2", ROOKS, 16, &TODAY)?;
+    };
+    let former = former_rooks(alloc)?;
+    let mut store = store_with(alloc, vec![in alloc; fail]?, &[("O.t", &former)])?;
+    expect_call(rt, alloc, &mut store, LINE, 8, "store fault\n")?;
+    let today = plain_file(alloc, ROOKS, TODAY)?;
     let part = left.and_then(|length| today.get(..length));
     assert_eq!(rt; store.file("N.t"), part);
     Ok(())
@@ -289,9 +228,9 @@ fn leaves_a_part_where_the_store_fails(rt: HostRuntime) -> Result<(), TestFail> 
 #[test]
 fn rewrites_the_file_where_only_the_line_is_not_taken(rt: HostRuntime) -> Result<(), TestFail> {
     let alloc = rt.alloc();
-    let mut store = MemStore::new(alloc, no_fails(alloc));
-    store.put("O.t", &former_rooks(alloc)?).or(Err("put"))?;
-    let mut out = MemSink::new(alloc, 3, no_fails(alloc)).or(Err("sink"))?;
+    let former = former_rooks(alloc)?;
+    let mut store = store_with(alloc, no_fails(alloc), &[("O.t", &former)])?;
+    let mut out = sink(alloc, 3)?;
     assert_eq!(rt; call(alloc, LINE, &mut store, &mut out)?, 9);
     assert_eq!(rt; out.taken(), b"mig".as_slice());
     assert_eq!(rt; store.file("N.t").map(|file| file.len()), Some(219));

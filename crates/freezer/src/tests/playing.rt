@@ -1,15 +1,15 @@
 //! Sessions over tables made by hand.
-use super::lines::table;
-use super::{CORNER, DRAWN, MATE_IN_ONE, NEXT_TO_IT, RULES, no_fails};
+use super::{CORNER, DRAWN, MATE_IN_ONE, NEXT_TO_IT, RULES, call_fails, no_fails, sink};
 use crate::run_once;
-use frz_store::{Fail, FailOn, MemSink, MemSource, MemStore};
+use frz_handmade::{plain_file, rook, store_with};
+use frz_store::{Fail, MemSink, MemSource};
 use std::alloc::Global;
 use std::process::Abort;
 use std::test::Fail as TestFail;
 
-const ROOK: &[u8] = &[4, 4, 0, 0, 6, 5, 2, 2, 5, 5, 0, 0, 7, 7, 3, 3];
+const ROOK: &[u32] = &rook::CODES;
 
-const HOLDS: &[u8] = &[1; 16];
+const HOLDS: &[u32] = &[1; 16];
 
 const KINGS: &str = "7k/8/8/8/8/8/8/K7 w - - 0 1";
 
@@ -17,7 +17,7 @@ const KINGS: &str = "7k/8/8/8/8/8/8/K7 w - - 0 1";
 /// what is left of the input.
 struct Row<'a>(
     &'a [u8],
-    &'a [u8],
+    &'a [u32],
     &'a str,
     &'a str,
     &'a [u8],
@@ -137,10 +137,8 @@ fn play(
     out: &mut MemSink,
 ) -> Result<(u8, Vec<u8>), TestFail> {
     let Row(text, codes, fen, side, bytes, _, _, _) = row;
-    let mut store = MemStore::new(alloc, no_fails(alloc));
-    store
-        .put("A.t", &table(alloc, text, codes)?)
-        .or(Err("put"))?;
+    let file = plain_file(alloc, text, codes)?;
+    let mut store = store_with(alloc, no_fails(alloc), &[("A.t", &file)])?;
     let mut words = Vec::new(alloc);
     for word in ["play", "A.t", fen, side] {
         words.push(String::from_str(alloc, word)?)?;
@@ -152,7 +150,7 @@ fn play(
 
 fn expect(rt: &impl Abort, alloc: Global, row: &Row<'_>) -> Result<(), TestFail> {
     let Row(_, _, _, _, _, status, text, left) = row;
-    let mut out = MemSink::new(alloc, 300, no_fails(alloc)).or(Err("sink"))?;
+    let mut out = sink(alloc, 300)?;
     let (answer, rest) = play(alloc, row, no_fails(alloc), &mut out)?;
     assert_eq!(rt; out.taken(), text.as_bytes());
     assert_eq!(rt; answer, *status);
@@ -173,13 +171,8 @@ const FAILING: Row = Row(DRAWN, HOLDS, KINGS, "white", b"h8h7\n", 10, "", b"");
 #[test]
 fn names_a_fault_of_the_input(rt: HostRuntime) -> Result<(), TestFail> {
     let alloc = rt.alloc();
-    let mut fails = Vec::new(alloc);
-    fails.push(Fail {
-        on: FailOn::Call,
-        nth: 1,
-        keep: 0,
-    })?;
-    let mut out = MemSink::new(alloc, 300, no_fails(alloc)).or(Err("sink"))?;
+    let fails = call_fails(alloc, 1)?;
+    let mut out = sink(alloc, 300)?;
     let (answer, rest) = play(alloc, &FAILING, fails, &mut out)?;
     assert_eq!(rt; answer, 10);
     assert_eq!(rt;
@@ -198,16 +191,14 @@ fn a_session_reads_ten_thousand_lines(rt: HostRuntime) -> Result<(), TestFail> {
         text.extend_from_slice(b"illegal\n")?;
     }
     text.extend_from_slice(b"limit lines\n")?;
-    let mut store = MemStore::new(alloc, no_fails(alloc));
-    store
-        .put("D.t", &table(alloc, DRAWN, HOLDS)?)
-        .or(Err("put"))?;
+    let file = plain_file(alloc, DRAWN, HOLDS)?;
+    let mut store = store_with(alloc, no_fails(alloc), &[("D.t", &file)])?;
     let mut words = Vec::new(alloc);
     for word in ["play", "D.t", KINGS, "white"] {
         words.push(String::from_str(alloc, word)?)?;
     }
     let mut input = MemSource::new(vec![in alloc; b'\n'; 10_000]?, no_fails(alloc));
-    let mut out = MemSink::new(alloc, 90_000, no_fails(alloc)).or(Err("sink"))?;
+    let mut out = sink(alloc, 90_000)?;
     assert_eq!(rt;
         run_once(alloc, &words, &mut store, &mut input, &mut out),
         13

@@ -1,18 +1,28 @@
 //! Reports of tables, those that the program builds and one made by hand.
-use super::{RULES, call, no_fails};
-use frz_store::{Fail, FailOn, MemSink, MemStore};
+use super::{RULES, call, expect_call, no_fails, sink};
+use frz_handmade::store_with;
+use frz_store::{Fail, FailOn};
 use std::alloc::Global;
 use std::process::Abort;
 use std::test::Fail as TestFail;
 
 /// Two kings, far apart: whoever is to move has lost, by the exits that are assigned.
-const LOST: &[u8] =
-    b"freezer 1\ngroup white 1 K:a1\ngroup black 1 K:h8\nexit black wins if turn:black\nexit white wins if turn:white\n";
+const LOST: &[u8] = b"freezer 1
+group white 1 K:a1
+group black 1 K:h8
+exit black wins if turn:black
+exit white wins if turn:white
+";
 
 /// A king and a pawn before its last rank against a king. White wins where the pawn becomes a queen
 /// with its own king beside it, and it is drawn where the pawn falls.
-const PAWN: &[u8] =
-    b"freezer 1\ngroup white 1 K:all\ngroup white 1 P:d6,d7\ngroup black 1 K:all\nexit draw if count:white:P:0 count:white:Q:0\nexit white wins if count:white:Q:1 distance:white:d8:0-1\n";
+const PAWN: &[u8] = b"freezer 1
+group white 1 K:all
+group white 1 P:d6,d7
+group black 1 K:all
+exit draw if count:white:P:0 count:white:Q:0
+exit white wins if count:white:Q:1 distance:white:d8:0-1
+";
 
 /// Builds the table of a text and reports on it, over a sink of so much room.
 fn reported(
@@ -21,11 +31,14 @@ fn reported(
     fails: Vec<Fail>,
     room: usize,
 ) -> Result<(u8, Vec<u8>), TestFail> {
-    let mut store = MemStore::new(alloc, fails);
-    store.put("A", rules).or(Err("put"))?;
-    let mut out = MemSink::new(alloc, 200, no_fails(alloc)).or(Err("sink"))?;
-    let _ = call(alloc, &["build", "A", "T"], &mut store, &mut out)?;
-    let mut out = MemSink::new(alloc, room, no_fails(alloc)).or(Err("sink"))?;
+    let mut store = store_with(alloc, fails, &[("A", rules)])?;
+    let _ = call(
+        alloc,
+        &["build", "A", "T"],
+        &mut store,
+        &mut sink(alloc, 200)?,
+    )?;
+    let mut out = sink(alloc, room)?;
     let status = call(alloc, &["report", "T"], &mut store, &mut out)?;
     Ok((status, out.taken().to_vec(alloc)?))
 }
@@ -67,7 +80,7 @@ fn finds_a_known_mutual_zugzwang(rt: HostRuntime) -> Result<(), TestFail> {
     Ok(())
 }
 
-/// The words of a call, its status and its text, over a store with the table of the rook.
+/// The words of a call, its status and its text, over a store with a file that no report is of.
 fn expect(
     rt: &impl Abort,
     alloc: Global,
@@ -75,14 +88,9 @@ fn expect(
     status: u8,
     text: &str,
 ) -> Result<(), TestFail> {
-    let mut store = MemStore::new(alloc, no_fails(alloc));
-    store
-        .put("C.t", b"FREEZERC and what may follow")
-        .or(Err("put"))?;
-    let mut out = MemSink::new(alloc, 200, no_fails(alloc)).or(Err("sink"))?;
-    assert_eq!(rt; call(alloc, line, &mut store, &mut out)?, status);
-    assert_eq!(rt; out.taken(), text.as_bytes());
-    Ok(())
+    let files = [("C.t", b"FREEZERC and what may follow".as_slice())];
+    let mut store = store_with(alloc, no_fails(alloc), &files)?;
+    expect_call(rt, alloc, &mut store, line, status, text)
 }
 
 #[test]
@@ -99,13 +107,12 @@ fn refuses_what_is_no_table(rt: HostRuntime) -> Result<(), TestFail> {
 fn names_the_fault_of_each_read(rt: HostRuntime) -> Result<(), TestFail> {
     let alloc = rt.alloc();
     for nth in 2..8 {
-        let mut fails = Vec::new(alloc);
-        fails.push(Fail {
+        let read = Fail {
             on: FailOn::Read,
             nth,
             keep: 0,
-        })?;
-        let (status, taken) = reported(alloc, LOST, fails, 200)?;
+        };
+        let (status, taken) = reported(alloc, LOST, vec![in alloc; read]?, 200)?;
         assert_eq!(rt; status, 8);
         assert_eq!(rt; taken.as_slice(), b"store fault\n".as_slice());
     }

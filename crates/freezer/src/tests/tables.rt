@@ -1,5 +1,6 @@
 //! Tables made by hand, checked and asked.
-use super::{CORNER, MATE_IN_ONE, RULES, call, first_fails, no_fails};
+use super::{CORNER, MATE_IN_ONE, RULES, call, call_fails, expect_call, no_fails};
+use frz_handmade::{plain_file, rook, store_with, table_file};
 use frz_store::{Fail, FailOn, MemSink, MemStore};
 use std::alloc::Global;
 use std::process::Abort;
@@ -9,10 +10,8 @@ use std::test::Fail as TestFail;
 const NEAR_ROOK: &[u8] =
     b"freezer 1\ngroup white 1 K:b6\ngroup white 1 R:c1,c2\ngroup black 1 K:a8,b8\n";
 
-/// The codes of both sides, White's first, each in four bytes.
-pub(super) const ROOK_CODES: [u8; 16] = [4, 4, 0, 0, 6, 5, 2, 2, 5, 5, 0, 0, 7, 7, 3, 3];
-
-const NEAR_ROOK_CODES: [u8; 16] = [1, 1, 1, 1, 1, 1, 1, 1, 5, 5, 5, 5, 7, 7, 7, 7];
+/// The codes of both sides, White's first.
+const NEAR_ROOK_CODES: [u32; 16] = [1, 1, 1, 1, 1, 1, 1, 1, 5, 5, 5, 5, 7, 7, 7, 7];
 
 /// Bytes of a table that are changed, and what a check says of it then.
 struct Changed<'a>(&'a [(usize, u8)], u8, &'a str);
@@ -71,24 +70,6 @@ const ASKED: &[(&str, u8, &str)] = &[
     ("k7/8/1K6/8/8/8/8/7R w - - 0", 4, "fen: fields\n"),
 ];
 
-/// The table of a text with so many numbers.
-pub(super) fn table(
-    alloc: Global,
-    text: &[u8],
-    size: u32,
-    codes: &[u8],
-) -> Result<Vec<u8>, TestFail> {
-    let length = u32::try_from(text.len()).or(Err("length"))?;
-    let mut file = b"FREEZER2".to_vec(alloc)?;
-    file.extend_from_slice(&length.to_le_bytes())?;
-    file.extend_from_slice(text)?;
-    file.extend_from_slice(&size.to_le_bytes())?;
-    for code in codes {
-        file.extend_from_slice(&u32::from(*code).to_le_bytes())?;
-    }
-    Ok(file)
-}
-
 /// Calls the program over a store with this table.
 fn expect(
     rt: &impl Abort,
@@ -98,13 +79,8 @@ fn expect(
     status: u8,
     text: &str,
 ) -> Result<(), TestFail> {
-    let mut store = MemStore::new(alloc, no_fails(alloc));
-    store.put("A.t", file).or(Err("put"))?;
-    let mut out = MemSink::new(alloc, 200, no_fails(alloc)).or(Err("sink"))?;
-    let answer = call(alloc, line, &mut store, &mut out)?;
-    assert_eq!(rt; out.taken(), text.as_bytes());
-    assert_eq!(rt; answer, status);
-    Ok(())
+    let mut store = store_with(alloc, no_fails(alloc), &[("A.t", file)])?;
+    expect_call(rt, alloc, &mut store, line, status, text)
 }
 
 /// Checks a table with each of these changes.
@@ -130,29 +106,51 @@ fn expect_changed(
 #[test]
 fn checks_tables(rt: HostRuntime) -> Result<(), TestFail> {
     let alloc = rt.alloc();
-    let rook = table(alloc, RULES, 8, &ROOK_CODES)?;
-    assert_eq!(rt; rook.len(), 153);
-    expect_changed(&rt, alloc, &rook, ROOK_ROWS)?;
-    let near = table(alloc, NEAR_ROOK, 8, &NEAR_ROOK_CODES)?;
+    let file = plain_file(alloc, RULES, &rook::CODES)?;
+    assert_eq!(rt; file.len(), 153);
+    expect_changed(&rt, alloc, &file, ROOK_ROWS)?;
+    let near = plain_file(alloc, NEAR_ROOK, &NEAR_ROOK_CODES)?;
     expect_changed(&rt, alloc, &near, NEAR_ROOK_ROWS)
 }
 
 /// Texts of great sets, each with what a check says of a file of the text that keeps the size 8.
 const GREAT: &[(&[u8], &str)] = &[
     (
-        b"freezer 1\ngroup white 1 K:all\ngroup black 1 K:all\ngroup white 1 R:all\ngroup white 1 N:a1-h4\n",
+        b"freezer 1
+group white 1 K:all
+group black 1 K:all
+group white 1 R:all
+group white 1 N:a1-h4
+",
         "table: size 8 due 16777216\n",
     ),
     (
-        b"freezer 1\ngroup white 1 K:all\ngroup black 1 K:all\ngroup white 1 R:all\ngroup white 1 N:a1-h4,a5\n",
+        b"freezer 1
+group white 1 K:all
+group black 1 K:all
+group white 1 R:all
+group white 1 N:a1-h4,a5
+",
         "table: size 8 due 17301504\n",
     ),
     (
-        b"freezer 1\ngroup white 1 K:all\ngroup black 1 K:all\ngroup white 1 R:all\ngroup white 1 N:all\ngroup white 1 B:a1-d1\n",
+        b"freezer 1
+group white 1 K:all
+group black 1 K:all
+group white 1 R:all
+group white 1 N:all
+group white 1 B:a1-d1
+",
         "table: size 8 due 134217728\n",
     ),
     (
-        b"freezer 1\ngroup white 1 K:all\ngroup black 1 K:all\ngroup white 1 R:all\ngroup white 1 N:all\ngroup white 1 B:a1-e1\n",
+        b"freezer 1
+group white 1 K:all
+group black 1 K:all
+group white 1 R:all
+group white 1 N:all
+group white 1 B:a1-e1
+",
         "table: rules 0: set too big 167772160\n",
     ),
 ];
@@ -161,7 +159,7 @@ const GREAT: &[(&[u8], &str)] = &[
 fn sizes_are_those_of_the_rules(rt: HostRuntime) -> Result<(), TestFail> {
     let alloc = rt.alloc();
     for (text, line) in GREAT {
-        let file = table(alloc, text, 8, &[])?;
+        let file = table_file(alloc, b"FREEZER2", text, 8, &[])?;
         expect(&rt, alloc, &file, &["check", "A.t"], 5, line)?;
     }
     Ok(())
@@ -170,7 +168,7 @@ fn sizes_are_those_of_the_rules(rt: HostRuntime) -> Result<(), TestFail> {
 #[test]
 fn refuses_tables_that_are_cut_too_long_or_missing(rt: HostRuntime) -> Result<(), TestFail> {
     let alloc = rt.alloc();
-    let mut file = table(alloc, RULES, 8, &ROOK_CODES)?;
+    let mut file = plain_file(alloc, RULES, &rook::CODES)?;
     for (left, text) in CUT {
         let front = file.get(..*left).ok_or("front")?;
         expect(&rt, alloc, front, &["check", "A.t"], 5, text)?;
@@ -202,7 +200,7 @@ fn refuses_tables_that_are_cut_too_long_or_missing(rt: HostRuntime) -> Result<()
 #[test]
 fn asks_tables(rt: HostRuntime) -> Result<(), TestFail> {
     let alloc = rt.alloc();
-    let file = table(alloc, RULES, 8, &ROOK_CODES)?;
+    let file = plain_file(alloc, RULES, &rook::CODES)?;
     for (fen, status, text) in ASKED {
         expect(&rt, alloc, &file, &["query", "A.t", fen], *status, text)?;
     }
@@ -212,12 +210,11 @@ fn asks_tables(rt: HostRuntime) -> Result<(), TestFail> {
 #[test]
 fn a_query_reads_two_codes_in_place(rt: HostRuntime) -> Result<(), TestFail> {
     let alloc = rt.alloc();
-    let mut store = MemStore::new(alloc, no_fails(alloc));
-    let file = table(alloc, RULES, 8, &ROOK_CODES)?;
-    store.put("A.t", &file).or(Err("put"))?;
-    let mut out = MemSink::new(alloc, 200, no_fails(alloc)).or(Err("sink"))?;
-    let status = call(alloc, &["query", "A.t", CORNER], &mut store, &mut out)?;
-    assert_eq!(rt; status, 0);
+    let file = plain_file(alloc, RULES, &rook::CODES)?;
+    let mut store = store_with(alloc, no_fails(alloc), &[("A.t", &file)])?;
+    let line = ["query", "A.t", CORNER];
+    let text = "white wins within 2\nblack none\n";
+    expect_call(&rt, alloc, &mut store, &line, 0, text)?;
     assert_eq!(rt; store.asked(), 24 + 73);
     Ok(())
 }
@@ -225,9 +222,8 @@ fn a_query_reads_two_codes_in_place(rt: HostRuntime) -> Result<(), TestFail> {
 #[test]
 fn a_check_stops_where_the_sink_fails(rt: HostRuntime) -> Result<(), TestFail> {
     let alloc = rt.alloc();
-    let mut store = MemStore::new(alloc, no_fails(alloc));
-    let file = table(alloc, RULES, 8, &ROOK_CODES)?;
-    store.put("A.t", &file).or(Err("put"))?;
+    let file = plain_file(alloc, RULES, &rook::CODES)?;
+    let mut store = store_with(alloc, no_fails(alloc), &[("A.t", &file)])?;
     let fails = vec![in alloc;
         Fail {
             on: FailOn::Call,
@@ -245,10 +241,7 @@ fn a_check_stops_where_the_sink_fails(rt: HostRuntime) -> Result<(), TestFail> {
 #[test]
 fn a_query_names_a_fault_of_the_store(rt: HostRuntime) -> Result<(), TestFail> {
     let alloc = rt.alloc();
-    let mut store = MemStore::new(alloc, first_fails(alloc)?);
-    let mut out = MemSink::new(alloc, 200, no_fails(alloc)).or(Err("sink"))?;
-    let status = call(alloc, &["query", "A.t", MATE_IN_ONE], &mut store, &mut out)?;
-    assert_eq!(rt; status, 8);
-    assert_eq!(rt; out.taken(), b"store fault\n".as_slice());
-    Ok(())
+    let mut store = MemStore::new(alloc, call_fails(alloc, 1)?);
+    let line = ["query", "A.t", MATE_IN_ONE];
+    expect_call(&rt, alloc, &mut store, &line, 8, "store fault\n")
 }
