@@ -86,18 +86,24 @@ fn solves_by_hand(rt: HostRuntime) -> Result<(), Fail> {
 /// White's and Black's entries of the game of ten numbers. By the definition of the bound, number
 /// by number, where a win within n plies is 2 + 2n and a failure within n plies 3 + 2n:
 ///
-/// | number | White | Black |
-/// |---|---|---|
-/// | 0, Black mated | wins within 0: 2 | fails within 0: 3 |
-/// | 1, broken | 0 | 0 |
-/// | 2, White, to 0 or an exit that wins in 3 | to 0 wins within 1, the exit within 4; the least is 1: 4 | White mates within 1: 5 |
-/// | 3, Black, to 2 or an exit that White wins in 5 | both lose for Black, and the exit lasts: 1 + 5 plies: 14 | the exit fails within 1, and 2 within 1, so both within 2: 7 |
-/// | 4, White, to 3, and to 0 barred | to 3 wins within 6, so 7: 16 | White may play the barred move, and mates within 1: 5 |
-/// | 5, Black, to 4 or 6 | Black goes to 6 and round to 5 for ever: 1 | to 4 and 6 fails within 1 each, so 2: 7 |
-/// | 6, White, to 5 or an exit with no value | to 5 wins no more than 5 does, and 5 holds: 1 | the exit is no value for Black: 5 |
-/// | 7, White, to 3 or an exit that wins in 6 | each wins within 6, so 7: 16 | White plays the exit: 5 |
-/// | 8, Black, to 7 or 9 or an exit that Black wins in 2 | Black plays the exit: 5 | the exit, 1 + 2 plies: 8 |
-/// | 9, White stalemated | 1 | 1 |
+/// - 0, Black is mated. White wins within 0: 2. Black fails within 0: 3.
+/// - 1, broken: 0 for both.
+/// - 2, White is to move, to 0 or an exit that wins in 3. White wins within 1 by 0 and within 4 by
+///   the exit, and the least is 1: 4. For Black: White mates within 1: 5.
+/// - 3, Black is to move, to 2 or an exit that White wins in 5. For White: both lose for Black, and
+///   the exit lasts, 1 + 5 plies: 14. For Black: the exit fails within 1, and 2 within 1, so both
+///   within 2: 7.
+/// - 4, White is to move, to 3, and to 0 barred. To 3 White wins within 6, so within 7: 16. For
+///   Black: White may play the barred move, and mates within 1: 5.
+/// - 5, Black is to move, to 4 or 6. For White: Black goes to 6 and round to 5 for ever: 1. For
+///   Black: to 4 and 6 it fails within 1 each, so within 2: 7.
+/// - 6, White is to move, to 5 or an exit with no value. To 5 White wins no more than 5 does, and 5
+///   holds: 1. For Black: the exit is no value for it: 5.
+/// - 7, White is to move, to 3 or an exit that wins in 6. Each wins within 6, so within 7: 16. For
+///   Black: White plays the exit: 5.
+/// - 8, Black is to move, to 7 or 9 or an exit that Black wins in 2. For White: Black plays the
+///   exit: 5. For Black: the exit, 1 + 2 plies: 8.
+/// - 9, White is stalemated: 1 for both.
 const TEN_WHITE: [u32; 10] = [2, 0, 4, 14, 16, 1, 1, 16, 5, 1];
 
 const TEN_BLACK: [u32; 10] = [3, 0, 5, 7, 5, 7, 5, 5, 8, 1];
