@@ -1,6 +1,6 @@
--- How many plies the text of a line has, and that it says something.
+-- That the text of a line says something.
 use Rattle.std.proofs.Common.{◌≡◌, refl, ℕ, ◌+◌, ◌≤◌, ◌==◌, List, [], ◌∷◌, ◌++◌, length, cond, arith}
-use Rattle.std.specs.Prelude.{codes, decimal}
+use Rattle.std.specs.Prelude.{codes, count_by, decimal}
 use Rattle.std.proofs.lemmas.List.Sums.{sum_by-append}
 use Rattle.frz_board.specs.declared.man.Colour.{Colour}
 use Rattle.frz_board.specs.Texts.{text_of}
@@ -14,7 +14,11 @@ use Rattle.frz_line.specs.Ends.{told, IsUnfinished}
 use Rattle.frz_line.specs.Lines.{LinePly, EndOfLine}
 use Rattle.frz_line.specs.Texts.{value_text, move_line, plies_text, end_line, last_line, start_line, line_text}
 use Rattle.frz_commands_line.specs.LineEnds.{naming_line}
-use Rattle.frz_commands_line.specs.LineOf.{lines_in, plies_in, told_text}
+use Rattle.frz_commands_line.specs.LineOf.{told_text}
+
+-- how many lines a text has
+abbrev lines_in : List ℕ → ℕ
+lines_in text = count_by (λ b. b == 10) text
 
 -- of two texts
 lines_more : (xs ys : List ℕ) → lines_in (xs ++ ys) ≡ lines_in xs + lines_in ys
@@ -26,18 +30,6 @@ line_there xs = let more = lines_more xs (codes "\n") in omega (arith, more)
 -- a text with a line behind another
 lines_behind : (xs ys : List ℕ) → 1 ≤ lines_in ys → 1 ≤ lines_in (xs ++ ys)
 lines_behind xs ys one = let more = lines_more xs ys in omega (arith, more, one)
-
--- a line for each ply
-plies_there : (plies : List LinePly) → length plies ≤ lines_in (plies_text plies)
-plies_there [] = omega arith
-plies_there (x ∷ plies) =
-    let more = lines_more (move_line x.arm.mv) (plies_text plies) in
-    let one = line_there (text_of x.arm.mv) in
-    let others = plies_there plies in
-    omega (arith, more, one, others)
-
-bound_there : (side : Colour) (code : ℕ) → 1 ≤ lines_in (kept_line side code)
-bound_there side code = line_there (side_name side ++ kept_words code)
 
 end_there : (end : LineEnd) → 1 ≤ lines_in (end_line end)
 end_there ends.Mate = line_there (codes "mate")
@@ -59,19 +51,6 @@ closing side (Stalemated mover) = let one = end_there ends.Stalemate in omega (a
 closing side (Exit v) = let one = end_there (ends.Exit v) in omega (arith, one)
 closing side Cut = let one = end_there ends.Cut in omega (arith, one)
 closing side (Stopped reason) = elim reason [ ]
-
--- no fewer plies are told than were played
-pub plies_told : (side : Colour) (code : ℕ) (plies : List LinePly) (end : EndOfLine) → length plies ≤ plies_in (told_text side code plies (told side end))
-plies_told side code [] end = omega arith
-plies_told side code (x ∷ plies) end =
-    let answer = told side end in
-    let bound = bound_there side code in
-    let moves = plies_there (x ∷ plies) in
-    let last = closing side end in
-    let first = lines_more (kept_line side code) (plies_text (x ∷ plies) ++ last_line answer) in
-    let next = lines_more (plies_text (x ∷ plies)) (last_line answer) in
-    let all = lines_more (line_text side code (x ∷ plies) answer) (naming_line answer) in
-    omega (arith, bound, moves, last, first, next, all)
 
 not_nil : (xs : List ℕ) → 1 ≤ lines_in xs → xs ≡ [] → ⊥
 not_nil [] one e = omega (arith, one)

@@ -14,7 +14,7 @@ use Rattle.frz_table.specs.Opening.{Contents, contents_of, opened, Refuses, kept
 use Rattle.frz_table.specs.Tables.{Table}
 use Rattle.frz_check.specs.Kept.{kept_codes}
 use Rattle.frz_answer.specs.Statuses.{OneOf}
-use Rattle.frz_answer.specs.World.{World, Agrees, spent}
+use Rattle.frz_answer.specs.World.{World, Agrees, Spent, spent}
 use Rattle.frz_answer.specs.Answers.{Answer, says, SomeAnswer}
 use Rattle.frz_answer.specs.Jobs.{Job}
 use Rattle.frz_answer.proofs.Lemmas.{IsStage, as_given}
@@ -25,10 +25,11 @@ use Rattle.frz_prelude.specs.declared.refused.Refused.TheVariants as refusals
 use Rattle.frz_prelude.specs.declared.stop.Stop.TheVariants.{Refused}
 use Rattle.frz_prelude.proofs.Lemmas.{StopsWith, refusal_said, table_own}
 use Rattle.frz_line.specs.Ends as ends
-use Rattle.frz_commands_line.specs.LineOf.{code_at, plies_in, line_answer, IsLined, IsLinedIn, IsLinedBy, IsLinedAt}
+use Rattle.frz_commands_line.specs.Costs.{CostsIn}
+use Rattle.frz_commands_line.specs.LineOf.{code_at, line_answer, LineComes, IsLined, IsLinedIn, IsLinedBy, IsLinedAt}
 use Rattle.frz_commands_line.specs.Lining.{lining_in, lining_at}
 use Rattle.frz_commands_line.proofs.Counting.{told_said}
-use Rattle.frz_commands_line.proofs.OpeningCosts.{opening_within}
+use Rattle.frz_commands_line.proofs.OpeningCosts.{opening_within, playing_within}
 use Rattle.frz_commands_line.proofs.Seen.{LineThere}
 
 -- the line by an open table is a stage of the command
@@ -50,6 +51,13 @@ pub by_name : (table : Table) (name : List ℕ) (side : Colour) (p : Board) (m :
 by_name table name side p m a named opens lined =
     subst (λ (x : Result Contents TableFault). IsLinedBy x (bytes_at m name) side p m a) (sym opens)
     (subst (λ (q : List ℕ). IsLinedIn (contents_of table) (bytes_at m q) side p m a) named lined)
+
+-- what it costs by the open table, behind what opening costs, is what it costs by its file
+pub costs_by_name : (table : Table) (name : List ℕ) (side : Colour) (p : Board) (m : Files) (i : List ℕ) (a : Answer) (old mid new : Spent) → table.name ≡ name → opened (table_format Plain) (m name) ≡ Ok (contents_of table)
+    → mid.steps ≡ old.steps → mid.calls ≤ old.calls + 5 → mid.asked ≤ old.asked + (16 + length (kept_text (bytes_at m name))) → (lining_in table side p).costs m i a mid new → (lining_at name side p).costs m i a old new
+costs_by_name table name side p m i a old mid new named opens steps few bytes costs =
+    playing_within (m name) (contents_of table) p (LineComes (bytes_at m name) side p) old mid new opens steps few bytes
+    (subst (λ (q : List ℕ). CostsIn (contents_of table) p (LineComes (bytes_at m q) side p (contents_of table)) 0 0 mid new) named costs)
 
 -- there is an answer
 some_in : LineThere → (contents : Contents) (bytes : List ℕ) (side : Colour) (p : Board) (files : Files) → SomeAnswer (λ a. IsLinedIn contents bytes side p files a)
@@ -96,7 +104,7 @@ module _ (there : LineThere) (name : List ℕ) (side : Colour) (p : Board) (m : 
     (calls : new.store.calls ≤ old.store.calls + opening_calls (table_format Plain) (m name)) (steps : new.steps ≡ old.steps) where
   within : (a : Answer) → (lining_at name side p).costs m i a (spent old) (spent new)
   within a =
-      opening_within (opened (table_format Plain) (m name)) (opening_calls (table_format Plain) (m name)) (16 + length (kept_text (bytes_at m name))) (plies_in a.text) old new steps calls asked
+      opening_within (opened (table_format Plain) (m name)) p (LineComes (bytes_at m name) side p) (opening_calls (table_format Plain) (m name)) (16 + length (kept_text (bytes_at m name))) (spent old) (spent new) steps calls asked
 
   refused_so : (fault : TableFault) → opened (table_format Plain) (m name) ≡ Err fault → StopsWith (lining_at name side p) (Refused (refusals.Table fault)) m i old new
   refused_so fault e = record {

@@ -14,7 +14,7 @@ use Rattle.frz_answer.specs.declared.end.End.{End}
 use Rattle.frz_answer.specs.declared.end.End.TheVariants.{Stopped, SinkFault}
 use Rattle.frz_answer.specs.Statuses.{OneOf}
 use Rattle.frz_answer.specs.Texts.{TookText, FailedWithin}
-use Rattle.frz_answer.specs.World.{World, world, Agrees, Quiet, spent}
+use Rattle.frz_answer.specs.World.{World, world, Agrees, Quiet, Spent, spent, spent_by}
 use Rattle.frz_answer.specs.Answers.{Answer, says, IsLines}
 use Rattle.frz_answer.specs.Jobs.{Job}
 use Rattle.frz_answer.specs.Ends.{MayMeet, Ran, Said}
@@ -25,16 +25,16 @@ use Rattle.frz_line.specs.declared.end.LineEnd.{LineEnd}
 use Rattle.frz_line.specs.declared.end.LineFault.{LineFault}
 use Rattle.frz_line.specs.declared.end.LineFault.TheVariants as faults
 use Rattle.frz_line.specs.BestLine.{TellsLine}
-use Rattle.frz_line.specs.Costs.{Spent, spent_by}
 use Rattle.frz_line.specs.Ends.{told, IsUnfinished, Finishes}
 use Rattle.frz_line.specs.Faults.{StoreCause, WroteBy}
 use Rattle.frz_line.specs.Kept.{kept_codes}
 use Rattle.frz_line.specs.Texts.{line_text}
 use Rattle.frz_commands_line.specs.LineEnds.{end_status, naming_line, EndsLine}
-use Rattle.frz_commands_line.specs.LineOf.{code_at, plies_in, told_text, line_answer}
+use Rattle.frz_commands_line.specs.LineOf.{code_at, LineComes, told_text, line_answer}
 use Rattle.frz_commands_line.specs.Lining.{lining_in}
 use Rattle.frz_commands_line.proofs.Behind.{rest_of, behind_lines, cut_within}
-use Rattle.frz_commands_line.proofs.Counting.{plies_told, unfinished_said}
+use Rattle.frz_commands_line.proofs.Counting.{unfinished_said}
+use Rattle.frz_commands_line.proofs.OpeningCosts.{costs_inside, costs_outside}
 use Rattle.frz_commands_line.proofs.Seen.{LineThere, LineSo, by_member, lined_inside, lined_outside, line_so}
 
 -- what was written of the line
@@ -71,16 +71,14 @@ module _ (there : LineThere) (table : Table) (side : Colour) (p : Board) (store 
   abbrev code_in : Files → ℕ
   code_in m = code_at (contents_of table) (bytes_at m table.name) side p
 
-  -- so much was asked for
-  asked_costs : (text : List ℕ) (result : Result LineEnd LineFault) (m : Files) (i : List ℕ) (so : Line text result m) (a : Answer) (w : SinkTold)
-      → a.text ≡ told_text side (code_in m) so.plies (told side so.end) → job.costs m i a (spent old) (spent (world left input w now))
-  asked_costs text result m i so a w e =
-      let few = plies_told side (code_in m) so.plies so.end in
-      let same = ap plies_in e in
-      let bytes = so.spent.bytes in
-      let called = so.spent.called in
-      let stepped = so.spent.stepped in
-      record { steps = omega (arith, few, same, stepped); calls = omega (arith, few, same, called); asked = omega (arith, few, same, bytes) }
+  -- the numbers of the line
+  abbrev Comes : Files → List ℕ → Type 0
+  Comes m numbers = LineComes (bytes_at m table.name) side p (contents_of table) numbers
+
+  -- what was spent is within the costs of the line
+  line_costs : (inside : Member table.rules.groups p) (text : List ℕ) (result : Result LineEnd LineFault) (m : Files) (i : List ℕ) (so : Line text result m) (a : Answer)
+      → job.costs m i a (spent old) (spent played)
+  line_costs inside text result m i so a = costs_inside (contents_of table) p (Comes m) (spent old) (spent played) inside so.costs
 
   -- an answer is this one of the line
   is_answer : (inside : Member table.rules.groups p) (text : List ℕ) (result : Result LineEnd LineFault) (m : Files) (i : List ℕ) (so : Line text result m) (a : Answer)
@@ -115,11 +113,10 @@ module _ (there : LineThere) (table : Table) (side : Colour) (p : Board) (store 
         let same : says (end_status result) (text ++ naming_line result) m ≡ line_answer side (code_in m) so.plies (told side so.end) m =
         ap (λ (l : List ℕ). says (end_status result) l m) texts
         ∙ ap (λ (r : Result LineEnd LineFault). says (end_status r) (told_text side (code_in m) so.plies (told side so.end)) m) ended.0 in
-        let costs = asked_costs text result m i so (says (end_status result) (text ++ naming_line result) m) mid texts in
         record {
           found = as_given (rest_of job text) m i between agrees;
           answer = is_answer inside text result m i so (says (end_status result) (text ++ naming_line result) m) same;
-          costs = record { steps = costs.steps; calls = costs.calls; asked = costs.asked };
+          costs = line_costs inside text result m i so (says (end_status result) (text ++ naming_line result) m);
         }))
 
     -- the rest of the line's answer
@@ -143,7 +140,6 @@ module _ (there : LineThere) (table : Table) (side : Colour) (p : Board) (store 
         let a = says (end_status answer) rest m in
         let same : says (end_status answer) (text ++ rest) m ≡ line_answer side (code_in m) so.plies answer m =
         ap (λ (l : List ℕ). says (end_status answer) l m) whole in
-        let costs = asked_costs text result m i so (says (end_status answer) (text ++ rest) m) mid whole in
         record {
           found = as_given (rest_of job text) m i between agrees;
           some = record {
@@ -151,7 +147,7 @@ module _ (there : LineThere) (table : Table) (side : Colour) (p : Board) (store 
             answer = is_answer inside text result m i so (says (end_status answer) (text ++ rest) m) same;
             text = unfinished_said side so.end so.rest (short answer so.rest so.finishes);
           };
-          costs = record { steps = costs.steps; calls = costs.calls; asked = costs.asked };
+          costs = line_costs inside text result m i so (says (end_status answer) (text ++ rest) m);
         }))
 
     -- the sink failed within the line
@@ -170,13 +166,12 @@ module _ (there : LineThere) (table : Table) (side : Colour) (p : Board) (store 
         let answer = told side so.end in
         let whole = rest_answer (Err faults.Output) m so in
         let a = line_answer side (code_in m) so.plies answer m in
-        let costs = asked_costs text (Err faults.Output) m i so a out refl in
         record {
           a = a;
           answer = is_answer inside text (Err faults.Output) m i so a refl;
           rest = so.rest ++ naming_line answer;
           begins = whole;
-          costs = record { steps = costs.steps; calls = costs.calls; asked = costs.asked };
+          costs = line_costs inside text (Err faults.Output) m i so a;
         })
 
   -- the position is not in the set: neither object was touched
@@ -195,11 +190,11 @@ module _ (there : LineThere) (table : Table) (side : Colour) (p : Board) (store 
       (λ sees m i agrees. record {
         found = as_given job m i old agrees;
         answer = lined_outside (contents_of table) (bytes_at m table.name) side p m (says (status_of refusals.Outside) (refusal_line refusals.Outside) m) none refl;
-        costs = record {
+        costs = costs_outside (contents_of table) p (Comes m) (spent old) (spent played) none (record {
           steps = omega (arith, unstepped);
           calls = (let e = ap (λ (s : StoreTold). s.calls) same in omega (arith, e));
           asked = (let e = ap (λ (s : StoreTold). s.asked) same in omega (arith, e));
-        };
+        });
       })
 
   is_inside : (result : Result LineEnd LineFault) → ((result ≡ Err faults.Outside) ↔ (Member table.rules.groups p → ⊥)) → (result ≡ Err faults.Outside → ⊥) → Member table.rules.groups p

@@ -9,24 +9,25 @@ use Rattle.frz_sets.specs.Views.{RuleLines, GroupLine}
 use Rattle.frz_exits.specs.Books.{value_by}
 use Rattle.frz_index.specs.Members.{Member, Num}
 use Rattle.frz_index.proofs.Lemmas.{member_of, of_member}
+use Rattle.frz_game.specs.Games.{graph_by}
 use Rattle.frz_game.specs.Numbers.{is_member}
 use Rattle.frz_store.specs.Files.{Files, bytes_at}
 use Rattle.frz_table.specs.Layout.{codes_at}
 use Rattle.frz_table.specs.Opening.{Contents, contents_of}
 use Rattle.frz_table.specs.Tables.{Table, Carries, IsFileOf, table_size}
+use Rattle.frz_answer.specs.World.{Spent}
 use Rattle.frz_answer.specs.Answers.{Answer, says}
 use Rattle.frz_prelude.specs.Refusals.{status_of, refusal_line}
 use Rattle.frz_prelude.specs.declared.refused.Refused.TheVariants as refusals
 use Rattle.frz_line.specs.declared.end.LineEnd.{LineEnd}
 use Rattle.frz_line.specs.declared.end.LineFault.{LineFault}
-use Rattle.frz_line.specs.declared.reading.TheConstants.{MOST_ASKED, MOST_READ}
 use Rattle.frz_line.specs.BestLine.{TellsLine}
-use Rattle.frz_line.specs.Costs.{Spent, Spends}
+use Rattle.frz_line.specs.Costs.{SpendsAt}
 use Rattle.frz_line.specs.Ends.{told, Finishes}
 use Rattle.frz_line.specs.Kept.{kept_codes}
 use Rattle.frz_line.specs.Lines.{LinePly, EndOfLine, IsLine}
 use Rattle.frz_line.specs.Texts.{line_text}
-use Rattle.frz_commands_line.specs.LineOf.{code_at, IsLineBy, line_answer, IsLined, IsLinedIn}
+use Rattle.frz_commands_line.specs.LineOf.{code_at, IsLineBy, LineComes, line_answer, IsLined, IsLinedIn}
 
 -- that there is a line from each number
 abbrev pub LineThere : Type 0
@@ -45,6 +46,13 @@ by_member {A} groups p inside outside = by_test (is_member groups p) refl
     by_test true e = inside (member_of groups p e)
     by_test false e = outside (λ member. let no : false ≡ true = sym e ∙ of_member groups p member in cc)
 
+pub not_member : (groups : List GroupLine) (p : Board) → (Member groups p → ⊥) → is_member groups p ≡ false
+not_member groups p none = by_test (is_member groups p) refl
+  where
+    by_test : (b : Bool) → is_member groups p ≡ b → b ≡ false
+    by_test true e = absurd (none (member_of groups p e))
+    by_test false e = refl
+
 -- the answer at a position of the set, and at one that is outside
 module _ (contents : Contents) (bytes : List ℕ) (side : Colour) (p : Board) (files : Files) (a : Answer) where
   pub lined_inside : Member contents.rules.groups p → IsLined contents bytes side p files a → IsLinedIn contents bytes side p files a
@@ -52,16 +60,12 @@ module _ (contents : Contents) (bytes : List ℕ) (side : Colour) (p : Board) (f
       subst (λ b. MatchBool b (IsLined contents bytes side p files a) (a ≡ says (status_of refusals.Outside) (refusal_line refusals.Outside) files))
       (sym (of_member contents.rules.groups p inside)) lined
 
-  outside_test : (b : Bool) → is_member contents.rules.groups p ≡ b → (Member contents.rules.groups p → ⊥) → b ≡ false
-  outside_test true e none = absurd (none (member_of contents.rules.groups p e))
-  outside_test false e none = refl
-
   pub lined_outside : (Member contents.rules.groups p → ⊥) → a ≡ says (status_of refusals.Outside) (refusal_line refusals.Outside) files → IsLinedIn contents bytes side p files a
   lined_outside none e =
       subst (λ b. MatchBool b (IsLined contents bytes side p files a) (a ≡ says (status_of refusals.Outside) (refusal_line refusals.Outside) files))
-      (sym (outside_test (is_member contents.rules.groups p) refl none)) e
+      (sym (not_member contents.rules.groups p none)) e
 
--- the line of which this text was written, with what was asked for
+-- the line of which this text was written, with what was spent on it
 pub record LineSo (contents : Contents) (bytes : List ℕ) (side : Colour) (p : Board) (text : List ℕ) (result : Result LineEnd LineFault) (before now : Spent) : Type 0 where
   pub plies : List LinePly
   pub end : EndOfLine
@@ -69,7 +73,7 @@ pub record LineSo (contents : Contents) (bytes : List ℕ) (side : Colour) (p : 
   pub rest : List ℕ
   pub whole : text ++ rest ≡ line_text side (code_at contents bytes side p) plies (told side end)
   pub finishes : Finishes result (told side end) rest
-  pub spent : Spends (MOST_ASKED + 4) (MOST_READ + 1) (length plies + 1) before now
+  pub costs : (numbers : List ℕ) → LineComes bytes side p contents numbers → SpendsAt (graph_by contents.rules (value_by contents.rules)) 1 numbers before now
 
 module _ (there : LineThere) (table : Table) (side : Colour) (p : Board) (text : List ℕ) (result : Result LineEnd LineFault) (before now : Spent) (inside : Member table.rules.groups p) where
   abbrev codes_of : List ℕ → List ℕ
@@ -84,7 +88,16 @@ module _ (there : LineThere) (table : Table) (side : Colour) (p : Board) (text :
   in_file (Some bytes) carried tells =
       let line = there table.rules (value_by table.rules) side (codes_of bytes) (Num table.rules.groups p) in
       let so = tells inside line.0 line.1 line.2 in
-      record { plies = line.0; end = line.1; line = line.2; rest = so.0; whole = so.1; finishes = so.2; spent = so.3 }
+      let arena = graph_by table.rules (value_by table.rules) in
+      record {
+        plies = line.0;
+        end = line.1;
+        line = line.2;
+        rest = so.0;
+        whole = so.1;
+        finishes = so.2;
+        costs = λ numbers comes. subst (λ (z : List ℕ). SpendsAt arena 1 z before now) (sym comes.are) (tells inside comes.plies comes.end comes.line).3;
+      }
 
   pub line_so : (o : Option Files) (m : Files) → IsSome o → IfSome o (λ f. f ≡ m) → Carries o table → IfSome (kept_codes table side o) Tells
       → LineSo (contents_of table) (bytes_at m table.name) side p text result before now

@@ -15,7 +15,7 @@ use Rattle.frz_table.specs.Opening.{Contents, contents_of, opened, Refuses, kept
 use Rattle.frz_table.specs.Tables.{Table}
 use Rattle.frz_check.specs.Kept.{kept_codes}
 use Rattle.frz_answer.specs.Statuses.{OneOf}
-use Rattle.frz_answer.specs.World.{World, Agrees, spent}
+use Rattle.frz_answer.specs.World.{World, Agrees, Spent, spent}
 use Rattle.frz_answer.specs.Answers.{Answer, says, SomeAnswer}
 use Rattle.frz_answer.proofs.Lemmas.{IsStage, as_given}
 use Rattle.frz_prelude.specs.Refusals.{status_of, refusal_line}
@@ -26,11 +26,12 @@ use Rattle.frz_prelude.specs.declared.stop.Stop.TheVariants.{Refused}
 use Rattle.frz_prelude.proofs.Lemmas.{StopsWith, refusal_said, table_own}
 use Rattle.frz_play.specs.Reading as reading
 use Rattle.frz_play.specs.Sessions.{EndOfSession, IsSession}
+use Rattle.frz_commands_line.specs.Costs.{CostsIn}
 use Rattle.frz_commands_line.specs.LineOf.{code_at}
-use Rattle.frz_commands_line.specs.SessionOf.{session_answer, IsPlayed, IsPlayedIn, IsPlayedBy, IsPlayedAt, plies_of}
+use Rattle.frz_commands_line.specs.SessionOf.{session_answer, IsPlayed, IsPlayedIn, IsPlayedBy, IsPlayedAt, SessionComes}
 use Rattle.frz_commands_line.specs.Playing.{playing_in, playing_at}
 use Rattle.frz_commands_line.proofs.Opened.{from_table, stops_by}
-use Rattle.frz_commands_line.proofs.OpeningCosts.{opening_within}
+use Rattle.frz_commands_line.proofs.OpeningCosts.{opening_within, playing_within}
 use Rattle.frz_commands_line.proofs.SessionSeen.{SessionThere}
 use Rattle.frz_commands_line.proofs.SessionTexts.{answered_at, never_cut, session_said}
 
@@ -53,6 +54,13 @@ pub by_name : (table : Table) (name : List ℕ) (side : Colour) (p : Board) (m :
 by_name table name side p m i a named opens played =
     subst (λ (x : Result Contents TableFault). IsPlayedBy x (bytes_at m name) side p m i a) (sym opens)
     (subst (λ (q : List ℕ). IsPlayedIn (contents_of table) (bytes_at m q) side p m i a) named played)
+
+-- what it costs by the open table, behind what opening costs, is what it costs by its file
+pub costs_by_name : (table : Table) (name : List ℕ) (side : Colour) (p : Board) (m : Files) (i : List ℕ) (a : Answer) (old mid new : Spent) → table.name ≡ name → opened (table_format Plain) (m name) ≡ Ok (contents_of table)
+    → mid.steps ≡ old.steps → mid.calls ≤ old.calls + 5 → mid.asked ≤ old.asked + (16 + length (kept_text (bytes_at m name))) → (playing_in table side p).costs m i a mid new → (playing_at name side p).costs m i a old new
+costs_by_name table name side p m i a old mid new named opens steps few bytes costs =
+    playing_within (m name) (contents_of table) p (SessionComes (bytes_at m name) side p i) old mid new opens steps few bytes
+    (subst (λ (q : List ℕ). CostsIn (contents_of table) p (SessionComes (bytes_at m q) side p i (contents_of table)) 0 0 mid new) named costs)
 
 -- there is an answer
 some_in : SessionThere → (contents : Contents) (bytes : List ℕ) (side : Colour) (p : Board) (files : Files) (input : List ℕ) → SomeAnswer (λ a. IsPlayedIn contents bytes side p files input a)
@@ -90,7 +98,7 @@ module _ (there : SessionThere) (name : List ℕ) (side : Colour) (p : Board) (m
     (calls : new.store.calls ≤ old.store.calls + opening_calls (table_format Plain) (m name)) (steps : new.steps ≡ old.steps) where
   within : (a : Answer) → (playing_at name side p).costs m i a (spent old) (spent new)
   within a =
-      opening_within (opened (table_format Plain) (m name)) (opening_calls (table_format Plain) (m name)) (16 + length (kept_text (bytes_at m name))) (plies_of a.text) old new steps calls asked
+      opening_within (opened (table_format Plain) (m name)) p (SessionComes (bytes_at m name) side p i) (opening_calls (table_format Plain) (m name)) (16 + length (kept_text (bytes_at m name))) (spent old) (spent new) steps calls asked
 
   refused_so : (fault : TableFault) → opened (table_format Plain) (m name) ≡ Err fault → StopsWith (playing_at name side p) (Refused (refusals.Table fault)) m i old new
   refused_so fault e = record {

@@ -15,7 +15,7 @@ use Rattle.frz_answer.specs.declared.end.End.{End}
 use Rattle.frz_answer.specs.declared.end.End.TheVariants.{Stopped, SinkFault}
 use Rattle.frz_answer.specs.Statuses.{OneOf}
 use Rattle.frz_answer.specs.Texts.{TookText, FailedWithin}
-use Rattle.frz_answer.specs.World.{World, world, Quiet, Came, spent}
+use Rattle.frz_answer.specs.World.{World, world, Quiet, Came, Spent, spent, spent_by}
 use Rattle.frz_answer.specs.Answers.{Answer, says, behind, IsLines}
 use Rattle.frz_answer.specs.Jobs.{Job}
 use Rattle.frz_answer.specs.Ends.{MayMeet, Ran, Said}
@@ -33,16 +33,16 @@ use Rattle.frz_play.specs.PlaySession.{TellsSession}
 use Rattle.frz_play.specs.Sessions.{EndOfSession}
 use Rattle.frz_commands_line.specs.SessionEnds.{session_status, session_naming, EndsSession}
 use Rattle.frz_commands_line.specs.LineOf.{code_at}
-use Rattle.frz_commands_line.specs.SessionOf.{plies_of, played_text, session_answer, IsSessionBy}
+use Rattle.frz_commands_line.specs.SessionOf.{SessionComes, played_text, session_answer, IsSessionBy}
 use Rattle.frz_commands_line.specs.Playing.{playing_in}
 use Rattle.frz_game.specs.Games.{graph_by}
 use Rattle.frz_exits.specs.Books.{value_by}
 use Rattle.frz_check.specs.Kept.{kept_codes as codes_in}
 use Rattle.frz_index.specs.Members.{Num}
-use Rattle.frz_line.specs.Costs.{Spent, spent_by}
 use Rattle.frz_play.specs.Reading.{opened}
+use Rattle.frz_commands_line.proofs.OpeningCosts.{costs_inside, costs_outside}
 use Rattle.frz_commands_line.proofs.SessionSeen.{SessionThere, SessionSo, played_inside, played_outside, session_so}
-use Rattle.frz_commands_line.proofs.SessionTexts.{Answered, answered_at, never_cut, plies_played}
+use Rattle.frz_commands_line.proofs.SessionTexts.{Answered, answered_at, never_cut}
 use Rattle.frz_commands_line.proofs.Taken.{rest_after, Split, found_in, after_lines, rest_left, cut_after}
 
 -- what was written of the session and taken of the input
@@ -124,16 +124,13 @@ module _ (there : SessionThere) (table : Table) (side : Colour) (p : Board) (sto
         let so = so_in result tells sees m agrees in
         record { input = so.input; rest = rest_of result m so; may = so.may; split = so.of.takes }
 
-    -- so much was asked for
-    asked_costs : (result : Result SessionEnd PlayFault) (m : Files) (i : List ℕ) (so : Session result m) (answer : Result SessionEnd PlayFault) (a : Answer) (here there : SourceTold) (first last : SinkTold)
-        → a.text ≡ played_text side (code_in m) so.plies so.end answer → job.costs m i a (spent (world store here first before)) (spent (world left there last now))
-    asked_costs result m i so answer a here there first last e =
-        let few = plies_played side (code_in m) so.plies so.end answer in
-        let same = ap plies_of e in
-        let bytes = so.spent.bytes in
-        let called = so.spent.called in
-        let stepped = so.spent.stepped in
-        record { steps = omega (arith, few, same, stepped); calls = omega (arith, few, same, called); asked = omega (arith, few, same, bytes) }
+    -- what was spent is within the costs of the session
+    session_costs : (result : Result SessionEnd PlayFault) (m : Files) (so : Session result m) (a : Answer) → job.costs m so.input a (spent old) (spent played)
+    session_costs result m so a =
+        costs_inside (contents_of table) p (SessionComes (bytes_at m table.name) side p so.input (contents_of table)) (spent old) (spent played) inside so.costs
+
+    rest_costs : (result : Result SessionEnd PlayFault) (m : Files) (so : Session result m) (a : Answer) → job.costs m (took ++ rest_of result m so) a (spent old) (spent played)
+    rest_costs result m so a = subst (λ (i : List ℕ). job.costs m i a (spent old) (spent played)) (sym so.of.takes) (session_costs result m so a)
 
     -- an answer is this one of the session
     is_answer : (result : Result SessionEnd PlayFault) (m : Files) (so : Session result m) (answer : Result SessionEnd PlayFault) → Tells side so.end answer → (a : Answer)
@@ -176,7 +173,7 @@ module _ (there : SessionThere) (table : Table) (side : Colour) (p : Board) (sto
     all_told result end tells took_text fine unfailed own said_it whole =
         after_lines job text took end old between (world left gone taken now) (came took_text) lines refl refl refl
         (λ sees m agrees. split_in result tells sees m agrees)
-        (λ m i a costs. record { steps = costs.steps; calls = costs.calls; asked = costs.asked })
+        (λ m i a costs. costs)
         (said (rest_after job text took) (session_status result) (session_naming result) end between played taken quiet_between
         (record { store = fine; input = unfailed; out = refl }) own said_it
         (λ sees m i agrees.
@@ -184,11 +181,10 @@ module _ (there : SessionThere) (table : Table) (side : Colour) (p : Board) (sto
         let ended = whole so.end so.of.rest so.of.unread so.of.finishes in
         let texts : text ++ session_naming result ≡ played_text side (code_in m) so.plies so.end result =
         ap (λ (l : List ℕ). l ++ session_naming result) (sym (append-nil text) ∙ ap (λ (l : List ℕ). text ++ l) (sym ended.1) ∙ so.of.begins) in
-        let costs = asked_costs result m (rest_of result m so) so result (this m (session_status result) (text ++ session_naming result) (length took + 0)) unfailed_source gone mid mid texts in
         record {
           found = found_in (rest_after job text took) m i between (rest_of result m so) refl agrees.store (left_told result m so);
           answer = behind_it result m so result ended.0 (session_naming result) 0 texts (sym (ap length ended.2));
-          costs = record { steps = costs.steps; calls = costs.calls; asked = costs.asked };
+          costs = rest_costs result m so (this m (session_status result) (text ++ session_naming result) (length took + 0));
         }))
 
     -- what the session answers at its end
@@ -210,7 +206,7 @@ module _ (there : SessionThere) (table : Table) (side : Colour) (p : Board) (sto
     stopped_short result fault tells took_text meets short =
         after_lines job text took (Stopped fault) old between played (came took_text) lines refl refl refl
         (λ sees m agrees. split_in result tells sees m agrees)
-        (λ m i a costs. record { steps = costs.steps; calls = costs.calls; asked = costs.asked })
+        (λ m i a costs. costs)
         (stopped (rest_after job text took) fault between played quiet_between (meets_rest fault meets)
         (λ sees m i agrees.
         let so = so_in result tells sees m agrees.store in
@@ -218,7 +214,6 @@ module _ (there : SessionThere) (table : Table) (side : Colour) (p : Board) (sto
         let answer = final.answer in
         let line = so.of.rest ++ session_naming answer in
         let texts = rest_told result m so answer in
-        let costs = asked_costs result m (rest_of result m so) so answer (this m (session_status answer) (text ++ line) (length took + length so.of.unread)) unfailed_source gone mid mid texts in
         record {
           found = found_in (rest_after job text took) m i between (rest_of result m so) refl agrees.store (left_told result m so);
           some = record {
@@ -226,7 +221,7 @@ module _ (there : SessionThere) (table : Table) (side : Colour) (p : Board) (sto
             answer = behind_it result m so answer final.tells line (length so.of.unread) texts refl;
             text = final.said so.of.rest (short so.end so.of.rest so.of.unread so.of.finishes);
           };
-          costs = record { steps = costs.steps; calls = costs.calls; asked = costs.asked };
+          costs = rest_costs result m so (this m (session_status answer) (text ++ line) (length took + length so.of.unread));
         }))
       where
         meets_rest : (f : Fault) → MayMeet job f between played → MayMeet (rest_after job text took) f between played
@@ -245,7 +240,6 @@ module _ (there : SessionThere) (table : Table) (side : Colour) (p : Board) (sto
         let final = answer_in result m so in
         let answer = final.answer in
         let a = session_answer side (code_in m) so.input so.plies so.end so.left answer m in
-        let costs = asked_costs result m so.input so answer a source gone out out refl in
         let many = many_taken result m so in
         record {
           input = so.input;
@@ -255,7 +249,7 @@ module _ (there : SessionThere) (table : Table) (side : Colour) (p : Board) (sto
           rest = so.of.rest ++ session_naming answer;
           begins = rest_told result m so answer;
           few = omega (arith, many);
-          costs = costs;
+          costs = session_costs result m so a;
         })
 
   -- a fault ended the command, and nothing more was written
@@ -298,5 +292,6 @@ outside_ran table side p store source out taken steps end none said_it =
     (λ sees m i agrees. record {
       found = as_given (playing_in table side p) m i (world store source out steps) agrees;
       answer = played_outside (contents_of table) (bytes_at m table.name) side p m i (says (status_of refusals.Outside) (refusal_line refusals.Outside) m) none refl;
-      costs = record { steps = omega arith; calls = omega arith; asked = omega arith };
+      costs = costs_outside (contents_of table) p (SessionComes (bytes_at m table.name) side p i (contents_of table)) (spent_by store steps) (spent_by store steps) none
+          (record { steps = omega arith; calls = omega arith; asked = omega arith });
     })

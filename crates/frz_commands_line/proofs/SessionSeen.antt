@@ -8,18 +8,19 @@ use Rattle.frz_sets.specs.declared.exit.Value.{Value}
 use Rattle.frz_sets.specs.Views.{RuleLines}
 use Rattle.frz_exits.specs.Books.{value_by}
 use Rattle.frz_index.specs.Members.{Member, Num}
-use Rattle.frz_index.proofs.Lemmas.{of_member, member_of}
+use Rattle.frz_index.proofs.Lemmas.{of_member}
+use Rattle.frz_game.specs.Games.{graph_by}
 use Rattle.frz_game.specs.Numbers.{is_member}
 use Rattle.frz_store.specs.Files.{Files, bytes_at}
 use Rattle.frz_store.specs.Told.{SourceTold}
 use Rattle.frz_table.specs.Layout.{codes_at}
 use Rattle.frz_table.specs.Opening.{Contents, contents_of}
 use Rattle.frz_table.specs.Tables.{Table, Carries, IsFileOf, table_size}
+use Rattle.frz_answer.specs.World.{Spent}
 use Rattle.frz_answer.specs.Answers.{Answer, says}
 use Rattle.frz_prelude.specs.Refusals.{status_of, refusal_line}
 use Rattle.frz_prelude.specs.declared.refused.Refused.TheVariants as refusals
-use Rattle.frz_line.specs.declared.reading.TheConstants.{MOST_ASKED, MOST_READ}
-use Rattle.frz_line.specs.Costs.{Spent, Spends}
+use Rattle.frz_line.specs.Costs.{SpendsAt}
 use Rattle.frz_line.specs.Kept.{kept_codes}
 use Rattle.frz_play.specs.declared.end.PlayFault.{PlayFault}
 use Rattle.frz_play.specs.declared.end.SessionEnd.{SessionEnd}
@@ -28,7 +29,8 @@ use Rattle.frz_play.specs.PlaySession.{PlayedOf, TellsSession}
 use Rattle.frz_play.specs.Reading.{Input}
 use Rattle.frz_play.specs.Sessions.{SessionPly, EndOfSession, IsSession}
 use Rattle.frz_commands_line.specs.LineOf.{code_at}
-use Rattle.frz_commands_line.specs.SessionOf.{IsSessionBy, IsPlayed, IsPlayedIn}
+use Rattle.frz_commands_line.specs.SessionOf.{IsSessionBy, SessionComes, IsPlayed, IsPlayedIn}
+use Rattle.frz_commands_line.proofs.Seen.{not_member}
 
 -- that there is a session from each number against each input
 abbrev pub SessionThere : Type 0
@@ -44,15 +46,11 @@ module _ (contents : Contents) (bytes : List ℕ) (side : Colour) (p : Board) (f
   played_inside inside played =
       subst (λ b. MatchBool b (IsPlayed contents bytes side p files input a) Refuses) (sym (of_member contents.rules.groups p inside)) played
 
-  outside_test : (b : Bool) → is_member contents.rules.groups p ≡ b → (Member contents.rules.groups p → ⊥) → b ≡ false
-  outside_test true e none = absurd (none (member_of contents.rules.groups p e))
-  outside_test false e none = refl
-
   pub played_outside : (Member contents.rules.groups p → ⊥) → Refuses → IsPlayedIn contents bytes side p files input a
   played_outside none e =
-      subst (λ b. MatchBool b (IsPlayed contents bytes side p files input a) Refuses) (sym (outside_test (is_member contents.rules.groups p) refl none)) e
+      subst (λ b. MatchBool b (IsPlayed contents bytes side p files input a) Refuses) (sym (not_member contents.rules.groups p none)) e
 
--- the session of which this text was written and these bytes taken, with what was asked for
+-- the session of which this text was written and these bytes taken, with what was spent on it
 pub record SessionSo (contents : Contents) (bytes : List ℕ) (side : Colour) (p : Board) (text took : List ℕ) (result : Result SessionEnd PlayFault) (source : SourceTold) (before now : Spent) : Type 0 where
   pub input : List ℕ
   pub may : MayHold source input
@@ -61,7 +59,7 @@ pub record SessionSo (contents : Contents) (bytes : List ℕ) (side : Colour) (p
   pub left : Input
   pub session : IsSessionBy contents bytes side p input plies end left
   pub of : PlayedOf side (code_at contents bytes side p) input took text result plies end left
-  pub spent : Spends (MOST_ASKED + 4) (MOST_READ + 1) (length plies + 1) before now
+  pub costs : (numbers : List ℕ) → SessionComes bytes side p input contents numbers → SpendsAt (graph_by contents.rules (value_by contents.rules)) 1 numbers before now
 
 module _ (there : SessionThere) (table : Table) (side : Colour) (p : Board) (text took : List ℕ) (result : Result SessionEnd PlayFault) (source : SourceTold) (before now : Spent) (inside : Member table.rules.groups p) where
   abbrev codes_of : List ℕ → List ℕ
@@ -76,7 +74,17 @@ module _ (there : SessionThere) (table : Table) (side : Colour) (p : Board) (tex
   in_file (Some bytes) carried tells =
       let session = there table.rules (value_by table.rules) side (codes_of bytes) (Num table.rules.groups p) tells.0 in
       let so = tells.2 inside session.0 session.1 session.2 session.3 in
-      record { input = tells.0; may = tells.1; plies = session.0; end = session.1; left = session.2; session = session.3; of = so.0; spent = so.1 }
+      let arena = graph_by table.rules (value_by table.rules) in
+      record {
+        input = tells.0;
+        may = tells.1;
+        plies = session.0;
+        end = session.1;
+        left = session.2;
+        session = session.3;
+        of = so.0;
+        costs = λ numbers comes. subst (λ (z : List ℕ). SpendsAt arena 1 z before now) (sym comes.are) (tells.2 inside comes.plies comes.end comes.left comes.session).1;
+      }
 
   pub session_so : (o : Option Files) (m : Files) → IsSome o → IfSome o (λ f. f ≡ m) → Carries o table → IfSome (kept_codes table side o) TellsIt
       → SessionSo (contents_of table) (bytes_at m table.name) side p text took result source before now

@@ -30,56 +30,7 @@ use Rattle.frz_play.specs.Reading.{Input}
 use Rattle.frz_play.specs.Sessions.{SessionPly, EndOfSession, session_player, GoesOn}
 use Rattle.frz_play.specs.Texts.{refused_text, ply_text, plies_text, why_line, end_text, start_line}
 use Rattle.frz_commands_line.specs.SessionEnds.{session_naming}
-use Rattle.frz_commands_line.specs.SessionOf.{plies_of, played_text}
-
--- a text in front of another takes no ply away
-more_plies : (xs ys : List ℕ) → plies_of ys ≤ plies_of (xs ++ ys)
-more_plies [] ys = omega arith
-more_plies (x ∷ xs) ys = let others = more_plies xs ys in omega (arith, others)
-
-move_there : (ys : List ℕ) → 1 + plies_of ys ≤ plies_of (codes "move " ++ ys)
-move_there ys = let more = more_plies (codes "ove ") ys in omega (arith, more)
-
-reply_there : (ys : List ℕ) → 1 + plies_of ys ≤ plies_of (codes "reply " ++ ys)
-reply_there ys = let more = more_plies (codes "eply ") ys in omega (arith, more)
-
-ply_there : (own : Bool) (x : SessionPly) (ys : List ℕ)
-    → 1 + plies_of ys ≤ plies_of ((if own then codes "move " ++ move_line x.arm.mv else refused_text x.refused ++ (codes "reply " ++ move_line x.arm.mv)) ++ ys)
-ply_there true x ys =
-    let same = ap plies_of (append_assoc (codes "move ") (move_line x.arm.mv) ys) in
-    let there = move_there (move_line x.arm.mv ++ ys) in
-    let more = more_plies (move_line x.arm.mv) ys in
-    omega (arith, same, there, more)
-ply_there false x ys =
-    let refused = refused_text x.refused in
-    let word = codes "reply " ++ move_line x.arm.mv in
-    let same = ap plies_of (append_assoc refused word ys) in
-    let next = ap plies_of (append_assoc (codes "reply ") (move_line x.arm.mv) ys) in
-    let there = reply_there (move_line x.arm.mv ++ ys) in
-    let more = more_plies (move_line x.arm.mv) ys in
-    let behind = more_plies refused (word ++ ys) in
-    omega (arith, same, next, there, more, behind)
-
-plies_there : (side : Colour) (plies : List SessionPly) (ys : List ℕ) → length plies ≤ plies_of (plies_text side plies ++ ys)
-plies_there side [] ys = omega arith
-plies_there side (x ∷ plies) ys =
-    let same = ap plies_of (append_assoc (ply_text side x) (plies_text side plies) ys) in
-    let one = ply_there (same_colour x.mover side) x (plies_text side plies ++ ys) in
-    let others = plies_there side plies ys in
-    omega (arith, same, one, others)
-
--- no fewer plies are told than were played
-pub plies_played : (side : Colour) (code : ℕ) (plies : List SessionPly) (end : EndOfSession) (answer : Result SessionEnd PlayFault) → length plies ≤ plies_of (played_text side code plies end answer)
-plies_played side code plies end answer =
-    let first = start_line side code plies end in
-    let rest = end_text end ++ session_naming answer in
-    let text = plies_text side plies in
-    let same : (first ++ (text ++ end_text end)) ++ session_naming answer ≡ first ++ (text ++ rest) =
-    append_assoc first (text ++ end_text end) (session_naming answer) ∙ ap (λ (l : List ℕ). first ++ l) (append_assoc text (end_text end) (session_naming answer)) in
-    let equal = ap plies_of same in
-    let there = plies_there side plies rest in
-    let more = more_plies first (text ++ rest) in
-    omega (arith, equal, there, more)
+use Rattle.frz_commands_line.specs.SessionOf.{played_text}
 
 -- no session is cut
 no_cut : (node : Node) (arena : Arena Step ℕ Value) (side : Colour) (codes_of : List ℕ) (k p : ℕ) → stage_of (session_player arena side codes_of) k p node ≡ Over Cut → ⊥

@@ -2,6 +2,7 @@ pub mod Sides
 pub mod LineEnds
 pub mod LineOf
 pub mod LineMeaning
+pub mod Costs
 pub mod Lining
 pub mod SessionEnds
 pub mod SessionOf

@@ -1,7 +1,8 @@
 -- What `line TABLE FEN SIDE` answers: the best line of the side by the codes in the file. No file changes.
-use Rattle.std.specs.Prelude.{◌≡◌, ℕ, ◌-◌, ◌==◌, List, ◌++◌, count_by, slice_index, MatchBool, Result, Ok, Err}
+use Rattle.std.specs.Prelude.{◌≡◌, ℕ, List, ◌++◌, slice_index, MatchBool, Result, Ok, Err}
 use Rattle.frz_board.specs.declared.man.Colour.{Colour}
 use Rattle.frz_board.specs.Boards.{Board}
+use Rattle.frz_arena.specs.declared.arm.Next.TheVariants.{Inside}
 use Rattle.frz_exits.specs.Books.{value_by}
 use Rattle.frz_index.specs.Members.{Num}
 use Rattle.frz_game.specs.Numbers.{is_member}
@@ -15,18 +16,11 @@ use Rattle.frz_prelude.specs.Refusals.{status_of, refusal_line}
 use Rattle.frz_prelude.specs.declared.refused.Refused.TheVariants as refusals
 use Rattle.frz_line.specs.declared.end.LineEnd.{LineEnd}
 use Rattle.frz_line.specs.declared.end.LineFault.{LineFault}
+use Rattle.frz_line.specs.Costs.{way_numbers}
 use Rattle.frz_line.specs.Ends as ends
 use Rattle.frz_line.specs.Lines.{LinePly, EndOfLine, IsLine}
 use Rattle.frz_line.specs.Texts.{line_text}
 use Rattle.frz_commands_line.specs.LineEnds.{end_status, naming_line}
-
--- how many lines a text has
-abbrev pub lines_in : List ℕ → ℕ
-lines_in text = count_by (λ b. b == 10) text
-
--- how many plies the text of a line has: a line each, between that of the bound and that of the end
-abbrev pub plies_in : List ℕ → ℕ
-plies_in text = lines_in text - 2
 
 -- the code that the bytes keep for the side at the number of the position
 abbrev pub code_at : Contents → List ℕ → Colour → Board → ℕ
@@ -37,6 +31,13 @@ abbrev pub IsLineBy : Contents → List ℕ → Colour → Board → List LinePl
 IsLineBy contents bytes side p plies end =
     IsLine contents.rules (value_by contents.rules) side (kept_codes contents bytes side)
     (Num contents.rules.groups p) plies end
+
+-- these are the numbers that it comes to
+pub record LineComes (bytes : List ℕ) (side : Colour) (p : Board) (contents : Contents) (numbers : List ℕ) : Type 0 where
+  pub plies : List LinePly
+  pub end : EndOfLine
+  pub line : IsLineBy contents bytes side p plies end
+  pub are : numbers ≡ way_numbers (Inside (Num contents.rules.groups p)) plies
 
 -- its text, and the line that names an end which has none of its own
 abbrev pub told_text : Colour → ℕ → List LinePly → Result LineEnd LineFault → List ℕ

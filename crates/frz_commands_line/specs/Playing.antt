@@ -7,12 +7,13 @@ use Rattle.frz_store.specs.Files.{bytes_at}
 use Rattle.frz_table.specs.Opening.{contents_of}
 use Rattle.frz_table.specs.Tables.{Table as OpenTable}
 use Rattle.frz_answer.specs.declared.status.Status.TheVariants.{Success, Wrong, Table, Outside, Missing, Limit}
-use Rattle.frz_answer.specs.Jobs.{Job, Needs, plain, WithinCosts}
+use Rattle.frz_answer.specs.Jobs.{Job, Needs, plain}
 use Rattle.frz_answer.specs.Words.{taking, three_words_of}
 use Rattle.frz_prelude.specs.Positions.{on_position}
-use Rattle.frz_commands_line.specs.Lining.{playing_needs, playing_costs, costs_at}
+use Rattle.frz_commands_line.specs.Costs.{CostsIn, CostsAt}
+use Rattle.frz_commands_line.specs.Lining.{playing_needs}
 use Rattle.frz_commands_line.specs.SessionMeaning.{MeansPlay}
-use Rattle.frz_commands_line.specs.SessionOf.{plies_of, IsPlayedIn, IsPlayedAt}
+use Rattle.frz_commands_line.specs.SessionOf.{SessionComes, IsPlayedIn, IsPlayedAt}
 use Rattle.frz_commands_line.specs.Sides.{on_side, side_of}
 
 abbrev pub session_needs : Needs
@@ -25,7 +26,8 @@ playing_in table side p =
     (λ files input a. IsPlayedIn (contents_of table) (bytes_at files table.name) side p files input a)) {
       needs = session_needs;
       speaks = true;
-      costs = λ files input a. WithinCosts (playing_costs 0 0 (plies_of a.text));
+      costs = λ files input a.
+          CostsIn (contents_of table) p (SessionComes (bytes_at files table.name) side p input (contents_of table)) 0 0;
     }
 
 -- by the table of this name
@@ -36,7 +38,7 @@ playing_at table side p =
       means = λ files input a. MeansPlay table side p files input a;
       needs = session_needs;
       speaks = true;
-      costs = λ files input a. WithinCosts (costs_at (files table) (plies_of a.text));
+      costs = λ files input a. CostsAt (files table) p (SessionComes (bytes_at files table) side p input);
     }
 
 -- play TABLE FEN SIDE

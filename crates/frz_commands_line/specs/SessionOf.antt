@@ -1,9 +1,9 @@
 -- What `play TABLE FEN SIDE` answers: the session of the side by the codes in the file against the input. No file
 -- changes.
-use Rattle.std.specs.Prelude.{◌≡◌, ℕ, ◌+◌, ◌-◌, ◌||◌, Bool, List, [], ◌∷◌, ◌++◌, length, take, MatchBool, Result, Ok, Err, codes, if◌then◌else◌}
-use Rattle.std.specs.Str.{bytes_eq}
+use Rattle.std.specs.Prelude.{◌≡◌, ℕ, ◌-◌, List, ◌++◌, length, MatchBool, Result, Ok, Err}
 use Rattle.frz_board.specs.declared.man.Colour.{Colour}
 use Rattle.frz_board.specs.Boards.{Board}
+use Rattle.frz_arena.specs.declared.arm.Next.TheVariants.{Inside}
 use Rattle.frz_exits.specs.Books.{value_by}
 use Rattle.frz_index.specs.Members.{Num}
 use Rattle.frz_game.specs.Numbers.{is_member}
@@ -15,6 +15,7 @@ use Rattle.frz_check.specs.Kept.{kept_codes}
 use Rattle.frz_answer.specs.Answers.{Answer, says}
 use Rattle.frz_prelude.specs.Refusals.{status_of, refusal_line}
 use Rattle.frz_prelude.specs.declared.refused.Refused.TheVariants as refusals
+use Rattle.frz_line.specs.Costs.{way_numbers}
 use Rattle.frz_play.specs.declared.end.PlayFault.{PlayFault}
 use Rattle.frz_play.specs.declared.end.SessionEnd.{SessionEnd}
 use Rattle.frz_play.specs.Ends.{Tells}
@@ -24,15 +25,6 @@ use Rattle.frz_play.specs.Texts.{session_text}
 use Rattle.frz_commands_line.specs.LineOf.{code_at}
 use Rattle.frz_commands_line.specs.SessionEnds.{session_status, session_naming}
 
-abbrev pub begins_with : List ℕ → List ℕ → Bool
-begins_with word text = bytes_eq (take (length word) text) word
-
--- how many plies the text of a session has: `move ` and `reply ` stand before each, and nowhere else
-abbrev pub plies_of : List ℕ → ℕ
-plies_of [] = 0
-plies_of (b ∷ text) =
-    (if begins_with (codes "move ") (b ∷ text) || begins_with (codes "reply ") (b ∷ text) then 1 else 0) + plies_of text
-
 -- the session of the side from the position against the input, by the codes that the bytes keep, in the game of their
 -- rules; and what it leaves of the input
 abbrev pub IsSessionBy : Contents → List ℕ → Colour → Board → (input : List ℕ) → List SessionPly → EndOfSession →
@@ -40,6 +32,16 @@ abbrev pub IsSessionBy : Contents → List ℕ → Colour → Board → (input :
 IsSessionBy contents bytes side p input plies end left =
     IsSession contents.rules (value_by contents.rules) side (kept_codes contents bytes side)
     (Num contents.rules.groups p) input plies end left
+
+-- these are the numbers that it comes to
+pub record SessionComes
+    (bytes : List ℕ) (side : Colour) (p : Board) (input : List ℕ) (contents : Contents) (numbers : List ℕ)
+    : Type 0 where
+  pub plies : List SessionPly
+  pub end : EndOfSession
+  pub left : Input
+  pub session : IsSessionBy contents bytes side p input plies end left
+  pub are : numbers ≡ way_numbers (Inside (Num contents.rules.groups p)) plies
 
 -- its text, and the line that names an end which has none of its own
 abbrev pub played_text : Colour → ℕ → List SessionPly → EndOfSession → Result SessionEnd PlayFault → List ℕ

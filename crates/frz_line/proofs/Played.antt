@@ -1,5 +1,5 @@
 -- A line as far as it was played.
-use Rattle.std.proofs.Common.{◌≡◌, ◌≤◌, ◌<◌, ◌+◌, ◌==◌, ◌++◌, ℕ, suc, ◌⊎◌, inl, inr, Bool, true, false, List, [], Option, length, refl, sym, subst, ap, ◌∙◌, arith, if◌then◌else◌, Result, Ok, Err, IfSome, append_assoc}
+use Rattle.std.proofs.Common.{◌≡◌, ◌≤◌, ◌<◌, ◌+◌, ◌==◌, ◌++◌, ℕ, suc, ◌⊎◌, inl, inr, Bool, true, false, List, [], ◌∷◌, Option, length, refl, sym, subst, ap, ◌∙◌, arith, if◌then◌else◌, Result, Ok, Err, IfSome, append_assoc}
 use Rattle.std.specs.Prelude.{slice_index}
 use Rattle.std.proofs.lemmas.Bool.Decides.{nat_tests}
 use Rattle.frz_board.specs.declared.man.Colour.{Colour}
@@ -9,7 +9,9 @@ use Rattle.std.specs.Result.{IsErrAnd}
 use Rattle.frz_store.specs.Told.{SinkTold, StoreTold, StoreQuiet, StoreFine}
 use Rattle.frz_answer.specs.Answers.{IsLines}
 use Rattle.frz_answer.specs.Texts.{TookText}
+use Rattle.frz_answer.specs.World.{Spent}
 use Rattle.frz_answer.proofs.Lemmas.{took_nothing, took_behind, failed_behind}
+use Rattle.frz_arena.specs.declared.arm.Next.TheVariants.{Inside}
 use Rattle.frz_arena.specs.Arena.{Arena}
 use Rattle.frz_arena.specs.Codes.{is_win, is_failure}
 use Rattle.frz_arena.proofs.Lemmas.{IsFew, line_left, few_after, left_after, few_fits, true_or_false, win_and_failure}
@@ -20,7 +22,7 @@ use Rattle.frz_line.specs.declared.end.TheConstants.{MOST_PLIES}
 use Rattle.frz_line.specs.declared.playing.Spot.{Spot}
 use Rattle.frz_line.specs.declared.playing.Turn.{Turn}
 use Rattle.frz_line.specs.declared.playing.Turn.TheVariants.{Over, On}
-use Rattle.frz_line.specs.Costs.{Spent}
+use Rattle.frz_line.specs.Costs.{way_numbers, SpendsAt}
 use Rattle.frz_line.specs.Ends.{told, Finishes}
 use Rattle.frz_line.specs.Faults.{WroteBy}
 use Rattle.frz_line.specs.Lines.{LinePly, EndOfLine, GoesOn}
@@ -28,28 +30,30 @@ use Rattle.frz_line.specs.Texts.{line_text, start_line, plies_text, last_line}
 use Rattle.frz_line.specs.Turns.{TurnsTo, rest_text, GoesBy, Plays}
 use Rattle.frz_line.proofs.Options.{both, every}
 use Rattle.frz_line.proofs.TextLines.{lines_behind}
-use Rattle.frz_line.proofs.Spending.{SpendsAt, spends_on}
+use Rattle.frz_line.proofs.Spending.{came_on, nothing_spent, spends_last, spends_on}
 
--- what is left of a line from the start, behind the text that was written
-pub record IsLeft (arena : Arena Step ℕ Value) (side : Colour) (kept : List ℕ) (code : ℕ) (spot : Spot) (text : List ℕ) (plies : List LinePly) (end : EndOfLine) : Type 0 where
+-- what is left of a line from the start, behind the text that was written and the numbers that it came to
+pub record IsLeft (arena : Arena Step ℕ Value) (side : Colour) (kept : List ℕ) (start code : ℕ) (spot : Spot) (numbers text : List ℕ) (plies : List LinePly) (end : EndOfLine) : Type 0 where
   pub agrees : slice_index kept spot.number ≡ spot.code
   pub others : List LinePly
   pub way : GoesOn arena side kept spot.played spot.number others end
   pub is : text ++ rest_text side spot others (told side end) ≡ line_text side code plies (told side end)
-  pub many : spot.played + length others ≡ length plies
+  pub came : numbers ++ way_numbers (Inside spot.number) others ≡ way_numbers (Inside start) plies
 
 -- each line from the start comes by here
-abbrev pub ComeBy : Arena Step ℕ Value → Colour → List ℕ → (start code : ℕ) → Spot → List ℕ → Type 0
-ComeBy arena side kept start code spot text =
+abbrev pub ComeBy : Arena Step ℕ Value → Colour → List ℕ → (start code : ℕ) → Spot → (numbers text : List ℕ) → Type 0
+ComeBy arena side kept start code spot numbers text =
     slice_index kept start ≡ code →
     (plies : List LinePly) (end : EndOfLine) → GoesOn arena side kept 0 start plies end →
-    IsLeft arena side kept code spot text plies end
+    IsLeft arena side kept start code spot numbers text plies end
 
-pub record SoFar (told_codes : Option (List ℕ)) (arena : Arena Step ℕ Value) (side : Colour) (start code : ℕ) (spot : Spot) (old new : SinkTold) : Type 0 where
+pub record SoFar (told_codes : Option (List ℕ)) (arena : Arena Step ℕ Value) (side : Colour) (start code : ℕ) (spot : Spot) (old new : SinkTold) (before now : Spent) : Type 0 where
   pub text : List ℕ
+  pub numbers : List ℕ
   pub lines : IsLines text
   pub took : TookText text old new
-  pub comes : IfSome told_codes (λ kept. ComeBy arena side kept start code spot text)
+  pub spent : SpendsAt arena 0 numbers before now
+  pub comes : IfSome told_codes (λ kept. ComeBy arena side kept start code spot numbers text)
 
 zero_is : (k : ℕ) → k ≡ 0 → (k == 0) ≡ true
 zero_is k e = subst (λ (n : ℕ). (n == 0) ≡ true) (sym e) refl
@@ -57,43 +61,45 @@ zero_is k e = subst (λ (n : ℕ). (n == 0) ≡ true) (sym e) refl
 more_is : (k : ℕ) → (k + 1 == 0) ≡ false
 more_is k = grind (arith, nat_tests)
 
-pub at_start : (told_codes : Option (List ℕ)) (arena : Arena Step ℕ Value) (side : Colour) (start code : ℕ) (out : SinkTold) → SoFar told_codes arena side start code (record { number = start; code = code; played = 0 }) out out
-at_start told_codes arena side start code out =
+pub at_start : (told_codes : Option (List ℕ)) (arena : Arena Step ℕ Value) (side : Colour) (start code : ℕ) (out : SinkTold) (now : Spent) → SoFar told_codes arena side start code (record { number = start; code = code; played = 0 }) out out now now
+at_start told_codes arena side start code out now =
     let spot : Spot = record { number = start; code = code; played = 0 } in
     record {
       text = [];
+      numbers = [];
       lines = inl refl;
       took = took_nothing out;
-      comes = every told_codes (λ kept. ComeBy arena side kept start code spot []) (λ kept agrees plies end w.
-          record { agrees = agrees; others = plies; way = w; is = refl; many = omega arith });
+      spent = nothing_spent arena now;
+      comes = every told_codes (λ kept. ComeBy arena side kept start code spot [] []) (λ kept agrees plies end w.
+          record { agrees = agrees; others = plies; way = w; is = refl; came = refl });
     }
 
 -- a ply was played
-after_ply : (arena : Arena Step ℕ Value) (side : Colour) (kept : List ℕ) (start code : ℕ) (spot next : Spot) (text more : List ℕ) → next.played ≡ spot.played + 1 → ComeBy arena side kept start code spot text → GoesBy arena side kept spot more (Ok (On next.number next.code)) → ComeBy arena side kept start code next (text ++ more)
-after_ply arena side kept start code spot next text more e comes goes = λ agrees plies end w.
+after_ply : (arena : Arena Step ℕ Value) (side : Colour) (kept : List ℕ) (start code : ℕ) (spot next : Spot) (numbers text more : List ℕ) → next.played ≡ spot.played + 1 → ComeBy arena side kept start code spot numbers text → GoesBy arena side kept spot more (Ok (On next.number next.code)) → ComeBy arena side kept start code next (numbers ++ spot.number ∷ []) (text ++ more)
+after_ply arena side kept start code spot next numbers text more e comes goes = λ agrees plies end w.
     let l = comes agrees plies end w in
     let g = goes l.agrees l.others end l.way in
-    let others = g.2.1.0 in
+    let others = g.2.1.1 in
     let answer = told side end in
     let played : suc spot.played ≡ next.played = (omega (arith, e)) in
     let later : (next.played == 0) ≡ false = subst (λ (k : ℕ). (k == 0) ≡ false) (sym e) (more_is spot.played) in
-    let rest : rest_text side next others answer ≡ g.0 = ap (λ (b : Bool). (if b then start_line side next.code others answer else []) ++ (plies_text others ++ last_line answer)) later ∙ sym g.2.1.3 in
-    let long = g.2.1.1 in
-    let many = l.many in
+    let rest : rest_text side next others answer ≡ g.0 = ap (λ (b : Bool). (if b then start_line side next.code others answer else []) ++ (plies_text others ++ last_line answer)) later ∙ sym g.2.1.5 in
     record {
       agrees = g.2.0;
       others = others;
-      way = subst (λ k. GoesOn arena side kept k next.number others end) played g.2.1.2;
+      way = subst (λ k. GoesOn arena side kept k next.number others end) played g.2.1.4;
       is = ap (λ (z : List ℕ). (text ++ more) ++ z) rest ∙ (append_assoc text more g.0 ∙ (ap (λ (z : List ℕ). text ++ z) g.1 ∙ l.is));
-      many = omega (arith, long, many, e);
+      came = came_on numbers spot.number next.number l.others others g.2.1.0 (way_numbers (Inside start) plies) l.came g.2.1.2 g.2.1.3;
     }
 
-pub next_far : (told_codes : Option (List ℕ)) (arena : Arena Step ℕ Value) (side : Colour) (start code : ℕ) (spot next : Spot) (old mid new : SinkTold) → SoFar told_codes arena side start code spot old mid → next.played ≡ spot.played + 1 → (more : List ℕ) → IsLines more → TookText more mid new → IfSome told_codes (λ kept. GoesBy arena side kept spot more (Ok (On next.number next.code))) → SoFar told_codes arena side start code next old new
-next_far told_codes arena side start code spot next old mid new far e more lines took goes = record {
+pub next_far : (told_codes : Option (List ℕ)) (arena : Arena Step ℕ Value) (side : Colour) (start code : ℕ) (spot next : Spot) (old mid new : SinkTold) (before middle now : Spent) → SoFar told_codes arena side start code spot old mid before middle → SpendsAt arena 0 (spot.number ∷ []) middle now → next.played ≡ spot.played + 1 → (more : List ℕ) → IsLines more → TookText more mid new → IfSome told_codes (λ kept. GoesBy arena side kept spot more (Ok (On next.number next.code))) → SoFar told_codes arena side start code next old new before now
+next_far told_codes arena side start code spot next old mid new before middle now far few e more lines took goes = record {
   text = far.text ++ more;
+  numbers = far.numbers ++ spot.number ∷ [];
   lines = lines_behind far.text more far.lines lines;
   took = took_behind far.text more (far.text ++ more) old mid new far.took refl took;
-  comes = both told_codes (λ kept. ComeBy arena side kept start code spot far.text) (λ kept. GoesBy arena side kept spot more (Ok (On next.number next.code))) (λ kept. ComeBy arena side kept start code next (far.text ++ more)) (λ kept c g. after_ply arena side kept start code spot next far.text more e c g) far.comes goes;
+  spent = spends_on arena far.numbers (spot.number ∷ []) before middle now far.spent few;
+  comes = both told_codes (λ kept. ComeBy arena side kept start code spot far.numbers far.text) (λ kept. GoesBy arena side kept spot more (Ok (On next.number next.code))) (λ kept. ComeBy arena side kept start code next (far.numbers ++ spot.number ∷ []) (far.text ++ more)) (λ kept c g. after_ply arena side kept start code spot next far.numbers far.text more e c g) far.comes goes;
 }
 
 -- a turn as the line's last: with its end, or with a fault
@@ -103,12 +109,11 @@ AtEnd arena side kept spot more result =
     (plies : List LinePly) (end : EndOfLine) → GoesOn arena side kept spot.played spot.number plies end →
     (rest : List ℕ) × (more ++ rest ≡ rest_text side spot plies (told side end)) × Finishes result (told side end) rest
 
-played_out : (arena : Arena Step ℕ Value) (side : Colour) (kept : List ℕ) (start code : ℕ) (spot : Spot) (text more : List ℕ) (result : Result LineEnd LineFault) (before mid now : Spent) → SpendsAt spot.played before mid → SpendsAt 1 mid now → ComeBy arena side kept start code spot text → AtEnd arena side kept spot more result → Plays arena side kept start code (text ++ more) result before now
-played_out arena side kept start code spot text more result before mid now b n comes ends = λ agrees plies end w.
+played_out : (arena : Arena Step ℕ Value) (side : Colour) (kept : List ℕ) (start code : ℕ) (spot : Spot) (numbers text more : List ℕ) (result : Result LineEnd LineFault) (before mid now : Spent) → SpendsAt arena 0 numbers before mid → SpendsAt arena 0 (spot.number ∷ []) mid now → ComeBy arena side kept start code spot numbers text → AtEnd arena side kept spot more result → Plays arena side kept start code (text ++ more) result before now
+played_out arena side kept start code spot numbers text more result before mid now b n comes ends = λ agrees plies end w.
     let l = comes agrees plies end w in
     let g = ends l.agrees l.others end l.way in
-    let many = l.many in
-    let spent = spends_on spot.played (length plies) before mid now (omega (arith, many)) b n in
+    let spent = spends_last arena numbers spot.number l.others (way_numbers (Inside start) plies) before mid now l.came b n in
     (g.0, append_assoc text more g.0 ∙ (ap (λ (z : List ℕ). text ++ z) g.1 ∙ l.is), g.2, spent)
 
 -- what a line wrote
@@ -126,12 +131,12 @@ wrote_after text more (Err faults.Store) old mid new t w = took_behind text more
 wrote_after text more (Err faults.Output) old mid new t w = failed_behind text more (text ++ more) old mid new t refl w
 wrote_after text more (Err faults.NoMemory) old mid new t w = took_behind text more (text ++ more) old mid new t refl w
 
-pub last_far : (told_codes : Option (List ℕ)) (arena : Arena Step ℕ Value) (side : Colour) (start code : ℕ) (spot : Spot) (old mid new : SinkTold) (before middle now : Spent) → SoFar told_codes arena side start code spot old mid → SpendsAt spot.played before middle → SpendsAt 1 middle now → (result : Result LineEnd LineFault) (more : List ℕ) → IsLines more → WroteBy result more mid new → IfSome told_codes (λ kept. AtEnd arena side kept spot more result) → LineWrote told_codes arena side start code result old new before now
-last_far told_codes arena side start code spot old mid new before middle now far b n result more lines wrote ends = (
+pub last_far : (told_codes : Option (List ℕ)) (arena : Arena Step ℕ Value) (side : Colour) (start code : ℕ) (spot : Spot) (old mid new : SinkTold) (before middle now : Spent) → SoFar told_codes arena side start code spot old mid before middle → SpendsAt arena 0 (spot.number ∷ []) middle now → (result : Result LineEnd LineFault) (more : List ℕ) → IsLines more → WroteBy result more mid new → IfSome told_codes (λ kept. AtEnd arena side kept spot more result) → LineWrote told_codes arena side start code result old new before now
+last_far told_codes arena side start code spot old mid new before middle now far n result more lines wrote ends = (
   far.text ++ more,
   lines_behind far.text more far.lines lines,
   wrote_after far.text more result old mid new far.took wrote,
-  both told_codes (λ kept. ComeBy arena side kept start code spot far.text) (λ kept. AtEnd arena side kept spot more result) (λ kept. Plays arena side kept start code (far.text ++ more) result before now) (λ kept c g. played_out arena side kept start code spot far.text more result before middle now b n c g) far.comes ends,
+  both told_codes (λ kept. ComeBy arena side kept start code spot far.numbers far.text) (λ kept. AtEnd arena side kept spot more result) (λ kept. Plays arena side kept start code (far.text ++ more) result before now) (λ kept c g. played_out arena side kept start code spot far.numbers far.text more result before middle now far.spent n c g) far.comes ends,
 )
 
 wrote_same : (fault : LineFault) (more : List ℕ) (old new : SinkTold) → WroteBy {T = Turn} (Err fault) more old new → WroteBy {T = LineEnd} (Err fault) more old new
@@ -143,13 +148,13 @@ wrote_same faults.Output more old new w = w
 wrote_same faults.NoMemory more old new w = w
 
 -- the line's end, and a fault on its way
-pub over_far : (told_codes : Option (List ℕ)) (arena : Arena Step ℕ Value) (side : Colour) (start code : ℕ) (spot : Spot) (old mid new : SinkTold) (before middle now : Spent) → SoFar told_codes arena side start code spot old mid → SpendsAt spot.played before middle → SpendsAt 1 middle now → (last : LineEnd) (more : List ℕ) → IsLines more → TookText more mid new → IfSome told_codes (λ kept. GoesBy arena side kept spot more (Ok (Over last))) → LineWrote told_codes arena side start code (Ok last) old new before now
-over_far told_codes arena side start code spot old mid new before middle now far b n last more lines took goes =
-    last_far told_codes arena side start code spot old mid new before middle now far b n (Ok last) more lines took goes
+pub over_far : (told_codes : Option (List ℕ)) (arena : Arena Step ℕ Value) (side : Colour) (start code : ℕ) (spot : Spot) (old mid new : SinkTold) (before middle now : Spent) → SoFar told_codes arena side start code spot old mid before middle → SpendsAt arena 0 (spot.number ∷ []) middle now → (last : LineEnd) (more : List ℕ) → IsLines more → TookText more mid new → IfSome told_codes (λ kept. GoesBy arena side kept spot more (Ok (Over last))) → LineWrote told_codes arena side start code (Ok last) old new before now
+over_far told_codes arena side start code spot old mid new before middle now far n last more lines took goes =
+    last_far told_codes arena side start code spot old mid new before middle now far n (Ok last) more lines took goes
 
-pub fault_far : (told_codes : Option (List ℕ)) (arena : Arena Step ℕ Value) (side : Colour) (start code : ℕ) (spot : Spot) (old mid new : SinkTold) (before middle now : Spent) → SoFar told_codes arena side start code spot old mid → SpendsAt spot.played before middle → SpendsAt 1 middle now → (fault : LineFault) (more : List ℕ) → IsLines more → WroteBy {T = Turn} (Err fault) more mid new → IfSome told_codes (λ kept. GoesBy arena side kept spot more (Err fault)) → LineWrote told_codes arena side start code (Err fault) old new before now
-fault_far told_codes arena side start code spot old mid new before middle now far b n fault more lines wrote goes =
-    last_far told_codes arena side start code spot old mid new before middle now far b n (Err fault) more lines (wrote_same fault more mid new wrote) goes
+pub fault_far : (told_codes : Option (List ℕ)) (arena : Arena Step ℕ Value) (side : Colour) (start code : ℕ) (spot : Spot) (old mid new : SinkTold) (before middle now : Spent) → SoFar told_codes arena side start code spot old mid before middle → SpendsAt arena 0 (spot.number ∷ []) middle now → (fault : LineFault) (more : List ℕ) → IsLines more → WroteBy {T = Turn} (Err fault) more mid new → IfSome told_codes (λ kept. GoesBy arena side kept spot more (Err fault)) → LineWrote told_codes arena side start code (Err fault) old new before now
+fault_far told_codes arena side start code spot old mid new before middle now far n fault more lines wrote goes =
+    last_far told_codes arena side start code spot old mid new before middle now far n (Err fault) more lines (wrote_same fault more mid new wrote) goes
 
 pub fault_wrote : (told_codes : Option (List ℕ)) (arena : Arena Step ℕ Value) (side : Colour) (start code : ℕ) (old new : SinkTold) (before now : Spent) (fault : LineFault) (result : Result LineEnd LineFault) → IsErrAnd result (λ e. e ≡ fault) → LineWrote told_codes arena side start code (Err fault) old new before now → LineWrote told_codes arena side start code result old new before now
 fault_wrote told_codes arena side start code old new before now fault (Ok end) h w = absurd h

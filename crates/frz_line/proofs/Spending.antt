@@ -1,54 +1,92 @@
 -- What is spent at one number and then at others.
-use Rattle.std.proofs.Common.{◌≤◌, ◌+◌, ℕ, arith}
+use Rattle.std.proofs.Common.{◌≡◌, ◌≤◌, ◌+◌, ◌*◌, ◌++◌, ℕ, List, [], ◌∷◌, refl, sym, subst, ap, ◌∙◌, arith, append_assoc, length-append}
+use Rattle.std.proofs.lemmas.List.Sums.{sum_by-append, sum_by-cons}
+use Rattle.frz_board.specs.Moving.{Step}
+use Rattle.frz_sets.specs.declared.exit.Value.{Value}
 use Rattle.frz_store.specs.Outside.{IsNext}
 use Rattle.frz_store.specs.Told.{StoreTold}
-use Rattle.frz_line.specs.declared.reading.TheConstants.{MOST_ASKED, MOST_READ}
-use Rattle.frz_line.specs.Costs.{Spent, Spends, spent_by}
+use Rattle.frz_answer.specs.World.{Spent, spent_by}
+use Rattle.frz_arena.specs.declared.arm.Next.{Next}
+use Rattle.frz_arena.specs.declared.arm.Next.TheVariants.{Inside}
+use Rattle.frz_arena.specs.Arena.{Arena}
+use Rattle.frz_arena.specs.Ways.{Ply}
+use Rattle.frz_line.specs.Costs.{arms_reads, reads_at, way_numbers, Spends, SpendsAt}
 
--- at numbers each of which has its moves made and their codes read
-abbrev pub SpendsAt : (numbers : ℕ) → (old new : Spent) → Type 0
-SpendsAt numbers old new = Spends MOST_ASKED MOST_READ numbers old new
+-- at one number more, and at some more
+reads_more : (arena : Arena Step ℕ Value) (xs ys : List ℕ) → reads_at arena (xs ++ ys) ≡ reads_at arena xs + reads_at arena ys
+reads_more arena xs ys = sum_by-append (λ n. arms_reads (arena.arms n)) xs ys
 
--- and each of which had its own code read before
-abbrev pub SpendsWhole : (numbers : ℕ) → (old new : Spent) → Type 0
-SpendsWhole numbers old new = Spends (MOST_ASKED + 4) (MOST_READ + 1) numbers old new
+reads_one : (arena : Arena Step ℕ Value) (number : ℕ) → reads_at arena (number ∷ []) ≡ arms_reads (arena.arms number) + 0
+reads_one arena number = sum_by-cons (λ n. arms_reads (arena.arms n)) number []
 
-pub nothing_spent : (at : Spent) → SpendsAt 0 at at
-nothing_spent at = record { bytes = omega arith; called = omega arith; stepped = omega arith }
+pub nothing_spent : (arena : Arena Step ℕ Value) (at : Spent) → SpendsAt arena 0 [] at at
+nothing_spent arena at = record { stepped = omega arith; called = omega arith; asked = omega arith }
 
-pub at_one : (old new : Spent) → new.asked ≤ old.asked + MOST_ASKED → new.calls ≤ old.calls + MOST_READ → new.steps ≤ old.steps + 1 → SpendsAt 1 old new
-at_one old new asked calls step = record { bytes = omega (arith, asked); called = omega (arith, calls); stepped = omega (arith, step) }
+pub at_one : (arena : Arena Step ℕ Value) (number : ℕ) (before now : Spent) → now.asked ≤ before.asked + 4 * arms_reads (arena.arms number) → now.calls ≤ before.calls + arms_reads (arena.arms number)
+    → now.steps ≤ before.steps + 1 → SpendsAt arena 0 (number ∷ []) before now
+at_one arena number before now asked calls step =
+    let one = reads_one arena number in
+    record { stepped = omega (arith, step); called = omega (arith, calls, one); asked = omega (arith, asked, one) }
 
--- one number more
-pub spends_on : (played numbers : ℕ) (old mid new : Spent) → played ≤ numbers → SpendsAt played old mid → SpendsAt 1 mid new → SpendsAt (numbers + 1) old new
-spends_on played numbers old mid new few first next = record {
-  bytes = (let a = first.bytes in let b = next.bytes in omega (arith, few, a, b));
-  called = (let a = first.called in let b = next.called in omega (arith, few, a, b));
-  stepped = (let a = first.stepped in let b = next.stepped in omega (arith, few, a, b));
-}
+pub spends_on : (arena : Arena Step ℕ Value) (xs ys : List ℕ) (before mid now : Spent) → SpendsAt arena 0 xs before mid → SpendsAt arena 0 ys mid now → SpendsAt arena 0 (xs ++ ys) before now
+spends_on arena xs ys before mid now first next =
+    let reads = reads_more arena xs ys in
+    let long = length-append xs ys in
+    record {
+      stepped = (let a = first.stepped in let b = next.stepped in omega (arith, long, a, b));
+      called = (let a = first.called in let b = next.called in omega (arith, reads, a, b));
+      asked = (let a = first.asked in let b = next.asked in omega (arith, reads, a, b));
+    }
+
+-- no more than at more numbers
+spends_less : (arena : Arena Step ℕ Value) (xs ys : List ℕ) (before now : Spent) → SpendsAt arena 0 xs before now → SpendsAt arena 0 (xs ++ ys) before now
+spends_less arena xs ys before now spent =
+    let reads = reads_more arena xs ys in
+    let long = length-append xs ys in
+    record {
+      stepped = (let a = spent.stepped in omega (arith, long, a));
+      called = (let a = spent.called in omega (arith, reads, a));
+      asked = (let a = spent.asked in omega (arith, reads, a));
+    }
+
+-- a way that is at a number comes to it
+comes_here : (number : ℕ) (plies : List (Ply Step ℕ Value)) → (others : List ℕ) × (way_numbers (Inside number) plies ≡ number ∷ others)
+comes_here number [] = ([], refl)
+comes_here number (x ∷ plies) = (way_numbers x.arm.next plies, refl)
+
+-- a way that went by some numbers, and was at one when it stopped
+pub spends_last : (arena : Arena Step ℕ Value) (xs : List ℕ) (number : ℕ) (plies : List (Ply Step ℕ Value)) (whole : List ℕ) (before mid now : Spent) → xs ++ way_numbers (Inside number) plies ≡ whole
+    → SpendsAt arena 0 xs before mid → SpendsAt arena 0 (number ∷ []) mid now → SpendsAt arena 0 whole before now
+spends_last arena xs number plies whole before mid now are first last =
+    let here = comes_here number plies in
+    let all : (xs ++ number ∷ []) ++ here.0 ≡ whole = append_assoc xs (number ∷ []) here.0 ∙ (ap (λ (l : List ℕ). xs ++ l) (sym here.1) ∙ are) in
+    subst (λ (l : List ℕ). SpendsAt arena 0 l before now) all
+    (spends_less arena (xs ++ number ∷ []) here.0 before now (spends_on arena xs (number ∷ []) before mid now first last))
+
+-- a way that went by some numbers goes on behind this one, by its first ply
+pub came_on : (xs : List ℕ) (number next : ℕ) (plies others : List (Ply Step ℕ Value)) (first : Ply Step ℕ Value) (whole : List ℕ) → xs ++ way_numbers (Inside number) plies ≡ whole
+    → plies ≡ first ∷ others → first.arm.next ≡ Inside next → (xs ++ number ∷ []) ++ way_numbers (Inside next) others ≡ whole
+came_on xs number next plies others first whole came are to =
+    let on : way_numbers (Inside number) plies ≡ number ∷ way_numbers (Inside next) others = ap (way_numbers (Inside number)) are ∙ ap (λ (z : Next ℕ Value). number ∷ way_numbers z others) to in
+    append_assoc xs (number ∷ []) (way_numbers (Inside next) others) ∙ (ap (λ (l : List ℕ). xs ++ l) (sym on) ∙ came)
 
 one_more : (old new : ℕ) → IsNext old new → new ≤ old + 1
 one_more old new next = (let n = next.next in omega (arith, n))
 
 -- the code of one number was read
-pub record ReadsOne (old new : Spent) : Type 0 where
-  pub bytes : new.asked ≤ old.asked + 4
-  pub called : new.calls ≤ old.calls + 1
-  pub stepped : new.steps ≤ old.steps
+pub code_read : (old new : StoreTold) (steps : ℕ) → new.asked ≤ old.asked + 4 → IsNext old.calls new.calls → Spends 1 0 (spent_by old steps) (spent_by new steps)
+code_read old new steps few next = record { stepped = omega arith; called = one_more old.calls new.calls next; asked = omega (arith, few) }
 
-pub code_read : (old new : StoreTold) (steps : ℕ) → new.asked ≤ old.asked + 4 → IsNext old.calls new.calls → ReadsOne (spent_by old steps) (spent_by new steps)
-code_read old new steps few next = record { bytes = few; called = one_more old.calls new.calls next; stepped = omega arith }
-
-pub read_alone : (numbers : ℕ) (old new : Spent) → ReadsOne old new → SpendsWhole (numbers + 1) old new
-read_alone numbers old new read = record {
-  bytes = (let a = read.bytes in omega (arith, a));
-  called = (let a = read.called in omega (arith, a));
+pub read_alone : (arena : Arena Step ℕ Value) (numbers : List ℕ) (before now : Spent) → Spends 1 0 before now → SpendsAt arena 1 numbers before now
+read_alone arena numbers before now read = record {
   stepped = (let a = read.stepped in omega (arith, a));
+  called = (let a = read.called in omega (arith, a));
+  asked = (let a = read.asked in omega (arith, a));
 }
 
-pub read_first : (numbers : ℕ) (old mid new : Spent) → ReadsOne old mid → SpendsAt (numbers + 1) mid new → SpendsWhole (numbers + 1) old new
-read_first numbers old mid new read then = record {
-  bytes = (let a = read.bytes in let b = then.bytes in omega (arith, a, b));
-  called = (let a = read.called in let b = then.called in omega (arith, a, b));
+pub read_first : (arena : Arena Step ℕ Value) (numbers : List ℕ) (before mid now : Spent) → Spends 1 0 before mid → SpendsAt arena 0 numbers mid now → SpendsAt arena 1 numbers before now
+read_first arena numbers before mid now read then = record {
   stepped = (let a = read.stepped in let b = then.stepped in omega (arith, a, b));
+  called = (let a = read.called in let b = then.called in omega (arith, a, b));
+  asked = (let a = read.asked in let b = then.asked in omega (arith, a, b));
 }

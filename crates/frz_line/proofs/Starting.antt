@@ -12,6 +12,8 @@ use Rattle.frz_store.specs.Told.{SinkTold}
 use Rattle.frz_store.specs.declared.outside.StoreFault.{StoreFault}
 use Rattle.frz_store.specs.declared.outside.StoreFault.TheVariants.{Failed, NoMemory}
 use Rattle.frz_answer.specs.Answers.{IsLines}
+use Rattle.frz_answer.specs.World.{Spent}
+use Rattle.frz_arena.specs.declared.arm.Next.TheVariants.{Inside}
 use Rattle.frz_answer.proofs.Lemmas.{took_nothing}
 use Rattle.frz_exits.specs.Books.{value_by}
 use Rattle.frz_game.specs.Games.{graph_by}
@@ -22,7 +24,7 @@ use Rattle.frz_line.specs.declared.end.LineEnd.{LineEnd}
 use Rattle.frz_line.specs.declared.end.LineFault.{LineFault}
 use Rattle.frz_line.specs.declared.end.LineFault.TheVariants as faults
 use Rattle.frz_line.specs.BestLine.{TellsLine}
-use Rattle.frz_line.specs.Costs.{Spent}
+use Rattle.frz_line.specs.Costs.{way_numbers, Spends, SpendsAt}
 use Rattle.frz_line.specs.Ends.{told, IsUnfinished, Finishes}
 use Rattle.frz_line.specs.Faults.{WroteBy, fault_of}
 use Rattle.frz_line.specs.Kept.{kept_codes}
@@ -30,7 +32,7 @@ use Rattle.frz_line.specs.Lines.{GoesOn}
 use Rattle.frz_line.specs.Texts.{start_line, line_text}
 use Rattle.frz_line.specs.Turns.{Plays}
 use Rattle.frz_line.proofs.Options.{both, every}
-use Rattle.frz_line.proofs.Spending.{ReadsOne, read_alone, read_first}
+use Rattle.frz_line.proofs.Spending.{read_alone, read_first}
 use Rattle.frz_line.proofs.Turned.{unfinished}
 
 -- what was written of the line
@@ -49,14 +51,14 @@ nothing_told told_codes rules side p out before none = (
 )
 
 -- nothing was written of the line
-whole_left : (rules : RuleLines) (side : Colour) (codes : List ℕ) (p : Board) (result : Result LineEnd LineFault) (before now : Spent) → ReadsOne before now → ((answer : Result LineEnd LineFault) (rest : List ℕ) → IsUnfinished answer rest → Finishes result answer rest) → TellsLine rules side codes p [] result before now
+whole_left : (rules : RuleLines) (side : Colour) (codes : List ℕ) (p : Board) (result : Result LineEnd LineFault) (before now : Spent) → Spends 1 0 before now → ((answer : Result LineEnd LineFault) (rest : List ℕ) → IsUnfinished answer rest → Finishes result answer rest) → TellsLine rules side codes p [] result before now
 whole_left rules side codes p result before now l stops = λ member plies end w.
     let code : ℕ = slice_index codes (Num rules.groups p) in
     let text = line_text side code plies (told side end) in
-    (text, refl, stops (told side end) text (unfinished (start_line side code plies (told side end)) plies (told side end)), read_alone (length plies) before now l)
+    (text, refl, stops (told side end) text (unfinished (start_line side code plies (told side end)) plies (told side end)), read_alone (graph_by rules (value_by rules)) (way_numbers (Inside (Num rules.groups p)) plies) before now l)
 
 -- the code of the start was not read
-unread : (told_codes : Option (List ℕ)) (rules : RuleLines) (side : Colour) (p : Board) (out : SinkTold) (before now : Spent) → ReadsOne before now → (fault : StoreFault) (f : LineFault) → f ≡ fault_of fault → WroteLine told_codes rules side p (Err f) out out before now
+unread : (told_codes : Option (List ℕ)) (rules : RuleLines) (side : Colour) (p : Board) (out : SinkTold) (before now : Spent) → Spends 1 0 before now → (fault : StoreFault) (f : LineFault) → f ≡ fault_of fault → WroteLine told_codes rules side p (Err f) out out before now
 unread told_codes rules side p out before now l Failed f e =
     subst (λ (z : LineFault). WroteLine told_codes rules side p (Err z) out out before now) (sym e)
     ([], inl refl, took_nothing out, every told_codes (λ codes. TellsLine rules side codes p [] (Err faults.Store) before now) (λ codes. whole_left rules side codes p (Err faults.Store) before now l (λ answer rest left. left)))
@@ -64,7 +66,7 @@ unread told_codes rules side p out before now l NoMemory f e =
     subst (λ (z : LineFault). WroteLine told_codes rules side p (Err z) out out before now) (sym e)
     ([], inl refl, took_nothing out, every told_codes (λ codes. TellsLine rules side codes p [] (Err faults.NoMemory) before now) (λ codes. whole_left rules side codes p (Err faults.NoMemory) before now l (λ answer rest left. left)))
 
-pub start_unread : (told_codes : Option (List ℕ)) (rules : RuleLines) (side : Colour) (p : Board) (out : SinkTold) (before now : Spent) → ReadsOne before now → (fault : StoreFault) (result : Result LineEnd LineFault) → IsErrAnd result (λ e. e ≡ fault_of fault) → WroteLine told_codes rules side p result out out before now
+pub start_unread : (told_codes : Option (List ℕ)) (rules : RuleLines) (side : Colour) (p : Board) (out : SinkTold) (before now : Spent) → Spends 1 0 before now → (fault : StoreFault) (result : Result LineEnd LineFault) → IsErrAnd result (λ e. e ≡ fault_of fault) → WroteLine told_codes rules side p result out out before now
 start_unread told_codes rules side p out before now l fault (Ok end) h = absurd h
 start_unread told_codes rules side p out before now l fault (Err f) h = unread told_codes rules side p out before now l fault f h
 
@@ -78,13 +80,14 @@ code_kept table side None start code h = tt
 code_kept table side (Some m) start code h =
     code_in (codes_at side table.text (table_size table)) start code (m table.name) h
 
-tells : (rules : RuleLines) (side : Colour) (codes : List ℕ) (p : Board) (text : List ℕ) (result : Result LineEnd LineFault) (before mid now : Spent) (start code : ℕ) → start ≡ Num rules.groups p → ReadsOne before mid → slice_index codes start ≡ code → Plays (graph_by rules (value_by rules)) side codes start code text result mid now → TellsLine rules side codes p text result before now
+tells : (rules : RuleLines) (side : Colour) (codes : List ℕ) (p : Board) (text : List ℕ) (result : Result LineEnd LineFault) (before mid now : Spent) (start code : ℕ) → start ≡ Num rules.groups p → Spends 1 0 before mid → slice_index codes start ≡ code → Plays (graph_by rules (value_by rules)) side codes start code text result mid now → TellsLine rules side codes p text result before now
 tells rules side codes p text result before mid now start code is few agrees plays = λ member plies end w.
     let h = plays agrees plies end (subst (λ i. GoesOn (graph_by rules (value_by rules)) side codes 0 i plies end) (sym is) w) in
     let same : code ≡ slice_index codes (Num rules.groups p) = sym agrees ∙ ap (slice_index codes) is in
-    (h.0, h.1 ∙ ap (λ c. line_text side c plies (told side end)) same, h.2, read_first (length plies) before mid now few h.3)
+    let at_it = subst (λ i. SpendsAt (graph_by rules (value_by rules)) 0 (way_numbers (Inside i) plies) mid now) is h.3 in
+    (h.0, h.1 ∙ ap (λ c. line_text side c plies (told side end)) same, h.2, read_first (graph_by rules (value_by rules)) (way_numbers (Inside (Num rules.groups p)) plies) before mid now few at_it)
 
-pub line_told : (told_codes : Option (List ℕ)) (rules : RuleLines) (side : Colour) (p : Board) (result : Result LineEnd LineFault) (old new : SinkTold) (before mid now : Spent) (start code : ℕ) → start ≡ Num rules.groups p → ReadsOne before mid → IfSome told_codes (λ codes. slice_index codes start ≡ code) → (text : List ℕ) → IsLines text → WroteBy result text old new → IfSome told_codes (λ codes. Plays (graph_by rules (value_by rules)) side codes start code text result mid now) → WroteLine told_codes rules side p result old new before now
+pub line_told : (told_codes : Option (List ℕ)) (rules : RuleLines) (side : Colour) (p : Board) (result : Result LineEnd LineFault) (old new : SinkTold) (before mid now : Spent) (start code : ℕ) → start ≡ Num rules.groups p → Spends 1 0 before mid → IfSome told_codes (λ codes. slice_index codes start ≡ code) → (text : List ℕ) → IsLines text → WroteBy result text old new → IfSome told_codes (λ codes. Plays (graph_by rules (value_by rules)) side codes start code text result mid now) → WroteLine told_codes rules side p result old new before now
 line_told told_codes rules side p result old new before mid now start code is few agrees text lines wrote plays = (
   text,
   lines,

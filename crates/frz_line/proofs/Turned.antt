@@ -141,15 +141,15 @@ joined_exit : (first move exit : List ℕ) → (first ++ (move ++ exit)) ++ [] �
 joined_exit first move exit = simp (append_assoc, append-nil)
 
 -- a ply that was played
-ply_leaves : (arena : Arena Step ℕ Value) (side : Colour) (kept : List ℕ) (spot : Spot) (a : Arm Step ℕ Value) (next : Next ℕ Value) (code : ℕ) (first : LinePly) (others : List LinePly) (end : EndOfLine) (result : Result Turn LineFault) (old new : SinkTold) → ((n : ℕ) → next ≡ Inside n → slice_index kept n ≡ code) → first.arm.mv ≡ a.mv → LeadsTo (λ p. IsWay (line_player arena side kept) (suc spot.played) tt p others end tt) (λ v. (others ≡ []) × (end ≡ Exit v) × (tt {0} ≡ tt)) next → Answers (turn_of next code) (first_line side spot ++ (move_line a.mv ++ next_line next)) result old new → (rest : List ℕ) × ((first_line side spot ++ (move_line a.mv ++ next_line next)) ++ rest ≡ rest_text side spot (first ∷ others) (told side end)) × Leaves arena side kept spot (first ∷ others) end rest result
-ply_leaves arena side kept spot a (Inside n) code first others end result old new is same leads answers =
+ply_leaves : (arena : Arena Step ℕ Value) (side : Colour) (kept : List ℕ) (spot : Spot) (a : Arm Step ℕ Value) (next : Next ℕ Value) (code : ℕ) (first : LinePly) (others : List LinePly) (end : EndOfLine) (result : Result Turn LineFault) (old new : SinkTold) → ((n : ℕ) → next ≡ Inside n → slice_index kept n ≡ code) → first.arm.mv ≡ a.mv → first.arm.next ≡ next → LeadsTo (λ p. IsWay (line_player arena side kept) (suc spot.played) tt p others end tt) (λ v. (others ≡ []) × (end ≡ Exit v) × (tt {0} ≡ tt)) next → Answers (turn_of next code) (first_line side spot ++ (move_line a.mv ++ next_line next)) result old new → (rest : List ℕ) × ((first_line side spot ++ (move_line a.mv ++ next_line next)) ++ rest ≡ rest_text side spot (first ∷ others) (told side end)) × Leaves arena side kept spot (first ∷ others) end rest result
+ply_leaves arena side kept spot a (Inside n) code first others end result old new is same to leads answers =
     let rest = plies_text others ++ last_line (told side end) in
     let text = first_line side spot ++ (move_line a.mv ++ []) in
     let whole : text ++ rest ≡ first_line side spot ++ ((move_line first.arm.mv ++ plies_text others) ++ last_line (told side end)) = (
     joined (first_line side spot) (move_line a.mv) (plies_text others) (last_line (told side end))
     ∙ ap (λ (m : Step). first_line side spot ++ ((move_line m ++ plies_text others) ++ last_line (told side end))) (sym same)) in
-    (rest, whole, leaves_by arena side kept spot (first ∷ others) end rest (On n code) text result old new (is n refl, (others, refl, leads, refl)) answers)
-ply_leaves arena side kept spot a (Outside v) code first others end result old new is same leads answers =
+    (rest, whole, leaves_by arena side kept spot (first ∷ others) end rest (On n code) text result old new (is n refl, (first, others, refl, to, leads, refl)) answers)
+ply_leaves arena side kept spot a (Outside v) code first others end result old new is same to leads answers =
     let text = first_line side spot ++ (move_line a.mv ++ exit_line v) in
     let out : EndOfLine = Exit v in
     let whole : text ++ [] ≡ first_line side spot ++ ((move_line first.arm.mv ++ []) ++ exit_line v) = (
@@ -178,7 +178,7 @@ ply_goes one arena size finite side mover spot arms cs kept are same due place x
     let arm : g.first.arm ≡ a = (one arena side (λ i. slice_index kept i) mover spot.number g.first.place place g.first.arm a g.chosen f.chosen).1 in
     let leads = subst (λ (z : Arm Step ℕ Value). LeadsTo (λ p. IsWay (line_player arena side kept) (suc spot.played) tt p g.others end tt) (λ v. (g.others ≡ []) × (end ≡ Exit v) × (tt {0} ≡ tt)) z.next) arm g.leads in
     subst (λ (ys : List LinePly). (rest : List ℕ) × (moved_text side spot a ++ rest ≡ rest_text side spot ys (told side end)) × Leaves arena side kept spot ys end rest result) (sym g.are)
-    (ply_leaves arena side kept spot a a.next x.code g.first g.others end result old new (inside_code arena side kept a.next x.code f.is) (ap (λ (z : Arm Step ℕ Value). z.mv) arm) leads answers)
+    (ply_leaves arena side kept spot a a.next x.code g.first g.others end result old new (inside_code arena side kept a.next x.code f.is) (ap (λ (z : Arm Step ℕ Value). z.mv) arm) (ap (λ (z : Arm Step ℕ Value). z.next) arm) leads answers)
 
 -- nothing but a fault was answered
 stop_wrote : (told_codes : Option (List ℕ)) (arena : Arena Step ℕ Value) (side : Colour) (spot : Spot) (result : Result Turn LineFault) (old new : SinkTold) (fault : LineFault) → WroteBy {T = Turn} (Err fault) [] old new → result ≡ Err fault → IfSome told_codes (λ kept. GoesBy arena side kept spot [] result) → (text : List ℕ) × IsLines text × WroteBy result text old new × IfSome told_codes (λ kept. GoesBy arena side kept spot text result)

@@ -1,18 +1,39 @@
 -- What a player by a table file spends at the numbers that it comes to.
-use Rattle.std.specs.Prelude.{◌≤◌, ◌+◌, ◌*◌, ℕ}
-use Rattle.frz_store.specs.Told.{StoreTold}
+use Rattle.std.specs.Prelude.{◌≤◌, ◌+◌, ◌*◌, ℕ, List, [], ◌∷◌, length, sum_by}
+use Rattle.frz_board.specs.Moving.{Step}
+use Rattle.frz_sets.specs.declared.exit.Value.{Value}
+use Rattle.frz_arena.specs.declared.arm.Arm.{Arm}
+use Rattle.frz_arena.specs.declared.arm.Next.{Next}
+use Rattle.frz_arena.specs.declared.arm.Next.TheVariants.{Inside, Outside}
+use Rattle.frz_arena.specs.Arena.{Arena}
+use Rattle.frz_arena.specs.Ways.{Ply}
+use Rattle.frz_answer.specs.World.{Spent}
 
--- how many bytes the store was asked for, how often it was called, and how many steps were made
-pub record Spent : Type 0 where
-  pub asked : ℕ
-  pub calls : ℕ
-  pub steps : ℕ
+-- how many codes are read for where a move leads: a number has one in the file, and an exit none
+abbrev pub next_reads : Next ℕ Value → ℕ
+next_reads (Inside number) = 1
+next_reads (Outside v) = 0
 
-abbrev pub spent_by : StoreTold → (steps : ℕ) → Spent
-spent_by store steps = record { asked = store.asked; calls = store.calls; steps = steps }
+-- for these moves
+abbrev pub arms_reads : List (Arm Step ℕ Value) → ℕ
+arms_reads arms = sum_by (λ a. next_reads a.next) arms
 
--- at so many numbers: at each so many bytes and calls at most, and a step
-pub record Spends (asked calls numbers : ℕ) (old new : Spent) : Type 0 where
-  pub bytes : new.asked ≤ old.asked + asked * numbers
-  pub called : new.calls ≤ old.calls + calls * numbers
-  pub stepped : new.steps ≤ old.steps + numbers
+-- for the moves of these numbers
+abbrev pub reads_at : Arena Step ℕ Value → (numbers : List ℕ) → ℕ
+reads_at arena numbers = sum_by (λ n. arms_reads (arena.arms n)) numbers
+
+-- the numbers that these plies come to, from where a move has led
+abbrev pub way_numbers : Next ℕ Value → List (Ply Step ℕ Value) → List ℕ
+way_numbers (Outside v) plies = []
+way_numbers (Inside n) [] = n ∷ []
+way_numbers (Inside n) (x ∷ plies) = n ∷ way_numbers x.arm.next plies
+
+-- at most so many codes were read, each by a call that asks for four bytes, and so many steps made
+pub record Spends (reads steps : ℕ) (before now : Spent) : Type 0 where
+  pub stepped : now.steps ≤ before.steps + steps
+  pub called : now.calls ≤ before.calls + reads
+  pub asked : now.asked ≤ before.asked + 4 * reads
+
+-- beside so many codes, those of the moves of these numbers, and a step at each
+abbrev pub SpendsAt : Arena Step ℕ Value → (more : ℕ) → (numbers : List ℕ) → (before now : Spent) → Type 0
+SpendsAt arena more numbers before now = Spends (more + reads_at arena numbers) (length numbers) before now

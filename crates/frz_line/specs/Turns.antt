@@ -1,11 +1,12 @@
 -- One turn of a line: what is written and answered at a number.
-use Rattle.std.specs.Prelude.{◌≡◌, ◌⊎◌, ◌==◌, ◌<◌, ◌+◌, ℕ, suc, List, [], ◌++◌, length, Result, Ok, Err, Some, slice_get, slice_index, if◌then◌else◌, ⊤}
+use Rattle.std.specs.Prelude.{◌≡◌, ◌⊎◌, ◌==◌, ◌<◌, ℕ, suc, List, [], ◌∷◌, ◌++◌, Result, Ok, Err, Some, slice_get, slice_index, if◌then◌else◌, ⊤}
 use Rattle.frz_board.specs.declared.man.Colour.{Colour}
 use Rattle.frz_board.specs.Men.{same_colour}
 use Rattle.frz_board.specs.Moving.{Step}
 use Rattle.frz_sets.specs.declared.exit.Value.{Value}
 use Rattle.frz_store.specs.Told.{SinkTold}
 use Rattle.frz_answer.specs.Texts.{TookText, FailedWithin}
+use Rattle.frz_answer.specs.World.{Spent}
 use Rattle.frz_arena.specs.declared.arm.Arm.{Arm}
 use Rattle.frz_arena.specs.declared.arm.Next.{Next}
 use Rattle.frz_arena.specs.declared.arm.Next.TheVariants.{Inside, Outside}
@@ -25,8 +26,7 @@ use Rattle.frz_line.specs.declared.playing.Spot.{Spot}
 use Rattle.frz_line.specs.declared.playing.Turn.{Turn}
 use Rattle.frz_line.specs.declared.playing.Turn.TheVariants.{Over, On}
 use Rattle.frz_line.specs.declared.end.TheConstants.{MOST_PLIES}
-use Rattle.frz_line.specs.declared.reading.TheConstants.{MOST_ASKED, MOST_READ}
-use Rattle.frz_line.specs.Costs.{Spent, Spends}
+use Rattle.frz_line.specs.Costs.{way_numbers, SpendsAt}
 use Rattle.frz_line.specs.Ends.{told, Finishes}
 use Rattle.frz_line.specs.Lines.{LinePly, EndOfLine, GoesOn}
 use Rattle.frz_line.specs.Sights.{choices_by, IsNextCode}
@@ -94,12 +94,12 @@ rest_text side spot plies answer =
     (if spot.played == 0 then start_line side spot.code plies answer else [])
     ++ (plies_text plies ++ last_line answer)
 
--- how a turn leaves a line: it goes on with a ply less, or it finished
+-- how a turn leaves a line: it goes on behind its first ply, which leads to this number, or it finished
 abbrev pub Leaves : Arena Step ℕ Value → Colour → List ℕ → Spot → List LinePly → EndOfLine → (rest : List ℕ) →
     Result Turn LineFault → Type 0
 Leaves arena side codes spot plies end rest (Ok (On number code)) =
     (slice_index codes number ≡ code)
-    × ((others : List LinePly) × (length plies ≡ suc (length others))
+    × ((first : LinePly) × (others : List LinePly) × (plies ≡ first ∷ others) × (first.arm.next ≡ Inside number)
     × GoesOn arena side codes (suc spot.played) number others end
     × (rest ≡ plies_text others ++ last_line (told side end)))
 Leaves arena side codes spot plies end rest (Ok (Over last)) =
@@ -115,8 +115,8 @@ GoesBy arena side codes spot text result =
     (rest : List ℕ) × (text ++ rest ≡ rest_text side spot plies (told side end))
     × Leaves arena side codes spot plies end rest result
 
--- the text begins the text of each line from the start, and is all of it at the line's end; for each of its
--- numbers its moves were made once and their codes read
+-- the text begins the text of each line from the start, and is all of it at the line's end; at each number that it
+-- comes to the moves were made once, and their codes read
 abbrev pub Plays : Arena Step ℕ Value → Colour → List ℕ → (start code : ℕ) → (text : List ℕ) →
     Result LineEnd LineFault → (before now : Spent) → Type 0
 Plays arena side codes start code text result before now =
@@ -124,4 +124,4 @@ Plays arena side codes start code text result before now =
     (plies : List LinePly) (end : EndOfLine) → GoesOn arena side codes 0 start plies end →
     (rest : List ℕ) × (text ++ rest ≡ line_text side code plies (told side end))
     × Finishes result (told side end) rest
-    × Spends MOST_ASKED MOST_READ (length plies + 1) before now
+    × SpendsAt arena 0 (way_numbers (Inside start) plies) before now

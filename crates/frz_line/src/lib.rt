@@ -18,7 +18,7 @@ pub use best::best_line;
 pub use choosing::place_for;
 pub use due::{Due, what_is_due};
 pub use end::{LineEnd, LineFault, MOST_PLIES};
-pub use reading::{MOST_ASKED, MOST_READ, read_codes};
+pub use reading::read_codes;
 pub use seeing::sight;
 pub use texts::write_arm;
 

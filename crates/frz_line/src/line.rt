@@ -1,17 +1,17 @@
 //! The loop that plays a line.
-ghost use Rattle.std.specs.Prelude.{◌≡◌, ◌⊎◌, ◌≤◌, ◌<◌, ◌+◌, ℕ, List, false, Err, IfOk, IfSome};
+ghost use Rattle.std.specs.Prelude.{◌≡◌, ◌⊎◌, ◌≤◌, ◌<◌, ◌+◌, ◌*◌, ℕ, List, false, Err, IfOk, IfSome};
 ghost use Rattle.frz_store.specs.Told.{store_of, sink_of, StoreQuiet};
 ghost use Rattle.frz_answer.specs.Answers.{IsLines};
+ghost use Rattle.frz_answer.specs.World.{spent_by};
 ghost use Rattle.frz_table.specs.Tables.{Carries, table_size};
 ghost use Rattle.frz_arena.specs.Codes.{is_failure};
-ghost use Rattle.frz_line.specs.Costs.{spent_by};
+ghost use Rattle.frz_line.specs.Costs.{arms_reads};
 ghost use Rattle.frz_line.specs.Faults.{StoreCause, WroteBy};
 ghost use Rattle.frz_line.specs.Kept.{kept_codes};
 ghost use Rattle.frz_line.specs.Turns.{GoesBy, TurnsTo, Plays};
 
 use crate::end::{LineEnd, LineFault, MOST_PLIES};
 use crate::playing::{Spot, Turn, play};
-use crate::reading::{MOST_ASKED, MOST_READ};
 use crate::seeing::sight;
 use frz_arena::laws::ways::arms_are_found;
 use frz_board::{Colour, Move};
@@ -46,8 +46,10 @@ fn turn<G: NumberedGame<L>, S: Store, O: Sink, L: Ledger>(
         (λ codes. GoesBy (G.arena game.now) side codes spot text result) }
     ensures placed { result ≡ Err LineFault.Outside → ⊥ }
     ensures quiet { StoreQuiet (store_of S.Store store.old) (store_of S.Store store.new) }
-    ensures asked { S.asked store.new ≤ S.asked store.old + MOST_ASKED }
-    ensures calls { S.calls store.new ≤ S.calls store.old + MOST_READ }
+    ensures asked { S.asked store.new ≤
+        S.asked store.old + 4 * arms_reads ((G.arena game.now).arms spot.number) }
+    ensures calls { S.calls store.new ≤
+        S.calls store.old + arms_reads ((G.arena game.now).arms spot.number) }
     ensures cause { StoreCause result (store_of S.Store store.old) (store_of S.Store store.new) }
     ensures step { steps.new ≤ steps.old + 1 }
     ensures later { steps.old ≤ steps.new }

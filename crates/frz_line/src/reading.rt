@@ -1,21 +1,16 @@
 //! The codes of the moves of a number, read from a table file.
-ghost use Rattle.std.specs.Prelude.{◌≡◌, ◌≤◌, ◌+◌, All, length, map, IfSome, IfOk, OnOk};
+ghost use Rattle.std.specs.Prelude.{◌≡◌, ◌≤◌, ◌+◌, ◌*◌, All, length, map, IfSome, IfOk, OnOk};
 ghost use Rattle.frz_store.specs.Outside.{StoreCauses};
 ghost use Rattle.frz_store.specs.Told.{store_of, StoreQuiet};
 ghost use Rattle.frz_table.specs.Tables.{Carries, table_size};
 ghost use Rattle.frz_graph.specs.EntryCodes.{next_code, arm_code, IsWithin};
+ghost use Rattle.frz_line.specs.Costs.{arms_reads, next_reads};
 ghost use Rattle.frz_line.specs.Kept.{kept_codes};
 
 use frz_board::Colour;
 use frz_graph::{CodeList, Next, NextList, exit_code};
 use frz_store::{Store, StoreFault};
 use frz_table::TableFile;
-
-/// How many codes are read at one number at most, each by one call: one for each of its moves.
-pub const MOST_READ: u64 = 1_024;
-
-/// How many bytes are asked for at one number at most: four for each code.
-pub const MOST_ASKED: u64 = 4_096;
 
 /// The code of where a move leads.
 fn read_code<S: Store>(
@@ -29,8 +24,8 @@ fn read_code<S: Store>(
     ensures code { IfOk result (λ code. IfSome (kept_codes table.now side (S.files store.old))
         (λ codes. code ≡ next_code side codes next)) }
     ensures quiet { StoreQuiet (store_of S.Store store.old) (store_of S.Store store.new) }
-    ensures asked { S.asked store.new ≤ S.asked store.old + 4 }
-    ensures calls { S.calls store.new ≤ S.calls store.old + 1 }
+    ensures asked { S.asked store.new ≤ S.asked store.old + 4 * next_reads next }
+    ensures calls { S.calls store.new ≤ S.calls store.old + next_reads next }
     ensures causes { StoreCauses (S.faults store.old) (S.faults store.new)
         (S.wants store.old) (S.wants store.new) result }
 {
@@ -40,8 +35,8 @@ fn read_code<S: Store>(
     }
 }
 
-/// Puts the code of each move of the list into `codes`, and drops what was there. Each is read
-/// where it stands in the file, four bytes for a move.
+/// Puts the code of each move of the list into `codes`, and drops what was there. That of a move
+/// which stays inside is read where it stands in the file: one call, and four bytes.
 pub fn read_codes<S: Store>(
     table: &TableFile,
     store: &mut S,
@@ -55,8 +50,8 @@ pub fn read_codes<S: Store>(
     ensures codes { OnOk result (IfSome (kept_codes table.now side (S.files store.old))
         (λ kept. codes.new.items ≡ map (arm_code side kept) list.now.items)) }
     ensures quiet { StoreQuiet (store_of S.Store store.old) (store_of S.Store store.new) }
-    ensures asked { S.asked store.new ≤ S.asked store.old + MOST_ASKED }
-    ensures calls { S.calls store.new ≤ S.calls store.old + MOST_READ }
+    ensures asked { S.asked store.new ≤ S.asked store.old + 4 * arms_reads list.now.items }
+    ensures calls { S.calls store.new ≤ S.calls store.old + arms_reads list.now.items }
     ensures causes { StoreCauses (S.faults store.old) (S.faults store.new)
         (S.wants store.old) (S.wants store.new) result }
 {

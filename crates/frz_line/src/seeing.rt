@@ -1,17 +1,18 @@
 //! What a player by a table file sees at a number: its moves and their codes, and what is due
 //! there. Lines and sessions share it.
-ghost use Rattle.std.specs.Prelude.{◌≡◌, ◌≤◌, ◌<◌, ◌+◌, length, map, IfOk, IfSome, OnOk};
+ghost use Rattle.std.specs.Prelude.{◌≡◌, ◌≤◌, ◌<◌, ◌+◌, ◌*◌, length, map, IfOk, IfSome, OnOk};
 ghost use Rattle.frz_store.specs.Outside.{StoreCauses};
 ghost use Rattle.frz_store.specs.Told.{store_of, StoreQuiet};
 ghost use Rattle.frz_table.specs.Tables.{Carries, table_size};
 ghost use Rattle.frz_arena.specs.LocalCodes.{node_code};
 ghost use Rattle.frz_graph.specs.EntryCodes.{arm_code};
 ghost use Rattle.frz_graph.specs.FreeCodes.{free_among};
+ghost use Rattle.frz_line.specs.Costs.{arms_reads};
 ghost use Rattle.frz_line.specs.Kept.{kept_codes};
 ghost use Rattle.frz_line.specs.Dues.{due_by};
 
 use crate::due::{Due, what_is_due};
-use crate::reading::{MOST_ASKED, MOST_READ, read_codes};
+use crate::reading::read_codes;
 use frz_board::Colour;
 use frz_graph::laws::within;
 use frz_graph::{Lists, NumberedGame, local_by};
@@ -47,8 +48,10 @@ pub fn sight<G: NumberedGame<L>, S: Store, L: Ledger>(
     ensures codes { OnOk result (IfSome (kept_codes table.now side (S.files store.old))
         (λ codes. lists.new.codes.items ≡ map (arm_code side codes) lists.new.nexts.items)) }
     ensures quiet { StoreQuiet (store_of S.Store store.old) (store_of S.Store store.new) }
-    ensures asked { S.asked store.new ≤ S.asked store.old + MOST_ASKED }
-    ensures calls { S.calls store.new ≤ S.calls store.old + MOST_READ }
+    ensures asked { S.asked store.new ≤
+        S.asked store.old + 4 * arms_reads ((G.arena game.now).arms number) }
+    ensures calls { S.calls store.new ≤
+        S.calls store.old + arms_reads ((G.arena game.now).arms number) }
     ensures causes { StoreCauses (S.faults store.old) (S.faults store.new)
         (S.wants store.old) (S.wants store.new) result }
     ensures step { steps.new ≤ steps.old + 1 }

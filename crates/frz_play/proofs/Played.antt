@@ -1,5 +1,5 @@
 -- A session as far as it was played.
-use Rattle.std.proofs.Common.{◌≡◌, ◌+◌, ◌==◌, ◌++◌, ℕ, suc, inl, true, false, List, [], Option, length, refl, sym, subst, ap, ◌∙◌, arith, Result, Ok, Err, IfSome, append_assoc}
+use Rattle.std.proofs.Common.{◌≡◌, ◌+◌, ◌==◌, ◌++◌, ℕ, suc, inl, true, false, List, [], ◌∷◌, Option, length, refl, sym, subst, ap, ◌∙◌, arith, Result, Ok, Err, IfSome, append_assoc}
 use Rattle.std.specs.Prelude.{slice_index}
 use Rattle.std.specs.Result.{IsErrAnd}
 use Rattle.std.proofs.lemmas.Bool.Decides.{nat_tests}
@@ -9,10 +9,12 @@ use Rattle.frz_sets.specs.declared.exit.Value.{Value}
 use Rattle.frz_store.specs.Told.{SourceTold, SinkTold}
 use Rattle.frz_answer.specs.Answers.{IsLines}
 use Rattle.frz_answer.specs.Texts.{TookText}
+use Rattle.frz_answer.specs.World.{Spent}
 use Rattle.frz_answer.proofs.Lemmas.{took_nothing, took_behind}
+use Rattle.frz_arena.specs.declared.arm.Next.TheVariants.{Inside}
 use Rattle.frz_arena.specs.Arena.{Arena}
-use Rattle.frz_line.specs.Costs.{Spent}
-use Rattle.frz_line.proofs.Lemmas.{SpendsAt, both, every, lines_behind, nothing_spent, spends_on}
+use Rattle.frz_line.specs.Costs.{way_numbers, SpendsAt}
+use Rattle.frz_line.proofs.Lemmas.{both, came_on, every, lines_behind, nothing_spent, spends_last, spends_on}
 use Rattle.frz_play.specs.declared.end.SessionEnd.{SessionEnd}
 use Rattle.frz_play.specs.declared.end.PlayFault.{PlayFault}
 use Rattle.frz_play.specs.declared.end.TheConstants.{MOST_LINES}
@@ -31,21 +33,21 @@ use Rattle.frz_play.proofs.Taking.{took_none, took_on, held_whole, some_rest}
 use Rattle.frz_play.proofs.Turned.{turn_over}
 use Rattle.frz_play.proofs.Written.{wrote_after, same_wrote}
 
--- what is left of a session from the start, behind the text that was written
-pub record IsLeft (arena : Arena Step ℕ Value) (side : Colour) (kept : List ℕ) (code : ℕ) (spot : Spot) (input : Input) (played : ℕ) (text : List ℕ) (plies : List SessionPly) (end : EndOfSession) (last : Input) : Type 0 where
+-- what is left of a session from the start, behind the text that was written and the numbers that it came to
+pub record IsLeft (arena : Arena Step ℕ Value) (side : Colour) (kept : List ℕ) (start code : ℕ) (spot : Spot) (input : Input) (played : ℕ) (numbers text : List ℕ) (plies : List SessionPly) (end : EndOfSession) (last : Input) : Type 0 where
   pub agrees : slice_index kept spot.number ≡ spot.code
   pub others : List SessionPly
   pub way : GoesOn arena side kept played input spot.number others end last
   pub is : text ++ rest_text side spot others end ≡ session_text side code plies end
-  pub many : played + length others ≡ length plies
+  pub came : numbers ++ way_numbers (Inside spot.number) others ≡ way_numbers (Inside start) plies
 
 -- each session from the start against these bytes comes by here
-abbrev pub ComeBy : Arena Step ℕ Value → Colour → List ℕ → (start code : ℕ) → Spot → Reader → (played : ℕ) → (bytes text : List ℕ) → Type 0
-ComeBy arena side kept start code spot reader played bytes text =
+abbrev pub ComeBy : Arena Step ℕ Value → Colour → List ℕ → (start code : ℕ) → Spot → Reader → (played : ℕ) → (numbers bytes text : List ℕ) → Type 0
+ComeBy arena side kept start code spot reader played numbers bytes text =
     slice_index kept start ≡ code → (left : List ℕ) → MayFollow reader left →
     (plies : List SessionPly) (end : EndOfSession) (last : Input) →
     GoesOn arena side kept 0 (opened (bytes ++ left)) start plies end last →
-    IsLeft arena side kept code spot (record { left = left; more = reader.more }) played text plies end last
+    IsLeft arena side kept start code spot (record { left = left; more = reader.more }) played numbers text plies end last
 
 pub record SoFar (told : Option (List ℕ)) (arena : Arena Step ℕ Value) (side : Colour) (start code : ℕ) (spot : Spot) (reader : Reader) (source left : SourceTold) (out taken : SinkTold) (before now : Spent) : Type 0 where
   pub text : List ℕ
@@ -55,8 +57,9 @@ pub record SoFar (told : Option (List ℕ)) (arena : Arena Step ℕ Value) (side
   pub took : TookBytes bytes source left
   pub played : ℕ
   pub count : (played == 0) ≡ spot.is_start
-  pub spent : SpendsAt played before now
-  pub comes : IfSome told (λ kept. ComeBy arena side kept start code spot reader played bytes text)
+  pub numbers : List ℕ
+  pub spent : SpendsAt arena 0 numbers before now
+  pub comes : IfSome told (λ kept. ComeBy arena side kept start code spot reader played numbers bytes text)
 
 pub at_start : (told : Option (List ℕ)) (arena : Arena Step ℕ Value) (side : Colour) (start code : ℕ) (source : SourceTold) (out : SinkTold) (now : Spent) → SoFar told arena side start code (record { number = start; code = code; is_start = true }) (record { more = MOST_LINES; ended = false }) source source out out now now
 at_start told arena side start code source out now = record {
@@ -67,9 +70,10 @@ at_start told arena side start code source out now = record {
   took = took_none source source refl;
   played = 0;
   count = refl;
-  spent = nothing_spent now;
-  comes = every told (λ kept. ComeBy arena side kept start code (record { number = start; code = code; is_start = true }) (record { more = MOST_LINES; ended = false }) 0 [] []) (λ kept agrees left may plies end last w.
-      record { agrees = agrees; others = plies; way = w; is = refl; many = omega arith });
+  numbers = [];
+  spent = nothing_spent arena now;
+  comes = every told (λ kept. ComeBy arena side kept start code (record { number = start; code = code; is_start = true }) (record { more = MOST_LINES; ended = false }) 0 [] [] []) (λ kept agrees left may plies end last w.
+      record { agrees = agrees; others = plies; way = w; is = refl; came = refl });
 }
 
 later_count : (k : ℕ) → (suc k == 0) ≡ false
@@ -79,28 +83,21 @@ follows_both : (old new : Reader) (bytes left : List ℕ) → StaysEnded old new
 follows_both old new bytes left stays may = λ e.
     let s = stays e in ap (λ (l : List ℕ). l ++ left) s.0 ∙ may s.1
 
-spent_after : (played : ℕ) (before now after : Spent) → SpendsAt played before now → SpendsAt 1 now after → SpendsAt (suc played) before after
-spent_after played before now after first next =
-    subst (λ k. SpendsAt k before after) (omega arith) (spends_on played played before now after (omega arith) first next)
-
 -- a ply was played
-after_ply : (arena : Arena Step ℕ Value) (side : Colour) (kept : List ℕ) (start code : ℕ) (spot : Spot) (old new : Reader) (played number read : ℕ) (bytes more text next : List ℕ) → (played == 0) ≡ spot.is_start → StaysEnded old new more → ComeBy arena side kept start code spot old played bytes text → GoesBy arena side kept spot old new more next (Ok (On number read)) → ComeBy arena side kept start code (record { number = number; code = read; is_start = false }) new (suc played) (bytes ++ more) (text ++ next)
-after_ply arena side kept start code spot old new played number read bytes more text next count stays comes goes = λ agrees left may plies end last w.
+after_ply : (arena : Arena Step ℕ Value) (side : Colour) (kept : List ℕ) (start code : ℕ) (spot : Spot) (old new : Reader) (played number read : ℕ) (numbers bytes more text next : List ℕ) → (played == 0) ≡ spot.is_start → StaysEnded old new more → ComeBy arena side kept start code spot old played numbers bytes text → GoesBy arena side kept spot old new more next (Ok (On number read)) → ComeBy arena side kept start code (record { number = number; code = read; is_start = false }) new (suc played) (numbers ++ spot.number ∷ []) (bytes ++ more) (text ++ next)
+after_ply arena side kept start code spot old new played number read numbers bytes more text next count stays comes goes = λ agrees left may plies end last w.
     let v = subst (λ (l : List ℕ). GoesOn arena side kept 0 (opened l) start plies end last) (append_assoc bytes more left) w in
     let l = comes agrees (more ++ left) (follows_both old new more left stays may) plies end last v in
     let g = goes l.agrees played count left may l.others end last l.way in
-    let others = g.2.1.0 in
-    let long = g.2.1.1 in
-    let many = l.many in
     record {
       agrees = g.2.0;
-      others = others;
-      way = g.2.1.2;
-      is = ap (λ (z : List ℕ). (text ++ next) ++ z) (sym g.2.1.3) ∙ (append_assoc text next g.0 ∙ (ap (λ (z : List ℕ). text ++ z) g.1 ∙ l.is));
-      many = omega (arith, long, many);
+      others = g.2.1.1;
+      way = g.2.1.4;
+      is = ap (λ (z : List ℕ). (text ++ next) ++ z) (sym g.2.1.5) ∙ (append_assoc text next g.0 ∙ (ap (λ (z : List ℕ). text ++ z) g.1 ∙ l.is));
+      came = came_on numbers spot.number number l.others g.2.1.1 g.2.1.0 (way_numbers (Inside start) plies) l.came g.2.1.2 g.2.1.3;
     }
 
-pub next_far : (told : Option (List ℕ)) (arena : Arena Step ℕ Value) (side : Colour) (start code : ℕ) (spot : Spot) (old new : Reader) (number read : ℕ) (source mid left : SourceTold) (out between taken : SinkTold) (before now after : Spent) → SoFar told arena side start code spot old source mid out between before now → SpendsAt 1 now after → (next more : List ℕ) → IsLines next → TookText next between taken → TookBytes more mid left → StaysEnded old new more → IfSome told (λ kept. GoesBy arena side kept spot old new more next (Ok (On number read))) → SoFar told arena side start code (record { number = number; code = read; is_start = false }) new source left out taken before after
+pub next_far : (told : Option (List ℕ)) (arena : Arena Step ℕ Value) (side : Colour) (start code : ℕ) (spot : Spot) (old new : Reader) (number read : ℕ) (source mid left : SourceTold) (out between taken : SinkTold) (before now after : Spent) → SoFar told arena side start code spot old source mid out between before now → SpendsAt arena 0 (spot.number ∷ []) now after → (next more : List ℕ) → IsLines next → TookText next between taken → TookBytes more mid left → StaysEnded old new more → IfSome told (λ kept. GoesBy arena side kept spot old new more next (Ok (On number read))) → SoFar told arena side start code (record { number = number; code = read; is_start = false }) new source left out taken before after
 next_far told arena side start code spot old new number read source mid left out between taken before now after far few next more lines wrote took stays goes = record {
   text = far.text ++ next;
   bytes = far.bytes ++ more;
@@ -109,9 +106,10 @@ next_far told arena side start code spot old new number read source mid left out
   took = took_on far.bytes more source mid left far.took took;
   played = suc far.played;
   count = later_count far.played;
-  spent = spent_after far.played before now after far.spent few;
-  comes = both told (λ kept. ComeBy arena side kept start code spot old far.played far.bytes far.text) (λ kept. GoesBy arena side kept spot old new more next (Ok (On number read))) (λ kept. ComeBy arena side kept start code (record { number = number; code = read; is_start = false }) new (suc far.played) (far.bytes ++ more) (far.text ++ next)) (λ kept c g.
-      after_ply arena side kept start code spot old new far.played number read far.bytes more far.text next far.count stays c g) far.comes goes;
+  numbers = far.numbers ++ spot.number ∷ [];
+  spent = spends_on arena far.numbers (spot.number ∷ []) before now after far.spent few;
+  comes = both told (λ kept. ComeBy arena side kept start code spot old far.played far.numbers far.bytes far.text) (λ kept. GoesBy arena side kept spot old new more next (Ok (On number read))) (λ kept. ComeBy arena side kept start code (record { number = number; code = read; is_start = false }) new (suc far.played) (far.numbers ++ spot.number ∷ []) (far.bytes ++ more) (far.text ++ next)) (λ kept c g.
+      after_ply arena side kept start code spot old new far.played number read far.numbers far.bytes more far.text next far.count stays c g) far.comes goes;
 }
 
 left_over : (arena : Arena Step ℕ Value) (side : Colour) (kept : List ℕ) (played : ℕ) (left : Input) (plies : List SessionPly) (end : EndOfSession) (last : Input) (rest : List ℕ) (answer : Result SessionEnd PlayFault) → Leaves arena side kept played left plies end last rest (turn_over answer) → (unread : List ℕ) × (unread ++ last.left ≡ left.left) × Finishes answer side end rest unread
@@ -119,8 +117,8 @@ left_over arena side kept played left plies end last rest (Ok answer) h = h
 left_over arena side kept played left plies end last rest (Err fault) h = h
 
 -- the last turn
-played_out : (arena : Arena Step ℕ Value) (side : Colour) (kept : List ℕ) (start code : ℕ) (spot : Spot) (old new : Reader) (played : ℕ) (bytes more text next : List ℕ) (answer : Result SessionEnd PlayFault) (before now after : Spent) (source left : SourceTold) → (played == 0) ≡ spot.is_start → SpendsAt played before now → SpendsAt 1 now after → StaysEnded old new more → TookBytes (bytes ++ more) source left → (new.ended ≡ true → HasEnded left) → ComeBy arena side kept start code spot old played bytes text → GoesBy arena side kept spot old new more next (turn_over answer) → Plays arena side kept start code source (bytes ++ more) (text ++ next) answer before after
-played_out arena side kept start code spot old new played bytes more text next answer before now after source left count b n stays took has comes goes =
+played_out : (arena : Arena Step ℕ Value) (side : Colour) (kept : List ℕ) (start code : ℕ) (spot : Spot) (old new : Reader) (played : ℕ) (numbers bytes more text next : List ℕ) (answer : Result SessionEnd PlayFault) (before now after : Spent) (source left : SourceTold) → (played == 0) ≡ spot.is_start → SpendsAt arena 0 numbers before now → SpendsAt arena 0 (spot.number ∷ []) now after → StaysEnded old new more → TookBytes (bytes ++ more) source left → (new.ended ≡ true → HasEnded left) → ComeBy arena side kept start code spot old played numbers bytes text → GoesBy arena side kept spot old new more next (turn_over answer) → Plays arena side kept start code source (bytes ++ more) (text ++ next) answer before after
+played_out arena side kept start code spot old new played numbers bytes more text next answer before now after source left count b n stays took has comes goes =
     let r = some_rest left (new.ended ≡ true) has in
     let rest = r.0 in (
       (bytes ++ more) ++ rest,
@@ -130,8 +128,7 @@ played_out arena side kept start code spot old new played bytes more text next a
           let l = comes agrees (more ++ rest) (follows_both old new more rest stays r.2) plies end last v in
           let g = goes l.agrees played count rest r.2 l.others end last l.way in
           let o = left_over arena side kept played (record { left = rest; more = new.more }) l.others end last g.0 answer g.2 in
-          let many = l.many in
-          let spent = spends_on played (length plies) before now after (omega (arith, many)) b n in (
+          let spent = spends_last arena numbers spot.number l.others (way_numbers (Inside start) plies) before now after l.came b n in (
             record {
               rest = g.0;
               unread = o.0;
@@ -153,7 +150,7 @@ over_wrote : (answer : Result SessionEnd PlayFault) (text : List ℕ) (old new :
 over_wrote (Ok answer) text old new w = w
 over_wrote (Err fault) text old new w = same_wrote Turn SessionEnd fault text old new w
 
-pub last_far : (told : Option (List ℕ)) (arena : Arena Step ℕ Value) (side : Colour) (start code : ℕ) (spot : Spot) (old new : Reader) (source mid left : SourceTold) (out between taken : SinkTold) (before now after : Spent) → SoFar told arena side start code spot old source mid out between before now → SpendsAt 1 now after → (new.ended ≡ true → HasEnded left) → (answer : Result SessionEnd PlayFault) (next more : List ℕ) → IsLines next → WroteBy (turn_over answer) next between taken → TookBytes more mid left → StaysEnded old new more → IfSome told (λ kept. GoesBy arena side kept spot old new more next (turn_over answer)) → SessionWrote told arena side start code answer source left out taken before after
+pub last_far : (told : Option (List ℕ)) (arena : Arena Step ℕ Value) (side : Colour) (start code : ℕ) (spot : Spot) (old new : Reader) (source mid left : SourceTold) (out between taken : SinkTold) (before now after : Spent) → SoFar told arena side start code spot old source mid out between before now → SpendsAt arena 0 (spot.number ∷ []) now after → (new.ended ≡ true → HasEnded left) → (answer : Result SessionEnd PlayFault) (next more : List ℕ) → IsLines next → WroteBy (turn_over answer) next between taken → TookBytes more mid left → StaysEnded old new more → IfSome told (λ kept. GoesBy arena side kept spot old new more next (turn_over answer)) → SessionWrote told arena side start code answer source left out taken before after
 last_far told arena side start code spot old new source mid left out between taken before now after far few has answer next more lines wrote took stays goes =
     let all = took_on far.bytes more source mid left far.took took in (
       far.text ++ next,
@@ -161,8 +158,8 @@ last_far told arena side start code spot old new source mid left out between tak
       lines_behind far.text next far.lines lines,
       wrote_after far.text next answer out between taken far.wrote (over_wrote answer next between taken wrote),
       all,
-      both told (λ kept. ComeBy arena side kept start code spot old far.played far.bytes far.text) (λ kept. GoesBy arena side kept spot old new more next (turn_over answer)) (λ kept. Plays arena side kept start code source (far.bytes ++ more) (far.text ++ next) answer before after) (λ kept c g.
-          played_out arena side kept start code spot old new far.played far.bytes more far.text next answer before now after source left far.count far.spent few stays all has c g) far.comes goes,
+      both told (λ kept. ComeBy arena side kept start code spot old far.played far.numbers far.bytes far.text) (λ kept. GoesBy arena side kept spot old new more next (turn_over answer)) (λ kept. Plays arena side kept start code source (far.bytes ++ more) (far.text ++ next) answer before after) (λ kept c g.
+          played_out arena side kept start code spot old new far.played far.numbers far.bytes more far.text next answer before now after source left far.count far.spent few stays all has c g) far.comes goes,
     )
 
 pub fault_wrote : (told : Option (List ℕ)) (arena : Arena Step ℕ Value) (side : Colour) (start code : ℕ) (source left : SourceTold) (out taken : SinkTold) (before now : Spent) (fault : PlayFault) (result : Result SessionEnd PlayFault) → IsErrAnd result (λ e. e ≡ fault) → SessionWrote told arena side start code (Err fault) source left out taken before now → SessionWrote told arena side start code result source left out taken before now

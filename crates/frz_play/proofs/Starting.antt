@@ -9,13 +9,15 @@ use Rattle.frz_store.specs.Told.{SourceTold, SinkTold}
 use Rattle.frz_store.specs.declared.outside.StoreFault.{StoreFault}
 use Rattle.frz_store.specs.declared.outside.StoreFault.TheVariants.{Failed, NoMemory}
 use Rattle.frz_answer.specs.Answers.{IsLines}
+use Rattle.frz_answer.specs.World.{Spent}
+use Rattle.frz_arena.specs.declared.arm.Next.TheVariants.{Inside}
 use Rattle.frz_answer.proofs.Lemmas.{took_nothing}
 use Rattle.frz_exits.specs.Books.{value_by}
 use Rattle.frz_game.specs.Games.{graph_by}
 use Rattle.frz_index.specs.Members.{Member, Num}
 use Rattle.frz_line.specs.Faults.{fault_of}
-use Rattle.frz_line.specs.Costs.{Spent}
-use Rattle.frz_line.proofs.Lemmas.{ReadsOne, both, every, read_alone, read_first}
+use Rattle.frz_line.specs.Costs.{way_numbers, Spends, SpendsAt}
+use Rattle.frz_line.proofs.Lemmas.{both, every, read_alone, read_first}
 use Rattle.frz_line.specs.declared.end.LineFault.TheVariants as faults
 use Rattle.frz_play.specs.declared.end.SessionEnd.{SessionEnd}
 use Rattle.frz_play.specs.declared.end.PlayFault.{PlayFault}
@@ -49,7 +51,7 @@ nothing_told told rules side p source out before none =
       every told (λ codes. (whole : List ℕ) × MayHold source whole × TellsSession rules side codes p whole [] [] (Err (plays.Line faults.Outside)) before before) (λ codes. (r.0, r.1, λ member plies end last w. absurd (none member))),
     )
 
-unread : (told : Option (List ℕ)) (rules : RuleLines) (side : Colour) (p : Board) (source : SourceTold) (out : SinkTold) (before now : Spent) → ReadsOne before now → (fault : PlayFault) → IsStoreFault fault → WroteBy {T = SessionEnd} (Err fault) [] out out → WroteSession told rules side p (Err fault) source source out out before now
+unread : (told : Option (List ℕ)) (rules : RuleLines) (side : Colour) (p : Board) (source : SourceTold) (out : SinkTold) (before now : Spent) → Spends 1 0 before now → (fault : PlayFault) → IsStoreFault fault → WroteBy {T = SessionEnd} (Err fault) [] out out → WroteSession told rules side p (Err fault) source source out out before now
 unread told rules side p source out before now few fault is wrote =
     let r = some_rest source ⊥ (λ e. absurd e) in (
       [],
@@ -70,7 +72,7 @@ unread told rules side p source out before now few fault is wrote =
                 takes = front.1;
                 finishes = short_of fault side end (session_text side code plies end) front.0 is (short_text side end (start_line side code plies end) (plies_text side plies));
               },
-              read_alone (length plies) before now few,
+              read_alone (graph_by rules (value_by rules)) (way_numbers (Inside (Num rules.groups p)) plies) before now few,
             ),
       )),
     )
@@ -80,23 +82,26 @@ store_wrote Failed out = took_nothing out
 store_wrote NoMemory out = took_nothing out
 
 -- the code of the start was not read
-pub start_unread : (told : Option (List ℕ)) (rules : RuleLines) (side : Colour) (p : Board) (source : SourceTold) (out : SinkTold) (before now : Spent) → ReadsOne before now → (fault : StoreFault) (result : Result SessionEnd PlayFault) → IsErrAnd result (λ e. e ≡ plays.Line (fault_of fault)) → WroteSession told rules side p result source source out out before now
+pub start_unread : (told : Option (List ℕ)) (rules : RuleLines) (side : Colour) (p : Board) (source : SourceTold) (out : SinkTold) (before now : Spent) → Spends 1 0 before now → (fault : StoreFault) (result : Result SessionEnd PlayFault) → IsErrAnd result (λ e. e ≡ plays.Line (fault_of fault)) → WroteSession told rules side p result source source out out before now
 start_unread told rules side p source out before now few fault (Ok end) h = absurd h
 start_unread told rules side p source out before now few fault (Err f) h =
     subst (λ (z : PlayFault). WroteSession told rules side p (Err z) source source out out before now) (sym h)
     (unread told rules side p source out before now few (plays.Line (fault_of fault)) (store_fault fault) (store_wrote fault out))
 
-tells : (rules : RuleLines) (side : Colour) (codes : List ℕ) (p : Board) (source : SourceTold) (bytes text : List ℕ) (result : Result SessionEnd PlayFault) (before mid now : Spent) (start code : ℕ) → start ≡ Num rules.groups p → ReadsOne before mid → slice_index codes start ≡ code → Plays (graph_by rules (value_by rules)) side codes start code source bytes text result mid now → (whole : List ℕ) × MayHold source whole × TellsSession rules side codes p whole bytes text result before now
+tells : (rules : RuleLines) (side : Colour) (codes : List ℕ) (p : Board) (source : SourceTold) (bytes text : List ℕ) (result : Result SessionEnd PlayFault) (before mid now : Spent) (start code : ℕ) → start ≡ Num rules.groups p → Spends 1 0 before mid → slice_index codes start ≡ code → Plays (graph_by rules (value_by rules)) side codes start code source bytes text result mid now → (whole : List ℕ) × MayHold source whole × TellsSession rules side codes p whole bytes text result before now
 tells rules side codes p source bytes text result before mid now start code is few agrees plays = (
   plays.0,
   plays.1,
   λ member plies end last w.
       let h = plays.2 agrees plies end last (subst (λ i. GoesOn (graph_by rules (value_by rules)) side codes 0 (opened plays.0) i plies end last) (sym is) w) in
       let same : code ≡ slice_index codes (Num rules.groups p) = sym agrees ∙ ap (slice_index codes) is in
-      (subst (λ c. PlayedOf side c plays.0 bytes text result plies end last) same h.0, read_first (length plies) before mid now few h.1),
+      let at_it = subst (λ i. SpendsAt (graph_by rules (value_by rules)) 0 (way_numbers (Inside i) plies) mid now) is h.1 in (
+        subst (λ c. PlayedOf side c plays.0 bytes text result plies end last) same h.0,
+        read_first (graph_by rules (value_by rules)) (way_numbers (Inside (Num rules.groups p)) plies) before mid now few at_it,
+      ),
 )
 
-pub session_told : (told : Option (List ℕ)) (rules : RuleLines) (side : Colour) (p : Board) (result : Result SessionEnd PlayFault) (source left : SourceTold) (out taken : SinkTold) (before mid now : Spent) (start code : ℕ) → start ≡ Num rules.groups p → ReadsOne before mid → IfSome told (λ codes. slice_index codes start ≡ code) → (text bytes : List ℕ) → IsLines text → WroteBy result text out taken → TookBytes bytes source left → IfSome told (λ codes. Plays (graph_by rules (value_by rules)) side codes start code source bytes text result mid now) → WroteSession told rules side p result source left out taken before now
+pub session_told : (told : Option (List ℕ)) (rules : RuleLines) (side : Colour) (p : Board) (result : Result SessionEnd PlayFault) (source left : SourceTold) (out taken : SinkTold) (before mid now : Spent) (start code : ℕ) → start ≡ Num rules.groups p → Spends 1 0 before mid → IfSome told (λ codes. slice_index codes start ≡ code) → (text bytes : List ℕ) → IsLines text → WroteBy result text out taken → TookBytes bytes source left → IfSome told (λ codes. Plays (graph_by rules (value_by rules)) side codes start code source bytes text result mid now) → WroteSession told rules side p result source left out taken before now
 session_told told rules side p result source left out taken before mid now start code is few agrees text bytes lines wrote took plays = (
   text,
   bytes,

@@ -101,15 +101,15 @@ joined_exit : (first move exit : List ℕ) → (first ++ (move ++ exit)) ++ [] �
 joined_exit first move exit = simp (append_assoc, append-nil)
 
 -- a ply that was played, behind this front
-pub ply_leaves : (arena : Arena Step ℕ Value) (side : Colour) (kept : List ℕ) (played : ℕ) (u last : Input) (front : List ℕ) (move : Step) (next : Next ℕ Value) (code : ℕ) (first : SessionPly) (others : List SessionPly) (end : EndOfSession) → ((n : ℕ) → next ≡ Inside n → slice_index kept n ≡ code) → ply_text side first ≡ front ++ move_line move → LeadsTo (λ p. GoesOn arena side kept (suc played) u p others end last) (λ v. (others ≡ []) × (end ≡ Exit v) × (last ≡ u)) next → (rest : List ℕ) × ((front ++ (move_line move ++ next_line next)) ++ rest ≡ plies_text side (first ∷ others) ++ end_text end) × Leaves arena side kept played u (first ∷ others) end last rest (Ok (turn_of next code))
-ply_leaves arena side kept played u last front move (Inside n) code first others end is same leads =
+pub ply_leaves : (arena : Arena Step ℕ Value) (side : Colour) (kept : List ℕ) (played : ℕ) (u last : Input) (front : List ℕ) (move : Step) (next : Next ℕ Value) (code : ℕ) (first : SessionPly) (others : List SessionPly) (end : EndOfSession) → ((n : ℕ) → next ≡ Inside n → slice_index kept n ≡ code) → ply_text side first ≡ front ++ move_line move → first.arm.next ≡ next → LeadsTo (λ p. GoesOn arena side kept (suc played) u p others end last) (λ v. (others ≡ []) × (end ≡ Exit v) × (last ≡ u)) next → (rest : List ℕ) × ((front ++ (move_line move ++ next_line next)) ++ rest ≡ plies_text side (first ∷ others) ++ end_text end) × Leaves arena side kept played u (first ∷ others) end last rest (Ok (turn_of next code))
+ply_leaves arena side kept played u last front move (Inside n) code first others end is same to leads =
     let rest = plies_text side others ++ end_text end in (
       rest,
       joined front (move_line move) (plies_text side others) (end_text end)
           ∙ ap (λ (l : List ℕ). (l ++ plies_text side others) ++ end_text end) (sym same),
-      (is n refl, (others, refl, leads, refl)),
+      (is n refl, (first, others, refl, to, leads, refl)),
     )
-ply_leaves arena side kept played u last front move (Outside v) code first others end is same leads =
+ply_leaves arena side kept played u last front move (Outside v) code first others end is same to leads =
     let none : List SessionPly = [] in
     let out : EndOfSession = Exit v in
     let whole : (front ++ (move_line move ++ exit_line v)) ++ [] ≡ (ply_text side first ++ []) ++ exit_line v = (
@@ -152,7 +152,7 @@ own_tail one arena size finite side mover spot reader arms cs kept own are same 
     let text = own_text side mover g.0.first a.mv g.0.moves own (ap (λ (z : Arm Step ℕ Value). z.mv) arm) in
     subst (λ (ys : List SessionPly). (rest : List ℕ) × (moved_text (codes "move ") a ++ rest ≡ plies_text side ys ++ end_text end) × Leaves arena side kept played here ys end last rest result) (sym g.0.are)
     (answered_leaves arena side kept played here last (g.0.first ∷ g.0.others) end (moved_text (codes "move ") a) (moved_text (codes "move ") a) (turn_of a.next (get_or cs place 0)) result old new (way_front arena side kept played here last spot.number plies end w)
-    (ply_leaves arena side kept played here last (codes "move ") a.mv a.next (get_or cs place 0) g.0.first g.0.others end (code_inside side kept arms cs same place a there) text leads) answers)
+    (ply_leaves arena side kept played here last (codes "move ") a.mv a.next (get_or cs place 0) g.0.first g.0.others end (code_inside side kept arms cs same place a there) text (ap (λ (z : Arm Step ℕ Value). z.next) arm) leads) answers)
 
 module _ (arena : Arena Step ℕ Value) (side mover : Colour) (kept : List ℕ) (spot : Spot) (old new : Reader) (own : same_colour mover side ≡ false) (stands : Stands arena side kept spot (Moves mover)) where
   -- the reply, behind the refused lines
@@ -173,7 +173,7 @@ module _ (arena : Arena Step ℕ Value) (side mover : Colour) (kept : List ℕ) 
       subst (λ (ys : List SessionPly). (rest : List ℕ) × ((refused_text n ++ moved_text (codes "reply ") a) ++ rest ≡ plies_text side ys ++ end_text end) × Leaves arena side kept played u ys end last rest result) (sym r.on.are)
       (subst (λ (t : List ℕ). (rest : List ℕ) × (t ++ rest ≡ plies_text side (r.on.first ∷ r.on.others) ++ end_text end) × Leaves arena side kept played u (r.on.first ∷ r.on.others) end last rest result) behind
       (answered_leaves arena side kept played u last (r.on.first ∷ r.on.others) end (front ++ (move_line a.mv ++ next_line a.next)) (moved_text (codes "reply ") a) (turn_of a.next (get_or cs place 0)) result between taken ends
-      (ply_leaves arena side kept played u last front a.mv a.next (get_or cs place 0) r.on.first r.on.others end (code_inside side kept arms cs same place a there) text leads) answers))
+      (ply_leaves arena side kept played u last front a.mv a.next (get_or cs place 0) r.on.first r.on.others end (code_inside side kept arms cs same place a there) text (ap (λ (z : Arm Step ℕ Value). z.next) arm) leads) answers))
 
   -- the input stops, behind them
   pub stop_tail : (arms : List (Arm Step ℕ Value)) → arms ≡ arena.arms spot.number → (source left : SourceTold) (out between : SinkTold) (why : Why) → (hears : Hears arms old new (Ok (heard.Stop why)) source left out between) → (answer : Result SessionEnd PlayFault) → Finishes answer side (Stopped (record { refused = hears.refused; why = why })) [] [] → TailBy arena side kept spot old new hears.bytes (refused_text hears.refused ++ why_line why) (turn_over answer)

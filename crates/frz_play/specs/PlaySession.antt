@@ -1,12 +1,14 @@
 -- What is written and taken in the session at a position of a set.
-use Rattle.std.specs.Prelude.{◌≡◌, ◌+◌, ℕ, List, ◌++◌, length, Result, slice_index}
+use Rattle.std.specs.Prelude.{◌≡◌, ℕ, List, ◌++◌, Result, slice_index}
 use Rattle.frz_board.specs.declared.man.Colour.{Colour}
 use Rattle.frz_board.specs.Boards.{Board}
 use Rattle.frz_sets.specs.Views.{RuleLines}
+use Rattle.frz_answer.specs.World.{Spent}
+use Rattle.frz_arena.specs.declared.arm.Next.TheVariants.{Inside}
 use Rattle.frz_exits.specs.Books.{value_by}
+use Rattle.frz_game.specs.Games.{graph_by}
 use Rattle.frz_index.specs.Members.{Member, Num}
-use Rattle.frz_line.specs.declared.reading.TheConstants.{MOST_ASKED, MOST_READ}
-use Rattle.frz_line.specs.Costs.{Spent, Spends}
+use Rattle.frz_line.specs.Costs.{way_numbers, SpendsAt}
 use Rattle.frz_play.specs.declared.end.SessionEnd.{SessionEnd}
 use Rattle.frz_play.specs.declared.end.PlayFault.{PlayFault}
 use Rattle.frz_play.specs.Ends.{Finishes}
@@ -26,7 +28,8 @@ pub record PlayedOf
   pub finishes : Finishes result side end rest unread
 
 -- the text and the bytes are those of the session from the position's number against the input; the code of the start
--- is read once, and at each number the moves are made once and their codes read
+-- is read once, and at each number that the session comes to the moves are made once, and the code is read once of each
+-- that stays inside
 abbrev pub TellsSession : RuleLines → Colour → List ℕ → Board → (input bytes text : List ℕ) →
     Result SessionEnd PlayFault → (before now : Spent) → Type 0
 TellsSession rules side codes p input bytes text result before now =
@@ -34,4 +37,4 @@ TellsSession rules side codes p input bytes text result before now =
     (plies : List SessionPly) (end : EndOfSession) (left : Input) →
     IsSession rules (value_by rules) side codes (Num rules.groups p) input plies end left →
     PlayedOf side (slice_index codes (Num rules.groups p)) input bytes text result plies end left
-    × Spends (MOST_ASKED + 4) (MOST_READ + 1) (length plies + 1) before now
+    × SpendsAt (graph_by rules (value_by rules)) 1 (way_numbers (Inside (Num rules.groups p)) plies) before now

@@ -1,11 +1,12 @@
 -- One turn of a session: what is written, taken and answered at a number.
-use Rattle.std.specs.Prelude.{◌≡◌, ◌⊎◌, ◌==◌, ◌<◌, ◌+◌, ◌*◌, ℕ, suc, Bool, true, false, List, [], ◌++◌, length, Result, Ok, Err, Some, slice_get, slice_index, get_or, if◌then◌else◌, codes, ⊤}
+use Rattle.std.specs.Prelude.{◌≡◌, ◌⊎◌, ◌==◌, ◌<◌, ◌+◌, ◌*◌, ℕ, suc, Bool, true, false, List, [], ◌∷◌, ◌++◌, Result, Ok, Err, Some, slice_get, slice_index, get_or, if◌then◌else◌, codes, ⊤}
 use Rattle.frz_board.specs.declared.man.Colour.{Colour}
 use Rattle.frz_board.specs.Men.{same_colour}
 use Rattle.frz_board.specs.Moving.{Step}
 use Rattle.frz_sets.specs.declared.exit.Value.{Value}
 use Rattle.frz_store.specs.Told.{SourceTold, SinkTold}
 use Rattle.frz_answer.specs.Texts.{TookText, FailedWithin}
+use Rattle.frz_answer.specs.World.{Spent}
 use Rattle.frz_arena.specs.declared.arm.Arm.{Arm}
 use Rattle.frz_arena.specs.declared.arm.Next.{Next}
 use Rattle.frz_arena.specs.declared.arm.Next.TheVariants.{Inside, Outside}
@@ -20,8 +21,7 @@ use Rattle.frz_prelude.specs.BoundLines.{kept_line}
 use Rattle.frz_line.specs.declared.due.Due.{Due}
 use Rattle.frz_line.specs.declared.due.Due.TheVariants as dues
 use Rattle.frz_line.specs.declared.end.LineFault.TheVariants as faults
-use Rattle.frz_line.specs.declared.reading.TheConstants.{MOST_ASKED, MOST_READ}
-use Rattle.frz_line.specs.Costs.{Spent, Spends}
+use Rattle.frz_line.specs.Costs.{way_numbers, SpendsAt}
 use Rattle.frz_line.specs.Sights.{choices_by}
 use Rattle.frz_line.specs.Texts.{arm_text}
 use Rattle.frz_play.specs.declared.end.SessionEnd.{SessionEnd}
@@ -163,12 +163,12 @@ rest_text side spot plies end =
     (if spot.is_start then start_line side spot.code plies end else [])
     ++ (plies_text side plies ++ end_text end)
 
--- how a turn leaves a session: it goes on with a ply less, or it finished
+-- how a turn leaves a session: it goes on behind its first ply, which leads to this number, or it finished
 abbrev pub Leaves : Arena Step ℕ Value → Colour → List ℕ → (played : ℕ) → Input → List SessionPly → EndOfSession →
     (last : Input) → (rest : List ℕ) → Result Turn PlayFault → Type 0
 Leaves arena side kept played left plies end last rest (Ok (On number code)) =
     (slice_index kept number ≡ code)
-    × ((others : List SessionPly) × (length plies ≡ suc (length others))
+    × ((first : SessionPly) × (others : List SessionPly) × (plies ≡ first ∷ others) × (first.arm.next ≡ Inside number)
     × GoesOn arena side kept (suc played) left number others end last
     × (rest ≡ plies_text side others ++ end_text end))
 Leaves arena side kept played left plies end last rest (Ok (Over answer)) =
@@ -197,4 +197,4 @@ Plays arena side kept start code source bytes text result before now =
     (plies : List SessionPly) (end : EndOfSession) (last : Input) →
     GoesOn arena side kept 0 (opened input) start plies end last →
     PlayedOf side code input bytes text result plies end last
-    × Spends MOST_ASKED MOST_READ (length plies + 1) before now)
+    × SpendsAt arena 0 (way_numbers (Inside start) plies) before now)

@@ -1,11 +1,12 @@
 //! The loop that plays a session.
-ghost use Rattle.std.specs.Prelude.{◌≡◌, ◌⊎◌, ◌≤◌, ◌<◌, ◌+◌, ℕ, List, true, false, Err, IfOk, IfSome};
+ghost use Rattle.std.specs.Prelude.{◌≡◌, ◌⊎◌, ◌≤◌, ◌<◌, ◌+◌, ◌*◌, ℕ, List, true, false, Err, IfOk, IfSome};
 ghost use Rattle.frz_store.specs.Told.{store_of, source_of, sink_of, StoreQuiet};
 ghost use Rattle.frz_answer.specs.Answers.{IsLines};
+ghost use Rattle.frz_answer.specs.World.{spent_by};
 ghost use Rattle.frz_table.specs.Tables.{Carries, table_size};
 ghost use Rattle.frz_arena.specs.Codes.{is_failure};
 ghost use Rattle.frz_arena.specs.Turns.{Alternates};
-ghost use Rattle.frz_line.specs.Costs.{spent_by};
+ghost use Rattle.frz_line.specs.Costs.{arms_reads};
 ghost use Rattle.frz_line.specs.Kept.{kept_codes};
 ghost use Rattle.frz_line.specs.declared.end.LineFault.TheVariants as faults;
 ghost use Rattle.frz_play.specs.declared.end.PlayFault.TheVariants.{Line};
@@ -20,7 +21,7 @@ use frz_arena::laws::ways::arms_are_found;
 use frz_board::{Colour, Move};
 use frz_graph::laws::filled;
 use frz_graph::{Lists, NumberedGame};
-use frz_line::{MOST_ASKED, MOST_READ, sight};
+use frz_line::sight;
 use frz_sets::Value;
 use frz_steps::Steps;
 use frz_store::{Sink, Source, Store};
@@ -59,8 +60,10 @@ fn turn<G: NumberedGame<L>, S: Store, I: Source, O: Sink, L: Ledger>(
     ensures still_ended { reader.new.ended ≡ true → HasEnded (source_of I.Source input.new) }
     ensures placed { result ≡ Err (Line faults.Outside) → ⊥ }
     ensures quiet { StoreQuiet (store_of S.Store store.old) (store_of S.Store store.new) }
-    ensures asked { S.asked store.new ≤ S.asked store.old + MOST_ASKED }
-    ensures calls { S.calls store.new ≤ S.calls store.old + MOST_READ }
+    ensures asked { S.asked store.new ≤
+        S.asked store.old + 4 * arms_reads ((G.arena game.now).arms spot.number) }
+    ensures calls { S.calls store.new ≤
+        S.calls store.old + arms_reads ((G.arena game.now).arms spot.number) }
     ensures cause { StoreCause result (store_of S.Store store.old) (store_of S.Store store.new) }
     ensures input { InputCause result (source_of I.Source input.old)
         (source_of I.Source input.new) }

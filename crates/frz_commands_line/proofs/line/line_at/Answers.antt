@@ -1,6 +1,6 @@
 use Rattle.std.proofs.Common.{◌≡◌, refl, ℕ, ◌+◌, ◌≤◌, length, Ok}
 use Rattle.frz_store.specs.Told.{store_of}
-use Rattle.frz_answer.specs.World.{world}
+use Rattle.frz_answer.specs.World.{spent_by, world}
 use Rattle.frz_answer.proofs.Lemmas.{as_given, fine_store, quiet_store, through}
 use Rattle.frz_prelude.specs.Stops.{stop_of_table}
 use Rattle.frz_prelude.proofs.Lemmas.{ended, may_stop, table_cause}
@@ -8,9 +8,8 @@ use Rattle.frz_store.specs.Files.{bytes_at}
 use Rattle.frz_table.specs.declared.kind.FileKind.TheVariants.{Plain}
 use Rattle.frz_table.specs.Opening.{opened, kept_text, Refuses, contents_of, table_format}
 use Rattle.frz_commands_line.specs.Lining.{lining_at, lining_in}
-use Rattle.frz_commands_line.proofs.Opened.{is_stage, by_name, stopped_so, own_refusal}
-use Rattle.frz_commands_line.specs.LineOf.{plies_in}
-use Rattle.frz_commands_line.proofs.OpeningCosts.{playing_within, refused_calls}
+use Rattle.frz_commands_line.proofs.Opened.{is_stage, by_name, costs_by_name, stopped_so, own_refusal}
+use Rattle.frz_commands_line.proofs.OpeningCosts.{refused_calls}
 use Rattle.frz_commands_line.proofs.Seen.{of_told}
 use Rattle.frz_commands_line.proofs.line.line_at.Goals as goal
 
@@ -28,7 +27,7 @@ returns-in-Ok g c = λ input.
       costs = λ m i a fits free untaken answer costs.
           let first = of_told (g.S.Store.files c.args.store.now) m (λ f. g.S.Store.asked c.open_table.new.store ≤ g.S.Store.asked c.args.store.now + (16 + length (kept_text (bytes_at f c.args.table.now)))) sees fits.store e.asked_told in
           let opens = of_told (g.S.Store.files c.args.store.now) m (λ f. opened (table_format Plain) (f c.args.table.now) ≡ Ok (contents_of table)) sees fits.store e.opened in
-          playing_within (m c.args.table.now) (contents_of table) (16 + length (kept_text (bytes_at m c.args.table.now))) (plies_in a.text) _ _ _ opens refl e.calls first costs;
+          costs_by_name table c.args.table.now c.args.side c.args.p.now m i a (spent_by (store_of g.S.Store c.args.store.now) c.args.steps.now) (spent_by (store_of g.S.Store c.open_table.new.store) c.args.steps.now) (spent_by (store_of g.S.Store c.line_in.new.store) c.line_in.new.steps) e.name opens refl e.calls first costs;
     })
     (c.line_in.ensures input)
 

@@ -4,12 +4,12 @@ use Rattle.frz_sets.specs.Sound.{IsSound}
 use Rattle.frz_sets.specs.Views.{RuleLines, GroupLine}
 use Rattle.frz_store.specs.Files.{Files}
 use Rattle.frz_store.specs.Told.{store_of, sink_of}
+use Rattle.frz_answer.specs.World.{spent_by}
 use Rattle.frz_exits.specs.Books.{value_by}
 use Rattle.frz_game.specs.Games.{graph_by}
 use Rattle.frz_game.specs.Numbers.{number_of}
 use Rattle.frz_game.proofs.Lemmas.{finite}
 use Rattle.frz_index.specs.Members.{Member, Num}
-use Rattle.frz_line.specs.Costs.{spent_by}
 use Rattle.frz_line.specs.Kept.{kept_codes}
 use Rattle.frz_line.specs.Turns.{Plays}
 use Rattle.frz_line.proofs.Starting.{nothing_told, start_unread, code_kept, line_told}

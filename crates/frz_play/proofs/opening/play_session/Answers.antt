@@ -11,7 +11,7 @@ use Rattle.frz_game.specs.Games.{game_of, graph_by}
 use Rattle.frz_game.specs.Numbers.{number_of, numbers_by}
 use Rattle.frz_game.proofs.Lemmas.{finite}
 use Rattle.frz_index.specs.Members.{Member, Num}
-use Rattle.frz_line.specs.Costs.{spent_by}
+use Rattle.frz_answer.specs.World.{spent_by}
 use Rattle.frz_line.specs.Kept.{kept_codes}
 use Rattle.frz_line.proofs.Lemmas.{code_kept, code_read}
 use Rattle.frz_play.specs.Turns.{Plays}

@@ -1,7 +1,7 @@
 use Rattle.std.proofs.Common.{Ok, Err, Option, IfSome, inl, inr, refl, subst, ◌∙◌, arith}
 use Rattle.frz_store.specs.Files.{Files}
 use Rattle.frz_store.specs.Told.{store_of, source_of, sink_of}
-use Rattle.frz_line.specs.Costs.{spent_by}
+use Rattle.frz_answer.specs.World.{spent_by}
 use Rattle.frz_line.specs.Kept.{kept_codes}
 use Rattle.frz_line.proofs.Lemmas.{at_one, fine_behind, quiet_behind}
 use Rattle.frz_play.specs.declared.playing.Turn.{Turn}
@@ -35,7 +35,7 @@ returns-in_err-end-clause-wrote g c =
     let w = c.in_err-end.ensures.wrote in
     let goes = subst (λ (f : Option Files). IfSome (kept_codes c.args.table.now c.args.side f) (λ codes. GoesBy arena c.args.side codes c.plies.spot c.plies.reader c.turn.new.reader w.1 w.0 (Err c.in_err-end.field-0.0))) c.plies.invariant.quiet.unwritten.files w.6 in
     fault_wrote told arena c.args.side c.args.start c.args.code (source_of g.I.Source c.args.input.now) (source_of g.I.Source c.turn.new.input) (sink_of g.O.Sink c.args.out.now) (sink_of g.O.Sink c.turn.new.out) before now c.in_err-end.field-0.0 c.from_residual.result c.from_residual.ensures.1
-    (last_far told arena c.args.side c.args.start c.args.code c.plies.spot c.plies.reader c.turn.new.reader (source_of g.I.Source c.args.input.now) (source_of g.I.Source c.plies.input) (source_of g.I.Source c.turn.new.input) (sink_of g.O.Sink c.args.out.now) (sink_of g.O.Sink c.plies.out) (sink_of g.O.Sink c.turn.new.out) before mid now c.plies.invariant.far (at_one mid now c.in_err-end.ensures.asked c.in_err-end.ensures.calls c.in_err-end.ensures.step) c.in_err-end.ensures.still_ended (Err c.in_err-end.field-0.0) w.0 w.1 w.2 w.3 w.4 w.5 goes)
+    (last_far told arena c.args.side c.args.start c.args.code c.plies.spot c.plies.reader c.turn.new.reader (source_of g.I.Source c.args.input.now) (source_of g.I.Source c.plies.input) (source_of g.I.Source c.turn.new.input) (sink_of g.O.Sink c.args.out.now) (sink_of g.O.Sink c.plies.out) (sink_of g.O.Sink c.turn.new.out) before mid now c.plies.invariant.far (at_one arena c.plies.spot.number mid now c.in_err-end.ensures.asked c.in_err-end.ensures.calls c.in_err-end.ensures.step) c.in_err-end.ensures.still_ended (Err c.in_err-end.field-0.0) w.0 w.1 w.2 w.3 w.4 w.5 goes)
 
 pub returns-in-Over-clause-wrote : goal.returns-in-Over-clause-wrote
 returns-in-Over-clause-wrote g c =
@@ -47,7 +47,7 @@ returns-in-Over-clause-wrote g c =
     let w = c.in_ok-end.ensures.wrote in
     let goes = subst (λ (f : Option Files). IfSome (kept_codes c.args.table.now c.args.side f) (λ codes. GoesBy arena c.args.side codes c.plies.spot c.plies.reader c.turn.new.reader w.1 w.0 (Ok c.in_ok-end.field-0))) c.plies.invariant.quiet.unwritten.files w.6 in
     let over = subst (λ (t : Turn). IfSome told (λ codes. GoesBy arena c.args.side codes c.plies.spot c.plies.reader c.turn.new.reader w.1 w.0 (Ok t))) c.in-Over.is goes in
-    last_far told arena c.args.side c.args.start c.args.code c.plies.spot c.plies.reader c.turn.new.reader (source_of g.I.Source c.args.input.now) (source_of g.I.Source c.plies.input) (source_of g.I.Source c.turn.new.input) (sink_of g.O.Sink c.args.out.now) (sink_of g.O.Sink c.plies.out) (sink_of g.O.Sink c.turn.new.out) before mid now c.plies.invariant.far (at_one mid now c.in_ok-end.ensures.asked c.in_ok-end.ensures.calls c.in_ok-end.ensures.step) c.in_ok-end.ensures.still_ended (Ok c.in-Over.end) w.0 w.1 w.2 w.3 w.4 w.5 over
+    last_far told arena c.args.side c.args.start c.args.code c.plies.spot c.plies.reader c.turn.new.reader (source_of g.I.Source c.args.input.now) (source_of g.I.Source c.plies.input) (source_of g.I.Source c.turn.new.input) (sink_of g.O.Sink c.args.out.now) (sink_of g.O.Sink c.plies.out) (sink_of g.O.Sink c.turn.new.out) before mid now c.plies.invariant.far (at_one arena c.plies.spot.number mid now c.in_ok-end.ensures.asked c.in_ok-end.ensures.calls c.in_ok-end.ensures.step) c.in_ok-end.ensures.still_ended (Ok c.in-Over.end) w.0 w.1 w.2 w.3 w.4 w.5 over
 
 pub plies-preserved : goal.plies-preserved
 plies-preserved g c =
@@ -65,7 +65,7 @@ plies-preserved g c =
       inside = to.0;
       stands = inr to.1;
       ended = c.in_ok-end.ensures.still_ended;
-      far = next_far told arena c.args.side c.args.start c.args.code c.plies.spot c.plies.reader c.turn.new.reader c.in-On.number c.in-On.code (source_of g.I.Source c.args.input.now) (source_of g.I.Source c.plies.input) (source_of g.I.Source c.turn.new.input) (sink_of g.O.Sink c.args.out.now) (sink_of g.O.Sink c.plies.out) (sink_of g.O.Sink c.turn.new.out) before mid now c.plies.invariant.far (at_one mid now c.in_ok-end.ensures.asked c.in_ok-end.ensures.calls c.in_ok-end.ensures.step) w.0 w.1 w.2 w.3 w.4 w.5 on;
+      far = next_far told arena c.args.side c.args.start c.args.code c.plies.spot c.plies.reader c.turn.new.reader c.in-On.number c.in-On.code (source_of g.I.Source c.args.input.now) (source_of g.I.Source c.plies.input) (source_of g.I.Source c.turn.new.input) (sink_of g.O.Sink c.args.out.now) (sink_of g.O.Sink c.plies.out) (sink_of g.O.Sink c.turn.new.out) before mid now c.plies.invariant.far (at_one arena c.plies.spot.number mid now c.in_ok-end.ensures.asked c.in_ok-end.ensures.calls c.in_ok-end.ensures.step) w.0 w.1 w.2 w.3 w.4 w.5 on;
       quiet = quiet_behind (store_of g.S.Store c.args.store.now) (store_of g.S.Store c.plies.store) (store_of g.S.Store c.turn.new.store) c.plies.invariant.quiet c.in_ok-end.ensures.quiet;
       fine = fine_behind (store_of g.S.Store c.args.store.now) (store_of g.S.Store c.plies.store) (store_of g.S.Store c.turn.new.store) c.plies.invariant.fine c.in_ok-end.ensures.cause;
       heard = c.in_ok-end.ensures.input ∙ c.plies.invariant.heard;

@@ -1,7 +1,7 @@
 use Rattle.std.proofs.Common.{◌≡◌, ◌≤◌, ◌<◌, ◌⊎◌, true, false}
 use Rattle.frz_store.specs.Told.{store_of, source_of, sink_of, StoreQuiet, StoreFine}
 use Rattle.frz_arena.specs.Codes.{is_failure}
-use Rattle.frz_line.specs.Costs.{spent_by}
+use Rattle.frz_answer.specs.World.{spent_by}
 use Rattle.frz_line.specs.Kept.{kept_codes}
 use Rattle.frz_play.specs.Hearing.{HasEnded}
 use Rattle.frz_play.specs.Turns.{session_left}
