@@ -1,26 +1,28 @@
 -- What is found of a table over a back table, under the two names.
-use Rattle.std.proofs.Common.{◌≡◌, refl, ap, subst, ◌∙◌, ℕ, ◌+◌, ◌*◌, ◌≤◌, List, length, take, drop, Option, None, Some, Result, Ok, Err, IfOk, IfErr, arith}
+use Rattle.std.proofs.Common.{◌≡◌, refl, sym, ap, subst, ◌∙◌, ℕ, ◌+◌, ◌*◌, ◌≤◌, true, List, length, take, drop, Option, None, Some, Result, Ok, Err, IfOk, IfErr, arith}
 use Rattle.frz_sets.specs.Sets.{size_of}
 use Rattle.frz_store.specs.Files.{Files}
 use Rattle.frz_store.specs.Told.{StoreTold}
 use Rattle.frz_table.specs.declared.fault.TableFault.{TableFault}
 use Rattle.frz_table.specs.declared.fault.TableFault.TheVariants.{Missing, Magic, Truncated, Extra, Rules, Size, Failed, NoMemory}
 use Rattle.frz_table.specs.declared.kind.FileKind.{FileKind}
-use Rattle.frz_table.specs.declared.kind.FileKind.TheVariants.{Plain, Chained}
+use Rattle.frz_table.specs.declared.kind.FileKind.TheVariants.{Chained}
 use Rattle.frz_table.specs.Layout.{pieces_of}
 use Rattle.frz_table.specs.Opening.{Contents, Refuses, contents_of, kept_text, opened, opening_calls, table_format}
 use Rattle.frz_table.specs.Possible.{MayHold, MayOpen, MayRefuse}
 use Rattle.frz_table.specs.Tables.{Table, IsTableFile, table_size}
 use Rattle.frz_table.proofs.Lemmas.{belongs, opened_calls, opens_by, read_short}
-use Rattle.frz_check.specs.Kept.{ChecksTable, IsVerdictOn, WithinFile, opened_size}
+use Rattle.frz_check.specs.Kept.{ChecksTable, IsVerdictOn, WithinFile}
 use Rattle.frz_chain.specs.Backs.{IsRefusedBack, OpensBack, RefusesBack}
 use Rattle.frz_chain.specs.Books.{Back, chain_value}
 use Rattle.frz_chain.specs.Causes.{IsOutsideFault, table_fault}
-use Rattle.frz_chain.specs.Chains.{CarriesSizes, ChecksChain, IsRefusedChain, RefusesChain, WithinBoth, bytes_for, calls_for, if_opened, judgement, steps_for}
+use Rattle.frz_chain.specs.ExactBacks.{if_exact, is_exact}
+use Rattle.frz_chain.specs.Chains.{CarriesSizes, ChecksChain, IsRefusedChain, RefusesChain, WithinBoth, bytes_behind, bytes_of_back, calls_behind, calls_of_back, judgement, steps_behind, steps_of_back}
 use Rattle.frz_chain.specs.FileOn.{back_of}
 use Rattle.frz_chain.specs.declared.checking.ChainVerdict.{ChainVerdict}
 use Rattle.frz_chain.specs.declared.fault.ChainFault.{ChainFault}
 use Rattle.frz_chain.specs.declared.fault.ChainFault.TheVariants as chain
+use Rattle.frz_chain.proofs.ExactBacks.{all_if_exact, judged_exact}
 
 -- a file that is refused is refused as a table
 file_refused : (held back_held : Option (List ℕ)) (fault : TableFault) → Refuses (opened (table_format Chained) held) fault
@@ -60,35 +62,57 @@ not_opened table back old new steps fault h =
 text_kept : (magic text : List ℕ) (size : ℕ) (bytes : List ℕ) → IsTableFile magic text size bytes → kept_text bytes ≡ text
 text_kept magic text size bytes file = ap (λ (n : ℕ). take n (drop 12 bytes)) file.counted ∙ file.has_text
 
--- what was spent is within the costs of both files
+-- what was spent is within the costs of both files, of which the second half is for a back table that is exact
 within_both : (bytes : List ℕ) (contents : Contents) (back_held : Option (List ℕ)) (old mid then new : StoreTold) (steps_before steps_then steps_now : ℕ)
     → opened (table_format Chained) (Some bytes) ≡ Ok contents
+    → mid.asked ≤ old.asked + (16 + length contents.text) → mid.calls ≤ old.calls + 5
+    → WithinFile back_held mid then steps_before steps_then
+    → new.asked ≤ then.asked + if_exact back_held (8 * size_of contents.rules.groups)
+    → new.calls ≤ then.calls + if_exact back_held (2 * pieces_of (size_of contents.rules.groups))
+    → steps_now ≤ steps_then + if_exact back_held (size_of contents.rules.groups)
+    → WithinBoth (Some bytes) back_held old new steps_before steps_now
+within_both bytes contents back_held old mid then new steps_before steps_then steps_now opens asked calls h more_asked more_calls steps =
+    let file = belongs (table_format Chained) bytes contents opens in
+    let text : length (kept_text bytes) ≡ length contents.text =
+    ap (length {A = ℕ}) (text_kept _ contents.text (size_of contents.rules.groups) bytes file.file) in
+    let size = size_of contents.rules.groups in
+    record {
+      steps = summed steps_before steps_then steps_now (steps_of_back back_held) (if_exact back_held size) _
+          (ap (λ (x : Result Contents TableFault). steps_behind x back_held) opens) h.steps steps;
+      asked = asked_both (length (kept_text bytes)) (bytes_of_back back_held) (if_exact back_held (8 * size)) _ text
+          (ap (λ (x : Result Contents TableFault). bytes_behind x back_held) opens) asked h.asked more_asked;
+      calls = calls_both (opening_calls (table_format Chained) (Some bytes)) (calls_of_back back_held) (if_exact back_held (2 * pieces_of size)) _
+          (opened_calls (table_format Chained) bytes contents opens)
+          (ap (λ (x : Result Contents TableFault). calls_behind x back_held) opens) calls h.calls more_calls;
+    }
+  where
+    summed : (start middle end back loads behind : ℕ) → behind ≡ back + loads → middle ≤ start + back → end ≤ middle + loads → end ≤ start + behind
+    summed start middle end back loads behind is few more = omega (arith, is, few, more)
+
+    asked_both : (text back loads behind : ℕ) → text ≡ length contents.text → behind ≡ back + loads → mid.asked ≤ old.asked + (16 + length contents.text)
+        → then.asked ≤ mid.asked + back → new.asked ≤ then.asked + loads → new.asked ≤ old.asked + (16 + text + behind)
+    asked_both text back loads behind same is first middle more = omega (arith, same, is, first, middle, more)
+
+    calls_both : (opening back loads behind : ℕ) → opening ≡ 5 → behind ≡ back + loads → mid.calls ≤ old.calls + 5
+        → then.calls ≤ mid.calls + back → new.calls ≤ then.calls + loads → new.calls ≤ old.calls + (opening + behind)
+    calls_both opening back loads behind five is first middle more = omega (arith, five, is, first, middle, more)
+
+-- the codes of the table were loaded over a back table that is exact
+loaded_both : (bytes : List ℕ) (contents : Contents) (back_held : Option (List ℕ)) (old mid then new : StoreTold) (steps_before steps_then steps_now : ℕ)
+    → opened (table_format Chained) (Some bytes) ≡ Ok contents → is_exact back_held ≡ true
     → mid.asked ≤ old.asked + (16 + length contents.text) → mid.calls ≤ old.calls + 5
     → WithinFile back_held mid then steps_before steps_then
     → new.asked ≤ then.asked + 8 * size_of contents.rules.groups
     → new.calls ≤ then.calls + 2 * pieces_of (size_of contents.rules.groups)
     → steps_now ≤ steps_then + size_of contents.rules.groups
     → WithinBoth (Some bytes) back_held old new steps_before steps_now
-within_both bytes contents back_held old mid then new steps_before steps_then steps_now opens asked calls h more_asked more_calls steps =
-    let size : ℕ = size_of contents.rules.groups in
-    let is : opened_size (opened (table_format Chained) (Some bytes)) ≡ size = ap opened_size opens in
-    let file = belongs (table_format Chained) bytes contents opens in
-    let text : length (kept_text bytes) ≡ length contents.text = ap (length {A = ℕ}) (text_kept _ contents.text size bytes file.file) in
-    let pieces : pieces_of (opened_size (opened (table_format Chained) (Some bytes))) ≡ pieces_of size = ap pieces_of is in
-    let back_steps = h.steps in
-    let back_asked = h.asked in
-    let behind : (n : ℕ) → if_opened (opened (table_format Chained) (Some bytes)) n ≡ n = λ n. ap (λ (x : Result Contents TableFault). if_opened x n) opens in
-    record {
-      steps = omega (arith, is, steps, back_steps, behind (steps_for Plain back_held));
-      asked = omega (arith, is, text, asked, back_asked, more_asked, behind (bytes_for Plain back_held));
-      calls = calls_both (pieces_of (opened_size (opened (table_format Chained) (Some bytes)))) (pieces_of size)
-          (opening_calls (table_format Chained) (Some bytes)) (calls_for Plain back_held) _ pieces (opened_calls (table_format Chained) bytes contents opens)
-          (behind (calls_for Plain back_held)) calls h.calls more_calls;
-    }
-  where
-    calls_both : (due pieces first back back_due : ℕ) → due ≡ pieces → first ≡ 5 → back_due ≡ back → mid.calls ≤ old.calls + 5 → then.calls ≤ mid.calls + back
-        → new.calls ≤ then.calls + 2 * pieces → new.calls ≤ old.calls + ((first + 2 * due) + back_due)
-    calls_both due pieces first back back_due same five all few middle more = omega (arith, same, five, all, few, middle, more)
+loaded_both bytes contents back_held old mid then new steps_before steps_then steps_now opens exact asked calls h more_asked more_calls steps =
+    let all : (n : ℕ) → n ≡ if_exact back_held n = λ n. sym (all_if_exact back_held exact n) in
+    let size = size_of contents.rules.groups in
+    within_both bytes contents back_held old mid then new steps_before steps_then steps_now opens asked calls h
+    (subst (λ (n : ℕ). new.asked ≤ then.asked + n) (all (8 * size)) more_asked)
+    (subst (λ (n : ℕ). new.calls ≤ then.calls + n) (all (2 * pieces_of size)) more_calls)
+    (subst (λ (n : ℕ). steps_now ≤ steps_then + n) (all size) steps)
 
 -- the table was opened, and the back table refused
 behind : (bytes : List ℕ) (contents : Contents) (back_held : Option (List ℕ)) (fault : ChainFault)
@@ -138,8 +162,8 @@ not_loaded table name back loaded old mid then new steps_before steps_then steps
   back_may = subst (λ (o : Option Files). MayHold o back (Some h.bytes)) same h.may;
   refuses = outside_refused (Some opens.bytes) (Some h.bytes) fault outside;
   within =
-      within_both opens.bytes (contents_of table) (Some h.bytes) old mid then new steps_before steps_then steps_now opens.opens asked calls h.within
-      more_asked more_calls steps;
+      loaded_both opens.bytes (contents_of table) (Some h.bytes) old mid then new steps_before steps_then steps_now opens.opens
+      (judged_exact h.bytes h.contents h.judged) asked calls h.within more_asked more_calls steps;
 }
 
 -- both were opened, and this is the verdict on the table
@@ -175,8 +199,8 @@ checked table name back loaded back_size old mid then new steps_before steps_the
       sizes =
           subst (λ (n : ℕ). CarriesSizes v (table_size table) n) (back_sized ∙ ap (λ (b : Back). size_of b.groups) h.keeps) sizes;
       within =
-          within_both told.bytes contents (Some h.bytes) old mid then new steps_before steps_then steps_now opens asked calls h.within
-          more_asked more_calls steps;
+          loaded_both told.bytes contents (Some h.bytes) old mid then new steps_before steps_then steps_now opens
+          (judged_exact h.bytes h.contents h.judged) asked calls h.within more_asked more_calls steps;
     }
 
 -- by what the check of the open table gave

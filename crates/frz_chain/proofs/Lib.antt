@@ -5,6 +5,7 @@ mod Transfer
 mod SmallLags
 mod Moved
 mod Causes
+mod ExactBacks
 mod Backs
 mod Checked
 mod Chained

@@ -7,7 +7,6 @@ use Rattle.frz_store.specs.Outside.{Rose}
 use Rattle.frz_store.specs.Told.{StoreTold, StoreFine, StoreQuiet}
 use Rattle.frz_store.specs.Writes.{Wrote, WrotePart}
 use Rattle.frz_table.specs.declared.fault.TableFault.{TableFault}
-use Rattle.frz_table.specs.declared.kind.FileKind.{FileKind}
 use Rattle.frz_table.specs.declared.kind.FileKind.TheVariants.{Plain, Chained}
 use Rattle.frz_table.specs.Layout.{pieces_of}
 use Rattle.frz_table.specs.Opening.{Contents, opened, opening_calls, table_format}
@@ -17,6 +16,7 @@ use Rattle.frz_check.specs.declared.verdict.Verdict.TheVariants as verdicts
 use Rattle.frz_check.specs.Kept.{IsVerdictOn, opened_size}
 use Rattle.frz_chain.specs.Backs.{IsBackJudged, IsRefusedBack}
 use Rattle.frz_chain.specs.Books.{chain_value}
+use Rattle.frz_chain.specs.ExactBacks.{if_exact}
 use Rattle.frz_chain.specs.FileOn.{IsFileOn, back_of}
 use Rattle.frz_chain.specs.declared.checking.ChainVerdict.{ChainVerdict}
 use Rattle.frz_chain.specs.declared.checking.ChainVerdict.TheVariants.{Exact, Wrong}
@@ -33,35 +33,45 @@ abbrev pub CarriesSizes : ChainVerdict → ℕ → ℕ → Type 0
 CarriesSizes (Exact size back) due back_due = (size ≡ due) × (back ≡ back_due)
 CarriesSizes (Wrong wrong) due back_due = ⊤
 
--- what checking a file of this kind costs: a step for each number, and the bytes and the calls that open
--- and load it
-abbrev pub steps_for : FileKind → Option (List ℕ) → ℕ
-steps_for kind held = opened_size (opened (table_format kind) held)
+-- what checking the back table costs: a step for each number, and the bytes and the calls that open and
+-- load it
+abbrev pub steps_of_back : Option (List ℕ) → ℕ
+steps_of_back held = opened_size (opened (table_format Plain) held)
 
-abbrev pub bytes_for : FileKind → Option (List ℕ) → ℕ
-bytes_for kind held = 16 + length (held_text held) + 8 * opened_size (opened (table_format kind) held)
+abbrev pub bytes_of_back : Option (List ℕ) → ℕ
+bytes_of_back held = 16 + length (held_text held) + 8 * opened_size (opened (table_format Plain) held)
 
-abbrev pub calls_for : FileKind → Option (List ℕ) → ℕ
-calls_for kind held =
-    opening_calls (table_format kind) held + 2 * pieces_of (opened_size (opened (table_format kind) held))
+abbrev pub calls_of_back : Option (List ℕ) → ℕ
+calls_of_back held =
+    opening_calls (table_format Plain) held + 2 * pieces_of (opened_size (opened (table_format Plain) held))
 
--- so many where the file opens, and else none
-abbrev pub if_opened : Result Contents TableFault → ℕ → ℕ
-if_opened (Ok contents) count = count
-if_opened (Err fault) count = 0
+-- what comes behind opening the table. Where it is refused that is nothing; else the back table is
+-- checked, and where that one is exact, the codes of the table are loaded and checked
+abbrev pub steps_behind : Result Contents TableFault → Option (List ℕ) → ℕ
+steps_behind (Ok contents) back_held = steps_of_back back_held + if_exact back_held (size_of contents.rules.groups)
+steps_behind (Err fault) back_held = 0
 
--- what checking both files costs, of which the second is not looked at where the first is refused
+abbrev pub bytes_behind : Result Contents TableFault → Option (List ℕ) → ℕ
+bytes_behind (Ok contents) back_held =
+    bytes_of_back back_held + if_exact back_held (8 * size_of contents.rules.groups)
+bytes_behind (Err fault) back_held = 0
+
+abbrev pub calls_behind : Result Contents TableFault → Option (List ℕ) → ℕ
+calls_behind (Ok contents) back_held =
+    calls_of_back back_held + if_exact back_held (2 * pieces_of (size_of contents.rules.groups))
+calls_behind (Err fault) back_held = 0
+
+-- what checking the table over the back table costs
 abbrev pub steps_for_both : (held back_held : Option (List ℕ)) → ℕ
-steps_for_both held back_held =
-    steps_for Chained held + if_opened (opened (table_format Chained) held) (steps_for Plain back_held)
+steps_for_both held back_held = steps_behind (opened (table_format Chained) held) back_held
 
 abbrev pub bytes_for_both : (held back_held : Option (List ℕ)) → ℕ
 bytes_for_both held back_held =
-    bytes_for Chained held + if_opened (opened (table_format Chained) held) (bytes_for Plain back_held)
+    16 + length (held_text held) + bytes_behind (opened (table_format Chained) held) back_held
 
 abbrev pub calls_for_both : (held back_held : Option (List ℕ)) → ℕ
 calls_for_both held back_held =
-    calls_for Chained held + if_opened (opened (table_format Chained) held) (calls_for Plain back_held)
+    opening_calls (table_format Chained) held + calls_behind (opened (table_format Chained) held) back_held
 
 -- no more than checking both files costs
 pub record WithinBoth (held back_held : Option (List ℕ)) (old new : StoreTold)

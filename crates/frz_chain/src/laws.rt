@@ -1,6 +1,6 @@
-//! What values told by a second table say of chess. Each law is the contract of a function that does
-//! nothing.
-ghost use Rattle.std.specs.Prelude.{ℕ, List};
+//! What values told by a second table say of chess, and which back tables are exact. Each law is the
+//! contract of a function that does nothing.
+ghost use Rattle.std.specs.Prelude.{◌≡◌, ℕ, List, true, false, Option, Some, Err};
 ghost use Rattle.frz_board.specs.Boards.{Board};
 ghost use Rattle.frz_board.specs.declared.man.Colour.{Colour};
 ghost use Rattle.frz_sets.specs.declared.exit.Value.{Value};
@@ -8,7 +8,14 @@ ghost use Rattle.frz_sets.specs.Views.{RuleLines};
 ghost use Rattle.frz_exits.specs.Books.{value_by};
 ghost use Rattle.frz_game.specs.Bounds.{IsTableOf};
 ghost use Rattle.frz_game.specs.Values.{AreTrueExits, IsTrueValue};
+ghost use Rattle.frz_game.specs.declared.wrong.Wrong.{Wrong};
+ghost use Rattle.frz_table.specs.declared.fault.TableFault.{TableFault};
+ghost use Rattle.frz_table.specs.declared.kind.FileKind.TheVariants.{Plain};
+ghost use Rattle.frz_table.specs.Opening.{Contents, opened, table_format};
+ghost use Rattle.frz_check.specs.declared.verdict.Verdict.TheVariants.{Exact};
+ghost use Rattle.frz_chain.specs.Backs.{HasWrong, IsBackJudged};
 ghost use Rattle.frz_chain.specs.Books.{Back, back_value, chain_value};
+ghost use Rattle.frz_chain.specs.ExactBacks.{is_exact};
 ghost use Rattle.frz_chain.specs.FileOn.{IsExactBack};
 ghost use Rattle.frz_chain.specs.Transfer.{TellsChess};
 
@@ -33,4 +40,14 @@ pub fn chained_tables_tell()
         AreTrueExits rules (value_by rules) → AreTrueExits backs (value_by backs) →
         (side : Colour) (codes : List ℕ) → IsTableOf rules (chain_value rules back) side codes →
         TellsChess rules (chain_value rules back) side codes }
+{}
+
+/// What a name holds is an exact back table where the verdict on it is that, and none where an entry is
+/// wrong or the file is refused: by this it is decided what checking a table over it may cost.
+pub fn exact_by_verdict()
+    ensures exact { (bytes : List ℕ) (contents : Contents) → IsBackJudged bytes contents Exact →
+        is_exact (Some bytes) ≡ true }
+    ensures wrong { (held : Option (List ℕ)) (wrong : Wrong) → HasWrong held wrong → is_exact held ≡ false }
+    ensures refused { (held : Option (List ℕ)) (fault : TableFault) →
+        opened (table_format Plain) held ≡ Err fault → is_exact held ≡ false }
 {}

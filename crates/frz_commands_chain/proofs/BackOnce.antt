@@ -1,5 +1,5 @@
 -- What a name holds as a back table: it is refused, or its first entry that is wrong is known, or it is exact; and only one of them.
-use Rattle.std.proofs.Common.{◌≡◌, refl, sym, ap, subst, ◌∙◌, ℕ, zero, suc, ◌+◌, ◌*◌, List, drop, length, Option, Some, None, Result, Ok, Err}
+use Rattle.std.proofs.Common.{◌≡◌, refl, sym, ap, subst, ◌∙◌, ℕ, zero, suc, ◌+◌, ◌*◌, List, drop, length, true, Option, Some, None, Result, Ok, Err}
 use Rattle.frz_board.specs.declared.man.Colour.{Colour}
 use Rattle.frz_board.specs.declared.man.Colour.TheVariants.{White, Black}
 use Rattle.frz_exits.specs.Books.{value_by}
@@ -24,7 +24,9 @@ use Rattle.frz_check.specs.Verdicts.{IsVerdict}
 use Rattle.frz_check.proofs.Lemmas.{one_verdict, verdict_on, verdict_there}
 use Rattle.frz_chain.specs.Backs.{HasWrong, IsBackJudged}
 use Rattle.frz_chain.specs.Books.{Back}
+use Rattle.frz_chain.specs.ExactBacks.{is_exact}
 use Rattle.frz_chain.specs.FileOn.{back_of}
+use Rattle.frz_chain.proofs.Lemmas.{judged_exact}
 use Rattle.frz_prelude.proofs.Lemmas.{opened_missing}
 use Rattle.frz_commands_chain.specs.Backs.{IsBackIn}
 
@@ -122,3 +124,7 @@ one_wrong_entry held w x h k =
 pub one_back : (held : Option (List ℕ)) (a b : Back) → IsBackIn held a → IsBackIn held b → b ≡ a
 one_back held a b h k =
     k.keeps ∙ same_back held h.bytes k.bytes h.contents k.contents Exact Exact h.there k.there h.judged k.judged ∙ sym h.keeps
+
+-- and it is found to be exact
+pub back_exact : (held : Option (List ℕ)) (back : Back) → IsBackIn held back → is_exact held ≡ true
+back_exact held back h = ap is_exact h.there ∙ judged_exact h.bytes h.contents h.judged

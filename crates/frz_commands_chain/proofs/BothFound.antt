@@ -6,7 +6,7 @@ use Rattle.frz_table.specs.declared.kind.FileKind.TheVariants.{Plain}
 use Rattle.frz_table.specs.Opening.{opened, table_format}
 use Rattle.frz_table.specs.Possible.{MayHold}
 use Rattle.frz_chain.specs.Backs.{HasWrong, IsRefusedBack, OpensBack, RefusesBack}
-use Rattle.frz_chain.specs.Chains.{bytes_for, calls_for, steps_for}
+use Rattle.frz_chain.specs.Chains.{bytes_of_back, calls_of_back, steps_of_back}
 use Rattle.frz_chain.specs.FileOn.{loaded_back}
 use Rattle.frz_chain.specs.declared.fault.ChainFault.{ChainFault}
 use Rattle.frz_chain.specs.declared.fault.ChainFault.TheVariants as chain
@@ -71,9 +71,9 @@ module _ (rules back : List ℕ) (read : RulesText) (old mid new : StoreTold) (i
       → ((m : Files) → m rules ≡ there.files rules → m back ≡ back_held → GivesBoth (m rules) (m back) result) → AreBothRead rules back result old new before now
   both_read result back_held may within gives =
       let at = both back_held may in
-      let asked : new.asked ≤ old.asked + (asked_of (there.files rules) + bytes_for Plain back_held) =
+      let asked : new.asked ≤ old.asked + (asked_of (there.files rules) + bytes_of_back back_held) =
       (let a = there.asked in let b = within.asked in omega (arith, a, b)) in
-      let call : new.calls ≤ old.calls + (1 + rules_reads (there.files rules) + calls_for Plain back_held) =
+      let call : new.calls ≤ old.calls + (1 + rules_reads (there.files rules) + calls_of_back back_held) =
       (let a = there.calls in let b = within.calls in omega (arith, a, b)) in
       let accepted = (has_rules at.files at.first).1 in
       let all : (n : ℕ) → n ≡ if_accepted (rules_held (at.files rules)) n = λ n. sym (ap (λ x. if_accepted x n) accepted) in
@@ -82,16 +82,16 @@ module _ (rules back : List ℕ) (read : RulesText) (old mid new : StoreTold) (i
         agrees = at.agrees;
         due = gives at.files at.first at.second;
         steps =
-            subst (λ (n : ℕ). now ≤ before + n) (all (steps_for Plain (at.files back)))
-            (subst (λ (h : Option (List ℕ)). now ≤ before + steps_for Plain h) (sym at.second) within.steps);
+            subst (λ (n : ℕ). now ≤ before + n) (all (steps_of_back (at.files back)))
+            (subst (λ (h : Option (List ℕ)). now ≤ before + steps_of_back h) (sym at.second) within.steps);
         asked =
-            subst (λ (n : ℕ). new.asked ≤ old.asked + (asked_of (at.files rules) + n)) (all (bytes_for Plain (at.files back)))
-            (subst (λ (h : Option (List ℕ)). new.asked ≤ old.asked + (asked_of h + bytes_for Plain (at.files back))) (sym at.first)
-            (subst (λ (h : Option (List ℕ)). new.asked ≤ old.asked + (asked_of (there.files rules) + bytes_for Plain h)) (sym at.second) asked));
+            subst (λ (n : ℕ). new.asked ≤ old.asked + (asked_of (at.files rules) + n)) (all (bytes_of_back (at.files back)))
+            (subst (λ (h : Option (List ℕ)). new.asked ≤ old.asked + (asked_of h + bytes_of_back (at.files back))) (sym at.first)
+            (subst (λ (h : Option (List ℕ)). new.asked ≤ old.asked + (asked_of (there.files rules) + bytes_of_back h)) (sym at.second) asked));
         calls =
-            subst (λ (n : ℕ). new.calls ≤ old.calls + (1 + rules_reads (at.files rules) + n)) (all (calls_for Plain (at.files back)))
-            (subst (λ (h : Option (List ℕ)). new.calls ≤ old.calls + (1 + rules_reads h + calls_for Plain (at.files back))) (sym at.first)
-            (subst (λ (h : Option (List ℕ)). new.calls ≤ old.calls + (1 + rules_reads (there.files rules) + calls_for Plain h)) (sym at.second) call));
+            subst (λ (n : ℕ). new.calls ≤ old.calls + (1 + rules_reads (at.files rules) + n)) (all (calls_of_back (at.files back)))
+            (subst (λ (h : Option (List ℕ)). new.calls ≤ old.calls + (1 + rules_reads h + calls_of_back (at.files back))) (sym at.first)
+            (subst (λ (h : Option (List ℕ)). new.calls ≤ old.calls + (1 + rules_reads (there.files rules) + calls_of_back h)) (sym at.second) call));
       }
 
   pub back_read : (both_is : BothRead) → both_is.read ≡ read → OpensBack back (loaded_back both_is.back) mid new before now

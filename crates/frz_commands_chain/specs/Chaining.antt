@@ -16,6 +16,7 @@ use Rattle.frz_sets.specs.Sets.{size_of}
 use Rattle.frz_rules.specs.Text.{rules_of}
 use Rattle.frz_build.specs.Building.{writing_calls}
 use Rattle.frz_chain.specs.Books.{Back}
+use Rattle.frz_chain.specs.ExactBacks.{if_exact}
 use Rattle.frz_chain.specs.FileOn.{IsFileOn}
 use Rattle.frz_commands_chain.specs.Backs.{IsBackIn, reads_of}
 use Rattle.frz_commands_chain.specs.Reading.{IsRefusedBoth, reading_bytes, reading_calls, reading_steps}
@@ -81,12 +82,12 @@ abbrev pub size_by : Result RuleLines Refused → ℕ
 size_by (Ok r) = size_of r.groups
 size_by (Err why) = 0
 
--- what reading the rules file and checking the back table costs, and then four steps a number and the
--- calls that write the table
+-- what reading the rules file and checking the back table costs. Where both are accepted, four steps a
+-- number and the calls that write the table come behind
 abbrev pub chain_costs : (held back_held : Option (List ℕ)) → Costs
 chain_costs held back_held = record {
-  steps = Some (4 * size_by (rules_held held) + reading_steps held back_held);
-  calls = Some (reading_calls held back_held + writing_by (rules_held held));
+  steps = Some (reading_steps held back_held + if_exact back_held (4 * size_by (rules_held held)));
+  calls = Some (reading_calls held back_held + if_exact back_held (writing_by (rules_held held)));
   asked = Some (reading_bytes held back_held);
 }
 

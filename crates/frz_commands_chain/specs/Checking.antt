@@ -63,7 +63,7 @@ pub data IsCheckedPair (table back : List ℕ) (files : Files) (a : Answer) : Ty
       (chain_verdict_line (size_of h.contents.rules.groups) (size_of h.behind.groups) v) files
       → IsCheckedPair table back files a
 
--- no more than checking both files costs
+-- no more than checking the table over the back table costs: what a refusal shuts off is not spent
 abbrev pub pair_costs : (held back_held : Option (List ℕ)) → Costs
 pair_costs held back_held = record {
   steps = Some (steps_for_both held back_held);

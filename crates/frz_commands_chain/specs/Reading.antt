@@ -6,7 +6,7 @@ use Rattle.frz_store.specs.Told.{StoreTold}
 use Rattle.frz_table.specs.declared.kind.FileKind.TheVariants.{Plain}
 use Rattle.frz_table.specs.Opening.{opened, table_format}
 use Rattle.frz_chain.specs.Backs.{HasWrong}
-use Rattle.frz_chain.specs.Chains.{bytes_for, calls_for, steps_for}
+use Rattle.frz_chain.specs.Chains.{bytes_of_back, calls_of_back, steps_of_back}
 use Rattle.frz_chain.specs.FileOn.{loaded_back}
 use Rattle.frz_prelude.specs.RulesFiles.{GivesText, asked_of, reads_of, rules_held}
 use Rattle.frz_prelude.specs.declared.refused.Refused.{Refused as Refusal}
@@ -50,13 +50,13 @@ if_accepted (Err why) count = 0
 
 -- what reading both costs, of which the back table is not looked at where the rules are refused
 abbrev pub reading_steps : (held back_held : Option (List ℕ)) → ℕ
-reading_steps held back_held = if_accepted (rules_held held) (steps_for Plain back_held)
+reading_steps held back_held = if_accepted (rules_held held) (steps_of_back back_held)
 
 abbrev pub reading_bytes : (held back_held : Option (List ℕ)) → ℕ
-reading_bytes held back_held = asked_of held + if_accepted (rules_held held) (bytes_for Plain back_held)
+reading_bytes held back_held = asked_of held + if_accepted (rules_held held) (bytes_of_back back_held)
 
 abbrev pub reading_calls : (held back_held : Option (List ℕ)) → ℕ
-reading_calls held back_held = 1 + reads_of held + if_accepted (rules_held held) (calls_for Plain back_held)
+reading_calls held back_held = 1 + reads_of held + if_accepted (rules_held held) (calls_of_back back_held)
 
 -- both are those of the two names in some files, which are those that the store tells where it does, and
 -- no more was spent than they cost
