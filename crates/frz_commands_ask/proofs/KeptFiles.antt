@@ -30,7 +30,7 @@ use Rattle.frz_prelude.specs.declared.stop.Stop.{Stop}
 use Rattle.frz_prelude.specs.declared.stop.Stop.TheVariants.{Refused, Fault}
 use Rattle.frz_prelude.proofs.Lemmas.{holding}
 use Rattle.frz_commands_ask.specs.declared.kept.KeptCodes.{KeptCodes}
-use Rattle.frz_commands_ask.specs.Kept.{code_reads, keeping_calls, kept_at, kept_by, kept_of, AreKept, IsKeptIn, IsKept}
+use Rattle.frz_commands_ask.specs.Kept.{code_reads, keeping_bytes, keeping_calls, kept_at, kept_by, kept_of, AreKept, IsKeptIn, IsKept}
 use Rattle.frz_commands_ask.proofs.Soundness.{read_sound}
 
 -- the name holds this, where the store tells
@@ -45,18 +45,22 @@ opened_text kind bytes contents opens =
     let file = (belongs (table_format kind) bytes contents opens).file in
     ap (λ (n : ℕ). take n (drop 12 bytes)) file.counted ∙ file.has_text
 
+-- no more was asked of the store, in no more calls, than what the name holds takes
+record WithinKept (kind : FileKind) (p : Board) (held : Option (List ℕ)) (old new : StoreTold) : Type 0 where
+  asked : new.asked ≤ old.asked + keeping_bytes kind p held
+  calls : new.calls ≤ old.calls + keeping_calls kind p held
+
 -- what a name gives that holds this
 module _ (kind : FileKind) (p : Board) (name : List ℕ) (old new : StoreTold) where
   kept_where : (result : Result KeptCodes Stop) (held : Option (List ℕ)) → IfSome old.files (λ m. m name ≡ held)
-      → Answers result (kept_of kind p held) → new.asked ≤ old.asked + (24 + length (held_text held))
-      → new.calls ≤ old.calls + keeping_calls kind p held → IsKept kind p name result old new
-  kept_where result held there due asked calls =
+      → Answers result (kept_of kind p held) → WithinKept kind p held old new → IsKept kind p name result old new
+  kept_where result held there due within =
       let at = holding old.files name held there in record {
         files = at.files;
         agrees = at.agrees;
         due = subst (λ (h : Option (List ℕ)). Answers result (kept_of kind p h)) (sym at.holds) due;
-        asked = subst (λ (h : Option (List ℕ)). new.asked ≤ old.asked + (24 + length (held_text h))) (sym at.holds) asked;
-        calls = subst (λ (h : Option (List ℕ)). new.calls ≤ old.calls + keeping_calls kind p h) (sym at.holds) calls;
+        asked = subst (λ (h : Option (List ℕ)). new.asked ≤ old.asked + keeping_bytes kind p h) (sym at.holds) within.asked;
+        calls = subst (λ (h : Option (List ℕ)). new.calls ≤ old.calls + keeping_calls kind p h) (sym at.holds) within.calls;
       }
 
   -- the table was not opened
@@ -80,7 +84,7 @@ module _ (kind : FileKind) (p : Board) (name : List ℕ) (old new : StoreTold) w
   refused_kept fault stop is may =
       kept_where (Err stop) may.held (same_held old.files name may.held may.may)
       (subst (λ (s : Stop). Answers {A = KeptCodes} (Err s) (kept_of kind p may.held)) (sym is) (refused_due may.held fault may.refuses))
-      (let asked = may.asked in omega (arith, asked)) (let calls = may.calls in omega (arith, calls))
+      (record { asked = (let asked = may.asked in omega (arith, asked)); calls = (let calls = may.calls in omega (arith, calls)) })
 
 -- what the bytes of a file that opens give
 module _ (kind : FileKind) (contents : Contents) (bytes : List ℕ) (p : Board) (opens : opened (table_format kind) (Some bytes) ≡ Ok contents) where
@@ -144,24 +148,28 @@ some_file kind contents other opens p inside codes white_small black_small =
 
 -- the table was opened
 module _ (kind : FileKind) (table : Table) (p : Board) (name : List ℕ) (old new : StoreTold) (named : table.name ≡ name)
-    (asked : new.asked ≤ old.asked + (24 + length table.text)) (calls : new.calls ≤ old.calls + 7)
-    (unread : (Member table.rules.groups p → ⊥) → new.calls ≤ old.calls + 5) where
-  within : (bytes : List ℕ) → opened (table_format kind) (Some bytes) ≡ Ok (contents_of table)
-      → new.asked ≤ old.asked + (24 + length (held_text (Some bytes)))
-  within bytes opens =
-      subst (λ (text : List ℕ). new.asked ≤ old.asked + (24 + length text)) (sym (opened_text kind bytes (contents_of table) opens)) asked
+    (asked : new.asked ≤ old.asked + (24 + length table.text))
+    (unasked : (Member table.rules.groups p → ⊥) → new.asked ≤ old.asked + (16 + length table.text))
+    (calls : new.calls ≤ old.calls + 7) (unread : (Member table.rules.groups p → ⊥) → new.calls ≤ old.calls + 5) where
+  text_long : (bytes : List ℕ) → opened (table_format kind) (Some bytes) ≡ Ok (contents_of table) → length (held_text (Some bytes)) ≡ length table.text
+  text_long bytes opens = ap (length {A = ℕ}) (opened_text kind bytes (contents_of table) opens)
 
-  -- the calls that open the file, and those that read its codes
   with_codes : (bytes : List ℕ) → opened (table_format kind) (Some bytes) ≡ Ok (contents_of table) → (codes : KeptCodes)
-      → kept_of kind p (Some bytes) ≡ Ok codes → new.calls ≤ old.calls + keeping_calls kind p (Some bytes)
-  with_codes bytes opens codes e = omega (arith, calls, opened_calls (table_format kind) bytes (contents_of table) opens, ap code_reads e)
+      → kept_of kind p (Some bytes) ≡ Ok codes → WithinKept kind p (Some bytes) old new
+  with_codes bytes opens codes e = record {
+    asked = omega (arith, asked, text_long bytes opens, ap code_reads e);
+    calls = omega (arith, calls, opened_calls (table_format kind) bytes (contents_of table) opens, ap code_reads e);
+  }
 
   with_none : (bytes : List ℕ) → opened (table_format kind) (Some bytes) ≡ Ok (contents_of table) → (Member table.rules.groups p → ⊥)
-      → new.calls ≤ old.calls + keeping_calls kind p (Some bytes)
-  with_none bytes opens none = omega (arith, unread none, opened_calls (table_format kind) bytes (contents_of table) opens)
+      → WithinKept kind p (Some bytes) old new
+  with_none bytes opens none = record {
+    asked = omega (arith, unasked none, text_long bytes opens);
+    calls = omega (arith, unread none, opened_calls (table_format kind) bytes (contents_of table) opens);
+  }
 
   by_place : (bytes : List ℕ) → opened (table_format kind) (Some bytes) ≡ Ok (contents_of table) → (inside : Bool)
-      → is_member table.rules.groups p ≡ inside → new.calls ≤ old.calls + keeping_calls kind p (Some bytes)
+      → is_member table.rules.groups p ≡ inside → WithinKept kind p (Some bytes) old new
   by_place bytes opens true e = with_codes bytes opens _ (kept_by_member kind (contents_of table) bytes p opens true e)
   by_place bytes opens false e = with_none bytes opens (λ inside. let no : true ≡ false = sym (of_member table.rules.groups p inside) ∙ e in cc)
 
@@ -175,22 +183,22 @@ module _ (kind : FileKind) (table : Table) (p : Board) (name : List ℕ) (old ne
       (at_name (λ bytes. kept_at White (contents_of table) bytes p ≡ codes.white) m may.bytes may.may kept.white)
       (at_name (λ bytes. kept_at Black (contents_of table) bytes p ≡ codes.black) m may.bytes may.may kept.black) in
       kept_where kind p name old new (Ok codes) (Some may.bytes) (subst (λ (o : Option Files). IfSome o (λ f. f name ≡ Some may.bytes)) (sym e) may.may)
-      gives (within may.bytes may.opens) (with_codes may.bytes may.opens codes gives)
+      gives (with_codes may.bytes may.opens codes gives)
   codes_kept None e may codes kept =
       let file = some_file kind (contents_of table) may.bytes may.opens p kept.inside codes kept.white_small kept.black_small in
       let gives = gives_codes kind (contents_of table) file.bytes p file.opens codes kept.inside file.white file.black in
       kept_where kind p name old new (Ok codes) (Some file.bytes) (subst (λ (o : Option Files). IfSome o (λ f. f name ≡ Some file.bytes)) (sym e) tt)
-      gives (within file.bytes file.opens) (with_codes file.bytes file.opens codes gives)
+      gives (with_codes file.bytes file.opens codes gives)
 
   pub opened_kept : MayOpen (table_format kind) old.files name (contents_of table) → (result : Result KeptCodes Stop)
       → IsKeptIn table p old.files result → IsKept kind p name result old new
   opened_kept may (Ok codes) kept = codes_kept old.files refl may codes kept
   opened_kept may (Err (Refused why)) kept =
       kept_where kind p name old new (Err (Refused why)) (Some may.bytes) (same_held old.files name (Some may.bytes) may.may)
-      (gives_outside kind (contents_of table) may.bytes p may.opens kept.0 ∙ ap (λ (w : Refusal). Err w) (sym kept.1)) (within may.bytes may.opens)
+      (gives_outside kind (contents_of table) may.bytes p may.opens kept.0 ∙ ap (λ (w : Refusal). Err w) (sym kept.1))
       (with_none may.bytes may.opens kept.0)
   opened_kept may (Err (Fault fault)) kept =
-      kept_where kind p name old new (Err (Fault fault)) (Some may.bytes) (same_held old.files name (Some may.bytes) may.may) tt (within may.bytes may.opens)
+      kept_where kind p name old new (Err (Fault fault)) (Some may.bytes) (same_held old.files name (Some may.bytes) may.may) tt
       (by_place may.bytes may.opens (is_member table.rules.groups p) refl)
 
 if_some : {A : Type 0} (o : Option A) (P Q : A → Type 0) → ((x : A) → P x → Q x) → IfSome o P → IfSome o Q

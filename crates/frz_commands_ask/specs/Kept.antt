@@ -1,5 +1,5 @@
 -- The codes that a table file keeps at a position of its set, and what `query TABLE FEN` answers by them.
-use Rattle.std.specs.Prelude.{◌≡◌, ℕ, ◌+◌, ◌≤◌, ◌<◌, ◌^◌, List, [], length, slice_index, Option, IfSome, Result, Ok, Err, if◌then◌else◌, ⊤}
+use Rattle.std.specs.Prelude.{◌≡◌, ℕ, ◌+◌, ◌*◌, ◌≤◌, ◌<◌, ◌^◌, List, [], length, slice_index, Option, IfSome, Result, Ok, Err, if◌then◌else◌, ⊤}
 use Rattle.std.specs.Option.{unwrap_or}
 use Rattle.frz_board.specs.declared.man.Colour.{Colour}
 use Rattle.frz_board.specs.declared.man.Colour.TheVariants.{White, Black}
@@ -55,6 +55,10 @@ abbrev pub keeping_calls : FileKind → Board → Option (List ℕ) → ℕ
 keeping_calls kind p held =
     opening_calls (table_format kind) held + code_reads (kept_of kind p held)
 
+-- and how many bytes are asked of it: those that open what the name holds, and four for each code
+abbrev pub keeping_bytes : FileKind → Board → Option (List ℕ) → ℕ
+keeping_bytes kind p held = 16 + length (held_text held) + 4 * code_reads (kept_of kind p held)
+
 -- the lines of the codes, or the line that refuses
 abbrev pub answer_by : Result KeptCodes Refused → Files → Answer
 answer_by (Ok codes) files = says Success (kept_text codes.white codes.black) files
@@ -77,10 +81,10 @@ IsKeptIn table p told (Err (stops.Refused why)) = (Member table.rules.groups p �
 IsKeptIn table p told (Err (stops.Fault fault)) = ⊤
 
 -- the answer is that of the name in some files, which are those that the store tells where it does, and no more was
--- asked of the store than 24 bytes and the text, in no more calls than these files take
+-- asked of the store, in no more calls, than these files take
 pub record IsKept (kind : FileKind) (p : Board) (name : List ℕ) (result : Result KeptCodes Stop) (old new : StoreTold) : Type 0 where
   pub files : Files
   pub agrees : IfSome old.files (λ told. told ≡ files)
   pub due : Answers result (kept_of kind p (files name))
-  pub asked : new.asked ≤ old.asked + (24 + length (held_text (files name)))
+  pub asked : new.asked ≤ old.asked + keeping_bytes kind p (files name)
   pub calls : new.calls ≤ old.calls + keeping_calls kind p (files name)

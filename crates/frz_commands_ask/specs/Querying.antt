@@ -1,6 +1,6 @@
 -- What `query TABLE FEN` and `chainquery TABLE FEN` are to do, and what their answers mean. No file
 -- changes.
-use Rattle.std.specs.Prelude.{◌≡◌, ℕ, ◌+◌, List, [], ◌∷◌, length, true, false, Some, None}
+use Rattle.std.specs.Prelude.{◌≡◌, ℕ, List, [], ◌∷◌, true, false, Some, None}
 use Rattle.frz_board.specs.declared.man.Colour.TheVariants.{White, Black}
 use Rattle.frz_board.specs.Boards.{Board}
 use Rattle.frz_fen.specs.Reading.{fen_of}
@@ -13,7 +13,6 @@ use Rattle.frz_table.specs.declared.kind.FileKind.{FileKind}
 use Rattle.frz_table.specs.declared.kind.FileKind.TheVariants.{Plain, Chained}
 use Rattle.frz_table.specs.Layout.{magic_of}
 use Rattle.frz_table.specs.Opening.{Contents}
-use Rattle.frz_table.specs.Possible.{held_text}
 use Rattle.frz_check.specs.OneFile.{IsOneFile}
 use Rattle.frz_answer.specs.declared.status.Status.{Status}
 use Rattle.frz_answer.specs.declared.status.Status.TheVariants.{Success, Table, Outside, Missing}
@@ -23,7 +22,7 @@ use Rattle.frz_answer.specs.Words.{taking, two_words_of}
 use Rattle.frz_prelude.specs.BoundLines.{kept_text}
 use Rattle.frz_prelude.specs.Positions.{on_position}
 use Rattle.frz_prelude.specs.TableFiles.{OpensAsKind, TellsFaultOfKind}
-use Rattle.frz_commands_ask.specs.Kept.{keeping_calls, kept_at, kept_of, answer_by}
+use Rattle.frz_commands_ask.specs.Kept.{keeping_bytes, keeping_calls, kept_at, kept_of, answer_by}
 use Rattle.frz_commands_ask.specs.Meaning.{TellsBounds}
 
 -- where the file is the one file of its text, the text tells the bounds of both sides, and they hold
@@ -67,8 +66,8 @@ pub record MeansQuery (kind : FileKind) (table : List ℕ) (p : Board) (files : 
   pub untaken : a.taken ≡ 0
   pub says : MeansStatus kind table p files a.status a.text
 
--- to query a table of this kind at a position: no step, the calls of the store that open what is there
--- and one for each of the two codes, and no more bytes asked than 24 and the text of the table
+-- to query a table of this kind at a position: no step, and the calls of the store and the bytes that open
+-- what is there; where the position is in its set, one call and four bytes more for each of the two codes
 abbrev pub querying_at : FileKind → List ℕ → Board → Job
 querying_at kind table p = record (plain (Success ∷ Table ∷ Outside ∷ Missing ∷ [])
     (λ files input a. a ≡ answer_by (kept_of kind p (files table)) files)) {
@@ -77,7 +76,7 @@ querying_at kind table p = record (plain (Success ∷ Table ∷ Outside ∷ Miss
       costs = λ files input a. WithinCosts (record {
         steps = Some 0;
         calls = Some (keeping_calls kind p (files table));
-        asked = Some (24 + length (held_text (files table)));
+        asked = Some (keeping_bytes kind p (files table));
       });
     }
 

@@ -31,6 +31,8 @@ fn codes_in<S: Store>(table: &TableFile, p: &Position, store: &mut S) -> Result<
     ensures calls { S.calls store.new ≤ S.calls store.old + 2 }
     ensures unread { (Member table.now.rules.groups p.now → ⊥)
         → S.calls store.new ≡ S.calls store.old }
+    ensures unasked { (Member table.now.rules.groups p.now → ⊥)
+        → S.asked store.new ≡ S.asked store.old }
 {
     let i = number_in(table.set(), p)?;
     let white = table.entry(store, Colour::White, i)?;

@@ -39,3 +39,15 @@ returns-in_err-white-clause-unread g c = λ none.
 pub returns-in_err-black-clause-unread : goal.returns-in_err-black-clause-unread
 returns-in_err-black-clause-unread g c = λ none.
     absurd (none (inside_it c.args.table.now c.set.result.now c.set.ensures c.args.p.now c.in_ok-i.i c.in_ok-i.ensures))
+
+pub returns-clause-unasked : goal.returns-clause-unasked
+returns-clause-unasked g c = λ none.
+    absurd (none (inside_it c.args.table.now c.set.result.now c.set.ensures c.args.p.now c.in_ok-i.i c.in_ok-i.ensures))
+
+pub returns-in_err-white-clause-unasked : goal.returns-in_err-white-clause-unasked
+returns-in_err-white-clause-unasked g c = λ none.
+    absurd (none (inside_it c.args.table.now c.set.result.now c.set.ensures c.args.p.now c.in_ok-i.i c.in_ok-i.ensures))
+
+pub returns-in_err-black-clause-unasked : goal.returns-in_err-black-clause-unasked
+returns-in_err-black-clause-unasked g c = λ none.
+    absurd (none (inside_it c.args.table.now c.set.result.now c.set.ensures c.args.p.now c.in_ok-i.i c.in_ok-i.ensures))
