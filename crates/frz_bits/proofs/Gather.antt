@@ -1,5 +1,5 @@
 -- Words gathered square by square.
-use Rattle.std.proofs.Common.{◌≡◌, ℕ, ◌+◌, ◌*◌, ◌^◌, ◌<◌, ◌≤◌, Bool, false, cond, ◌&&◌, List, refl, ap, sym, ◌∙◌, arith, slice_index, inl, inr}
+use Rattle.std.proofs.Common.{◌≡◌, ℕ, ◌+◌, ◌^◌, ◌<◌, ◌≤◌, Bool, false, cond, ◌&&◌, ap, sym, ◌∙◌, arith, slice_index, inl, inr}
 use Rattle.std.specs.Prelude.{◌==◌}
 use Rattle.std.proofs.lemmas.Bool.{cases_eq, cases_lt, and_left}
 use Rattle.std.proofs.lemmas.Bool.Decides.{nat_tests}
@@ -11,49 +11,8 @@ use Rattle.frz_board.specs.Boards.{Board, holds, has}
 use Rattle.frz_board.specs.Attacks.{attacks, is_attacked}
 use Rattle.frz_bits.specs.Words.{IsNext, HasNoneFrom}
 use Rattle.frz_bits.specs.Rays.{is_open}
-use Rattle.frz_bits.specs.Sides.{side_below}
 use Rattle.frz_squares.specs.SquareSets.{bits_below, set_of, has_square}
 use Rattle.frz_squares.proofs.Lemmas.{bits_below-next, bits_below-jump, bits_below-small, has-set_of}
-
-pub side_below-zero : (p : Board) (c : Colour) → side_below p c 0 ≡ 0
-unfolding side_below
-side_below-zero p c = refl
-
-pub side_below-next : (p : Board) (c : Colour) (n : ℕ) →
-    side_below p c (n + 1) ≡ side_below p c n + cond (holds p c n) (2 ^ n) 0
-unfolding side_below
-side_below-next p c n = bits_below-next (λ s. holds p c s) n
-
-pub side_below-small : (p : Board) (c : Colour) (n : ℕ) → side_below p c n < 2 ^ n
-unfolding side_below
-side_below-small p c n = bits_below-small (λ s. holds p c s) n
-
-pub side_below-all : (p : Board) (c : Colour) (n : ℕ) → n ≡ 64 →
-    side_below p c n ≡ set_of (λ s. holds p c s)
-unfolding side_below set_of
-side_below-all p c n h = ap (bits_below (λ s. holds p c s)) h
-
--- squares with no man change nothing
-pub side_below-empty : (p : Board) (c : Colour) (n m : ℕ) → n ≤ m →
-    ((k : ℕ) → n ≤ k → k < m → slice_index p.cells k ≡ 0) → side_below p c m ≡ side_below p c n
-unfolding side_below
-side_below-empty p c n m h none =
-    bits_below-jump (λ s. holds p c s) n m h (λ k l i. ap (λ x. is_man_of c (man_of_cell x)) (none k l i))
-
--- the words below the next rank, behind an empty one and behind one whose men were gathered
-pub rank_skipped : (p : Board) (c : Colour) (cells : List ℕ) (r word next : ℕ) → cells ≡ p.cells →
-    ((n : ℕ) → 8 * r ≤ n → n < 8 * r + 8 → slice_index cells n ≡ 0) →
-    word ≡ side_below p c (8 * r) → next ≡ word → next ≡ side_below p c (8 * (r + 1))
-rank_skipped p c cells r word next e none so_far same =
-    same ∙ so_far
-    ∙ sym (side_below-empty p c (8 * r) (8 * (r + 1)) (omega arith) (λ k l i. ap (λ xs. slice_index xs k) (sym e) ∙ none k l (omega arith)))
-
-pub rank_gathered : (p : Board) (c : Colour) (r word next : ℕ) → word ≡ side_below p c (8 * r + 8) →
-    next ≡ word → next ≡ side_below p c (8 * (r + 1))
-rank_gathered p c r word next so_far same =
-    let more : 8 * r + 8 ≡ 8 * (r + 1) = omega arith in same ∙ so_far ∙ ap (side_below p c) more
-
-pub ruleset sides = (side_below-zero, side_below-next, side_below-small, side_below-all)
 
 -- a walk over the squares of the word w, which holds all that pass the test f: the squares that pass it are gathered into a word
 module _ (f : ℕ → Bool) (w : ℕ) (all : (k : ℕ) → k < 64 → has_square w k ≡ false → f k ≡ false) where

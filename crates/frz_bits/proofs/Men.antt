@@ -1,6 +1,6 @@
 -- The men of the two sides are the men.
-use Rattle.std.proofs.Common.{◌≡◌, ℕ, ◌<◌, ◌^◌, ◌||◌, not, ap, ◌∙◌, arith, slice_index, bit_or, bit_and}
-use Rattle.std.specs.Prelude.{◌==◌}
+use Rattle.std.proofs.Common.{◌≡◌, ℕ, ◌<◌, ◌^◌, Bool, true, false, cond, ◌&&◌, ◌||◌, not, List, refl, ap, ◌∙◌, arith, slice_index, bit_or, bit_and}
+use Rattle.std.specs.Prelude.{◌==◌, nat_lt}
 use Rattle.std.proofs.lemmas.Bool.Decides.{nat_tests}
 use Rattle.std.proofs.lemmas.Nat.{or_lt}
 use Rattle.std.proofs.lemmas.List.Elements.{All-get_or}
@@ -44,3 +44,33 @@ clear_is p a b =
     apart_sets (λ s. is_between a s b) (set_of (λ s. not (is_empty p s))) (set_of-small (λ s. not (is_empty p s)))
     ∙ all_squares-same (λ s. not (is_between a s b) || not (has_square (set_of (λ s. not (is_empty p s))) s)) (λ s. not (is_between a s b) || is_empty p s)
     (λ k l. ap (λ x. not (is_between a k b) || x) (ap not (has-set_of (λ s. not (is_empty p s)) k l) ∙ not-not (is_empty p k)))
+
+pub one_or_none : (b : Bool) → (cond b 1 0 == 1) ≡ b
+one_or_none true = refl
+one_or_none false = refl
+
+white_cell : (x : ℕ) → x < 13 →
+    (nat_lt x 7 && not (nat_lt x 1)) ≡ is_man_of White (man_of_cell x)
+white_cell x h = grind (arith, nat_tests)
+
+black_cell : (x : ℕ) → x < 13 →
+    (nat_lt x 13 && not (nat_lt x 7)) ≡ is_man_of Black (man_of_cell x)
+black_cell x h = grind (arith, nat_tests)
+
+-- the words of the cells of each side's men
+pub sides_of : (p : Board) (cells : List ℕ) (white black : ℕ) → cells ≡ p.cells → CellsFit p.cells →
+    white < 2 ^ 64 → black < 2 ^ 64 →
+    ((k : ℕ) → k < 64 → has_square white k ≡ (nat_lt (slice_index cells k) 7 && not (nat_lt (slice_index cells k) 1))) →
+    ((k : ℕ) → k < 64 → has_square black k ≡ (nat_lt (slice_index cells k) 13 && not (nat_lt (slice_index cells k) 7))) →
+    HasSides p white black
+sides_of p cells white black e fits w b hw hb = record {
+  fits = fits;
+  of_white =
+      set_of-from white (λ s. holds p White s) w (λ k l. hw k l
+      ∙ ap (λ xs. nat_lt (slice_index xs k) 7 && not (nat_lt (slice_index xs k) 1)) e
+      ∙ white_cell (slice_index p.cells k) (cell_fits p fits k l));
+  of_black =
+      set_of-from black (λ s. holds p Black s) b (λ k l. hb k l
+      ∙ ap (λ xs. nat_lt (slice_index xs k) 13 && not (nat_lt (slice_index xs k) 7)) e
+      ∙ black_cell (slice_index p.cells k) (cell_fits p fits k l));
+}

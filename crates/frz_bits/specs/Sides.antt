@@ -2,15 +2,10 @@
 use Rattle.std.specs.Prelude.{ℕ, ◌≡◌}
 use Rattle.frz_board.specs.declared.man.Colour.TheVariants.{White, Black}
 use Rattle.frz_board.specs.Boards.{Board, CellsFit, holds}
-use Rattle.frz_board.specs.declared.man.Colour.{Colour}
-use Rattle.frz_squares.specs.SquareSets.{bits_below, set_of}
+use Rattle.frz_squares.specs.SquareSets.{set_of}
 
 -- the words of the squares where a man of each side stands
 pub record HasSides (p : Board) (white black : ℕ) : Type 0 where
   pub fits : CellsFit p.cells
   pub of_white : white ≡ set_of (holds p White)
   pub of_black : black ≡ set_of (holds p Black)
-
--- the squares below n where a man of the side stands
-unfoldable pub side_below : Board → Colour → ℕ → ℕ
-side_below p c n = bits_below (λ s. holds p c s) n

@@ -1,17 +1,18 @@
 //! A position with words of its men, and what attacks what in it.
 
-ghost use Rattle.std.specs.Prelude.{◌≡◌, ◌<◌, ◌≤◌, ◌^◌, ◌&&◌, ℕ, IsTrue, not, replicate, slice_index, slice_set, if◌then◌else◌, ◌+◌};
+ghost use Rattle.std.specs.Prelude.{◌≡◌, ◌≤◌, ◌&&◌, not, replicate, slice_set};
 ghost use Rattle.frz_board.specs.Men.{is_man_of, man_of_cell, other_of};
 ghost use Rattle.frz_board.specs.Boards.{Board, is_empty, man_on, holds, has};
 ghost use Rattle.frz_board.specs.EnPassant.{has_pawn_beside};
 ghost use Rattle.frz_board.specs.Attacks.{is_clear, reaches, attacks, is_attacked, is_in_check};
 ghost use Rattle.frz_squares.specs.SquareSets.{set_of};
-ghost use Rattle.frz_bits.specs.Sides.{side_below};
 
+use super::lanes::{cells_equal, cells_from};
 use super::sets::{between, bishop_lines, king_set, knight_set, pawn_set, rook_lines};
 use super::word::{contains, next_square, replaced, with_square};
-use frz_board::{Colour, Kind, Man, Position, Square};
+use frz_board::{Colour, Kind, Man, Position, Square, cell_of};
 use std::marker::Model;
+use std::simd::prelude::*;
 
 fn is_white(cell: u8) -> bool
     ensures { result ≡ is_man_of Colour.White (man_of_cell cell) }
@@ -44,59 +45,16 @@ impl Model for Bitboards {
     ghost invariant = { λ b. HasSides b.position b.white b.black };
 }
 
-/// Does no man stand on the rank that begins with this square?
-fn is_rank_empty(cells: &[u8; 64], first: u8) -> bool
-    requires { first ≤ 56 }
-    ensures { IsTrue result → (n : ℕ) → first ≤ n → n < first + 8 → slice_index cells.now n ≡ 0 }
-{
-    let mut empty = true;
-    for n in first..first + 8 {
-        empty &= cells[n as usize] == 0;
-    }
-    empty
-}
-
-/// The words of both sides' men below the rank that begins with this square, and those on it.
-#[tactic(auto, using(crate::proofs::Gather::sides))]
-fn with_rank(p: &Position, first: u8, white: u64, black: u64) -> (u64, u64)
-    requires first { first ≤ 56 }
-    requires white { white ≡ side_below p.now Colour.White first }
-    requires black { black ≡ side_below p.now Colour.Black first }
-    ensures white { result.0 ≡ side_below p.now Colour.White (first + 8) }
-    ensures black { result.1 ≡ side_below p.now Colour.Black (first + 8) }
-{
-    let mut white = white;
-    let mut black = black;
-    for n in first..first + 8 {
-        let cell = p.cell(Square::at(n));
-        if cell != 0 {
-            white = with_square(white, Square::at(n), is_white(cell));
-            black = with_square(black, Square::at(n), is_black(cell));
-        }
-    }
-    (white, black)
-}
-
 impl Bitboards {
     /// The position's men, gathered from its cells.
-    #[tactic(auto, using(crate::proofs::Gather::sides))]
     pub fn of(p: &Position) -> Bitboards
         ensures { result ≡ p.now }
     {
-        let cells = p.cells();
-        let mut white = 0;
-        let mut black = 0;
-        for rank in 0..8u8 {
-            if !is_rank_empty(&cells, 8 * rank) {
-                let words = with_rank(p, 8 * rank, white, black);
-                white = words.0;
-                black = words.1;
-            }
-        }
+        let cells = u8x64::from_array(p.cells());
         Bitboards {
             position: *p,
-            white,
-            black,
+            white: cells_from(cells, 1, 7),
+            black: cells_from(cells, 7, 13),
         }
     }
 
@@ -129,6 +87,13 @@ impl Bitboards {
             Colour::White => self.white,
             Colour::Black => self.black,
         }
+    }
+
+    /// The squares where this very man stands.
+    pub fn men(&self, man: Man) -> u64
+        ensures { result ≡ set_of (λ s. has self.now man.colour man.kind s) }
+    {
+        cells_equal(u8x64::from_array(self.position.cells()), cell_of(man))
     }
 
     /// The squares where a man stands.

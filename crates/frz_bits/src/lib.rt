@@ -2,6 +2,7 @@
 #![tactic(auto)]
 
 mod bitboards;
+mod lanes;
 mod lines;
 mod pawns;
 mod rays;

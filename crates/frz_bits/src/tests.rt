@@ -75,6 +75,11 @@ fn a_rook_attacks_past_no_man(rt: HostRuntime) -> Result<(), Fail> {
     assert_eq!(rt; attackers(&p, square(2)?, Colour::White), A1);
     assert_eq!(rt; attackers(&p, square(3)?, Colour::White), 0);
     let boards = Bitboards::of(&p);
+    let rook = Man {
+        colour: Colour::White,
+        kind: Kind::Rook,
+    };
+    assert_eq!(rt; boards.men(rook), A1);
     assert!(rt; boards.is_in_check(Colour::Black));
     assert!(rt; !boards.put(square(1)?, 5).is_in_check(Colour::Black));
     assert_eq!(rt; next_square(boards.occupied(), 1), Some(square(2)?));

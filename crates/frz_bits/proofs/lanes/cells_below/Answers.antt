@@ -1,0 +1,15 @@
+use Rattle.std.proofs.Common.{ℕ, ltb, false, cond, get_or, map, ap, ◌∙◌, arith, w8}
+use Rattle.std.specs.Prelude.{◌==◌}
+use Rattle.std.proofs.lemmas.Simd.{bit_mask_l, bitmask_splat}
+use Rattle.std.proofs.lemmas.List.{get_or-map}
+use Rattle.frz_squares.specs.SquareSets.{has_square}
+use Rattle.frz_bits.proofs.Men.{one_or_none}
+use Rattle.frz_bits.proofs.lanes.cells_below.Goals as goal
+
+pub returns : goal.returns
+returns c k l =
+    let below = λ (x : ℕ). ltb x c.args.end in
+    let cells = c.args.cells in
+    ap (λ w. has_square w k) (bitmask_splat w8 ltb cells 64 c.args.end c.fits-cells.0 (omega arith))
+    ∙ ap (λ b. b == 1) (bit_mask_l (map below cells) k ∙ ap (λ b. cond b 1 0) (get_or-map below cells k 0 false (omega (arith, c.fits-cells.0))))
+    ∙ one_or_none (below (get_or cells k 0))
