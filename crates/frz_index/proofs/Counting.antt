@@ -1,26 +1,27 @@
 -- The men of one kind, counted over the squares of a word.
-use Rattle.std.proofs.Common.{◌≡◌, ℕ, zero, suc, ◌+◌, ◌-◌, ◌*◌, ◌<◌, ◌≤◌, Bool, true, false, cond, ◌&&◌, min, List, ◌∷◌, length, slice_index, Some, refl, ap, sym, ◌∙◌, subst, arith, inl, inr, add-one}
-use Rattle.std.specs.List.{slice_get}
+use Rattle.std.proofs.Common.{◌≡◌, ℕ, zero, suc, ◌+◌, ◌-◌, ◌*◌, ◌<◌, ◌≤◌, Bool, true, false, cond, ◌&&◌, ◌||◌, min, List, [], ◌∷◌, length, slice_index, Some, refl, ap, sym, ◌∙◌, subst, arith, inl, inr, add-one}
+use Rattle.std.specs.Prelude.{◌==◌}
+use Rattle.std.specs.List.{list_any, slice_get}
 use Rattle.std.proofs.lemmas.Option.{slice_get_within}
-use Rattle.std.proofs.lemmas.Bool.{cases_lt, eqb-true}
+use Rattle.std.proofs.lemmas.Bool.{and_parts, cases_lt}
+use Rattle.std.proofs.lemmas.Bool.Decides.{nat_tests}
 use Rattle.frz_board.specs.declared.man.Colour.{Colour}
-use Rattle.frz_board.specs.declared.man.Colour.TheVariants.{White, Black}
 use Rattle.frz_board.specs.declared.man.Kind.{Kind}
-use Rattle.frz_board.specs.Boards.{Board, has, holds}
-use Rattle.frz_board.specs.Men.{cell_of_man, is_man_of, kind_of_number, man_of_cell, number_of_kind, same_colour}
-use Rattle.frz_board.proofs.Lemmas.{cell_forth}
+use Rattle.frz_board.specs.Boards.{Board, has}
+use Rattle.frz_board.specs.Men.{kind_of_number, number_of_kind}
 use Rattle.frz_bits.specs.Words.{HasNoneFrom, IsNext}
 use Rattle.frz_squares.specs.SquareSets.{has_square, set_of}
-use Rattle.frz_squares.proofs.Lemmas.{has-set_of}
+use Rattle.frz_squares.proofs.Lemmas.{has-set_of, has-zero}
 use Rattle.frz_combinations.proofs.Lemmas.{place_counts}
 use Rattle.frz_combinations.specs.Binomials.{capped, choose}
 use Rattle.frz_combinations.specs.Combinations.{places_below, rank}
 use Rattle.frz_sets.specs.Groups.{state_number}
 use Rattle.frz_sets.specs.Views.{GroupLine}
 use Rattle.frz_index.specs.declared.chart.Chart.{Chart}
-use Rattle.frz_index.specs.Charts.{IsChart, IsCounted, IsCut}
+use Rattle.frz_index.specs.declared.digit.Counted.{Counted}
+use Rattle.frz_index.specs.Charts.{IsChart, IsCounted, IsCut, is_on}
 use Rattle.frz_index.specs.Places.{places, places_among, stands}
-use Rattle.frz_index.proofs.Charting.{cut_at, cut_here, cut_once, cut_order, kind_numbers, some_at, state_low}
+use Rattle.frz_index.proofs.Charting.{cut_at, cut_here, cut_once, cut_order, kind_back, kind_numbers, some_at, state_low}
 
 -- places at which nothing holds change nothing
 pub skip : (f : ℕ → Bool) (a b : ℕ) → a ≤ b → ((j : ℕ) → a ≤ j → j < b → f j ≡ false) →
@@ -42,24 +43,6 @@ pub place_off : (f : ℕ → Bool) (k : ℕ) → f k ≡ false → places_below 
 place_off f k e =
     ap (places_below f) (add-one k) ∙ ap (λ x. cond x (k ∷ places_below f k) (places_below f k)) e
 
-own : (c : Colour) → same_colour c c ≡ true
-own White = refl
-own Black = refl
-
-has_holds : (p : Board) (c : Colour) (k : Kind) (s : ℕ) → has p c k s ≡ true → holds p c s ≡ true
-has_holds p c k s h =
-    ap (λ x. is_man_of c (man_of_cell x)) (eqb-true (slice_index p.cells s) (cell_of_man (record { colour = c; kind = k })) h)
-    ∙ ap (is_man_of c) (cell_forth c k) ∙ own c
-
-off : (p : Board) (c : Colour) (k : Kind) (s : ℕ) → holds p c s ≡ false → has p c k s ≡ false
-off p c k s h =
-    let by : (b : Bool) → has p c k s ≡ b → has p c k s ≡ false =
-    λ b. elim b as (λ b. has p c k s ≡ b → has p c k s ≡ false) [
-      | true ↦ λ e. let wrong : true ≡ false = sym (has_holds p c k s e) ∙ h in cc
-      | false ↦ λ e. e
-    ] in
-    by (has p c k s) refl
-
 and_off : (a b : Bool) → (a && b) ≡ false → b ≡ true → a ≡ false
 and_off false b h e = refl
 and_off true b h e = let wrong : true ≡ false = sym e ∙ h in cc
@@ -73,12 +56,13 @@ number_back (suc (suc (suc (suc zero)))) h = refl
 number_back (suc (suc (suc (suc (suc zero))))) h = refl
 number_back (suc (suc (suc (suc (suc (suc i)))))) h = absurd (omega arith)
 
--- the men of the colour on the squares of the kind's states
+-- the men of the colour and the kind on the squares of the kind's states
 pub record AreMen (p : Board) (g : GroupLine) (chart : Chart) (i men : ℕ) : Type 0 where
   pub charted : IsChart g.states chart
   pub kind : i < 6
   pub there : (s : ℕ) → s < 64 →
-      has_square men s ≡ (holds p g.colour s && has_square (slice_index chart.words i) s)
+      has_square men s
+      ≡ (has p g.colour (kind_of_number (i + 1)) s && has_square (slice_index chart.words i) s)
 
 abbrev pub before : Board → GroupLine → Chart → ℕ → ℕ → List ℕ
 before p g chart i n = places_among p g.colour g.states (slice_index chart.cuts (64 * i + n))
@@ -108,8 +92,10 @@ past p g chart i men n s h l low none =
     let square = (state_low 0 g.states j st h.charted.in_order.increasing found.1).1 in
     let here = parts i n s (number_of_kind st.0) st.1 (from.from j st a found.1) (to.before j st b found.1) low square (kind_numbers st.0).0 in
     let word : has_square (slice_index chart.words i) st.1 ≡ true = ap (λ x. has_square (slice_index chart.words x) st.1) (sym here.0) ∙ h.charted.words_are.all j st found.1 in
-    let empty : holds p g.colour st.1 ≡ false = and_off (holds p g.colour st.1) (has_square (slice_index chart.words i) st.1) (sym (h.there st.1 square) ∙ none st.1 here.1 here.2) word in
-    ap (stands p g.colour) found.1 ∙ off p g.colour st.0 st.1 empty)
+    let empty : has p g.colour (kind_of_number (i + 1)) st.1 ≡ false = and_off (has p g.colour (kind_of_number (i + 1)) st.1) (has_square (slice_index chart.words i) st.1) (sym (h.there st.1 square) ∙ none st.1 here.1 here.2) word in
+    let number : number_of_kind st.0 ≡ i + 1 = omega (arith, here.0, (kind_numbers st.0).0) in
+    let kind : st.0 ≡ kind_of_number (i + 1) = sym (kind_back st.0) ∙ ap kind_of_number number in
+    ap (stands p g.colour) found.1 ∙ ap (λ k. has p g.colour k st.1) kind ∙ empty)
 
 -- the state of a square of the word
 pub record Met (p : Board) (g : GroupLine) (chart : Chart) (i s : ℕ) : Type 0 where
@@ -117,14 +103,16 @@ pub record Met (p : Board) (g : GroupLine) (chart : Chart) (i s : ℕ) : Type 0 
       ≡ Some (kind_of_number (i + 1), s)
   pub next : slice_index chart.cuts (64 * i + (s + 1)) ≡ slice_index chart.cuts (64 * i + s) + 1
 
-and_second : (a b : Bool) → (a && b) ≡ true → b ≡ true
-and_second true b h = h
-and_second false b h = cc
+both_true : (p : Board) (g : GroupLine) (chart : Chart) (i men s : ℕ) → AreMen p g chart i men →
+    s < 64 → has_square men s ≡ true →
+    (has p g.colour (kind_of_number (i + 1)) s ≡ true) × (has_square (slice_index chart.words i) s ≡ true)
+both_true p g chart i men s h l t =
+    and_parts (has p g.colour (kind_of_number (i + 1)) s) (has_square (slice_index chart.words i) s) (sym (h.there s l) ∙ t)
 
 pub met : (p : Board) (g : GroupLine) (chart : Chart) (i men s : ℕ) → AreMen p g chart i men →
     s < 64 → has_square men s ≡ true → Met p g chart i s
 met p g chart i men s h l t =
-    let word = and_second (holds p g.colour s) (has_square (slice_index chart.words i) s) (sym (h.there s l) ∙ t) in
+    let word = (both_true p g chart i men s h l t).1 in
     let found = h.charted.words_are.only i s h.kind l word in
     let st : Kind × ℕ = (kind_of_number (i + 1), s) in
     let number : state_number st ≡ 64 * i + s = let k = number_back i h.kind in omega arith in
@@ -137,25 +125,16 @@ met p g chart i men s h l t =
       next = cut_once g.states (64 * i + (s + 1)) _ _ (cut p g chart i men (s + 1) h (omega arith)) (subst (λ x. IsCut g.states x (slice_index chart.cuts (64 * i + s) + 1)) sum (cut_here g.states (64 * i + s) (slice_index chart.cuts (64 * i + s)) st h.charted.in_order here state number));
     }
 
--- the man of the group's kind stands there
+-- a man is counted
 pub counts : (p : Board) (g : GroupLine) (chart : Chart) (i men n s : ℕ) → AreMen p g chart i men →
-    IsNext men n s → has p g.colour (kind_of_number (i + 1)) s ≡ true →
+    IsNext men n s →
     before p g chart i (s + 1) ≡ slice_index chart.cuts (64 * i + s) ∷ before p g chart i n
-counts p g chart i men n s h next is =
+counts p g chart i men n s h next =
+    let is = (both_true p g chart i men s h next.on_board next.there).0 in
     let m = met p g chart i men s h next.on_board next.there in
     ap (places_among p g.colour g.states) m.next
     ∙ place_on (on p g) (slice_index chart.cuts (64 * i + s)) (ap (stands p g.colour) m.state ∙ is)
     ∙ ap (λ ks. slice_index chart.cuts (64 * i + s) ∷ ks) (past p g chart i men n s h next.from (omega (arith, next.on_board)) next.first)
-
--- another man stands there
-pub passes : (p : Board) (g : GroupLine) (chart : Chart) (i men n s : ℕ) → AreMen p g chart i men →
-    IsNext men n s → has p g.colour (kind_of_number (i + 1)) s ≡ false →
-    before p g chart i (s + 1) ≡ before p g chart i n
-passes p g chart i men n s h next is =
-    let m = met p g chart i men s h next.on_board next.there in
-    ap (places_among p g.colour g.states) m.next
-    ∙ place_off (on p g) (slice_index chart.cuts (64 * i + s)) (ap (stands p g.colour) m.state ∙ is)
-    ∙ past p g chart i men n s h next.from (omega (arith, next.on_board)) next.first
 
 -- no man is left
 pub ends : (p : Board) (g : GroupLine) (chart : Chart) (i men n : ℕ) → AreMen p g chart i men →
@@ -168,9 +147,10 @@ ends p g chart i men n h low none =
 
 -- a man more than the most
 pub too_many : (p : Board) (g : GroupLine) (chart : Chart) (i men n s : ℕ) →
-    AreMen p g chart i men → IsNext men n s → has p g.colour (kind_of_number (i + 1)) s ≡ true →
+    AreMen p g chart i men → IsNext men n s →
     length (before p g chart i n) < length (places p g)
-too_many p g chart i men n s h next is =
+too_many p g chart i men n s h next =
+    let is = (both_true p g chart i men s h next.on_board next.there).0 in
     let m = met p g chart i men s h next.on_board next.there in
     let k = slice_index chart.cuts (64 * i + s) in
     let skipped = past p g chart i men n s h next.from (omega (arith, next.on_board)) next.first in
@@ -181,45 +161,85 @@ pub place_low : (p : Board) (g : GroupLine) (chart : Chart) (i men s : ℕ) → 
     s < 64 → slice_index chart.cuts (64 * i + s) ≤ length g.states
 place_low p g chart i men s h l = (cut p g chart i men s h (omega arith)).within
 
--- the count and the sum go on
-pub counted_on : (p : Board) (g : GroupLine) (place : ℕ) (a b : ℕ) (count sum ways v : ℕ) →
+turned : (a b : ℕ) → (a == b) ≡ (b == a)
+turned a b = grind (arith, nat_tests)
+
+one_more : (a b : Bool) → cond a true b ≡ (a || b)
+one_more true b = refl
+one_more false b = refl
+
+-- the state at the place is one on this square alone
+abbrev pub is_on_only : GroupLine → ℕ → ℕ → Type 0
+is_on_only g place s = (k : ℕ) → is_on k (slice_get g.states place) ≡ (k == s)
+
+pub met_on : (p : Board) (g : GroupLine) (chart : Chart) (i men s : ℕ) →
+    AreMen p g chart i men → s < 64 → has_square men s ≡ true →
+    is_on_only g (slice_index chart.cuts (64 * i + s)) s
+met_on p g chart i men s h l t k =
+    ap (is_on k) (met p g chart i men s h l t).state ∙ turned s k
+
+-- the count, the rank and the squares go on
+pub counted_on : (p : Board) (g : GroupLine) (place s a b : ℕ) (ways : ℕ) (x y : Counted) →
     places_among p g.colour g.states b ≡ place ∷ places_among p g.colour g.states a →
-    count < g.most → IsCounted p g a (count, sum) → ways ≡ capped (choose place (count + 1)) →
-    v ≡ min (sum + ways) 18446744073709551615 → IsCounted p g b (count + 1, v)
-counted_on p g place a b count sum ways v e few h ew ev =
+    is_on_only g place s → x.count < g.most → IsCounted p g a x →
+    ways ≡ capped (choose place (x.count + 1)) → y.count ≡ x.count + 1 →
+    y.rank ≡ min (x.rank + ways) 18446744073709551615 →
+    ((k : ℕ) → k < 64 → has_square y.squares k ≡ cond (k == s) true (has_square x.squares k)) →
+    IsCounted p g b y
+counted_on p g place s a b ways x y e at few h ew count rank_on squares =
     let ks = places_among p g.colour g.states a in
-    let size : count + 1 ≡ suc (length ks) = omega (arith, h.0) in (
-      omega (arith, h.0, ap length e),
-      omega arith,
-      (let w : ways ≡ capped (choose place (suc (length ks))) = ew ∙ ap (λ n. capped (choose place n)) size in
+    let size : x.count + 1 ≡ suc (length ks) = omega (arith, h.count_is) in
+    record {
+      count_is = omega (arith, count, h.count_is, ap length e);
+      few = omega (arith, count);
+      rank_is =
+          let w : ways ≡ capped (choose place (suc (length ks))) = ew ∙ ap (λ n. capped (choose place n)) size in
           let r = ap rank e in
-          omega (arith, w, ev, h.2, r)),
-    )
+          omega (arith, w, rank_on, h.rank_is, r);
+      squares_are = λ k l.
+          squares k l ∙ one_more (k == s) (has_square x.squares k)
+          ∙ ap (λ b. (k == s) || b) (h.squares_are k l)
+          ∙ ap (λ b. b || list_any (λ j. is_on k (slice_get g.states j)) ks) (sym (at k))
+          ∙ sym (ap (list_any (λ j. is_on k (slice_get g.states j))) e);
+    }
 
 -- the word that the code makes
-pub men_of : (p : Board) (g : GroupLine) (chart : Chart) (i men side : ℕ) (c : Colour) →
-    IsChart g.states chart → i < 6 → side ≡ set_of (λ s. holds p c s) → c ≡ g.colour →
-    ((k : ℕ) → k < 64 → has_square men k ≡ (has_square side k && has_square (slice_index chart.words i) k)) → AreMen p g chart i men
-men_of p g chart i men side c h low e same both = record {
+pub men_of : (p : Board) (g : GroupLine) (chart : Chart) (i men stand : ℕ) (c : Colour) (k : Kind) →
+    IsChart g.states chart → i < 6 → stand ≡ set_of (λ s. has p c k s) → c ≡ g.colour →
+    k ≡ kind_of_number (i + 1) →
+    ((s : ℕ) → s < 64 → has_square men s ≡ (has_square stand s && has_square (slice_index chart.words i) s)) → AreMen p g chart i men
+men_of p g chart i men stand c k h low e colour kind both = record {
   charted = h;
   kind = low;
   there = λ s l.
-      let held : has_square side s ≡ holds p g.colour s = ap (λ w. has_square w s) e ∙ has-set_of (λ s. holds p c s) s l ∙ ap (λ c. holds p c s) same in
-      both s l ∙ ap (λ b. b && has_square (slice_index chart.words i) s) held;
+      both s l
+      ∙ ap (λ b. b && has_square (slice_index chart.words i) s)
+      (ap (λ w. has_square w s) e ∙ has-set_of (λ s. has p c k s) s l ∙ ap (λ c. has p c k s) colour
+      ∙ ap (λ k. has p g.colour k s) kind);
 }
 
--- the test that the code makes
-pub has_read : (p : Board) (g : GroupLine) (c : Colour) (k : Kind) (i s : ℕ) (b : Bool) →
-    c ≡ g.colour → k ≡ kind_of_number (i + 1) → b ≡ has p c k s →
-    has p g.colour (kind_of_number (i + 1)) s ≡ b
-has_read p g c k i s b ec ek e =
-    sym (e ∙ ap (λ c. has p c k s) ec ∙ ap (λ k. has p g.colour k s) ek)
-
-pub counted_is : (p : Board) (g : GroupLine) (n count sum m v : ℕ) → IsCounted p g n (count, sum) →
-    m ≡ count → v ≡ sum → IsCounted p g n (m, v)
-counted_is p g n count sum m v h em ev = (em ∙ h.0, omega (arith, em, h.1), ev ∙ h.2)
-
-pub counted_at : (p : Board) (g : GroupLine) (a b : ℕ) (x : ℕ × ℕ) →
+-- where no more men are counted
+pub counted_at : (p : Board) (g : GroupLine) (a b : ℕ) (x y : Counted) →
     places_among p g.colour g.states b ≡ places_among p g.colour g.states a → IsCounted p g a x →
-    IsCounted p g b x
-counted_at p g a b x e h = (h.0 ∙ sym (ap length e), h.1, h.2 ∙ sym (ap (λ ks. capped (rank ks)) e))
+    y.count ≡ x.count → y.rank ≡ x.rank → y.squares ≡ x.squares → IsCounted p g b y
+counted_at p g a b x y e h count rank_same squares = record {
+  count_is = count ∙ h.count_is ∙ sym (ap length e);
+  few = omega (arith, count, h.few);
+  rank_is = rank_same ∙ h.rank_is ∙ sym (ap (λ ks. capped (rank ks)) e);
+  squares_are = λ k l.
+      ap (λ w. has_square w k) squares ∙ h.squares_are k l
+      ∙ sym (ap (list_any (λ j. is_on k (slice_get g.states j))) e);
+}
+
+-- before the first place
+pub counted_none : (p : Board) (g : GroupLine) (n : ℕ) → n ≡ 0 →
+    IsCounted p g n (record { count = 0; rank = 0; squares = 0 })
+counted_none p g n e =
+    let none : places_among p g.colour g.states n ≡ [] = ap (places_among p g.colour g.states) e in
+    record {
+      count_is = sym (ap length none);
+      few = omega arith;
+      rank_is = sym (ap (λ ks. capped (rank ks)) none);
+      squares_are = λ k l.
+          has-zero k ∙ sym (ap (list_any (λ j. is_on k (slice_get g.states j))) none);
+    }

@@ -6,13 +6,14 @@ pub mod WholeNumbers
 pub mod LastPlaces
 pub mod GroupDigits
 pub mod GroupSteps
-pub mod KnownCells
+pub mod Bounds
 pub mod AtNumbers
 pub mod Partners
 pub mod Membership
 pub mod Charting
 pub mod Counting
 pub mod RoomForMen
+pub mod Covering
 pub mod DigitByDigit
 pub mod RadixProducts
 pub mod FormerNumbers

@@ -42,7 +42,7 @@ any_found test (y ∷ xs) h =
           (suc rest.0, rest.1, rest.2, rest.3)
     ]
 
-same_test : (a b : Bool) → (a ≡ true → b ≡ true) → (b ≡ true → a ≡ true) → a ≡ b
+pub same_test : (a b : Bool) → (a ≡ true → b ≡ true) → (b ≡ true → a ≡ true) → a ≡ b
 same_test true true f g = refl
 same_test true false f g = sym (f refl)
 same_test false true f g = g refl

@@ -1,6 +1,6 @@
 -- The chart of a group: where its states stand among all 384 states, which are in order by kind, then square.
-use Rattle.std.specs.Prelude.{ℕ, ◌+◌, ◌-◌, ◌*◌, ◌<◌, ◌≤◌, ◌≡◌, true, List, length, slice_index, Some}
-use Rattle.std.specs.List.{slice_get}
+use Rattle.std.specs.Prelude.{ℕ, ◌+◌, ◌-◌, ◌*◌, ◌<◌, ◌≤◌, ◌≡◌, ◌==◌, Bool, false, true, List, length, slice_index, Option, None, Some}
+use Rattle.std.specs.List.{list_any, slice_get}
 use Rattle.frz_board.specs.declared.man.Kind.{Kind}
 use Rattle.frz_board.specs.Men.{kind_of_number, number_of_kind}
 use Rattle.frz_board.specs.Boards.{Board}
@@ -11,6 +11,7 @@ use Rattle.frz_sets.specs.Groups.{state_number}
 use Rattle.frz_sets.specs.Sound.{AreStates}
 use Rattle.frz_sets.specs.Views.{GroupLine}
 use Rattle.frz_index.specs.declared.chart.Chart.{Chart}
+use Rattle.frz_index.specs.declared.digit.Counted.{Counted}
 use Rattle.frz_index.specs.Places.{places_among}
 
 -- k states have a number below x: the place of the first state whose number is x or above
@@ -52,8 +53,15 @@ pub record AreCharts (gs : List GroupLine) (charts : List Chart) : Type 0 where
   pub each : (i : ℕ) (g : GroupLine) (chart : Chart) → slice_get gs i ≡ Some g →
       slice_get charts i ≡ Some chart → IsChart g.states chart
 
--- how many of the group's men stand at its first n places, and the rank of their places
-abbrev pub IsCounted : Board → GroupLine → ℕ → ℕ × ℕ → Type 0
-IsCounted p g n x =
-    (x.0 ≡ length (places_among p g.colour g.states n)) × (x.0 ≤ g.most)
-    × (x.1 ≡ capped (rank (places_among p g.colour g.states n)))
+-- the state is one on this square
+abbrev pub is_on : ℕ → Option (Kind × ℕ) → Bool
+is_on s None = false
+is_on s (Some state) = state.1 == s
+
+-- how many of the group's men stand at its first n places, the rank of their places, and their squares
+pub record IsCounted (p : Board) (g : GroupLine) (n : ℕ) (x : Counted) : Type 0 where
+  pub count_is : x.count ≡ length (places_among p g.colour g.states n)
+  pub few : x.count ≤ g.most
+  pub rank_is : x.rank ≡ capped (rank (places_among p g.colour g.states n))
+  pub squares_are : (s : ℕ) → s < 64 → has_square x.squares s
+      ≡ list_any (λ k. is_on s (slice_get g.states k)) (places_among p g.colour g.states n)

@@ -5,13 +5,25 @@ ghost use Rattle.frz_combinations.specs.Selections.{choices};
 ghost use Rattle.frz_sets.specs.Sets.{radix_of};
 ghost use Rattle.frz_sets.specs.declared.limits.TheConstants.{MOST_NUMBERS};
 ghost use Rattle.frz_index.specs.Charts.{IsChart, IsCounted as IsCountedTo};
-ghost use Rattle.frz_index.specs.Places.{IsWithinCount, digit_of, places};
+ghost use Rattle.frz_index.specs.Places.{AreSquares, IsWithinCount, digit_of, places};
 ghost use Rattle.frz_sets.specs.Sound.{IsCounted};
 
 use crate::chart::{Chart, kind_at};
-use frz_bits::{Bitboards, both, next_square};
+use frz_bits::{Bitboards, both, next_square, replaced};
+use frz_board::Man;
 use frz_combinations::Triangle;
 use frz_sets::Group;
+
+/// Men of a group that were counted.
+#[derive(Clone, Copy)]
+pub(crate) struct Counted {
+    /// How many they are.
+    pub count: u32,
+    /// The rank of their places.
+    pub rank: u64,
+    /// Their squares.
+    pub squares: u64,
+}
 
 /// Goes on counting over the men of one kind.
 fn count_kind(
@@ -20,8 +32,8 @@ fn count_kind(
     group: &Group,
     chart: &Chart,
     i: u8,
-    counted: (u32, u64),
-) -> Option<(u32, u64)>
+    counted: Counted,
+) -> Option<Counted>
     requires few { group.now.most ≤ 16 }
     requires chart { IsChart group.now.states chart.now }
     requires rows { length group.now.states < triangle.now }
@@ -30,38 +42,50 @@ fn count_kind(
     ensures { MatchOption result (group.now.most < length (places p.now group.now))
         (IsCountedTo p.now group.now (slice_index chart.now.cuts (64 * (i + 1)))) }
 {
-    let men = both(p.side(group.colour), chart.words[i as usize]);
-    let kind = kind_at(i);
-    let (mut count, mut sum) = counted;
+    let man = Man {
+        colour: group.colour,
+        kind: kind_at(i),
+    };
+    let men = both(p.men(man), chart.words[i as usize]);
+    let mut count = counted.count;
+    let mut rank = counted.rank;
+    let mut squares = counted.squares;
     let mut n = 0;
     while let Some(s) = next_square(men, n) {
-        if p.has(group.colour, kind, s) {
-            if count == group.most as u32 {
-                return None;
-            }
-            count += 1;
-            let place = chart.cuts[64 * i as usize + s.number() as usize];
-            sum = sum.saturating_add(triangle.binomial(place as u32, count));
+        if count == group.most as u32 {
+            return None;
         }
+        count += 1;
+        let place = chart.cuts[64 * i as usize + s.number() as usize];
+        rank = rank.saturating_add(triangle.binomial(place as u32, count));
+        squares = replaced(squares, s, true);
         n = s.number() + 1;
     }
-    Some((count, sum))
+    Some(Counted {
+        count,
+        rank,
+        squares,
+    })
 }
 
-/// How many men of the group there are and the rank of their places, unless there are too many.
-pub(crate) fn count_and_rank(
+/// The men of the group, unless there are too many.
+pub(crate) fn count_men(
     triangle: &Triangle,
     p: &Bitboards,
     group: &Group,
     chart: &Chart,
-) -> Option<(u32, u64)>
+) -> Option<Counted>
     requires few { group.now.most ≤ 16 }
     requires chart { IsChart group.now.states chart.now }
     requires rows { length group.now.states < triangle.now }
     ensures { MatchOption result (group.now.most < length (places p.now group.now))
         (IsCountedTo p.now group.now (length group.now.states)) }
 {
-    let mut counted = (0, 0);
+    let mut counted = Counted {
+        count: 0,
+        rank: 0,
+        squares: 0,
+    };
     for i in chart.first..chart.end {
         counted = count_kind(triangle, p, group, chart, i, counted)?;
     }
@@ -82,20 +106,30 @@ fn smaller(triangle: &Triangle, states: u32, least: u32, count: u32) -> u64
     sum
 }
 
-/// The group's digit, unless it has too few men or too many.
-pub(crate) fn digit(triangle: &Triangle, p: &Bitboards, group: &Group, chart: &Chart) -> Option<u32>
+/// The group's digit and the squares of its men, unless it has too few men or too many.
+pub(crate) fn digit(
+    triangle: &Triangle,
+    p: &Bitboards,
+    group: &Group,
+    chart: &Chart,
+) -> Option<(u32, u64)>
     requires chart { IsChart group.now.states chart.now }
     requires numberable { IsCounted group.now }
     requires size { radix_of group.now ≤ MOST_NUMBERS }
     requires rows { length group.now.states < triangle.now }
     ensures { MatchOption result (IsWithinCount p.now group.now → ⊥)
-        (λ d. IsWithinCount p.now group.now × (d ≡ digit_of p.now group.now)) }
+        (λ (d, squares). IsWithinCount p.now group.now × (d ≡ digit_of p.now group.now)
+        × AreSquares p.now group.now squares) }
 {
     let states = group.states.as_slice().len() as u32;
-    let (count, rank) = count_and_rank(triangle, p, group, chart)?;
+    let Counted {
+        count,
+        rank,
+        squares,
+    } = count_men(triangle, p, group, chart)?;
     if count < group.least as u32 {
         return None;
     }
     let first = smaller(triangle, states, group.least as u32, count);
-    Some((first + rank) as u32)
+    Some(((first + rank) as u32, squares))
 }

@@ -3,7 +3,7 @@ ghost use Rattle.std.specs.Prelude.{◌≡◌, ◌<◌, ◌+◌, MatchOption, ma
 ghost use Rattle.std.specs.List.{AllByRecursion};
 ghost use Rattle.frz_combinations.specs.MixedRadix.{digits, value};
 ghost use Rattle.frz_sets.specs.Sets.{radix_of};
-ghost use Rattle.frz_index.specs.Places.{IsWithinCount, digit_of};
+ghost use Rattle.frz_index.specs.Places.{AreCovered, IsWithinCount, digit_of};
 ghost use Rattle.frz_index.specs.Candidates.{put_groups};
 ghost use Rattle.frz_index.specs.Charts.{AreCharts};
 ghost use Rattle.frz_index.specs.Kept.{AreNumberable, AreWeights};
@@ -16,29 +16,34 @@ use frz_bits::Bitboards;
 use frz_combinations::Triangle;
 use frz_sets::Group;
 
-/// The groups' digits as one number, unless a group has too few men or too many.
+/// The groups' digits as one number and the squares of their men, unless a group has too few men or
+/// too many.
 pub(crate) fn number_of_digits(
     triangle: &Triangle,
     p: &Bitboards,
     groups: &[Group],
     charts: &[Chart],
     weights: &[u32],
-) -> Option<u32>
+) -> Option<(u32, u64)>
     requires numberable { AreNumberable groups.now }
     requires charts { AreCharts groups.now charts.now }
     requires weights { AreWeights groups.now weights.now }
     requires rows { triangle.now ≡ MOST_STATES + 1 }
     ensures { let counted = AllByRecursion (IsWithinCount p.now) groups.now in
         MatchOption result (counted → ⊥)
-        (λ d. counted × (d ≡ value (map radix_of groups.now) (map (digit_of p.now) groups.now))) }
+        (λ (d, squares). counted
+        × (d ≡ value (map radix_of groups.now) (map (digit_of p.now) groups.now))
+        × AreCovered p.now groups.now squares) }
 {
     let mut total: u32 = 0;
+    let mut covered = 0;
     for i in 0..groups.len() {
         let group = &groups[i];
-        let digit = digit(triangle, p, group, &charts[i])?;
+        let (digit, squares) = digit(triangle, p, group, &charts[i])?;
         total += digit * weights[i];
+        covered |= squares;
     }
-    Some(total)
+    Some((total, covered))
 }
 
 /// Puts the men of the groups' digits on the board.

@@ -5,7 +5,6 @@
 mod chart;
 mod digit;
 mod digits;
-mod known;
 pub mod laws;
 mod old;
 mod placing;

@@ -9,7 +9,7 @@ ghost use Rattle.frz_index.specs.Kept.{AreNumberable};
 ghost use Rattle.frz_index.specs.Room.{has_room, takes_one_more as group_takes_one_more};
 
 use crate::chart::{Chart, kind_number};
-use crate::digit::count_and_rank;
+use crate::digit::count_men;
 use frz_bits::{Bitboards, contains};
 use frz_board::{Man, Square};
 use frz_combinations::Triangle;
@@ -40,9 +40,9 @@ fn takes_one_more(
     if !has_state(group, chart, man, s) {
         return false;
     }
-    match count_and_rank(triangle, p, group, chart) {
+    match count_men(triangle, p, group, chart) {
         None => false,
-        Some((count, _)) => count < group.most as u32,
+        Some(men) => men.count < group.most as u32,
     }
 }
 

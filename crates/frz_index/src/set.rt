@@ -16,11 +16,10 @@ ghost use Rattle.frz_index.specs.TurnStates.{turn_in};
 ghost use Rattle.frz_index.specs.Room.{has_room};
 
 use crate::digits::{number_of_digits, put_all};
-use crate::known::all_known;
 use crate::plan::{Plan, plan_of};
 use crate::room::any_takes_one_more;
 use crate::turn::{turn_at, turn_number};
-use frz_bits::Bitboards;
+use frz_bits::{Bitboards, without};
 use frz_board::{Colour, Man, NoMemory, Position, Square, cell_of};
 use frz_fide::valid_boards;
 use frz_sets::Rules;
@@ -55,10 +54,16 @@ fn number_in(plan: &Plan, p: &Bitboards) -> Option<u32>
     ensures { let gs = plan.now.groups.items in
         MatchOption result (Member gs p.now → ⊥) (λ n. Member gs p.now × (n ≡ Num gs p.now)) }
 {
-    if !all_known(&plan.known_cells, p) {
+    let (digits, covered) = number_of_digits(
+        &plan.triangle,
+        p,
+        &plan.groups,
+        &plan.charts,
+        &plan.weights,
+    )?;
+    if without(p.occupied(), covered) != 0 {
         return None;
     }
-    let digits = number_of_digits(&plan.triangle, p, &plan.groups, &plan.charts, &plan.weights)?;
     let turn = turn_number(&plan.targets, p.turn(), p.ep());
     Some(turn * plan.whole + digits)
 }

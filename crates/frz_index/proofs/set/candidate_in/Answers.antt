@@ -1,4 +1,4 @@
-use Rattle.frz_index.proofs.KnownCells.{whole_some}
+use Rattle.frz_index.proofs.Bounds.{whole_some}
 use Rattle.frz_index.proofs.set.candidate_in.Goals as goal
 
 pub nonzero_rem-i : goal.nonzero_rem-i

@@ -1,5 +1,5 @@
 use Rattle.std.proofs.Common.{sym, subst, All, ◌<◌, ◌∙◌}
-use Rattle.frz_index.proofs.KnownCells.{targets_low, whole_some}
+use Rattle.frz_index.proofs.Bounds.{targets_low, whole_some}
 use Rattle.frz_index.proofs.set.turn_state_in.Goals as goal
 
 pub nonzero_div-i : goal.nonzero_div-i

@@ -1,6 +1,6 @@
 use Rattle.std.proofs.Common.{◌+◌, arith, ap, length}
 use Rattle.std.proofs.lemmas.Nat.{mul-le}
-use Rattle.frz_index.proofs.KnownCells.{targets_few, whole_some}
+use Rattle.frz_index.proofs.Bounds.{targets_few, whole_some}
 use Rattle.frz_index.proofs.set.Set.size.Goals as goal
 
 pub overflow_cast-result : goal.overflow_cast-result
