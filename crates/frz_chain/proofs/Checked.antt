@@ -203,6 +203,11 @@ checked table name back loaded back_size old mid then new steps_before steps_the
           (judged_exact h.bytes h.contents h.judged) asked calls h.within more_asked more_calls steps;
     }
 
+-- what is told of both names: the verdict, or the refusal
+pub record ToldOver (name back : List ℕ) (old new : StoreTold) (steps_before steps_now : ℕ) (result : Result ChainVerdict ChainFault) : Type 0 where
+  pub checked : IfOk result (ChecksChain name back old new steps_before steps_now)
+  pub refused : IfErr result (RefusesChain name back old new steps_before steps_now)
+
 -- by what the check of the open table gave
 module _ (table : Table) (name back : List ℕ) (loaded : Back) (old mid then new : StoreTold) (steps_before steps_then steps_now : ℕ)
     (may : MayOpen (table_format Chained) old.files name (contents_of table)) (same : mid.files ≡ old.files)
@@ -210,17 +215,18 @@ module _ (table : Table) (name back : List ℕ) (loaded : Back) (old mid then ne
     (h : OpensBack back loaded mid then steps_before steps_then)
     (more_asked : new.asked ≤ then.asked + 8 * table_size table) (more_calls : new.calls ≤ then.calls + 2 * pieces_of (table_size table))
     (steps : steps_now ≤ steps_then + table_size table) where
-  pub result_checked : (result : Result ChainVerdict ChainFault) → then.files ≡ mid.files → table.kind ≡ Chained → table.name ≡ name
+  pub result_told : (result : Result ChainVerdict ChainFault) → then.files ≡ mid.files → table.kind ≡ Chained → table.name ≡ name
       → IfOk result (λ v. ChecksTable then.files table (chain_value table.rules loaded) (judgement v))
-      → IfOk result (λ v. CarriesSizes v (table_size table) (size_of loaded.groups))
-      → IfOk result (ChecksChain name back old new steps_before steps_now)
-  result_checked (Ok v) then_same kind named told sizes =
-      checked table name back loaded (size_of loaded.groups) old mid then new steps_before steps_then steps_now v may same then_same kind named asked calls h refl
-      more_asked more_calls steps told sizes
-  result_checked (Err fault) then_same kind named told sizes = tt
-
-  pub result_refused : (result : Result ChainVerdict ChainFault) → IfErr result IsOutsideFault
-      → IfErr result (RefusesChain name back old new steps_before steps_now)
-  result_refused (Ok v) outside = tt
-  result_refused (Err fault) outside =
-      not_loaded table name back loaded old mid then new steps_before steps_then steps_now fault may same asked calls h more_asked more_calls steps outside
+      → IfOk result (λ v. CarriesSizes v (table_size table) (size_of loaded.groups)) → IfErr result IsOutsideFault
+      → ToldOver name back old new steps_before steps_now result
+  result_told (Ok v) then_same kind named told sizes outside = record {
+    checked =
+        checked table name back loaded (size_of loaded.groups) old mid then new steps_before steps_then steps_now v may same then_same kind named asked calls h refl
+        more_asked more_calls steps told sizes;
+    refused = tt;
+  }
+  result_told (Err fault) then_same kind named told sizes outside = record {
+    checked = tt;
+    refused =
+        not_loaded table name back loaded old mid then new steps_before steps_then steps_now fault may same asked calls h more_asked more_calls steps outside;
+  }

@@ -1,4 +1,4 @@
-use Rattle.std.proofs.Common.{◌∙◌, sym, ap, subst, Result, Err, IfErr}
+use Rattle.std.proofs.Common.{◌∙◌, sym, ap, subst, Result, Err, IfErr, arith, rules}
 use Rattle.std.proofs.lemmas.Result.{err_from_is_err_and}
 use Rattle.frz_store.specs.Told.{StoreFine, store_of}
 use Rattle.frz_table.specs.Opening.{contents_of}
@@ -7,7 +7,7 @@ use Rattle.frz_chain.specs.FileOn.{loaded_back}
 use Rattle.frz_chain.specs.declared.checking.ChainVerdict.{ChainVerdict}
 use Rattle.frz_chain.specs.declared.fault.ChainFault.{ChainFault}
 use Rattle.frz_chain.proofs.Causes.{chain_later}
-use Rattle.frz_chain.proofs.Checked.{back_refused, not_opened, result_checked, result_refused}
+use Rattle.frz_chain.proofs.Checked.{back_refused, not_opened, result_told}
 use Rattle.frz_chain.proofs.checking.check_chain.Goals as goal
 
 pub returns-in-Err-clause-refused : goal.returns-in-Err-clause-refused
@@ -34,8 +34,8 @@ returns-in_err-behind-clause-refused g c =
     (back_refused table back (contents_of c.in-Ok.opened) old mid new c.args.steps.now c.open_back.new.steps fault
     e.may_open e.quiet.unwritten.files e.asked e.calls c.in_err-behind.ensures.refused)
 
-pub returns-clause-verdict : goal.returns-clause-verdict
-returns-clause-verdict g c =
+pub returns : goal.returns
+returns g c =
     let old = store_of g.S.Store c.args.store.now in
     let mid = store_of g.S.Store c.open_kind.new.store in
     let then = store_of g.S.Store c.open_back.new.store in
@@ -43,29 +43,14 @@ returns-clause-verdict g c =
     let e = c.in-Ok.ensures in
     let b = c.in_ok-behind.ensures in
     let k = c.check_over.ensures in
-    result_checked c.in-Ok.opened c.args.table.now c.args.back.now (loaded_back c.in_ok-behind.behind) old mid then new
+    let fine : StoreFine old then = record { faults = b.cause.faults ∙ e.causes.fine; wants = b.cause.wants ∙ e.causes.wants_fine } in
+    let told = result_told c.in-Ok.opened c.args.table.now c.args.back.now (loaded_back c.in_ok-behind.behind) old mid then new
     c.args.steps.now c.open_back.new.steps c.check_over.new.steps e.may_open e.quiet.unwritten.files e.asked e.calls b.opened k.asked k.calls k.steps
-    c.check_over.result b.quiet.unwritten.files e.kind e.name k.verdict k.sizes
-
-pub returns-clause-refused : goal.returns-clause-refused
-returns-clause-refused g c =
-    let old = store_of g.S.Store c.args.store.now in
-    let mid = store_of g.S.Store c.open_kind.new.store in
-    let then = store_of g.S.Store c.open_back.new.store in
-    let new = store_of g.S.Store c.check_over.new.store in
-    let e = c.in-Ok.ensures in
-    let b = c.in_ok-behind.ensures in
-    let k = c.check_over.ensures in
-    result_refused c.in-Ok.opened c.args.table.now c.args.back.now (loaded_back c.in_ok-behind.behind) old mid then new
-    c.args.steps.now c.open_back.new.steps c.check_over.new.steps e.may_open e.quiet.unwritten.files e.asked e.calls b.opened k.asked k.calls k.steps
-    c.check_over.result k.outside
-
-pub returns-clause-cause : goal.returns-clause-cause
-returns-clause-cause g c =
-    let old = store_of g.S.Store c.args.store.now in
-    let then = store_of g.S.Store c.open_back.new.store in
-    let fine : StoreFine old then = record {
-      faults = c.in_ok-behind.ensures.cause.faults ∙ c.in-Ok.ensures.causes.fine;
-      wants = c.in_ok-behind.ensures.cause.wants ∙ c.in-Ok.ensures.causes.wants_fine;
-    } in
-    chain_later ChainVerdict c.check_over.result old then (store_of g.S.Store c.check_over.new.store) fine c.check_over.ensures.cause
+    c.check_over.result b.quiet.unwritten.files e.kind e.name k.verdict k.sizes k.outside in
+    record {
+      verdict = told.checked;
+      refused = told.refused;
+      quiet = search rules;
+      later = omega arith;
+      cause = chain_later ChainVerdict c.check_over.result old then new fine k.cause;
+    }
