@@ -1,5 +1,5 @@
-//! What values told by a second table say of chess, and which back tables are exact. Each law is the
-//! contract of a function that does nothing.
+//! What values told by a second table say of chess, and which back tables are exact. Each law is
+//! the contract of a function that does nothing.
 ghost use Rattle.std.specs.Prelude.{◌≡◌, ℕ, List, true, false, Option, Some, Err};
 ghost use Rattle.frz_board.specs.Boards.{Board};
 ghost use Rattle.frz_board.specs.declared.man.Colour.{Colour};
@@ -19,22 +19,25 @@ ghost use Rattle.frz_chain.specs.ExactBacks.{is_exact};
 ghost use Rattle.frz_chain.specs.FileOn.{IsExactBack};
 ghost use Rattle.frz_chain.specs.Transfer.{TellsChess};
 
-/// What an exact table tells of a position is true there, where the values of its own exits are true.
+/// What an exact table tells of a position is true there, where the values of its own exits are
+/// true.
 pub fn pair_value_true()
-    ensures { (rules : RuleLines) (value : Board → Value) (back : Back) → IsExactBack rules value back →
+    ensures { (rules : RuleLines) (value : Board → Value) (back : Back) →
+        IsExactBack rules value back →
         AreTrueExits rules value → (q : Board) → IsTrueValue (back_value back q) q }
 {}
 
 /// Where the values of the rules' own exit lines are true, and those of the back table's exits too,
 /// the values of the exits are true with the back table behind the exit lines.
 pub fn chained_exits_true()
-    ensures { (rules backs : RuleLines) (value : Board → Value) (back : Back) → IsExactBack backs value back →
+    ensures { (rules backs : RuleLines) (value : Board → Value) (back : Back) →
+        IsExactBack backs value back →
         AreTrueExits rules (value_by rules) → AreTrueExits backs value →
         AreTrueExits rules (chain_value rules back) }
 {}
 
-/// Where the exit lines of the rules and those of the back table's text are true, the codes of a table
-/// over the back table say of chess what they say of the restricted game.
+/// Where the exit lines of the rules and those of the back table's text are true, the codes of a
+/// table over the back table say of chess what they say of the restricted game.
 pub fn chained_tables_tell()
     ensures { (rules backs : RuleLines) (back : Back) → IsExactBack backs (value_by backs) back →
         AreTrueExits rules (value_by rules) → AreTrueExits backs (value_by backs) →
@@ -42,12 +45,13 @@ pub fn chained_tables_tell()
         TellsChess rules (chain_value rules back) side codes }
 {}
 
-/// What a name holds is an exact back table where the verdict on it is that, and none where an entry is
-/// wrong or the file is refused: by this it is decided what checking a table over it may cost.
+/// What a name holds is an exact back table where the verdict on it is that, and none where an
+/// entry is wrong or the file is refused: so it is decided what checking a table over it may cost.
 pub fn exact_by_verdict()
     ensures exact { (bytes : List ℕ) (contents : Contents) → IsBackJudged bytes contents Exact →
         is_exact (Some bytes) ≡ true }
-    ensures wrong { (held : Option (List ℕ)) (wrong : Wrong) → HasWrong held wrong → is_exact held ≡ false }
+    ensures wrong { (held : Option (List ℕ)) (wrong : Wrong) → HasWrong held wrong →
+        is_exact held ≡ false }
     ensures refused { (held : Option (List ℕ)) (fault : TableFault) →
         opened (table_format Plain) held ≡ Err fault → is_exact held ≡ false }
 {}
