@@ -1,5 +1,5 @@
 -- What is known of a session that was played, by the file that the store tells and some input that may be told.
-use Rattle.std.proofs.Common.{◌≡◌, refl, sym, subst, ℕ, ◌+◌, List, [], length, Bool, true, false, Option, Some, None, Result, IfSome}
+use Rattle.std.proofs.Common.{◌≡◌, sym, subst, ℕ, List, [], true, false, Option, Some, None, Result, IfSome}
 use Rattle.std.specs.Prelude.{IsSome, IsSomeAnd, MatchBool}
 use Rattle.std.specs.Option.{option_map, unwrap_or}
 use Rattle.frz_board.specs.declared.man.Colour.{Colour}
@@ -10,7 +10,6 @@ use Rattle.frz_exits.specs.Books.{value_by}
 use Rattle.frz_index.specs.Members.{Member, Num}
 use Rattle.frz_index.proofs.Lemmas.{of_member}
 use Rattle.frz_game.specs.Games.{graph_by}
-use Rattle.frz_game.specs.Numbers.{is_member}
 use Rattle.frz_store.specs.Files.{Files, bytes_at}
 use Rattle.frz_store.specs.Told.{SourceTold}
 use Rattle.frz_table.specs.Layout.{codes_at}

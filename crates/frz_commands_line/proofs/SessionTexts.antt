@@ -1,5 +1,5 @@
 -- What the text of a session says: its plies, its end, and that it has one.
-use Rattle.std.proofs.Common.{◌≡◌, refl, sym, ap, subst, ◌∙◌, ℕ, suc, ◌+◌, ◌≤◌, ◌==◌, ◌&&◌, Bool, true, false, List, [], ◌∷◌, ◌++◌, length, Result, Ok, Err, inl, inr, if◌then◌else◌, arith, append_assoc}
+use Rattle.std.proofs.Common.{◌≡◌, refl, sym, ap, subst, ◌∙◌, ℕ, suc, ◌+◌, ◌==◌, ◌&&◌, Bool, true, false, List, [], ◌∷◌, ◌++◌, Result, Ok, Err, inl, inr, if◌then◌else◌, append_assoc}
 use Rattle.std.specs.Prelude.{codes}
 use Rattle.frz_board.specs.declared.man.Colour.{Colour}
 use Rattle.frz_board.specs.Men.{same_colour}
@@ -17,7 +17,7 @@ use Rattle.frz_arena.specs.Plies.{LeadsTo}
 use Rattle.frz_arena.specs.WayEnds.{Wrong, NoBound, Mated, Stalemated, Exit, Cut, Stopped}
 use Rattle.frz_arena.specs.Ways.{Over, stage, stage_of, IsStopBy}
 use Rattle.frz_line.specs.declared.end.LineFault.TheVariants as faults
-use Rattle.frz_line.specs.Texts.{exit_line, move_line}
+use Rattle.frz_line.specs.Texts.{exit_line}
 use Rattle.frz_play.specs.declared.end.PlayFault.{PlayFault}
 use Rattle.frz_play.specs.declared.end.PlayFault.TheVariants as plays
 use Rattle.frz_play.specs.declared.end.SessionEnd.{SessionEnd}
@@ -28,7 +28,7 @@ use Rattle.frz_play.specs.declared.end.PlayLimit.TheVariants.{Lines, LineLength}
 use Rattle.frz_play.specs.Ends.{why_told, Tells, StopsShort}
 use Rattle.frz_play.specs.Reading.{Input}
 use Rattle.frz_play.specs.Sessions.{SessionPly, EndOfSession, session_player, GoesOn}
-use Rattle.frz_play.specs.Texts.{refused_text, ply_text, plies_text, why_line, end_text, start_line}
+use Rattle.frz_play.specs.Texts.{refused_text, plies_text, why_line, end_text, start_line}
 use Rattle.frz_commands_line.specs.SessionEnds.{session_naming}
 use Rattle.frz_commands_line.specs.SessionOf.{played_text}
 

@@ -1,5 +1,5 @@
 -- A session as far as it was played.
-use Rattle.std.proofs.Common.{◌≡◌, ◌+◌, ◌==◌, ◌++◌, ℕ, suc, inl, true, false, List, [], ◌∷◌, Option, length, refl, sym, subst, ap, ◌∙◌, arith, Result, Ok, Err, IfSome, append_assoc}
+use Rattle.std.proofs.Common.{◌≡◌, ◌+◌, ◌==◌, ◌++◌, ℕ, suc, inl, true, false, List, [], ◌∷◌, Option, refl, sym, subst, ap, ◌∙◌, arith, Result, Ok, Err, IfSome, append_assoc}
 use Rattle.std.specs.Prelude.{slice_index}
 use Rattle.std.specs.Result.{IsErrAnd}
 use Rattle.std.proofs.lemmas.Bool.Decides.{nat_tests}

@@ -1,5 +1,5 @@
 -- A session from the number of a position.
-use Rattle.std.proofs.Common.{◌≡◌, length, ℕ, inl, List, [], Option, IfSome, Result, Ok, Err, refl, sym, subst, ap, ◌∙◌}
+use Rattle.std.proofs.Common.{◌≡◌, ℕ, inl, List, [], Option, IfSome, Result, Ok, Err, refl, sym, subst, ap, ◌∙◌}
 use Rattle.std.specs.Prelude.{slice_index}
 use Rattle.std.specs.Result.{IsErrAnd}
 use Rattle.frz_board.specs.declared.man.Colour.{Colour}
