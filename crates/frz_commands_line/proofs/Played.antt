@@ -27,7 +27,7 @@ use Rattle.frz_line.specs.declared.end.LineFault.TheVariants as faults
 use Rattle.frz_line.specs.BestLine.{TellsLine}
 use Rattle.frz_line.specs.Ends.{told, IsUnfinished, Finishes}
 use Rattle.frz_line.specs.Faults.{StoreCause, WroteBy}
-use Rattle.frz_line.specs.Kept.{kept_codes}
+use Rattle.frz_line.specs.Kept.{told_codes}
 use Rattle.frz_line.specs.Texts.{line_text}
 use Rattle.frz_commands_line.specs.LineEnds.{end_status, naming_line, EndsLine}
 use Rattle.frz_commands_line.specs.LineOf.{code_at, LineComes, told_text, line_answer}
@@ -41,7 +41,7 @@ use Rattle.frz_commands_line.proofs.Seen.{LineThere, LineSo, by_member, lined_in
 abbrev pub Wrote : Table → Colour → Board → Option Files → Result LineEnd LineFault → SinkTold → SinkTold → (before now : Spent) → Type 0
 Wrote table side p files result old new before now =
     (text : List ℕ) × IsLines text × WroteBy result text old new
-    × IfSome (kept_codes table side files) (λ codes. TellsLine table.rules side codes p text result before now)
+    × IfSome (told_codes table side files) (λ codes. TellsLine table.rules side codes p text result before now)
 
 module _ (there : LineThere) (table : Table) (side : Colour) (p : Board) (store left : StoreTold) (input : SourceTold) (out mid taken : SinkTold) (before now : ℕ)
     (quiet : StoreQuiet store left) (later : before ≤ now) (carried : Carries store.files table) where
@@ -88,7 +88,7 @@ module _ (there : LineThere) (table : Table) (side : Colour) (p : Board) (store 
 
   module _ (inside : Member table.rules.groups p) (text : List ℕ) (lines : IsLines text) where
     abbrev TellsIt : Result LineEnd LineFault → Type 0
-    TellsIt result = IfSome (kept_codes table side store.files) (λ codes. TellsLine table.rules side codes p text result (spent_by store before) (spent_by left now))
+    TellsIt result = IfSome (told_codes table side store.files) (λ codes. TellsLine table.rules side codes p text result (spent_by store before) (spent_by left now))
 
     so_in : (result : Result LineEnd LineFault) → TellsIt result → IsSome store.files → (m : Files) (i : List ℕ) → Agrees old m i → Line text result m
     so_in result tells sees m i agrees =

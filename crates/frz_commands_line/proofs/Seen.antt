@@ -24,7 +24,7 @@ use Rattle.frz_line.specs.declared.end.LineFault.{LineFault}
 use Rattle.frz_line.specs.BestLine.{TellsLine}
 use Rattle.frz_line.specs.Costs.{SpendsAt}
 use Rattle.frz_line.specs.Ends.{told, Finishes}
-use Rattle.frz_line.specs.Kept.{kept_codes}
+use Rattle.frz_line.specs.Kept.{told_codes}
 use Rattle.frz_line.specs.Lines.{LinePly, EndOfLine, IsLine}
 use Rattle.frz_line.specs.Texts.{line_text}
 use Rattle.frz_commands_line.specs.LineOf.{code_at, IsLineBy, LineComes, line_answer, IsLined, IsLinedIn}
@@ -99,7 +99,7 @@ module _ (there : LineThere) (table : Table) (side : Colour) (p : Board) (text :
         costs = λ numbers comes. subst (λ (z : List ℕ). SpendsAt arena 1 z before now) (sym comes.are) (tells inside comes.plies comes.end comes.line).3;
       }
 
-  pub line_so : (o : Option Files) (m : Files) → IsSome o → IfSome o (λ f. f ≡ m) → Carries o table → IfSome (kept_codes table side o) Tells
+  pub line_so : (o : Option Files) (m : Files) → IsSome o → IfSome o (λ f. f ≡ m) → Carries o table → IfSome (told_codes table side o) Tells
       → LineSo (contents_of table) (bytes_at m table.name) side p text result before now
   line_so None m some e carried tells = let no : false ≡ true = some in cc
   line_so (Some f) m some e carried tells =

@@ -23,7 +23,7 @@ use Rattle.frz_answer.proofs.Lemmas.{as_given, fine_same, quiet_same, said, stop
 use Rattle.frz_prelude.specs.Refusals.{status_of, refusal_line}
 use Rattle.frz_prelude.specs.declared.refused.Refused.TheVariants as refusals
 use Rattle.frz_line.specs.declared.end.LineFault.TheVariants as faults
-use Rattle.frz_line.specs.Kept.{kept_codes}
+use Rattle.frz_line.specs.Kept.{told_codes}
 use Rattle.frz_play.specs.declared.end.PlayFault.{PlayFault}
 use Rattle.frz_play.specs.declared.end.PlayFault.TheVariants as plays
 use Rattle.frz_play.specs.declared.end.SessionEnd.{SessionEnd}
@@ -49,7 +49,7 @@ use Rattle.frz_commands_line.proofs.Taken.{rest_after, Split, found_in, after_li
 abbrev pub Played : Table → Colour → Board → Option Files → Result SessionEnd PlayFault → SourceTold → SourceTold → SinkTold → SinkTold → (before now : Spent) → Type 0
 Played table side p files result source gone old new before now =
     (text : List ℕ) × (took : List ℕ) × IsLines text × WroteBy result text old new × TookBytes took source gone
-    × IfSome (kept_codes table side files)
+    × IfSome (told_codes table side files)
     (λ codes. (whole : List ℕ) × MayHold source whole × TellsSession table.rules side codes p whole took text result before now)
 
 -- neither count of the input has fallen
@@ -86,7 +86,7 @@ module _ (there : SessionThere) (table : Table) (side : Colour) (p : Board) (sto
 
     abbrev TellsIt : Result SessionEnd PlayFault → Type 0
     TellsIt result =
-        IfSome (kept_codes table side store.files)
+        IfSome (told_codes table side store.files)
         (λ codes. (whole : List ℕ) × MayHold source whole × TellsSession table.rules side codes p whole took text result (spent_by store before) (spent_by left now))
 
     came : TookText text out mid → Came text took old between

@@ -20,7 +20,7 @@ use Rattle.frz_answer.specs.Answers.{Answer, says}
 use Rattle.frz_prelude.specs.Refusals.{status_of, refusal_line}
 use Rattle.frz_prelude.specs.declared.refused.Refused.TheVariants as refusals
 use Rattle.frz_line.specs.Costs.{SpendsAt}
-use Rattle.frz_line.specs.Kept.{kept_codes}
+use Rattle.frz_line.specs.Kept.{told_codes}
 use Rattle.frz_play.specs.declared.end.PlayFault.{PlayFault}
 use Rattle.frz_play.specs.declared.end.SessionEnd.{SessionEnd}
 use Rattle.frz_play.specs.Faults.{MayHold}
@@ -85,7 +85,7 @@ module _ (there : SessionThere) (table : Table) (side : Colour) (p : Board) (tex
         costs = λ numbers comes. subst (λ (z : List ℕ). SpendsAt arena 1 z before now) (sym comes.are) (tells.2 inside comes.plies comes.end comes.left comes.session).1;
       }
 
-  pub session_so : (o : Option Files) (m : Files) → IsSome o → IfSome o (λ f. f ≡ m) → Carries o table → IfSome (kept_codes table side o) TellsIt
+  pub session_so : (o : Option Files) (m : Files) → IsSome o → IfSome o (λ f. f ≡ m) → Carries o table → IfSome (told_codes table side o) TellsIt
       → SessionSo (contents_of table) (bytes_at m table.name) side p text took result source before now
   session_so None m some e carried tells = let no : false ≡ true = some in cc
   session_so (Some f) m some e carried tells =

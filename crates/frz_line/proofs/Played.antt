@@ -47,13 +47,13 @@ ComeBy arena side kept start code spot numbers text =
     (plies : List LinePly) (end : EndOfLine) → GoesOn arena side kept 0 start plies end →
     IsLeft arena side kept start code spot numbers text plies end
 
-pub record SoFar (told_codes : Option (List ℕ)) (arena : Arena Step ℕ Value) (side : Colour) (start code : ℕ) (spot : Spot) (old new : SinkTold) (before now : Spent) : Type 0 where
+pub record SoFar (known : Option (List ℕ)) (arena : Arena Step ℕ Value) (side : Colour) (start code : ℕ) (spot : Spot) (old new : SinkTold) (before now : Spent) : Type 0 where
   pub text : List ℕ
   pub numbers : List ℕ
   pub lines : IsLines text
   pub took : TookText text old new
   pub spent : SpendsAt arena 0 numbers before now
-  pub comes : IfSome told_codes (λ kept. ComeBy arena side kept start code spot numbers text)
+  pub comes : IfSome known (λ kept. ComeBy arena side kept start code spot numbers text)
 
 zero_is : (k : ℕ) → k ≡ 0 → (k == 0) ≡ true
 zero_is k e = subst (λ (n : ℕ). (n == 0) ≡ true) (sym e) refl
@@ -61,8 +61,8 @@ zero_is k e = subst (λ (n : ℕ). (n == 0) ≡ true) (sym e) refl
 more_is : (k : ℕ) → (k + 1 == 0) ≡ false
 more_is k = grind (arith, nat_tests)
 
-pub at_start : (told_codes : Option (List ℕ)) (arena : Arena Step ℕ Value) (side : Colour) (start code : ℕ) (out : SinkTold) (now : Spent) → SoFar told_codes arena side start code (record { number = start; code = code; played = 0 }) out out now now
-at_start told_codes arena side start code out now =
+pub at_start : (known : Option (List ℕ)) (arena : Arena Step ℕ Value) (side : Colour) (start code : ℕ) (out : SinkTold) (now : Spent) → SoFar known arena side start code (record { number = start; code = code; played = 0 }) out out now now
+at_start known arena side start code out now =
     let spot : Spot = record { number = start; code = code; played = 0 } in
     record {
       text = [];
@@ -70,7 +70,7 @@ at_start told_codes arena side start code out now =
       lines = inl refl;
       took = took_nothing out;
       spent = nothing_spent arena now;
-      comes = every told_codes (λ kept. ComeBy arena side kept start code spot [] []) (λ kept agrees plies end w.
+      comes = every known (λ kept. ComeBy arena side kept start code spot [] []) (λ kept agrees plies end w.
           record { agrees = agrees; others = plies; way = w; is = refl; came = refl });
     }
 
@@ -92,14 +92,14 @@ after_ply arena side kept start code spot next numbers text more e comes goes = 
       came = came_on numbers spot.number next.number l.others others g.2.1.0 (way_numbers (Inside start) plies) l.came g.2.1.2 g.2.1.3;
     }
 
-pub next_far : (told_codes : Option (List ℕ)) (arena : Arena Step ℕ Value) (side : Colour) (start code : ℕ) (spot next : Spot) (old mid new : SinkTold) (before middle now : Spent) → SoFar told_codes arena side start code spot old mid before middle → SpendsAt arena 0 (spot.number ∷ []) middle now → next.played ≡ spot.played + 1 → (more : List ℕ) → IsLines more → TookText more mid new → IfSome told_codes (λ kept. GoesBy arena side kept spot more (Ok (On next.number next.code))) → SoFar told_codes arena side start code next old new before now
-next_far told_codes arena side start code spot next old mid new before middle now far few e more lines took goes = record {
+pub next_far : (known : Option (List ℕ)) (arena : Arena Step ℕ Value) (side : Colour) (start code : ℕ) (spot next : Spot) (old mid new : SinkTold) (before middle now : Spent) → SoFar known arena side start code spot old mid before middle → SpendsAt arena 0 (spot.number ∷ []) middle now → next.played ≡ spot.played + 1 → (more : List ℕ) → IsLines more → TookText more mid new → IfSome known (λ kept. GoesBy arena side kept spot more (Ok (On next.number next.code))) → SoFar known arena side start code next old new before now
+next_far known arena side start code spot next old mid new before middle now far few e more lines took goes = record {
   text = far.text ++ more;
   numbers = far.numbers ++ spot.number ∷ [];
   lines = lines_behind far.text more far.lines lines;
   took = took_behind far.text more (far.text ++ more) old mid new far.took refl took;
   spent = spends_on arena far.numbers (spot.number ∷ []) before middle now far.spent few;
-  comes = both told_codes (λ kept. ComeBy arena side kept start code spot far.numbers far.text) (λ kept. GoesBy arena side kept spot more (Ok (On next.number next.code))) (λ kept. ComeBy arena side kept start code next (far.numbers ++ spot.number ∷ []) (far.text ++ more)) (λ kept c g. after_ply arena side kept start code spot next far.numbers far.text more e c g) far.comes goes;
+  comes = both known (λ kept. ComeBy arena side kept start code spot far.numbers far.text) (λ kept. GoesBy arena side kept spot more (Ok (On next.number next.code))) (λ kept. ComeBy arena side kept start code next (far.numbers ++ spot.number ∷ []) (far.text ++ more)) (λ kept c g. after_ply arena side kept start code spot next far.numbers far.text more e c g) far.comes goes;
 }
 
 -- a turn as the line's last: with its end, or with a fault
@@ -118,9 +118,9 @@ played_out arena side kept start code spot numbers text more result before mid n
 
 -- what a line wrote
 abbrev pub LineWrote : Option (List ℕ) → Arena Step ℕ Value → Colour → (start code : ℕ) → Result LineEnd LineFault → (old new : SinkTold) → (before now : Spent) → Type 0
-LineWrote told_codes arena side start code result old new before now =
+LineWrote known arena side start code result old new before now =
     (text : List ℕ) × IsLines text × WroteBy result text old new
-    × IfSome told_codes (λ kept. Plays arena side kept start code text result before now)
+    × IfSome known (λ kept. Plays arena side kept start code text result before now)
 
 wrote_after : (text more : List ℕ) (result : Result LineEnd LineFault) (old mid new : SinkTold) → TookText text old mid → WroteBy result more mid new → WroteBy result (text ++ more) old new
 wrote_after text more (Ok end) old mid new t w = took_behind text more (text ++ more) old mid new t refl w
@@ -131,12 +131,12 @@ wrote_after text more (Err faults.Store) old mid new t w = took_behind text more
 wrote_after text more (Err faults.Output) old mid new t w = failed_behind text more (text ++ more) old mid new t refl w
 wrote_after text more (Err faults.NoMemory) old mid new t w = took_behind text more (text ++ more) old mid new t refl w
 
-pub last_far : (told_codes : Option (List ℕ)) (arena : Arena Step ℕ Value) (side : Colour) (start code : ℕ) (spot : Spot) (old mid new : SinkTold) (before middle now : Spent) → SoFar told_codes arena side start code spot old mid before middle → SpendsAt arena 0 (spot.number ∷ []) middle now → (result : Result LineEnd LineFault) (more : List ℕ) → IsLines more → WroteBy result more mid new → IfSome told_codes (λ kept. AtEnd arena side kept spot more result) → LineWrote told_codes arena side start code result old new before now
-last_far told_codes arena side start code spot old mid new before middle now far n result more lines wrote ends = (
+pub last_far : (known : Option (List ℕ)) (arena : Arena Step ℕ Value) (side : Colour) (start code : ℕ) (spot : Spot) (old mid new : SinkTold) (before middle now : Spent) → SoFar known arena side start code spot old mid before middle → SpendsAt arena 0 (spot.number ∷ []) middle now → (result : Result LineEnd LineFault) (more : List ℕ) → IsLines more → WroteBy result more mid new → IfSome known (λ kept. AtEnd arena side kept spot more result) → LineWrote known arena side start code result old new before now
+last_far known arena side start code spot old mid new before middle now far n result more lines wrote ends = (
   far.text ++ more,
   lines_behind far.text more far.lines lines,
   wrote_after far.text more result old mid new far.took wrote,
-  both told_codes (λ kept. ComeBy arena side kept start code spot far.numbers far.text) (λ kept. AtEnd arena side kept spot more result) (λ kept. Plays arena side kept start code (far.text ++ more) result before now) (λ kept c g. played_out arena side kept start code spot far.numbers far.text more result before middle now far.spent n c g) far.comes ends,
+  both known (λ kept. ComeBy arena side kept start code spot far.numbers far.text) (λ kept. AtEnd arena side kept spot more result) (λ kept. Plays arena side kept start code (far.text ++ more) result before now) (λ kept c g. played_out arena side kept start code spot far.numbers far.text more result before middle now far.spent n c g) far.comes ends,
 )
 
 wrote_same : (fault : LineFault) (more : List ℕ) (old new : SinkTold) → WroteBy {T = Turn} (Err fault) more old new → WroteBy {T = LineEnd} (Err fault) more old new
@@ -148,18 +148,18 @@ wrote_same faults.Output more old new w = w
 wrote_same faults.NoMemory more old new w = w
 
 -- the line's end, and a fault on its way
-pub over_far : (told_codes : Option (List ℕ)) (arena : Arena Step ℕ Value) (side : Colour) (start code : ℕ) (spot : Spot) (old mid new : SinkTold) (before middle now : Spent) → SoFar told_codes arena side start code spot old mid before middle → SpendsAt arena 0 (spot.number ∷ []) middle now → (last : LineEnd) (more : List ℕ) → IsLines more → TookText more mid new → IfSome told_codes (λ kept. GoesBy arena side kept spot more (Ok (Over last))) → LineWrote told_codes arena side start code (Ok last) old new before now
-over_far told_codes arena side start code spot old mid new before middle now far n last more lines took goes =
-    last_far told_codes arena side start code spot old mid new before middle now far n (Ok last) more lines took goes
+pub over_far : (known : Option (List ℕ)) (arena : Arena Step ℕ Value) (side : Colour) (start code : ℕ) (spot : Spot) (old mid new : SinkTold) (before middle now : Spent) → SoFar known arena side start code spot old mid before middle → SpendsAt arena 0 (spot.number ∷ []) middle now → (last : LineEnd) (more : List ℕ) → IsLines more → TookText more mid new → IfSome known (λ kept. GoesBy arena side kept spot more (Ok (Over last))) → LineWrote known arena side start code (Ok last) old new before now
+over_far known arena side start code spot old mid new before middle now far n last more lines took goes =
+    last_far known arena side start code spot old mid new before middle now far n (Ok last) more lines took goes
 
-pub fault_far : (told_codes : Option (List ℕ)) (arena : Arena Step ℕ Value) (side : Colour) (start code : ℕ) (spot : Spot) (old mid new : SinkTold) (before middle now : Spent) → SoFar told_codes arena side start code spot old mid before middle → SpendsAt arena 0 (spot.number ∷ []) middle now → (fault : LineFault) (more : List ℕ) → IsLines more → WroteBy {T = Turn} (Err fault) more mid new → IfSome told_codes (λ kept. GoesBy arena side kept spot more (Err fault)) → LineWrote told_codes arena side start code (Err fault) old new before now
-fault_far told_codes arena side start code spot old mid new before middle now far n fault more lines wrote goes =
-    last_far told_codes arena side start code spot old mid new before middle now far n (Err fault) more lines (wrote_same fault more mid new wrote) goes
+pub fault_far : (known : Option (List ℕ)) (arena : Arena Step ℕ Value) (side : Colour) (start code : ℕ) (spot : Spot) (old mid new : SinkTold) (before middle now : Spent) → SoFar known arena side start code spot old mid before middle → SpendsAt arena 0 (spot.number ∷ []) middle now → (fault : LineFault) (more : List ℕ) → IsLines more → WroteBy {T = Turn} (Err fault) more mid new → IfSome known (λ kept. GoesBy arena side kept spot more (Err fault)) → LineWrote known arena side start code (Err fault) old new before now
+fault_far known arena side start code spot old mid new before middle now far n fault more lines wrote goes =
+    last_far known arena side start code spot old mid new before middle now far n (Err fault) more lines (wrote_same fault more mid new wrote) goes
 
-pub fault_wrote : (told_codes : Option (List ℕ)) (arena : Arena Step ℕ Value) (side : Colour) (start code : ℕ) (old new : SinkTold) (before now : Spent) (fault : LineFault) (result : Result LineEnd LineFault) → IsErrAnd result (λ e. e ≡ fault) → LineWrote told_codes arena side start code (Err fault) old new before now → LineWrote told_codes arena side start code result old new before now
-fault_wrote told_codes arena side start code old new before now fault (Ok end) h w = absurd h
-fault_wrote told_codes arena side start code old new before now fault (Err e) h w =
-    subst (λ (f : LineFault). LineWrote told_codes arena side start code (Err f) old new before now) (sym h) w
+pub fault_wrote : (known : Option (List ℕ)) (arena : Arena Step ℕ Value) (side : Colour) (start code : ℕ) (old new : SinkTold) (before now : Spent) (fault : LineFault) (result : Result LineEnd LineFault) → IsErrAnd result (λ e. e ≡ fault) → LineWrote known arena side start code (Err fault) old new before now → LineWrote known arena side start code result old new before now
+fault_wrote known arena side start code old new before now fault (Ok end) h w = absurd h
+fault_wrote known arena side start code old new before now fault (Err e) h w =
+    subst (λ (f : LineFault). LineWrote known arena side start code (Err f) old new before now) (sym h) w
 
 -- the store was called twice
 pub quiet_behind : (old mid new : StoreTold) → StoreQuiet old mid → StoreQuiet mid new → StoreQuiet old new

@@ -181,12 +181,12 @@ ply_goes one arena size finite side mover spot arms cs kept are same due place x
     (ply_leaves arena side kept spot a a.next x.code g.first g.others end result old new (inside_code arena side kept a.next x.code f.is) (ap (λ (z : Arm Step ℕ Value). z.mv) arm) (ap (λ (z : Arm Step ℕ Value). z.next) arm) leads answers)
 
 -- nothing but a fault was answered
-stop_wrote : (told_codes : Option (List ℕ)) (arena : Arena Step ℕ Value) (side : Colour) (spot : Spot) (result : Result Turn LineFault) (old new : SinkTold) (fault : LineFault) → WroteBy {T = Turn} (Err fault) [] old new → result ≡ Err fault → IfSome told_codes (λ kept. GoesBy arena side kept spot [] result) → (text : List ℕ) × IsLines text × WroteBy result text old new × IfSome told_codes (λ kept. GoesBy arena side kept spot text result)
-stop_wrote told_codes arena side spot result old new fault w e goes =
+stop_wrote : (known : Option (List ℕ)) (arena : Arena Step ℕ Value) (side : Colour) (spot : Spot) (result : Result Turn LineFault) (old new : SinkTold) (fault : LineFault) → WroteBy {T = Turn} (Err fault) [] old new → result ≡ Err fault → IfSome known (λ kept. GoesBy arena side kept spot [] result) → (text : List ℕ) × IsLines text × WroteBy result text old new × IfSome known (λ kept. GoesBy arena side kept spot text result)
+stop_wrote known arena side spot result old new fault w e goes =
     ([], inl refl, by_stop fault result old new w e, goes)
 
-over_wrote : FillsLocal → (told_codes : Option (List ℕ)) (arena : Arena Step ℕ Value) (size : ℕ) → IsFinite arena size → (side : Colour) (spot : Spot) (arms : List (Arm Step ℕ Value)) (cs : List ℕ) → arms ≡ arena.arms spot.number → (due : Due) → due ≡ due_by (spot.played == 0) (nat_le MOST_PLIES spot.played) spot.code (node_code side (arena.node spot.number) (free_among arms cs) cs) (arena.node spot.number) → IfSome told_codes (λ kept. cs ≡ map (arm_code side kept) arms) → (f : EndOfLine) (last : LineEnd) → stage_told spot.number spot.code due ≡ OverWay f → told side f ≡ Ok last → (result : Result Turn LineFault) (old new : SinkTold) → Answers (Over last) (over_text side spot last) result old new → (text : List ℕ) × IsLines text × WroteBy result text old new × IfSome told_codes (λ kept. GoesBy arena side kept spot text result)
-over_wrote fills told_codes arena size finite side spot arms cs are due e codes_told f last stops is result old new h =
+over_wrote : FillsLocal → (known : Option (List ℕ)) (arena : Arena Step ℕ Value) (size : ℕ) → IsFinite arena size → (side : Colour) (spot : Spot) (arms : List (Arm Step ℕ Value)) (cs : List ℕ) → arms ≡ arena.arms spot.number → (due : Due) → due ≡ due_by (spot.played == 0) (nat_le MOST_PLIES spot.played) spot.code (node_code side (arena.node spot.number) (free_among arms cs) cs) (arena.node spot.number) → IfSome known (λ kept. cs ≡ map (arm_code side kept) arms) → (f : EndOfLine) (last : LineEnd) → stage_told spot.number spot.code due ≡ OverWay f → told side f ≡ Ok last → (result : Result Turn LineFault) (old new : SinkTold) → Answers (Over last) (over_text side spot last) result old new → (text : List ℕ) × IsLines text × WroteBy result text old new × IfSome known (λ kept. GoesBy arena side kept spot text result)
+over_wrote fills known arena size finite side spot arms cs are due e codes_told f last stops is result old new h =
     let text = over_text side spot last in
     let whole : text ≡ rest_text side spot [] (told side f) = ap (λ (z : Result LineEnd LineFault). rest_text side spot [] z) (sym is) in
     let leaves : (kept : List ℕ) → Leaves arena side kept spot [] f [] result = λ kept.
@@ -194,54 +194,54 @@ over_wrote fills told_codes arena size finite side spot arms cs are due e codes_
       text,
       as_lines text (ends_behind (first_line side spot) (end_line last) (ends_end last)),
       by_answers (Over last) text result old new h,
-      some_of told_codes (λ kept. cs ≡ map (arm_code side kept) arms) (λ kept. GoesBy arena side kept spot text result) (λ kept same.
+      some_of known (λ kept. cs ≡ map (arm_code side kept) arms) (λ kept. GoesBy arena side kept spot text result) (λ kept same.
           over_goes arena side kept spot text result f (λ agrees. line_stage fills arena size finite side spot arms cs kept are same agrees due e ∙ stops) whole (leaves kept)) codes_told,
     )
 
-pub turn_wrote : AsksForOne → FillsLocal → (told_codes : Option (List ℕ)) (arena : Arena Step ℕ Value) (size : ℕ) → IsFinite arena size → (side : Colour) (spot : Spot) (arms : List (Arm Step ℕ Value)) (cs : List ℕ) → arms ≡ arena.arms spot.number → (due : Due) → due ≡ due_by (spot.played == 0) (nat_le MOST_PLIES spot.played) spot.code (node_code side (arena.node spot.number) (free_among arms cs) cs) (arena.node spot.number) → IfSome told_codes (λ kept. cs ≡ map (arm_code side kept) arms) → (result : Result Turn LineFault) (old new : SinkTold) → IsPlayed side spot due arms cs result old new → (text : List ℕ) × IsLines text × WroteBy result text old new × IfSome told_codes (λ kept. GoesBy arena side kept spot text result)
-turn_wrote one fills told_codes arena size finite side spot arms cs are (dues.Wrong given) e codes_told result old new h =
+pub turn_wrote : AsksForOne → FillsLocal → (known : Option (List ℕ)) (arena : Arena Step ℕ Value) (size : ℕ) → IsFinite arena size → (side : Colour) (spot : Spot) (arms : List (Arm Step ℕ Value)) (cs : List ℕ) → arms ≡ arena.arms spot.number → (due : Due) → due ≡ due_by (spot.played == 0) (nat_le MOST_PLIES spot.played) spot.code (node_code side (arena.node spot.number) (free_among arms cs) cs) (arena.node spot.number) → IfSome known (λ kept. cs ≡ map (arm_code side kept) arms) → (result : Result Turn LineFault) (old new : SinkTold) → IsPlayed side spot due arms cs result old new → (text : List ℕ) × IsLines text × WroteBy result text old new × IfSome known (λ kept. GoesBy arena side kept spot text result)
+turn_wrote one fills known arena size finite side spot arms cs are (dues.Wrong given) e codes_told result old new h =
     let w : WrongEntry = record { side = side; number = spot.number; kept = spot.code; given = given } in
     let f : EndOfLine = Wrong spot.number spot.code given in
-    stop_wrote told_codes arena side spot result old new (faults.Wrong w) h.1 h.0
-    (some_of told_codes (λ kept. cs ≡ map (arm_code side kept) arms) (λ kept. GoesBy arena side kept spot [] result) (λ kept same.
+    stop_wrote known arena side spot result old new (faults.Wrong w) h.1 h.0
+    (some_of known (λ kept. cs ≡ map (arm_code side kept) arms) (λ kept. GoesBy arena side kept spot [] result) (λ kept same.
     over_goes arena side kept spot [] result f (λ agrees. line_stage fills arena size finite side spot arms cs kept are same agrees (dues.Wrong given) e) (none_text (spot.played == 0))
     (subst (λ (z : Result Turn LineFault). Leaves arena side kept spot [] f [] z) (sym h.0) (refl, refl))) codes_told)
-turn_wrote one fills told_codes arena size finite side spot arms cs are dues.NoBound e codes_told result old new h =
+turn_wrote one fills known arena size finite side spot arms cs are dues.NoBound e codes_told result old new h =
     let f : EndOfLine = NoBound in
-    stop_wrote told_codes arena side spot result old new faults.NoBound h.1 h.0
-    (some_of told_codes (λ kept. cs ≡ map (arm_code side kept) arms) (λ kept. GoesBy arena side kept spot [] result) (λ kept same.
+    stop_wrote known arena side spot result old new faults.NoBound h.1 h.0
+    (some_of known (λ kept. cs ≡ map (arm_code side kept) arms) (λ kept. GoesBy arena side kept spot [] result) (λ kept same.
     over_goes arena side kept spot [] result f (λ agrees. line_stage fills arena size finite side spot arms cs kept are same agrees dues.NoBound e) (none_text (spot.played == 0))
     (subst (λ (z : Result Turn LineFault). Leaves arena side kept spot [] f [] z) (sym h.0) (refl, refl))) codes_told)
-turn_wrote one fills told_codes arena size finite side spot arms cs are (dues.Mate m) e codes_told result old new h =
-    over_wrote fills told_codes arena size finite side spot arms cs are (dues.Mate m) e codes_told (Mated m) ends.Mate refl refl result old new h
-turn_wrote one fills told_codes arena size finite side spot arms cs are (dues.Stalemate m) e codes_told result old new h =
-    over_wrote fills told_codes arena size finite side spot arms cs are (dues.Stalemate m) e codes_told (Stalemated m) ends.Stalemate refl refl result old new h
-turn_wrote one fills told_codes arena size finite side spot arms cs are dues.Cut e codes_told result old new h =
-    over_wrote fills told_codes arena size finite side spot arms cs are dues.Cut e codes_told Cut ends.Cut refl refl result old new h
-turn_wrote one fills told_codes arena size finite side spot arms cs are (dues.Ply m) e codes_told result old new h =
+turn_wrote one fills known arena size finite side spot arms cs are (dues.Mate m) e codes_told result old new h =
+    over_wrote fills known arena size finite side spot arms cs are (dues.Mate m) e codes_told (Mated m) ends.Mate refl refl result old new h
+turn_wrote one fills known arena size finite side spot arms cs are (dues.Stalemate m) e codes_told result old new h =
+    over_wrote fills known arena size finite side spot arms cs are (dues.Stalemate m) e codes_told (Stalemated m) ends.Stalemate refl refl result old new h
+turn_wrote one fills known arena size finite side spot arms cs are dues.Cut e codes_told result old new h =
+    over_wrote fills known arena size finite side spot arms cs are dues.Cut e codes_told Cut ends.Cut refl refl result old new h
+turn_wrote one fills known arena size finite side spot arms cs are (dues.Ply m) e codes_told result old new h =
     let a = h.2 in
     let text = moved_text side spot a in (
       text,
       as_lines text (ends_behind (first_line side spot) (arm_text a) (ends_arm a)),
       by_answers (turn_of a.next h.1.code) text result old new h.5,
-      some_of told_codes (λ kept. cs ≡ map (arm_code side kept) arms) (λ kept. GoesBy arena side kept spot text result) (λ kept same.
+      some_of known (λ kept. cs ≡ map (arm_code side kept) arms) (λ kept. GoesBy arena side kept spot text result) (λ kept same.
           ply_goes one arena size finite side m spot arms cs kept are same (λ agrees. line_stage fills arena size finite side spot arms cs kept are same agrees (dues.Ply m) e) h.0 h.1 a h.3 h.4 result old new h.5) codes_told,
     )
 
 -- the store stopped a turn before anything was written
-stopped_before : (told_codes : Option (List ℕ)) (arena : Arena Step ℕ Value) (side : Colour) (spot : Spot) (fault : LineFault) (result : Result Turn LineFault) (out : SinkTold) → (fault ≡ faults.Store) ⊎ (fault ≡ faults.NoMemory) → result ≡ Err fault → (text : List ℕ) × IsLines text × WroteBy result text out out × IfSome told_codes (λ kept. GoesBy arena side kept spot text result)
-stopped_before told_codes arena side spot fault result out (inl s) e =
+stopped_before : (known : Option (List ℕ)) (arena : Arena Step ℕ Value) (side : Colour) (spot : Spot) (fault : LineFault) (result : Result Turn LineFault) (out : SinkTold) → (fault ≡ faults.Store) ⊎ (fault ≡ faults.NoMemory) → result ≡ Err fault → (text : List ℕ) × IsLines text × WroteBy result text out out × IfSome known (λ kept. GoesBy arena side kept spot text result)
+stopped_before known arena side spot fault result out (inl s) e =
     let r : result ≡ Err faults.Store = e ∙ ap Err s in
-    stop_wrote told_codes arena side spot result out out faults.Store (took_nothing out) r
-    (every told_codes (λ kept. GoesBy arena side kept spot [] result) (λ kept agrees plies end w.
+    stop_wrote known arena side spot result out out faults.Store (took_nothing out) r
+    (every known (λ kept. GoesBy arena side kept spot [] result) (λ kept agrees plies end w.
     (rest_text side spot plies (told side end), refl, subst (λ (z : Result Turn LineFault). Leaves arena side kept spot plies end (rest_text side spot plies (told side end)) z) (sym r) (rest_unfinished side spot plies (told side end)))))
-stopped_before told_codes arena side spot fault result out (inr s) e =
+stopped_before known arena side spot fault result out (inr s) e =
     let r : result ≡ Err faults.NoMemory = e ∙ ap Err s in
-    stop_wrote told_codes arena side spot result out out faults.NoMemory (took_nothing out) r
-    (every told_codes (λ kept. GoesBy arena side kept spot [] result) (λ kept agrees plies end w.
+    stop_wrote known arena side spot result out out faults.NoMemory (took_nothing out) r
+    (every known (λ kept. GoesBy arena side kept spot [] result) (λ kept agrees plies end w.
     (rest_text side spot plies (told side end), refl, subst (λ (z : Result Turn LineFault). Leaves arena side kept spot plies end (rest_text side spot plies (told side end)) z) (sym r) (rest_unfinished side spot plies (told side end)))))
 
-pub stopped_by : (told_codes : Option (List ℕ)) (arena : Arena Step ℕ Value) (side : Colour) (spot : Spot) (fault : StoreFault) (result : Result Turn LineFault) (out : SinkTold) → IsErrAnd result (λ e. e ≡ fault_of fault) → (text : List ℕ) × IsLines text × WroteBy result text out out × IfSome told_codes (λ kept. GoesBy arena side kept spot text result)
-stopped_by told_codes arena side spot fault (Ok turn) out h = absurd h
-stopped_by told_codes arena side spot Failed (Err e) out h = stopped_before told_codes arena side spot e (Err e) out (inl h) refl
-stopped_by told_codes arena side spot NoMemory (Err e) out h = stopped_before told_codes arena side spot e (Err e) out (inr h) refl
+pub stopped_by : (known : Option (List ℕ)) (arena : Arena Step ℕ Value) (side : Colour) (spot : Spot) (fault : StoreFault) (result : Result Turn LineFault) (out : SinkTold) → IsErrAnd result (λ e. e ≡ fault_of fault) → (text : List ℕ) × IsLines text × WroteBy result text out out × IfSome known (λ kept. GoesBy arena side kept spot text result)
+stopped_by known arena side spot fault (Ok turn) out h = absurd h
+stopped_by known arena side spot Failed (Err e) out h = stopped_before known arena side spot e (Err e) out (inl h) refl
+stopped_by known arena side spot NoMemory (Err e) out h = stopped_before known arena side spot e (Err e) out (inr h) refl

@@ -7,7 +7,7 @@ ghost use Rattle.frz_answer.specs.Answers.{IsLines};
 ghost use Rattle.frz_answer.specs.World.{spent_by};
 ghost use Rattle.frz_table.specs.Tables.{Carries};
 ghost use Rattle.frz_line.specs.Faults.{StoreCause, WroteBy};
-ghost use Rattle.frz_line.specs.Kept.{kept_codes};
+ghost use Rattle.frz_line.specs.Kept.{told_codes};
 ghost use Rattle.frz_line.specs.BestLine.{TellsLine};
 
 use crate::end::{LineEnd, LineFault};
@@ -39,7 +39,7 @@ pub fn best_line<S: Store, O: Sink, L: Ledger>(
         → (store.new ≡ store.old) × (out.new ≡ out.old) × (steps.new ≡ steps.old) }
     ensures wrote { (text : List ℕ) × IsLines text
         × WroteBy result text (sink_of O.Sink out.old) (sink_of O.Sink out.new)
-        × IfSome (kept_codes table.now side (S.files store.old))
+        × IfSome (told_codes table.now side (S.files store.old))
         (λ codes. TellsLine table.now.rules side codes p.now text result
         (spent_by (store_of S.Store store.old) steps.old)
         (spent_by (store_of S.Store store.new) steps.new)) }

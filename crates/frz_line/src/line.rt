@@ -7,7 +7,7 @@ ghost use Rattle.frz_table.specs.Tables.{Carries, table_size};
 ghost use Rattle.frz_arena.specs.Codes.{is_failure};
 ghost use Rattle.frz_line.specs.Costs.{arms_reads};
 ghost use Rattle.frz_line.specs.Faults.{StoreCause, WroteBy};
-ghost use Rattle.frz_line.specs.Kept.{kept_codes};
+ghost use Rattle.frz_line.specs.Kept.{told_codes};
 ghost use Rattle.frz_line.specs.Turns.{GoesBy, TurnsTo, Plays};
 
 use crate::end::{LineEnd, LineFault, MOST_PLIES};
@@ -42,7 +42,7 @@ fn turn<G: NumberedGame<L>, S: Store, O: Sink, L: Ledger>(
     ensures next { IfOk result (TurnsTo (G.count game.now) spot) }
     ensures wrote { (text : List ℕ) × IsLines text
         × WroteBy result text (sink_of O.Sink out.old) (sink_of O.Sink out.new)
-        × IfSome (kept_codes table.now side (S.files store.old))
+        × IfSome (told_codes table.now side (S.files store.old))
         (λ codes. GoesBy (G.arena game.now) side codes spot text result) }
     ensures placed { result ≡ Err LineFault.Outside → ⊥ }
     ensures quiet { StoreQuiet (store_of S.Store store.old) (store_of S.Store store.new) }
@@ -88,7 +88,7 @@ pub fn play_line<G: NumberedGame<L>, S: Store, O: Sink, L: Ledger>(
     requires carried { Carries (S.files store.old) table.now }
     ensures wrote { (text : List ℕ) × IsLines text
         × WroteBy result text (sink_of O.Sink out.old) (sink_of O.Sink out.new)
-        × IfSome (kept_codes table.now side (S.files store.old))
+        × IfSome (told_codes table.now side (S.files store.old))
         (λ codes. Plays (G.arena game.now) side codes start code text result
         (spent_by (store_of S.Store store.old) steps.old)
         (spent_by (store_of S.Store store.new) steps.new)) }

@@ -5,7 +5,7 @@ ghost use Rattle.frz_store.specs.Told.{store_of, StoreQuiet};
 ghost use Rattle.frz_table.specs.Tables.{Carries, table_size};
 ghost use Rattle.frz_graph.specs.EntryCodes.{next_code, arm_code, IsWithin};
 ghost use Rattle.frz_line.specs.Costs.{arms_reads, next_reads};
-ghost use Rattle.frz_line.specs.Kept.{kept_codes};
+ghost use Rattle.frz_line.specs.Kept.{told_codes};
 
 use frz_board::Colour;
 use frz_graph::{CodeList, Next, NextList, exit_code};
@@ -21,7 +21,7 @@ fn read_code<S: Store>(
 ) -> Result<u32, StoreFault>
     requires within { IsWithin (table_size table.now) next }
     requires carried { Carries (S.files store.old) table.now }
-    ensures code { IfOk result (λ code. IfSome (kept_codes table.now side (S.files store.old))
+    ensures code { IfOk result (λ code. IfSome (told_codes table.now side (S.files store.old))
         (λ codes. code ≡ next_code side codes next)) }
     ensures quiet { StoreQuiet (store_of S.Store store.old) (store_of S.Store store.new) }
     ensures asked { S.asked store.new ≤ S.asked store.old + 4 * next_reads next }
@@ -47,7 +47,7 @@ pub fn read_codes<S: Store>(
     requires within { All (λ a. IsWithin (table_size table.now) a.next) list.now.items }
     requires carried { Carries (S.files store.old) table.now }
     ensures many { OnOk result (length codes.new.items ≡ length list.now.items) }
-    ensures codes { OnOk result (IfSome (kept_codes table.now side (S.files store.old))
+    ensures codes { OnOk result (IfSome (told_codes table.now side (S.files store.old))
         (λ kept. codes.new.items ≡ map (arm_code side kept) list.now.items)) }
     ensures quiet { StoreQuiet (store_of S.Store store.old) (store_of S.Store store.new) }
     ensures asked { S.asked store.new ≤ S.asked store.old + 4 * arms_reads list.now.items }

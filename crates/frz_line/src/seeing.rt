@@ -8,7 +8,7 @@ ghost use Rattle.frz_arena.specs.LocalCodes.{node_code};
 ghost use Rattle.frz_graph.specs.EntryCodes.{arm_code};
 ghost use Rattle.frz_graph.specs.FreeCodes.{free_among};
 ghost use Rattle.frz_line.specs.Costs.{arms_reads};
-ghost use Rattle.frz_line.specs.Kept.{kept_codes};
+ghost use Rattle.frz_line.specs.Kept.{told_codes};
 ghost use Rattle.frz_line.specs.Dues.{due_by};
 
 use crate::due::{Due, what_is_due};
@@ -45,7 +45,7 @@ pub fn sight<G: NumberedGame<L>, S: Store, L: Ledger>(
         ((G.arena game.now).node number)) }
     ensures arms { OnOk result (lists.new.nexts.items ≡ (G.arena game.now).arms number) }
     ensures read { OnOk result (length lists.new.codes.items ≡ length lists.new.nexts.items) }
-    ensures codes { OnOk result (IfSome (kept_codes table.now side (S.files store.old))
+    ensures codes { OnOk result (IfSome (told_codes table.now side (S.files store.old))
         (λ codes. lists.new.codes.items ≡ map (arm_code side codes) lists.new.nexts.items)) }
     ensures quiet { StoreQuiet (store_of S.Store store.old) (store_of S.Store store.new) }
     ensures asked { S.asked store.new ≤

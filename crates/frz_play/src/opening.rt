@@ -6,7 +6,7 @@ ghost use Rattle.frz_store.specs.Told.{store_of, source_of, sink_of, StoreQuiet}
 ghost use Rattle.frz_answer.specs.Answers.{IsLines};
 ghost use Rattle.frz_answer.specs.World.{spent_by};
 ghost use Rattle.frz_table.specs.Tables.{Carries};
-ghost use Rattle.frz_line.specs.Kept.{kept_codes};
+ghost use Rattle.frz_line.specs.Kept.{told_codes};
 ghost use Rattle.frz_line.specs.declared.end.LineFault.TheVariants as faults;
 ghost use Rattle.frz_play.specs.declared.end.PlayFault.TheVariants.{Line};
 ghost use Rattle.frz_play.specs.Faults.{WroteBy, StoreCause, InputCause, TookBytes, MayHold};
@@ -50,7 +50,7 @@ pub fn play_session<S: Store, I: Source, O: Sink, L: Ledger>(
     ensures played { (text bytes : List ℕ) × IsLines text
         × WroteBy result text (sink_of O.Sink out.old) (sink_of O.Sink out.new)
         × TookBytes bytes (source_of I.Source input.old) (source_of I.Source input.new)
-        × IfSome (kept_codes table.now side (S.files store.old))
+        × IfSome (told_codes table.now side (S.files store.old))
         (λ codes. (whole : List ℕ) × MayHold (source_of I.Source input.old) whole
         × TellsSession table.now.rules side codes p.now whole bytes text result
         (spent_by (store_of S.Store store.old) steps.old)

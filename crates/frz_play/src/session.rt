@@ -7,7 +7,7 @@ ghost use Rattle.frz_table.specs.Tables.{Carries, table_size};
 ghost use Rattle.frz_arena.specs.Codes.{is_failure};
 ghost use Rattle.frz_arena.specs.Turns.{Alternates};
 ghost use Rattle.frz_line.specs.Costs.{arms_reads};
-ghost use Rattle.frz_line.specs.Kept.{kept_codes};
+ghost use Rattle.frz_line.specs.Kept.{told_codes};
 ghost use Rattle.frz_line.specs.declared.end.LineFault.TheVariants as faults;
 ghost use Rattle.frz_play.specs.declared.end.PlayFault.TheVariants.{Line};
 ghost use Rattle.frz_play.specs.Faults.{WroteBy, StoreCause, InputCause, TookBytes};
@@ -54,7 +54,7 @@ fn turn<G: NumberedGame<L>, S: Store, I: Source, O: Sink, L: Ledger>(
         × WroteBy result text (sink_of O.Sink out.old) (sink_of O.Sink out.new)
         × TookBytes bytes (source_of I.Source input.old) (source_of I.Source input.new)
         × StaysEnded reader.old reader.new bytes
-        × IfSome (kept_codes table.now side (S.files store.old))
+        × IfSome (told_codes table.now side (S.files store.old))
         (λ codes. GoesBy (G.arena game.now) side codes spot reader.old reader.new bytes text
         result) }
     ensures still_ended { reader.new.ended ≡ true → HasEnded (source_of I.Source input.new) }
@@ -108,7 +108,7 @@ pub fn play_from<G: NumberedGame<L>, S: Store, I: Source, O: Sink, L: Ledger>(
     ensures wrote { (text bytes : List ℕ) × IsLines text
         × WroteBy result text (sink_of O.Sink out.old) (sink_of O.Sink out.new)
         × TookBytes bytes (source_of I.Source input.old) (source_of I.Source input.new)
-        × IfSome (kept_codes table.now side (S.files store.old))
+        × IfSome (told_codes table.now side (S.files store.old))
         (λ codes. Plays (G.arena game.now) side codes start code
         (source_of I.Source input.old) bytes text result
         (spent_by (store_of S.Store store.old) steps.old)

@@ -4,7 +4,7 @@ use Rattle.frz_answer.specs.World.{spent_by}
 use Rattle.frz_arena.specs.Codes.{is_failure}
 use Rattle.frz_arena.proofs.Lemmas.{IsFew, line_left}
 use Rattle.frz_line.specs.declared.end.TheConstants.{MOST_PLIES}
-use Rattle.frz_line.specs.Kept.{kept_codes}
+use Rattle.frz_line.specs.Kept.{told_codes}
 use Rattle.frz_line.proofs.Played.{SoFar}
 use Rattle.frz_line.proofs.line.play_line.Given as goal
 
@@ -13,7 +13,7 @@ invariant-plies g l = record {
   inside : l.spot.number < g.G.NumberedGame.count l.game;
   stands : (l.spot.played ≡ 0) ⊎ (is_failure l.spot.code ≡ false);
   few : IsFew MOST_PLIES l.spot.played l.spot.code;
-  far : SoFar (kept_codes l.table l.side (g.S.Store.files l.initial.store)) (g.G.NumberedGame.arena l.game) l.side l.start l.code l.spot (sink_of g.O.Sink l.initial.out) (sink_of g.O.Sink l.out) (spent_by (store_of g.S.Store l.initial.store) l.initial.steps) (spent_by (store_of g.S.Store l.store) l.steps);
+  far : SoFar (told_codes l.table l.side (g.S.Store.files l.initial.store)) (g.G.NumberedGame.arena l.game) l.side l.start l.code l.spot (sink_of g.O.Sink l.initial.out) (sink_of g.O.Sink l.out) (spent_by (store_of g.S.Store l.initial.store) l.initial.steps) (spent_by (store_of g.S.Store l.store) l.steps);
   quiet : StoreQuiet (store_of g.S.Store l.initial.store) (store_of g.S.Store l.store);
   fine : StoreFine (store_of g.S.Store l.initial.store) (store_of g.S.Store l.store);
   later : l.initial.steps ≤ l.steps;

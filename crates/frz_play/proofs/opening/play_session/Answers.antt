@@ -12,7 +12,7 @@ use Rattle.frz_game.specs.Numbers.{number_of, numbers_by}
 use Rattle.frz_game.proofs.Lemmas.{finite}
 use Rattle.frz_index.specs.Members.{Member, Num}
 use Rattle.frz_answer.specs.World.{spent_by}
-use Rattle.frz_line.specs.Kept.{kept_codes}
+use Rattle.frz_line.specs.Kept.{told_codes}
 use Rattle.frz_line.proofs.Lemmas.{code_kept, code_read}
 use Rattle.frz_play.specs.Turns.{Plays}
 use Rattle.frz_play.proofs.Alternating.{turn_after}
@@ -21,7 +21,7 @@ use Rattle.frz_play.proofs.opening.play_session.Goals as goal
 
 pub returns-in_default-clause-played : goal.returns-in_default-clause-played
 returns-in_default-clause-played g c =
-    nothing_told (kept_codes c.args.table.now c.args.side (g.S.Store.files c.args.store.now)) c.args.table.now.rules c.args.side c.args.p.now (source_of g.I.Source c.args.input.now) (sink_of g.O.Sink c.args.out.now) (spent_by (store_of g.S.Store c.args.store.now) c.args.steps.now)
+    nothing_told (told_codes c.args.table.now c.args.side (g.S.Store.files c.args.store.now)) c.args.table.now.rules c.args.side c.args.p.now (source_of g.I.Source c.args.input.now) (sink_of g.O.Sink c.args.out.now) (spent_by (store_of g.S.Store c.args.store.now) c.args.steps.now)
     (λ member. (let some = c.in_default.ensures.member.1 (subst (λ (z : List GroupLine). Member z c.args.p.now) (sym c.set.ensures) member) in cc))
 
 pub entry-requires-clause-number : goal.entry-requires-clause-number
@@ -32,7 +32,7 @@ entry-requires-clause-number g c =
 
 pub returns-in_err-code-clause-played : goal.returns-in_err-code-clause-played
 returns-in_err-code-clause-played g c =
-    start_unread (kept_codes c.args.table.now c.args.side (g.S.Store.files c.args.store.now)) c.args.table.now.rules c.args.side c.args.p.now (source_of g.I.Source c.args.input.now) (sink_of g.O.Sink c.args.out.now) (spent_by (store_of g.S.Store c.args.store.now) c.args.steps.now) (spent_by (store_of g.S.Store c.entry.new.store) c.args.steps.now)
+    start_unread (told_codes c.args.table.now c.args.side (g.S.Store.files c.args.store.now)) c.args.table.now.rules c.args.side c.args.p.now (source_of g.I.Source c.args.input.now) (sink_of g.O.Sink c.args.out.now) (spent_by (store_of g.S.Store c.args.store.now) c.args.steps.now) (spent_by (store_of g.S.Store c.entry.new.store) c.args.steps.now)
     (code_read (store_of g.S.Store c.args.store.now) (store_of g.S.Store c.entry.new.store) c.args.steps.now c.in_err-code.ensures.asked c.in_err-code.ensures.calls) c.in_err-code.field-0.0 c.from_residual.result c.from_residual.ensures.1
 
 pub play_from-requires-clause-sound : goal.play_from-requires-clause-sound
@@ -56,14 +56,14 @@ pub returns-clause-played : goal.returns-clause-played
 returns-clause-played g c =
     let rules = c.args.table.now.rules in
     let files = g.S.Store.files c.args.store.now in
-    let told = kept_codes c.args.table.now c.args.side files in
+    let told = told_codes c.args.table.now c.args.side files in
     let source = source_of g.I.Source c.args.input.now in
     let start = c.in-Some.start in
     let before = spent_by (store_of g.S.Store c.entry.new.store) c.args.steps.now in
     let now = spent_by (store_of g.S.Store c.play_from.new.store) c.play_from.new.steps in
     let is : start ≡ Num rules.groups c.args.p.now = subst (λ (z : List GroupLine). start ≡ Num z c.args.p.now) c.set.ensures c.in-Some.ensures.number in
     let w = c.play_from.ensures.wrote in
-    let here = subst (λ (f : Option Files). IfSome (kept_codes c.args.table.now c.args.side f) (λ codes. Plays (graph_by c.rules-rules.result.now (λ q. value_by c.new-book.result.rules.now q)) c.args.side codes start c.in_ok-code.code source w.1 w.0 c.play_from.result before now)) c.in_ok-code.ensures.quiet.unwritten.files w.5 in
+    let here = subst (λ (f : Option Files). IfSome (told_codes c.args.table.now c.args.side f) (λ codes. Plays (graph_by c.rules-rules.result.now (λ q. value_by c.new-book.result.rules.now q)) c.args.side codes start c.in_ok-code.code source w.1 w.0 c.play_from.result before now)) c.in_ok-code.ensures.quiet.unwritten.files w.5 in
     let by_rules = subst (λ (r : RuleLines). IfSome told (λ codes. Plays (graph_by c.rules-rules.result.now (λ q. value_by r q)) c.args.side codes start c.in_ok-code.code source w.1 w.0 c.play_from.result before now)) c.new-book.ensures here in
     let plays = subst (λ (r : RuleLines). IfSome told (λ codes. Plays (graph_by r (λ q. value_by r q)) c.args.side codes start c.in_ok-code.code source w.1 w.0 c.play_from.result before now)) c.rules-rules.ensures.rules by_rules in
     session_told told rules c.args.side c.args.p.now c.play_from.result source (source_of g.I.Source c.play_from.new.input) (sink_of g.O.Sink c.args.out.now) (sink_of g.O.Sink c.play_from.new.out) (spent_by (store_of g.S.Store c.args.store.now) c.args.steps.now) before now start c.in_ok-code.code is (code_read (store_of g.S.Store c.args.store.now) (store_of g.S.Store c.entry.new.store) c.args.steps.now c.in_ok-code.ensures.asked c.in_ok-code.ensures.calls) (code_kept c.args.table.now c.args.side files start c.in_ok-code.code c.in_ok-code.ensures.code) w.0 w.1 w.2 w.3 w.4 plays

@@ -1,7 +1,7 @@
 use Rattle.frz_store.specs.Told.{store_of, source_of, sink_of}
 use Rattle.frz_arena.specs.LocalCodes.{node_code}
 use Rattle.frz_graph.specs.FreeCodes.{free_among}
-use Rattle.frz_line.specs.Kept.{kept_codes}
+use Rattle.frz_line.specs.Kept.{told_codes}
 use Rattle.frz_play.proofs.Settled.{settled_cause, settled_placed, played_settled, still_ended}
 use Rattle.frz_play.proofs.Turning.{has_move, never_cut, turn_next}
 use Rattle.frz_play.proofs.Written.{stopped_by, opening_wrote, turn_wrote}
@@ -9,12 +9,12 @@ use Rattle.frz_play.proofs.session.turn.Goals as goal
 
 pub returns-in_err-due-clause-wrote : goal.returns-in_err-due-clause-wrote
 returns-in_err-due-clause-wrote g c =
-    stopped_by (kept_codes c.args.table.now c.args.side (g.S.Store.files c.args.store.now)) (g.G.NumberedGame.arena c.args.game.now) c.args.side c.args.spot c.args.reader.now c.in_err-due.field-0.0 c.from_residual.result (source_of g.I.Source c.args.input.now) (sink_of g.O.Sink c.args.out.now) c.from_residual.ensures.1
+    stopped_by (told_codes c.args.table.now c.args.side (g.S.Store.files c.args.store.now)) (g.G.NumberedGame.arena c.args.game.now) c.args.side c.args.spot c.args.reader.now c.in_err-due.field-0.0 c.from_residual.result (source_of g.I.Source c.args.input.now) (sink_of g.O.Sink c.args.out.now) c.from_residual.ensures.1
 
 pub returns-in_err-write_opening-clause-wrote : goal.returns-in_err-write_opening-clause-wrote
 returns-in_err-write_opening-clause-wrote g c =
     let game = c.args.game.now in
-    opening_wrote c.arms_are_found.ensures.one c.filled.ensures (kept_codes c.args.table.now c.args.side (g.S.Store.files c.args.store.now)) (g.G.NumberedGame.arena game) (g.G.NumberedGame.count game) (g.met.G.NumberedGame.finite game c.requires.sound) c.args.side c.args.spot c.sight.new.lists.nexts.items c.sight.new.lists.codes.items
+    opening_wrote c.arms_are_found.ensures.one c.filled.ensures (told_codes c.args.table.now c.args.side (g.S.Store.files c.args.store.now)) (g.G.NumberedGame.arena game) (g.G.NumberedGame.count game) (g.met.G.NumberedGame.finite game c.requires.sound) c.args.side c.args.spot c.sight.new.lists.nexts.items c.sight.new.lists.codes.items
     c.in_ok-due.ensures.arms c.in_ok-due.ensures.codes c.in_ok-due.due c.in_ok-due.ensures.due c.args.reader.now c.from_residual-in_err-write_opening.result (source_of g.I.Source c.args.input.now) (sink_of g.O.Sink c.args.out.now) (sink_of g.O.Sink c.write_opening.new.out) c.from_residual-in_err-write_opening.ensures.1 c.in_err-write_opening.ensures.failed
 
 pub play-requires-clause-there : goal.play-requires-clause-there
@@ -37,7 +37,7 @@ returns-clause-next g c =
 pub returns-clause-wrote : goal.returns-clause-wrote
 returns-clause-wrote g c =
     let game = c.args.game.now in
-    turn_wrote c.arms_are_found.ensures.one c.filled.ensures (kept_codes c.args.table.now c.args.side (g.S.Store.files c.args.store.now)) (g.G.NumberedGame.arena game) (g.G.NumberedGame.count game) (g.met.G.NumberedGame.finite game c.requires.sound) c.args.side c.args.spot c.sight.new.lists.nexts.items c.sight.new.lists.codes.items
+    turn_wrote c.arms_are_found.ensures.one c.filled.ensures (told_codes c.args.table.now c.args.side (g.S.Store.files c.args.store.now)) (g.G.NumberedGame.arena game) (g.G.NumberedGame.count game) (g.met.G.NumberedGame.finite game c.requires.sound) c.args.side c.args.spot c.sight.new.lists.nexts.items c.sight.new.lists.codes.items
     c.in_ok-due.ensures.arms c.in_ok-due.ensures.codes c.in_ok-due.due c.in_ok-due.ensures.due c.args.reader.now c.play.new.reader c.play.result (source_of g.I.Source c.args.input.now) (source_of g.I.Source c.play.new.input) (sink_of g.O.Sink c.args.out.now) (sink_of g.O.Sink c.write_opening.new.out) (sink_of g.O.Sink c.play.new.out) c.in_ok-write_opening.ensures.ok c.play.ensures.played
 
 pub returns-clause-still_ended : goal.returns-clause-still_ended
