@@ -1,5 +1,5 @@
 -- What is found of a table over a back table, under the two names.
-use Rattle.std.proofs.Common.{◌≡◌, refl, sym, ap, subst, ◌∙◌, ℕ, ◌+◌, ◌*◌, ◌≤◌, true, List, length, take, drop, Option, None, Some, Result, Ok, Err, IfOk, IfErr, arith}
+use Rattle.std.proofs.Common.{◌≡◌, refl, sym, ap, subst, ◌∙◌, ℕ, ◌+◌, ◌*◌, ◌≤◌, true, List, length, Option, None, Some, Result, Ok, Err, IfOk, IfErr, arith}
 use Rattle.frz_sets.specs.Sets.{size_of}
 use Rattle.frz_store.specs.Files.{Files}
 use Rattle.frz_store.specs.Told.{StoreTold}
@@ -10,8 +10,8 @@ use Rattle.frz_table.specs.declared.kind.FileKind.TheVariants.{Chained}
 use Rattle.frz_table.specs.Layout.{pieces_of}
 use Rattle.frz_table.specs.Opening.{Contents, Refuses, contents_of, kept_text, opened, opening_calls, table_format}
 use Rattle.frz_table.specs.Possible.{MayHold, MayOpen, MayRefuse}
-use Rattle.frz_table.specs.Tables.{Table, IsTableFile, table_size}
-use Rattle.frz_table.proofs.Lemmas.{belongs, opened_calls, opens_by, read_short}
+use Rattle.frz_table.specs.Tables.{Table, table_size}
+use Rattle.frz_table.proofs.Lemmas.{belongs, opened_calls, opens_by, read_short, text_kept}
 use Rattle.frz_check.specs.Kept.{ChecksTable, IsVerdictOn, WithinFile}
 use Rattle.frz_chain.specs.Backs.{IsRefusedBack, OpensBack, RefusesBack}
 use Rattle.frz_chain.specs.Books.{Back, chain_value}
@@ -57,10 +57,6 @@ not_opened table back old new steps fault h =
         calls = (let a = h.calls in omega (arith, a));
       };
     }
-
--- the text in a file of a table is its text
-text_kept : (magic text : List ℕ) (size : ℕ) (bytes : List ℕ) → IsTableFile magic text size bytes → kept_text bytes ≡ text
-text_kept magic text size bytes file = ap (λ (n : ℕ). take n (drop 12 bytes)) file.counted ∙ file.has_text
 
 -- what was spent is within the costs of both files, of which the second half is for a back table that is exact
 within_both : (bytes : List ℕ) (contents : Contents) (back_held : Option (List ℕ)) (old mid then new : StoreTold) (steps_before steps_then steps_now : ℕ)

@@ -1,5 +1,5 @@
 -- From an open table to the file under its name.
-use Rattle.std.proofs.Common.{◌≡◌, sym, ap, subst, ◌∙◌, ℕ, ◌+◌, ◌*◌, ◌≤◌, List, length, take, drop, Option, Some, Result, Ok, Err, IfOk, IfErr, arith}
+use Rattle.std.proofs.Common.{◌≡◌, sym, ap, subst, ◌∙◌, ℕ, ◌+◌, ◌*◌, ◌≤◌, List, length, Option, Some, Result, Ok, Err, IfOk, IfErr, arith}
 use Rattle.std.specs.Prelude.{slice_index}
 use Rattle.frz_board.specs.Boards.{Board}
 use Rattle.frz_board.specs.declared.man.Colour.{Colour}
@@ -20,8 +20,8 @@ use Rattle.frz_table.specs.Faults.{IsOutside}
 use Rattle.frz_table.specs.Layout.{pieces_of}
 use Rattle.frz_table.specs.Opening.{Contents, contents_of, kept_text, opened, opening_calls, table_format}
 use Rattle.frz_table.specs.Possible.{MayHold, MayKeep, MayOpen}
-use Rattle.frz_table.specs.Tables.{Table, IsTableFile, table_size}
-use Rattle.frz_table.proofs.Lemmas.{belongs, opened_calls, opens_by, outside_refuses, read_short}
+use Rattle.frz_table.specs.Tables.{Table, table_size}
+use Rattle.frz_table.proofs.Lemmas.{belongs, opened_calls, opens_by, outside_refuses, read_short, text_kept}
 use Rattle.frz_game.specs.Bounds.{IsTableOf}
 use Rattle.frz_game.specs.Games.{graph_by}
 use Rattle.frz_check.specs.declared.verdict.Verdict.{Verdict}
@@ -71,10 +71,6 @@ table_checked files table value white black rules white_slice black_slice v exac
     same : (side : Colour) → of_side side white_slice black_slice ≡ kept_codes (contents_of table) kept.bytes side
     same White = white_is ∙ sym kept.white_is
     same Black = black_is ∙ sym kept.black_is
-
--- the text in a file of a table is its text
-text_kept : (magic text : List ℕ) (size : ℕ) (bytes : List ℕ) → IsTableFile magic text size bytes → kept_text bytes ≡ text
-text_kept magic text size bytes file = ap (λ (n : ℕ). take n (drop 12 bytes)) file.counted ∙ file.has_text
 
 -- what opening and loading ask for is within what the file asks for
 pub within_file : (bytes : List ℕ) (contents : Contents) (old mid new : StoreTold) (steps_before steps_now : ℕ) →

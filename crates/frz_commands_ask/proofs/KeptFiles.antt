@@ -1,5 +1,5 @@
 -- Which files give the codes that were read, or refuse as they were refused.
-use Rattle.std.proofs.Common.{◌≡◌, refl, sym, ap, subst, ◌∙◌, ℕ, zero, suc, ◌+◌, ◌<◌, ◌≤◌, ◌^◌, List, [], length, take, drop, replicate, get_or, Bool, true, false, Option, Some, None, Result, Ok, Err, if◌then◌else◌, arith, lit<}
+use Rattle.std.proofs.Common.{◌≡◌, refl, sym, ap, subst, ◌∙◌, ℕ, zero, suc, ◌+◌, ◌<◌, ◌≤◌, ◌^◌, List, [], length, replicate, get_or, Bool, true, false, Option, Some, None, Result, Ok, Err, if◌then◌else◌, arith, lit<}
 use Rattle.std.specs.Prelude.{IfSome, slice_index}
 use Rattle.std.specs.List.{slice_get}
 use Rattle.std.specs.Option.{unwrap_or}
@@ -20,9 +20,9 @@ use Rattle.frz_table.specs.declared.fault.TableFault.TheVariants.{Missing, Magic
 use Rattle.frz_table.specs.declared.kind.FileKind.{FileKind}
 use Rattle.frz_table.specs.Layout.{magic_of, file_of, codes_at}
 use Rattle.frz_table.specs.Opening.{Contents, contents_of, opened, Refuses, table_format}
-use Rattle.frz_table.specs.Possible.{MayHold, MayOpen, MayRefuse, held_text}
+use Rattle.frz_table.specs.Possible.{MayOpen, MayRefuse, held_text}
 use Rattle.frz_table.specs.Tables.{Table, table_size}
-use Rattle.frz_table.proofs.Lemmas.{belongs, magic_long, opened_calls, opens_by, written_belongs, written_is_loaded}
+use Rattle.frz_table.proofs.Lemmas.{belongs, magic_long, opened_calls, opens_by, same_held, text_kept, written_belongs, written_is_loaded}
 use Rattle.frz_prelude.specs.Stops.{Answers, stop_of_table}
 use Rattle.frz_prelude.specs.declared.refused.Refused.{Refused as Refusal}
 use Rattle.frz_prelude.specs.declared.refused.Refused.TheVariants as refusals
@@ -33,17 +33,11 @@ use Rattle.frz_commands_ask.specs.declared.kept.KeptCodes.{KeptCodes}
 use Rattle.frz_commands_ask.specs.Kept.{code_reads, keeping_bytes, keeping_calls, kept_at, kept_by, kept_of, AreKept, IsKeptIn, IsKept}
 use Rattle.frz_commands_ask.proofs.Soundness.{read_sound}
 
--- the name holds this, where the store tells
-same_held : (told : Option Files) (name : List ℕ) (held : Option (List ℕ)) → MayHold told name held → IfSome told (λ m. m name ≡ held)
-same_held None name held may = tt
-same_held (Some m) name held may = may
-
 -- the text of a file that opens is the one that it keeps
 pub opened_text : (kind : FileKind) (bytes : List ℕ) (contents : Contents) → opened (table_format kind) (Some bytes) ≡ Ok contents
     → held_text (Some bytes) ≡ contents.text
 opened_text kind bytes contents opens =
-    let file = (belongs (table_format kind) bytes contents opens).file in
-    ap (λ (n : ℕ). take n (drop 12 bytes)) file.counted ∙ file.has_text
+    text_kept _ _ _ bytes (belongs (table_format kind) bytes contents opens).file
 
 -- no more was asked of the store, in no more calls, than what the name holds takes
 record WithinKept (kind : FileKind) (p : Board) (held : Option (List ℕ)) (old new : StoreTold) : Type 0 where

@@ -1,6 +1,6 @@
 -- How `report` ends, and that it has one answer.
 use Rattle.std.proofs.Common.{◌≡◌, inl, inr, refl, sym, ap, subst, ◌∙◌, ℕ, ◌+◌, ◌*◌, ◌≤◌, List, [], ◌∷◌, ◌++◌, drop, length, Option, Some, None, Result, Ok, Err, append-nil, arith}
-use Rattle.std.specs.Prelude.{IfSome}
+use Rattle.std.specs.Prelude.{}
 use Rattle.std.specs.Option.{option_map, unwrap_or}
 use Rattle.std.specs.Io.KnownBytes.{append_known}
 use Rattle.frz_exits.specs.Books.{value_by}
@@ -15,7 +15,7 @@ use Rattle.frz_table.specs.Layout.{pieces_of}
 use Rattle.frz_table.specs.Opening.{Contents, contents_of, opened, table_format}
 use Rattle.frz_table.specs.Possible.{MayHold, MayOpen, MayRefuse}
 use Rattle.frz_table.specs.Tables.{Table, IsFileOf, table_size}
-use Rattle.frz_table.proofs.Lemmas.{belongs, opens_by, read_short}
+use Rattle.frz_table.proofs.Lemmas.{belongs, opens_by, read_short, same_held}
 use Rattle.frz_store.proofs.Lemmas.{later_store}
 use Rattle.frz_rules.specs.Text.{rules_of}
 use Rattle.frz_check.specs.Kept.{kept_codes, WithinFile}
@@ -58,10 +58,6 @@ quiet_so old new input out before now quiet later = record {
   left = refl;
   taken = refl;
 }
-
-same_held : (told : Option Files) (name : List ℕ) (held : Option (List ℕ)) → MayHold told name held → IfSome told (λ m. m name ≡ held)
-same_held None name held may = tt
-same_held (Some m) name held may = may
 
 -- a file that the name may hold, and what was spent on it
 pub record FileSeen (name : List ℕ) (old new : StoreTold) (before now : ℕ) (contents : Contents) (bytes : List ℕ) : Type 0 where

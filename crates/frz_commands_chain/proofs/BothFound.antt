@@ -5,6 +5,7 @@ use Rattle.frz_store.specs.Told.{StoreTold, SourceTold, SinkTold}
 use Rattle.frz_table.specs.declared.kind.FileKind.TheVariants.{Plain}
 use Rattle.frz_table.specs.Opening.{opened, table_format}
 use Rattle.frz_table.specs.Possible.{MayHold}
+use Rattle.frz_table.proofs.Lemmas.{same_held}
 use Rattle.frz_chain.specs.Backs.{HasWrong, IsRefusedBack, OpensBack, RefusesBack}
 use Rattle.frz_chain.specs.Chains.{bytes_of_back, calls_of_back, steps_of_back}
 use Rattle.frz_chain.specs.FileOn.{loaded_back}
@@ -22,7 +23,7 @@ use Rattle.frz_commands_chain.specs.Backs.{reads_of}
 use Rattle.frz_commands_chain.specs.Reading.{AreBothRead, GivesBoth, HasRules, IsRefusedBoth, StopsReading, if_accepted}
 use Rattle.frz_commands_chain.specs.Stops.{stop_of_chain}
 use Rattle.frz_commands_chain.specs.declared.reading.BothRead.{BothRead}
-use Rattle.frz_commands_chain.proofs.BothHeld.{HoldBoth, agreed_at, hold_both, same_held}
+use Rattle.frz_commands_chain.proofs.BothHeld.{HoldBoth, agreed_at, hold_both}
 
 -- the rules file was not read
 rules_due : (held back_held : Option (List ℕ)) (stop : Stop) → GivesText held (Err stop) → GivesBoth held back_held (Err stop)

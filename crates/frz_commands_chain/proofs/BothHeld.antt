@@ -6,7 +6,6 @@ use Rattle.std.specs.Prelude.{IfSome, IsSome}
 use Rattle.std.specs.Str.{bytes_eq}
 use Rattle.frz_store.specs.Files.{Files, no_files, put}
 use Rattle.frz_store.proofs.Lemmas.{put-off, put-same}
-use Rattle.frz_table.specs.Possible.{MayHold}
 use Rattle.frz_answer.specs.Jobs.{Never, Once, Again, Sees}
 use Rattle.frz_answer.specs.World.{World}
 use Rattle.frz_commands_chain.specs.Backs.{reads_of}
@@ -44,12 +43,7 @@ other_way name other e =
     false_from_ne_true (bytes_eq other name)
     (λ t. (let same : bytes_eq name other ≡ true = (bytes_eq-Decides name other).1 (sym ((bytes_eq-Decides other name).0 t)) in cc))
 
--- what a name may hold it holds, where the store tells
-pub same_held : (told : Option Files) (name : List ℕ) (held : Option (List ℕ)) → MayHold told name held → IfSome told (λ m. m name ≡ held)
-same_held None name held may = tt
-same_held (Some m) name held may = may
-
--- and what it holds in files that agree with what is told
+-- what the name holds in files that agree with what is told
 pub agreed_at : (told : Option Files) (m : Files) (name : List ℕ) → IfSome told (λ t. t ≡ m) → IfSome told (λ t. t name ≡ m name)
 agreed_at None m name e = tt
 agreed_at (Some t) m name e = ap (λ (f : Files). f name) e

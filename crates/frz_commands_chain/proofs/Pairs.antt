@@ -2,6 +2,7 @@
 use Rattle.std.proofs.Common.{◌≡◌, refl, sym, subst, ℕ, List, [], ◌∷◌, Option, Some}
 use Rattle.frz_store.specs.Files.{Files}
 use Rattle.frz_table.specs.Possible.{MayHold}
+use Rattle.frz_table.proofs.Lemmas.{same_held}
 use Rattle.frz_sets.specs.Sets.{size_of}
 use Rattle.frz_check.specs.declared.verdict.Verdict.{Verdict}
 use Rattle.frz_check.specs.declared.verdict.Verdict.TheVariants as verdict
@@ -24,7 +25,7 @@ use Rattle.frz_commands_chain.specs.Backs.{reads_of}
 use Rattle.frz_commands_chain.specs.Checking.{IsRefusedPair, refused, judged, chain_status, chain_verdict_line, pair_costs}
 use Rattle.frz_commands_chain.specs.CheckMeans.{checking_pair}
 use Rattle.frz_commands_chain.specs.Stops.{stop_of_chain}
-use Rattle.frz_commands_chain.proofs.BothHeld.{HoldBoth, hold_both, reads_some, same_held}
+use Rattle.frz_commands_chain.proofs.BothHeld.{HoldBoth, hold_both, reads_some}
 use Rattle.frz_commands_chain.proofs.PairOnce.{some_pair}
 
 -- the statuses of `chaincheck`

@@ -1,6 +1,6 @@
 -- How `check` ends, and that it has one answer.
-use Rattle.std.proofs.Common.{◌≡◌, refl, sym, ap, subst, ◌∙◌, ℕ, zero, suc, ◌+◌, ◌*◌, ◌≤◌, List, [], ◌∷◌, drop, length, Option, Some, None, Result, Ok, Err, arith}
-use Rattle.std.specs.Prelude.{IfSome}
+use Rattle.std.proofs.Common.{◌≡◌, refl, sym, ap, subst, ◌∙◌, ℕ, zero, suc, ◌+◌, ◌*◌, ◌≤◌, List, [], ◌∷◌, drop, length, Option, Some, Result, Ok, Err, arith}
+use Rattle.std.specs.Prelude.{}
 use Rattle.std.specs.Option.{unwrap_or}
 use Rattle.frz_board.specs.declared.man.Colour.{Colour}
 use Rattle.frz_board.specs.declared.man.Colour.TheVariants.{White, Black}
@@ -14,6 +14,7 @@ use Rattle.frz_table.specs.declared.kind.FileKind.TheVariants.{Plain}
 use Rattle.frz_table.specs.Numbers.{numbers}
 use Rattle.frz_table.specs.Opening.{Contents, opened, table_format}
 use Rattle.frz_table.specs.Possible.{MayHold}
+use Rattle.frz_table.proofs.Lemmas.{same_held}
 use Rattle.frz_check.specs.declared.verdict.Verdict.{Verdict}
 use Rattle.frz_check.specs.declared.verdict.Verdict.TheVariants as verdict
 use Rattle.frz_check.specs.Kept.{kept_codes, WithinFile, RefusesFile}
@@ -105,10 +106,6 @@ check_lawful words = taking_lawful checking_at (one_word_of words) checking_lawf
 within_costs : (held : Option (List ℕ)) (old new : World) → WithinFile held old.store new.store old.steps new.steps
     → WithinCosts (checking_costs held) (spent old) (spent new)
 within_costs held old new h = record { steps = h.steps; calls = h.calls; asked = h.asked }
-
-pub same_held : (told : Option Files) (name : List ℕ) (held : Option (List ℕ)) → MayHold told name held → IfSome told (λ m. m name ≡ held)
-same_held None name held may = tt
-same_held (Some m) name held may = may
 
 module _ (table : List ℕ) (files : Files) (input : List ℕ) (old new : World) (agrees : Agrees old files input) where
   -- an answer of what the name may hold, in some files

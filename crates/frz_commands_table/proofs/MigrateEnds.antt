@@ -14,6 +14,7 @@ use Rattle.frz_table.specs.Layout.{file_of, magic_of, pieces_of}
 use Rattle.frz_table.specs.OldFiles.{old_contents_of, old_format}
 use Rattle.frz_table.specs.Opening.{Contents, opened, opening_calls}
 use Rattle.frz_table.specs.Possible.{MayHold}
+use Rattle.frz_table.proofs.Lemmas.{same_held}
 use Rattle.frz_build.specs.Building.{writing_calls}
 use Rattle.frz_index.specs.OldNumbers.{old_size_of}
 use Rattle.frz_answer.specs.declared.status.Status.TheVariants.{Success, Table, Missing as Absent}
@@ -32,7 +33,7 @@ use Rattle.frz_commands_table.specs.declared.moving.Moved.{Moved}
 use Rattle.frz_commands_table.specs.Rewriting.{MovesFile, RefusesFormer, WithinFormer, former_size}
 use Rattle.frz_commands_table.specs.Migrating.{migrated_line, IsMigratedAt, IsMigratedBy, moving_calls, migrating_costs, writing_new}
 use Rattle.frz_commands_table.specs.MigrateMeans.{migrating_at}
-use Rattle.frz_commands_table.proofs.Checked.{from_table, same_held}
+use Rattle.frz_commands_table.proofs.Checked.{from_table}
 use Rattle.frz_commands_table.proofs.MigratedOnce.{some_migrated_at}
 
 -- the same bytes were written

@@ -7,6 +7,7 @@ pub mod Headers
 pub mod Reading
 pub mod Belonging
 pub mod Files
+pub mod HeldFiles
 pub mod OpeningCalls
 pub mod Made
 pub mod SomeFiles
