@@ -2,8 +2,9 @@
 ghost use Rattle.std.specs.Prelude.{◌≡◌, ◌<◌};
 
 use crate::{ReportFault, Totals, report};
+use frz_handmade::{plain_file, rook, store_with};
 use frz_steps::Steps;
-use frz_store::{Fail as Failing, FailOn, MemSink, MemStore};
+use frz_store::{Fail as Failing, FailOn, MemSink};
 use frz_table::open_table;
 use std::alloc::Global;
 use std::marker::Brand;
@@ -11,14 +12,7 @@ use std::process::Abort;
 use std::sync::ledger::{Blank, Ledger};
 use std::test::Fail;
 
-/// A king and a rook against a king in the corner: 8 numbers, of which 2 and 3 are broken.
-const ROOK: &str = "freezer 1
-group white 1 K:b6
-group white 1 R:h1,h8
-group black 1 K:a8,b8
-";
-
-/// The same where White may move nothing.
+/// The rook's ending where White may move nothing.
 const FORBIDDEN: &str = "freezer 1
 group white 1 K:b6
 group white 1 R:h1,h8
@@ -71,8 +65,8 @@ const SQUEEZED: Row = Row {
 const ROWS: &[Row] = &[
     SQUEEZED,
     Row {
-        rules: ROOK,
-        codes: &[4, 4, 0, 0, 6, 5, 2, 2, 5, 5, 0, 0, 7, 7, 3, 3],
+        rules: rook::TEXT,
+        codes: &rook::CODES,
         wanted: Totals {
             squeezes: 0,
             unassigned: 38,
@@ -148,24 +142,6 @@ const ROWS: &[Row] = &[
     },
 ];
 
-fn push_number(to: &mut Vec<u8>, number: u32) -> Result<(), Fail> {
-    to.extend_from_slice(&number.to_le_bytes())?;
-    Ok(())
-}
-
-/// The file of a rules text with these codes, White's and then Black's.
-fn file_of(alloc: Global, rules: &str, codes: &[u32]) -> Result<Vec<u8>, Fail> {
-    let mut file = Vec::new(alloc);
-    file.extend_from_slice(b"FREEZER2")?;
-    push_number(&mut file, u32::try_from(rules.len()).or(Err("long"))?)?;
-    file.extend_from_slice(rules.as_bytes())?;
-    push_number(&mut file, u32::try_from(codes.len() / 2).or(Err("long"))?)?;
-    for code in codes {
-        push_number(&mut file, *code)?;
-    }
-    Ok(file)
-}
-
 /// What the report of a row answers over a store that fails so, and its text in a sink of so much
 /// room.
 fn report_of<L: Ledger>(
@@ -175,9 +151,8 @@ fn report_of<L: Ledger>(
     room: usize,
     steps: &mut Steps<L>,
 ) -> Result<(Result<Totals, ReportFault>, Vec<u8>), Fail> {
-    let file = file_of(alloc, row.rules, row.codes)?;
-    let mut store = MemStore::new(alloc, fails);
-    store.put("A.t", &file).or(Err("put"))?;
+    let file = plain_file(alloc, row.rules.as_bytes(), row.codes)?;
+    let mut store = store_with(alloc, fails, &[("A.t", &file)])?;
     let table = open_table(alloc, &mut store, "A.t")?;
     let mut out = MemSink::new(alloc, room, Vec::new(alloc)).or(Err("sink"))?;
     let end = report(alloc, &table, &mut store, &mut out, steps);
@@ -203,13 +178,12 @@ fn check_fault<L: Ledger, R: Abort>(
     nth: u64,
     steps: &mut Steps<L>,
 ) -> Result<(), Fail> {
-    let mut fails = Vec::new(alloc);
-    fails.push(Failing {
+    let read = Failing {
         on: FailOn::Read,
         nth,
         keep: 0,
-    })?;
-    let (end, text) = report_of(alloc, &SQUEEZED, fails, 1000, steps)?;
+    };
+    let (end, text) = report_of(alloc, &SQUEEZED, vec![in alloc; read]?, 1000, steps)?;
     assert_eq!(rt; end, Err(ReportFault::Store));
     assert!(rt; text.is_empty());
     Ok(())
