@@ -35,7 +35,9 @@ pub struct Game<'a, B: ExitBook> {
 impl<B: ExitBook> Copy for Game<'_, B> {}
 
 impl<B: ExitBook> Clone for Game<'_, B> {
-    ghost is_clone = { λ game other. (other.set.now ≡ game.set.now) × (other.rules.now ≡ game.rules.now) × (other.book.now ≡ game.book.now) };
+    ghost is_clone = { λ game other. (other.set.now ≡ game.set.now)
+        × (other.rules.now ≡ game.rules.now)
+        × (other.book.now ≡ game.book.now) };
 
     ghost is_infallible = { λ _. ⊤ };
 
@@ -63,7 +65,8 @@ fn position(set: &Set, i: u32) -> Option<Bitboards>
 fn node(p: &Position, moves: &MoveList) -> Node
     requires valid { IsValid p.now }
     requires moves { moves.now.items ≡ legal_moves_of p.now }
-    ensures { result ≡ node_by true (legal_moves_of p.now) (is_in_check p.now p.now.turn) p.now.turn }
+    ensures { result
+        ≡ node_by true (legal_moves_of p.now) (is_in_check p.now p.now.turn) p.now.turn }
 {
     match ending(p, moves) {
         Ending::Mate => Node::Mate(p.turn()),
@@ -79,7 +82,8 @@ impl<B: ExitBook> Game<'_, B> {
         requires legal { is_legal p.now m ≡ true }
         ensures { let groups = self.now.rules.now.groups in
             let q = board_after p.now m in
-            result ≡ named_next (name_in (numbers_by groups)) (next_by (is_member groups q) q (B.value_at self.now.book.now q)) }
+            result ≡ named_next (name_in (numbers_by groups))
+            (next_by (is_member groups q) q (B.value_at self.now.book.now q)) }
     {
         let q = after(p, m);
         match number(self.set, &q) {
@@ -104,7 +108,8 @@ impl<B: ExitBook> Game<'_, B> {
     fn put_arms(&self, p: &Bitboards, moves: &MoveList, list: &mut NextList)
         requires valid { IsValid p.now }
         requires moves { moves.now.items ≡ legal_moves_of p.now }
-        ensures { list.new.items ≡ map (arm_at self.now.rules.now (B.value_at self.now.book.now) p.now) moves.now.items }
+        ensures { list.new.items
+            ≡ map (arm_at self.now.rules.now (B.value_at self.now.book.now) p.now) moves.now.items }
     {
         list.clear();
         for m in moves.as_slice() {
@@ -120,8 +125,10 @@ impl<B: ExitBook> Game<'_, B> {
         list: &mut NextList,
         steps: &mut Steps<L>,
     ) -> Node
-        ensures node { result ≡ (graph_by self.now.rules.now (B.value_at self.now.book.now)).node i }
-        ensures arms { list.new.items ≡ (graph_by self.now.rules.now (B.value_at self.now.book.now)).arms i }
+        ensures node { result
+            ≡ (graph_by self.now.rules.now (B.value_at self.now.book.now)).node i }
+        ensures arms { list.new.items
+            ≡ (graph_by self.now.rules.now (B.value_at self.now.book.now)).arms i }
         ensures step { steps.new ≤ steps.old + 1 }
         ensures later { steps.old ≤ steps.new }
         ensures broken { result ≡ Broken → steps.new ≡ steps.old }
@@ -139,11 +146,13 @@ impl<B: ExitBook> Game<'_, B> {
         }
     }
 
-    /// What the number is. The list then has one arm for each of its legal moves, in move order, and
-    /// none where the number is broken.
+    /// What the number is. The list then has one arm for each of its legal moves, in move order,
+    /// and none where the number is broken.
     pub fn nexts<L: Ledger>(&self, i: u32, list: &mut NextList, steps: &mut Steps<L>) -> Node
-        ensures node { result ≡ (graph_by self.now.rules.now (B.value_at self.now.book.now)).node i }
-        ensures arms { list.new.items ≡ (graph_by self.now.rules.now (B.value_at self.now.book.now)).arms i }
+        ensures node { result
+            ≡ (graph_by self.now.rules.now (B.value_at self.now.book.now)).node i }
+        ensures arms { list.new.items
+            ≡ (graph_by self.now.rules.now (B.value_at self.now.book.now)).arms i }
         ensures step { steps.new ≤ steps.old + 1 }
         ensures broken { result ≡ Broken → steps.new ≡ steps.old }
     {
