@@ -2,12 +2,12 @@
 ghost use Rattle.std.specs.Prelude.{◌≡◌, ◌<◌};
 
 use crate::{LineEnd, LineFault, best_line};
-use byteorder::{ByteOrder, LittleEndian};
 use frz_board::Colour;
 use frz_fen::read_fen;
+use frz_handmade::{plain_file, rook, store_with};
 use frz_sets::Value;
 use frz_steps::Steps;
-use frz_store::{Fail as Failing, FailOn, MemSink, MemStore};
+use frz_store::{Fail as Failing, FailOn, MemSink};
 use frz_table::open_table;
 use std::alloc::Global;
 use std::marker::Brand;
@@ -15,14 +15,7 @@ use std::process::Abort;
 use std::sync::ledger::{Blank, Ledger};
 use std::test::Fail;
 
-/// A king and a rook against a king in the corner: 8 numbers.
-const ROOK: &str = "freezer 1
-group white 1 K:b6
-group white 1 R:h1,h8
-group black 1 K:a8,b8
-";
-
-/// The same, with an exit that White wins within 7 plies.
+/// The rook's ending with an exit that White wins within 7 plies: 8 numbers.
 const ROOK_AND_EXIT: &str = "freezer 1
 group white 1 K:b6
 group white 1 R:h1,h8
@@ -37,32 +30,7 @@ group white 1 Q:c7
 group black 1 K:a8
 ";
 
-const ROOK_WHITE: [u32; 8] = [4, 4, 0, 0, 6, 5, 2, 2];
-
-const EXIT_WHITE: [u32; 8] = [4, 4, 0, 0, 6, 18, 2, 2];
-
-fn push_number(to: &mut Vec<u8>, number: u32) -> Result<(), Fail> {
-    let mut field = [0; 4];
-    LittleEndian::write_u32(&mut field, number);
-    to.extend_from_slice(&field)?;
-    Ok(())
-}
-
-/// The file of a rules text, with these codes for both sides.
-fn file_of(alloc: Global, rules: &str, codes: &[u32]) -> Result<Vec<u8>, Fail> {
-    let mut file = Vec::new(alloc);
-    file.extend_from_slice(b"FREEZER2")?;
-    push_number(&mut file, u32::try_from(rules.len()).or(Err("long"))?)?;
-    file.extend_from_slice(rules.as_bytes())?;
-    push_number(&mut file, u32::try_from(codes.len()).or(Err("long"))?)?;
-    for code in codes {
-        push_number(&mut file, *code)?;
-    }
-    for code in codes {
-        push_number(&mut file, *code)?;
-    }
-    Ok(file)
-}
+const EXIT_CODES: [u32; 16] = [4, 4, 0, 0, 6, 18, 2, 2, 5, 5, 0, 0, 7, 7, 3, 3];
 
 /// A rules text, the codes of its file, and a position; what White's line answers there, and its
 /// text.
@@ -76,9 +44,9 @@ struct Row {
 }
 
 const MATE: Row = Row {
-    rules: ROOK,
-    codes: &ROOK_WHITE,
-    fen: "k7/8/1K6/8/8/8/8/7R b - - 0 1",
+    rules: rook::TEXT,
+    codes: &rook::CODES,
+    fen: rook::CORNER,
     wanted: Ok(LineEnd::Mate),
     text: b"white wins within 2\na8b8\nh1h8\nmate\n",
 };
@@ -86,29 +54,29 @@ const MATE: Row = Row {
 const ROWS: &[Row] = &[
     MATE,
     Row {
-        rules: ROOK,
-        codes: &ROOK_WHITE,
-        fen: "1k6/8/1K6/8/8/8/8/7R b - - 0 1",
+        rules: rook::TEXT,
+        codes: &rook::CODES,
+        fen: rook::NEXT_TO_IT,
         wanted: Err(LineFault::NoBound),
         text: b"",
     },
     Row {
-        rules: ROOK,
-        codes: &ROOK_WHITE,
-        fen: "2k5/8/1K6/8/8/8/8/7R b - - 0 1",
+        rules: rook::TEXT,
+        codes: &rook::CODES,
+        fen: rook::OUTSIDE,
         wanted: Err(LineFault::Outside),
         text: b"",
     },
     Row {
         rules: ROOK_AND_EXIT,
-        codes: &EXIT_WHITE,
-        fen: "1k6/8/1K6/8/8/8/8/7R b - - 0 1",
+        codes: &EXIT_CODES,
+        fen: rook::NEXT_TO_IT,
         wanted: Ok(LineEnd::Exit(Value::WhiteWinsIn(7))),
         text: b"white wins within 8\nb8c8\nexit white wins 7\n",
     },
     Row {
         rules: QUEEN,
-        codes: &[4, 1],
+        codes: &[4, 1, 5, 1],
         fen: "k7/2Q5/1K6/8/8/8/8/8 b - - 0 1",
         wanted: Ok(LineEnd::Stalemate),
         text: b"white holds\nstalemate\n",
@@ -122,11 +90,10 @@ fn line_of<L: Ledger>(
     fails: Vec<Failing>,
     steps: &mut Steps<L>,
 ) -> Result<(Result<LineEnd, LineFault>, Vec<u8>), Fail> {
-    let file = file_of(alloc, row.rules, row.codes)?;
-    let mut store = MemStore::new(alloc, fails);
-    store.put("A.t", &file).or(Err("put"))?;
+    let file = plain_file(alloc, row.rules.as_bytes(), row.codes)?;
+    let mut store = store_with(alloc, fails, &[("A.t", &file)])?;
     let table = open_table(alloc, &mut store, "A.t")?;
-    let p = read_fen(row.fen.as_bytes()).or(Err("fen"))?;
+    let p = read_fen(row.fen.as_bytes())?;
     let mut out = MemSink::new(alloc, 1000, Vec::new(alloc)).or(Err("sink"))?;
     let end = best_line(&table, &mut store, &p, Colour::White, &mut out, steps);
     Ok((end, out.taken().to_vec(alloc)?))
@@ -151,13 +118,12 @@ fn check_fault<L: Ledger, R: Abort>(
     nth: u64,
     steps: &mut Steps<L>,
 ) -> Result<(), Fail> {
-    let mut fails = Vec::new(alloc);
-    fails.push(Failing {
+    let read = Failing {
         on: FailOn::Read,
         nth,
         keep: 0,
-    })?;
-    let (end, text) = line_of(alloc, &MATE, fails, steps)?;
+    };
+    let (end, text) = line_of(alloc, &MATE, vec![in alloc; read]?, steps)?;
     assert_eq!(rt; end, Err(LineFault::Store));
     assert!(rt; MATE.text.starts_with(text.as_slice()));
     Ok(())

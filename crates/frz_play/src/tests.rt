@@ -2,27 +2,20 @@
 ghost use Rattle.std.specs.Prelude.{◌≡◌, ◌<◌};
 
 use crate::{MOST_LENGTH, MOST_LINES, PlayFault, PlayLimit, SessionEnd, play_session};
-use byteorder::{ByteOrder, LittleEndian};
 use frz_board::Colour;
 use frz_fen::read_fen;
 use frz_game::Wrong;
+use frz_handmade::{plain_file, rook, store_with};
 use frz_line::LineFault;
 use frz_sets::Value;
 use frz_steps::Steps;
-use frz_store::{Fail as Failing, FailOn, MemSink, MemSource, MemStore};
+use frz_store::{Fail as Failing, FailOn, MemSink, MemSource};
 use frz_table::open_table;
 use std::alloc::Global;
 use std::marker::Brand;
 use std::process::Abort;
 use std::sync::ledger::{Blank, Ledger};
 use std::test::Fail;
-
-/// A king and a rook against a king in the corner: 8 numbers.
-const ROOK: &str = "freezer 1
-group white 1 K:b6
-group white 1 R:h1,h8
-group black 1 K:a8,b8
-";
 
 /// Two kings far apart, and all is drawn outside: 8 numbers.
 const KINGS: &str = "freezer 1
@@ -31,38 +24,10 @@ group black 1 K:g8,h8
 exit draw if always
 ";
 
-const ROOK_WHITE: [u32; 8] = [4, 4, 0, 0, 6, 5, 2, 2];
-
-const KINGS_WHITE: [u32; 8] = [1; 8];
-
-/// Black is to move in the corner.
-const CORNER: &str = "k7/8/1K6/8/8/8/8/7R b - - 0 1";
+const KINGS_CODES: [u32; 16] = [1; 16];
 
 /// White is to move, and only kings are left.
 const APART: &str = "7k/8/8/8/8/8/8/K7 w - - 0 1";
-
-fn push_number(to: &mut Vec<u8>, number: u32) -> Result<(), Fail> {
-    let mut field = [0; 4];
-    LittleEndian::write_u32(&mut field, number);
-    to.extend_from_slice(&field)?;
-    Ok(())
-}
-
-/// The file of a rules text, with these codes for both sides.
-fn file_of(alloc: Global, rules: &str, codes: &[u32]) -> Result<Vec<u8>, Fail> {
-    let mut file = Vec::new(alloc);
-    file.extend_from_slice(b"FREEZER2")?;
-    push_number(&mut file, u32::try_from(rules.len()).or(Err("long"))?)?;
-    file.extend_from_slice(rules.as_bytes())?;
-    push_number(&mut file, u32::try_from(codes.len()).or(Err("long"))?)?;
-    for code in codes {
-        push_number(&mut file, *code)?;
-    }
-    for code in codes {
-        push_number(&mut file, *code)?;
-    }
-    Ok(file)
-}
 
 /// A rules text, the codes of its file, a position and an input; what White's session answers there,
 /// its text, and what it leaves of the input.
@@ -79,9 +44,9 @@ struct Row {
 
 /// A session to mate. What stands behind its last line is left.
 const MATE: Row = Row {
-    rules: ROOK,
-    codes: &ROOK_WHITE,
-    fen: CORNER,
+    rules: rook::TEXT,
+    codes: &rook::CODES,
+    fen: rook::CORNER,
     input: b"a8b8\nb8a8\n",
     wanted: Ok(SessionEnd::Mate),
     text: b"white wins within 2\nreply a8b8\nmove h1h8\nmate\n",
@@ -91,7 +56,7 @@ const MATE: Row = Row {
 /// A session of the two kings, to an exit.
 const DRAW: Row = Row {
     rules: KINGS,
-    codes: &KINGS_WHITE,
+    codes: &KINGS_CODES,
     fen: APART,
     input: b"h8h7\n",
     wanted: Ok(SessionEnd::Exit(Value::Draw)),
@@ -141,14 +106,14 @@ const ROWS: &[Row] = &[
         ..DRAW
     },
     Row {
-        fen: "1k6/8/1K6/8/8/8/8/7R b - - 0 1",
+        fen: rook::NEXT_TO_IT,
         wanted: Err(PlayFault::Line(LineFault::NoBound)),
         text: b"",
         left: b"a8b8\nb8a8\n",
         ..MATE
     },
     Row {
-        fen: "2k5/8/1K6/8/8/8/8/7R b - - 0 1",
+        fen: rook::OUTSIDE,
         wanted: Err(PlayFault::Line(LineFault::Outside)),
         text: b"",
         left: b"a8b8\nb8a8\n",
@@ -156,7 +121,7 @@ const ROWS: &[Row] = &[
     },
     // A wrong entry at the start, one on the way, and one that is never met.
     Row {
-        codes: &[4, 4, 0, 0, 8, 5, 2, 2],
+        codes: &[4, 4, 0, 0, 8, 5, 2, 2, 5, 5, 0, 0, 7, 7, 3, 3],
         wanted: Err(PlayFault::Line(LineFault::Wrong(Wrong {
             side: Colour::White,
             number: 4,
@@ -168,7 +133,7 @@ const ROWS: &[Row] = &[
         ..MATE
     },
     Row {
-        codes: &[4, 6, 0, 0, 8, 5, 2, 2],
+        codes: &[4, 6, 0, 0, 8, 5, 2, 2, 5, 5, 0, 0, 7, 7, 3, 3],
         wanted: Err(PlayFault::Line(LineFault::Wrong(Wrong {
             side: Colour::White,
             number: 1,
@@ -179,7 +144,7 @@ const ROWS: &[Row] = &[
         ..MATE
     },
     Row {
-        codes: &[100, 4, 0, 0, 6, 5, 2, 2],
+        codes: &[100, 4, 0, 0, 6, 5, 2, 2, 5, 5, 0, 0, 7, 7, 3, 3],
         ..MATE
     },
 ];
@@ -201,13 +166,12 @@ fn play_row<L: Ledger>(
     input_fails: Vec<Failing>,
     steps: &mut Steps<L>,
 ) -> Result<Played, Fail> {
-    let file = file_of(alloc, row.rules, row.codes)?;
-    let mut store = MemStore::new(alloc, store_fails);
-    store.put("A.t", &file).or(Err("put"))?;
+    let file = plain_file(alloc, row.rules.as_bytes(), row.codes)?;
+    let mut store = store_with(alloc, store_fails, &[("A.t", &file)])?;
     let table = open_table(alloc, &mut store, "A.t")?;
     let mut source = MemSource::new(input.to_vec(alloc)?, input_fails);
     let mut out = MemSink::new(alloc, 100_000, Vec::new(alloc)).or(Err("sink"))?;
-    let p = read_fen(row.fen.as_bytes()).or(Err("fen"))?;
+    let p = read_fen(row.fen.as_bytes())?;
     let answer = play_session(
         &table,
         &mut store,
@@ -240,9 +204,7 @@ fn check_row<L: Ledger, R: Abort>(
 
 /// The nth call of this name fails.
 fn failing(alloc: Global, on: FailOn, nth: u64) -> Result<Vec<Failing>, Fail> {
-    let mut fails = Vec::new(alloc);
-    fails.push(Failing { on, nth, keep: 0 })?;
-    Ok(fails)
+    Ok(vec![in alloc; Failing { on, nth, keep: 0 }]?)
 }
 
 /// Where this read of the store fails, the lines before it stand.
