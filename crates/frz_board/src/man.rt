@@ -27,7 +27,7 @@ pub struct Man {
     pub kind: Kind,
 }
 
-ghost use Rattle.frz_board.specs.Men.{other_of, cell_of_man, man_of_cell, number_of_kind, kind_of_number, letter_of_kind, kind_of_letter, letter_of_man, man_of_letter};
+ghost use Rattle.frz_board.specs.Men.{other_of, same_colour, cell_of_man, man_of_cell, number_of_kind, kind_of_number, letter_of_kind, kind_of_letter, letter_of_man, man_of_letter};
 
 impl Colour {
     /// The opponent.
@@ -39,6 +39,13 @@ impl Colour {
             Colour::White => Colour::Black,
             Colour::Black => Colour::White,
         }
+    }
+
+    /// Whether both are one side.
+    pub fn is_same(self, other: Colour) -> bool
+        ensures { result ≡ same_colour self other }
+    {
+        self == other
     }
 }
 

@@ -1,6 +1,5 @@
 //! One turn of a line: what is due at a number is written.
 ghost use Rattle.std.specs.Prelude.{◌≡◌, ℕ, List, length};
-ghost use Rattle.frz_board.specs.Men.{same_colour};
 ghost use Rattle.frz_store.specs.Told.{SinkTold, sink_of};
 ghost use Rattle.frz_answer.specs.Texts.{WroteText};
 ghost use Rattle.frz_line.specs.Turns.{first_line, moved_text, over_text, turn_of, Answers, IsPlayed, HasMove};
@@ -69,12 +68,6 @@ fn answered(turn: Turn, written: Result<(), Failed>) -> Result<Turn, LineFault>
     }
 }
 
-fn is_same(mover: Colour, side: Colour) -> bool
-    ensures { result ≡ same_colour mover side }
-{
-    mover == side
-}
-
 fn turn_to(next: Next, code: u32) -> Turn
     ensures { result ≡ turn_of next code }
 {
@@ -97,7 +90,7 @@ fn play_move<O: Sink>(
     ensures { IsPlayed side spot (Due.Ply mover) lists.now.nexts.items lists.now.codes.items
         result (sink_of O.Sink out.old) (sink_of O.Sink out.new) }
 {
-    let place = place_for(is_same(mover, side), spot.code, &lists.nexts, &lists.codes);
+    let place = place_for(mover.is_same(side), spot.code, &lists.nexts, &lists.codes);
     let arm = lists.nexts[place];
     answered(
         turn_to(arm.next, lists.codes[place]),

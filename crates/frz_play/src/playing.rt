@@ -1,6 +1,5 @@
 //! One turn of a session: what is due at a number is done.
 ghost use Rattle.std.specs.Prelude.{◌≡◌, ◌<◌, ℕ, List, length, true};
-ghost use Rattle.frz_board.specs.Men.{same_colour};
 ghost use Rattle.frz_store.specs.Told.{SinkTold, source_of, sink_of};
 ghost use Rattle.frz_answer.specs.Texts.{WroteText};
 ghost use Rattle.frz_arena.specs.Chosen.{IsFound};
@@ -64,12 +63,6 @@ fn answered(turn: Turn, written: Result<(), Failed>) -> Result<Turn, PlayFault>
         Ok(()) => Ok(turn),
         Err(failed) => Err(failed.into()),
     }
-}
-
-fn is_same(mover: Colour, side: Colour) -> bool
-    ensures { result ≡ same_colour mover side }
-{
-    mover == side
 }
 
 fn turn_to(next: Next, code: u32) -> Turn
@@ -173,7 +166,7 @@ pub fn play<I: Source, O: Sink>(
         ),
         Due::Cut => unreachable!(),
         Due::Ply(mover) => {
-            if is_same(mover, side) {
+            if mover.is_same(side) {
                 return play_own(spot, lists, out);
             }
             play_reply(lists, reader, input, out)

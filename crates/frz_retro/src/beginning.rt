@@ -4,7 +4,7 @@ ghost use Rattle.std.specs.Prelude.{◌≡◌, ◌≢◌, ℕ, ◌+◌, ◌<◌,
 ghost use Rattle.frz_retro.specs.Tallies.{HasBegun};
 
 use crate::graph::Graph;
-use crate::kinds::{is_same, mate_code};
+use crate::kinds::mate_code;
 use crate::start::{later_of, start_of};
 use crate::tally::Tally;
 use frz_arena::Node;
@@ -37,7 +37,7 @@ pub fn begin<G: Graph<L>, L: Ledger>(
         Node::Stalemate(_) => (),
         Node::Mate(c) => tally.settle(i, mate_code(c, side)),
         Node::Going(c) => {
-            let start = start_of(is_same(c, side), side, lists.nexts.as_slice());
+            let start = start_of(c.is_same(side), side, lists.nexts.as_slice());
             if start.any {
                 tally.set_open(i, start.count, later_of(start));
             } else {

@@ -4,7 +4,7 @@ ghost use Rattle.std.specs.Prelude.{◌≡◌, ℕ, ◌+◌, ◌<◌, ◌≤◌,
 ghost use Rattle.frz_retro.specs.Tallies.{Grows, IsInPass, LooksAt};
 
 use crate::graph::Graph;
-use crate::kinds::{is_kind, is_same};
+use crate::kinds::is_kind;
 use crate::tally::Tally;
 use frz_board::Colour;
 use std::sync::ledger::Ledger;
@@ -34,7 +34,7 @@ pub fn settle_if_due<G: Graph<L>, L: Ledger>(
     if code >= 2 * k + 4 {
         return;
     }
-    let own = is_same(graph.mover(i), side);
+    let own = graph.mover(i).is_same(side);
     if is_kind(own, code) {
         tally.settle(i, code);
         return;

@@ -7,13 +7,6 @@ ghost use Rattle.frz_retro.specs.Kinds.{is_of};
 use frz_arena::{is_failure, is_win};
 use frz_board::Colour;
 
-/// Whether it is the side's turn.
-pub fn is_same(mover: Colour, side: Colour) -> bool
-    ensures { result ≡ same_colour mover side }
-{
-    mover == side
-}
-
 /// Whether a code is a win, or for `false` a failure.
 #[tactic(auto, unfolding(crate::specs::Kinds::is_of))]
 pub fn is_kind(won: bool, code: u32) -> bool
@@ -30,5 +23,5 @@ pub fn is_kind(won: bool, code: u32) -> bool
 pub fn mate_code(mated: Colour, side: Colour) -> u32
     ensures { result ≡ (if same_colour mated side then 3 else 2) }
 {
-    if is_same(mated, side) { 3 } else { 2 }
+    if mated.is_same(side) { 3 } else { 2 }
 }

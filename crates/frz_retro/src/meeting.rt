@@ -7,7 +7,7 @@ ghost use Rattle.frz_retro.specs.Tallies.{AreComing, Grows, InPass, IsMeeting};
 ghost use Rattle.frz_retro.specs.Work.{Meets};
 
 use crate::graph::Graph;
-use crate::kinds::{is_kind, is_same};
+use crate::kinds::is_kind;
 use crate::tally::Tally;
 use frz_board::Colour;
 use frz_unmove::Pred;
@@ -46,7 +46,7 @@ pub fn meet<G: Graph<L>, L: Ledger>(graph: &G, side: Colour, q: u32, pred: &Pred
     if tally.code(i) != 1 {
         return;
     }
-    let own = is_same(graph.mover(i), side);
+    let own = graph.mover(i).is_same(side);
     let counted = is_counted(graph, own, pred);
     if !counted {
         return;

@@ -10,16 +10,10 @@ use crate::states::{has_end_pawn, has_king, has_other_than_king, share};
 use frz_board::Colour;
 use frz_sets::{Group, MOST_GROUPS, MOST_MEN};
 
-pub fn is_same_colour(a: Colour, b: Colour) -> bool
-    ensures { result ≡ same_colour a b }
-{
-    a == b
-}
-
 fn is_king_group(g: &Group, c: Colour) -> bool
     ensures { result ≡ (same_colour g.now.colour c && list_any is_king g.now.states) }
 {
-    is_same_colour(g.colour, c) && has_king(&g.states)
+    g.colour.is_same(c) && has_king(&g.states)
 }
 
 /// Has the colour a group with kings?
@@ -46,7 +40,7 @@ fn has_bad_king(earlier: &[Group], g: &Group) -> bool
 fn group_shares(e: &Group, g: &Group) -> bool
     ensures { result ≡ (same_colour e.now.colour g.now.colour && shares e.now.states g.now.states) }
 {
-    is_same_colour(e.colour, g.colour) && share(&e.states, &g.states)
+    e.colour.is_same(g.colour) && share(&e.states, &g.states)
 }
 
 fn has_overlap(earlier: &[Group], g: &Group) -> bool
@@ -64,7 +58,7 @@ fn men(groups: &[Group], c: Colour) -> u32
 {
     let mut total = 0;
     for g in groups {
-        if is_same_colour(g.colour, c) {
+        if g.colour.is_same(c) {
             total += g.most as u32;
         }
     }
