@@ -15,7 +15,7 @@ mod words;
 
 pub use end::End;
 pub use fault::Fault;
-pub use printing::{write_line, write_number, write_numbered, write_piece};
+pub use printing::{write_line, write_number, write_numbered, write_numbered_line, write_piece};
 pub use refusing::refuse;
 pub use saying::{finish, said, say};
 pub use status::Status;

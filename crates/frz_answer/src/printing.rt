@@ -37,3 +37,12 @@ pub fn write_numbered<O: Sink>(word: &[u8], number: u64, out: &mut O) -> Result<
     write_piece(word, out)?;
     write_number(number, out)
 }
+
+/// Writes a word, a number behind it, and the end of the line.
+pub fn write_numbered_line<O: Sink>(word: &[u8], number: u64, out: &mut O) -> Result<(), Failed>
+    ensures { WroteText (word.now ++ decimal number ++ codes "\n") result
+        (sink_of O.Sink out.old) (sink_of O.Sink out.new) }
+{
+    write_numbered(word, number, out)?;
+    write_piece(b"\n", out)
+}

@@ -12,7 +12,7 @@ ghost use Rattle.frz_chain.specs.FileOn.{loaded_back};
 ghost use Rattle.frz_commands_chain.specs.Chaining.{chained_line, chaining_by, chaining_at, chain_words, is_named_twice};
 
 use crate::reading::{BothRead, read_both};
-use frz_answer::{End, Refusal, Status, refuse, said, three_words, write_numbered, write_piece};
+use frz_answer::{End, Refusal, Status, refuse, said, three_words, write_numbered_line};
 use frz_chain::{ReadRules, build_over};
 use frz_steps::Steps;
 use frz_store::{Failed, Sink, Store};
@@ -24,8 +24,7 @@ fn write_chained<O: Sink>(size: u32, out: &mut O) -> Result<(), Failed>
     ensures { WroteText (chained_line size) result
         (sink_of O.Sink out.old) (sink_of O.Sink out.new) }
 {
-    write_numbered(b"chained ", size as u64, out)?;
-    write_piece(b"\n", out)
+    write_numbered_line(b"chained ", size as u64, out)
 }
 
 /// Builds the table of rules that were read over the back table.

@@ -12,9 +12,7 @@ ghost use Rattle.frz_answer.specs.Texts.{WroteText};
 ghost use Rattle.frz_commands_table.specs.Building.{built_line, building_by};
 ghost use Rattle.frz_commands_table.specs.BuildMeaning.{building_at, build_words};
 
-use frz_answer::{
-    End, Fault, Refusal, Status, refuse, said, two_words, write_numbered, write_piece,
-};
+use frz_answer::{End, Fault, Refusal, Status, refuse, said, two_words, write_numbered_line};
 use frz_build::{NewTable, build_table};
 use frz_exits::RuleBook;
 use frz_game::Game;
@@ -31,8 +29,7 @@ fn write_built<O: Sink>(size: u32, out: &mut O) -> Result<(), Failed>
     ensures { WroteText (built_line size) result
         (sink_of O.Sink out.old) (sink_of O.Sink out.new) }
 {
-    write_numbered(b"built ", size as u64, out)?;
-    write_piece(b"\n", out)
+    write_numbered_line(b"built ", size as u64, out)
 }
 
 /// Builds the table of rules that were read.

@@ -9,7 +9,7 @@ ghost use Rattle.frz_commands_table.specs.Checking.{exact_line, verdict_status, 
 ghost use Rattle.frz_commands_table.specs.CheckMeans.{checking_at, check_words};
 
 use crate::judging::{Judged, judge_file};
-use frz_answer::{End, Refusal, Status, one_word, refuse, said, write_numbered, write_piece};
+use frz_answer::{End, Refusal, Status, one_word, refuse, said, write_numbered_line};
 use frz_check::Verdict;
 use frz_prelude::{Stop, write_wrong};
 use frz_steps::Steps;
@@ -21,8 +21,7 @@ use std::sync::ledger::Ledger;
 fn write_exact<O: Sink>(size: u32, out: &mut O) -> Result<(), Failed>
     ensures { WroteText (exact_line size) result (sink_of O.Sink out.old) (sink_of O.Sink out.new) }
 {
-    write_numbered(b"exact ", size as u64, out)?;
-    write_piece(b"\n", out)
+    write_numbered_line(b"exact ", size as u64, out)
 }
 
 /// Tells the verdict on a table.

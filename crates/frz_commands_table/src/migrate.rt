@@ -17,7 +17,7 @@ ghost use Rattle.frz_commands_table.specs.Migrating.{migrated_line, writing_new}
 ghost use Rattle.frz_commands_table.specs.MigrateMeans.{migrating_at, migrate_words};
 
 use crate::moving::{Moved, move_file};
-use frz_answer::{End, Refusal, Status, refuse, said, two_words, write_numbered, write_piece};
+use frz_answer::{End, Refusal, Status, refuse, said, two_words, write_numbered_line};
 use frz_build::{NewTable, append_codes, begin_table};
 use frz_prelude::Stop;
 use frz_store::{Failed, Sink, Store, StoreFault};
@@ -29,8 +29,7 @@ fn write_migrated<O: Sink>(size: u32, out: &mut O) -> Result<(), Failed>
     ensures { WroteText (migrated_line size) result
         (sink_of O.Sink out.old) (sink_of O.Sink out.new) }
 {
-    write_numbered(b"migrated ", size as u64, out)?;
-    write_piece(b"\n", out)
+    write_numbered_line(b"migrated ", size as u64, out)
 }
 
 /// Creates the file and writes it: the header, White's codes, then Black's.

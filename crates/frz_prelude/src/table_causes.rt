@@ -6,7 +6,7 @@ ghost use Rattle.frz_table.specs.declared.fault.TableFault.TheVariants.{Rules};
 ghost use Rattle.frz_prelude.specs.TableCauses.{due_text, file_line};
 
 use crate::causes::write_rules_fault;
-use frz_answer::{Fault, write_numbered, write_piece};
+use frz_answer::{Fault, write_numbered, write_numbered_line, write_piece};
 use frz_rules::RulesFault;
 use frz_store::{Failed, Sink};
 use frz_table::TableFault;
@@ -14,8 +14,7 @@ use frz_table::TableFault;
 fn write_due<O: Sink>(due: u64, out: &mut O) -> Result<(), Failed>
     ensures { WroteText (due_text due) result (sink_of O.Sink out.old) (sink_of O.Sink out.new) }
 {
-    write_numbered(b" due ", due, out)?;
-    write_piece(b"\n", out)
+    write_numbered_line(b" due ", due, out)
 }
 
 /// Writes that the file of this word is not there.

@@ -1,6 +1,6 @@
 use Rattle.std.proofs.Common.{refl}
-use Rattle.frz_answer.proofs.Lemmas.{failed_before, gave_up, wrote_behind}
-use Rattle.frz_prelude.proofs.table_causes.write_due.Goals as goal
+use Rattle.frz_answer.proofs.Pieces.{failed_before, gave_up, wrote_behind}
+use Rattle.frz_answer.proofs.printing.write_numbered_line.Goals as goal
 
 pub returns-in_err-write_numbered : goal.returns-in_err-write_numbered
 returns-in_err-write_numbered g c =
