@@ -18,6 +18,3 @@ pub use checking::{ChainVerdict, check_chain};
 pub use fault::ChainFault;
 pub use opening::open_back;
 pub use pair::pair_value;
-
-#[cfg(test)]
-mod tests;

@@ -10,6 +10,3 @@ mod verdict;
 pub use entries::check_entries;
 pub use tables::{check_kept, check_table};
 pub use verdict::Verdict;
-
-#[cfg(test)]
-mod tests;

@@ -21,6 +21,3 @@ pub use end::{LineEnd, LineFault, MOST_PLIES};
 pub use reading::read_codes;
 pub use seeing::sight;
 pub use texts::write_arm;
-
-#[cfg(test)]
-mod tests;

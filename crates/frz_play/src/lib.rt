@@ -13,6 +13,3 @@ mod texts;
 
 pub use end::{MOST_LENGTH, MOST_LINES, PlayFault, PlayLimit, SessionEnd};
 pub use opening::play_session;
-
-#[cfg(test)]
-mod tests;

@@ -12,6 +12,3 @@ mod walk;
 
 pub use fault::{ReportFault, Totals};
 pub use reporting::report;
-
-#[cfg(test)]
-mod tests;

@@ -1,13 +1,14 @@
 //! Lines over table files made by hand.
 ghost use Rattle.std.specs.Prelude.{◌≡◌, ◌<◌};
 
-use crate::{LineEnd, LineFault, best_line};
+use crate::stores::table_store;
 use frz_board::Colour;
 use frz_fen::read_fen;
-use frz_handmade::{plain_file, rook, store_with};
+use frz_handmade::rook;
+use frz_line::{LineEnd, LineFault, best_line};
 use frz_sets::Value;
 use frz_steps::Steps;
-use frz_store::{Fail as Failing, FailOn, MemSink};
+use frz_store::{Fail as Failing, FailOn, MemSink, MemStore};
 use frz_table::open_table;
 use std::alloc::Global;
 use std::marker::Brand;
@@ -83,6 +84,19 @@ const ROWS: &[Row] = &[
     },
 ];
 
+/// What White's line from the position answers.
+fn end_of<L: Ledger>(
+    alloc: Global,
+    fen: &str,
+    store: &mut MemStore,
+    out: &mut MemSink,
+    steps: &mut Steps<L>,
+) -> Result<Result<LineEnd, LineFault>, Fail> {
+    let p = read_fen(fen.as_bytes())?;
+    let table = open_table(alloc, store, "A.t")?;
+    Ok(best_line(&table, store, &p, Colour::White, out, steps))
+}
+
 /// What the line of a row answers over a store that fails so, and its text.
 fn line_of<L: Ledger>(
     alloc: Global,
@@ -90,12 +104,9 @@ fn line_of<L: Ledger>(
     fails: Vec<Failing>,
     steps: &mut Steps<L>,
 ) -> Result<(Result<LineEnd, LineFault>, Vec<u8>), Fail> {
-    let file = plain_file(alloc, row.rules.as_bytes(), row.codes)?;
-    let mut store = store_with(alloc, fails, &[("A.t", &file)])?;
-    let table = open_table(alloc, &mut store, "A.t")?;
-    let p = read_fen(row.fen.as_bytes())?;
+    let mut store = table_store(alloc, row.rules, row.codes, fails)?;
     let mut out = MemSink::new(alloc, 1000, Vec::new(alloc)).or(Err("sink"))?;
-    let end = best_line(&table, &mut store, &p, Colour::White, &mut out, steps);
+    let end = end_of(alloc, row.fen, &mut store, &mut out, steps)?;
     Ok((end, out.taken().to_vec(alloc)?))
 }
 

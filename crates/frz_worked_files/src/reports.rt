@@ -1,10 +1,11 @@
 //! Reports of table files made by hand.
 ghost use Rattle.std.specs.Prelude.{◌≡◌, ◌<◌};
 
-use crate::{ReportFault, Totals, report};
-use frz_handmade::{plain_file, rook, store_with};
+use crate::stores::table_store;
+use frz_handmade::rook;
+use frz_report::{ReportFault, Totals, report};
 use frz_steps::Steps;
-use frz_store::{Fail as Failing, FailOn, MemSink};
+use frz_store::{Fail as Failing, FailOn, MemSink, MemStore};
 use frz_table::open_table;
 use std::alloc::Global;
 use std::marker::Brand;
@@ -142,6 +143,17 @@ const ROWS: &[Row] = &[
     },
 ];
 
+/// What the report of the table `A.t` answers.
+fn end_of<L: Ledger>(
+    alloc: Global,
+    store: &mut MemStore,
+    out: &mut MemSink,
+    steps: &mut Steps<L>,
+) -> Result<Result<Totals, ReportFault>, Fail> {
+    let table = open_table(alloc, store, "A.t")?;
+    Ok(report(alloc, &table, store, out, steps))
+}
+
 /// What the report of a row answers over a store that fails so, and its text in a sink of so much
 /// room.
 fn report_of<L: Ledger>(
@@ -151,11 +163,9 @@ fn report_of<L: Ledger>(
     room: usize,
     steps: &mut Steps<L>,
 ) -> Result<(Result<Totals, ReportFault>, Vec<u8>), Fail> {
-    let file = plain_file(alloc, row.rules.as_bytes(), row.codes)?;
-    let mut store = store_with(alloc, fails, &[("A.t", &file)])?;
-    let table = open_table(alloc, &mut store, "A.t")?;
+    let mut store = table_store(alloc, row.rules, row.codes, fails)?;
     let mut out = MemSink::new(alloc, room, Vec::new(alloc)).or(Err("sink"))?;
-    let end = report(alloc, &table, &mut store, &mut out, steps);
+    let end = end_of(alloc, &mut store, &mut out, steps)?;
     Ok((end, out.taken().to_vec(alloc)?))
 }
 

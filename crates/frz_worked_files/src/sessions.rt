@@ -1,15 +1,16 @@
 //! Sessions over table files made by hand.
 ghost use Rattle.std.specs.Prelude.{◌≡◌, ◌<◌};
 
-use crate::{MOST_LENGTH, MOST_LINES, PlayFault, PlayLimit, SessionEnd, play_session};
+use crate::stores::table_store;
 use frz_board::Colour;
 use frz_fen::read_fen;
 use frz_game::Wrong;
-use frz_handmade::{plain_file, rook, store_with};
+use frz_handmade::rook;
 use frz_line::LineFault;
+use frz_play::{MOST_LENGTH, MOST_LINES, PlayFault, PlayLimit, SessionEnd, play_session};
 use frz_sets::Value;
 use frz_steps::Steps;
-use frz_store::{Fail as Failing, FailOn, MemSink, MemSource};
+use frz_store::{Fail as Failing, FailOn, MemSink, MemSource, MemStore};
 use frz_table::open_table;
 use std::alloc::Global;
 use std::marker::Brand;
@@ -157,6 +158,20 @@ struct Played {
     left: Vec<u8>,
 }
 
+/// What White's session from the position answers.
+fn answer_of<L: Ledger>(
+    alloc: Global,
+    fen: &str,
+    store: &mut MemStore,
+    source: &mut MemSource,
+    out: &mut MemSink,
+    steps: &mut Steps<L>,
+) -> Result<Result<SessionEnd, PlayFault>, Fail> {
+    let p = read_fen(fen.as_bytes())?;
+    let table = open_table(alloc, store, "A.t")?;
+    Ok(play_session(&table, store, &p, Colour::White, source, out, steps))
+}
+
 /// Plays a row against this input, over a store and an input that fail so.
 fn play_row<L: Ledger>(
     alloc: Global,
@@ -166,21 +181,10 @@ fn play_row<L: Ledger>(
     input_fails: Vec<Failing>,
     steps: &mut Steps<L>,
 ) -> Result<Played, Fail> {
-    let file = plain_file(alloc, row.rules.as_bytes(), row.codes)?;
-    let mut store = store_with(alloc, store_fails, &[("A.t", &file)])?;
-    let table = open_table(alloc, &mut store, "A.t")?;
+    let mut store = table_store(alloc, row.rules, row.codes, store_fails)?;
     let mut source = MemSource::new(input.to_vec(alloc)?, input_fails);
     let mut out = MemSink::new(alloc, 100_000, Vec::new(alloc)).or(Err("sink"))?;
-    let p = read_fen(row.fen.as_bytes())?;
-    let answer = play_session(
-        &table,
-        &mut store,
-        &p,
-        Colour::White,
-        &mut source,
-        &mut out,
-        steps,
-    );
+    let answer = answer_of(alloc, row.fen, &mut store, &mut source, &mut out, steps)?;
     Ok(Played {
         answer,
         text: out.taken().to_vec(alloc)?,
