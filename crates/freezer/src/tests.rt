@@ -12,7 +12,7 @@ mod steps;
 mod tables;
 
 use crate::run_once;
-use frz_handmade::store_with;
+use frz_handmade::{plain_file, rook, store_with};
 use frz_store::{Fail, FailOn, MemSink, MemSource, MemStore, Store};
 use std::alloc::Global;
 use std::process::Abort;
@@ -304,6 +304,37 @@ fn sink(alloc: Global, room: usize) -> Result<MemSink, TestFail> {
     Ok(MemSink::new(alloc, room, no_fails(alloc)).or(Err("sink"))?)
 }
 
+/// A store whose calls fail so and that holds these files.
+fn holding(alloc: Global, fails: Vec<Fail>, files: &[(&str, &[u8])]) -> Result<MemStore, TestFail> {
+    store_with(alloc, fails, files)
+}
+
+/// The table of the rook, made by hand.
+fn rook_file(alloc: Global) -> Result<Vec<u8>, TestFail> {
+    plain_file(alloc, RULES, &rook::CODES)
+}
+
+/// The words of a call.
+fn words_of(alloc: Global, line: &[&str]) -> Result<Vec<String>, TestFail> {
+    let mut words = Vec::new(alloc);
+    for word in line {
+        words.push(String::from_str(alloc, word)?)?;
+    }
+    Ok(words)
+}
+
+/// Calls the program over a store, an input and a sink.
+fn call_with_input(
+    alloc: Global,
+    line: &[&str],
+    store: &mut impl Store,
+    input: &mut MemSource,
+    out: &mut MemSink,
+) -> Result<u8, TestFail> {
+    let words = words_of(alloc, line)?;
+    Ok(run_once(alloc, &words, store, input, out))
+}
+
 /// Calls the program over a store, a sink and an empty input.
 fn call(
     alloc: Global,
@@ -311,12 +342,28 @@ fn call(
     store: &mut impl Store,
     out: &mut MemSink,
 ) -> Result<u8, TestFail> {
-    let mut words = Vec::new(alloc);
-    for word in line {
-        words.push(String::from_str(alloc, word)?)?;
-    }
     let mut input = MemSource::new(Vec::new(alloc), no_fails(alloc));
-    Ok(run_once(alloc, &words, store, &mut input, out))
+    call_with_input(alloc, line, store, &mut input, out)
+}
+
+/// A call ended with this status and this text.
+fn expect_ended(rt: &impl Abort, ended: (u8, &[u8]), status: u8, text: &str) {
+    assert_eq!(rt; ended, (status, text.as_bytes()));
+}
+
+/// Calls the program over the store and the sink, which is to end so with this text in the sink.
+fn expect_taken(
+    rt: &impl Abort,
+    alloc: Global,
+    line: &[&str],
+    store: &mut impl Store,
+    out: &mut MemSink,
+    status: u8,
+    text: &str,
+) -> Result<(), TestFail> {
+    let answer = call(alloc, line, store, out)?;
+    expect_ended(rt, (answer, out.taken()), status, text);
+    Ok(())
 }
 
 /// Calls the program over the store, which is to end so with this text.
@@ -329,15 +376,44 @@ fn expect_call(
     text: &str,
 ) -> Result<(), TestFail> {
     let mut out = sink(alloc, 200)?;
-    let answer = call(alloc, line, store, &mut out)?;
-    assert_eq!(rt; out.taken(), text.as_bytes());
-    assert_eq!(rt; answer, status);
+    expect_taken(rt, alloc, line, store, &mut out, status, text)
+}
+
+/// The store holds a file of this length under the name, or none.
+fn expect_length(rt: &impl Abort, store: &MemStore, name: &str, length: Option<usize>) {
+    assert_eq!(rt; store.file(name).map(|file| file.len()), length);
+}
+
+/// The store holds these bytes under the name.
+fn expect_file(
+    rt: &impl Abort,
+    store: &MemStore,
+    name: &str,
+    bytes: &[u8],
+) -> Result<(), TestFail> {
+    assert_eq!(rt; store.file(name).ok_or("no file")?, bytes);
+    Ok(())
+}
+
+/// Calls the program over the store, which is to end so and to ask for so many bytes.
+fn expect_asking(
+    rt: &impl Abort,
+    alloc: Global,
+    store: &mut MemStore,
+    line: &[&str],
+    status: u8,
+    text: &str,
+    asked: usize,
+) -> Result<(), TestFail> {
+    let before = store.asked();
+    expect_call(rt, alloc, store, line, status, text)?;
+    assert_eq!(rt; store.asked(), before.saturating_add(asked as u64));
     Ok(())
 }
 
 fn expect(rt: &impl Abort, alloc: Global, row: &Row<'_>) -> Result<(), TestFail> {
     let Row(rules, line, status, text) = row;
-    let mut store = store_with(alloc, no_fails(alloc), &[("A", rules)])?;
+    let mut store = holding(alloc, no_fails(alloc), &[("A", rules)])?;
     expect_call(rt, alloc, &mut store, line, *status, text)
 }
 
@@ -371,16 +447,15 @@ fn names_a_fault_of_the_store(rt: HostRuntime) -> Result<(), TestFail> {
     expect_call(&rt, alloc, &mut store, &line, 8, "store fault\n")
 }
 
+/// A call of which the sink takes nothing or the front alone.
+const TAKEN: &[&str] = &["moves", "8/8/8/3pP3/8/8/8/K1k5 w - d6 0 1"];
+
 #[test]
 fn stops_where_the_sink_fails(rt: HostRuntime) -> Result<(), TestFail> {
     let alloc = rt.alloc();
     let mut store = MemStore::new(alloc, no_fails(alloc));
     let mut out = MemSink::new(alloc, 200, call_fails(alloc, 1)?).or(Err("sink"))?;
-    let moves = ["moves", "8/8/8/3pP3/8/8/8/K1k5 w - d6 0 1"];
-    let status = call(alloc, &moves, &mut store, &mut out)?;
-    assert_eq!(rt; status, 9);
-    assert_eq!(rt; out.taken(), b"".as_slice());
-    Ok(())
+    expect_taken(&rt, alloc, TAKEN, &mut store, &mut out, 9, "")
 }
 
 #[test]
@@ -388,20 +463,15 @@ fn a_full_sink_cuts_the_line(rt: HostRuntime) -> Result<(), TestFail> {
     let alloc = rt.alloc();
     let mut store = MemStore::new(alloc, no_fails(alloc));
     let mut out = sink(alloc, 7)?;
-    let moves = ["moves", "8/8/8/3pP3/8/8/8/K1k5 w - d6 0 1"];
-    let status = call(alloc, &moves, &mut store, &mut out)?;
-    assert_eq!(rt; status, 9);
-    assert_eq!(rt; out.taken(), b"a1a2 e5".as_slice());
-    Ok(())
+    expect_taken(&rt, alloc, TAKEN, &mut store, &mut out, 9, "a1a2 e5")
 }
 
 #[test]
 fn a_file_that_is_too_long_is_not_read(rt: HostRuntime) -> Result<(), TestFail> {
     let alloc = rt.alloc();
     let rules = vec![in alloc; 32; 65_537]?;
-    let mut store = store_with(alloc, no_fails(alloc), &[("A", &rules)])?;
+    let mut store = holding(alloc, no_fails(alloc), &[("A", &rules)])?;
     let solve = ["solve", "A", MATE_IN_ONE];
-    expect_call(&rt, alloc, &mut store, &solve, 3, "rules 0: too long\n")?;
-    assert_eq!(rt; store.asked(), 0);
-    Ok(())
+    let text = "rules 0: too long\n";
+    expect_asking(&rt, alloc, &mut store, &solve, 3, text, 0)
 }

@@ -1,6 +1,9 @@
 //! Tables that the program builds, beside files made by hand.
-use super::{COUNTED, RULES, Row, call, expect_all, expect_call, no_fails, sink};
-use frz_handmade::{rook, store_with, table_file};
+use super::{
+    COUNTED, RULES, Row, expect_all, expect_asking, expect_call, expect_file, expect_length,
+    expect_taken, holding, no_fails, sink,
+};
+use frz_handmade::{rook, table_file};
 use frz_store::{Fail, FailOn};
 use std::alloc::Global;
 use std::process::Abort;
@@ -17,6 +20,10 @@ group white 1 R:h1
 group black 1 K:c8
 exit white wins if always
 ";
+
+const BUILD: &[&str] = &["build", "A", "T"];
+
+const CHECK: &[&str] = &["check", "T"];
 
 /// A rules text, its size, White's codes and then Black's, how many bytes the file has, and what
 /// `build` and `check` say.
@@ -50,25 +57,20 @@ const BUILT: &[Built] = &[
 fn expect_built(rt: &impl Abort, alloc: Global, built: &Built<'_>) -> Result<(), TestFail> {
     let Built(rules, size, codes, length, text, _) = built;
     let files = [("A", *rules), ("T", b"another file".as_slice())];
-    let mut store = store_with(alloc, no_fails(alloc), &files)?;
-    expect_call(rt, alloc, &mut store, &["build", "A", "T"], 0, text)?;
+    let mut store = holding(alloc, no_fails(alloc), &files)?;
+    expect_call(rt, alloc, &mut store, BUILD, 0, text)?;
     let file = table_file(alloc, b"FREEZER2", rules, *size, codes)?;
     assert_eq!(rt; file.len(), *length);
-    assert_eq!(rt; store.file("T").ok_or("no file")?, file.as_slice());
-    assert_eq!(rt; store.file("A").ok_or("no file")?, *rules);
-    Ok(())
+    expect_file(rt, &store, "T", &file)?;
+    expect_file(rt, &store, "A", rules)
 }
 
 /// Builds again, and checks what was built: both ask for as many bytes as their files have.
 fn expect_exact(rt: &impl Abort, alloc: Global, built: &Built<'_>) -> Result<(), TestFail> {
     let Built(rules, _, _, length, text, verdict) = built;
-    let mut store = store_with(alloc, no_fails(alloc), &[("A", rules)])?;
-    expect_call(rt, alloc, &mut store, &["build", "A", "T"], 0, text)?;
-    assert_eq!(rt; store.asked(), rules.len() as u64);
-    expect_call(rt, alloc, &mut store, &["check", "T"], 0, verdict)?;
-    let asked = (rules.len() as u64).saturating_add(*length as u64);
-    assert_eq!(rt; store.asked(), asked);
-    Ok(())
+    let mut store = holding(alloc, no_fails(alloc), &[("A", rules)])?;
+    expect_asking(rt, alloc, &mut store, BUILD, 0, text, rules.len())?;
+    expect_asking(rt, alloc, &mut store, CHECK, 0, verdict, *length)
 }
 
 #[test]
@@ -171,11 +173,10 @@ fn expect_cut(rt: &impl Abort, alloc: Global, cut: &Cut<'_>) -> Result<(), TestF
         nth: *nth,
         keep: *keep,
     };
-    let mut store = store_with(alloc, vec![in alloc; fail]?, &[("A", RULES)])?;
-    let line = ["build", "A", "T"];
-    expect_call(rt, alloc, &mut store, &line, 8, "store fault\n")?;
-    assert_eq!(rt; store.file("T").map(|file| file.len()), *left);
-    expect_call(rt, alloc, &mut store, &["check", "T"], *status, text)
+    let mut store = holding(alloc, vec![in alloc; fail]?, &[("A", RULES)])?;
+    expect_call(rt, alloc, &mut store, BUILD, 8, "store fault\n")?;
+    expect_length(rt, &store, "T", *left);
+    expect_call(rt, alloc, &mut store, CHECK, *status, text)
 }
 
 #[test]
@@ -189,11 +190,10 @@ fn leaves_a_part_where_the_store_fails(rt: HostRuntime) -> Result<(), TestFail> 
 #[test]
 fn builds_the_file_where_only_the_line_is_not_taken(rt: HostRuntime) -> Result<(), TestFail> {
     let alloc = rt.alloc();
-    let mut store = store_with(alloc, no_fails(alloc), &[("A", RULES)])?;
+    let mut store = holding(alloc, no_fails(alloc), &[("A", RULES)])?;
     let mut out = sink(alloc, 3)?;
-    assert_eq!(rt; call(alloc, &["build", "A", "T"], &mut store, &mut out)?, 9);
-    assert_eq!(rt; out.taken(), b"bui".as_slice());
-    assert_eq!(rt; store.file("T").map(|file| file.len()), Some(153));
+    expect_taken(&rt, alloc, BUILD, &mut store, &mut out, 9, "bui")?;
+    expect_length(&rt, &store, "T", Some(153));
     Ok(())
 }
 
@@ -220,15 +220,11 @@ const AMONG_PAWNS: &str = "8/8/6k1/p1p1p3/PpP1P1K1/1P6/8/8 w - - 0 1";
 #[test]
 fn blocked_pawns_are_built_checked_and_asked(rt: HostRuntime) -> Result<(), TestFail> {
     let alloc = rt.alloc();
-    let mut store = store_with(alloc, no_fails(alloc), &[("A", BLOCKED)])?;
-    let build = ["build", "A", "T"];
-    expect_call(&rt, alloc, &mut store, &build, 0, "built 6400\n")?;
-    expect_call(&rt, alloc, &mut store, &["check", "T"], 0, "exact 6400\n")?;
-    assert_eq!(rt; store.file("T").map(|file| file.len()), Some(51_494));
-    let before = store.asked();
+    let mut store = holding(alloc, no_fails(alloc), &[("A", BLOCKED)])?;
+    expect_call(&rt, alloc, &mut store, BUILD, 0, "built 6400\n")?;
+    expect_call(&rt, alloc, &mut store, CHECK, 0, "exact 6400\n")?;
+    expect_length(&rt, &store, "T", Some(51_494));
     let query = ["query", "T", AMONG_PAWNS];
     let hold = "white holds\nblack holds\n";
-    expect_call(&rt, alloc, &mut store, &query, 0, hold)?;
-    assert_eq!(rt; store.asked(), before.saturating_add(302));
-    Ok(())
+    expect_asking(&rt, alloc, &mut store, &query, 0, hold, 302)
 }

@@ -1,6 +1,8 @@
 //! Tables that lean on a second table, beside files made by hand.
-use super::{NEXT_TO_IT, RULES, expect_call, no_fails};
-use frz_handmade::{plain_file, rook, store_with, table_file};
+use super::{
+    NEXT_TO_IT, RULES, expect_call, expect_file, expect_length, holding, no_fails, rook_file,
+};
+use frz_handmade::{plain_file, table_file};
 use frz_store::{Fail, FailOn, MemStore};
 use std::alloc::Global;
 use std::process::Abort;
@@ -25,7 +27,7 @@ fn chained(alloc: Global) -> Result<Vec<u8>, TestFail> {
 /// A store with these failing calls, the two texts, their own tables, the rook's over the other,
 /// and a table of NEXT whose last code is wrong.
 fn filled(alloc: Global, fails: Vec<Fail>) -> Result<MemStore, TestFail> {
-    let rook = plain_file(alloc, RULES, &rook::CODES)?;
+    let rook = rook_file(alloc)?;
     let next = plain_file(alloc, NEXT, &[4, 4, 5, 5])?;
     let wrong = plain_file(alloc, NEXT, &[4, 4, 5, 7])?;
     let both = chained(alloc)?;
@@ -37,7 +39,7 @@ fn filled(alloc: Global, fails: Vec<Fail>) -> Result<MemStore, TestFail> {
         ("W.t", wrong.as_slice()),
         ("AN.t", both.as_slice()),
     ];
-    store_with(alloc, fails, &files)
+    holding(alloc, fails, &files)
 }
 
 /// The words of a call, and what the program says.
@@ -100,7 +102,7 @@ fn expect_said(rt: &impl Abort, alloc: Global, row: &Said<'_>) -> Result<(), Tes
     let Said(line, status, text) = row;
     let mut store = filled(alloc, no_fails(alloc))?;
     expect_call(rt, alloc, &mut store, line, *status, text)?;
-    assert!(rt; store.file("T").is_none());
+    expect_length(rt, &store, "T", None);
     Ok(())
 }
 
@@ -126,12 +128,11 @@ fn chains_a_table(rt: HostRuntime) -> Result<(), TestFail> {
     let mut store = filled(alloc, no_fails(alloc))?;
     let line = ["chain", "A", "N.t", "A.t"];
     expect_call(&rt, alloc, &mut store, &line, 0, "chained 8\n")?;
-    assert_eq!(rt;
-        store.file("A.t").ok_or("no file")?,
-        chained(alloc)?.as_slice()
-    );
-    Ok(())
+    let due = chained(alloc)?;
+    expect_file(&rt, &store, "A.t", &due)
 }
+
+const CHAIN: &[&str] = &["chain", "A", "N.t", "T"];
 
 /// Calls the program over a store whose call fails, and shows what is left under the name T.
 fn expect_failed(
@@ -143,28 +144,33 @@ fn expect_failed(
 ) -> Result<(), TestFail> {
     let mut store = filled(alloc, vec![in alloc; fail]?)?;
     expect_call(rt, alloc, &mut store, line, 8, "store fault\n")?;
-    assert_eq!(rt; store.file("T").map(|file| file.len()), left);
+    expect_length(rt, &store, "T", left);
     Ok(())
+}
+
+/// Calls the program over a store whose nth call fails, and shows that no table is left.
+fn expect_nothing_left(
+    rt: &impl Abort,
+    alloc: Global,
+    line: &[&str],
+    nth: u64,
+) -> Result<(), TestFail> {
+    let fail = Fail {
+        on: FailOn::Call,
+        nth,
+        keep: 0,
+    };
+    expect_failed(rt, alloc, fail, line, None)
 }
 
 #[test]
 fn each_call_of_the_store_may_fail(rt: HostRuntime) -> Result<(), TestFail> {
     let alloc = rt.alloc();
     for nth in 1..=12 {
-        let fail = Fail {
-            on: FailOn::Call,
-            nth,
-            keep: 0,
-        };
-        expect_failed(&rt, alloc, fail, &["chaincheck", "AN.t", "N.t"], None)?;
+        expect_nothing_left(&rt, alloc, &["chaincheck", "AN.t", "N.t"], nth)?;
     }
     for nth in 1..=8 {
-        let fail = Fail {
-            on: FailOn::Call,
-            nth,
-            keep: 0,
-        };
-        expect_failed(&rt, alloc, fail, &["chain", "A", "N.t", "T"], None)?;
+        expect_nothing_left(&rt, alloc, CHAIN, nth)?;
     }
     Ok(())
 }
@@ -190,7 +196,7 @@ fn leaves_a_part_where_the_store_fails(rt: HostRuntime) -> Result<(), TestFail> 
             nth: *nth,
             keep: *keep,
         };
-        expect_failed(&rt, alloc, fail, &["chain", "A", "N.t", "T"], Some(*left))?;
+        expect_failed(&rt, alloc, fail, CHAIN, Some(*left))?;
     }
     Ok(())
 }

@@ -1,6 +1,7 @@
 //! The steps of small tables. A ledger counts them where only clauses see them: the clause says how
 //! many there are at most, and the run that the size is what the clause reckons with.
 ghost use Rattle.std.specs.Prelude.{◌≡◌, ◌≤◌, ◌<◌, ◌+◌, ◌*◌, ◌^◌, OnOk, length};
+ghost use Rattle.frz_table.specs.Tables.{Carries};
 
 use super::building::BLOCKED;
 use super::{RULES, no_fails};
@@ -11,8 +12,8 @@ use frz_game::Game;
 use frz_index::Set;
 use frz_rules::read_rules;
 use frz_steps::Steps;
-use frz_store::MemStore;
-use frz_table::{FileKind, open_table};
+use frz_store::{MemStore, Store};
+use frz_table::{FileKind, TableFile, open_table};
 use std::alloc::Global;
 use std::marker::Brand;
 use std::sync::ledger::{Blank, Ledger};
@@ -49,24 +50,38 @@ fn build_text<L: Ledger>(
     }
 }
 
-/// Checks the table of this size.
-fn check_built<L: Ledger>(
+/// Checks an open table of this size.
+fn check_opened<S: Store, L: Ledger>(
     alloc: Global,
+    table: &TableFile,
     size: u32,
-    store: &mut MemStore,
+    store: &mut S,
     steps: &mut Steps<L>,
 ) -> Result<(), Fail>
+    requires { Carries (S.files store.old) table.now }
     ensures { OnOk result (steps.new ≤ steps.old + size) }
 {
-    let table = open_table(alloc, store, "T")?;
     let kept = table.set().size();
     let book = RuleBook::new(table.rules());
-    let verdict = check_kept(alloc, &table, store, &book, steps)?;
+    let verdict = check_kept(alloc, table, store, &book, steps)?;
     if kept == size && verdict == Verdict::Exact {
         Ok(())
     } else {
         Err(Fail::from("check"))
     }
+}
+
+/// Checks the table of this size.
+fn check_built<S: Store, L: Ledger>(
+    alloc: Global,
+    size: u32,
+    store: &mut S,
+    steps: &mut Steps<L>,
+) -> Result<(), Fail>
+    ensures { OnOk result (steps.new ≤ steps.old + size) }
+{
+    let table = open_table(alloc, store, "T")?;
+    check_opened(alloc, &table, size, store, steps)
 }
 
 fn build_and_check<L: Ledger>(
