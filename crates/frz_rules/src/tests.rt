@@ -67,6 +67,15 @@ fn line_refused(rt: &impl Abort, alloc: Global, line: &[u8], cause: RulesCause) 
     refused(rt, alloc, &[A, b"\r\n#\n", line], 7, cause);
 }
 
+/// Parts of a text, and the size of its set.
+struct SetSize<'a>(&'a [&'a [u8]], u64);
+
+fn all_sized(rt: &impl Abort, alloc: Global, rows: &[SetSize]) {
+    for SetSize(parts, size) in rows {
+        sized(rt, alloc, parts, *size);
+    }
+}
+
 fn sized(rt: &impl Abort, alloc: Global, parts: &[&[u8]], size: u64) {
     match read(rt, alloc, parts) {
         Ok(rules) => assert_eq!(rt; set_size(&rules), size),

@@ -4,25 +4,44 @@ use crate::fault::RulesCause;
 use std::alloc::Global;
 use std::process::Abort;
 
+/// Texts in which no line counts.
+const NO_LINES: &[&[u8]] = &[b"", b"\n\n \t\r\n", b"# freezer 1\n#\n"];
+
+const OTHER_HEADERS: &[&[u8]] = &[
+    b"freezer 2\n",
+    b"freezer 01\n",
+    b"freezer 1 1\n",
+    b"freezer\n",
+    b"Freezer 1\n",
+    b"freezer 1\rgroup white 1 K:a1\n",
+    b"\xff\x00",
+    b"group\n",
+];
+
 #[test]
 fn headers(rt: HostRuntime) {
     let alloc = rt.alloc();
-    for text in [b"".as_slice(), b"\n\n \t\r\n", b"# freezer 1\n#\n"] {
+    for text in NO_LINES {
         refused(&rt, alloc, &[text], 0, RulesCause::Header);
     }
-    for text in [
-        b"freezer 2\n".as_slice(),
-        b"freezer 01\n",
-        b"freezer 1 1\n",
-        b"freezer\n",
-        b"Freezer 1\n",
-        b"freezer 1\rgroup white 1 K:a1\n",
-        b"\xff\x00",
-        b"group\n",
-    ] {
+    for text in OTHER_HEADERS {
         refused(&rt, alloc, &[b"\n", text], 2, RulesCause::Header);
     }
 }
+
+const UNKNOWN_LINES: &[&[u8]] = &[
+    b"gruop white 1 R:h1,h8",
+    b"Group white 1 Q:a1",
+    b"groups white 1 Q:a1",
+    b"group: white 1 Q:a1",
+    b"group\x0bwhite 1 Q:a1",
+    b"freezer 1",
+    b"white",
+    b"!#",
+    b"\x00",
+    b"\xef\xbb\xbfgroup white 1 Q:a1",
+    b"gro\xffup white 1 Q:a1",
+];
 
 #[test]
 fn unknown_lines(rt: HostRuntime) {
@@ -30,83 +49,71 @@ fn unknown_lines(rt: HostRuntime) {
     let third: &[u8] =
         b"freezer 1\ngroup white 1 K:b6\ngruop white 1 R:h1,h8\ngroup black 1 K:a8,b8\n";
     refused(&rt, alloc, &[third], 3, RulesCause::UnknownLine);
-    for line in [
-        b"gruop white 1 R:h1,h8".as_slice(),
-        b"Group white 1 Q:a1",
-        b"groups white 1 Q:a1",
-        b"group: white 1 Q:a1",
-        b"group\x0bwhite 1 Q:a1",
-        b"freezer 1",
-        b"white",
-        b"!#",
-        b"\x00",
-        b"\xef\xbb\xbfgroup white 1 Q:a1",
-        b"gro\xffup white 1 Q:a1",
-    ] {
+    for line in UNKNOWN_LINES {
         line_refused(&rt, alloc, line, RulesCause::UnknownLine);
     }
 }
 
+/// A group line behind those of A, and why it is refused.
+struct BadGroup<'a>(&'a [u8], RulesCause);
+
+const BAD_GROUPS: &[BadGroup] = &[
+    BadGroup(b"group white 1 P:all", RulesCause::PawnSquare),
+    BadGroup(b"group black 1 P:d1", RulesCause::PawnSquare),
+    BadGroup(b"group white 1 N:a3 P:h8", RulesCause::PawnSquare),
+    BadGroup(b"group white 3-2 P:a1", RulesCause::PawnSquare),
+    BadGroup(b"group white 2 N:b1", RulesCause::Count),
+    BadGroup(b"group white 0 N:b1", RulesCause::Count),
+    BadGroup(b"group white 0-0 N:b1", RulesCause::Count),
+    BadGroup(b"group white 2-1 N:b1-b3", RulesCause::Count),
+    BadGroup(b"group white 1-3 N:b1,b1,b2-b2,b1-b2", RulesCause::Count),
+    BadGroup(b"group black 2 K:c1", RulesCause::Count),
+    BadGroup(b"group white 1 K:c1", RulesCause::KingGroup),
+    BadGroup(b"group black 1 Q:c1 K:c1", RulesCause::KingGroup),
+    BadGroup(b"group white 0-1 K:c1", RulesCause::KingGroup),
+    BadGroup(b"group white 1-2 K:b6,c6", RulesCause::KingGroup),
+    BadGroup(b"group white 1 R:h8", RulesCause::Overlap),
+    BadGroup(b"group white 1 Q:a1 R:g7-h8", RulesCause::Overlap),
+    BadGroup(b"group white 16 R:all", RulesCause::Overlap),
+    BadGroup(b"group white 15 N:all", RulesCause::TooManyMen),
+    BadGroup(b"group black 16 N:all", RulesCause::TooManyMen),
+];
+
 #[test]
 fn groups(rt: HostRuntime) {
     let alloc = rt.alloc();
-    for (line, cause) in [
-        (b"group white 1 P:all".as_slice(), RulesCause::PawnSquare),
-        (b"group black 1 P:d1", RulesCause::PawnSquare),
-        (b"group white 1 N:a3 P:h8", RulesCause::PawnSquare),
-        (b"group white 3-2 P:a1", RulesCause::PawnSquare),
-        (b"group white 2 N:b1", RulesCause::Count),
-        (b"group white 0 N:b1", RulesCause::Count),
-        (b"group white 0-0 N:b1", RulesCause::Count),
-        (b"group white 2-1 N:b1-b3", RulesCause::Count),
-        (b"group white 1-3 N:b1,b1,b2-b2,b1-b2", RulesCause::Count),
-        (b"group black 2 K:c1", RulesCause::Count),
-        (b"group white 1 K:c1", RulesCause::KingGroup),
-        (b"group black 1 Q:c1 K:c1", RulesCause::KingGroup),
-        (b"group white 0-1 K:c1", RulesCause::KingGroup),
-        (b"group white 1-2 K:b6,c6", RulesCause::KingGroup),
-        (b"group white 1 R:h8", RulesCause::Overlap),
-        (b"group white 1 Q:a1 R:g7-h8", RulesCause::Overlap),
-        (b"group white 16 R:all", RulesCause::Overlap),
-        (b"group white 15 N:all", RulesCause::TooManyMen),
-        (b"group black 16 N:all", RulesCause::TooManyMen),
-    ] {
-        line_refused(&rt, alloc, line, cause);
+    for BadGroup(line, cause) in BAD_GROUPS {
+        line_refused(&rt, alloc, line, *cause);
     }
     // the other side's states and men do not count: 120 = C(16, 14)
     sized(&rt, alloc, &[A, b"group black 1 R:h8\n"], 8);
     sized(&rt, alloc, &[A, b"group white 14 N:a1-d4\n"], 960);
 }
 
+/// Lines behind the header in which the second line of the text is no group of a king.
+const BAD_KINGS: &[&[u8]] = &[
+    b"group white 1 K:a1 Q:b1",
+    b"group white 1-2 K:a1,b1",
+    b"group white 0-1 K:a1,b1",
+    b"group black 2 K:a1,b1",
+];
+
+/// Lines behind the header in which a side has no king.
+const NO_KING: &[&[u8]] = &[
+    b"",
+    b"group white 1 K:a1\ngroup black 1 Q:a2\n",
+    b"group black 1 K:a1\ngroup white 1 Q:a2\n",
+];
+
 #[test]
 fn king_groups(rt: HostRuntime) {
     let alloc = rt.alloc();
-    for line in [
-        b"group white 1 K:a1 Q:b1".as_slice(),
-        b"group white 1-2 K:a1,b1",
-        b"group white 0-1 K:a1,b1",
-        b"group black 2 K:a1,b1",
-    ] {
-        refused(
-            &rt,
-            alloc,
-            &[b"freezer 1\n", line],
-            2,
-            RulesCause::KingGroup,
-        );
+    let header: &[u8] = b"freezer 1\n";
+    for line in BAD_KINGS {
+        refused(&rt, alloc, &[header, line], 2, RulesCause::KingGroup);
     }
-    for lines in [
-        b"".as_slice(),
-        b"group white 1 K:a1\ngroup black 1 Q:a2\n",
-        b"group black 1 K:a1\ngroup white 1 Q:a2\n",
-    ] {
-        refused(
-            &rt,
-            alloc,
-            &[b"freezer 1\n", lines],
-            0,
-            RulesCause::KingGroup,
-        );
+    for lines in NO_KING {
+        refused(&rt, alloc, &[header, lines], 0, RulesCause::KingGroup);
     }
 }
 
@@ -129,19 +136,18 @@ fn knights(rt: &impl Abort, alloc: Global, ranks: &[u8]) -> Vec<u8> {
     text
 }
 
+/// Two kings, and behind them 30 groups.
+fn full_groups(rt: &impl Abort, alloc: Global) -> Vec<u8> {
+    let kings: &[u8] = b"freezer 1\ngroup white 1 K:h1\ngroup black 1 K:h8\n";
+    let last: &[u8] = b"group white 1 N:a8\ngroup black 1 N:a8\n";
+    let knights = knights(rt, alloc, b"1234567");
+    joined(rt, alloc, &[kings, &knights, last])
+}
+
 #[test]
 fn thirty_third_group(rt: HostRuntime) {
     let alloc = rt.alloc();
-    let kings: &[u8] = b"freezer 1\ngroup white 1 K:h1\ngroup black 1 K:h8\n";
-    let full = joined(
-        &rt,
-        alloc,
-        &[
-            kings,
-            &knights(&rt, alloc, b"1234567"),
-            b"group white 1 N:a8\ngroup black 1 N:a8\n",
-        ],
-    );
+    let full = full_groups(&rt, alloc);
     sized(&rt, alloc, &[&full], 2);
     // one side would have 17 men
     let too_many = RulesCause::TooManyMen;
@@ -195,26 +201,37 @@ fn sets_above_the_limit(rt: HostRuntime) {
     refused(&rt, alloc, &[KINGS, pieces, five], 0, too_big);
 }
 
+/// Each piece of White's and of Black's anywhere, behind the kings: 2 * 64 ^ 10 = 2 ^ 61 numbers.
+const PIECES: &[u8] = b"group white 1 Q:all
+group white 1 R:all
+group white 1 B:all
+group white 1 N:all
+group black 1 Q:all
+group black 1 R:all
+group black 1 B:all
+group black 1 N:all
+";
+
+/// Lines behind the kings, and the size with which their set is too big.
+struct Big<'a>(&'a [&'a [u8]], u64);
+
+const BIG_SETS: &[Big] = &[
+    // 7 and 8 times as many as the pieces
+    Big(
+        &[PIECES, b"group white 1 P:a2-g2\n"],
+        16_140_901_064_495_857_664,
+    ),
+    Big(&[PIECES, b"group white 1 P:a2-h2\n"], u64::MAX),
+    Big(&[b"group white 15 Q:all\ngroup black 15 Q:all\n"], u64::MAX),
+    Big(&[b"group white 0-15 Q:all R:all B:all N:all\n"], u64::MAX),
+];
+
 #[test]
 fn sizes_beyond_64_bits(rt: HostRuntime) {
     let alloc = rt.alloc();
-    // 2 * 64 ^ 10 = 2 ^ 61 numbers, and then 7 and 8 times as many
-    let white: &[u8] =
-        b"group white 1 Q:all\ngroup white 1 R:all\ngroup white 1 B:all\ngroup white 1 N:all\n";
-    let black: &[u8] =
-        b"group black 1 Q:all\ngroup black 1 R:all\ngroup black 1 B:all\ngroup black 1 N:all\n";
-    for (pawns, size) in [
-        (b"group white 1 P:a2-g2\n", 16_140_901_064_495_857_664),
-        (b"group white 1 P:a2-h2\n", u64::MAX),
-    ] {
-        let too_big = RulesCause::SetTooBig(size);
-        refused(&rt, alloc, &[KINGS, white, black, pawns], 0, too_big);
-    }
-    for lines in [
-        b"group white 15 Q:all\ngroup black 15 Q:all\n".as_slice(),
-        b"group white 0-15 Q:all R:all B:all N:all\n",
-    ] {
-        let too_big = RulesCause::SetTooBig(u64::MAX);
-        refused(&rt, alloc, &[KINGS, lines], 0, too_big);
+    for Big(parts, size) in BIG_SETS {
+        let lines = joined(&rt, alloc, parts);
+        let too_big = RulesCause::SetTooBig(*size);
+        refused(&rt, alloc, &[KINGS, &lines], 0, too_big);
     }
 }

@@ -1,25 +1,26 @@
 //! Texts at the limits of the format are accepted.
-use super::{A, read, sized};
+use super::{A, SetSize, all_sized, read};
 use crate::fault::{RulesCause, RulesError, RulesFault};
-use frz_sets::Value;
+use frz_sets::{Exit, Value};
+use std::alloc::Global;
+use std::process::Abort;
 use std::test::Fail;
+
+const MOST: &[SetSize] = &[
+    // 64 + 56 + 64 + 64 + 48 states beside the rook's of A, and no man: 8 * 297
+    SetSize(
+        &[A, b"group white 0-1 Q:all R:a1-g8 B:all N:all P:a2-h7\n"],
+        2376,
+    ),
+    // 16 men of White
+    SetSize(&[A, b"group white 14 N:a2-g3\n"], 8),
+    // 16 men of Black
+    SetSize(&[A, b"group black 15 N:a2-h3\n"], 128),
+];
 
 #[test]
 fn most_of_each(rt: HostRuntime) {
-    let alloc = rt.alloc();
-    for (lines, size) in [
-        // 64 + 56 + 64 + 64 + 48 states beside the rook's of A, and no man: 8 * 297
-        (
-            b"group white 0-1 Q:all R:a1-g8 B:all N:all P:a2-h7\n".as_slice(),
-            2376,
-        ),
-        // 16 men of White
-        (b"group white 14 N:a2-g3\n", 8),
-        // 16 men of Black
-        (b"group black 15 N:a2-h3\n", 128),
-    ] {
-        sized(&rt, alloc, &[A, lines], size);
-    }
+    all_sized(&rt, rt.alloc(), MOST);
 }
 
 #[test]
@@ -29,6 +30,24 @@ fn eight_conditions(rt: HostRuntime) -> Result<(), Fail> {
     assert_eq!(rt; rules.exits.len(), 1);
     assert_eq!(rt; rules.exits[0].conds.len(), 8);
     Ok(())
+}
+
+const VALUES: &[Value] = &[
+    Value::WhiteWins,
+    Value::BlackWins,
+    Value::Draw,
+    Value::WhiteHolds,
+    Value::BlackHolds,
+    Value::Unknown,
+    Value::WhiteWinsIn(7),
+    Value::BlackWinsIn(777),
+];
+
+fn check_values(rt: &impl Abort, exits: &[Exit], values: &[Value]) {
+    assert_eq!(rt; exits.len(), values.len());
+    for (exit, value) in exits.iter().zip(values) {
+        assert_eq!(rt; exit.value, *value);
+    }
 }
 
 #[test]
@@ -43,32 +62,24 @@ exit white wins 7 if check
 exit black wins 777 if check
 ";
     let rules = read(&rt, rt.alloc(), &[A, lines]).ok().ok_or("rules")?;
-    let values = [
-        Value::WhiteWins,
-        Value::BlackWins,
-        Value::Draw,
-        Value::WhiteHolds,
-        Value::BlackHolds,
-        Value::Unknown,
-        Value::WhiteWinsIn(7),
-        Value::BlackWinsIn(777),
-    ];
-    assert_eq!(rt; rules.exits.len(), values.len());
-    for (exit, value) in rules.exits.iter().zip(values) {
-        assert_eq!(rt; exit.value, value);
-    }
+    check_values(&rt, &rules.exits, VALUES);
+    Ok(())
+}
+
+fn check_text(rt: &impl Abort, alloc: Global, error: RulesError, text: &str) -> Result<(), Fail> {
+    let given = format!(in alloc; "{}", error)?;
+    assert_eq!(rt; given.as_str(), text);
     Ok(())
 }
 
 #[test]
 fn texts_of_errors(rt: HostRuntime) -> Result<(), Fail> {
+    let alloc = rt.alloc();
     let fault = RulesFault {
         line: 3,
         cause: RulesCause::Overlap,
     };
-    let bad = format!(in rt.alloc(); "{}", RulesError::Bad(fault))?;
-    assert_eq!(rt; bad.as_str(), "the rules text is refused");
-    let memory = format!(in rt.alloc(); "{}", RulesError::NoMemory)?;
-    assert_eq!(rt; memory.as_str(), "out of memory");
-    Ok(())
+    let bad = RulesError::Bad(fault);
+    check_text(&rt, alloc, bad, "the rules text is refused")?;
+    check_text(&rt, alloc, RulesError::NoMemory, "out of memory")
 }
