@@ -1,64 +1,96 @@
 //! Lines, words, numbers and squares, read from texts.
+ghost use Rattle.std.specs.Prelude.{◌<◌, ◌^◌, length};
 
-use crate::SquareSet;
-use crate::lines::Lines;
+use crate::lines::{Line, Lines};
 use crate::numbers::read_number;
 use crate::squares::{read_square, read_squares};
 use std::process::Abort;
 
-fn has_squares(rt: &impl Abort, word: &[u8], set: u64) {
-    assert_eq!(rt; read_squares(word), Some(SquareSet(set)));
+/// The number of a line, how many words it has, and the second of them.
+struct Known<'a>(u32, u32, Option<&'a [u8]>);
+
+const LINES: &[Known] = &[
+    Known(1, 2, Some(b"bc")),
+    Known(2, 0, None),
+    Known(3, 0, None),
+    Known(4, 2, Some(b"x")),
+];
+
+fn check_line(rt: &impl Abort, line: &Line, known: &Known)
+    requires { length line.now.text.now < 2 ^ 32 }
+{
+    let Known(number, count, second) = known;
+    assert_eq!(rt; (line.number, line.count()), (*number, *count));
+    assert!(rt; line.word(2) == *second);
+    assert!(rt; line.word(0).is_none() && line.word(3).is_none());
 }
 
 #[test]
 fn lines_and_words(rt: HostRuntime) {
     let text = b"a bc\r\n\n \t\r\n#\0\xff x";
     let mut lines = Lines::new(text);
-    for (number, count, second) in [
-        (1, 2, Some(b"bc".as_slice())),
-        (2, 0, None),
-        (3, 0, None),
-        (4, 2, Some(b"x".as_slice())),
-    ] {
+    for known in LINES {
         let line = lines.next().expect(&rt, "a line");
-        assert_eq!(rt; line.number, number);
-        assert_eq!(rt; line.count(), count);
-        assert!(rt; line.word(2) == second);
-        assert!(rt; line.word(0).is_none());
-        assert!(rt; line.word(3).is_none());
+        check_line(&rt, &line, known);
     }
     assert!(rt; lines.next().is_none());
     assert!(rt; lines.next().is_none());
 }
 
+/// A word, the most that it may say, and the number that is read.
+struct Number<'a>(&'a [u8], u32, Option<u32>);
+
+const NUMBERS: &[Number] = &[
+    Number(b"000000016", 16, Some(16)),
+    Number(b"0000000016", 16, None),
+    Number(b"999999999", 999_999_999, Some(999_999_999)),
+    Number(b"17", 16, None),
+    Number(b"", 16, None),
+    Number(b"1x", 16, None),
+];
+
+fn check_numbers(rt: &impl Abort) {
+    for Number(word, most, number) in NUMBERS {
+        assert_eq!(rt; read_number(word, *most), *number);
+    }
+}
+
+/// A word, and the bits of the set of squares that is read.
+struct Squares<'a>(&'a [u8], Option<u64>);
+
+const SQUARES: &[Squares] = &[
+    Squares(b"a1", Some(1)),
+    Squares(b"all", Some(u64::MAX)),
+    Squares(b"a1-b2", Some(0x303)),
+    Squares(b"h8,a1-a1,h8", Some(0x8000_0000_0000_0001)),
+    Squares(b"", None),
+    Squares(b"a1,", None),
+    Squares(b",a1", None),
+    Squares(b"b1-a2", None),
+    Squares(b"a2-b1", None),
+    Squares(b"a1-", None),
+    Squares(b"a9", None),
+    Squares(b"A1", None),
+    Squares(b"a1--b2", None),
+    Squares(b"All", None),
+];
+
+fn bits_of(word: &[u8]) -> Option<u64> {
+    let set = read_squares(word)?;
+    Some(set.0)
+}
+
+fn check_squares(rt: &impl Abort) {
+    for Squares(word, bits) in SQUARES {
+        assert_eq!(rt; bits_of(word), *bits);
+    }
+}
+
 #[test]
 fn numbers_and_squares(rt: HostRuntime) {
-    assert_eq!(rt; read_number(b"000000016", 16), Some(16));
-    assert_eq!(rt; read_number(b"0000000016", 16), None);
-    assert_eq!(rt; read_number(b"999999999", 999_999_999), Some(999_999_999));
-    assert_eq!(rt; read_number(b"17", 16), None);
-    assert_eq!(rt; read_number(b"", 16), None);
-    assert_eq!(rt; read_number(b"1x", 16), None);
-    assert_eq!(rt; read_square(b"h8"), Some(63));
-    assert_eq!(rt; read_square(b"i1"), None);
-    has_squares(&rt, b"a1", 1);
-    has_squares(&rt, b"all", u64::MAX);
-    has_squares(&rt, b"a1-b2", 0x303);
-    has_squares(&rt, b"h8,a1-a1,h8", 0x8000_0000_0000_0001);
-    for word in [
-        b"".as_slice(),
-        b"a1,",
-        b",a1",
-        b"b1-a2",
-        b"a2-b1",
-        b"a1-",
-        b"a9",
-        b"A1",
-        b"a1--b2",
-        b"All",
-    ] {
-        assert_eq!(rt; read_squares(word), None);
-    }
+    check_numbers(&rt);
+    assert_eq!(rt; [read_square(b"h8"), read_square(b"i1")], [Some(63), None]);
+    check_squares(&rt);
 }
 
 #[test]
