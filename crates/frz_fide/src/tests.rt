@@ -66,36 +66,47 @@ fn ending_of<L: Ledger>(p: &Position, steps: &mut Steps<L>) -> Option<Ending> {
     }
 }
 
+/// A placement with White to move, the number of its target, and the moves.
+struct Listed<'a>(&'a str, Option<u8>, &'a str);
+
+const LISTED: &[Listed] = &[
+    Listed("8/8/8/3pP3/8/8/8/K1k5", Some(43), "a1a2 e5d6 e5e6 "),
+    Listed(
+        "8/8/8/K2pP2r/8/8/8/7k",
+        Some(43),
+        "a5a4 a5b4 a5b5 a5a6 a5b6 e5e6 ",
+    ),
+    Listed("8/P7/8/8/8/8/8/K1k5", None, "a1a2 a7a8q a7a8r a7a8b a7a8n "),
+    Listed(
+        "rnbqkbnr/pppppppp/8/8/8/8/PPPPPPPP/RNBQKBNR",
+        None,
+        "b1a3 b1c3 g1f3 g1h3 a2a3 a2a4 b2b3 b2b4 c2c3 c2c4 \
+         d2d3 d2d4 e2e3 e2e4 f2f3 f2f4 g2g3 g2g4 h2h3 h2h4 ",
+    ),
+];
+
+fn expect_moves<L: Ledger>(
+    rt: &impl Abort,
+    alloc: Global,
+    row: &Listed<'_>,
+    steps: &mut Steps<L>,
+) -> Result<(), Fail> {
+    let Listed(placement, target, moves) = row;
+    let p = set_up(placement, Colour::White, *target)?;
+    let listed = moves_of(alloc, &p, steps)?;
+    assert!(rt; listed.as_str() == *moves, "{placement}: {listed}");
+    Ok(())
+}
+
 fn list_moves<L: Ledger, R: Abort>(rt: &R, alloc: Global, blank: Blank) -> Result<(), Fail>
     requires name { blank.name ≡ L.name }
     requires parts { blank.parts ≡ L.parts }
     requires some { 0 < blank.parts }
 {
     let mut steps = Steps::<L>::new(blank);
-    let passing = set_up("8/8/8/3pP3/8/8/8/K1k5", Colour::White, Some(43))?;
-    assert_eq!(rt;
-        moves_of(alloc, &passing, &mut steps)?.as_str(),
-        "a1a2 e5d6 e5e6 "
-    );
-    let pinned = set_up("8/8/8/K2pP2r/8/8/8/7k", Colour::White, Some(43))?;
-    assert_eq!(rt;
-        moves_of(alloc, &pinned, &mut steps)?.as_str(),
-        "a5a4 a5b4 a5b5 a5a6 a5b6 e5e6 "
-    );
-    let promoting = set_up("8/P7/8/8/8/8/8/K1k5", Colour::White, None)?;
-    assert_eq!(rt;
-        moves_of(alloc, &promoting, &mut steps)?.as_str(),
-        "a1a2 a7a8q a7a8r a7a8b a7a8n "
-    );
-    let initial = set_up(
-        "rnbqkbnr/pppppppp/8/8/8/8/PPPPPPPP/RNBQKBNR",
-        Colour::White,
-        None,
-    )?;
-    assert_eq!(rt;
-        moves_of(alloc, &initial, &mut steps)?.as_str(),
-        "b1a3 b1c3 g1f3 g1h3 a2a3 a2a4 b2b3 b2b4 c2c3 c2c4 d2d3 d2d4 e2e3 e2e4 f2f3 f2f4 g2g3 g2g4 h2h3 h2h4 "
-    );
+    for row in LISTED {
+        expect_moves(rt, alloc, row, &mut steps)?;
+    }
     Ok(())
 }
 
@@ -105,18 +116,35 @@ fn lists_moves_in_order(rt: HostRuntime) -> Result<(), Fail> {
     list_moves::<Brand, _>(&rt, rt.alloc(), blank)
 }
 
+/// A placement with Black to move, and how the game stands.
+struct Ended<'a>(&'a str, Ending);
+
+const ENDED: &[Ended] = &[
+    Ended("k6R/8/1K6/8/8/8/8/8", Ending::Mate),
+    Ended("k7/8/1Q6/8/8/8/8/K7", Ending::Stalemate),
+    Ended("k7/8/8/8/8/8/8/K7", Ending::Going),
+];
+
+fn expect_ending<L: Ledger>(
+    rt: &impl Abort,
+    row: &Ended<'_>,
+    steps: &mut Steps<L>,
+) -> Result<(), Fail> {
+    let Ended(placement, want) = row;
+    let p = set_up(placement, Colour::Black, None)?;
+    assert!(rt; ending_of(&p, steps) == Some(*want), "{placement}");
+    Ok(())
+}
+
 fn end_games<L: Ledger, R: Abort>(rt: &R, blank: Blank) -> Result<(), Fail>
     requires name { blank.name ≡ L.name }
     requires parts { blank.parts ≡ L.parts }
     requires some { 0 < blank.parts }
 {
     let mut steps = Steps::<L>::new(blank);
-    let mate = set_up("k6R/8/1K6/8/8/8/8/8", Colour::Black, None)?;
-    assert_eq!(rt; ending_of(&mate, &mut steps), Some(Ending::Mate));
-    let stalemate = set_up("k7/8/1Q6/8/8/8/8/K7", Colour::Black, None)?;
-    assert_eq!(rt; ending_of(&stalemate, &mut steps), Some(Ending::Stalemate));
-    let going = set_up("k7/8/8/8/8/8/8/K7", Colour::Black, None)?;
-    assert_eq!(rt; ending_of(&going, &mut steps), Some(Ending::Going));
+    for row in ENDED {
+        expect_ending(rt, row, &mut steps)?;
+    }
     Ok(())
 }
 
@@ -158,21 +186,44 @@ fn leaves_of<L: Ledger>(p: &Position, plies: u8, steps: &mut Steps<L>) -> u64 {
     }
 }
 
+/// A placement, the side to move, plies, and how many positions there are after them.
+struct Counted<'a>(&'a str, Colour, u8, u64);
+
+const PASSING: &str = "8/2p5/3p4/KP5r/1R3p1k/8/4P1P1/8";
+
+const PROMOTING: &str = "n1n5/PPPk4/8/8/8/8/4Kppp/5N1N";
+
+const COUNTED: &[Counted] = &[
+    Counted(PASSING, Colour::White, 1, 14),
+    Counted(PASSING, Colour::White, 2, 191),
+    Counted(PASSING, Colour::White, 3, 2_812),
+    Counted(PASSING, Colour::White, 4, 43_238),
+    Counted(PROMOTING, Colour::Black, 1, 24),
+    Counted(PROMOTING, Colour::Black, 2, 496),
+    Counted(PROMOTING, Colour::Black, 3, 9_483),
+];
+
+fn expect_leaves<L: Ledger>(
+    rt: &impl Abort,
+    row: &Counted<'_>,
+    steps: &mut Steps<L>,
+) -> Result<(), Fail> {
+    let Counted(placement, turn, plies, want) = row;
+    let p = set_up(placement, *turn, None)?;
+    let count = leaves_of(&p, *plies, steps);
+    assert!(rt; count == *want, "{placement} {plies}: {count}");
+    Ok(())
+}
+
 fn count_leaves<L: Ledger, R: Abort>(rt: &R, blank: Blank) -> Result<(), Fail>
     requires name { blank.name ≡ L.name }
     requires parts { blank.parts ≡ L.parts }
     requires some { 0 < blank.parts }
 {
     let mut steps = Steps::<L>::new(blank);
-    let passing = set_up("8/2p5/3p4/KP5r/1R3p1k/8/4P1P1/8", Colour::White, None)?;
-    assert_eq!(rt; leaves_of(&passing, 1, &mut steps), 14);
-    assert_eq!(rt; leaves_of(&passing, 2, &mut steps), 191);
-    assert_eq!(rt; leaves_of(&passing, 3, &mut steps), 2_812);
-    assert_eq!(rt; leaves_of(&passing, 4, &mut steps), 43_238);
-    let promoting = set_up("n1n5/PPPk4/8/8/8/8/4Kppp/5N1N", Colour::Black, None)?;
-    assert_eq!(rt; leaves_of(&promoting, 1, &mut steps), 24);
-    assert_eq!(rt; leaves_of(&promoting, 2, &mut steps), 496);
-    assert_eq!(rt; leaves_of(&promoting, 3, &mut steps), 9_483);
+    for row in COUNTED {
+        expect_leaves(rt, row, &mut steps)?;
+    }
     Ok(())
 }
 
