@@ -3,6 +3,7 @@
 use super::*;
 use frz_board::{Colour, Shape, Square};
 use frz_fide::Invalid;
+use std::process::Abort;
 use std::test::Fail;
 
 fn fault(text: &[u8]) -> Option<FenFault> {
@@ -29,6 +30,28 @@ fn writes_the_fewest_digits(rt: HostRuntime) -> Result<(), Fail> {
     Ok(())
 }
 
+/// A text that is no FEN, and its first fault.
+struct Refused<'a>(&'a [u8], FenFault);
+
+fn expect_fault(rt: &impl Abort, row: &Refused<'_>) {
+    let Refused(text, want) = row;
+    assert!(rt; fault(text) == Some(*want), "{text:?}");
+}
+
+fn expect_faults(rt: &impl Abort, rows: &[Refused<'_>]) {
+    for row in rows {
+        expect_fault(rt, row);
+    }
+}
+
+const MISPLACED: &[Refused] = &[
+    Refused(
+        b"4k3/8/8/8/8/8/8/4K3 w - d6 0 1",
+        FenFault::Invalid(Invalid::Shape(Shape::EpPlace)),
+    ),
+    Refused(b"4k3/8/8/8/8/8/8/4K3 w - d3 0 1", FenFault::EpSquare),
+];
+
 /// 1. d2d4 leaves a target that no pawn can capture; on e5 a pawn can.
 #[test]
 fn drops_a_target_that_no_pawn_captures(rt: HostRuntime) -> Result<(), Fail> {
@@ -38,68 +61,46 @@ fn drops_a_target_that_no_pawn_captures(rt: HostRuntime) -> Result<(), Fail> {
         read_fen(b"8/8/8/3pP3/8/8/8/K1k5 w - d6 0 1")?.ep(),
         Some(d6)
     );
-    let misplaced = FenFault::Invalid(Invalid::Shape(Shape::EpPlace));
-    assert_eq!(rt; fault(b"4k3/8/8/8/8/8/8/4K3 w - d6 0 1"), Some(misplaced));
-    assert_eq!(rt;
-        fault(b"4k3/8/8/8/8/8/8/4K3 w - d3 0 1"),
-        Some(FenFault::EpSquare)
-    );
+    expect_faults(&rt, MISPLACED);
     Ok(())
 }
 
-#[test]
-fn names_the_first_fault(rt: HostRuntime) -> Result<(), Fail> {
-    assert_eq!(rt; fault(b""), Some(FenFault::Fields));
-    assert_eq!(rt; fault(b"8/8/8/8/8/8/8/8 w - - 0"), Some(FenFault::Fields));
-    assert_eq!(rt; fault(b"k7/8/1K6/8/8/8/8/6R x KQ"), Some(FenFault::Fields));
-    assert_eq!(rt;
-        fault(b"k7/8/1K6/8/8/8/8/6R x KQ a1"),
-        Some(FenFault::Placement(1))
-    );
-    assert_eq!(rt;
-        fault(b"k7/9/1K6/8/8/8/8/8 w - -"),
-        Some(FenFault::Placement(7))
-    );
-    assert_eq!(rt;
-        fault(b"k7/8/1K6/8/8/8/8 w - -"),
-        Some(FenFault::Placement(1))
-    );
-    assert_eq!(rt;
-        fault(b"k7/8/1K6/8/8/8/8/8/8 w - -"),
-        Some(FenFault::Placement(0))
-    );
-    assert_eq!(rt;
-        fault(b"kkkkkkkkk/8/8/8/8/8/8/8 w - -"),
-        Some(FenFault::Placement(8))
-    );
-    assert_eq!(rt; fault(b"k7/8/1K6/8/8/8/8/8 x KQ a1"), Some(FenFault::Turn));
-    assert_eq!(rt;
-        fault(b"k7/8/1K6/8/8/8/8/8 w KQ a1"),
-        Some(FenFault::Castling)
-    );
-    assert_eq!(rt;
-        fault(b"k7/8/1K6/8/8/8/8/8 w - a1 x x"),
-        Some(FenFault::EpSquare)
-    );
-    assert_eq!(rt;
-        fault(b"8/8/8/8/8/8/8/8 w - - 12345 1"),
-        Some(FenFault::Clock)
-    );
-    assert_eq!(rt; fault(b"\xff\x00/\xfe w - -"), Some(FenFault::Placement(8)));
-    Ok(())
-}
+const FAULTS: &[Refused] = &[
+    Refused(b"", FenFault::Fields),
+    Refused(b"8/8/8/8/8/8/8/8 w - - 0", FenFault::Fields),
+    Refused(b"k7/8/1K6/8/8/8/8/6R x KQ", FenFault::Fields),
+    Refused(b"k7/8/1K6/8/8/8/8/6R x KQ a1", FenFault::Placement(1)),
+    Refused(b"k7/9/1K6/8/8/8/8/8 w - -", FenFault::Placement(7)),
+    Refused(b"k7/8/1K6/8/8/8/8 w - -", FenFault::Placement(1)),
+    Refused(b"k7/8/1K6/8/8/8/8/8/8 w - -", FenFault::Placement(0)),
+    Refused(b"kkkkkkkkk/8/8/8/8/8/8/8 w - -", FenFault::Placement(8)),
+    Refused(b"k7/8/1K6/8/8/8/8/8 x KQ a1", FenFault::Turn),
+    Refused(b"k7/8/1K6/8/8/8/8/8 w KQ a1", FenFault::Castling),
+    Refused(b"k7/8/1K6/8/8/8/8/8 w - a1 x x", FenFault::EpSquare),
+    Refused(b"8/8/8/8/8/8/8/8 w - - 12345 1", FenFault::Clock),
+    Refused(b"\xff\x00/\xfe w - -", FenFault::Placement(8)),
+];
 
 #[test]
-fn refuses_what_is_not_valid(rt: HostRuntime) -> Result<(), Fail> {
-    let shape = |s| Some(FenFault::Invalid(Invalid::Shape(s)));
-    assert_eq!(rt; fault(b"8/8/8/8/8/8/8/8 w - - 0 1"), shape(Shape::Kings));
-    assert_eq!(rt; fault(b"k7/8/8/8/8/8/8/K6K w - - 0 1"), shape(Shape::Kings));
-    assert_eq!(rt;
-        fault(b"k6P/8/8/8/8/8/8/K7 w - - 0 1"),
-        shape(Shape::PawnRank)
-    );
-    let check = FenFault::Invalid(Invalid::OpponentInCheck);
-    assert_eq!(rt; fault(b"k6R/8/1K6/8/8/8/8/8 w - - 0 1"), Some(check));
-    assert_eq!(rt; fault(b"k6R/8/8/8/8/8/8/K6r w - - 0 1"), Some(check));
-    Ok(())
+fn names_the_first_fault(rt: HostRuntime) {
+    expect_faults(&rt, FAULTS);
+}
+
+const KINGS: FenFault = FenFault::Invalid(Invalid::Shape(Shape::Kings));
+
+const PAWN_RANK: FenFault = FenFault::Invalid(Invalid::Shape(Shape::PawnRank));
+
+const CHECK: FenFault = FenFault::Invalid(Invalid::OpponentInCheck);
+
+const INVALID: &[Refused] = &[
+    Refused(b"8/8/8/8/8/8/8/8 w - - 0 1", KINGS),
+    Refused(b"k7/8/8/8/8/8/8/K6K w - - 0 1", KINGS),
+    Refused(b"k6P/8/8/8/8/8/8/K7 w - - 0 1", PAWN_RANK),
+    Refused(b"k6R/8/1K6/8/8/8/8/8 w - - 0 1", CHECK),
+    Refused(b"k6R/8/8/8/8/8/8/K6r w - - 0 1", CHECK),
+];
+
+#[test]
+fn refuses_what_is_not_valid(rt: HostRuntime) {
+    expect_faults(&rt, INVALID);
 }
