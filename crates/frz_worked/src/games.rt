@@ -4,7 +4,7 @@ ghost use Rattle.std.specs.Prelude.{◌≡◌, ◌<◌};
 use crate::texts::ROOK;
 use frz_board::Colour::Black;
 use frz_exits::RuleBook;
-use frz_game::{Game, Next, NextList, Node};
+use frz_game::{Arm, Game, Next, NextList, Node};
 use frz_index::Set;
 use frz_rules::read_rules;
 use frz_sets::Value;
@@ -14,6 +14,18 @@ use std::marker::Brand;
 use std::process::Abort;
 use std::sync::ledger::{Blank, Ledger};
 use std::test::Fail;
+
+/// The move is free and leads there.
+fn is_free_to(arm: &Arm, next: Next) -> bool {
+    arm.free && arm.next == next
+}
+
+/// The moves, all of them free, lead there.
+fn check_arms<R: Abort>(rt: &R, list: &NextList, nexts: &[Next]) {
+    for (arm, next) in list.iter().zip(nexts) {
+        assert!(rt; is_free_to(arm, *next));
+    }
+}
 
 /// The number is this node, and its moves, all of them free, lead there.
 fn check_number<L: Ledger, R: Abort>(
@@ -27,9 +39,25 @@ fn check_number<L: Ledger, R: Abort>(
     let mut list = NextList::new();
     assert_eq!(rt; game.nexts(number, &mut list, steps), node);
     assert_eq!(rt; list.len(), nexts.len());
-    for (arm, next) in list.iter().zip(nexts) {
-        assert!(rt; arm.free);
-        assert_eq!(rt; arm.next, *next);
+    check_arms(rt, &list, nexts);
+}
+
+/// A number, its node and where its moves lead.
+const ROWS: &[(u32, Node, &[Next])] = &[
+    (4, Node::Going(Black), &[Next::Inside(1)]),
+    (
+        5,
+        Node::Going(Black),
+        &[Next::Inside(0), Next::Outside(Value::Unknown)],
+    ),
+    (6, Node::Mate(Black), &[]),
+    (2, Node::Broken, &[]),
+];
+
+/// The numbers of the rows are as they say.
+fn check_rows<L: Ledger, R: Abort>(rt: &R, game: &Game<'_, RuleBook<'_>>, steps: &mut Steps<L>) {
+    for (number, node, nexts) in ROWS {
+        check_number(rt, game, *number, *node, nexts, steps);
     }
 }
 
@@ -46,20 +74,7 @@ fn look_at_numbers<L: Ledger, R: Abort>(rt: &R, alloc: Global, blank: Blank) -> 
         rules: &rules,
         book: &book,
     };
-    let rows: [(u32, Node, &[Next]); 4] = [
-        (4, Node::Going(Black), &[Next::Inside(1)]),
-        (
-            5,
-            Node::Going(Black),
-            &[Next::Inside(0), Next::Outside(Value::Unknown)],
-        ),
-        (6, Node::Mate(Black), &[]),
-        (2, Node::Broken, &[]),
-    ];
-    let mut steps = Steps::<L>::new(blank);
-    for (number, node, nexts) in rows {
-        check_number(rt, &game, number, node, nexts, &mut steps);
-    }
+    check_rows(rt, &game, &mut Steps::<L>::new(blank));
     Ok(())
 }
 

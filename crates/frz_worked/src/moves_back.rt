@@ -26,6 +26,27 @@ fn text_of(alloc: Global, items: &[Pred]) -> Result<String, Fail> {
     Ok(text)
 }
 
+/// The set of the text.
+fn set_of(alloc: Global, text: &str) -> Result<Set, Fail> {
+    let rules = read_rules(alloc, text.as_bytes())?;
+    Ok(Set::new(alloc, &rules)?)
+}
+
+/// The moves back of the number of the text, and none where it is broken.
+fn moves_text<L: Ledger>(
+    alloc: Global,
+    text: &str,
+    q: u32,
+    steps: &mut Steps<L>,
+) -> Result<String, Fail> {
+    let set = set_of(alloc, text)?;
+    let mut out = Preds::new(alloc)?;
+    if set.at(q).is_some() {
+        unmoves(&set, q, &mut out, steps);
+    }
+    text_of(alloc, out.items())
+}
+
 /// The moves back of this number are these.
 fn check_row<L: Ledger, R: Abort>(
     rt: &R,
@@ -35,13 +56,8 @@ fn check_row<L: Ledger, R: Abort>(
     wanted: &str,
     steps: &mut Steps<L>,
 ) -> Result<(), Fail> {
-    let rules = read_rules(alloc, text.as_bytes())?;
-    let set = Set::new(alloc, &rules)?;
-    let mut out = Preds::new(alloc)?;
-    if set.at(q).is_some() {
-        unmoves(&set, q, &mut out, steps);
-    }
-    assert_eq!(rt; text_of(alloc, out.items())?.as_str(), wanted);
+    let moves = moves_text(alloc, text, q, steps)?;
+    assert_eq!(rt; moves.as_str(), wanted);
     Ok(())
 }
 

@@ -1,14 +1,20 @@
 //! Numbers of sets: worked ones, and all of them against a count of the positions.
+ghost use Rattle.std.specs.Prelude.{◌≤◌};
+ghost use Rattle.frz_index.specs.declared.old.TheConstants.{MOST_OLD_NUMBERS};
+ghost use Rattle.frz_index.specs.OldNumbers.{old_size_of};
+ghost use Rattle.frz_sets.specs.Sound.{IsSound};
+
 use crate::boards::position;
 use crate::texts::{
     BLACK_FIRST, BLOCKED, BOTH_TARGETS, CROWD, KNIGHTS, MIXED, PAWNS, ROOK, ROOKS, TARGET, THREE,
     TWO_GROUPS,
 };
-use frz_board::{Colour, Man, Position, Square, cell_of};
+use frz_board::Colour::{self, Black, White};
+use frz_board::{Man, Position, Square, cell_of};
 use frz_fide::valid;
 use frz_index::{Set, old_number, old_size};
 use frz_rules::read_rules;
-use frz_sets::Group;
+use frz_sets::{Group, Rules};
 use std::alloc::Global;
 use std::process::Abort;
 use std::test::Fail;
@@ -20,6 +26,28 @@ fn is_same(p: &Position, q: &Position) -> bool {
 /// A number, its position's men, the side to move and the target.
 type Row = (u32, &'static str, Colour, Option<u8>);
 
+/// The set of the text.
+fn set_of(alloc: Global, text: &str) -> Result<Set, Fail> {
+    let rules = read_rules(alloc, text.as_bytes())?;
+    Ok(Set::new(alloc, &rules)?)
+}
+
+/// The set has this number, both ways.
+fn check_row(rt: &impl Abort, set: &Set, row: &Row) -> Result<(), Fail> {
+    let (number, men, turn, target) = *row;
+    let p = position(men, turn, target).ok_or("a position")?;
+    assert_eq!(rt; set.number(&p), Some(number), "{men}");
+    let q = set.at(number).ok_or("a position")?;
+    assert!(rt; is_same(&p, &q), "{men}");
+    Ok(())
+}
+
+fn check_broken(rt: &impl Abort, set: &Set, broken: &[u32]) {
+    for number in broken {
+        assert!(rt; set.at(*number).is_none(), "{number} is broken");
+    }
+}
+
 /// The set of the text has these numbers, both ways, and the broken ones are broken.
 fn check_rows(
     rt: &impl Abort,
@@ -29,91 +57,97 @@ fn check_rows(
     rows: &[Row],
     broken: &[u32],
 ) -> Result<(), Fail> {
-    let rules = read_rules(alloc, text.as_bytes())?;
-    let set = Set::new(alloc, &rules)?;
+    let set = set_of(alloc, text)?;
     assert_eq!(rt; set.size(), size);
-    for (number, men, turn, target) in rows {
-        let p = position(men, *turn, *target).ok_or("a position")?;
-        assert_eq!(rt; set.number(&p), Some(*number), "{men}");
-        let q = set.at(*number).ok_or("a position")?;
-        assert!(rt; is_same(&p, &q), "{men}");
+    for row in rows {
+        check_row(rt, &set, row)?;
     }
-    for number in broken {
-        assert!(rt; set.at(*number).is_none(), "{number} is broken");
-    }
+    check_broken(rt, &set, broken);
+    Ok(())
+}
+
+const BLOCKED_ROWS: &[Row] = &[(1222, "Kg4 kg6 Pa4 Pb3 Pc4 Pe4 pa5 pb4 pc5 pe5", White, None)];
+
+const ROOK_ROWS: &[Row] = &[
+    (0, "Kb6 Rh1 ka8", White, None),
+    (1, "Kb6 Rh1 kb8", White, None),
+    (4, "Kb6 Rh1 ka8", Black, None),
+    (5, "Kb6 Rh1 kb8", Black, None),
+    (6, "Kb6 Rh8 ka8", Black, None),
+    (7, "Kb6 Rh8 kb8", Black, None),
+];
+
+const TARGET_ROWS: &[Row] = &[
+    (0, "Ka1 kh8 Pe5", White, None),
+    (1, "Ka1 kh8 Pe5 pd5", White, None),
+    (2, "Ka1 kh8 Pd6", White, None),
+    (3, "Ka1 kh8 Pd6 pd5", White, None),
+    (4, "Ka1 kh8 Pe5", Black, None),
+    (5, "Ka1 kh8 Pe5 pd5", Black, None),
+    (6, "Ka1 kh8 Pd6", Black, None),
+    (7, "Ka1 kh8 Pd6 pd5", Black, None),
+    (9, "Ka1 kh8 Pe5 pd5", White, Some(43)),
+];
+
+const ROOKS_ROWS: &[Row] = &[
+    (0, "Kb6 ka8", White, None),
+    (1, "Kb6 kb8", White, None),
+    (2, "Kb6 Rh1 ka8", White, None),
+    (3, "Kb6 Rh1 kb8", White, None),
+    (8, "Kb6 ka8", Black, None),
+    (9, "Kb6 kb8", Black, None),
+    (10, "Kb6 Rh1 ka8", Black, None),
+    (11, "Kb6 Rh1 kb8", Black, None),
+    (12, "Kb6 Rh8 ka8", Black, None),
+    (13, "Kb6 Rh8 kb8", Black, None),
+    (14, "Kb6 Rh1 Rh8 ka8", Black, None),
+    (15, "Kb6 Rh1 Rh8 kb8", Black, None),
+];
+
+#[test]
+fn worked_numbers(rt: HostRuntime) -> Result<(), Fail> {
+    let alloc = rt.alloc();
+    check_rows(&rt, alloc, BLOCKED, 6400, BLOCKED_ROWS, &[])?;
+    check_rows(&rt, alloc, ROOK, 8, ROOK_ROWS, &[2, 3])?;
+    check_rows(&rt, alloc, TARGET, 12, TARGET_ROWS, &[8, 10, 11])?;
+    check_rows(&rt, alloc, ROOKS, 16, ROOKS_ROWS, &[4, 5, 6, 7])
+}
+
+/// A position's men, the side to move, and its number in the former format.
+type OldRow = (&'static str, Colour, Option<u32>);
+
+/// In the former format each rook that may be there has a digit: its place, or 2 where it is
+/// absent.
+const OLD_ROWS: &[OldRow] = &[
+    ("Kb6 Rh1 Rh8 ka8", Black, Some(20)),
+    ("Kb6 Rh1 Rh8 kb8", Black, Some(21)),
+    ("Kb6 Rh1 ka8", Black, Some(22)),
+    ("Kb6 Rh1 kb8", Black, Some(23)),
+    ("Kb6 Rh8 ka8", Black, Some(28)),
+    ("Kb6 Rh8 kb8", Black, Some(29)),
+    ("Kb6 ka8", Black, Some(34)),
+    ("Kb6 kb8", Black, Some(35)),
+    ("Kb6 Rh1 kb8", White, Some(5)),
+    ("Kb6 Rh2 kb8", Black, None),
+];
+
+fn check_old_number(rt: &impl Abort, rules: &Rules, row: &OldRow) -> Result<(), Fail>
+    requires sound { IsSound rules.now }
+    requires size { old_size_of rules.now.groups ≤ MOST_OLD_NUMBERS }
+{
+    let (men, turn, number) = *row;
+    let p = position(men, turn, None).ok_or("a position")?;
+    assert_eq!(rt; old_number(rules, &p), number, "{men}");
     Ok(())
 }
 
 #[test]
-fn worked_numbers(rt: HostRuntime) -> Result<(), Fail> {
-    let white = Colour::White;
-    let black = Colour::Black;
-    let blocked = [(1222, "Kg4 kg6 Pa4 Pb3 Pc4 Pe4 pa5 pb4 pc5 pe5", white, None)];
-    check_rows(&rt, rt.alloc(), BLOCKED, 6400, &blocked, &[])?;
-
-    let rook = [
-        (0, "Kb6 Rh1 ka8", white, None),
-        (1, "Kb6 Rh1 kb8", white, None),
-        (4, "Kb6 Rh1 ka8", black, None),
-        (5, "Kb6 Rh1 kb8", black, None),
-        (6, "Kb6 Rh8 ka8", black, None),
-        (7, "Kb6 Rh8 kb8", black, None),
-    ];
-    check_rows(&rt, rt.alloc(), ROOK, 8, &rook, &[2, 3])?;
-
-    let target = [
-        (0, "Ka1 kh8 Pe5", white, None),
-        (1, "Ka1 kh8 Pe5 pd5", white, None),
-        (2, "Ka1 kh8 Pd6", white, None),
-        (3, "Ka1 kh8 Pd6 pd5", white, None),
-        (4, "Ka1 kh8 Pe5", black, None),
-        (5, "Ka1 kh8 Pe5 pd5", black, None),
-        (6, "Ka1 kh8 Pd6", black, None),
-        (7, "Ka1 kh8 Pd6 pd5", black, None),
-        (9, "Ka1 kh8 Pe5 pd5", white, Some(43)),
-    ];
-    check_rows(&rt, rt.alloc(), TARGET, 12, &target, &[8, 10, 11])?;
-
-    let rooks = [
-        (0, "Kb6 ka8", white, None),
-        (1, "Kb6 kb8", white, None),
-        (2, "Kb6 Rh1 ka8", white, None),
-        (3, "Kb6 Rh1 kb8", white, None),
-        (8, "Kb6 ka8", black, None),
-        (9, "Kb6 kb8", black, None),
-        (10, "Kb6 Rh1 ka8", black, None),
-        (11, "Kb6 Rh1 kb8", black, None),
-        (12, "Kb6 Rh8 ka8", black, None),
-        (13, "Kb6 Rh8 kb8", black, None),
-        (14, "Kb6 Rh1 Rh8 ka8", black, None),
-        (15, "Kb6 Rh1 Rh8 kb8", black, None),
-    ];
-    check_rows(&rt, rt.alloc(), ROOKS, 16, &rooks, &[4, 5, 6, 7])
-}
-
-/// In the former format each rook that may be there has a digit: its place, or 2 where it is absent.
-#[test]
 fn old_numbers(rt: HostRuntime) -> Result<(), Fail> {
     let rules = read_rules(rt.alloc(), ROOKS.as_bytes())?;
     assert_eq!(rt; old_size(&rules), 36);
-    let rows = [
-        ("Kb6 Rh1 Rh8 ka8", 2),
-        ("Kb6 Rh1 Rh8 kb8", 3),
-        ("Kb6 Rh1 ka8", 4),
-        ("Kb6 Rh1 kb8", 5),
-        ("Kb6 Rh8 ka8", 10),
-        ("Kb6 Rh8 kb8", 11),
-        ("Kb6 ka8", 16),
-        ("Kb6 kb8", 17),
-    ];
-    for (men, number) in rows {
-        let p = position(men, Colour::Black, None).ok_or("a position")?;
-        assert_eq!(rt; old_number(&rules, &p), Some(18 + number), "{men}");
+    for row in OLD_ROWS {
+        check_old_number(&rt, &rules, row)?;
     }
-    let p = position("Kb6 Rh1 kb8", Colour::White, None).ok_or("a position")?;
-    assert_eq!(rt; old_number(&rules, &p), Some(5));
-    let outside = position("Kb6 Rh2 kb8", Colour::Black, None).ok_or("a position")?;
-    assert_eq!(rt; old_number(&rules, &outside), None);
     Ok(())
 }
 
@@ -195,44 +229,53 @@ fn members(groups: &[Group], squares: &[u16; 64], cells: &mut [u8; 64], square: 
     total
 }
 
-/// Each number of the set is that of its position, and there are as many as positions.
-fn check_every_number(rt: &impl Abort, alloc: Global, text: &str, size: u32) -> Result<(), Fail> {
-    let rules = read_rules(alloc, text.as_bytes())?;
-    let set = Set::new(alloc, &rules)?;
-    assert_eq!(rt; set.size(), size, "{text}");
+/// How many positions have a number, if each is valid and the number is that of its position.
+fn count_numbers(rt: &impl Abort, set: &Set, text: &str) -> Result<u32, Fail> {
     let mut found: u32 = 0;
-    for i in 0..size {
+    for i in 0..set.size() {
         if let Some(p) = set.at(i) {
             valid(&p)?;
             assert_eq!(rt; set.number(&p), Some(i), "{text}");
             found = found.saturating_add(1);
         }
     }
-    assert_eq!(rt;
-        found,
-        members(&rules.groups, &squares_of(&rules.groups), &mut [0; 64], 0),
-        "{text}"
-    );
+    Ok(found)
+}
+
+/// How many positions the set of the text has.
+fn count_positions(alloc: Global, text: &str) -> Result<u32, Fail> {
+    let rules = read_rules(alloc, text.as_bytes())?;
+    let squares = squares_of(&rules.groups);
+    Ok(members(&rules.groups, &squares, &mut [0; 64], 0))
+}
+
+/// Each number of the set is that of its position, and there are as many as positions.
+fn check_every_number(rt: &impl Abort, alloc: Global, text: &str, size: u32) -> Result<(), Fail> {
+    let set = set_of(alloc, text)?;
+    let found = count_numbers(rt, &set, text)?;
+    let positions = count_positions(alloc, text)?;
+    assert_eq!(rt; (set.size(), found), (size, positions), "{text}");
     Ok(())
 }
 
+const SIZES: &[(&str, u32)] = &[
+    (ROOK, 8),
+    (ROOKS, 16),
+    (TARGET, 12),
+    (TWO_GROUPS, 288),
+    (KNIGHTS, 396),
+    (MIXED, 2200),
+    (BOTH_TARGETS, 3080),
+    (CROWD, 1536),
+    (BLACK_FIRST, 7920),
+    (THREE, 328),
+    (PAWNS, 2888),
+];
+
 #[test]
 fn every_number(rt: HostRuntime) -> Result<(), Fail> {
-    let sets = [
-        (ROOK, 8),
-        (ROOKS, 16),
-        (TARGET, 12),
-        (TWO_GROUPS, 288),
-        (KNIGHTS, 396),
-        (MIXED, 2200),
-        (BOTH_TARGETS, 3080),
-        (CROWD, 1536),
-        (BLACK_FIRST, 7920),
-        (THREE, 328),
-        (PAWNS, 2888),
-    ];
-    for (text, size) in sets {
-        check_every_number(&rt, rt.alloc(), text, size)?;
+    for (text, size) in SIZES {
+        check_every_number(&rt, rt.alloc(), text, *size)?;
     }
     Ok(())
 }

@@ -1,5 +1,6 @@
 //! The solver by passes: lists by hand, and the lists of the solver forwards.
-ghost use Rattle.std.specs.Prelude.{◌≡◌, ◌<◌};
+ghost use Rattle.std.specs.Prelude.{◌≡◌, ◌<◌, length};
+ghost use Rattle.frz_sets.specs.Sound.{IsSound};
 
 use crate::ten::Ten;
 use crate::texts::{
@@ -21,6 +22,26 @@ use std::process::Abort;
 use std::sync::ledger::{Blank, Ledger};
 use std::test::Fail;
 
+/// A side, and the entries that its run leaves.
+type Run<'a> = (Colour, &'a [u32]);
+
+/// Each of two runs in one workshop leaves its entries.
+fn leave<L: Ledger>(
+    alloc: Global,
+    game: &Game<'_, RuleBook<'_>>,
+    first: Run<'_>,
+    second: Run<'_>,
+    steps: &mut Steps<L>,
+) -> Result<bool, Fail>
+    requires { IsSound game.now.rules.now }
+{
+    let mut shop = Workshop::new(alloc, game.set.size())?;
+    shop.run_game(game, first.0, steps);
+    let is_first = shop.entries() == first.1;
+    shop.run_game(game, second.0, steps);
+    Ok(is_first && shop.entries() == second.1)
+}
+
 /// White's run leaves the one list, and Black's in the same workshop the other.
 fn gives<L: Ledger>(
     alloc: Global,
@@ -37,11 +58,32 @@ fn gives<L: Ledger>(
         rules: &rules,
         book: &book,
     };
-    let mut shop = Workshop::new(alloc, set.size())?;
-    shop.run_game(&game, Colour::White, steps);
-    let is_first = shop.entries() == white;
-    shop.run_game(&game, Colour::Black, steps);
-    Ok(is_first && shop.entries() == black)
+    leave(
+        alloc,
+        &game,
+        (Colour::White, white),
+        (Colour::Black, black),
+        steps,
+    )
+}
+
+/// The lists of the solver forwards are those of two runs in one workshop, Black's first.
+fn agrees_by<L: Ledger>(
+    alloc: Global,
+    game: &Game<'_, RuleBook<'_>>,
+    steps: &mut Steps<L>,
+) -> Result<bool, Fail>
+    requires { IsSound game.now.rules.now }
+{
+    let white = sweep(alloc, game, Colour::White, steps)?;
+    let black = sweep(alloc, game, Colour::Black, steps)?;
+    leave(
+        alloc,
+        game,
+        (Colour::Black, black.as_slice()),
+        (Colour::White, white.as_slice()),
+        steps,
+    )
 }
 
 /// Both solvers leave the same lists, Black's after White's and White's again after Black's.
@@ -54,14 +96,18 @@ fn agrees<L: Ledger>(alloc: Global, text: &str, steps: &mut Steps<L>) -> Result<
         rules: &rules,
         book: &book,
     };
-    let white = sweep(alloc, &game, Colour::White, steps)?;
-    let black = sweep(alloc, &game, Colour::Black, steps)?;
-    let mut shop = Workshop::new(alloc, set.size())?;
-    shop.run_game(&game, Colour::Black, steps);
-    let is_first = shop.entries() == black.as_slice();
-    shop.run_game(&game, Colour::White, steps);
-    Ok(is_first && shop.entries() == white.as_slice())
+    agrees_by(alloc, &game, steps)
 }
+
+/// A text, and White's and Black's entries.
+const BY_HAND: &[(&str, &[u32], &[u32])] = &[
+    (ROOK, &[4, 4, 0, 0, 6, 5, 2, 2], &[5, 5, 0, 0, 7, 7, 3, 3]),
+    (
+        LONG_WIN,
+        &[4, 4, 0, 0, 6, 18, 2, 2],
+        &[5, 5, 0, 0, 7, 7, 3, 3],
+    ),
+];
 
 fn solve_by_hand<L: Ledger, R: Abort>(rt: &R, alloc: Global, blank: Blank) -> Result<(), Fail>
     requires name { blank.name ≡ L.name }
@@ -69,11 +115,9 @@ fn solve_by_hand<L: Ledger, R: Abort>(rt: &R, alloc: Global, blank: Blank) -> Re
     requires some { 0 < blank.parts }
 {
     let mut steps = Steps::<L>::new(blank);
-    let white = &[4, 4, 0, 0, 6, 5, 2, 2];
-    let black = &[5, 5, 0, 0, 7, 7, 3, 3];
-    assert!(rt; gives(alloc, ROOK, white, black, &mut steps)?);
-    let white = &[4, 4, 0, 0, 6, 18, 2, 2];
-    assert!(rt; gives(alloc, LONG_WIN, white, black, &mut steps)?);
+    for (text, white, black) in BY_HAND {
+        assert!(rt; gives(alloc, text, white, black, &mut steps)?, "{text}");
+    }
     Ok(())
 }
 
@@ -108,6 +152,21 @@ const TEN_WHITE: [u32; 10] = [2, 0, 4, 14, 16, 1, 1, 16, 5, 1];
 
 const TEN_BLACK: [u32; 10] = [3, 0, 5, 7, 5, 7, 5, 5, 8, 1];
 
+/// A run of the game of ten numbers for the side leaves these entries.
+fn check_run<L: Ledger, R: Abort>(
+    rt: &R,
+    shop: &mut Workshop,
+    side: Colour,
+    wanted: &[u32; 10],
+    steps: &mut Steps<L>,
+)
+    requires { length shop.old ≡ 10 }
+    ensures { length shop.new ≡ 10 }
+{
+    shop.run(&Ten::new(), side, steps);
+    assert_eq!(rt; shop.entries(), wanted.as_slice());
+}
+
 /// Each run of the one workshop leaves its own side's list, whatever the runs before it left.
 fn solve_ten<L: Ledger, R: Abort>(rt: &R, alloc: Global, blank: Blank) -> Result<(), Fail>
     requires name { blank.name ≡ L.name }
@@ -115,16 +174,11 @@ fn solve_ten<L: Ledger, R: Abort>(rt: &R, alloc: Global, blank: Blank) -> Result
     requires some { 0 < blank.parts }
 {
     let mut steps = Steps::<L>::new(blank);
-    let game = Ten::new();
     let mut shop = Workshop::new(alloc, 10)?;
-    shop.run(&game, Colour::White, &mut steps);
-    assert_eq!(rt; shop.entries(), TEN_WHITE.as_slice());
-    shop.run(&game, Colour::Black, &mut steps);
-    assert_eq!(rt; shop.entries(), TEN_BLACK.as_slice());
-    shop.run(&game, Colour::Black, &mut steps);
-    assert_eq!(rt; shop.entries(), TEN_BLACK.as_slice());
-    shop.run(&game, Colour::White, &mut steps);
-    assert_eq!(rt; shop.entries(), TEN_WHITE.as_slice());
+    check_run(rt, &mut shop, Colour::White, &TEN_WHITE, &mut steps);
+    check_run(rt, &mut shop, Colour::Black, &TEN_BLACK, &mut steps);
+    check_run(rt, &mut shop, Colour::Black, &TEN_BLACK, &mut steps);
+    check_run(rt, &mut shop, Colour::White, &TEN_WHITE, &mut steps);
     Ok(())
 }
 
@@ -152,26 +206,27 @@ fn agree_on<L: Ledger, R: Abort>(
     Ok(())
 }
 
+const FEW_MEN: &[&str] = &[
+    ROOK,
+    WIN,
+    LONG_WIN,
+    SHORT_ROOK,
+    FORBIDDEN,
+    ROOKS,
+    DRAWN_KINGS,
+    STALEMATE,
+    TARGET,
+    KINDS,
+    NUMBERING,
+    TWO_GROUPS,
+    KNIGHTS,
+    THREE,
+];
+
 #[test]
 fn agrees_on_few_men(rt: HostRuntime) -> Result<(), Fail> {
-    let texts = [
-        ROOK,
-        WIN,
-        LONG_WIN,
-        SHORT_ROOK,
-        FORBIDDEN,
-        ROOKS,
-        DRAWN_KINGS,
-        STALEMATE,
-        TARGET,
-        KINDS,
-        NUMBERING,
-        TWO_GROUPS,
-        KNIGHTS,
-        THREE,
-    ];
     let blank = Blank::new(1);
-    agree_on::<Brand, _>(&rt, rt.alloc(), &texts, blank)
+    agree_on::<Brand, _>(&rt, rt.alloc(), FEW_MEN, blank)
 }
 
 #[test]

@@ -1,5 +1,6 @@
 //! Whole lists of codes, by hand.
 ghost use Rattle.std.specs.Prelude.{◌≡◌, ◌<◌};
+ghost use Rattle.frz_sets.specs.Sound.{IsSound};
 
 use crate::texts::{DRAWN_KINGS, FORBIDDEN, LONG_WIN, ROOK, ROOKS, SHORT_ROOK, STALEMATE};
 use frz_board::Colour;
@@ -14,6 +15,18 @@ use std::marker::Brand;
 use std::process::Abort;
 use std::sync::ledger::{Blank, Ledger};
 use std::test::Fail;
+
+/// The codes of the side of the game.
+fn codes_by<L: Ledger>(
+    alloc: Global,
+    game: &Game<'_, RuleBook<'_>>,
+    side: Colour,
+    steps: &mut Steps<L>,
+) -> Result<Vec<u32>, Fail>
+    requires { IsSound game.now.rules.now }
+{
+    Ok(sweep(alloc, game, side, steps)?)
+}
 
 /// The codes of the side by the rules of the text.
 fn codes_of<L: Ledger>(
@@ -30,7 +43,7 @@ fn codes_of<L: Ledger>(
         rules: &rules,
         book: &book,
     };
-    Ok(sweep(alloc, &game, side, steps)?)
+    codes_by(alloc, &game, side, steps)
 }
 
 /// A text, a side, and its codes.
@@ -50,26 +63,27 @@ fn check_rows<L: Ledger, R: Abort>(
     Ok(())
 }
 
+const ROOK_ROWS: &[Row] = &[
+    (ROOK, Colour::White, &[4, 4, 0, 0, 6, 5, 2, 2]),
+    (ROOK, Colour::Black, &[5, 5, 0, 0, 7, 7, 3, 3]),
+    (
+        ROOKS,
+        Colour::White,
+        &[5, 5, 4, 4, 0, 0, 0, 0, 7, 5, 6, 5, 2, 2, 2, 2],
+    ),
+    (
+        ROOKS,
+        Colour::Black,
+        &[5, 5, 5, 5, 0, 0, 0, 0, 7, 7, 7, 7, 3, 3, 3, 3],
+    ),
+];
+
 fn solve_rooks<L: Ledger, R: Abort>(rt: &R, alloc: Global, blank: Blank) -> Result<(), Fail>
     requires name { blank.name ≡ L.name }
     requires parts { blank.parts ≡ L.parts }
     requires some { 0 < blank.parts }
 {
-    let rows: [Row; 4] = [
-        (ROOK, Colour::White, &[4, 4, 0, 0, 6, 5, 2, 2]),
-        (ROOK, Colour::Black, &[5, 5, 0, 0, 7, 7, 3, 3]),
-        (
-            ROOKS,
-            Colour::White,
-            &[5, 5, 4, 4, 0, 0, 0, 0, 7, 5, 6, 5, 2, 2, 2, 2],
-        ),
-        (
-            ROOKS,
-            Colour::Black,
-            &[5, 5, 5, 5, 0, 0, 0, 0, 7, 7, 7, 7, 3, 3, 3, 3],
-        ),
-    ];
-    check_rows(rt, alloc, &rows, &mut Steps::<L>::new(blank))
+    check_rows(rt, alloc, ROOK_ROWS, &mut Steps::<L>::new(blank))
 }
 
 #[test]
@@ -78,19 +92,20 @@ fn solves_rooks(rt: HostRuntime) -> Result<(), Fail> {
     solve_rooks::<Brand, _>(&rt, rt.alloc(), blank)
 }
 
+const EXIT_ROWS: &[Row] = &[
+    (LONG_WIN, Colour::White, &[4, 4, 0, 0, 6, 18, 2, 2]),
+    (LONG_WIN, Colour::Black, &[5, 5, 0, 0, 7, 7, 3, 3]),
+    (DRAWN_KINGS, Colour::White, &[1, 1, 1, 1, 1, 1, 1, 1]),
+    (SHORT_ROOK, Colour::Black, &[5, 5, 5, 5, 7, 7, 7, 7]),
+    (SHORT_ROOK, Colour::White, &[1, 1, 1, 1, 1, 1, 1, 1]),
+];
+
 fn solve_exits<L: Ledger, R: Abort>(rt: &R, alloc: Global, blank: Blank) -> Result<(), Fail>
     requires name { blank.name ≡ L.name }
     requires parts { blank.parts ≡ L.parts }
     requires some { 0 < blank.parts }
 {
-    let rows: [Row; 5] = [
-        (LONG_WIN, Colour::White, &[4, 4, 0, 0, 6, 18, 2, 2]),
-        (LONG_WIN, Colour::Black, &[5, 5, 0, 0, 7, 7, 3, 3]),
-        (DRAWN_KINGS, Colour::White, &[1, 1, 1, 1, 1, 1, 1, 1]),
-        (SHORT_ROOK, Colour::Black, &[5, 5, 5, 5, 7, 7, 7, 7]),
-        (SHORT_ROOK, Colour::White, &[1, 1, 1, 1, 1, 1, 1, 1]),
-    ];
-    check_rows(rt, alloc, &rows, &mut Steps::<L>::new(blank))
+    check_rows(rt, alloc, EXIT_ROWS, &mut Steps::<L>::new(blank))
 }
 
 #[test]
@@ -99,18 +114,38 @@ fn solves_exits(rt: HostRuntime) -> Result<(), Fail> {
     solve_exits::<Brand, _>(&rt, rt.alloc(), blank)
 }
 
+/// The code of the first number.
+fn first_code<L: Ledger>(
+    alloc: Global,
+    text: &str,
+    side: Colour,
+    steps: &mut Steps<L>,
+) -> Result<Option<u32>, Fail> {
+    Ok(codes_of(alloc, text, side, steps)?.first().copied())
+}
+
+/// The code of the last number.
+fn last_code<L: Ledger>(
+    alloc: Global,
+    text: &str,
+    side: Colour,
+    steps: &mut Steps<L>,
+) -> Result<Option<u32>, Fail> {
+    Ok(codes_of(alloc, text, side, steps)?.last().copied())
+}
+
 fn solve_ends<L: Ledger, R: Abort>(rt: &R, alloc: Global, blank: Blank) -> Result<(), Fail>
     requires name { blank.name ≡ L.name }
     requires parts { blank.parts ≡ L.parts }
     requires some { 0 < blank.parts }
 {
     let mut steps = Steps::<L>::new(blank);
-    let white = codes_of(alloc, FORBIDDEN, Colour::White, &mut steps)?;
-    assert_eq!(rt; white.first(), Some(&3));
-    let white = codes_of(alloc, STALEMATE, Colour::White, &mut steps)?;
-    assert_eq!(rt; white.last(), Some(&1));
-    let black = codes_of(alloc, STALEMATE, Colour::Black, &mut steps)?;
-    assert_eq!(rt; black.last(), Some(&1));
+    let code = first_code(alloc, FORBIDDEN, Colour::White, &mut steps)?;
+    assert_eq!(rt; code, Some(3));
+    for side in [Colour::White, Colour::Black] {
+        let code = last_code(alloc, STALEMATE, side, &mut steps)?;
+        assert_eq!(rt; code, Some(1), "{side:?}");
+    }
     Ok(())
 }
 
