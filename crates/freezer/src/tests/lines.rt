@@ -1,9 +1,10 @@
 //! Lines over tables made by hand.
+use super::tables::{expect_answer, failing_sink, table_store};
 use super::{
-    CORNER, COUNTED, DRAWN, MATE_IN_ONE, NEXT_TO_IT, RULES, STALEMATE, call, call_fails, no_fails,
-    sink,
+    CORNER, COUNTED, DRAWN, MATE_IN_ONE, NEXT_TO_IT, RULES, STALEMATE, call, call_fails,
+    expect_call, no_fails, sink,
 };
-use frz_handmade::{plain_file, rook, store_with};
+use frz_handmade::{rook, store_with};
 use frz_store::{Fail, MemSink, MemStore};
 use std::alloc::Global;
 use std::process::Abort;
@@ -22,11 +23,14 @@ const HOLDS: &[u32] = &[1; 16];
 
 const QUEEN: &[u32] = &[4, 1, 5, 1];
 
+const NEAR_ROOK_CODES: &[u32] = &[1, 1, 1, 1, 1, 1, 1, 1, 5, 5, 5, 5, 7, 7, 7, 7];
+
 /// The text of the line to the mate.
 const MATED: &str = "white wins within 2\na8b8\nh1h8\nmate\n";
 
 /// A rules text with the codes of its table, and the position and the side of a line; the status
 /// and the text that it gives.
+#[derive(Clone, Copy)]
 struct Row<'a>(&'a [u8], &'a [u32], &'a str, &'a str, u8, &'a str);
 
 const ROWS: &[Row] = &[
@@ -133,23 +137,43 @@ const WRONG: &[Row] = &[
 fn play(
     alloc: Global,
     row: &Row<'_>,
+    store: &mut MemStore,
+    out: &mut MemSink,
+) -> Result<u8, TestFail> {
+    let Row(_, _, fen, side, _, _) = row;
+    call(alloc, &["line", "A.t", fen, side], store, out)
+}
+
+/// Plays the line of a row into a sink, which is to end as the row says.
+fn expect_into(
+    rt: &impl Abort,
+    alloc: Global,
+    row: &Row<'_>,
     fails: Vec<Fail>,
     out: &mut MemSink,
-) -> Result<(u8, u64), TestFail> {
-    let Row(text, codes, fen, side, _, _) = row;
-    let file = plain_file(alloc, text, codes)?;
-    let mut store = store_with(alloc, fails, &[("A.t", &file)])?;
-    let status = call(alloc, &["line", "A.t", fen, side], &mut store, out)?;
-    Ok((status, store.asked()))
+) -> Result<(), TestFail> {
+    let Row(rules, codes, _, _, status, text) = row;
+    let mut store = table_store(alloc, rules, codes, fails)?;
+    let answer = play(alloc, row, &mut store, out)?;
+    expect_answer(rt, answer, out.taken(), *status, text);
+    Ok(())
+}
+
+/// Plays the line of a row into a sink that takes so many bytes.
+fn expect(
+    rt: &impl Abort,
+    alloc: Global,
+    row: &Row<'_>,
+    fails: Vec<Fail>,
+    room: usize,
+) -> Result<(), TestFail> {
+    let mut out = sink(alloc, room)?;
+    expect_into(rt, alloc, row, fails, &mut out)
 }
 
 fn expect_all(rt: &impl Abort, alloc: Global, rows: &[Row<'_>]) -> Result<(), TestFail> {
     for row in rows {
-        let Row(_, _, _, _, status, text) = row;
-        let mut out = sink(alloc, 200)?;
-        let (answer, _) = play(alloc, row, no_fails(alloc), &mut out)?;
-        assert_eq!(rt; out.taken(), text.as_bytes());
-        assert_eq!(rt; answer, *status);
+        expect(rt, alloc, row, no_fails(alloc), 200)?;
     }
     Ok(())
 }
@@ -164,9 +188,12 @@ fn names_the_first_wrong_code_on_the_way(rt: HostRuntime) -> Result<(), TestFail
     expect_all(&rt, rt.alloc(), WRONG)
 }
 
-const MATING: Row = Row(RULES, ROOK, CORNER, "white", 0, MATED);
+/// The line from the corner to the mate, with the status and the text of its end.
+fn mating(status: u8, text: &str) -> Row<'_> {
+    Row(RULES, ROOK, CORNER, "white", status, text)
+}
 
-/// The number of a call that fails, and the text of the line then.
+/// The number of a call that fails, and the status and the text of the line then.
 const FAULTS: &[(u64, u8, &str)] = &[
     (1, 8, "store fault\n"),
     (4, 8, "store fault\n"),
@@ -180,10 +207,8 @@ const FAULTS: &[(u64, u8, &str)] = &[
 fn a_fault_is_named_behind_the_lines_before_it(rt: HostRuntime) -> Result<(), TestFail> {
     let alloc = rt.alloc();
     for (nth, status, text) in FAULTS {
-        let mut out = sink(alloc, 200)?;
-        let (answer, _) = play(alloc, &MATING, call_fails(alloc, *nth)?, &mut out)?;
-        assert_eq!(rt; out.taken(), text.as_bytes());
-        assert_eq!(rt; answer, *status);
+        let fails = call_fails(alloc, *nth)?;
+        expect(&rt, alloc, &mating(*status, text), fails, 200)?;
     }
     Ok(())
 }
@@ -201,80 +226,75 @@ const CUT_OFF: &[(usize, &str)] = &[
 fn a_line_stops_where_the_sink_fails(rt: HostRuntime) -> Result<(), TestFail> {
     let alloc = rt.alloc();
     for (room, text) in CUT_OFF {
-        let mut out = sink(alloc, *room)?;
-        let (answer, _) = play(alloc, &MATING, no_fails(alloc), &mut out)?;
-        assert_eq!(rt; out.taken(), text.as_bytes());
-        assert_eq!(rt; answer, 9);
+        expect(&rt, alloc, &mating(9, text), no_fails(alloc), *room)?;
     }
-    Ok(())
-}
-
-#[test]
-fn a_line_asks_for_the_codes_of_its_moves(rt: HostRuntime) -> Result<(), TestFail> {
-    let alloc = rt.alloc();
-    let mut out = sink(alloc, 200)?;
-    // 16 bytes and the text, the code of the start, and those of the two moves within the set.
-    let (_, asked) = play(alloc, &MATING, no_fails(alloc), &mut out)?;
-    assert_eq!(rt; asked, 16 + 73 + 4 + 8);
-    Ok(())
-}
-
-/// No mate is forced, and both sides go to and fro.
-const HOLDING: Row = Row(
-    NEAR_ROOK,
-    &[1, 1, 1, 1, 1, 1, 1, 1, 5, 5, 5, 5, 7, 7, 7, 7],
-    "k7/8/1K6/8/8/8/8/2R5 w - - 0 1",
-    "white",
-    0,
-    "",
-);
-
-#[test]
-fn a_hold_is_cut_after_a_hundred_plies(rt: HostRuntime) -> Result<(), TestFail> {
-    let alloc = rt.alloc();
-    let mut out = sink(alloc, 600)?;
-    let (answer, _) = play(alloc, &HOLDING, no_fails(alloc), &mut out)?;
-    let mut text = b"white holds\n".to_vec(alloc)?;
-    for _ in 0..25 {
-        text.extend_from_slice(b"c1c2\na8b8\nc2c1\nb8a8\n")?;
-    }
-    text.extend_from_slice(b"cut\n")?;
-    assert_eq!(rt; out.taken(), text.as_slice());
-    assert_eq!(rt; answer, 0);
-    Ok(())
-}
-
-#[test]
-fn refuses_words_and_tables(rt: HostRuntime) -> Result<(), TestFail> {
-    let alloc = rt.alloc();
-    let mut store = MemStore::new(alloc, no_fails(alloc));
-    store.put("cut.t", b"FREEZER2").or(Err("put"))?;
-    let mut out = sink(alloc, 200)?;
-    let rows: [(&[&str], u8); 5] = [
-        (&["line", "A.t", MATE_IN_ONE], 2),
-        (&["line", "A.t", MATE_IN_ONE, "white", "black"], 2),
-        (&["line", "none.t", MATE_IN_ONE, "white"], 12),
-        (&["line", "none.t", "k7 w", "white"], 4),
-        (&["line", "cut.t", MATE_IN_ONE, "white"], 5),
-    ];
-    for (line, status) in &rows {
-        assert_eq!(rt; call(alloc, line, &mut store, &mut out)?, *status);
-    }
-    assert_eq!(rt;
-        out.taken(),
-        b"words: count\nwords: count\nmissing table\nfen: fields\n\
-          table: truncated 8 due 16\n"
-            .as_slice()
-    );
     Ok(())
 }
 
 #[test]
 fn a_line_is_not_begun_where_the_sink_fails(rt: HostRuntime) -> Result<(), TestFail> {
     let alloc = rt.alloc();
-    let mut out = MemSink::new(alloc, 200, call_fails(alloc, 1)?).or(Err("sink"))?;
-    let (answer, _) = play(alloc, &MATING, no_fails(alloc), &mut out)?;
-    assert_eq!(rt; answer, 9);
-    assert_eq!(rt; out.taken(), b"".as_slice());
+    let mut out = failing_sink(alloc, 0)?;
+    expect_into(&rt, alloc, &mating(9, ""), no_fails(alloc), &mut out)
+}
+
+#[test]
+fn a_line_asks_for_the_codes_of_its_moves(rt: HostRuntime) -> Result<(), TestFail> {
+    let alloc = rt.alloc();
+    let mut store = table_store(alloc, RULES, ROOK, no_fails(alloc))?;
+    let _ = play(alloc, &mating(0, MATED), &mut store, &mut sink(alloc, 200)?)?;
+    // 16 bytes and the text, the code of the start, and those of the two moves within the set.
+    assert_eq!(rt; store.asked(), 16 + 73 + 4 + 8);
+    Ok(())
+}
+
+/// The text of a line in which both sides go to and fro until it is cut.
+fn to_and_fro(alloc: Global) -> Result<String, TestFail> {
+    let mut text = String::from_str(alloc, "white holds\n")?;
+    for _ in 0..25 {
+        text.push_str("c1c2\na8b8\nc2c1\nb8a8\n")?;
+    }
+    text.push_str("cut\n")?;
+    Ok(text)
+}
+
+/// No mate is forced.
+#[test]
+fn a_hold_is_cut_after_a_hundred_plies(rt: HostRuntime) -> Result<(), TestFail> {
+    let alloc = rt.alloc();
+    let text = to_and_fro(alloc)?;
+    let start = "k7/8/1K6/8/8/8/8/2R5 w - - 0 1";
+    let row = Row(NEAR_ROOK, NEAR_ROOK_CODES, start, "white", 0, &text);
+    expect(&rt, alloc, &row, no_fails(alloc), 600)
+}
+
+/// The words of a call that is refused, its status and its text.
+const REFUSED: &[(&[&str], u8, &str)] = &[
+    (&["line", "A.t", MATE_IN_ONE], 2, "words: count\n"),
+    (
+        &["line", "A.t", MATE_IN_ONE, "white", "black"],
+        2,
+        "words: count\n",
+    ),
+    (
+        &["line", "none.t", MATE_IN_ONE, "white"],
+        12,
+        "missing table\n",
+    ),
+    (&["line", "none.t", "k7 w", "white"], 4, "fen: fields\n"),
+    (
+        &["line", "cut.t", MATE_IN_ONE, "white"],
+        5,
+        "table: truncated 8 due 16\n",
+    ),
+];
+
+#[test]
+fn refuses_words_and_tables(rt: HostRuntime) -> Result<(), TestFail> {
+    let alloc = rt.alloc();
+    let mut store = store_with(alloc, no_fails(alloc), &[("cut.t", b"FREEZER2")])?;
+    for (line, status, text) in REFUSED {
+        expect_call(&rt, alloc, &mut store, line, *status, text)?;
+    }
     Ok(())
 }

@@ -1,7 +1,8 @@
 //! Tables of the former format, made by hand from its definition, and what `migrate` makes of them.
+use super::tables::expect_answer;
 use super::{call, expect_call, no_fails, sink};
 use frz_handmade::{plain_file, store_with, table_file};
-use frz_store::{Fail, FailOn};
+use frz_store::{Fail, FailOn, MemStore};
 use std::alloc::Global;
 use std::process::Abort;
 use std::test::Fail as TestFail;
@@ -82,6 +83,15 @@ pub(super) fn former_rooks(alloc: Global) -> Result<Vec<u8>, TestFail> {
     former(alloc, FORMER)
 }
 
+/// A store whose calls fail so and that holds this former file.
+fn store_of(alloc: Global, former: &[u8], fails: Vec<Fail>) -> Result<MemStore, TestFail> {
+    store_with(alloc, fails, &[("O.t", former)])
+}
+
+fn expect_file(rt: &impl Abort, store: &MemStore, name: &str, bytes: Option<&[u8]>) {
+    assert_eq!(rt; store.file(name), bytes);
+}
+
 fn expect_rewritten(
     rt: &impl Abort,
     alloc: Global,
@@ -95,8 +105,8 @@ fn expect_rewritten(
     ];
     let mut store = store_with(alloc, no_fails(alloc), &files)?;
     expect_call(rt, alloc, &mut store, LINE, 0, "migrated 16\n")?;
-    assert_eq!(rt; store.file("N.t").ok_or("no file")?, today.as_slice());
-    assert_eq!(rt; store.file("O.t").ok_or("no file")?, former.as_slice());
+    expect_file(rt, &store, "N.t", Some(&today));
+    expect_file(rt, &store, "O.t", Some(&former));
     Ok(())
 }
 
@@ -108,20 +118,46 @@ fn rewrites_tables(rt: HostRuntime) -> Result<(), TestFail> {
     Ok(())
 }
 
+fn expect_length(
+    rt: &impl Abort,
+    store: &MemStore,
+    name: &str,
+    length: usize,
+) -> Result<(), TestFail> {
+    let file = store.file(name).ok_or("no file")?;
+    assert_eq!(rt; file.len(), length);
+    Ok(())
+}
+
+/// Two files of the store hold the same.
+fn expect_same(rt: &impl Abort, store: &MemStore, one: &str, other: &str) -> Result<(), TestFail> {
+    let file = store.file(one).ok_or("no file")?;
+    expect_file(rt, store, other, Some(file));
+    Ok(())
+}
+
+/// A store with the former file of up to two rooks, and its rules text under `M`.
+fn rules_and_former(alloc: Global) -> Result<MemStore, TestFail> {
+    let former = former_rooks(alloc)?;
+    store_with(alloc, no_fails(alloc), &[("M", ROOKS), ("O.t", &former)])
+}
+
+/// Calls over one store, one behind the other: the words of each and the text that it answers.
+const REBUILT: &[(&[&str], &str)] = &[
+    (LINE, "migrated 16\n"),
+    (&["check", "N.t"], "exact 16\n"),
+    (&["build", "M", "M.t"], "built 16\n"),
+];
+
 #[test]
 fn rewrites_the_former_file_of_a_text_to_what_build_makes(rt: HostRuntime) -> Result<(), TestFail> {
     let alloc = rt.alloc();
-    let former = former_rooks(alloc)?;
-    assert_eq!(rt; former.len(), 379);
-    let files = [("M", ROOKS), ("O.t", former.as_slice())];
-    let mut store = store_with(alloc, no_fails(alloc), &files)?;
-    expect_call(&rt, alloc, &mut store, LINE, 0, "migrated 16\n")?;
-    expect_call(&rt, alloc, &mut store, &["check", "N.t"], 0, "exact 16\n")?;
-    let build = ["build", "M", "M.t"];
-    expect_call(&rt, alloc, &mut store, &build, 0, "built 16\n")?;
-    let built = store.file("M.t").ok_or("no file")?;
-    assert_eq!(rt; store.file("N.t").ok_or("no file")?, built);
-    Ok(())
+    let mut store = rules_and_former(alloc)?;
+    expect_length(&rt, &store, "O.t", 379)?;
+    for (line, text) in REBUILT {
+        expect_call(&rt, alloc, &mut store, line, 0, text)?;
+    }
+    expect_same(&rt, &store, "M.t", "N.t")
 }
 
 /// A call over a store with these bytes under `O.t`, and how it is refused.
@@ -130,10 +166,10 @@ struct Refused<'a>(&'a [u8], &'a [&'a str], u8, &'a str);
 
 fn expect_refused(rt: &impl Abort, alloc: Global, refused: &Refused<'_>) -> Result<(), TestFail> {
     let Refused(bytes, line, status, text) = refused;
-    let mut store = store_with(alloc, no_fails(alloc), &[("O.t", bytes)])?;
+    let mut store = store_of(alloc, bytes, no_fails(alloc))?;
     expect_call(rt, alloc, &mut store, line, *status, text)?;
-    assert_eq!(rt; store.file("O.t").ok_or("no file")?, *bytes);
-    assert_eq!(rt; store.file("N.t").is_none(), true);
+    expect_file(rt, &store, "O.t", Some(bytes));
+    expect_file(rt, &store, "N.t", None);
     Ok(())
 }
 
@@ -155,31 +191,38 @@ fn refuses_words_and_missing_tables(rt: HostRuntime) -> Result<(), TestFail> {
     Ok(())
 }
 
+/// Rewriting these bytes is refused with this text.
+fn expect_bad(rt: &impl Abort, alloc: Global, bytes: &[u8], text: &str) -> Result<(), TestFail> {
+    expect_refused(rt, alloc, &Refused(bytes, LINE, 5, text))
+}
+
 #[test]
-fn refuses_files_that_are_cut_too_long_or_of_another_kind(rt: HostRuntime) -> Result<(), TestFail> {
+fn refuses_files_of_another_kind(rt: HostRuntime) -> Result<(), TestFail> {
+    let alloc = rt.alloc();
+    let former = former_rooks(alloc)?;
+    let check = Refused(&former, &["check", "O.t"], 5, "table: magic\n");
+    expect_refused(&rt, alloc, &check)?;
+    let today = plain_file(alloc, ROOKS, TODAY)?;
+    expect_bad(&rt, alloc, &today, "table: magic\n")
+}
+
+#[test]
+fn refuses_files_that_are_cut_or_too_long(rt: HostRuntime) -> Result<(), TestFail> {
     let alloc = rt.alloc();
     let mut former = former_rooks(alloc)?;
-    let magic = "table: magic\n";
-    expect_refused(&rt, alloc, &Refused(&former, &["check", "O.t"], 5, magic))?;
-    let today = plain_file(alloc, ROOKS, TODAY)?;
-    expect_refused(&rt, alloc, &Refused(&today, LINE, 5, magic))?;
     let cut = former.get(..378).ok_or("front")?;
-    let truncated = "table: truncated 378 due 379\n";
-    expect_refused(&rt, alloc, &Refused(cut, LINE, 5, truncated))?;
+    expect_bad(&rt, alloc, cut, "table: truncated 378 due 379\n")?;
     former.push(0)?;
-    let extra = "table: extra 380 due 379\n";
-    expect_refused(&rt, alloc, &Refused(&former, LINE, 5, extra))
+    expect_bad(&rt, alloc, &former, "table: extra 380 due 379\n")
 }
 
 #[test]
 fn refuses_other_sizes_and_too_many_former_numbers(rt: HostRuntime) -> Result<(), TestFail> {
     let alloc = rt.alloc();
     let sized = table_file(alloc, b"FREEZER1", ROOKS, 16, FORMER)?;
-    let size = "table: size 16 due 36\n";
-    expect_refused(&rt, alloc, &Refused(&sized, LINE, 5, size))?;
+    expect_bad(&rt, alloc, &sized, "table: size 16 due 36\n")?;
     let many = table_file(alloc, b"FREEZER1", PAWNS, 33_554_432, &[])?;
-    let big = "table: rules 0: set too big 33554432\n";
-    expect_refused(&rt, alloc, &Refused(&many, LINE, 5, big))
+    expect_bad(&rt, alloc, &many, "table: rules 0: set too big 33554432\n")
 }
 
 /// Which call fails, how often it was called, what it keeps of its piece, and the length of the
@@ -201,19 +244,27 @@ const CUT: &[Cut] = &[
     Cut(FailOn::Append, 5, 64, Some(219)),
 ];
 
-fn expect_cut(rt: &impl Abort, alloc: Global, cut: &Cut) -> Result<(), TestFail> {
-    let Cut(on, nth, keep, left) = cut;
+/// A store that holds the former file of up to two rooks and fails at this cut.
+fn cut_store(alloc: Global, cut: &Cut) -> Result<MemStore, TestFail> {
+    let Cut(on, nth, keep, _) = cut;
     let fail = Fail {
         on: *on,
         nth: *nth,
         keep: *keep,
     };
-    let former = former_rooks(alloc)?;
-    let mut store = store_with(alloc, vec![in alloc; fail]?, &[("O.t", &former)])?;
+    store_of(alloc, &former_rooks(alloc)?, vec![in alloc; fail]?)
+}
+
+/// The front of a file that is left, if any is.
+fn front(file: &[u8], left: Option<usize>) -> Option<&[u8]> {
+    file.get(..left?)
+}
+
+fn expect_cut(rt: &impl Abort, alloc: Global, cut: &Cut) -> Result<(), TestFail> {
+    let mut store = cut_store(alloc, cut)?;
     expect_call(rt, alloc, &mut store, LINE, 8, "store fault\n")?;
     let today = plain_file(alloc, ROOKS, TODAY)?;
-    let part = left.and_then(|length| today.get(..length));
-    assert_eq!(rt; store.file("N.t"), part);
+    expect_file(rt, &store, "N.t", front(&today, cut.3));
     Ok(())
 }
 
@@ -225,14 +276,18 @@ fn leaves_a_part_where_the_store_fails(rt: HostRuntime) -> Result<(), TestFail> 
     Ok(())
 }
 
+/// Rewrites a table of the store over a sink that takes three bytes.
+fn expect_taken(rt: &impl Abort, alloc: Global, store: &mut MemStore) -> Result<(), TestFail> {
+    let mut out = sink(alloc, 3)?;
+    let status = call(alloc, LINE, store, &mut out)?;
+    expect_answer(rt, status, out.taken(), 9, "mig");
+    Ok(())
+}
+
 #[test]
 fn rewrites_the_file_where_only_the_line_is_not_taken(rt: HostRuntime) -> Result<(), TestFail> {
     let alloc = rt.alloc();
-    let former = former_rooks(alloc)?;
-    let mut store = store_with(alloc, no_fails(alloc), &[("O.t", &former)])?;
-    let mut out = sink(alloc, 3)?;
-    assert_eq!(rt; call(alloc, LINE, &mut store, &mut out)?, 9);
-    assert_eq!(rt; out.taken(), b"mig".as_slice());
-    assert_eq!(rt; store.file("N.t").map(|file| file.len()), Some(219));
-    Ok(())
+    let mut store = store_of(alloc, &former_rooks(alloc)?, no_fails(alloc))?;
+    expect_taken(&rt, alloc, &mut store)?;
+    expect_length(&rt, &store, "N.t", 219)
 }

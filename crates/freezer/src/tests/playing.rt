@@ -1,7 +1,8 @@
 //! Sessions over tables made by hand.
+use super::tables::{expect_answer, table_store};
 use super::{CORNER, DRAWN, MATE_IN_ONE, NEXT_TO_IT, RULES, call_fails, no_fails, sink};
 use crate::run_once;
-use frz_handmade::{plain_file, rook, store_with};
+use frz_handmade::rook;
 use frz_store::{Fail, MemSink, MemSource};
 use std::alloc::Global;
 use std::process::Abort;
@@ -15,6 +16,7 @@ const KINGS: &str = "7k/8/8/8/8/8/8/K7 w - - 0 1";
 
 /// A table by its rules text and codes, a position and a side, the input; the status, the text, and
 /// what is left of the input.
+#[derive(Clone, Copy)]
 struct Row<'a>(
     &'a [u8],
     &'a [u32],
@@ -129,80 +131,89 @@ const ROWS: &[Row] = &[
     ),
 ];
 
-/// Plays a session of a row over a source that fails so, with room for so much text.
+fn words_of(alloc: Global, line: &[&str]) -> Result<Vec<String>, TestFail> {
+    let mut words = Vec::new(alloc);
+    for word in line {
+        words.push(String::from_str(alloc, word)?)?;
+    }
+    Ok(words)
+}
+
+/// Plays a session of a row over this input.
 fn play(
     alloc: Global,
     row: &Row<'_>,
-    fails: Vec<Fail>,
+    input: &mut MemSource,
     out: &mut MemSink,
-) -> Result<(u8, Vec<u8>), TestFail> {
-    let Row(text, codes, fen, side, bytes, _, _, _) = row;
-    let file = plain_file(alloc, text, codes)?;
-    let mut store = store_with(alloc, no_fails(alloc), &[("A.t", &file)])?;
-    let mut words = Vec::new(alloc);
-    for word in ["play", "A.t", fen, side] {
-        words.push(String::from_str(alloc, word)?)?;
-    }
-    let mut input = MemSource::new(bytes.to_vec(alloc)?, fails);
-    let status = run_once(alloc, &words, &mut store, &mut input, out);
-    Ok((status, input.left().to_vec(alloc)?))
+) -> Result<u8, TestFail> {
+    let Row(text, codes, fen, side, _, _, _, _) = row;
+    let mut store = table_store(alloc, text, codes, no_fails(alloc))?;
+    let words = words_of(alloc, &["play", "A.t", fen, side])?;
+    Ok(run_once(alloc, &words, &mut store, input, out))
 }
 
-fn expect(rt: &impl Abort, alloc: Global, row: &Row<'_>) -> Result<(), TestFail> {
-    let Row(_, _, _, _, _, status, text, left) = row;
-    let mut out = sink(alloc, 300)?;
-    let (answer, rest) = play(alloc, row, no_fails(alloc), &mut out)?;
-    assert_eq!(rt; out.taken(), text.as_bytes());
-    assert_eq!(rt; answer, *status);
-    assert_eq!(rt; rest.as_slice(), *left);
+fn expect_left(rt: &impl Abort, left: &[u8], due: &[u8]) {
+    assert_eq!(rt; left, due);
+}
+
+/// Plays a session of a row over a source that fails so, with room for so much text.
+fn expect(
+    rt: &impl Abort,
+    alloc: Global,
+    row: &Row<'_>,
+    fails: Vec<Fail>,
+    room: usize,
+) -> Result<(), TestFail> {
+    let Row(_, _, _, _, bytes, status, text, left) = row;
+    let mut input = MemSource::new(bytes.to_vec(alloc)?, fails);
+    let mut out = sink(alloc, room)?;
+    let answer = play(alloc, row, &mut input, &mut out)?;
+    expect_answer(rt, answer, out.taken(), *status, text);
+    expect_left(rt, input.left(), left);
     Ok(())
 }
 
 #[test]
 fn plays_sessions(rt: HostRuntime) -> Result<(), TestFail> {
+    let alloc = rt.alloc();
     for row in ROWS {
-        expect(&rt, rt.alloc(), row)?;
+        expect(&rt, alloc, row, no_fails(alloc), 300)?;
     }
     Ok(())
 }
 
-const FAILING: Row = Row(DRAWN, HOLDS, KINGS, "white", b"h8h7\n", 10, "", b"");
+const FAILING: Row = Row(
+    DRAWN,
+    HOLDS,
+    KINGS,
+    "white",
+    b"h8h7\n",
+    10,
+    "white holds\nmove a1b1\ninput fault\n",
+    b"h8h7\n",
+);
 
 #[test]
 fn names_a_fault_of_the_input(rt: HostRuntime) -> Result<(), TestFail> {
     let alloc = rt.alloc();
-    let fails = call_fails(alloc, 1)?;
-    let mut out = sink(alloc, 300)?;
-    let (answer, rest) = play(alloc, &FAILING, fails, &mut out)?;
-    assert_eq!(rt; answer, 10);
-    assert_eq!(rt;
-        out.taken(),
-        b"white holds\nmove a1b1\ninput fault\n".as_slice()
-    );
-    assert_eq!(rt; rest.as_slice(), b"h8h7\n".as_slice());
-    Ok(())
+    expect(&rt, alloc, &FAILING, call_fails(alloc, 1)?, 300)
+}
+
+/// The text of a session that hears ten thousand lines of no move.
+fn ten_thousand_refusals(alloc: Global) -> Result<String, TestFail> {
+    let mut text = String::from_str(alloc, "white holds\nmove a1b1\n")?;
+    for _ in 0..10_000 {
+        text.push_str("illegal\n")?;
+    }
+    text.push_str("limit lines\n")?;
+    Ok(text)
 }
 
 #[test]
 fn a_session_reads_ten_thousand_lines(rt: HostRuntime) -> Result<(), TestFail> {
     let alloc = rt.alloc();
-    let mut text = b"white holds\nmove a1b1\n".to_vec(alloc)?;
-    for _ in 0..10_000 {
-        text.extend_from_slice(b"illegal\n")?;
-    }
-    text.extend_from_slice(b"limit lines\n")?;
-    let file = plain_file(alloc, DRAWN, HOLDS)?;
-    let mut store = store_with(alloc, no_fails(alloc), &[("D.t", &file)])?;
-    let mut words = Vec::new(alloc);
-    for word in ["play", "D.t", KINGS, "white"] {
-        words.push(String::from_str(alloc, word)?)?;
-    }
-    let mut input = MemSource::new(vec![in alloc; b'\n'; 10_000]?, no_fails(alloc));
-    let mut out = sink(alloc, 90_000)?;
-    assert_eq!(rt;
-        run_once(alloc, &words, &mut store, &mut input, &mut out),
-        13
-    );
-    assert_eq!(rt; out.taken(), text.as_slice());
-    Ok(())
+    let text = ten_thousand_refusals(alloc)?;
+    let lines = vec![in alloc; b'\n'; 10_000]?;
+    let row = Row(DRAWN, HOLDS, KINGS, "white", &lines, 13, &text, b"");
+    expect(&rt, alloc, &row, no_fails(alloc), 90_000)
 }

@@ -1,7 +1,8 @@
 //! Reports of tables, those that the program builds and one made by hand.
+use super::tables::expect_answer;
 use super::{RULES, call, expect_call, no_fails, sink};
 use frz_handmade::store_with;
-use frz_store::{Fail, FailOn};
+use frz_store::{Fail, FailOn, MemStore};
 use std::alloc::Global;
 use std::process::Abort;
 use std::test::Fail as TestFail;
@@ -24,6 +25,14 @@ exit draw if count:white:P:0 count:white:Q:0
 exit white wins if count:white:Q:1 distance:white:d8:0-1
 ";
 
+/// A store whose calls fail so, and in which `T` is the table that is built of a text.
+fn built(alloc: Global, rules: &[u8], fails: Vec<Fail>) -> Result<MemStore, TestFail> {
+    let mut store = store_with(alloc, fails, &[("A", rules)])?;
+    let build = ["build", "A", "T"];
+    let _ = call(alloc, &build, &mut store, &mut sink(alloc, 200)?)?;
+    Ok(store)
+}
+
 /// Builds the table of a text and reports on it, over a sink of so much room.
 fn reported(
     alloc: Global,
@@ -31,36 +40,44 @@ fn reported(
     fails: Vec<Fail>,
     room: usize,
 ) -> Result<(u8, Vec<u8>), TestFail> {
-    let mut store = store_with(alloc, fails, &[("A", rules)])?;
-    let _ = call(
-        alloc,
-        &["build", "A", "T"],
-        &mut store,
-        &mut sink(alloc, 200)?,
-    )?;
+    let mut store = built(alloc, rules, fails)?;
     let mut out = sink(alloc, room)?;
     let status = call(alloc, &["report", "T"], &mut store, &mut out)?;
     Ok((status, out.taken().to_vec(alloc)?))
 }
 
-/// A rules text, and the report of its table.
-const REPORTED: &[(&[u8], &str)] = &[
-    (RULES, "exits 38 KRk\nsqueezes 0 unassigned 38\n"),
-    (
-        LOST,
-        "squeeze 0 1 7k/8/8/8/8/8/8/K7 w - - 0 1\nsqueezes 1 unassigned 0\n",
-    ),
-];
+/// A report on the table of a text, over a sink of so much room, which is to end so with this text.
+fn expect_report(
+    rt: &impl Abort,
+    alloc: Global,
+    rules: &[u8],
+    fails: Vec<Fail>,
+    room: usize,
+    status: u8,
+    text: &str,
+) -> Result<(), TestFail> {
+    let (answer, taken) = reported(alloc, rules, fails, room)?;
+    expect_answer(rt, answer, &taken, status, text);
+    Ok(())
+}
 
 #[test]
-fn reports_on_tables(rt: HostRuntime) -> Result<(), TestFail> {
+fn reports_on_a_table_without_squeezes(rt: HostRuntime) -> Result<(), TestFail> {
     let alloc = rt.alloc();
-    for (rules, text) in REPORTED {
-        let (status, taken) = reported(alloc, rules, no_fails(alloc), 200)?;
-        assert_eq!(rt; taken.as_slice(), text.as_bytes());
-        assert_eq!(rt; status, 0);
-    }
-    Ok(())
+    let text = "exits 38 KRk\nsqueezes 0 unassigned 38\n";
+    expect_report(&rt, alloc, RULES, no_fails(alloc), 200, 0, text)
+}
+
+const LOST_REPORT: &str = "squeeze 0 1 7k/8/8/8/8/8/8/K7 w - - 0 1\nsqueezes 1 unassigned 0\n";
+
+#[test]
+fn reports_on_a_table_with_a_squeeze(rt: HostRuntime) -> Result<(), TestFail> {
+    let alloc = rt.alloc();
+    expect_report(&rt, alloc, LOST, no_fails(alloc), 200, 0, LOST_REPORT)
+}
+
+fn expect_within(rt: &impl Abort, text: &str, line: &str) {
+    assert!(rt; text.contains(line), "{text}");
 }
 
 #[test]
@@ -69,14 +86,8 @@ fn finds_a_known_mutual_zugzwang(rt: HostRuntime) -> Result<(), TestFail> {
     let (status, taken) = reported(alloc, PAWN, no_fails(alloc), 20_000)?;
     assert_eq!(rt; status, 0);
     let text = str::from_utf8(&taken).or(Err("text"))?;
-    assert!(rt;
-        text.contains(" 2k5/8/2KP4/8/8/8/8/8 w - - 0 1\n"),
-        "{text}"
-    );
-    assert!(rt;
-        text.contains(" 4k3/8/3PK3/8/8/8/8/8 w - - 0 1\n"),
-        "{text}"
-    );
+    expect_within(&rt, text, " 2k5/8/2KP4/8/8/8/8/8 w - - 0 1\n");
+    expect_within(&rt, text, " 4k3/8/3PK3/8/8/8/8/8 w - - 0 1\n");
     Ok(())
 }
 
@@ -102,19 +113,23 @@ fn refuses_what_is_no_table(rt: HostRuntime) -> Result<(), TestFail> {
     expect(&rt, alloc, &["report", "none.t"], 12, "missing table\n")
 }
 
+/// The nth read fails.
+fn read_fails(alloc: Global, nth: u64) -> Result<Vec<Fail>, TestFail> {
+    let read = Fail {
+        on: FailOn::Read,
+        nth,
+        keep: 0,
+    };
+    Ok(vec![in alloc; read]?)
+}
+
 /// `build` of the rules makes one read, and `report` four that open the table and two that load it.
 #[test]
 fn names_the_fault_of_each_read(rt: HostRuntime) -> Result<(), TestFail> {
     let alloc = rt.alloc();
     for nth in 2..8 {
-        let read = Fail {
-            on: FailOn::Read,
-            nth,
-            keep: 0,
-        };
-        let (status, taken) = reported(alloc, LOST, vec![in alloc; read]?, 200)?;
-        assert_eq!(rt; status, 8);
-        assert_eq!(rt; taken.as_slice(), b"store fault\n".as_slice());
+        let fails = read_fails(alloc, nth)?;
+        expect_report(&rt, alloc, LOST, fails, 200, 8, "store fault\n")?;
     }
     Ok(())
 }
@@ -122,12 +137,9 @@ fn names_the_fault_of_each_read(rt: HostRuntime) -> Result<(), TestFail> {
 #[test]
 fn stops_where_the_sink_is_full(rt: HostRuntime) -> Result<(), TestFail> {
     let alloc = rt.alloc();
-    let (_, whole) = reported(alloc, LOST, no_fails(alloc), 200)?;
-    for room in 0..whole.len() {
-        let (status, taken) = reported(alloc, LOST, no_fails(alloc), room)?;
-        assert_eq!(rt; status, 9);
-        assert_eq!(rt; taken.len(), room);
-        assert!(rt; whole.starts_with(taken.as_slice()));
+    for room in 0..LOST_REPORT.len() {
+        let front = LOST_REPORT.get(..room).ok_or("front")?;
+        expect_report(&rt, alloc, LOST, no_fails(alloc), room, 9, front)?;
     }
     Ok(())
 }

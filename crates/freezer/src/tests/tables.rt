@@ -1,5 +1,5 @@
 //! Tables made by hand, checked and asked.
-use super::{CORNER, MATE_IN_ONE, RULES, call, call_fails, expect_call, no_fails};
+use super::{CORNER, MATE_IN_ONE, NEXT_TO_IT, RULES, call, call_fails, expect_call, no_fails};
 use frz_handmade::{plain_file, rook, store_with, table_file};
 use frz_store::{Fail, FailOn, MemSink, MemStore};
 use std::alloc::Global;
@@ -53,22 +53,27 @@ const CUT: &[(usize, &str)] = &[
     (152, "table: truncated 152 due 153\n"),
 ];
 
-/// A position with its FEN, and what a query says of it.
-const ASKED: &[(&str, u8, &str)] = &[
-    (MATE_IN_ONE, 0, "white wins within 1\nblack none\n"),
-    (CORNER, 0, "white wins within 2\nblack none\n"),
-    (
-        "1k6/8/1K6/8/8/8/8/7R b - - 0 1",
-        0,
-        "white none\nblack none\n",
-    ),
-    (
-        "rnbqkbnr/pppppppp/8/8/8/8/PPPPPPPP/RNBQKBNR w - - 0 1",
-        7,
-        "outside\n",
-    ),
-    ("k7/8/1K6/8/8/8/8/7R w - - 0", 4, "fen: fields\n"),
-];
+/// A store whose calls fail so and that holds this table.
+fn store_of(alloc: Global, file: &[u8], fails: Vec<Fail>) -> Result<MemStore, TestFail> {
+    store_with(alloc, fails, &[("A.t", file)])
+}
+
+/// A store whose calls fail so and that holds the table of a text with these codes.
+pub(super) fn table_store(
+    alloc: Global,
+    text: &[u8],
+    codes: &[u32],
+    fails: Vec<Fail>,
+) -> Result<MemStore, TestFail> {
+    let file = plain_file(alloc, text, codes)?;
+    store_of(alloc, &file, fails)
+}
+
+/// A call answered with a status and took these bytes, which are to be this status and this text.
+pub(super) fn expect_answer(rt: &impl Abort, answer: u8, taken: &[u8], status: u8, text: &str) {
+    assert_eq!(rt; taken, text.as_bytes());
+    assert_eq!(rt; answer, status);
+}
 
 /// Calls the program over a store with this table.
 fn expect(
@@ -79,8 +84,17 @@ fn expect(
     status: u8,
     text: &str,
 ) -> Result<(), TestFail> {
-    let mut store = store_with(alloc, no_fails(alloc), &[("A.t", file)])?;
+    let mut store = store_of(alloc, file, no_fails(alloc))?;
     expect_call(rt, alloc, &mut store, line, status, text)
+}
+
+/// The bytes of a table with these changes.
+fn with_changes(alloc: Global, file: &[u8], changes: &[(usize, u8)]) -> Result<Vec<u8>, TestFail> {
+    let mut changed = file.to_vec(alloc)?;
+    for (place, byte) in changes {
+        *changed.get_mut(*place).ok_or("place")? = *byte;
+    }
+    Ok(changed)
 }
 
 /// Checks a table with each of these changes.
@@ -90,25 +104,29 @@ fn expect_changed(
     file: &[u8],
     rows: &[Changed<'_>],
 ) -> Result<(), TestFail> {
-    for row in rows {
-        let Changed(changes, status, text) = row;
-        let mut changed = file.to_vec(alloc)?;
-        for (place, byte) in *changes {
-            if let Some(cell) = changed.get_mut(*place) {
-                *cell = *byte;
-            }
-        }
-        expect(rt, alloc, &changed, &["check", "A.t"], *status, text)?;
+    for Changed(changes, status, text) in rows {
+        let table = with_changes(alloc, file, changes)?;
+        expect(rt, alloc, &table, &["check", "A.t"], *status, text)?;
     }
     Ok(())
+}
+
+/// The table of the rook.
+fn rook_file(alloc: Global) -> Result<Vec<u8>, TestFail> {
+    plain_file(alloc, RULES, &rook::CODES)
 }
 
 #[test]
 fn checks_tables(rt: HostRuntime) -> Result<(), TestFail> {
     let alloc = rt.alloc();
-    let file = plain_file(alloc, RULES, &rook::CODES)?;
+    let file = rook_file(alloc)?;
     assert_eq!(rt; file.len(), 153);
-    expect_changed(&rt, alloc, &file, ROOK_ROWS)?;
+    expect_changed(&rt, alloc, &file, ROOK_ROWS)
+}
+
+#[test]
+fn checks_tables_where_no_mate_is_forced(rt: HostRuntime) -> Result<(), TestFail> {
+    let alloc = rt.alloc();
     let near = plain_file(alloc, NEAR_ROOK, &NEAR_ROOK_CODES)?;
     expect_changed(&rt, alloc, &near, NEAR_ROOK_ROWS)
 }
@@ -166,75 +184,109 @@ fn sizes_are_those_of_the_rules(rt: HostRuntime) -> Result<(), TestFail> {
 }
 
 #[test]
-fn refuses_tables_that_are_cut_too_long_or_missing(rt: HostRuntime) -> Result<(), TestFail> {
+fn refuses_tables_that_are_cut(rt: HostRuntime) -> Result<(), TestFail> {
     let alloc = rt.alloc();
-    let mut file = plain_file(alloc, RULES, &rook::CODES)?;
+    let file = rook_file(alloc)?;
     for (left, text) in CUT {
         let front = file.get(..*left).ok_or("front")?;
         expect(&rt, alloc, front, &["check", "A.t"], 5, text)?;
     }
-    expect(
-        &rt,
-        alloc,
-        &file,
-        &["check", "none.t"],
-        12,
-        "missing table\n",
-    )?;
-    expect(
-        &rt,
-        alloc,
-        &file,
-        &["query", "none.t", CORNER],
-        12,
-        "missing table\n",
-    )?;
-    expect(&rt, alloc, &file, &["check"], 2, "words: count\n")?;
-    expect(&rt, alloc, &file, &["query", "A.t"], 2, "words: count\n")?;
-    file.push(0)?;
-    let text = "table: extra 154 due 153\n";
-    expect(&rt, alloc, &file, &["check", "A.t"], 5, text)?;
-    expect(&rt, alloc, &file, &["query", "A.t", CORNER], 5, text)
+    Ok(())
 }
+
+/// The words of a call, its status and its text.
+type Answered<'a> = (&'a [&'a str], u8, &'a str);
+
+/// Calls the program over stores with this table.
+fn expect_all(
+    rt: &impl Abort,
+    alloc: Global,
+    file: &[u8],
+    rows: &[Answered<'_>],
+) -> Result<(), TestFail> {
+    for (line, status, text) in rows {
+        expect(rt, alloc, file, line, *status, text)?;
+    }
+    Ok(())
+}
+
+const MISSING: &[Answered] = &[
+    (&["check", "none.t"], 12, "missing table\n"),
+    (&["query", "none.t", CORNER], 12, "missing table\n"),
+    (&["check"], 2, "words: count\n"),
+    (&["query", "A.t"], 2, "words: count\n"),
+];
+
+#[test]
+fn refuses_missing_tables_and_words(rt: HostRuntime) -> Result<(), TestFail> {
+    let alloc = rt.alloc();
+    expect_all(&rt, alloc, &rook_file(alloc)?, MISSING)
+}
+
+const TOO_LONG: &[Answered] = &[
+    (&["check", "A.t"], 5, "table: extra 154 due 153\n"),
+    (&["query", "A.t", CORNER], 5, "table: extra 154 due 153\n"),
+];
+
+#[test]
+fn refuses_tables_that_are_too_long(rt: HostRuntime) -> Result<(), TestFail> {
+    let alloc = rt.alloc();
+    let mut file = rook_file(alloc)?;
+    file.push(0)?;
+    expect_all(&rt, alloc, &file, TOO_LONG)
+}
+
+const MATE: &str = "white wins within 1\nblack none\n";
+
+/// What a query says of the corner.
+const FORCED: &str = "white wins within 2\nblack none\n";
+
+const CUT_FEN: &str = "k7/8/1K6/8/8/8/8/7R w - - 0";
+
+const START: &str = "rnbqkbnr/pppppppp/8/8/8/8/PPPPPPPP/RNBQKBNR w - - 0 1";
+
+const ASKED: &[Answered] = &[
+    (&["query", "A.t", MATE_IN_ONE], 0, MATE),
+    (&["query", "A.t", CORNER], 0, FORCED),
+    (&["query", "A.t", NEXT_TO_IT], 0, "white none\nblack none\n"),
+    (&["query", "A.t", START], 7, "outside\n"),
+    (&["query", "A.t", CUT_FEN], 4, "fen: fields\n"),
+];
 
 #[test]
 fn asks_tables(rt: HostRuntime) -> Result<(), TestFail> {
     let alloc = rt.alloc();
-    let file = plain_file(alloc, RULES, &rook::CODES)?;
-    for (fen, status, text) in ASKED {
-        expect(&rt, alloc, &file, &["query", "A.t", fen], *status, text)?;
-    }
-    Ok(())
+    expect_all(&rt, alloc, &rook_file(alloc)?, ASKED)
 }
 
 #[test]
 fn a_query_reads_two_codes_in_place(rt: HostRuntime) -> Result<(), TestFail> {
     let alloc = rt.alloc();
-    let file = plain_file(alloc, RULES, &rook::CODES)?;
-    let mut store = store_with(alloc, no_fails(alloc), &[("A.t", &file)])?;
-    let line = ["query", "A.t", CORNER];
-    let text = "white wins within 2\nblack none\n";
-    expect_call(&rt, alloc, &mut store, &line, 0, text)?;
+    let mut store = table_store(alloc, RULES, &rook::CODES, no_fails(alloc))?;
+    expect_call(&rt, alloc, &mut store, &["query", "A.t", CORNER], 0, FORCED)?;
     assert_eq!(rt; store.asked(), 24 + 73);
     Ok(())
+}
+
+/// A sink whose first call fails and takes so many bytes.
+pub(super) fn failing_sink(alloc: Global, keep: u64) -> Result<MemSink, TestFail> {
+    let fails = vec![in alloc;
+        Fail {
+            on: FailOn::Call,
+            nth: 1,
+            keep,
+        },
+    ]?;
+    Ok(MemSink::new(alloc, 200, fails).or(Err("sink"))?)
 }
 
 #[test]
 fn a_check_stops_where_the_sink_fails(rt: HostRuntime) -> Result<(), TestFail> {
     let alloc = rt.alloc();
-    let file = plain_file(alloc, RULES, &rook::CODES)?;
-    let mut store = store_with(alloc, no_fails(alloc), &[("A.t", &file)])?;
-    let fails = vec![in alloc;
-        Fail {
-            on: FailOn::Call,
-            nth: 1,
-            keep: 3
-        },
-    ]?;
-    let mut out = MemSink::new(alloc, 200, fails).or(Err("sink"))?;
+    let mut store = table_store(alloc, RULES, &rook::CODES, no_fails(alloc))?;
+    let mut out = failing_sink(alloc, 3)?;
     let status = call(alloc, &["check", "A.t"], &mut store, &mut out)?;
-    assert_eq!(rt; status, 9);
-    assert_eq!(rt; out.taken(), b"exa".as_slice());
+    expect_answer(&rt, status, out.taken(), 9, "exa");
     Ok(())
 }
 
