@@ -20,6 +20,3 @@ pub use class::{Class, exit_code};
 pub use codes::{is_failure, is_win};
 pub use local::local_code;
 pub use node::Node;
-
-#[cfg(test)]
-mod tests;

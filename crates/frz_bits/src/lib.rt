@@ -8,8 +8,6 @@ mod pawns;
 mod rays;
 mod reach;
 mod sets;
-#[cfg(test)]
-mod tests;
 mod ways;
 mod word;
 

@@ -20,6 +20,3 @@ pub use shape::Shape;
 pub use square::Square;
 pub use step::Move;
 pub use text::{move_text, read_move};
-
-#[cfg(test)]
-mod tests;

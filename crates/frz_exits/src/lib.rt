@@ -11,6 +11,3 @@ pub use book::{ExitBook, RuleBook};
 pub use forbidding::allowed;
 pub use frz_arena::Class;
 pub use value::{class, lag};
-
-#[cfg(test)]
-mod tests;

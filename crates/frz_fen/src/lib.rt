@@ -11,6 +11,3 @@ mod writing;
 pub use fault::FenFault;
 pub use reading::read_fen;
 pub use writing::{cell_letter, write_fen};
-
-#[cfg(test)]
-mod tests;

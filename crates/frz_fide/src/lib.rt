@@ -9,8 +9,6 @@ pub mod laws;
 mod moves;
 mod outcome;
 mod playing;
-#[cfg(test)]
-mod tests;
 mod validity;
 mod ways;
 

@@ -16,6 +16,3 @@ pub use entries::{CodeList, Entries, Pair, fill};
 pub use lists::Lists;
 pub use local_code::{local, local_by};
 pub use numbered_game::{NumberedGame, local_at};
-
-#[cfg(test)]
-mod tests;

@@ -5,8 +5,6 @@
 mod bytes;
 pub mod rook;
 mod stores;
-#[cfg(test)]
-mod tests;
 
 pub use bytes::{plain_file, table_file};
 pub use stores::store_with;

@@ -17,6 +17,3 @@ pub use fault::{LONGEST_TEXT, RulesCause, RulesError, RulesFault};
 pub use frz_combinations::binomial;
 pub use frz_sets::{Cond, Exit, Forbid, Group, Only, Rules, Test, Value, set_size};
 pub use text::read_rules;
-
-#[cfg(test)]
-mod tests;

@@ -5,8 +5,6 @@ pub mod laws;
 mod origin;
 mod reading;
 mod sign;
-#[cfg(test)]
-mod tests;
 mod text;
 mod unsigned;
 mod writing;

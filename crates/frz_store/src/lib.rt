@@ -18,8 +18,6 @@ mod shelf;
 mod standard;
 mod sure_store;
 mod sure_streams;
-#[cfg(test)]
-mod tests;
 
 pub use disk::DiskStore;
 pub use fails::{Fail, FailOn};

@@ -23,6 +23,3 @@ pub use old::{OldFile, open_old};
 pub use opening::{open_kind, open_table};
 pub use table::TableFile;
 pub use writing::{write_entries, write_header, write_header_kind};
-
-#[cfg(test)]
-mod tests;

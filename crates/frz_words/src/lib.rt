@@ -13,6 +13,3 @@ pub use numbers::read_number;
 pub use parts::cut;
 pub use squares::{read_square, read_squares};
 pub use words::{count_words, is_word, next_word};
-
-#[cfg(test)]
-mod tests;

@@ -1,7 +1,12 @@
-//! Worked rules texts and boards, and the tests over them of the crates below that read no text.
+//! Worked rules texts and boards, the tests of the reader of such texts, and the tests over them of
+//! the crates below that read no text.
 #![tactic(auto)]
 
 pub mod boards;
+#[cfg(test)]
+mod bounds;
+#[cfg(test)]
+mod codes;
 #[cfg(test)]
 mod exits;
 #[cfg(test)]
@@ -11,8 +16,14 @@ mod moves_back;
 #[cfg(test)]
 mod numbers;
 #[cfg(test)]
+mod reading;
+#[cfg(test)]
 mod retro;
 #[cfg(test)]
 mod sweeps;
 pub mod ten;
 pub mod texts;
+#[cfg(test)]
+mod values;
+#[cfg(test)]
+mod words;

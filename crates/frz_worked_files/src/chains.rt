@@ -105,17 +105,17 @@ fn built<L: Ledger>(
     alloc: Global,
     blank: Blank,
     store: &mut MemStore,
-    text: &str,
+    text: &[u8],
 ) -> Result<u32, ChainFault>
     requires name { blank.name ≡ L.name }
     requires parts { blank.parts ≡ L.parts }
     requires some { 0 < blank.parts }
 {
     let mut steps = Steps::<L>::new(blank);
-    build_chain(alloc, store, text.as_bytes(), "B", "T", &mut steps)
+    build_chain(alloc, store, text, "B", "T", &mut steps)
 }
 
-fn build(alloc: Global, store: &mut MemStore, text: &str) -> Result<u32, ChainFault> {
+fn build(alloc: Global, store: &mut MemStore, text: &[u8]) -> Result<u32, ChainFault> {
     let blank = Blank::new(1);
     built::<Brand>(alloc, blank, store, text)
 }
@@ -142,7 +142,7 @@ fn pairs_of_codes(rt: HostRuntime) {
 /// Builds the table of a text of the rook's ending over that of NEXT.
 fn expect_built(rt: &impl Abort, alloc: Global, text: &str) -> Result<(), Fail> {
     let mut store = next_alone(alloc, &NEXT_CODES)?;
-    assert!(rt; build(alloc, &mut store, text) == Ok(8));
+    assert!(rt; build(alloc, &mut store, text.as_bytes()) == Ok(8));
     let due = chained(alloc, text)?;
     assert_eq!(rt; store.file("T").ok_or("missing")?, due.as_slice());
     Ok(())
@@ -226,7 +226,7 @@ const BACK_WRONG: ChainFault = ChainFault::BackWrong(Wrong {
 fn nothing_is_built_over_a_wrong_back_table(rt: HostRuntime) -> Result<(), Fail> {
     let alloc = rt.alloc();
     let mut store = next_alone(alloc, &WRONG_BACK)?;
-    assert!(rt; build(alloc, &mut store, rook::TEXT) == Err(BACK_WRONG));
+    assert!(rt; build(alloc, &mut store, rook::TEXT.as_bytes()) == Err(BACK_WRONG));
     assert!(rt; store.file("T").is_none());
     Ok(())
 }
@@ -247,9 +247,9 @@ fn a_text_is_refused_before_the_back_table(rt: HostRuntime) {
         line: 0,
         cause: RulesCause::Header,
     };
-    assert!(rt; build(alloc, &mut store, "") == Err(ChainFault::Rules(header)));
+    assert!(rt; build(alloc, &mut store, b"") == Err(ChainFault::Rules(header)));
     let missing = ChainFault::Back(TableFault::Missing);
-    assert!(rt; build(alloc, &mut store, rook::TEXT) == Err(missing));
+    assert!(rt; build(alloc, &mut store, rook::TEXT.as_bytes()) == Err(missing));
 }
 
 /// Refuses this call of the store.

@@ -1,4 +1,5 @@
-//! Tests over table files made by hand, of the crates that check, read and chain such files.
+//! Tests of the outside, and over table files made by hand, of the crates that read such files and
+//! play by them.
 #![tactic(auto)]
 
 #[cfg(test)]
@@ -6,10 +7,16 @@ mod chains;
 #[cfg(test)]
 mod checks;
 #[cfg(test)]
+mod handmade;
+#[cfg(test)]
 mod lines;
+#[cfg(test)]
+mod outside;
 #[cfg(test)]
 mod reports;
 #[cfg(test)]
 mod sessions;
 #[cfg(test)]
 mod stores;
+#[cfg(test)]
+mod tables;

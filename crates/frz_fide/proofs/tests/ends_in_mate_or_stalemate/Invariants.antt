@@ -1,5 +1,0 @@
--- The brand stands for the blank ledger of the test.
-use Rattle.frz_fide.proofs.tests.ends_in_mate_or_stalemate.Given as goal
-
-abbrev pub ghosts-end_games : goal.ghosts-end_games
-ghosts-end_games g a = record { name = a.blank.name; parts = a.blank.parts }

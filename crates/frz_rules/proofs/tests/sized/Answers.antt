@@ -1,4 +1,0 @@
-use Rattle.frz_rules.proofs.tests.sized.Goals as goal
-
-pub set_size-requires : goal.set_size-requires
-set_size-requires g c = (c.in-Ok.ensures).lines

@@ -1,0 +1,181 @@
+//! Texts of moves, written and read: what the rules of notation say of boards set up by hand.
+ghost use Rattle.std.specs.Prelude.{◌≡◌, ◌<◌};
+ghost use Rattle.frz_fide.specs.Valid.{IsValid};
+
+use crate::placement::set_up_valid;
+use frz_board::{Colour, Position, move_text};
+use frz_fide::{legal_moves, play};
+use frz_san::{read_san, san, san_among};
+use frz_steps::Steps;
+use std::alloc::Global;
+use std::marker::Brand;
+use std::process::Abort;
+use std::sync::ledger::{Blank, Ledger};
+use std::test::Fail;
+
+/// The texts of the legal moves, each with a space behind it. Behind a text that `san` gives
+/// otherwise than `san_among` comes `!`, and behind one that is not read back `?`.
+fn sans_of<L: Ledger>(alloc: Global, p: &Position, steps: &mut Steps<L>) -> Result<String, Fail>
+    requires { IsValid p.now }
+{
+    let mut text = String::new(alloc);
+    let moves = legal_moves(p, steps);
+    for m in &moves {
+        if play(p, *m).is_some() {
+            let among = san_among(p, &moves, *m, steps);
+            text.push_str(among.as_str())?;
+            if san(p, *m, steps).as_str() != among.as_str() {
+                text.push('!')?;
+            }
+            if read_san(p, among.as_bytes(), steps) != Some(*m) {
+                text.push('?')?;
+            }
+            text.push(' ')?;
+        }
+    }
+    Ok(text)
+}
+
+/// The move of a text, as coordinates, or nothing.
+fn read<L: Ledger>(
+    alloc: Global,
+    p: &Position,
+    text: &str,
+    steps: &mut Steps<L>,
+) -> Result<String, Fail>
+    requires { IsValid p.now }
+{
+    let mut answer = String::new(alloc);
+    if let Some(m) = read_san(p, text.as_bytes(), steps) {
+        answer.push_str(move_text(m).as_str())?;
+    }
+    Ok(answer)
+}
+
+/// A placement, the side to move and its target; and the texts of its moves.
+const WRITTEN: &[(&str, Colour, Option<u8>, &str)] = &[
+    // en passant; promotion; promotion with capture, with check or without
+    (
+        "8/8/8/3pP3/8/8/8/K1k5",
+        Colour::White,
+        Some(43),
+        "Ka2 exd6 e6 ",
+    ),
+    (
+        "8/P7/8/8/8/8/8/K1k5",
+        Colour::White,
+        None,
+        "Ka2 a8=Q a8=R a8=B a8=N ",
+    ),
+    (
+        "1n1k4/P7/8/8/8/8/8/K7",
+        Colour::White,
+        None,
+        "Kb1 Ka2 Kb2 a8=Q a8=R a8=B a8=N axb8=Q+ axb8=R+ axb8=B axb8=N ",
+    ),
+    // the knight on e2 is pinned, so that Nc3 needs no origin
+    (
+        "4r2k/8/8/8/8/8/4N3/1N2K3",
+        Colour::White,
+        None,
+        "Nd2 Na3 Nc3 Kd1 Kf1 Kd2 Kf2 ",
+    ),
+    // e6 lets d4 block the bishop; en passant takes that pawn from the board, and mates
+    (
+        "6bk/7p/8/3pP3/8/8/8/B1K5",
+        Colour::White,
+        Some(43),
+        "Bb2 Bc3 Bd4 Kb1 Kd1 Kb2 Kc2 Kd2 exd6# e6+ ",
+    ),
+    // mate, and stalemate
+    ("k6R/8/1K6/8/8/8/8/8", Colour::Black, None, ""),
+    ("k7/8/1Q6/8/8/8/8/4K3", Colour::Black, None, ""),
+];
+
+fn written_at<L: Ledger>(
+    alloc: Global,
+    placement: &str,
+    turn: Colour,
+    target: Option<u8>,
+    steps: &mut Steps<L>,
+) -> Result<String, Fail> {
+    let p = set_up_valid(placement, turn, target)?;
+    sans_of(alloc, &p, steps)
+}
+
+fn write_moves<L: Ledger, R: Abort>(rt: &R, alloc: Global, blank: Blank) -> Result<(), Fail>
+    requires name { blank.name ≡ L.name }
+    requires parts { blank.parts ≡ L.parts }
+    requires some { 0 < blank.parts }
+{
+    let mut steps = Steps::<L>::new(blank);
+    for (placement, turn, target, texts) in WRITTEN {
+        let written = written_at(alloc, placement, *turn, *target, &mut steps)?;
+        assert_eq!(rt; written.as_str(), *texts, "{placement}");
+    }
+    Ok(())
+}
+
+#[test]
+fn writes_moves_and_reads_them_back(rt: HostRuntime) -> Result<(), Fail> {
+    let blank = Blank::new(1);
+    write_moves::<Brand, _>(&rt, rt.alloc(), blank)
+}
+
+const MATE: &str = "k7/8/1K6/8/8/8/8/7R";
+
+const ROOKS: &str = "4k3/8/8/R7/8/8/8/R3K3";
+
+const QUEENS: &str = "8/7k/8/8/8/Q7/8/Q1Q3K1";
+
+const KNIGHTS: &str = "4r2k/8/8/8/8/8/4N3/1N2K3";
+
+/// A placement with White to move, a text, and the coordinates of its move.
+const READ: &[(&str, &str, &str)] = &[
+    // a sign may be left out, and no other may stand for it
+    (MATE, "Rh8", "h1h8"),
+    (MATE, "Rh8#", "h1h8"),
+    (MATE, "Rh8+", ""),
+    (MATE, "Rh8##", ""),
+    // an origin that is not needed is refused
+    (MATE, "R1h8", ""),
+    (KNIGHTS, "Nc3", "b1c3"),
+    (KNIGHTS, "Nbc3", ""),
+    // two rooks on one file, so the rank; queens on the file and on the rank, so both
+    (ROOKS, "R1a3", "a1a3"),
+    (ROOKS, "Raa3", ""),
+    (QUEENS, "Qa1b2", "a1b2"),
+    (QUEENS, "Qab2", ""),
+    (QUEENS, "Q3b2", "a3b2"),
+    (QUEENS, "Qcb2", "c1b2"),
+    (MATE, "", ""),
+];
+
+fn read_at<L: Ledger>(
+    alloc: Global,
+    placement: &str,
+    text: &str,
+    steps: &mut Steps<L>,
+) -> Result<String, Fail> {
+    let p = set_up_valid(placement, Colour::White, None)?;
+    read(alloc, &p, text, steps)
+}
+
+fn read_moves<L: Ledger, R: Abort>(rt: &R, alloc: Global, blank: Blank) -> Result<(), Fail>
+    requires name { blank.name ≡ L.name }
+    requires parts { blank.parts ≡ L.parts }
+    requires some { 0 < blank.parts }
+{
+    let mut steps = Steps::<L>::new(blank);
+    for (placement, text, coordinates) in READ {
+        let m = read_at(alloc, placement, text, &mut steps)?;
+        assert_eq!(rt; m.as_str(), *coordinates, "{text}");
+    }
+    Ok(())
+}
+
+#[test]
+fn reads_texts_with_and_without_a_sign(rt: HostRuntime) -> Result<(), Fail> {
+    let blank = Blank::new(1);
+    read_moves::<Brand, _>(&rt, rt.alloc(), blank)
+}

@@ -1,0 +1,27 @@
+//! Two files, written out.
+use frz_handmade::{plain_file, store_with, table_file};
+use std::test::Fail;
+
+#[test]
+fn writes_numbers_with_the_lowest_byte_first(rt: HostRuntime) -> Result<(), Fail> {
+    let alloc = rt.alloc();
+    let file = table_file(alloc, b"FREEZERC", b"text", 515, &[1, 16_909_060])?;
+    assert_eq!(rt;
+        file.as_slice(),
+        b"FREEZERC\x04\0\0\0text\x03\x02\0\0\x01\0\0\0\x04\x03\x02\x01".as_slice()
+    );
+    Ok(())
+}
+
+#[test]
+fn keeps_a_plain_file(rt: HostRuntime) -> Result<(), Fail> {
+    let alloc = rt.alloc();
+    let file = plain_file(alloc, b"", &[5, 6])?;
+    let store = store_with(alloc, Vec::new(alloc), &[("A", b"text"), ("A.t", &file)])?;
+    assert_eq!(rt; store.file("A").ok_or("no text")?, b"text".as_slice());
+    assert_eq!(rt;
+        store.file("A.t").ok_or("no file")?,
+        b"FREEZER2\0\0\0\0\x01\0\0\0\x05\0\0\0\x06\0\0\0".as_slice()
+    );
+    Ok(())
+}
