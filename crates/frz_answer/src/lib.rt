@@ -9,8 +9,6 @@ mod printing;
 mod refusing;
 mod saying;
 mod status;
-#[cfg(test)]
-mod tests;
 mod words;
 
 pub use end::End;

@@ -5,6 +5,3 @@ pub mod laws;
 mod pascal;
 
 pub use pascal::{Triangle, binomial};
-
-#[cfg(test)]
-mod tests;

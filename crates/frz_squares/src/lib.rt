@@ -6,6 +6,3 @@ mod set;
 
 pub use numbers::{file, rank};
 pub use set::SquareSet;
-
-#[cfg(test)]
-mod tests;

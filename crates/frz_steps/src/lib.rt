@@ -43,25 +43,3 @@ impl<L: Ledger> Steps<L> {
         self.book.add(&mut self.share, 1);
     }
 }
-
-#[cfg(test)]
-mod tests {
-    use super::*;
-    use std::marker::Brand;
-
-    fn take_two_steps<L: Ledger>(blank: Blank)
-        requires name { blank.name ≡ L.name }
-        requires parts { blank.parts ≡ L.parts }
-        requires some { 0 < blank.parts }
-    {
-        let mut steps = Steps::<L>::new(blank);
-        steps.tick();
-        steps.tick();
-    }
-
-    #[test]
-    fn counts_over_a_brand() {
-        let blank = Blank::new(1);
-        take_two_steps::<Brand>(blank);
-    }
-}

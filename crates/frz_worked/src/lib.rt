@@ -2,6 +2,8 @@
 //! the crates below that read no text.
 #![tactic(auto)]
 
+#[cfg(test)]
+mod binomials;
 pub mod boards;
 #[cfg(test)]
 mod bounds;
@@ -19,6 +21,8 @@ mod numbers;
 mod reading;
 #[cfg(test)]
 mod retro;
+#[cfg(test)]
+mod steps;
 #[cfg(test)]
 mod sweeps;
 pub mod ten;

@@ -13,4 +13,6 @@ mod notation;
 #[cfg(test)]
 mod placement;
 #[cfg(test)]
+mod squares;
+#[cfg(test)]
 mod words;

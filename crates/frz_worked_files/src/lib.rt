@@ -7,6 +7,8 @@ mod chains;
 #[cfg(test)]
 mod checks;
 #[cfg(test)]
+mod ends;
+#[cfg(test)]
 mod handmade;
 #[cfg(test)]
 mod lines;

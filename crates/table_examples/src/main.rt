@@ -1,6 +1,6 @@
 //! Builds and checks the tables of the rules texts that are named as arguments, over real files,
 //! and asks them at the positions of the file `bounds`. The table of `RULES on BACK` is chained over
-//! that of BACK, which an argument before it named.
+//! that of BACK, which an argument before it named, and `sample SQUARE` prints the sample of a square.
 #![tactic(auto)]
 
 ghost use Rattle.std.specs.Prelude.{◌≡◌, ◌<◌};
@@ -8,7 +8,7 @@ ghost use Rattle.std.specs.Prelude.{◌≡◌, ◌<◌};
 use frz_answer::finish;
 use frz_commands_ask::{run_chainquery, run_query};
 use frz_commands_chain::{run_chain, run_chaincheck};
-use frz_commands_table::{run_build, run_check};
+use frz_commands_table::{run_build, run_check, run_sample};
 use frz_steps::Steps;
 use frz_store::{DiskStore, OutputSink, Sink, Store};
 use std::alloc::{AllocError, Global};
@@ -118,7 +118,33 @@ fn try_ending<S: Store, O: Sink, L: Ledger>(
     Ok(sound && answered)
 }
 
-/// Tries each ending. Gives whether all went well.
+/// Prints the sample of the square of this number. Gives whether all went well.
+fn print_sample<O: Sink, L: Ledger>(
+    alloc: Global,
+    square: &str,
+    out: &mut O,
+    steps: &mut Steps<L>,
+) -> Result<bool, AllocError> {
+    let words = vec![in alloc; format!(in alloc; "{square}")?]?;
+    Ok(finish(run_sample(alloc, &words, out, steps), out) == 0)
+}
+
+/// Prints a sample or tries an ending, whichever is named. Gives whether all went well.
+fn try_named<S: Store, O: Sink, L: Ledger>(
+    alloc: Global,
+    named: &str,
+    bounds: &str,
+    store: &mut S,
+    out: &mut O,
+    steps: &mut Steps<L>,
+) -> Result<bool, AllocError> {
+    match named.split_once(' ') {
+        Some(("sample", square)) => print_sample(alloc, square, out, steps),
+        _ => try_ending(alloc, named, bounds, store, out, steps),
+    }
+}
+
+/// Tries each that is named. Gives whether all went well.
 fn run<S: Store, O: Sink>(
     alloc: Global,
     names: env::Args,
@@ -144,8 +170,8 @@ fn run_counted<S: Store, O: Sink, L: Ledger>(
 {
     let mut steps = Steps::<L>::new(blank);
     let mut fine = true;
-    for ending in names.skip(1) {
-        let tried = try_ending(alloc, &ending, &bounds, store, out, &mut steps)?;
+    for named in names.skip(1) {
+        let tried = try_named(alloc, &named, &bounds, store, out, &mut steps)?;
         fine = fine && tried;
     }
     Ok(fine)

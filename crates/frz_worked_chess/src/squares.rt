@@ -1,6 +1,5 @@
 //! A square's file, rank and place in a set.
-
-use super::{SquareSet, file, rank};
+use frz_squares::{SquareSet, file, rank};
 
 #[test]
 fn b2_and_h8(rt: HostRuntime) {

@@ -1,5 +1,5 @@
 //! What the sink takes at each end, over a sink in memory.
-use crate::{End, Fault, Status, finish, say};
+use frz_answer::{End, Fault, Status, finish, say};
 use frz_store::{Fail, FailOn, MemSink};
 use std::alloc::Global;
 use std::test::Fail as TestFail;

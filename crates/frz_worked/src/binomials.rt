@@ -1,5 +1,5 @@
 //! Binomial numbers against a printed table.
-use crate::{Triangle, binomial};
+use frz_combinations::{Triangle, binomial};
 use std::alloc::AllocError;
 
 /// Values from a printed table of Pascal's triangle.
