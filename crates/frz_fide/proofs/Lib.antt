@@ -23,4 +23,5 @@ mod Skip
 mod Listed
 mod Targets
 mod Checking
+mod Choosing
 mod InWords

@@ -59,7 +59,6 @@ fn promotion(from: Square, to: Square, kind: Kind) -> Move
 }
 
 /// Adds the legal moves of a pawn that reaches its last rank.
-#[tactic(auto, unfolding(crate::specs::SquareBySquare::chosen))]
 fn add_choices(
     p: &Bitboards,
     man: Man,
