@@ -1,5 +1,5 @@
-//! Tests of the outside, and over table files made by hand, of the crates that read such files and
-//! play by them.
+//! Tests of the outside, of the ends of commands, and over table files made by hand, of the crates
+//! that read such files and play by them.
 #![tactic(auto)]
 
 #[cfg(test)]
