@@ -1,15 +1,23 @@
 //! Boards from letters.
-ghost use Rattle.std.specs.Prelude.{◌≡◌, IfSome};
+ghost use Rattle.std.specs.Prelude.{◌≡◌, ◌<◌, IfSome};
 ghost use Rattle.frz_fide.specs.Valid.{IsValid};
 
 use frz_board::{Colour, Man, Position, Square, cell_of};
 use frz_fide::valid;
 
-/// The cell of a man by his letter, a capital for White, and 0 for no such letter.
-fn cell_of_letter(letter: u8) -> u8 {
-    match Man::of_letter(letter) {
-        Some(man) => cell_of(man),
-        None => 0,
+/// Puts the man of a letter, a capital for White, on his square.
+fn put(cells: &mut [u8; 64], letter: u8, square: u8)
+    requires { square < 64 }
+{
+    if let Some(man) = Man::of_letter(letter) {
+        cells[square as usize] = cell_of(man);
+    }
+}
+
+/// Puts a man, a letter and a square, as `Ka1`.
+fn put_word(cells: &mut [u8; 64], word: &[u8]) {
+    if let [letter, file @ b'a'..=b'h', rank @ b'1'..=b'8'] = word {
+        put(cells, *letter, (*rank - b'1') * 8 + (*file - b'a'));
     }
 }
 
@@ -17,10 +25,7 @@ fn cell_of_letter(letter: u8) -> u8 {
 fn cells_of(men: &str) -> [u8; 64] {
     let mut cells = [0; 64];
     for man in men.split_whitespace() {
-        if let [letter, file @ b'a'..=b'h', rank @ b'1'..=b'8'] = man.as_bytes() {
-            let square = (*rank - b'1') * 8 + (*file - b'a');
-            cells[square as usize] = cell_of_letter(*letter);
-        }
+        put_word(&mut cells, man.as_bytes());
     }
     cells
 }

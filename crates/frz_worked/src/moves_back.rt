@@ -1,6 +1,7 @@
 //! Moves taken back: worked rows, and the converse of the moves of all numbers.
 ghost use Rattle.std.specs.Prelude.{◌≡◌, ◌<◌};
 
+use crate::numbers::set_of;
 use crate::texts::{BOTH_TARGETS, KNIGHTS, PAWNS, PROMOTING, ROOK, TARGET, THREE};
 use frz_board::{Move, move_text};
 use frz_exits::RuleBook;
@@ -15,49 +16,45 @@ use std::process::Abort;
 use std::sync::ledger::{Blank, Ledger};
 use std::test::Fail;
 
-/// Each number and the text of the move, with spaces between.
-fn text_of(alloc: Global, items: &[Pred]) -> Result<String, Fail> {
-    let mut text = String::new(alloc);
-    for pred in items {
-        text.push_str(format!(in alloc; "{} ", pred.number)?.as_str())?;
-        text.push_str(move_text(pred.mv).as_str())?;
-        text.push(' ')?;
-    }
-    Ok(text)
+/// A text, a number, and its one move back: the number that it is a move of, and its text.
+type Row = (&'static str, u32, u32, &'static str);
+
+const ROWS: &[Row] = &[
+    (ROOK, 7, 1, "h1h8"),
+    (ROOK, 0, 5, "b8a8"),
+    (TARGET, 6, 9, "e5d6"),
+];
+
+/// These are the one move back of the row.
+fn check_items(rt: &impl Abort, items: &[Pred], row: &Row) {
+    assert_eq!(rt; items.len(), 1);
+    assert_eq!(rt; items[0].number, row.2);
+    assert_eq!(rt; move_text(items[0].mv).as_str(), row.3);
 }
 
-/// The set of the text.
-fn set_of(alloc: Global, text: &str) -> Result<Set, Fail> {
-    let rules = read_rules(alloc, text.as_bytes())?;
-    Ok(Set::new(alloc, &rules)?)
-}
-
-/// The moves back of the number of the text, and none where it is broken.
-fn moves_text<L: Ledger>(
-    alloc: Global,
-    text: &str,
-    q: u32,
+/// The moves back of the number of the row are its one.
+fn check_number<L: Ledger, R: Abort>(
+    rt: &R,
+    set: &Set,
+    row: &Row,
+    out: &mut Preds,
     steps: &mut Steps<L>,
-) -> Result<String, Fail> {
-    let set = set_of(alloc, text)?;
-    let mut out = Preds::new(alloc)?;
-    if set.at(q).is_some() {
-        unmoves(&set, q, &mut out, steps);
+) {
+    if set.at(row.1).is_some() {
+        unmoves(set, row.1, out, steps);
     }
-    text_of(alloc, out.items())
+    check_items(rt, out.items(), row);
 }
 
-/// The moves back of this number are these.
 fn check_row<L: Ledger, R: Abort>(
     rt: &R,
     alloc: Global,
-    text: &str,
-    q: u32,
-    wanted: &str,
+    row: &Row,
     steps: &mut Steps<L>,
 ) -> Result<(), Fail> {
-    let moves = moves_text(alloc, text, q, steps)?;
-    assert_eq!(rt; moves.as_str(), wanted);
+    let set = set_of(alloc, row.0)?;
+    let mut out = Preds::new(alloc)?;
+    check_number(rt, &set, row, &mut out, steps);
     Ok(())
 }
 
@@ -150,6 +147,19 @@ fn count_moves<L: Ledger>(
 
 /// The moves back of all numbers are the moves on of all numbers: each is one, and there are as
 /// many.
+fn check_game<L: Ledger, R: Abort>(
+    rt: &R,
+    alloc: Global,
+    game: &Game<'_, RuleBook<'_>>,
+    steps: &mut Steps<L>,
+) -> Result<(), Fail> {
+    let (on, back) = count_moves(alloc, game, steps)?;
+    assert_eq!(rt; on, back);
+    assert!(rt; on > 0);
+    Ok(())
+}
+
+/// The moves back of all numbers of the text are the moves on of all of them.
 fn check_all<L: Ledger, R: Abort>(
     rt: &R,
     alloc: Global,
@@ -164,10 +174,7 @@ fn check_all<L: Ledger, R: Abort>(
         rules: &rules,
         book: &book,
     };
-    let (on, back) = count_moves(alloc, &game, steps)?;
-    assert_eq!(rt; on, back, "{text}");
-    assert!(rt; on > 0, "{text}");
-    Ok(())
+    check_game(rt, alloc, &game, steps)
 }
 
 fn find_rows<L: Ledger, R: Abort>(rt: &R, alloc: Global, blank: Blank) -> Result<(), Fail>
@@ -175,14 +182,9 @@ fn find_rows<L: Ledger, R: Abort>(rt: &R, alloc: Global, blank: Blank) -> Result
     requires parts { blank.parts ≡ L.parts }
     requires some { 0 < blank.parts }
 {
-    let rows = [
-        (ROOK, 7, "1 h1h8 "),
-        (ROOK, 0, "5 b8a8 "),
-        (TARGET, 6, "9 e5d6 "),
-    ];
     let mut steps = Steps::<L>::new(blank);
-    for (text, number, wanted) in rows {
-        check_row(rt, alloc, text, number, wanted, &mut steps)?;
+    for row in ROWS {
+        check_row(rt, alloc, row, &mut steps)?;
     }
     Ok(())
 }

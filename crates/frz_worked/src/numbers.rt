@@ -27,7 +27,7 @@ fn is_same(p: &Position, q: &Position) -> bool {
 type Row = (u32, &'static str, Colour, Option<u8>);
 
 /// The set of the text.
-fn set_of(alloc: Global, text: &str) -> Result<Set, Fail> {
+pub(super) fn set_of(alloc: Global, text: &str) -> Result<Set, Fail> {
     let rules = read_rules(alloc, text.as_bytes())?;
     Ok(Set::new(alloc, &rules)?)
 }
@@ -251,9 +251,9 @@ fn count_positions(alloc: Global, text: &str) -> Result<u32, Fail> {
 
 /// Each number of the set is that of its position, and there are as many as positions.
 fn check_every_number(rt: &impl Abort, alloc: Global, text: &str, size: u32) -> Result<(), Fail> {
+    let positions = count_positions(alloc, text)?;
     let set = set_of(alloc, text)?;
     let found = count_numbers(rt, &set, text)?;
-    let positions = count_positions(alloc, text)?;
     assert_eq!(rt; (set.size(), found), (size, positions), "{text}");
     Ok(())
 }

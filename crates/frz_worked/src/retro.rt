@@ -2,6 +2,7 @@
 ghost use Rattle.std.specs.Prelude.{◌≡◌, ◌<◌, length};
 ghost use Rattle.frz_sets.specs.Sound.{IsSound};
 
+use crate::sweeps::codes_of;
 use crate::ten::Ten;
 use crate::texts::{
     BLACK_FIRST, BLOCKED, BOTH_TARGETS, CROWD, DRAWN_KINGS, EXITS, FORBIDDEN, KINDS, KNIGHTS,
@@ -15,7 +16,6 @@ use frz_index::Set;
 use frz_retro::Workshop;
 use frz_rules::read_rules;
 use frz_steps::Steps;
-use frz_sweep::sweep;
 use std::alloc::Global;
 use std::marker::Brand;
 use std::process::Abort;
@@ -42,12 +42,12 @@ fn leave<L: Ledger>(
     Ok(is_first && shop.entries() == second.1)
 }
 
-/// White's run leaves the one list, and Black's in the same workshop the other.
+/// Each of two runs by the rules of the text, in one workshop, leaves its entries.
 fn gives<L: Ledger>(
     alloc: Global,
     text: &str,
-    white: &[u32],
-    black: &[u32],
+    first: Run<'_>,
+    second: Run<'_>,
     steps: &mut Steps<L>,
 ) -> Result<bool, Fail> {
     let rules = read_rules(alloc, text.as_bytes())?;
@@ -58,45 +58,20 @@ fn gives<L: Ledger>(
         rules: &rules,
         book: &book,
     };
-    leave(
-        alloc,
-        &game,
-        (Colour::White, white),
-        (Colour::Black, black),
-        steps,
-    )
+    leave(alloc, &game, first, second, steps)
 }
 
 /// The lists of the solver forwards are those of two runs in one workshop, Black's first.
-fn agrees_by<L: Ledger>(
-    alloc: Global,
-    game: &Game<'_, RuleBook<'_>>,
-    steps: &mut Steps<L>,
-) -> Result<bool, Fail>
-    requires { IsSound game.now.rules.now }
-{
-    let white = sweep(alloc, game, Colour::White, steps)?;
-    let black = sweep(alloc, game, Colour::Black, steps)?;
-    leave(
+fn agrees<L: Ledger>(alloc: Global, text: &str, steps: &mut Steps<L>) -> Result<bool, Fail> {
+    let white = codes_of(alloc, text, Colour::White, steps)?;
+    let black = codes_of(alloc, text, Colour::Black, steps)?;
+    gives(
         alloc,
-        game,
+        text,
         (Colour::Black, black.as_slice()),
         (Colour::White, white.as_slice()),
         steps,
     )
-}
-
-/// Both solvers leave the same lists, Black's after White's and White's again after Black's.
-fn agrees<L: Ledger>(alloc: Global, text: &str, steps: &mut Steps<L>) -> Result<bool, Fail> {
-    let rules = read_rules(alloc, text.as_bytes())?;
-    let set = Set::new(alloc, &rules)?;
-    let book = RuleBook::new(&rules);
-    let game = Game {
-        set: &set,
-        rules: &rules,
-        book: &book,
-    };
-    agrees_by(alloc, &game, steps)
 }
 
 /// A text, and White's and Black's entries.
@@ -116,6 +91,8 @@ fn solve_by_hand<L: Ledger, R: Abort>(rt: &R, alloc: Global, blank: Blank) -> Re
 {
     let mut steps = Steps::<L>::new(blank);
     for (text, white, black) in BY_HAND {
+        let white = (Colour::White, *white);
+        let black = (Colour::Black, *black);
         assert!(rt; gives(alloc, text, white, black, &mut steps)?, "{text}");
     }
     Ok(())

@@ -29,7 +29,7 @@ fn codes_by<L: Ledger>(
 }
 
 /// The codes of the side by the rules of the text.
-fn codes_of<L: Ledger>(
+pub(super) fn codes_of<L: Ledger>(
     alloc: Global,
     text: &str,
     side: Colour,
@@ -49,16 +49,33 @@ fn codes_of<L: Ledger>(
 /// A text, a side, and its codes.
 type Row = (&'static str, Colour, &'static [u32]);
 
+/// The codes of this side are these.
+fn check_row<L: Ledger, R: Abort>(
+    rt: &R,
+    alloc: Global,
+    row: &Row,
+    steps: &mut Steps<L>,
+) -> Result<(), Fail> {
+    let (text, side, wanted) = *row;
+    let codes = codes_of(alloc, text, side, steps)?;
+    assert_eq!(rt; codes.as_slice(), wanted, "{text}");
+    Ok(())
+}
+
 /// The codes of these sides are these.
 fn check_rows<L: Ledger, R: Abort>(
     rt: &R,
     alloc: Global,
     rows: &[Row],
-    steps: &mut Steps<L>,
-) -> Result<(), Fail> {
-    for (text, side, wanted) in rows {
-        let codes = codes_of(alloc, text, *side, steps)?;
-        assert_eq!(rt; codes.as_slice(), *wanted, "{text}");
+    blank: Blank,
+) -> Result<(), Fail>
+    requires name { blank.name ≡ L.name }
+    requires parts { blank.parts ≡ L.parts }
+    requires some { 0 < blank.parts }
+{
+    let mut steps = Steps::<L>::new(blank);
+    for row in rows {
+        check_row(rt, alloc, row, &mut steps)?;
     }
     Ok(())
 }
@@ -78,18 +95,10 @@ const ROOK_ROWS: &[Row] = &[
     ),
 ];
 
-fn solve_rooks<L: Ledger, R: Abort>(rt: &R, alloc: Global, blank: Blank) -> Result<(), Fail>
-    requires name { blank.name ≡ L.name }
-    requires parts { blank.parts ≡ L.parts }
-    requires some { 0 < blank.parts }
-{
-    check_rows(rt, alloc, ROOK_ROWS, &mut Steps::<L>::new(blank))
-}
-
 #[test]
 fn solves_rooks(rt: HostRuntime) -> Result<(), Fail> {
     let blank = Blank::new(1);
-    solve_rooks::<Brand, _>(&rt, rt.alloc(), blank)
+    check_rows::<Brand, _>(&rt, rt.alloc(), ROOK_ROWS, blank)
 }
 
 const EXIT_ROWS: &[Row] = &[
@@ -100,38 +109,21 @@ const EXIT_ROWS: &[Row] = &[
     (SHORT_ROOK, Colour::White, &[1, 1, 1, 1, 1, 1, 1, 1]),
 ];
 
-fn solve_exits<L: Ledger, R: Abort>(rt: &R, alloc: Global, blank: Blank) -> Result<(), Fail>
-    requires name { blank.name ≡ L.name }
-    requires parts { blank.parts ≡ L.parts }
-    requires some { 0 < blank.parts }
-{
-    check_rows(rt, alloc, EXIT_ROWS, &mut Steps::<L>::new(blank))
-}
-
 #[test]
 fn solves_exits(rt: HostRuntime) -> Result<(), Fail> {
     let blank = Blank::new(1);
-    solve_exits::<Brand, _>(&rt, rt.alloc(), blank)
+    check_rows::<Brand, _>(&rt, rt.alloc(), EXIT_ROWS, blank)
 }
 
-/// The code of the first number.
-fn first_code<L: Ledger>(
+/// The codes of the first number and of the last.
+fn end_codes<L: Ledger>(
     alloc: Global,
     text: &str,
     side: Colour,
     steps: &mut Steps<L>,
-) -> Result<Option<u32>, Fail> {
-    Ok(codes_of(alloc, text, side, steps)?.first().copied())
-}
-
-/// The code of the last number.
-fn last_code<L: Ledger>(
-    alloc: Global,
-    text: &str,
-    side: Colour,
-    steps: &mut Steps<L>,
-) -> Result<Option<u32>, Fail> {
-    Ok(codes_of(alloc, text, side, steps)?.last().copied())
+) -> Result<(Option<u32>, Option<u32>), Fail> {
+    let codes = codes_of(alloc, text, side, steps)?;
+    Ok((codes.first().copied(), codes.last().copied()))
 }
 
 fn solve_ends<L: Ledger, R: Abort>(rt: &R, alloc: Global, blank: Blank) -> Result<(), Fail>
@@ -140,11 +132,11 @@ fn solve_ends<L: Ledger, R: Abort>(rt: &R, alloc: Global, blank: Blank) -> Resul
     requires some { 0 < blank.parts }
 {
     let mut steps = Steps::<L>::new(blank);
-    let code = first_code(alloc, FORBIDDEN, Colour::White, &mut steps)?;
-    assert_eq!(rt; code, Some(3));
+    let (first, _) = end_codes(alloc, FORBIDDEN, Colour::White, &mut steps)?;
+    assert_eq!(rt; first, Some(3));
     for side in [Colour::White, Colour::Black] {
-        let code = last_code(alloc, STALEMATE, side, &mut steps)?;
-        assert_eq!(rt; code, Some(1), "{side:?}");
+        let (_, last) = end_codes(alloc, STALEMATE, side, &mut steps)?;
+        assert_eq!(rt; last, Some(1), "{side:?}");
     }
     Ok(())
 }

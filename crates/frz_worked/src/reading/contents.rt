@@ -97,8 +97,8 @@ fn check_conds(rt: &impl Abort, conds: &[Cond], want: &[(bool, Test)]) {
 
 #[test]
 fn conditions_of_exits(rt: HostRuntime) {
-    let line: &[u8] =
-        b"exit draw if turn:black !count:white:R:000000000-16 on:black:P:a1,c1 !distance:black:c3:7 check !always";
+    let line: &[u8] = b"exit draw if turn:black !count:white:R:000000000-16 on:black:P:a1,c1 \
+        !distance:black:c3:7 check !always";
     let rules = behind_a(&rt, rt.alloc(), line);
     let want = [
         (false, Test::Turn(Colour::Black)),

@@ -8,7 +8,8 @@ use std::process::Abort;
 const OTHER_BYTES: &[&[u8]] = &[
     b"freezer 1\r\ngroup white 1 K:b6\r\ngroup white 1 R:h1,h8\r\ngroup black 1 K:a8,b8\r\n",
     b" freezer\t1 \n\tgroup\rwhite  1\t\tK:b6\ngroup white 1 R:h1,h8 \ngroup black 1\tK:a8,b8\t",
-    b"#\n\r\n \t \r\nfreezer 1\n\ngroup white 1 K:b6\ngroup white 1 R:h1,h8\n#\ngroup black 1 K:a8,b8\n\n",
+    b"#\n\r\n \t \r\nfreezer 1\n\ngroup white 1 K:b6\ngroup white 1 R:h1,h8\n#\n\
+        group black 1 K:a8,b8\n\n",
 ];
 
 const COMMENTS: &[&[u8]] = &[
