@@ -1,23 +1,17 @@
 //! Boards from letters.
-ghost use Rattle.std.specs.Prelude.{◌≡◌, ◌<◌, IfSome};
+ghost use Rattle.std.specs.Prelude.{◌≡◌, IfSome};
 ghost use Rattle.frz_fide.specs.Valid.{IsValid};
 
 use frz_board::{Colour, Man, Position, Square, cell_of};
 use frz_fide::valid;
 
-/// Puts the man of a letter, a capital for White, on his square.
-fn put(cells: &mut [u8; 64], letter: u8, square: u8)
-    requires { square < 64 }
-{
-    if let Some(man) = Man::of_letter(letter) {
-        cells[square as usize] = cell_of(man);
-    }
-}
-
-/// Puts a man, a letter and a square, as `Ka1`.
-fn put_word(cells: &mut [u8; 64], word: &[u8]) {
+/// Puts a man on his square, by his letter, a capital for White, and the square, as `Ka1`.
+fn put(cells: &mut [u8; 64], word: &[u8]) {
     if let [letter, file @ b'a'..=b'h', rank @ b'1'..=b'8'] = word {
-        put(cells, *letter, (*rank - b'1') * 8 + (*file - b'a'));
+        if let Some(man) = Man::of_letter(*letter) {
+            let square = (*rank - b'1') * 8 + (*file - b'a');
+            cells[square as usize] = cell_of(man);
+        }
     }
 }
 
@@ -25,7 +19,7 @@ fn put_word(cells: &mut [u8; 64], word: &[u8]) {
 fn cells_of(men: &str) -> [u8; 64] {
     let mut cells = [0; 64];
     for man in men.split_whitespace() {
-        put_word(&mut cells, man.as_bytes());
+        put(&mut cells, man.as_bytes());
     }
     cells
 }

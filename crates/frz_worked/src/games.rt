@@ -15,16 +15,17 @@ use std::process::Abort;
 use std::sync::ledger::{Blank, Ledger};
 use std::test::Fail;
 
-/// The move is free and leads there.
-fn is_free_to(arm: &Arm, next: Next) -> bool {
-    arm.free && arm.next == next
-}
-
-/// The moves, all of them free, lead there.
-fn check_arms<R: Abort>(rt: &R, list: &NextList, nexts: &[Next]) {
-    for (arm, next) in list.iter().zip(nexts) {
-        assert!(rt; is_free_to(arm, *next));
+/// Do the moves, all of them free, lead there?
+fn are_free_to(arms: &[Arm], nexts: &[Next]) -> bool {
+    if arms.len() != nexts.len() {
+        return false;
     }
+    for i in 0..nexts.len() {
+        if !arms[i].free || arms[i].next != nexts[i] {
+            return false;
+        }
+    }
+    true
 }
 
 /// The number is this node, and its moves, all of them free, lead there.
@@ -38,8 +39,7 @@ fn check_number<L: Ledger, R: Abort>(
 ) {
     let mut list = NextList::new();
     assert_eq!(rt; game.nexts(number, &mut list, steps), node);
-    assert_eq!(rt; list.len(), nexts.len());
-    check_arms(rt, &list, nexts);
+    assert!(rt; are_free_to(list.as_slice(), nexts), "{number}");
 }
 
 /// A number, its node and where its moves lead.

@@ -25,11 +25,12 @@ const ROWS: &[Row] = &[
     (TARGET, 6, 9, "e5d6"),
 ];
 
-/// These are the one move back of the row.
-fn check_items(rt: &impl Abort, items: &[Pred], row: &Row) {
-    assert_eq!(rt; items.len(), 1);
-    assert_eq!(rt; items[0].number, row.2);
-    assert_eq!(rt; move_text(items[0].mv).as_str(), row.3);
+/// Is this the one move back of the row, and no other?
+fn is_one(items: &[Pred], row: &Row) -> bool {
+    match items {
+        [pred] => pred.number == row.2 && move_text(pred.mv).as_str() == row.3,
+        _ => false,
+    }
 }
 
 /// The moves back of the number of the row are its one.
@@ -43,7 +44,7 @@ fn check_number<L: Ledger, R: Abort>(
     if set.at(row.1).is_some() {
         unmoves(set, row.1, out, steps);
     }
-    check_items(rt, out.items(), row);
+    assert!(rt; is_one(out.items(), row), "{}", row.1);
 }
 
 fn check_row<L: Ledger, R: Abort>(
