@@ -6,10 +6,6 @@ use frz_fide::Invalid;
 use std::process::Abort;
 use std::test::Fail;
 
-fn fault(text: &[u8]) -> Option<FenFault> {
-    read_fen(text).err()
-}
-
 /// The game's start (FIDE 2.3), its castling rights aside.
 #[test]
 fn reads_and_writes_the_start_of_a_game(rt: HostRuntime) -> Result<(), Fail> {
@@ -35,7 +31,7 @@ struct Refused<'a>(&'a [u8], FenFault);
 
 fn expect_fault(rt: &impl Abort, row: &Refused<'_>) {
     let Refused(text, want) = row;
-    assert!(rt; fault(text) == Some(*want), "{text:?}");
+    assert!(rt; read_fen(text).err() == Some(*want), "{text:?}");
 }
 
 fn expect_faults(rt: &impl Abort, rows: &[Refused<'_>]) {

@@ -3,8 +3,8 @@
 ghost use Rattle.std.specs.Prelude.{◌≡◌, ◌<◌};
 ghost use Rattle.frz_fide.specs.Valid.{IsValid};
 
-use crate::placement::set_up;
-use frz_board::{Colour, Position, move_text};
+use crate::placement::{set_up, set_up_valid};
+use frz_board::{Colour, Move, Position, move_text};
 use frz_fide::{Ending, Invalid, ending, legal_moves, play, valid};
 use frz_steps::Steps;
 use std::alloc::Global;
@@ -13,30 +13,18 @@ use std::process::Abort;
 use std::sync::ledger::{Blank, Ledger};
 use std::test::Fail;
 
-/// The texts of the legal moves, each with a space after it, where the position is valid.
-fn moves_of<L: Ledger>(alloc: Global, p: &Position, steps: &mut Steps<L>) -> Result<String, Fail> {
+/// The texts of the moves, each with a space after it.
+fn texts_of(alloc: Global, moves: &[Move]) -> Result<String, Fail> {
     let mut text = String::new(alloc);
-    match valid(p) {
-        Err(_) => text.push_str("invalid")?,
-        Ok(()) => {
-            let list = legal_moves(p, steps);
-            for m in list.as_slice() {
-                text.push_str(move_text(*m).as_str())?;
-                text.push(' ')?;
-            }
-        }
+    for m in moves {
+        push_move(&mut text, *m)?;
     }
     Ok(text)
 }
 
-fn ending_of<L: Ledger>(p: &Position, steps: &mut Steps<L>) -> Option<Ending> {
-    match valid(p) {
-        Err(_) => None,
-        Ok(()) => {
-            let list = legal_moves(p, steps);
-            Some(ending(p, &list))
-        }
-    }
+fn push_move(text: &mut String, m: Move) -> Result<(), Fail> {
+    text.push_str(move_text(m).as_str())?;
+    Ok(text.push(' ')?)
 }
 
 /// A placement with White to move, the number of its target, and the moves.
@@ -65,8 +53,8 @@ fn expect_moves<L: Ledger>(
     steps: &mut Steps<L>,
 ) -> Result<(), Fail> {
     let Listed(placement, target, moves) = row;
-    let p = set_up(placement, Colour::White, *target)?;
-    let listed = moves_of(alloc, &p, steps)?;
+    let p = set_up_valid(placement, Colour::White, *target)?;
+    let listed = texts_of(alloc, legal_moves(&p, steps).as_slice())?;
     assert!(rt; listed.as_str() == *moves, "{placement}: {listed}");
     Ok(())
 }
@@ -104,8 +92,9 @@ fn expect_ending<L: Ledger>(
     steps: &mut Steps<L>,
 ) -> Result<(), Fail> {
     let Ended(placement, want) = row;
-    let p = set_up(placement, Colour::Black, None)?;
-    assert!(rt; ending_of(&p, steps) == Some(*want), "{placement}");
+    let p = set_up_valid(placement, Colour::Black, None)?;
+    let list = legal_moves(&p, steps);
+    assert!(rt; ending(&p, &list) == *want, "{placement}");
     Ok(())
 }
 
@@ -152,13 +141,6 @@ fn leaves<L: Ledger>(p: &Position, plies: u8, steps: &mut Steps<L>) -> u64
     count
 }
 
-fn leaves_of<L: Ledger>(p: &Position, plies: u8, steps: &mut Steps<L>) -> u64 {
-    match valid(p) {
-        Err(_) => 0,
-        Ok(()) => leaves(p, plies, steps),
-    }
-}
-
 /// A placement, the side to move, plies, and how many positions there are after them.
 struct Counted<'a>(&'a str, Colour, u8, u64);
 
@@ -182,8 +164,8 @@ fn expect_leaves<L: Ledger>(
     steps: &mut Steps<L>,
 ) -> Result<(), Fail> {
     let Counted(placement, turn, plies, want) = row;
-    let p = set_up(placement, *turn, None)?;
-    let count = leaves_of(&p, *plies, steps);
+    let p = set_up_valid(placement, *turn, None)?;
+    let count = leaves(&p, *plies, steps);
     assert!(rt; count == *want, "{placement} {plies}: {count}");
     Ok(())
 }

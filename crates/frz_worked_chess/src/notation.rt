@@ -1,9 +1,10 @@
 //! Texts of moves, written and read: what the rules of notation say of boards set up by hand.
 ghost use Rattle.std.specs.Prelude.{◌≡◌, ◌<◌};
+ghost use Rattle.frz_fide.specs.Listing.{legal_moves_of};
 ghost use Rattle.frz_fide.specs.Valid.{IsValid};
 
 use crate::placement::set_up_valid;
-use frz_board::{Colour, Position, move_text};
+use frz_board::{Colour, Move, Position, move_text};
 use frz_fide::{legal_moves, play};
 use frz_san::{read_san, san, san_among};
 use frz_steps::Steps;
@@ -13,43 +14,42 @@ use std::process::Abort;
 use std::sync::ledger::{Blank, Ledger};
 use std::test::Fail;
 
-/// The texts of the legal moves, each with a space behind it. Behind a text that `san` gives
+/// Puts the text of the move behind the others, and a space. Behind a text that `san` gives
 /// otherwise than `san_among` comes `!`, and behind one that is not read back `?`.
+fn push_san<L: Ledger>(
+    text: &mut String,
+    p: &Position,
+    moves: &[Move],
+    m: Move,
+    steps: &mut Steps<L>,
+) -> Result<(), Fail>
+    requires valid { IsValid p.now }
+    requires moves { moves.now ≡ legal_moves_of p.now }
+{
+    if play(p, m).is_none() {
+        return Ok(());
+    }
+    let among = san_among(p, moves, m, steps);
+    text.push_str(among.as_str())?;
+    if san(p, m, steps).as_str() != among.as_str() {
+        text.push('!')?;
+    }
+    if read_san(p, among.as_bytes(), steps) != Some(m) {
+        text.push('?')?;
+    }
+    Ok(text.push(' ')?)
+}
+
+/// The texts of the legal moves.
 fn sans_of<L: Ledger>(alloc: Global, p: &Position, steps: &mut Steps<L>) -> Result<String, Fail>
     requires { IsValid p.now }
 {
     let mut text = String::new(alloc);
     let moves = legal_moves(p, steps);
     for m in &moves {
-        if play(p, *m).is_some() {
-            let among = san_among(p, &moves, *m, steps);
-            text.push_str(among.as_str())?;
-            if san(p, *m, steps).as_str() != among.as_str() {
-                text.push('!')?;
-            }
-            if read_san(p, among.as_bytes(), steps) != Some(*m) {
-                text.push('?')?;
-            }
-            text.push(' ')?;
-        }
+        push_san(&mut text, p, &moves, *m, steps)?;
     }
     Ok(text)
-}
-
-/// The move of a text, as coordinates, or nothing.
-fn read<L: Ledger>(
-    alloc: Global,
-    p: &Position,
-    text: &str,
-    steps: &mut Steps<L>,
-) -> Result<String, Fail>
-    requires { IsValid p.now }
-{
-    let mut answer = String::new(alloc);
-    if let Some(m) = read_san(p, text.as_bytes(), steps) {
-        answer.push_str(move_text(m).as_str())?;
-    }
-    Ok(answer)
 }
 
 /// A placement, the side to move and its target; and the texts of its moves.
@@ -151,25 +151,34 @@ const READ: &[(&str, &str, &str)] = &[
     (MATE, "", ""),
 ];
 
-fn read_at<L: Ledger>(
-    alloc: Global,
-    placement: &str,
-    text: &str,
-    steps: &mut Steps<L>,
-) -> Result<String, Fail> {
-    let p = set_up_valid(placement, Colour::White, None)?;
-    read(alloc, &p, text, steps)
+/// Is the move that of these coordinates, where none stand for no move?
+fn is_at(m: Option<Move>, coordinates: &str) -> bool {
+    match m {
+        Some(m) => move_text(m).as_str() == coordinates,
+        None => coordinates.is_empty(),
+    }
 }
 
-fn read_moves<L: Ledger, R: Abort>(rt: &R, alloc: Global, blank: Blank) -> Result<(), Fail>
+fn expect_read<L: Ledger>(
+    rt: &impl Abort,
+    row: &(&str, &str, &str),
+    steps: &mut Steps<L>,
+) -> Result<(), Fail> {
+    let (placement, text, coordinates) = *row;
+    let p = set_up_valid(placement, Colour::White, None)?;
+    let m = read_san(&p, text.as_bytes(), steps);
+    assert!(rt; is_at(m, coordinates), "{text}");
+    Ok(())
+}
+
+fn read_moves<L: Ledger, R: Abort>(rt: &R, blank: Blank) -> Result<(), Fail>
     requires name { blank.name ≡ L.name }
     requires parts { blank.parts ≡ L.parts }
     requires some { 0 < blank.parts }
 {
     let mut steps = Steps::<L>::new(blank);
-    for (placement, text, coordinates) in READ {
-        let m = read_at(alloc, placement, text, &mut steps)?;
-        assert_eq!(rt; m.as_str(), *coordinates, "{text}");
+    for row in READ {
+        expect_read(rt, row, &mut steps)?;
     }
     Ok(())
 }
@@ -177,5 +186,5 @@ fn read_moves<L: Ledger, R: Abort>(rt: &R, alloc: Global, blank: Blank) -> Resul
 #[test]
 fn reads_texts_with_and_without_a_sign(rt: HostRuntime) -> Result<(), Fail> {
     let blank = Blank::new(1);
-    read_moves::<Brand, _>(&rt, rt.alloc(), blank)
+    read_moves::<Brand, _>(&rt, blank)
 }

@@ -42,13 +42,17 @@ fn cells_of(placement: &str) -> [u8; 64] {
 }
 
 /// The board of a placement, with the number of its target.
-pub fn set_up(placement: &str, turn: Colour, target: Option<u8>) -> Result<Position, Fail> {
+pub(crate) fn set_up(placement: &str, turn: Colour, target: Option<u8>) -> Result<Position, Fail> {
     let target = target.and_then(Square::new);
     Ok(Position::new(cells_of(placement), turn, target).ok_or("a position")?)
 }
 
 /// The same, where it is a valid position.
-pub fn set_up_valid(placement: &str, turn: Colour, target: Option<u8>) -> Result<Position, Fail>
+pub(crate) fn set_up_valid(
+    placement: &str,
+    turn: Colour,
+    target: Option<u8>,
+) -> Result<Position, Fail>
     ensures { IfOk result IsValid }
 {
     let p = set_up(placement, turn, target)?;

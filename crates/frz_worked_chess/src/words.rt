@@ -5,6 +5,7 @@ use frz_bits::{
     pawn_set, rook_rays,
 };
 use frz_board::{Colour, Kind, Man, Position, Square, cell_of};
+use std::process::Abort;
 use std::test::Fail;
 
 const A1: u64 = 1;
@@ -13,35 +14,29 @@ const C1: u64 = 1 << 2;
 
 const A3: u64 = 1 << 16;
 
-fn square(n: u8) -> Result<Square, Fail> {
-    Ok(Square::new(n).ok_or("a square")?)
-}
-
 #[test]
-fn rays_end_at_the_first_man(rt: HostRuntime) -> Result<(), Fail> {
-    let a1 = square(0)?;
+fn rays_end_at_the_first_man(rt: HostRuntime) {
+    let a1 = Square::at(0);
     let b1 = 1 << 1;
     let a2 = 1 << 8;
     assert_eq!(rt; rook_rays(a1, A3 | C1), a2 | A3 | b1 | C1);
     let b2 = 1 << 9;
     let c3 = 1 << 18;
     assert_eq!(rt; bishop_rays(a1, c3), b2 | c3);
-    Ok(())
 }
 
 #[test]
-fn only_lines_have_squares_between(rt: HostRuntime) -> Result<(), Fail> {
-    let a1 = square(0)?;
+fn only_lines_have_squares_between(rt: HostRuntime) {
+    let a1 = Square::at(0);
     let b2 = 1 << 9;
     let c3 = 1 << 18;
-    assert_eq!(rt; between(a1, square(27)?), b2 | c3);
-    assert_eq!(rt; between(a1, square(17)?), 0);
-    Ok(())
+    assert_eq!(rt; between(a1, Square::at(27)), b2 | c3);
+    assert_eq!(rt; between(a1, Square::at(17)), 0);
 }
 
 #[test]
-fn short_ways(rt: HostRuntime) -> Result<(), Fail> {
-    let a1 = square(0)?;
+fn short_ways(rt: HostRuntime) {
+    let a1 = Square::at(0);
     let b1 = 1 << 1;
     let a2 = 1 << 8;
     let b2 = 1 << 9;
@@ -49,14 +44,32 @@ fn short_ways(rt: HostRuntime) -> Result<(), Fail> {
     let b3 = 1 << 17;
     let from_a1 = [knight_set(a1), king_set(a1), pawn_set(Colour::White, a1)];
     assert_eq!(rt; from_a1, [c2 | b3, b1 | a2 | b2, b2]);
-    assert_eq!(rt; pawn_set(Colour::Black, square(17)?), a2 | c2);
+    assert_eq!(rt; pawn_set(Colour::Black, Square::at(17)), a2 | c2);
     let pawn = Man {
         colour: Colour::White,
         kind: Kind::Pawn,
     };
     let a4 = 1 << 24;
-    assert_eq!(rt; move_set(pawn, square(8)?), A3 | b3 | a4);
-    Ok(())
+    assert_eq!(rt; move_set(pawn, Square::at(8)), A3 | b3 | a4);
+}
+
+/// The rook on a1 attacks the king on c1, and not d1 behind him.
+fn check_attackers(rt: &impl Abort, p: &Position) {
+    assert_eq!(rt; attackers(p, Square::at(2), Colour::White), A1);
+    assert_eq!(rt; attackers(p, Square::at(3), Colour::White), 0);
+}
+
+/// A knight on b1 ends the check of the rook on a1 to the king on c1.
+fn check_boards(rt: &impl Abort, boards: &Bitboards) {
+    let b1 = Square::at(1);
+    let rook = Man {
+        colour: Colour::White,
+        kind: Kind::Rook,
+    };
+    assert_eq!(rt; boards.men(rook), A1);
+    assert!(rt; boards.is_in_check(Colour::Black));
+    assert!(rt; !boards.put(b1, 5).is_in_check(Colour::Black));
+    assert_eq!(rt; next_square(boards.occupied(), 1), Some(Square::at(2)));
 }
 
 #[test]
@@ -71,16 +84,7 @@ fn a_rook_attacks_past_no_man(rt: HostRuntime) -> Result<(), Fail> {
         kind: Kind::King,
     });
     let p = Position::new(cells, Colour::White, None).ok_or("a position")?;
-    assert_eq!(rt; attackers(&p, square(2)?, Colour::White), A1);
-    assert_eq!(rt; attackers(&p, square(3)?, Colour::White), 0);
-    let boards = Bitboards::of(&p);
-    let rook = Man {
-        colour: Colour::White,
-        kind: Kind::Rook,
-    };
-    assert_eq!(rt; boards.men(rook), A1);
-    assert!(rt; boards.is_in_check(Colour::Black));
-    assert!(rt; !boards.put(square(1)?, 5).is_in_check(Colour::Black));
-    assert_eq!(rt; next_square(boards.occupied(), 1), Some(square(2)?));
+    check_attackers(&rt, &p);
+    check_boards(&rt, &Bitboards::of(&p));
     Ok(())
 }
