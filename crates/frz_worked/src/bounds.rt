@@ -25,35 +25,42 @@ fn a_law_is_called() {
 
 #[test]
 fn codes_stand_for_bounds(rt: HostRuntime) {
-    assert_eq!(rt; code(Bound::Wins(0)), 2);
-    assert_eq!(rt; code(Bound::Fails(2)), 7);
-    assert_eq!(rt; bound_of(6), Some(Bound::Wins(2)));
-    assert_eq!(rt; bound_of(0), None);
-    assert_eq!(rt; exit_code(Class::Good, 7), 16);
-    assert_eq!(rt; exit_code(Class::Bad, 7), 3);
+    assert_eq!(rt; [code(Bound::Wins(0)), code(Bound::Fails(2))], [2, 7]);
+    assert_eq!(rt; [bound_of(6), bound_of(0)], [Some(Bound::Wins(2)), None]);
+    let exits = [exit_code(Class::Good, 7), exit_code(Class::Bad, 7)];
+    assert_eq!(rt; exits, [16, 3]);
 }
 
 #[test]
 fn the_side_is_to_move(rt: HostRuntime) {
     let node = Node::Going(White);
-    assert_eq!(rt; local_code(White, node, &[7, 6, 1, 4], &[]), 6);
-    assert_eq!(rt; local_code(White, node, &[7, 1], &[4]), 1);
-    assert_eq!(rt; local_code(White, node, &[7, 3], &[4]), 9);
-    assert_eq!(rt; local_code(White, node, &[], &[4]), 3);
+    let codes = [
+        local_code(White, node, &[7, 6, 1, 4], &[]),
+        local_code(White, node, &[7, 1], &[4]),
+        local_code(White, node, &[7, 3], &[4]),
+        local_code(White, node, &[], &[4]),
+    ];
+    assert_eq!(rt; codes, [6, 1, 9, 3]);
 }
 
 #[test]
 fn the_opponent_is_to_move(rt: HostRuntime) {
     let node = Node::Going(Black);
-    assert_eq!(rt; local_code(White, node, &[], &[4, 7, 5]), 7);
-    assert_eq!(rt; local_code(White, node, &[], &[4, 1]), 1);
-    assert_eq!(rt; local_code(White, node, &[4], &[4, 6]), 8);
+    let codes = [
+        local_code(White, node, &[], &[4, 7, 5]),
+        local_code(White, node, &[], &[4, 1]),
+        local_code(White, node, &[4], &[4, 6]),
+    ];
+    assert_eq!(rt; codes, [7, 1, 8]);
 }
 
 #[test]
 fn the_game_is_over(rt: HostRuntime) {
-    assert_eq!(rt; local_code(White, Node::Broken, &[], &[]), 0);
-    assert_eq!(rt; local_code(White, Node::Mate(Black), &[], &[]), 2);
-    assert_eq!(rt; local_code(White, Node::Mate(White), &[], &[]), 3);
-    assert_eq!(rt; local_code(White, Node::Stalemate(White), &[], &[]), 1);
+    let codes = [
+        local_code(White, Node::Broken, &[], &[]),
+        local_code(White, Node::Mate(Black), &[], &[]),
+        local_code(White, Node::Mate(White), &[], &[]),
+        local_code(White, Node::Stalemate(White), &[], &[]),
+    ];
+    assert_eq!(rt; codes, [0, 2, 3, 1]);
 }

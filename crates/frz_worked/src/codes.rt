@@ -10,9 +10,12 @@ use std::process::Abort;
 
 #[test]
 fn exits_have_codes(rt: HostRuntime) {
-    assert_eq!(rt; exit_code(Value::WhiteWinsIn(7), White), 16);
-    assert_eq!(rt; exit_code(Value::WhiteWinsIn(7), Black), 3);
-    assert_eq!(rt; exit_code(Value::BlackHolds, Black), 1);
+    let codes = [
+        exit_code(Value::WhiteWinsIn(7), White),
+        exit_code(Value::WhiteWinsIn(7), Black),
+        exit_code(Value::BlackHolds, Black),
+    ];
+    assert_eq!(rt; codes, [16, 3, 1]);
 }
 
 /// A code, and the local code that follows from it where White is to move.

@@ -151,12 +151,12 @@ fn count_moves<L: Ledger>(
 fn check_game<L: Ledger, R: Abort>(
     rt: &R,
     alloc: Global,
+    text: &str,
     game: &Game<'_, RuleBook<'_>>,
     steps: &mut Steps<L>,
 ) -> Result<(), Fail> {
     let (on, back) = count_moves(alloc, game, steps)?;
-    assert_eq!(rt; on, back);
-    assert!(rt; on > 0);
+    assert!(rt; on == back && on > 0, "{on} on, {back} back: {text}");
     Ok(())
 }
 
@@ -175,7 +175,7 @@ fn check_all<L: Ledger, R: Abort>(
         rules: &rules,
         book: &book,
     };
-    check_game(rt, alloc, &game, steps)
+    check_game(rt, alloc, text, &game, steps)
 }
 
 fn find_rows<L: Ledger, R: Abort>(rt: &R, alloc: Global, blank: Blank) -> Result<(), Fail>

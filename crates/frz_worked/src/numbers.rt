@@ -1,5 +1,6 @@
 //! Numbers of sets: worked ones, and all of them against a count of the positions.
 ghost use Rattle.std.specs.Prelude.{◌≤◌};
+ghost use Rattle.frz_fide.specs.Valid.{IsValid};
 ghost use Rattle.frz_index.specs.declared.old.TheConstants.{MOST_OLD_NUMBERS};
 ghost use Rattle.frz_index.specs.OldNumbers.{old_size_of};
 ghost use Rattle.frz_sets.specs.Sound.{IsSound};
@@ -32,17 +33,30 @@ pub(super) fn set_of(alloc: Global, text: &str) -> Result<Set, Fail> {
     Ok(Set::new(alloc, &rules)?)
 }
 
+/// Has the position this number, and the number this position?
+fn is_at(set: &Set, p: &Position, number: u32) -> bool
+    requires { IsValid p.now }
+{
+    if set.number(p) != Some(number) {
+        return false;
+    }
+    match set.at(number) {
+        Some(q) => is_same(p, &q),
+        None => false,
+    }
+}
+
 /// The set has this number, both ways.
 fn check_row(rt: &impl Abort, set: &Set, row: &Row) -> Result<(), Fail> {
     let (number, men, turn, target) = *row;
     let p = position(men, turn, target).ok_or("a position")?;
-    assert_eq!(rt; set.number(&p), Some(number), "{men}");
-    let q = set.at(number).ok_or("a position")?;
-    assert!(rt; is_same(&p, &q), "{men}");
+    assert!(rt; is_at(set, &p, number), "{number} is {men}");
     Ok(())
 }
 
-fn check_broken(rt: &impl Abort, set: &Set, broken: &[u32]) {
+/// The set has so many numbers, and these of them are broken.
+fn check_broken(rt: &impl Abort, set: &Set, size: u32, broken: &[u32]) {
+    assert_eq!(rt; set.size(), size);
     for number in broken {
         assert!(rt; set.at(*number).is_none(), "{number} is broken");
     }
@@ -58,11 +72,10 @@ fn check_rows(
     broken: &[u32],
 ) -> Result<(), Fail> {
     let set = set_of(alloc, text)?;
-    assert_eq!(rt; set.size(), size);
+    check_broken(rt, &set, size, broken);
     for row in rows {
         check_row(rt, &set, row)?;
     }
-    check_broken(rt, &set, broken);
     Ok(())
 }
 

@@ -16,7 +16,7 @@ const CLASSES: &[(Value, Colour, Class)] = &[
 #[test]
 fn values_of_both_sides(rt: HostRuntime) {
     for (value, side, wanted) in CLASSES {
-        assert_eq!(rt; class(*value, *side), *wanted, "{value:?} {side:?}");
+        assert!(rt; class(*value, *side) == *wanted, "{value:?} for {side:?}");
     }
     assert_eq!(rt; lag(Value::BlackWinsIn(12)), 12);
     assert_eq!(rt; lag(Value::BlackWins), 0);

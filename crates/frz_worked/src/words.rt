@@ -18,7 +18,7 @@ fn check_line(rt: &impl Abort, line: &Line, known: &Known)
     requires { length line.now.text.now < 2 ^ 32 }
 {
     let Known(number, count, second) = known;
-    assert_eq!(rt; (line.number, line.count()), (*number, *count));
+    assert!(rt; line.number == *number && line.count() == *count);
     assert!(rt; line.word(2) == *second);
     assert!(rt; line.word(0).is_none() && line.word(3).is_none());
 }

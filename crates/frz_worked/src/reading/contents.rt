@@ -1,4 +1,5 @@
 //! What the lines of an accepted text say.
+use super::limits::have_values;
 use super::{A, read};
 use frz_board::{Colour, Kind, Square};
 use frz_sets::{Cond, Forbid, Group, Only, Rules, Test, Value};
@@ -10,22 +11,24 @@ fn behind_a(rt: &impl Abort, alloc: Global, lines: &[u8]) -> Rules {
     read(rt, alloc, &[A, lines]).expect(rt, "rules")
 }
 
-/// None, one or two men of three states, of which the first is that of the bishop.
-fn check_group(rt: &impl Abort, g: &Group) {
-    assert!(rt; (g.least, g.most, g.states.len()) == (0, 2, 3));
+/// Has the group none, one or two men of three states, of which the first is that of the bishop?
+fn is_group(g: &Group) -> bool {
+    if g.least != 0 || g.most != 2 || g.states.len() != 3 {
+        return false;
+    }
     let squares = [
         g.states[0].1.number(),
         g.states[1].1.number(),
         g.states[2].1.number(),
     ];
-    assert_eq!(rt; squares, [2, 0, 1]);
+    squares == [2, 0, 1]
 }
 
 #[test]
 fn states_of_a_group(rt: HostRuntime) {
     let rules = behind_a(&rt, rt.alloc(), b"group black 0-2\tN:b1,a1 B:c1 N:a1\r\n");
     assert_eq!(rt; rules.groups.len(), 4);
-    check_group(&rt, &rules.groups[3]);
+    assert!(rt; is_group(&rules.groups[3]));
 }
 
 const FORBIDS: [Forbid; 3] = [
@@ -83,16 +86,21 @@ const VALUES: &[Valued] = &[
 fn values_of_exits(rt: HostRuntime) {
     for Valued(line, value) in VALUES {
         let rules = behind_a(&rt, rt.alloc(), line);
-        assert_eq!(rt; rules.exits.len(), 1);
-        assert_eq!(rt; rules.exits[0].value, *value);
+        assert!(rt; have_values(&rules.exits, &[*value]), "{value:?}");
     }
 }
 
-fn check_conds(rt: &impl Abort, conds: &[Cond], want: &[(bool, Test)]) {
-    assert_eq!(rt; conds.len(), want.len());
-    for (cond, (negated, test)) in conds.iter().zip(want) {
-        assert_eq!(rt; (cond.negated, cond.test), (*negated, *test));
+/// Are the conditions these, and as many?
+fn are_conds(conds: &[Cond], want: &[(bool, Test)]) -> bool {
+    if conds.len() != want.len() {
+        return false;
     }
+    for (cond, (negated, test)) in conds.iter().zip(want) {
+        if cond.negated != *negated || cond.test != *test {
+            return false;
+        }
+    }
+    true
 }
 
 #[test]
@@ -109,5 +117,5 @@ fn conditions_of_exits(rt: HostRuntime) {
         (true, Test::Always),
     ];
     assert_eq!(rt; rules.exits.len(), 1);
-    check_conds(&rt, &rules.exits[0].conds, &want);
+    assert!(rt; are_conds(&rules.exits[0].conds, &want));
 }

@@ -43,11 +43,17 @@ const VALUES: &[Value] = &[
     Value::BlackWinsIn(777),
 ];
 
-fn check_values(rt: &impl Abort, exits: &[Exit], values: &[Value]) {
-    assert_eq!(rt; exits.len(), values.len());
-    for (exit, value) in exits.iter().zip(values) {
-        assert_eq!(rt; exit.value, *value);
+/// Have the exits these values, and are they as many?
+pub(super) fn have_values(exits: &[Exit], values: &[Value]) -> bool {
+    if exits.len() != values.len() {
+        return false;
     }
+    for (exit, value) in exits.iter().zip(values) {
+        if exit.value != *value {
+            return false;
+        }
+    }
+    true
 }
 
 #[test]
@@ -62,7 +68,7 @@ exit white wins 7 if check
 exit black wins 777 if check
 ";
     let rules = read(&rt, rt.alloc(), &[A, lines]).ok().ok_or("rules")?;
-    check_values(&rt, &rules.exits, VALUES);
+    assert!(rt; have_values(&rules.exits, VALUES));
     Ok(())
 }
 
