@@ -3,6 +3,7 @@
 use frz_board::{
     Colour, Kind, Man, Move, Position, Shape, Square, cell_of, man_of, move_text, read_move,
 };
+use std::process::Abort;
 use std::test::Fail;
 
 /// The men at the start of a game, from a1 to h8 (FIDE 2.3).
@@ -79,19 +80,33 @@ fn keeps_a_target_that_a_pawn_can_capture(rt: HostRuntime) -> Result<(), Fail> {
     let p = start()?.put(e2, 0).put(e5, 6).put(d7, 0).put(d5, 12);
     let p = p.hand_over(None).hand_over(Some(d6));
     assert!(rt; p.has_passed(Colour::Black, d6) && p.has_pawn_beside(Colour::White, d5));
-    assert_eq!(rt; p.shape(), Ok(()));
+    assert!(rt; p.shape().is_ok());
     assert_eq!(rt; p.put(e5, 0).put(a2, 6).shape(), Err(Shape::EpPlace));
     Ok(())
 }
 
-#[test]
-fn writes_and_reads_moves(rt: HostRuntime) -> Result<(), Fail> {
-    let (e7, e8) = (Square::at(52), Square::at(60));
-    let m = Move::new(e7, e8, Some(Kind::Queen)).ok_or("no move")?;
-    assert_eq!(rt; move_text(m).as_str(), "e7e8q");
+/// A text is read as the move that queens, one as the move that stays on e7, and two are not read.
+fn check_read(rt: &impl Abort, queens: Move, stays: Move) {
     let read = [read_move(b"e7e8q"), read_move(b"e7e8k"), read_move(b"e7e9")];
-    assert_eq!(rt; read, [Some(m), None, None]);
-    assert_eq!(rt; read_move(b"e7e7").map(|m| m.from == m.to), Some(true));
-    assert_eq!(rt; Move::new(e7, e8, Some(Kind::King)), None);
-    Ok(())
+    assert_eq!(rt; read, [Some(queens), None, None]);
+    assert!(rt; read_move(b"e7e7") == Some(stays));
+}
+
+#[test]
+fn writes_and_reads_moves(rt: HostRuntime) {
+    let (e7, e8) = (Square::at(52), Square::at(60));
+    let queens = Move {
+        from: e7,
+        to: e8,
+        promo: Some(Kind::Queen),
+    };
+    let stays = Move {
+        from: e7,
+        to: e7,
+        promo: None,
+    };
+    assert_eq!(rt; move_text(queens).as_str(), "e7e8q");
+    assert!(rt; Move::new(e7, e8, Some(Kind::Queen)) == Some(queens));
+    assert!(rt; Move::new(e7, e8, Some(Kind::King)).is_none());
+    check_read(&rt, queens, stays);
 }

@@ -1,19 +1,22 @@
 //! FEN texts that are right, and faults of each sort.
 
-use frz_board::{Colour, Shape, Square};
+use frz_board::{Colour, Position, Shape, Square};
 use frz_fen::{FenFault, read_fen, write_fen};
 use frz_fide::Invalid;
 use std::process::Abort;
 use std::test::Fail;
+
+/// Do White's king and Black's queen stand where the game starts, with White to move?
+fn is_start(p: &Position) -> bool {
+    p.cell(Square::at(4)) == 1 && p.cell(Square::at(59)) == 8 && p.turn() == Colour::White
+}
 
 /// The game's start (FIDE 2.3), its castling rights aside.
 #[test]
 fn reads_and_writes_the_start_of_a_game(rt: HostRuntime) -> Result<(), Fail> {
     let start = "rnbqkbnr/pppppppp/8/8/8/8/PPPPPPPP/RNBQKBNR w - - 0 1";
     let p = read_fen(start.as_bytes())?;
-    assert_eq!(rt; p.cell(Square::at(4)), 1);
-    assert_eq!(rt; p.cell(Square::at(59)), 8);
-    assert_eq!(rt; p.turn(), Colour::White);
+    assert!(rt; is_start(&p));
     assert_eq!(rt; write_fen(&p).as_str(), start);
     Ok(())
 }

@@ -53,7 +53,9 @@ fn sans_of<L: Ledger>(alloc: Global, p: &Position, steps: &mut Steps<L>) -> Resu
 }
 
 /// A placement, the side to move and its target; and the texts of its moves.
-const WRITTEN: &[(&str, Colour, Option<u8>, &str)] = &[
+type Written = (&'static str, Colour, Option<u8>, &'static str);
+
+const WRITTEN: &[Written] = &[
     // en passant; promotion; promotion with capture, with check or without
     (
         "8/8/8/3pP3/8/8/8/K1k5",
@@ -92,15 +94,17 @@ const WRITTEN: &[(&str, Colour, Option<u8>, &str)] = &[
     ("k7/8/1Q6/8/8/8/8/4K3", Colour::Black, None, ""),
 ];
 
-fn written_at<L: Ledger>(
+fn expect_written<L: Ledger>(
+    rt: &impl Abort,
     alloc: Global,
-    placement: &str,
-    turn: Colour,
-    target: Option<u8>,
+    row: &Written,
     steps: &mut Steps<L>,
-) -> Result<String, Fail> {
+) -> Result<(), Fail> {
+    let (placement, turn, target, texts) = *row;
     let p = set_up_valid(placement, turn, target)?;
-    sans_of(alloc, &p, steps)
+    let written = sans_of(alloc, &p, steps)?;
+    assert!(rt; written.as_str() == texts, "{placement}: {written}");
+    Ok(())
 }
 
 fn write_moves<L: Ledger, R: Abort>(rt: &R, alloc: Global, blank: Blank) -> Result<(), Fail>
@@ -109,9 +113,8 @@ fn write_moves<L: Ledger, R: Abort>(rt: &R, alloc: Global, blank: Blank) -> Resu
     requires some { 0 < blank.parts }
 {
     let mut steps = Steps::<L>::new(blank);
-    for (placement, turn, target, texts) in WRITTEN {
-        let written = written_at(alloc, placement, *turn, *target, &mut steps)?;
-        assert_eq!(rt; written.as_str(), *texts, "{placement}");
+    for row in WRITTEN {
+        expect_written(rt, alloc, row, &mut steps)?;
     }
     Ok(())
 }
