@@ -4,7 +4,7 @@ ghost use Rattle.std.specs.Prelude.{◌≡◌, ◌<◌, ◌≢◌};
 use frz_board::Colour;
 use frz_chain::{ChainFault, ChainVerdict, build_chain, check_chain, pair_value};
 use frz_game::Wrong;
-use frz_handmade::{plain_file, rook, store_with, table_file};
+use frz_handmade::{rook, store_with, table_file};
 use frz_rules::{RulesCause, RulesFault};
 use frz_sets::Value;
 use frz_steps::Steps;
@@ -32,72 +32,71 @@ group black 1 K:c8
 exit white wins if always
 ";
 
-/// The codes of its table, White's first.
-const NEXT_CODES: [u32; 4] = [4, 4, 5, 5];
+/// A table file: its magic, its text, its size and its codes, White's first.
+struct File(&'static [u8], &'static str, u32, &'static [u32]);
 
-/// The codes of the rook's table over that of NEXT.
-const CHAINED_CODES: [u32; 16] = [4, 4, 0, 0, 6, 6, 2, 2, 5, 5, 0, 0, 7, 7, 3, 3];
+const CHAINED_CODES: &[u32] = &[4, 4, 0, 0, 6, 6, 2, 2, 5, 5, 0, 0, 7, 7, 3, 3];
 
-/// The table of a text of the rook's ending over that of NEXT.
-fn chained(alloc: Global, text: &str) -> Result<Vec<u8>, Fail> {
-    table_file(alloc, b"FREEZERC", text.as_bytes(), 8, &CHAINED_CODES)
-}
+/// The rook's table over that of NEXT.
+const CHAINED: File = File(b"FREEZERC", rook::TEXT, 8, CHAINED_CODES);
+
+/// The same of the text that calls every exit unknown.
+const CHAINED_UNKNOWN: File = File(b"FREEZERC", ROOK_UNKNOWN, 8, CHAINED_CODES);
 
 /// The rook's table by its own lines.
-fn plain(alloc: Global) -> Result<Vec<u8>, Fail> {
-    plain_file(alloc, rook::TEXT.as_bytes(), &rook::CODES)
+const PLAIN: File = File(b"FREEZER2", rook::TEXT, 8, &rook::CODES);
+
+/// The table of NEXT.
+const BACK: File = File(b"FREEZER2", NEXT, 2, &[4, 4, 5, 5]);
+
+/// One whose last entry is wrong, and what a check names of it.
+const WRONG_BACK: File = File(b"FREEZER2", NEXT, 2, &[4, 4, 5, 7]);
+
+const BACK_WRONG: ChainFault = ChainFault::BackWrong(Wrong {
+    side: Colour::Black,
+    number: 1,
+    kept: 7,
+    given: 5,
+});
+
+/// The bytes of a file, of which there are none where there is no table.
+fn bytes_of(alloc: Global, file: &Option<File>) -> Result<Vec<u8>, Fail> {
+    let Some(File(magic, text, size, codes)) = file else {
+        return Ok(Vec::new(alloc));
+    };
+    table_file(alloc, magic, text.as_bytes(), *size, codes)
 }
 
-/// A table of NEXT with these codes.
-fn next(alloc: Global, codes: &[u32; 4]) -> Result<Vec<u8>, Fail> {
-    plain_file(alloc, NEXT.as_bytes(), codes)
-}
-
-/// A store that holds a back table of NEXT with these codes alone.
-fn next_alone(alloc: Global, codes: &[u32; 4]) -> Result<MemStore, Fail> {
-    let back = next(alloc, codes)?;
-    store_with(alloc, Vec::new(alloc), &[("B", &back)])
+/// A store whose calls fail so, with a file under this name and a back table under the name B.
+fn store_of(
+    alloc: Global,
+    fails: &[Failing],
+    name: &str,
+    file: &Option<File>,
+    back: &Option<File>,
+) -> Result<MemStore, Fail> {
+    let file = bytes_of(alloc, file)?;
+    let back = bytes_of(alloc, back)?;
+    store_with(alloc, fails.to_vec(alloc)?, &[(name, &file), ("B", &back)])
 }
 
 /// What a check of T over B says.
 fn checked<L: Ledger>(
     alloc: Global,
     blank: Blank,
-    mut store: MemStore,
+    store: &mut MemStore,
 ) -> Result<ChainVerdict, ChainFault>
     requires name { blank.name ≡ L.name }
     requires parts { blank.parts ≡ L.parts }
     requires some { 0 < blank.parts }
 {
     let mut steps = Steps::<L>::new(blank);
-    check_chain(alloc, &mut store, "T", "B", &mut steps)
+    check_chain(alloc, store, "T", "B", &mut steps)
 }
 
-fn said(alloc: Global, store: MemStore) -> Result<ChainVerdict, ChainFault> {
+fn said(alloc: Global, store: &mut MemStore) -> Result<ChainVerdict, ChainFault> {
     let blank = Blank::new(1);
     checked::<Brand>(alloc, blank, store)
-}
-
-/// What a check of this table over this back table says, where calls of the store fail so.
-fn verdict(
-    alloc: Global,
-    fails: Vec<Failing>,
-    table: &[u8],
-    back: &[u8],
-) -> Result<Result<ChainVerdict, ChainFault>, Fail> {
-    let store = store_with(alloc, fails, &[("T", table), ("B", back)])?;
-    Ok(said(alloc, store))
-}
-
-fn expect(
-    rt: &impl Abort,
-    alloc: Global,
-    table: &[u8],
-    back: &[u8],
-    wanted: Result<ChainVerdict, ChainFault>,
-) -> Result<(), Fail> {
-    assert!(rt; verdict(alloc, Vec::new(alloc), table, back)? == wanted);
-    Ok(())
 }
 
 /// Builds the table of the text over B under the name T.
@@ -121,7 +120,7 @@ fn build(alloc: Global, store: &mut MemStore, text: &[u8]) -> Result<u32, ChainF
 }
 
 /// The codes of both sides, White's first, and what they say of chess.
-const PAIRS: [(u32, u32, Value); 8] = [
+const PAIRS: &[(u32, u32, Value)] = &[
     (4, 5, Value::WhiteWins),
     (3, 2, Value::BlackWins),
     (1, 1, Value::Draw),
@@ -135,148 +134,122 @@ const PAIRS: [(u32, u32, Value); 8] = [
 #[test]
 fn pairs_of_codes(rt: HostRuntime) {
     for (white, black, value) in PAIRS {
-        assert_eq!(rt; pair_value(white, black), value, "{white} {black}");
+        assert_eq!(rt; pair_value(*white, *black), *value, "{white} {black}");
     }
 }
 
-/// Builds the table of a text of the rook's ending over that of NEXT.
-fn expect_built(rt: &impl Abort, alloc: Global, text: &str) -> Result<(), Fail> {
-    let mut store = next_alone(alloc, &NEXT_CODES)?;
-    assert!(rt; build(alloc, &mut store, text.as_bytes()) == Ok(8));
-    let due = chained(alloc, text)?;
-    assert_eq!(rt; store.file("T").ok_or("missing")?, due.as_slice());
-    Ok(())
+/// Building the table of the text gives this.
+fn expect_build(
+    rt: &impl Abort,
+    alloc: Global,
+    store: &mut MemStore,
+    text: &str,
+    wanted: Result<u32, ChainFault>,
+) {
+    assert!(rt; build(alloc, store, text.as_bytes()) == wanted, "{text}");
 }
+
+/// A text, and the table that is built of it over that of NEXT.
+struct Building(&'static str, Option<File>);
+
+const BUILT: &[Building] = &[
+    Building(rook::TEXT, Some(CHAINED)),
+    // An unknown line leaves the answer to the back table.
+    Building(ROOK_UNKNOWN, Some(CHAINED_UNKNOWN)),
+];
 
 #[test]
 fn built_over_the_next_table(rt: HostRuntime) -> Result<(), Fail> {
-    expect_built(&rt, rt.alloc(), rook::TEXT)
-}
-
-#[test]
-fn an_unknown_line_leaves_the_answer_to_the_back_table(rt: HostRuntime) -> Result<(), Fail> {
-    expect_built(&rt, rt.alloc(), ROOK_UNKNOWN)
-}
-
-#[test]
-fn exact_over_its_own_back_table(rt: HostRuntime) -> Result<(), Fail> {
-    let alloc = rt.alloc();
-    let table = chained(alloc, rook::TEXT)?;
-    let back = next(alloc, &NEXT_CODES)?;
-    expect(&rt, alloc, &table, &back, Ok(ChainVerdict::Exact(8, 2)))
-}
-
-#[test]
-fn wrong_over_another_back_table(rt: HostRuntime) -> Result<(), Fail> {
-    let alloc = rt.alloc();
-    let table = chained(alloc, rook::TEXT)?;
-    let wrong = Wrong {
-        side: Colour::White,
-        number: 5,
-        kept: 6,
-        given: 5,
-    };
-    let back = plain(alloc)?;
-    expect(&rt, alloc, &table, &back, Ok(ChainVerdict::Wrong(wrong)))
-}
-
-#[test]
-fn the_table_is_refused_before_the_back_table(rt: HostRuntime) -> Result<(), Fail> {
-    let alloc = rt.alloc();
-    let table = plain(alloc)?;
-    let magic = ChainFault::Table(TableFault::Magic);
-    expect(&rt, alloc, &table, b"", Err(magic))
-}
-
-#[test]
-fn a_chained_back_table_is_refused(rt: HostRuntime) -> Result<(), Fail> {
-    let alloc = rt.alloc();
-    let table = chained(alloc, rook::TEXT)?;
-    let magic = ChainFault::Back(TableFault::Magic);
-    expect(&rt, alloc, &table, &table, Err(magic))
-}
-
-#[test]
-fn a_missing_table_is_refused(rt: HostRuntime) -> Result<(), Fail> {
-    let alloc = rt.alloc();
-    let store = next_alone(alloc, &NEXT_CODES)?;
-    assert!(rt; said(alloc, store) == Err(ChainFault::Table(TableFault::Missing)));
+    for Building(text, due) in BUILT {
+        let mut store = store_of(rt.alloc(), &[], "due", due, &Some(BACK))?;
+        expect_build(&rt, rt.alloc(), &mut store, text, Ok(8));
+        assert!(rt; store.file("T") == store.file("due"), "{text}");
+    }
     Ok(())
 }
 
 #[test]
-fn a_cut_back_table_is_refused(rt: HostRuntime) -> Result<(), Fail> {
-    let alloc = rt.alloc();
-    let table = chained(alloc, rook::TEXT)?;
-    let cut = ChainFault::Back(TableFault::Truncated(0, 16));
-    expect(&rt, alloc, &table, b"", Err(cut))
-}
-
-/// A back table whose last entry is wrong, and what a check names of it.
-const WRONG_BACK: [u32; 4] = [4, 4, 5, 7];
-
-const BACK_WRONG: ChainFault = ChainFault::BackWrong(Wrong {
-    side: Colour::Black,
-    number: 1,
-    kept: 7,
-    given: 5,
-});
-
-#[test]
 fn nothing_is_built_over_a_wrong_back_table(rt: HostRuntime) -> Result<(), Fail> {
-    let alloc = rt.alloc();
-    let mut store = next_alone(alloc, &WRONG_BACK)?;
-    assert!(rt; build(alloc, &mut store, rook::TEXT.as_bytes()) == Err(BACK_WRONG));
+    let mut store = store_of(rt.alloc(), &[], "due", &None, &Some(WRONG_BACK))?;
+    expect_build(&rt, rt.alloc(), &mut store, rook::TEXT, Err(BACK_WRONG));
     assert!(rt; store.file("T").is_none());
     Ok(())
 }
 
-#[test]
-fn a_wrong_back_table_is_refused(rt: HostRuntime) -> Result<(), Fail> {
-    let alloc = rt.alloc();
-    let table = chained(alloc, rook::TEXT)?;
-    let back = next(alloc, &WRONG_BACK)?;
-    expect(&rt, alloc, &table, &back, Err(BACK_WRONG))
-}
+const NO_HEADER: ChainFault = ChainFault::Rules(RulesFault {
+    line: 0,
+    cause: RulesCause::Header,
+});
 
 #[test]
 fn a_text_is_refused_before_the_back_table(rt: HostRuntime) {
-    let alloc = rt.alloc();
-    let mut store = MemStore::new(alloc, Vec::new(alloc));
-    let header = RulesFault {
-        line: 0,
-        cause: RulesCause::Header,
-    };
-    assert!(rt; build(alloc, &mut store, b"") == Err(ChainFault::Rules(header)));
+    let mut store = MemStore::new(rt.alloc(), Vec::new(rt.alloc()));
+    expect_build(&rt, rt.alloc(), &mut store, "", Err(NO_HEADER));
     let missing = ChainFault::Back(TableFault::Missing);
-    assert!(rt; build(alloc, &mut store, rook::TEXT.as_bytes()) == Err(missing));
+    expect_build(&rt, rt.alloc(), &mut store, rook::TEXT, Err(missing));
 }
 
-/// Refuses this call of the store.
-fn expect_failed(
-    rt: &impl Abort,
-    alloc: Global,
-    nth: u64,
-    table: &[u8],
-    back: &[u8],
-) -> Result<(), Fail> {
-    let call = Failing {
-        on: FailOn::Call,
-        nth,
-        keep: 0,
-    };
-    let said = verdict(alloc, vec![in alloc; call]?, table, back)?;
-    assert!(rt; said == Err(ChainFault::Failed), "{nth}");
+/// A table and a back table, each of no bytes where it is none, and what a check says of them.
+struct Checking(Option<File>, Option<File>, Result<ChainVerdict, ChainFault>);
+
+const CHECKED: &[Checking] = &[
+    Checking(Some(CHAINED), Some(BACK), Ok(ChainVerdict::Exact(8, 2))),
+    Checking(
+        Some(CHAINED),
+        Some(PLAIN),
+        Ok(ChainVerdict::Wrong(Wrong {
+            side: Colour::White,
+            number: 5,
+            kept: 6,
+            given: 5,
+        })),
+    ),
+    // The table is refused before the back table.
+    Checking(Some(PLAIN), None, Err(ChainFault::Table(TableFault::Magic))),
+    // A back table that is chained, one that is cut, and one that is wrong.
+    Checking(
+        Some(CHAINED),
+        Some(CHAINED),
+        Err(ChainFault::Back(TableFault::Magic)),
+    ),
+    Checking(
+        Some(CHAINED),
+        None,
+        Err(ChainFault::Back(TableFault::Truncated(0, 16))),
+    ),
+    Checking(Some(CHAINED), Some(WRONG_BACK), Err(BACK_WRONG)),
+];
+
+#[test]
+fn checks_of_a_table_over_a_back_table(rt: HostRuntime) -> Result<(), Fail> {
+    for Checking(table, back, wanted) in CHECKED {
+        let mut store = store_of(rt.alloc(), &[], "T", table, back)?;
+        assert!(rt; said(rt.alloc(), &mut store) == *wanted, "{wanted:?}");
+    }
+    Ok(())
+}
+
+#[test]
+fn a_missing_table_is_refused(rt: HostRuntime) -> Result<(), Fail> {
+    let mut store = store_of(rt.alloc(), &[], "other", &None, &Some(BACK))?;
+    let missing = ChainFault::Table(TableFault::Missing);
+    assert!(rt; said(rt.alloc(), &mut store) == Err(missing));
     Ok(())
 }
 
 #[test]
 fn each_call_of_the_store_may_fail(rt: HostRuntime) -> Result<(), Fail> {
-    let alloc = rt.alloc();
-    let table = chained(alloc, rook::TEXT)?;
-    let back = next(alloc, &NEXT_CODES)?;
     for nth in 1..=12 {
-        expect_failed(&rt, alloc, nth, &table, &back)?;
+        let call = Failing {
+            on: FailOn::Call,
+            nth,
+            keep: 0,
+        };
+        let mut store = store_of(rt.alloc(), &[call], "T", &Some(CHAINED), &Some(BACK))?;
+        assert!(rt;
+            said(rt.alloc(), &mut store) == Err(ChainFault::Failed),
+            "{nth}"
+        );
     }
     Ok(())
 }

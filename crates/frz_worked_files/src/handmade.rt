@@ -1,4 +1,5 @@
 //! Two files, written out.
+use crate::stores::check_file;
 use frz_handmade::{plain_file, store_with, table_file};
 use std::test::Fail;
 
@@ -18,10 +19,12 @@ fn keeps_a_plain_file(rt: HostRuntime) -> Result<(), Fail> {
     let alloc = rt.alloc();
     let file = plain_file(alloc, b"", &[5, 6])?;
     let store = store_with(alloc, Vec::new(alloc), &[("A", b"text"), ("A.t", &file)])?;
-    assert_eq!(rt; store.file("A").ok_or("no text")?, b"text".as_slice());
-    assert_eq!(rt;
-        store.file("A.t").ok_or("no file")?,
-        b"FREEZER2\0\0\0\0\x01\0\0\0\x05\0\0\0\x06\0\0\0".as_slice()
+    check_file(&rt, &store, "A", b"text");
+    check_file(
+        &rt,
+        &store,
+        "A.t",
+        b"FREEZER2\0\0\0\0\x01\0\0\0\x05\0\0\0\x06\0\0\0",
     );
     Ok(())
 }

@@ -1,7 +1,7 @@
 //! Lines over table files made by hand.
 ghost use Rattle.std.specs.Prelude.{◌≡◌, ◌<◌};
 
-use crate::stores::table_store;
+use crate::stores::{check_bytes, table_store};
 use frz_board::Colour;
 use frz_fen::read_fen;
 use frz_handmade::rook;
@@ -33,31 +33,31 @@ group black 1 K:a8
 
 const EXIT_CODES: [u32; 16] = [4, 4, 0, 0, 6, 18, 2, 2, 5, 5, 0, 0, 7, 7, 3, 3];
 
-/// A rules text, the codes of its file, and a position; what White's line answers there, and its
-/// text.
-#[derive(Drop)]
+/// A rules text, the codes of its file, a position, and the calls of the store that fail; what
+/// White's line answers there, and its text.
 struct Row {
     rules: &'static str,
     codes: &'static [u32],
     fen: &'static str,
+    fails: &'static [Failing],
     wanted: Result<LineEnd, LineFault>,
     text: &'static [u8],
 }
 
-const MATE: Row = Row {
-    rules: rook::TEXT,
-    codes: &rook::CODES,
-    fen: rook::CORNER,
-    wanted: Ok(LineEnd::Mate),
-    text: b"white wins within 2\na8b8\nh1h8\nmate\n",
-};
-
 const ROWS: &[Row] = &[
-    MATE,
+    Row {
+        rules: rook::TEXT,
+        codes: &rook::CODES,
+        fen: rook::CORNER,
+        fails: &[],
+        wanted: Ok(LineEnd::Mate),
+        text: b"white wins within 2\na8b8\nh1h8\nmate\n",
+    },
     Row {
         rules: rook::TEXT,
         codes: &rook::CODES,
         fen: rook::NEXT_TO_IT,
+        fails: &[],
         wanted: Err(LineFault::NoBound),
         text: b"",
     },
@@ -65,6 +65,7 @@ const ROWS: &[Row] = &[
         rules: rook::TEXT,
         codes: &rook::CODES,
         fen: rook::OUTSIDE,
+        fails: &[],
         wanted: Err(LineFault::Outside),
         text: b"",
     },
@@ -72,6 +73,7 @@ const ROWS: &[Row] = &[
         rules: ROOK_AND_EXIT,
         codes: &EXIT_CODES,
         fen: rook::NEXT_TO_IT,
+        fails: &[],
         wanted: Ok(LineEnd::Exit(Value::WhiteWinsIn(7))),
         text: b"white wins within 8\nb8c8\nexit white wins 7\n",
     },
@@ -79,8 +81,46 @@ const ROWS: &[Row] = &[
         rules: QUEEN,
         codes: &[4, 1, 5, 1],
         fen: "k7/2Q5/1K6/8/8/8/8/8 b - - 0 1",
+        fails: &[],
         wanted: Ok(LineEnd::Stalemate),
         text: b"white holds\nstalemate\n",
+    },
+    // Four reads open the file; then come the start and the moves that stay in the set.
+    Row {
+        rules: rook::TEXT,
+        codes: &rook::CODES,
+        fen: rook::CORNER,
+        fails: &[Failing {
+            on: FailOn::Read,
+            nth: 5,
+            keep: 0,
+        }],
+        wanted: Err(LineFault::Store),
+        text: b"",
+    },
+    Row {
+        rules: rook::TEXT,
+        codes: &rook::CODES,
+        fen: rook::CORNER,
+        fails: &[Failing {
+            on: FailOn::Read,
+            nth: 6,
+            keep: 0,
+        }],
+        wanted: Err(LineFault::Store),
+        text: b"",
+    },
+    Row {
+        rules: rook::TEXT,
+        codes: &rook::CODES,
+        fen: rook::CORNER,
+        fails: &[Failing {
+            on: FailOn::Read,
+            nth: 7,
+            keep: 0,
+        }],
+        wanted: Err(LineFault::Store),
+        text: b"white wins within 2\na8b8\n",
     },
 ];
 
@@ -97,46 +137,18 @@ fn end_of<L: Ledger>(
     Ok(best_line(&table, store, &p, Colour::White, out, steps))
 }
 
-/// What the line of a row answers over a store that fails so, and its text.
-fn line_of<L: Ledger>(
+/// Over this store the line of a row answers what is wanted, and has its text.
+fn check_line<L: Ledger, R: Abort>(
+    rt: &R,
     alloc: Global,
     row: &Row,
-    fails: Vec<Failing>,
+    store: &mut MemStore,
     steps: &mut Steps<L>,
-) -> Result<(Result<LineEnd, LineFault>, Vec<u8>), Fail> {
-    let mut store = table_store(alloc, row.rules, row.codes, fails)?;
+) -> Result<(), Fail> {
     let mut out = MemSink::new(alloc, 1000, Vec::new(alloc)).or(Err("sink"))?;
-    let end = end_of(alloc, row.fen, &mut store, &mut out, steps)?;
-    Ok((end, out.taken().to_vec(alloc)?))
-}
-
-fn check_row<L: Ledger, R: Abort>(
-    rt: &R,
-    alloc: Global,
-    row: &Row,
-    steps: &mut Steps<L>,
-) -> Result<(), Fail> {
-    let (end, text) = line_of(alloc, row, Vec::new(alloc), steps)?;
+    let end = end_of(alloc, row.fen, store, &mut out, steps)?;
+    check_bytes(rt, out.taken(), row.text, row.fen);
     assert_eq!(rt; end, row.wanted, "{}", row.fen);
-    assert_eq!(rt; text.as_slice(), row.text, "{}", row.fen);
-    Ok(())
-}
-
-/// Where this read fails, the lines before it stand.
-fn check_fault<L: Ledger, R: Abort>(
-    rt: &R,
-    alloc: Global,
-    nth: u64,
-    steps: &mut Steps<L>,
-) -> Result<(), Fail> {
-    let read = Failing {
-        on: FailOn::Read,
-        nth,
-        keep: 0,
-    };
-    let (end, text) = line_of(alloc, &MATE, vec![in alloc; read]?, steps)?;
-    assert_eq!(rt; end, Err(LineFault::Store));
-    assert!(rt; MATE.text.starts_with(text.as_slice()));
     Ok(())
 }
 
@@ -147,11 +159,8 @@ fn play_rows<L: Ledger, R: Abort>(rt: &R, alloc: Global, blank: Blank) -> Result
 {
     let mut steps = Steps::<L>::new(blank);
     for row in ROWS {
-        check_row(rt, alloc, row, &mut steps)?;
-    }
-    // Four reads open the file; then come the start and the moves that stay in the set.
-    for nth in 5..8 {
-        check_fault(rt, alloc, nth, &mut steps)?;
+        let mut store = table_store(alloc, row.rules, row.codes, row.fails)?;
+        check_line(rt, alloc, row, &mut store, &mut steps)?;
     }
     Ok(())
 }

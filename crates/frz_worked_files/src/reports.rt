@@ -1,7 +1,7 @@
 //! Reports of table files made by hand.
 ghost use Rattle.std.specs.Prelude.{◌≡◌, ◌<◌};
 
-use crate::stores::table_store;
+use crate::stores::{check_bytes, table_store};
 use frz_handmade::rook;
 use frz_report::{ReportFault, Totals, report};
 use frz_steps::Steps;
@@ -44,22 +44,27 @@ group white 1 P:h7
 group black 1 K:g7,g8
 ";
 
-/// A rules text, the codes of its file, White's first, and what is reported.
+/// A rules text, the codes of its file, White's first, the calls of the store that fail, and the
+/// room of the sink; what is answered, and the text.
 #[derive(Drop)]
 struct Row {
     rules: &'static str,
     codes: &'static [u32],
-    wanted: Totals,
+    fails: &'static [Failing],
+    room: usize,
+    wanted: Result<Totals, ReportFault>,
     text: &'static [u8],
 }
 
 const SQUEEZED: Row = Row {
     rules: LOST,
     codes: &[5, 4, 4, 5],
-    wanted: Totals {
+    fails: &[],
+    room: 1000,
+    wanted: Ok(Totals {
         squeezes: 1,
         unassigned: 0,
-    },
+    }),
     text: b"squeeze 0 1 7k/8/8/8/8/8/8/K7 w - - 0 1\nsqueezes 1 unassigned 0\n",
 };
 
@@ -68,78 +73,116 @@ const ROWS: &[Row] = &[
     Row {
         rules: rook::TEXT,
         codes: &rook::CODES,
-        wanted: Totals {
+        fails: &[],
+        room: 1000,
+        wanted: Ok(Totals {
             squeezes: 0,
             unassigned: 38,
-        },
+        }),
         text: b"exits 38 KRk\nsqueezes 0 unassigned 38\n",
     },
     // A win within one ply is worth no more than one within two.
     Row {
         rules: LOST,
         codes: &[6, 4, 4, 5],
-        wanted: Totals {
+        fails: &[],
+        room: 1000,
+        wanted: Ok(Totals {
             squeezes: 0,
             unassigned: 0,
-        },
+        }),
         text: b"squeezes 0 unassigned 0\n",
     },
     // White alone is worse off where it is to move.
     Row {
         rules: LOST,
         codes: &[1, 4, 1, 1],
-        wanted: Totals {
+        fails: &[],
+        room: 1000,
+        wanted: Ok(Totals {
             squeezes: 0,
             unassigned: 0,
-        },
+        }),
         text: b"squeezes 0 unassigned 0\n",
     },
     // A hold is worth more than a failure, and the code 0 at a position no more than one.
     Row {
         rules: LOST,
         codes: &[0, 1, 1, 0],
-        wanted: Totals {
+        fails: &[],
+        room: 1000,
+        wanted: Ok(Totals {
             squeezes: 1,
             unassigned: 0,
-        },
+        }),
         text: b"squeeze 0 1 7k/8/8/8/8/8/8/K7 w - - 0 1\nsqueezes 1 unassigned 0\n",
     },
     Row {
         rules: LOST,
         codes: &[5, 0, 4, 5],
-        wanted: Totals {
+        fails: &[],
+        room: 1000,
+        wanted: Ok(Totals {
             squeezes: 0,
             unassigned: 0,
-        },
+        }),
         text: b"squeezes 0 unassigned 0\n",
     },
     Row {
         rules: PAWN,
         codes: &[1, 0, 1, 1, 1, 0, 1, 1],
-        wanted: Totals {
+        fails: &[],
+        room: 1000,
+        wanted: Ok(Totals {
             squeezes: 0,
             unassigned: 18,
-        },
+        }),
         text: b"exits 12 KPk\nexits 1 KQk\nexits 1 KRk\nexits 1 KBk\nexits 1 KNk\nexits 2 Kk\n\
                 squeezes 0 unassigned 18\n",
     },
     Row {
         rules: FORBIDDEN,
         codes: &[5, 5, 0, 0, 7, 7, 3, 3, 5, 5, 0, 0, 7, 7, 3, 3],
-        wanted: Totals {
+        fails: &[],
+        room: 1000,
+        wanted: Ok(Totals {
             squeezes: 0,
             unassigned: 38,
-        },
+        }),
         text: b"exits 38 KRk\nsqueezes 0 unassigned 38\n",
     },
     Row {
         rules: HALF,
         codes: &[5, 4, 3, 5],
-        wanted: Totals {
+        fails: &[],
+        room: 1000,
+        wanted: Ok(Totals {
             squeezes: 0,
             unassigned: 3,
-        },
+        }),
         text: b"exits 3 Kk\nsqueezes 0 unassigned 3\n",
+    },
+    // Four reads open the file, and two load its codes. Where one of these fails, nothing is
+    // written.
+    Row {
+        fails: &[Failing {
+            on: FailOn::Read,
+            nth: 5,
+            keep: 0,
+        }],
+        wanted: Err(ReportFault::Store),
+        text: b"",
+        ..SQUEEZED
+    },
+    Row {
+        fails: &[Failing {
+            on: FailOn::Read,
+            nth: 6,
+            keep: 0,
+        }],
+        wanted: Err(ReportFault::Store),
+        text: b"",
+        ..SQUEEZED
     },
 ];
 
@@ -154,19 +197,19 @@ fn end_of<L: Ledger>(
     Ok(report(alloc, &table, store, out, steps))
 }
 
-/// What the report of a row answers over a store that fails so, and its text in a sink of so much
-/// room.
-fn report_of<L: Ledger>(
+/// Over this store the report of a row answers what is wanted, and has its text.
+fn check_report<L: Ledger, R: Abort>(
+    rt: &R,
     alloc: Global,
     row: &Row,
-    fails: Vec<Failing>,
-    room: usize,
+    store: &mut MemStore,
     steps: &mut Steps<L>,
-) -> Result<(Result<Totals, ReportFault>, Vec<u8>), Fail> {
-    let mut store = table_store(alloc, row.rules, row.codes, fails)?;
-    let mut out = MemSink::new(alloc, room, Vec::new(alloc)).or(Err("sink"))?;
-    let end = end_of(alloc, &mut store, &mut out, steps)?;
-    Ok((end, out.taken().to_vec(alloc)?))
+) -> Result<(), Fail> {
+    let mut out = MemSink::new(alloc, row.room, Vec::new(alloc)).or(Err("sink"))?;
+    let end = end_of(alloc, store, &mut out, steps)?;
+    check_bytes(rt, out.taken(), row.text, row.rules);
+    assert_eq!(rt; end, row.wanted, "{}", row.rules);
+    Ok(())
 }
 
 fn check_row<L: Ledger, R: Abort>(
@@ -175,28 +218,8 @@ fn check_row<L: Ledger, R: Abort>(
     row: &Row,
     steps: &mut Steps<L>,
 ) -> Result<(), Fail> {
-    let (end, text) = report_of(alloc, row, Vec::new(alloc), 1000, steps)?;
-    assert_eq!(rt; end, Ok(row.wanted), "{}", row.rules);
-    assert_eq!(rt; text.as_slice(), row.text, "{}", row.rules);
-    Ok(())
-}
-
-/// Where this read fails, nothing is written.
-fn check_fault<L: Ledger, R: Abort>(
-    rt: &R,
-    alloc: Global,
-    nth: u64,
-    steps: &mut Steps<L>,
-) -> Result<(), Fail> {
-    let read = Failing {
-        on: FailOn::Read,
-        nth,
-        keep: 0,
-    };
-    let (end, text) = report_of(alloc, &SQUEEZED, vec![in alloc; read]?, 1000, steps)?;
-    assert_eq!(rt; end, Err(ReportFault::Store));
-    assert!(rt; text.is_empty());
-    Ok(())
+    let mut store = table_store(alloc, row.rules, row.codes, row.fails)?;
+    check_report(rt, alloc, row, &mut store, steps)
 }
 
 /// Where the sink has no more room, the text up to there stands.
@@ -206,11 +229,13 @@ fn check_cut<L: Ledger, R: Abort>(
     room: usize,
     steps: &mut Steps<L>,
 ) -> Result<(), Fail> {
-    let (end, text) = report_of(alloc, &SQUEEZED, Vec::new(alloc), room, steps)?;
-    assert_eq!(rt; end, Err(ReportFault::Output));
-    assert!(rt; SQUEEZED.text.starts_with(text.as_slice()));
-    assert_eq!(rt; text.len(), room);
-    Ok(())
+    let row = Row {
+        room,
+        wanted: Err(ReportFault::Output),
+        text: SQUEEZED.text.get(..room).ok_or("room")?,
+        ..SQUEEZED
+    };
+    check_row(rt, alloc, &row, steps)
 }
 
 fn check_rows<L: Ledger, R: Abort>(rt: &R, alloc: Global, blank: Blank) -> Result<(), Fail>
@@ -221,10 +246,6 @@ fn check_rows<L: Ledger, R: Abort>(rt: &R, alloc: Global, blank: Blank) -> Resul
     let mut steps = Steps::<L>::new(blank);
     for row in ROWS {
         check_row(rt, alloc, row, &mut steps)?;
-    }
-    // Four reads open the file, and two load its codes.
-    for nth in 5..7 {
-        check_fault(rt, alloc, nth, &mut steps)?;
     }
     for room in 0..63 {
         check_cut(rt, alloc, room, &mut steps)?;

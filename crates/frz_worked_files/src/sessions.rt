@@ -1,7 +1,7 @@
 //! Sessions over table files made by hand.
 ghost use Rattle.std.specs.Prelude.{◌≡◌, ◌<◌};
 
-use crate::stores::table_store;
+use crate::stores::{check_bytes, table_store};
 use frz_board::Colour;
 use frz_fen::read_fen;
 use frz_game::Wrong;
@@ -30,17 +30,20 @@ const KINGS_CODES: [u32; 16] = [1; 16];
 /// White is to move, and only kings are left.
 const APART: &str = "7k/8/8/8/8/8/8/K7 w - - 0 1";
 
-/// A rules text, the codes of its file, a position and an input; what White's session answers there,
-/// its text, and what it leaves of the input.
+/// A rules text, the codes of its file, a position and an input, and the calls of the store and of
+/// the input that fail; what White's session answers there, its text, and what it leaves of the
+/// input.
 #[derive(Drop)]
-struct Row {
-    rules: &'static str,
-    codes: &'static [u32],
-    fen: &'static str,
-    input: &'static [u8],
+struct Row<'a> {
+    rules: &'a str,
+    codes: &'a [u32],
+    fen: &'a str,
+    input: &'a [u8],
+    store_fails: &'a [Failing],
+    input_fails: &'a [Failing],
     wanted: Result<SessionEnd, PlayFault>,
-    text: &'static [u8],
-    left: &'static [u8],
+    text: &'a [u8],
+    left: &'a [u8],
 }
 
 /// A session to mate. What stands behind its last line is left.
@@ -49,6 +52,8 @@ const MATE: Row = Row {
     codes: &rook::CODES,
     fen: rook::CORNER,
     input: b"a8b8\nb8a8\n",
+    store_fails: &[],
+    input_fails: &[],
     wanted: Ok(SessionEnd::Mate),
     text: b"white wins within 2\nreply a8b8\nmove h1h8\nmate\n",
     left: b"b8a8\n",
@@ -60,6 +65,8 @@ const DRAW: Row = Row {
     codes: &KINGS_CODES,
     fen: APART,
     input: b"h8h7\n",
+    store_fails: &[],
+    input_fails: &[],
     wanted: Ok(SessionEnd::Exit(Value::Draw)),
     text: b"white holds\nmove a1b1\nreply h8h7\nexit draw\n",
     left: b"",
@@ -148,15 +155,63 @@ const ROWS: &[Row] = &[
         codes: &[100, 4, 0, 0, 6, 5, 2, 2, 5, 5, 0, 0, 7, 7, 3, 3],
         ..MATE
     },
+    // Four reads open the file; then come the start and the moves that stay in the set.
+    Row {
+        store_fails: &[Failing {
+            on: FailOn::Read,
+            nth: 5,
+            keep: 0,
+        }],
+        wanted: Err(PlayFault::Line(LineFault::Store)),
+        text: b"",
+        left: b"a8b8\nb8a8\n",
+        ..MATE
+    },
+    Row {
+        store_fails: &[Failing {
+            on: FailOn::Read,
+            nth: 6,
+            keep: 0,
+        }],
+        wanted: Err(PlayFault::Line(LineFault::Store)),
+        text: b"",
+        left: b"a8b8\nb8a8\n",
+        ..MATE
+    },
+    Row {
+        store_fails: &[Failing {
+            on: FailOn::Read,
+            nth: 7,
+            keep: 0,
+        }],
+        wanted: Err(PlayFault::Line(LineFault::Store)),
+        text: b"white wins within 2\nreply a8b8\n",
+        ..MATE
+    },
+    // Where a read of the input fails, what was taken before is gone from it.
+    Row {
+        input_fails: &[Failing {
+            on: FailOn::Call,
+            nth: 1,
+            keep: 0,
+        }],
+        wanted: Err(PlayFault::Input),
+        text: b"white wins within 2\n",
+        left: b"a8b8\nb8a8\n",
+        ..MATE
+    },
+    Row {
+        input_fails: &[Failing {
+            on: FailOn::Call,
+            nth: 4,
+            keep: 0,
+        }],
+        wanted: Err(PlayFault::Input),
+        text: b"white wins within 2\n",
+        left: b"8\nb8a8\n",
+        ..MATE
+    },
 ];
-
-/// What a session gave: its answer, its text, and what was left of its input.
-#[derive(Drop)]
-struct Played {
-    answer: Result<SessionEnd, PlayFault>,
-    text: Vec<u8>,
-    left: Vec<u8>,
-}
 
 /// What White's session from the position answers.
 fn answer_of<L: Ledger>(
@@ -172,98 +227,85 @@ fn answer_of<L: Ledger>(
     Ok(play_session(&table, store, &p, Colour::White, source, out, steps))
 }
 
-/// Plays a row against this input, over a store and an input that fail so.
-fn play_row<L: Ledger>(
+/// Over this store and this input the session of a row answers what is wanted, and has its text.
+fn check_session<L: Ledger, R: Abort>(
+    rt: &R,
     alloc: Global,
-    row: &Row,
-    input: &[u8],
-    store_fails: Vec<Failing>,
-    input_fails: Vec<Failing>,
+    row: &Row<'_>,
+    store: &mut MemStore,
+    source: &mut MemSource,
     steps: &mut Steps<L>,
-) -> Result<Played, Fail> {
-    let mut store = table_store(alloc, row.rules, row.codes, store_fails)?;
-    let mut source = MemSource::new(input.to_vec(alloc)?, input_fails);
+) -> Result<(), Fail> {
     let mut out = MemSink::new(alloc, 100_000, Vec::new(alloc)).or(Err("sink"))?;
-    let answer = answer_of(alloc, row.fen, &mut store, &mut source, &mut out, steps)?;
-    Ok(Played {
-        answer,
-        text: out.taken().to_vec(alloc)?,
-        left: source.left().to_vec(alloc)?,
-    })
+    let answer = answer_of(alloc, row.fen, store, source, &mut out, steps)?;
+    check_bytes(rt, out.taken(), row.text, row.fen);
+    assert_eq!(rt; answer, row.wanted, "{}", row.fen);
+    Ok(())
+}
+
+fn source_of(alloc: Global, row: &Row<'_>) -> Result<MemSource, Fail> {
+    let fails = row.input_fails.to_vec(alloc)?;
+    Ok(MemSource::new(row.input.to_vec(alloc)?, fails))
+}
+
+/// Over this store the session of a row does what is wanted, and leaves what it must of its input.
+fn check_input<L: Ledger, R: Abort>(
+    rt: &R,
+    alloc: Global,
+    row: &Row<'_>,
+    store: &mut MemStore,
+    steps: &mut Steps<L>,
+) -> Result<(), Fail> {
+    let mut source = source_of(alloc, row)?;
+    check_session(rt, alloc, row, store, &mut source, steps)?;
+    check_bytes(rt, source.left(), row.left, row.fen);
+    Ok(())
 }
 
 fn check_row<L: Ledger, R: Abort>(
     rt: &R,
     alloc: Global,
-    row: &Row,
+    row: &Row<'_>,
     steps: &mut Steps<L>,
 ) -> Result<(), Fail> {
-    let none = Vec::new(alloc);
-    let played = play_row(alloc, row, row.input, none, Vec::new(alloc), steps)?;
-    assert_eq!(rt; played.answer, row.wanted, "{}", row.fen);
-    assert_eq!(rt; played.text.as_slice(), row.text, "{}", row.fen);
-    assert_eq!(rt; played.left.as_slice(), row.left, "{}", row.fen);
-    Ok(())
+    let mut store = table_store(alloc, row.rules, row.codes, row.store_fails)?;
+    check_input(rt, alloc, row, &mut store, steps)
 }
 
-/// The nth call of this name fails.
-fn failing(alloc: Global, on: FailOn, nth: u64) -> Result<Vec<Failing>, Fail> {
-    Ok(vec![in alloc; Failing { on, nth, keep: 0 }]?)
-}
-
-/// Where this read of the store fails, the lines before it stand.
-fn check_store_fault<L: Ledger, R: Abort>(
-    rt: &R,
-    alloc: Global,
-    nth: u64,
-    steps: &mut Steps<L>,
-) -> Result<(), Fail> {
-    let fails = failing(alloc, FailOn::Read, nth)?;
-    let played = play_row(alloc, &MATE, MATE.input, fails, Vec::new(alloc), steps)?;
-    assert_eq!(rt; played.answer, Err(PlayFault::Line(LineFault::Store)));
-    assert!(rt; MATE.text.starts_with(played.text.as_slice()));
-    Ok(())
-}
-
-/// Where this read of the input fails, what it took before is gone from it.
-fn check_input_fault<L: Ledger, R: Abort>(
-    rt: &R,
-    alloc: Global,
-    nth: u64,
-    left: &[u8],
-    steps: &mut Steps<L>,
-) -> Result<(), Fail> {
-    let fails = failing(alloc, FailOn::Call, nth)?;
-    let played = play_row(alloc, &MATE, MATE.input, Vec::new(alloc), fails, steps)?;
-    assert_eq!(rt; played.answer, Err(PlayFault::Input));
-    assert_eq!(rt; played.text.as_slice(), b"white wins within 2\n".as_slice());
-    assert_eq!(rt; played.left.as_slice(), left);
-    Ok(())
+/// The front, the line 10,000 times, and the back.
+fn repeated(alloc: Global, front: &[u8], line: &[u8], back: &[u8]) -> Result<Vec<u8>, Fail> {
+    let mut bytes = front.to_vec(alloc)?;
+    for _ in 0..10_000 {
+        bytes.extend_from_slice(line)?;
+    }
+    bytes.extend_from_slice(back)?;
+    Ok(bytes)
 }
 
 /// The most lines are read, and then no byte more.
+fn most_lines<'a>(input: &'a [u8], text: &'a [u8]) -> Row<'a> {
+    Row {
+        rules: rook::TEXT,
+        codes: &rook::CODES,
+        fen: rook::CORNER,
+        input,
+        store_fails: &[],
+        input_fails: &[],
+        wanted: Err(PlayFault::Limit(PlayLimit::Lines)),
+        text,
+        left: b"a8b8\n",
+    }
+}
+
 fn check_most_lines<L: Ledger, R: Abort>(
     rt: &R,
     alloc: Global,
     steps: &mut Steps<L>,
 ) -> Result<(), Fail> {
-    let mut input = Vec::new(alloc);
-    for _ in 0..MOST_LINES {
-        input.push(b'\n')?;
-    }
-    input.extend_from_slice(b"a8b8\n")?;
-    let none = Vec::new(alloc);
-    let played = play_row(alloc, &MATE, &input, none, Vec::new(alloc), steps)?;
-    assert_eq!(rt; played.answer, Err(PlayFault::Limit(PlayLimit::Lines)));
-    assert_eq!(rt; played.left.as_slice(), b"a8b8\n".as_slice());
-    assert_eq!(rt; played.text.len(), 80_020);
-    assert!(rt;
-        played
-            .text
-            .starts_with(b"white wins within 2\nillegal\nillegal\n")
-    );
-    assert!(rt; played.text.ends_with(b"illegal\nillegal\n"));
-    Ok(())
+    let input = repeated(alloc, b"", b"\n", b"a8b8\n")?;
+    let text = repeated(alloc, b"white wins within 2\n", b"illegal\n", b"")?;
+    let row = most_lines(&input, &text);
+    check_row(rt, alloc, &row, steps)
 }
 
 fn play_rows<L: Ledger, R: Abort>(rt: &R, alloc: Global, blank: Blank) -> Result<(), Fail>
@@ -275,17 +317,12 @@ fn play_rows<L: Ledger, R: Abort>(rt: &R, alloc: Global, blank: Blank) -> Result
     for row in ROWS {
         check_row(rt, alloc, row, &mut steps)?;
     }
-    // Four reads open the file; then come the start and the moves that stay in the set.
-    for nth in 5..8 {
-        check_store_fault(rt, alloc, nth, &mut steps)?;
-    }
-    check_input_fault(rt, alloc, 1, MATE.input, &mut steps)?;
-    check_input_fault(rt, alloc, 4, b"8\nb8a8\n", &mut steps)?;
     check_most_lines(rt, alloc, &mut steps)
 }
 
 #[test]
 fn sessions_over_files_made_by_hand(rt: HostRuntime) -> Result<(), Fail> {
+    assert_eq!(&rt; MOST_LINES, 10_000);
     assert_eq!(&rt; MOST_LENGTH, 64);
     let blank = Blank::new(1);
     play_rows::<Brand, _>(&rt, rt.alloc(), blank)

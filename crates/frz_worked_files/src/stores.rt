@@ -1,16 +1,27 @@
-//! A store in memory that holds the table file of a row, made by hand.
+//! A store in memory that holds the table file of a row, made by hand, and looks at what is held.
 use frz_handmade::{plain_file, store_with};
 use frz_store::{Fail as Failing, MemStore};
 use std::alloc::Global;
+use std::process::Abort;
 use std::test::Fail;
 
 /// A store whose calls fail so, with the table of these codes under the name `A.t`.
-pub fn table_store(
+pub(crate) fn table_store(
     alloc: Global,
     rules: &str,
     codes: &[u32],
-    fails: Vec<Failing>,
+    fails: &[Failing],
 ) -> Result<MemStore, Fail> {
     let file = plain_file(alloc, rules.as_bytes(), codes)?;
-    store_with(alloc, fails, &[("A.t", &file)])
+    store_with(alloc, fails.to_vec(alloc)?, &[("A.t", &file)])
+}
+
+/// The bytes of this case are those that are wanted.
+pub(crate) fn check_bytes(rt: &impl Abort, given: &[u8], want: &[u8], case: &str) {
+    assert_eq!(rt; given, want, "{case}");
+}
+
+/// The store holds this file.
+pub(crate) fn check_file(rt: &impl Abort, store: &MemStore, name: &str, want: &[u8]) {
+    assert_eq!(rt; store.file(name), Some(want));
 }

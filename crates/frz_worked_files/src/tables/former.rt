@@ -1,5 +1,6 @@
 //! Files of the former format that are made by hand, opened and read.
-use super::{push_header, push_number, refusal, store_with};
+use super::refusal;
+use frz_handmade::{store_with, table_file};
 use frz_store::MemStore;
 use frz_table::{FileKind, OldFile, TableFault, open_old};
 use std::alloc::Global;
@@ -13,42 +14,33 @@ group white 0-2 R:h1,h8
 group black 1 K:a8,b8
 ";
 
-/// A file of the former format with codes 0 to 71, and with so many numbers kept.
+/// The codes of its file, White's first.
+const CODES: [u32; 72] = [
+    0, 1, 2, 3, 4, 5, 6, 7, 8, 9, 10, 11, 12, 13, 14, 15, 16, 17, 18, 19, 20, 21, 22, 23, 24, 25,
+    26, 27, 28, 29, 30, 31, 32, 33, 34, 35, 36, 37, 38, 39, 40, 41, 42, 43, 44, 45, 46, 47, 48, 49,
+    50, 51, 52, 53, 54, 55, 56, 57, 58, 59, 60, 61, 62, 63, 64, 65, 66, 67, 68, 69, 70, 71,
+];
+
+/// A file of the former format with this magic, and with so many numbers kept.
 fn old_file(alloc: Global, magic: &[u8], kept: u32) -> Result<Vec<u8>, Fail> {
-    let mut file = Vec::new(alloc);
-    push_header(&mut file, magic, 75, ROOKS, kept)?;
-    for code in 0..72 {
-        push_number(&mut file, code)?;
-    }
-    Ok(file)
+    table_file(alloc, magic, ROOKS.as_bytes(), kept, &CODES)
 }
 
 /// Why a file is refused as one of the former format.
 fn old_refusal(alloc: Global, file: &[u8]) -> Result<Option<TableFault>, Fail> {
-    let mut store = store_with(alloc, file, Vec::new(alloc))?;
+    let mut store = store_with(alloc, Vec::new(alloc), &[("A.t", file)])?;
     Ok(open_old(alloc, &mut store, "A.t").err())
 }
 
-/// A store with the file of the former format alone, which has 379 bytes.
-fn old_store(rt: &impl Abort, alloc: Global) -> Result<MemStore, Fail> {
+/// A store with the file of the former format alone.
+fn old_store(alloc: Global) -> Result<MemStore, Fail> {
     let file = old_file(alloc, b"FREEZER1", 36)?;
-    assert_eq!(rt; file.len(), 379);
-    store_with(alloc, &file, Vec::new(alloc))
+    store_with(alloc, Vec::new(alloc), &[("A.t", &file)])
 }
 
 fn check_old(rt: &impl Abort, old: &OldFile) {
     assert_eq!(rt; old.name(), "A.t");
     assert_eq!(rt; old.text(), ROOKS.as_bytes());
-}
-
-/// There are 36 codes, of which each is one more than the one before.
-fn check_old_codes(rt: &impl Abort, given: &[u32], first: u32) {
-    assert_eq!(rt; given.len(), 36);
-    let mut want = first;
-    for code in given {
-        assert_eq!(rt; *code, want);
-        want = want.saturating_add(1);
-    }
 }
 
 /// Opens the file, checks it, and gives White's codes and Black's.
@@ -62,12 +54,17 @@ fn read_old(
     old.load(alloc, store)
 }
 
+fn check_read(rt: &impl Abort, alloc: Global, store: &mut MemStore) -> Result<(), TableFault> {
+    let (white, black) = read_old(rt, alloc, store)?;
+    assert_eq!(rt; white.as_slice(), &CODES[..36]);
+    assert_eq!(rt; black.as_slice(), &CODES[36..]);
+    Ok(())
+}
+
 #[test]
 fn a_file_of_the_former_format_is_read(rt: HostRuntime) -> Result<(), Fail> {
-    let mut store = old_store(&rt, rt.alloc())?;
-    let (white, black) = read_old(&rt, rt.alloc(), &mut store)?;
-    check_old_codes(&rt, &white, 0);
-    check_old_codes(&rt, &black, 36);
+    let mut store = old_store(rt.alloc())?;
+    check_read(&rt, rt.alloc(), &mut store)?;
     Ok(())
 }
 

@@ -1,6 +1,7 @@
 //! Files and headers that are written, whole and up to a fault.
-use super::{BLACK, ROOK, WHITE, one_fail, rook_file};
-use frz_store::{FailOn, MemStore, Store, StoreFault};
+use super::{BLACK, ROOK, WHITE, joined, rook_file};
+use crate::stores::check_file;
+use frz_store::{Fail as Failing, FailOn, MemStore, Store, StoreFault};
 use frz_table::{FileKind, write_entries, write_header, write_header_kind};
 use std::alloc::Global;
 use std::process::Abort;
@@ -32,7 +33,7 @@ exit black holds if count:black:P:4
 /// Writes the rook's file: five pieces.
 fn write_all(store: &mut MemStore) -> Result<(), StoreFault> {
     store.create("A.t", 153)?;
-    if write_header(store, ROOK.as_bytes(), 8).is_err()
+    if write_header(store, ROOK, 8).is_err()
         || write_entries(store, &WHITE).is_err()
         || write_entries(store, &BLACK).is_err()
     {
@@ -41,33 +42,14 @@ fn write_all(store: &mut MemStore) -> Result<(), StoreFault> {
     Ok(())
 }
 
-fn check_file(rt: &impl Abort, store: &MemStore, name: &str, want: &[u8]) {
-    assert_eq!(rt; store.file(name), Some(want));
-}
-
 #[test]
 fn what_is_written_is_the_file(rt: HostRuntime) -> Result<(), Fail> {
     let alloc = rt.alloc();
+    let file = rook_file(alloc)?;
     let mut store = MemStore::new(alloc, Vec::new(alloc));
     assert_eq!(rt; write_all(&mut store), Ok(()));
-    let file = rook_file(alloc, b"FREEZER2", 73, 8)?;
     check_file(&rt, &store, "A.t", &file);
     Ok(())
-}
-
-/// Writes where this append fails and keeps so many bytes, and gives what the name holds then.
-fn write_failing(alloc: Global, nth: u64, keep: u64) -> Result<Vec<u8>, Fail> {
-    let fails = one_fail(alloc, FailOn::Append, nth, keep)?;
-    let mut store = MemStore::new(alloc, fails);
-    if write_all(&mut store) != Err(StoreFault::Failed) {
-        return Err(Fail::from("written"));
-    }
-    held(alloc, &store)
-}
-
-fn held(alloc: Global, store: &MemStore) -> Result<Vec<u8>, Fail> {
-    let bytes = store.file("A.t").ok_or("file")?;
-    Ok(bytes.to_vec(alloc)?)
 }
 
 /// What is left where this append fails and keeps so many bytes is this front of the file.
@@ -78,46 +60,41 @@ fn check_front(
     keep: u64,
     front: &[u8],
 ) -> Result<(), Fail> {
-    let written = write_failing(alloc, nth, keep)?;
-    assert_eq!(rt; written.as_slice(), front, "{nth}");
+    let on = FailOn::Append;
+    let mut store = MemStore::new(alloc, vec![in alloc; Failing { on, nth, keep }]?);
+    assert_eq!(rt; write_all(&mut store), Err(StoreFault::Failed), "{nth}");
+    check_file(rt, &store, "A.t", front);
     Ok(())
 }
+
+/// An append that fails, how many bytes it keeps, and how many are left of the file.
+const FRONTS: &[(u64, u64, usize)] = &[
+    (1, 0, 0),
+    (1, 11, 11),
+    (2, 4, 16),
+    (4, 0, 89),
+    (5, 31, 152),
+    (5, 32, 153),
+];
 
 #[test]
 fn what_is_written_before_a_fault_is_a_front_of_the_file(rt: HostRuntime) -> Result<(), Fail> {
-    let file = rook_file(rt.alloc(), b"FREEZER2", 73, 8)?;
-    for (nth, keep, left) in [
-        (1, 0, 0),
-        (1, 11, 11),
-        (2, 4, 16),
-        (4, 0, 89),
-        (5, 31, 152),
-        (5, 32, 153),
-    ] {
-        let front = file.get(..left).ok_or("front")?;
-        check_front(&rt, rt.alloc(), nth, keep, front)?;
+    let file = rook_file(rt.alloc())?;
+    for (nth, keep, left) in FRONTS {
+        let front = file.get(..*left).ok_or("front")?;
+        check_front(&rt, rt.alloc(), *nth, *keep, front)?;
     }
     Ok(())
 }
 
-/// A store in which `H` holds the header that is written.
-fn written_header(alloc: Global, kind: FileKind, text: &[u8], size: u32) -> Result<MemStore, Fail> {
-    let mut store = MemStore::new(alloc, Vec::new(alloc));
-    if text.len() > 65_536 || store.create("H", 16 + text.len() as u64).is_err() {
-        return Err(Fail::from("create"));
+/// Writes a header into the file `H`.
+fn write_head(store: &mut MemStore, kind: FileKind, text: &[u8], size: u32) -> Result<(), Fail> {
+    if text.len() > 65_536 {
+        return Err(Fail::from("text"));
     }
-    if write_header_kind(&mut store, kind, text, size).is_err() {
-        return Err(Fail::from("write"));
-    }
-    Ok(store)
-}
-
-fn joined(alloc: Global, parts: &[&[u8]]) -> Result<Vec<u8>, Fail> {
-    let mut bytes = Vec::new(alloc);
-    for part in parts {
-        bytes.extend_from_slice(part)?;
-    }
-    Ok(bytes)
+    store.create("H", 16 + text.len() as u64).or(Err("create"))?;
+    write_header_kind(store, kind, text, size).or(Err("write"))?;
+    Ok(())
 }
 
 /// The header of a table: kind, text and size, and the bytes in front of the text and behind it.
@@ -151,8 +128,9 @@ const HEADERS: &[Header] = &[
 fn headers_have_their_bytes(rt: HostRuntime) -> Result<(), Fail> {
     let alloc = rt.alloc();
     for Header(kind, text, size, front, back) in HEADERS {
-        let store = written_header(alloc, *kind, text.as_bytes(), *size)?;
         let want = joined(alloc, &[front, text.as_bytes(), back])?;
+        let mut store = MemStore::new(alloc, Vec::new(alloc));
+        write_head(&mut store, *kind, text.as_bytes(), *size)?;
         check_file(&rt, &store, "H", &want);
     }
     Ok(())
