@@ -288,15 +288,14 @@ fn no_fails(alloc: Global) -> Vec<Fail> {
     Vec::new(alloc)
 }
 
+/// The nth call of this kind fails, and keeps so many bytes of its piece.
+fn fails(alloc: Global, on: FailOn, nth: u64, keep: u64) -> Result<Vec<Fail>, TestFail> {
+    Ok(vec![in alloc; Fail { on, nth, keep }]?)
+}
+
 /// The nth call fails.
 fn call_fails(alloc: Global, nth: u64) -> Result<Vec<Fail>, TestFail> {
-    Ok(vec![in alloc;
-        Fail {
-            on: FailOn::Call,
-            nth,
-            keep: 0
-        },
-    ]?)
+    fails(alloc, FailOn::Call, nth, 0)
 }
 
 /// A sink that takes so many bytes.
@@ -304,9 +303,10 @@ fn sink(alloc: Global, room: usize) -> Result<MemSink, TestFail> {
     Ok(MemSink::new(alloc, room, no_fails(alloc)).or(Err("sink"))?)
 }
 
-/// A store whose calls fail so and that holds these files.
-fn holding(alloc: Global, fails: Vec<Fail>, files: &[(&str, &[u8])]) -> Result<MemStore, TestFail> {
-    store_with(alloc, fails, files)
+/// A sink whose first call fails and takes so many bytes.
+fn failing_sink(alloc: Global, keep: usize) -> Result<MemSink, TestFail> {
+    let fails = fails(alloc, FailOn::Call, 1, keep as u64)?;
+    Ok(MemSink::new(alloc, 200, fails).or(Err("sink"))?)
 }
 
 /// The table of the rook, made by hand.
@@ -384,15 +384,65 @@ fn expect_length(rt: &impl Abort, store: &MemStore, name: &str, length: Option<u
     assert_eq!(rt; store.file(name).map(|file| file.len()), length);
 }
 
-/// The store holds these bytes under the name.
-fn expect_file(
+/// The store holds these bytes under the name, or none.
+fn expect_file(rt: &impl Abort, store: &MemStore, name: &str, bytes: Option<&[u8]>) {
+    assert_eq!(rt; store.file(name), bytes);
+}
+
+/// Calls the program over the store, which is to end so, and then holds a file of this length
+/// under the name `T`, or none.
+fn expect_left(
     rt: &impl Abort,
-    store: &MemStore,
-    name: &str,
-    bytes: &[u8],
+    alloc: Global,
+    store: &mut MemStore,
+    line: &[&str],
+    status: u8,
+    text: &str,
+    left: Option<usize>,
 ) -> Result<(), TestFail> {
-    assert_eq!(rt; store.file(name).ok_or("no file")?, bytes);
+    expect_call(rt, alloc, store, line, status, text)?;
+    expect_length(rt, store, "T", left);
     Ok(())
+}
+
+/// The words of a call, its status and its text.
+type Answered<'a> = (&'a [&'a str], u8, &'a str);
+
+/// Calls the program over the store, once for each row.
+fn expect_calls(
+    rt: &impl Abort,
+    alloc: Global,
+    store: &mut MemStore,
+    rows: &[Answered<'_>],
+) -> Result<(), TestFail> {
+    for (line, status, text) in rows {
+        expect_call(rt, alloc, store, line, *status, text)?;
+    }
+    Ok(())
+}
+
+/// Calls the program over the store and a sink that has room for this front of the text alone.
+fn expect_front(
+    rt: &impl Abort,
+    alloc: Global,
+    store: &mut MemStore,
+    line: &[&str],
+    front: &str,
+) -> Result<(), TestFail> {
+    let mut out = sink(alloc, front.len())?;
+    expect_taken(rt, alloc, line, store, &mut out, 9, front)
+}
+
+/// Calls the program over the store and a sink that fails when it has taken this front of the text.
+fn expect_failing(
+    rt: &impl Abort,
+    alloc: Global,
+    store: &mut MemStore,
+    line: &[&str],
+    front: &str,
+) -> Result<(), TestFail> {
+    let mut out = failing_sink(alloc, front.len())?;
+    expect_taken(rt, alloc, line, store, &mut out, 9, front)
 }
 
 /// Calls the program over the store, which is to end so and to ask for so many bytes.
@@ -413,7 +463,7 @@ fn expect_asking(
 
 fn expect(rt: &impl Abort, alloc: Global, row: &Row<'_>) -> Result<(), TestFail> {
     let Row(rules, line, status, text) = row;
-    let mut store = holding(alloc, no_fails(alloc), &[("A", rules)])?;
+    let mut store = store_with(alloc, no_fails(alloc), &[("A", rules)])?;
     expect_call(rt, alloc, &mut store, line, *status, text)
 }
 
@@ -454,23 +504,21 @@ const TAKEN: &[&str] = &["moves", "8/8/8/3pP3/8/8/8/K1k5 w - d6 0 1"];
 fn stops_where_the_sink_fails(rt: HostRuntime) -> Result<(), TestFail> {
     let alloc = rt.alloc();
     let mut store = MemStore::new(alloc, no_fails(alloc));
-    let mut out = MemSink::new(alloc, 200, call_fails(alloc, 1)?).or(Err("sink"))?;
-    expect_taken(&rt, alloc, TAKEN, &mut store, &mut out, 9, "")
+    expect_failing(&rt, alloc, &mut store, TAKEN, "")
 }
 
 #[test]
 fn a_full_sink_cuts_the_line(rt: HostRuntime) -> Result<(), TestFail> {
     let alloc = rt.alloc();
     let mut store = MemStore::new(alloc, no_fails(alloc));
-    let mut out = sink(alloc, 7)?;
-    expect_taken(&rt, alloc, TAKEN, &mut store, &mut out, 9, "a1a2 e5")
+    expect_front(&rt, alloc, &mut store, TAKEN, "a1a2 e5")
 }
 
 #[test]
 fn a_file_that_is_too_long_is_not_read(rt: HostRuntime) -> Result<(), TestFail> {
     let alloc = rt.alloc();
     let rules = vec![in alloc; 32; 65_537]?;
-    let mut store = holding(alloc, no_fails(alloc), &[("A", &rules)])?;
+    let mut store = store_with(alloc, no_fails(alloc), &[("A", &rules)])?;
     let solve = ["solve", "A", MATE_IN_ONE];
     let text = "rules 0: too long\n";
     expect_asking(&rt, alloc, &mut store, &solve, 3, text, 0)

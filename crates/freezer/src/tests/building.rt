@@ -1,10 +1,10 @@
 //! Tables that the program builds, beside files made by hand.
 use super::{
-    COUNTED, RULES, Row, expect_all, expect_asking, expect_call, expect_file, expect_length,
-    expect_taken, holding, no_fails, sink,
+    Answered, COUNTED, RULES, Row, expect_all, expect_asking, expect_call, expect_calls,
+    expect_file, expect_front, expect_left, expect_length, fails, no_fails,
 };
-use frz_handmade::{rook, table_file};
-use frz_store::{Fail, FailOn};
+use frz_handmade::{rook, store_with, table_file};
+use frz_store::{FailOn, MemStore};
 use std::alloc::Global;
 use std::process::Abort;
 use std::test::Fail as TestFail;
@@ -53,38 +53,52 @@ const BUILT: &[Built] = &[
     Built(ALL_WON, 2, &[4, 4, 5, 5], 125, "built 2\n", "exact 2\n"),
 ];
 
-/// Builds over a store that holds the text and a file under the table's name.
-fn expect_built(rt: &impl Abort, alloc: Global, built: &Built<'_>) -> Result<(), TestFail> {
-    let Built(rules, size, codes, length, text, _) = built;
-    let files = [("A", *rules), ("T", b"another file".as_slice())];
-    let mut store = holding(alloc, no_fails(alloc), &files)?;
-    expect_call(rt, alloc, &mut store, BUILD, 0, text)?;
+/// The store holds the table of the row.
+fn expect_table(
+    rt: &impl Abort,
+    alloc: Global,
+    store: &MemStore,
+    built: &Built<'_>,
+) -> Result<(), TestFail> {
+    let Built(rules, size, codes, length, _, _) = built;
     let file = table_file(alloc, b"FREEZER2", rules, *size, codes)?;
     assert_eq!(rt; file.len(), *length);
-    expect_file(rt, &store, "T", &file)?;
-    expect_file(rt, &store, "A", rules)
+    expect_file(rt, store, "T", Some(&file));
+    Ok(())
 }
 
-/// Builds again, and checks what was built: both ask for as many bytes as their files have.
-fn expect_exact(rt: &impl Abort, alloc: Global, built: &Built<'_>) -> Result<(), TestFail> {
+/// Builds over a store that holds the text, and checks what was built: both ask for as many bytes
+/// as their files have.
+fn expect_built(
+    rt: &impl Abort,
+    alloc: Global,
+    store: &mut MemStore,
+    built: &Built<'_>,
+) -> Result<(), TestFail> {
     let Built(rules, _, _, length, text, verdict) = built;
-    let mut store = holding(alloc, no_fails(alloc), &[("A", rules)])?;
-    expect_asking(rt, alloc, &mut store, BUILD, 0, text, rules.len())?;
-    expect_asking(rt, alloc, &mut store, CHECK, 0, verdict, *length)
+    expect_asking(rt, alloc, store, BUILD, 0, text, rules.len())?;
+    expect_file(rt, store, "A", Some(rules));
+    expect_table(rt, alloc, store, built)?;
+    expect_asking(rt, alloc, store, CHECK, 0, verdict, *length)
 }
 
 #[test]
 fn builds_tables(rt: HostRuntime) -> Result<(), TestFail> {
+    let alloc = rt.alloc();
     for built in BUILT {
-        expect_built(&rt, rt.alloc(), built)?;
+        let files = [("A", built.0), ("T", b"another file".as_slice())];
+        let mut store = store_with(alloc, no_fails(alloc), &files)?;
+        expect_built(&rt, alloc, &mut store, built)?;
     }
     Ok(())
 }
 
 #[test]
 fn what_is_built_is_exact(rt: HostRuntime) -> Result<(), TestFail> {
+    let alloc = rt.alloc();
     for built in BUILT {
-        expect_exact(&rt, rt.alloc(), built)?;
+        let mut store = store_with(alloc, no_fails(alloc), &[("A", built.0)])?;
+        expect_built(&rt, alloc, &mut store, built)?;
     }
     Ok(())
 }
@@ -168,14 +182,9 @@ const CUT: &[Cut] = &[
 /// Builds over a store that fails so, and checks what it left.
 fn expect_cut(rt: &impl Abort, alloc: Global, cut: &Cut<'_>) -> Result<(), TestFail> {
     let Cut(on, nth, keep, left, status, text) = cut;
-    let fail = Fail {
-        on: *on,
-        nth: *nth,
-        keep: *keep,
-    };
-    let mut store = holding(alloc, vec![in alloc; fail]?, &[("A", RULES)])?;
-    expect_call(rt, alloc, &mut store, BUILD, 8, "store fault\n")?;
-    expect_length(rt, &store, "T", *left);
+    let fails = fails(alloc, *on, *nth, *keep)?;
+    let mut store = store_with(alloc, fails, &[("A", RULES)])?;
+    expect_left(rt, alloc, &mut store, BUILD, 8, "store fault\n", *left)?;
     expect_call(rt, alloc, &mut store, CHECK, *status, text)
 }
 
@@ -190,9 +199,8 @@ fn leaves_a_part_where_the_store_fails(rt: HostRuntime) -> Result<(), TestFail> 
 #[test]
 fn builds_the_file_where_only_the_line_is_not_taken(rt: HostRuntime) -> Result<(), TestFail> {
     let alloc = rt.alloc();
-    let mut store = holding(alloc, no_fails(alloc), &[("A", RULES)])?;
-    let mut out = sink(alloc, 3)?;
-    expect_taken(&rt, alloc, BUILD, &mut store, &mut out, 9, "bui")?;
+    let mut store = store_with(alloc, no_fails(alloc), &[("A", RULES)])?;
+    expect_front(&rt, alloc, &mut store, BUILD, "bui")?;
     expect_length(&rt, &store, "T", Some(153));
     Ok(())
 }
@@ -217,12 +225,14 @@ exit black holds if count:black:P:4
 /// crates.
 const AMONG_PAWNS: &str = "8/8/6k1/p1p1p3/PpP1P1K1/1P6/8/8 w - - 0 1";
 
+/// The table of blocked pawns is built and checked.
+const OF_BLOCKED: &[Answered] = &[(BUILD, 0, "built 6400\n"), (CHECK, 0, "exact 6400\n")];
+
 #[test]
 fn blocked_pawns_are_built_checked_and_asked(rt: HostRuntime) -> Result<(), TestFail> {
     let alloc = rt.alloc();
-    let mut store = holding(alloc, no_fails(alloc), &[("A", BLOCKED)])?;
-    expect_call(&rt, alloc, &mut store, BUILD, 0, "built 6400\n")?;
-    expect_call(&rt, alloc, &mut store, CHECK, 0, "exact 6400\n")?;
+    let mut store = store_with(alloc, no_fails(alloc), &[("A", BLOCKED)])?;
+    expect_calls(&rt, alloc, &mut store, OF_BLOCKED)?;
     expect_length(&rt, &store, "T", Some(51_494));
     let query = ["query", "T", AMONG_PAWNS];
     let hold = "white holds\nblack holds\n";

@@ -1,8 +1,9 @@
 //! Tables that lean on a second table, beside files made by hand.
 use super::{
-    NEXT_TO_IT, RULES, expect_call, expect_file, expect_length, holding, no_fails, rook_file,
+    NEXT_TO_IT, RULES, call_fails, expect_call, expect_file, expect_left, fails, no_fails,
+    rook_file,
 };
-use frz_handmade::{plain_file, table_file};
+use frz_handmade::{plain_file, store_with, table_file};
 use frz_store::{Fail, FailOn, MemStore};
 use std::alloc::Global;
 use std::process::Abort;
@@ -39,7 +40,7 @@ fn filled(alloc: Global, fails: Vec<Fail>) -> Result<MemStore, TestFail> {
         ("W.t", wrong.as_slice()),
         ("AN.t", both.as_slice()),
     ];
-    holding(alloc, fails, &files)
+    store_with(alloc, fails, &files)
 }
 
 /// The words of a call, and what the program says.
@@ -101,9 +102,7 @@ const NOT_CHAINED: &[Said] = &[
 fn expect_said(rt: &impl Abort, alloc: Global, row: &Said<'_>) -> Result<(), TestFail> {
     let Said(line, status, text) = row;
     let mut store = filled(alloc, no_fails(alloc))?;
-    expect_call(rt, alloc, &mut store, line, *status, text)?;
-    expect_length(rt, &store, "T", None);
-    Ok(())
+    expect_left(rt, alloc, &mut store, line, *status, text, None)
 }
 
 #[test]
@@ -129,7 +128,8 @@ fn chains_a_table(rt: HostRuntime) -> Result<(), TestFail> {
     let line = ["chain", "A", "N.t", "A.t"];
     expect_call(&rt, alloc, &mut store, &line, 0, "chained 8\n")?;
     let due = chained(alloc)?;
-    expect_file(&rt, &store, "A.t", &due)
+    expect_file(&rt, &store, "A.t", Some(&due));
+    Ok(())
 }
 
 const CHAIN: &[&str] = &["chain", "A", "N.t", "T"];
@@ -138,39 +138,23 @@ const CHAIN: &[&str] = &["chain", "A", "N.t", "T"];
 fn expect_failed(
     rt: &impl Abort,
     alloc: Global,
-    fail: Fail,
+    fails: Vec<Fail>,
     line: &[&str],
     left: Option<usize>,
 ) -> Result<(), TestFail> {
-    let mut store = filled(alloc, vec![in alloc; fail]?)?;
-    expect_call(rt, alloc, &mut store, line, 8, "store fault\n")?;
-    expect_length(rt, &store, "T", left);
-    Ok(())
-}
-
-/// Calls the program over a store whose nth call fails, and shows that no table is left.
-fn expect_nothing_left(
-    rt: &impl Abort,
-    alloc: Global,
-    line: &[&str],
-    nth: u64,
-) -> Result<(), TestFail> {
-    let fail = Fail {
-        on: FailOn::Call,
-        nth,
-        keep: 0,
-    };
-    expect_failed(rt, alloc, fail, line, None)
+    let mut store = filled(alloc, fails)?;
+    expect_left(rt, alloc, &mut store, line, 8, "store fault\n", left)
 }
 
 #[test]
 fn each_call_of_the_store_may_fail(rt: HostRuntime) -> Result<(), TestFail> {
     let alloc = rt.alloc();
     for nth in 1..=12 {
-        expect_nothing_left(&rt, alloc, &["chaincheck", "AN.t", "N.t"], nth)?;
+        let fails = call_fails(alloc, nth)?;
+        expect_failed(&rt, alloc, fails, &["chaincheck", "AN.t", "N.t"], None)?;
     }
     for nth in 1..=8 {
-        expect_nothing_left(&rt, alloc, CHAIN, nth)?;
+        expect_failed(&rt, alloc, call_fails(alloc, nth)?, CHAIN, None)?;
     }
     Ok(())
 }
@@ -191,12 +175,8 @@ fn leaves_a_part_where_the_store_fails(rt: HostRuntime) -> Result<(), TestFail> 
     let alloc = rt.alloc();
     for cut in CUT {
         let Cut(nth, keep, left) = cut;
-        let fail = Fail {
-            on: FailOn::Append,
-            nth: *nth,
-            keep: *keep,
-        };
-        expect_failed(&rt, alloc, fail, CHAIN, Some(*left))?;
+        let fails = fails(alloc, FailOn::Append, *nth, *keep)?;
+        expect_failed(&rt, alloc, fails, CHAIN, Some(*left))?;
     }
     Ok(())
 }

@@ -2,10 +2,11 @@
 //! for k bytes, for k from the first until it ends well.
 use super::migrating::former_rooks;
 use super::{
-    CORNER, MATE_IN_ONE, RULES, call_fails, call_with_input, expect_ended, holding, no_fails,
-    rook_file, sink,
+    CORNER, MATE_IN_ONE, RULES, call_fails, call_with_input, expect_ended, no_fails, rook_file,
+    sink,
 };
-use frz_store::{Fail, MemSource, MemStore};
+use frz_handmade::store_with;
+use frz_store::{Fail, MemSink, MemSource, MemStore};
 use std::alloc::Global;
 use std::process::Abort;
 use std::test::Fail as TestFail;
@@ -55,14 +56,6 @@ const MOST_CALLS: u64 = 40;
 /// Room for every text of these commands.
 const ROOM: usize = 400;
 
-/// What a call left.
-#[derive(Drop)]
-struct Left {
-    status: u8,
-    text: Vec<u8>,
-    store: MemStore,
-}
-
 /// A store with the files that the commands ask for.
 fn filled(alloc: Global, fails: Vec<Fail>) -> Result<MemStore, TestFail> {
     let rook = rook_file(alloc)?;
@@ -72,37 +65,35 @@ fn filled(alloc: Global, fails: Vec<Fail>) -> Result<MemStore, TestFail> {
         ("A.t", rook.as_slice()),
         ("O.t", former.as_slice()),
     ];
-    holding(alloc, fails, &files)
+    store_with(alloc, fails, &files)
 }
 
-/// The calls of a store and of an input that fail, and the room of a sink.
+/// What the program is called over.
 #[derive(Drop)]
-struct Refusals {
+struct Objects {
+    store: MemStore,
+    input: MemSource,
+    out: MemSink,
+}
+
+/// A store and an input whose calls fail so, and a sink with so much room.
+fn failing_objects(
+    alloc: Global,
     store: Vec<Fail>,
     input: Vec<Fail>,
     room: usize,
-}
-
-fn nothing_fails(alloc: Global) -> Refusals {
-    Refusals {
-        store: no_fails(alloc),
-        input: no_fails(alloc),
-        room: ROOM,
-    }
-}
-
-/// Calls the program with these words over objects that fail so.
-fn left_by(alloc: Global, words: &[&str], refusals: Refusals) -> Result<Left, TestFail> {
-    let mut store = filled(alloc, refusals.store)?;
-    let mut input = MemSource::new(INPUT.to_vec(alloc)?, refusals.input);
-    let mut out = sink(alloc, refusals.room)?;
-    let status = call_with_input(alloc, words, &mut store, &mut input, &mut out)?;
-    let text = out.taken().to_vec(alloc)?;
-    Ok(Left {
-        status,
-        text,
-        store,
+) -> Result<Objects, TestFail> {
+    Ok(Objects {
+        input: MemSource::new(INPUT.to_vec(alloc)?, input),
+        store: filled(alloc, store)?,
+        out: sink(alloc, room)?,
     })
+}
+
+/// Calls the program with these words over the objects.
+fn call_over(alloc: Global, words: &[&str], objects: &mut Objects) -> Result<u8, TestFail> {
+    let Objects { store, input, out } = objects;
+    call_with_input(alloc, words, store, input, out)
 }
 
 /// The text is whole lines that begin the answer, and then the fault's.
@@ -137,29 +128,48 @@ fn keeps_files(left: &MemStore, whole: &MemStore, written: Option<&str>) -> bool
     part && same_file(left, whole, "A") && same_file(left, whole, "A.t")
 }
 
-/// What was left by a call that ended well with this text.
-fn expect_whole(rt: &impl Abort, left: &Left, text: &str) {
-    expect_ended(rt, (left.status, &left.text), 0, text);
+/// Calls the program over the objects, which is to end so with this text.
+fn expect_over(
+    rt: &impl Abort,
+    alloc: Global,
+    words: &[&str],
+    objects: &mut Objects,
+    status: u8,
+    text: &str,
+) -> Result<(), TestFail> {
+    let answer = call_over(alloc, words, objects)?;
+    expect_ended(rt, (answer, objects.out.taken()), status, text);
+    Ok(())
 }
 
-/// What was left by a call that ended with this status, and with the fault's line behind the front
-/// of its text.
-fn expect_fault(rt: &impl Abort, left: &Left, status: u8, text: &str, line: &[u8]) {
-    assert_eq!(rt; left.status, status);
-    assert!(rt; names_fault(&left.text, text, line));
+/// The text that was taken is the front of the due one, and then the fault's line.
+fn expect_fault(rt: &impl Abort, taken: &[u8], text: &str, line: &[u8]) {
+    assert!(rt; names_fault(taken, text, line));
 }
 
-/// Calls the program where the nth call of the store is refused.
-fn left_by_refusal(alloc: Global, words: &[&str], nth: u64) -> Result<Left, TestFail> {
-    let refusals = Refusals {
-        store: call_fails(alloc, nth)?,
-        ..nothing_fails(alloc)
-    };
-    left_by(alloc, words, refusals)
+/// Calls the program over objects whose store refuses a call, shows what is left, and tells
+/// whether the command ended before that call.
+fn expect_refused(
+    rt: &impl Abort,
+    alloc: Global,
+    asked: &Asked<'_>,
+    whole: &MemStore,
+    objects: &mut Objects,
+) -> Result<bool, TestFail> {
+    let Asked(words, text, written) = asked;
+    let status = call_over(alloc, words, objects)?;
+    assert!(rt; keeps_files(&objects.store, whole, *written));
+    let ended = status == 0;
+    if ended {
+        expect_ended(rt, (status, objects.out.taken()), 0, text);
+    } else {
+        assert_eq!(rt; status, 8);
+        expect_fault(rt, objects.out.taken(), text, b"store fault\n");
+    }
+    Ok(ended)
 }
 
-/// Shows what is left where the nth call of the store is refused, and tells whether the command
-/// ended before that call.
+/// Refuses the nth call of the store, and tells whether the command ended before that call.
 fn refuse_call(
     rt: &impl Abort,
     alloc: Global,
@@ -167,23 +177,21 @@ fn refuse_call(
     whole: &MemStore,
     nth: u64,
 ) -> Result<bool, TestFail> {
-    let Asked(words, text, written) = asked;
-    let left = left_by_refusal(alloc, words, nth)?;
-    assert!(rt; keeps_files(&left.store, whole, *written));
-    let ended = left.status == 0;
-    if ended {
-        expect_whole(rt, &left, text);
-    } else {
-        expect_fault(rt, &left, 8, text, b"store fault\n");
-    }
-    Ok(ended)
+    let mut objects = failing_objects(alloc, call_fails(alloc, nth)?, no_fails(alloc), ROOM)?;
+    expect_refused(rt, alloc, asked, whole, &mut objects)
+}
+
+/// What a command leaves where nothing fails.
+fn whole(rt: &impl Abort, alloc: Global, asked: &Asked<'_>) -> Result<Objects, TestFail> {
+    let Asked(words, text, _) = asked;
+    let mut objects = failing_objects(alloc, no_fails(alloc), no_fails(alloc), ROOM)?;
+    expect_over(rt, alloc, words, &mut objects, 0, text)?;
+    Ok(objects)
 }
 
 /// Refuses each call of the store in turn, and gives how many there are.
 fn refuse_calls(rt: &impl Abort, alloc: Global, asked: &Asked<'_>) -> Result<u64, TestFail> {
-    let Asked(words, text, _) = asked;
-    let whole = left_by(alloc, words, nothing_fails(alloc))?;
-    expect_whole(rt, &whole, text);
+    let whole = whole(rt, alloc, asked)?;
     for nth in 1..MOST_CALLS {
         if refuse_call(rt, alloc, asked, &whole.store, nth)? {
             return Ok(nth - 1);
@@ -201,29 +209,17 @@ fn each_call_of_the_store_may_fail(rt: HostRuntime) -> Result<(), TestFail> {
     Ok(())
 }
 
-/// Calls the program where the sink has so much room, which takes the front of the text.
-fn cut_at(
-    rt: &impl Abort,
-    alloc: Global,
-    words: &[&str],
-    text: &str,
-    room: usize,
-) -> Result<(), TestFail> {
-    let refusals = Refusals {
-        room,
-        ..nothing_fails(alloc)
-    };
-    let left = left_by(alloc, words, refusals)?;
-    assert_eq!(rt; left.status, 9);
-    assert_eq!(rt; Some(left.text.as_slice()), text.as_bytes().get(..room));
-    Ok(())
+/// Calls the program where the sink has room for this front of the text alone.
+fn cut_at(rt: &impl Abort, alloc: Global, words: &[&str], front: &str) -> Result<(), TestFail> {
+    let mut objects = failing_objects(alloc, no_fails(alloc), no_fails(alloc), front.len())?;
+    expect_over(rt, alloc, words, &mut objects, 9, front)
 }
 
 /// Gives the sink room for fewer bytes than the text has.
 fn cut_text(rt: &impl Abort, alloc: Global, asked: &Asked<'_>) -> Result<(), TestFail> {
     let Asked(words, text, _) = asked;
     for room in 0..text.len() {
-        cut_at(rt, alloc, words, text, room)?;
+        cut_at(rt, alloc, words, text.get(..room).ok_or("front")?)?;
     }
     Ok(())
 }
@@ -236,21 +232,21 @@ fn a_sink_takes_the_front_of_each_text(rt: HostRuntime) -> Result<(), TestFail> 
     Ok(())
 }
 
-/// Calls `play` where the nth read of the input is refused.
-fn left_by_refused_read(alloc: Global, words: &[&str], nth: u64) -> Result<Left, TestFail> {
-    let refusals = Refusals {
-        input: call_fails(alloc, nth)?,
-        ..nothing_fails(alloc)
-    };
-    left_by(alloc, words, refusals)
+/// Calls `play` over objects whose input refuses a read.
+fn expect_unheard(rt: &impl Abort, alloc: Global, objects: &mut Objects) -> Result<(), TestFail> {
+    let Asked(words, text, _) = PLAYED;
+    let status = call_over(alloc, words, objects)?;
+    assert_eq!(rt; status, 10);
+    expect_fault(rt, objects.out.taken(), text, b"input fault\n");
+    Ok(())
 }
 
 #[test]
 fn each_read_of_the_input_may_fail(rt: HostRuntime) -> Result<(), TestFail> {
-    let Asked(words, text, _) = PLAYED;
+    let alloc = rt.alloc();
     for nth in 1..=INPUT.len() as u64 {
-        let left = left_by_refused_read(rt.alloc(), words, nth)?;
-        expect_fault(&rt, &left, 10, text, b"input fault\n");
+        let mut objects = failing_objects(alloc, no_fails(alloc), call_fails(alloc, nth)?, ROOM)?;
+        expect_unheard(&rt, alloc, &mut objects)?;
     }
     Ok(())
 }

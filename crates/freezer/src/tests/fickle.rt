@@ -67,7 +67,6 @@ impl Store for Fickle<'_> {
 
 /// A command, its status at the first call, the text of two calls, and how many calls of the store
 /// they make and how many bytes they ask for.
-#[derive(Drop)]
 struct Twice<'a> {
     line: &'a [&'a str],
     status: u8,
@@ -76,7 +75,20 @@ struct Twice<'a> {
     asked: u64,
 }
 
-/// Calls twice over a store with these bytes: at the second call the name is not there.
+/// Calls twice over the store: at the second call the name is not there.
+fn call_twice(
+    rt: &impl Abort,
+    alloc: Global,
+    store: &mut Fickle<'_>,
+    twice: &Twice<'_>,
+) -> Result<u8, TestFail> {
+    let mut out = sink(alloc, 200)?;
+    let first = call(alloc, twice.line, store, &mut out)?;
+    expect_taken(rt, alloc, twice.line, store, &mut out, 12, twice.text)?;
+    Ok(first)
+}
+
+/// Calls twice over a store with these bytes.
 fn expect_twice(
     rt: &impl Abort,
     alloc: Global,
@@ -90,9 +102,7 @@ fn expect_twice(
         calls: 0,
         asked: 0,
     };
-    let mut out = sink(alloc, 200)?;
-    let first = call(alloc, twice.line, &mut store, &mut out)?;
-    expect_taken(rt, alloc, twice.line, &mut store, &mut out, 12, twice.text)?;
+    let first = call_twice(rt, alloc, &mut store, twice)?;
     assert_eq!(rt;
         (first, store.calls, store.asked),
         (twice.status, twice.calls, twice.asked)
@@ -100,16 +110,17 @@ fn expect_twice(
     Ok(())
 }
 
+const SOLVE: Twice = Twice {
+    line: &["solve", "A", MATE_IN_ONE],
+    status: 3,
+    text: "rules 0: king group\nmissing rules\n",
+    calls: 3,
+    asked: 10,
+};
+
 #[test]
 fn rules_are_read_once(rt: HostRuntime) -> Result<(), TestFail> {
-    let twice = Twice {
-        line: &["solve", "A", MATE_IN_ONE],
-        status: 3,
-        text: "rules 0: king group\nmissing rules\n",
-        calls: 3,
-        asked: 10,
-    };
-    expect_twice(&rt, rt.alloc(), b"freezer 1\n", 10, &twice)
+    expect_twice(&rt, rt.alloc(), b"freezer 1\n", 10, &SOLVE)
 }
 
 const QUERY: Twice = Twice {
@@ -149,10 +160,10 @@ const QUERY_OF_NOTHING: Twice = Twice {
 #[test]
 fn tables_are_read_once(rt: HostRuntime) -> Result<(), TestFail> {
     let alloc = rt.alloc();
+    expect_twice(&rt, alloc, b"", 153, &QUERY_OF_NOTHING)?;
     let file = rook_file(alloc)?;
-    let header = table_file(alloc, b"FREEZER2", RULES, 8, &[])?;
     expect_twice(&rt, alloc, &file, 153, &QUERY)?;
     expect_twice(&rt, alloc, &file, 153, &CHECK)?;
-    expect_twice(&rt, alloc, &header, 153, &CHECK_OF_HEADER)?;
-    expect_twice(&rt, alloc, b"", 153, &QUERY_OF_NOTHING)
+    let header = table_file(alloc, b"FREEZER2", RULES, 8, &[])?;
+    expect_twice(&rt, alloc, &header, 153, &CHECK_OF_HEADER)
 }

@@ -1,11 +1,11 @@
 //! Lines over tables made by hand.
-use super::tables::{expect_answer, failing_sink, table_store};
+use super::tables::table_store;
 use super::{
-    CORNER, COUNTED, DRAWN, MATE_IN_ONE, NEXT_TO_IT, RULES, STALEMATE, call, call_fails,
-    expect_call, no_fails, sink,
+    Answered, CORNER, COUNTED, DRAWN, MATE_IN_ONE, NEXT_TO_IT, RULES, STALEMATE, call_fails,
+    expect_asking, expect_calls, expect_failing, expect_taken, no_fails, sink,
 };
 use frz_handmade::{rook, store_with};
-use frz_store::{Fail, MemSink, MemStore};
+use frz_store::{Fail, MemSink};
 use std::alloc::Global;
 use std::process::Abort;
 use std::test::Fail as TestFail;
@@ -133,17 +133,6 @@ const WRONG: &[Row] = &[
     ),
 ];
 
-/// Plays the line of a row over these objects.
-fn play(
-    alloc: Global,
-    row: &Row<'_>,
-    store: &mut MemStore,
-    out: &mut MemSink,
-) -> Result<u8, TestFail> {
-    let Row(_, _, fen, side, _, _) = row;
-    call(alloc, &["line", "A.t", fen, side], store, out)
-}
-
 /// Plays the line of a row into a sink, which is to end as the row says.
 fn expect_into(
     rt: &impl Abort,
@@ -152,11 +141,10 @@ fn expect_into(
     fails: Vec<Fail>,
     out: &mut MemSink,
 ) -> Result<(), TestFail> {
-    let Row(rules, codes, _, _, status, text) = row;
+    let Row(rules, codes, fen, side, status, text) = row;
     let mut store = table_store(alloc, rules, codes, fails)?;
-    let answer = play(alloc, row, &mut store, out)?;
-    expect_answer(rt, answer, out.taken(), *status, text);
-    Ok(())
+    let line = ["line", "A.t", fen, side];
+    expect_taken(rt, alloc, &line, &mut store, out, *status, text)
 }
 
 /// Plays the line of a row into a sink that takes so many bytes.
@@ -231,21 +219,23 @@ fn a_line_stops_where_the_sink_fails(rt: HostRuntime) -> Result<(), TestFail> {
     Ok(())
 }
 
+/// The words of the line from the corner to the mate.
+const MATING: &[&str] = &["line", "A.t", CORNER, "white"];
+
 #[test]
 fn a_line_is_not_begun_where_the_sink_fails(rt: HostRuntime) -> Result<(), TestFail> {
     let alloc = rt.alloc();
-    let mut out = failing_sink(alloc, 0)?;
-    expect_into(&rt, alloc, &mating(9, ""), no_fails(alloc), &mut out)
+    let mut store = table_store(alloc, RULES, ROOK, no_fails(alloc))?;
+    expect_failing(&rt, alloc, &mut store, MATING, "")
 }
 
 #[test]
 fn a_line_asks_for_the_codes_of_its_moves(rt: HostRuntime) -> Result<(), TestFail> {
     let alloc = rt.alloc();
     let mut store = table_store(alloc, RULES, ROOK, no_fails(alloc))?;
-    let _ = play(alloc, &mating(0, MATED), &mut store, &mut sink(alloc, 200)?)?;
     // 16 bytes and the text, the code of the start, and those of the two moves within the set.
-    assert_eq!(rt; store.asked(), 16 + 73 + 4 + 8);
-    Ok(())
+    let asked = 16 + 73 + 4 + 8;
+    expect_asking(&rt, alloc, &mut store, MATING, 0, MATED, asked)
 }
 
 /// The text of a line in which both sides go to and fro until it is cut.
@@ -269,7 +259,7 @@ fn a_hold_is_cut_after_a_hundred_plies(rt: HostRuntime) -> Result<(), TestFail> 
 }
 
 /// The words of a call that is refused, its status and its text.
-const REFUSED: &[(&[&str], u8, &str)] = &[
+const REFUSED: &[Answered] = &[
     (&["line", "A.t", MATE_IN_ONE], 2, "words: count\n"),
     (
         &["line", "A.t", MATE_IN_ONE, "white", "black"],
@@ -293,8 +283,5 @@ const REFUSED: &[(&[&str], u8, &str)] = &[
 fn refuses_words_and_tables(rt: HostRuntime) -> Result<(), TestFail> {
     let alloc = rt.alloc();
     let mut store = store_with(alloc, no_fails(alloc), &[("cut.t", b"FREEZER2")])?;
-    for (line, status, text) in REFUSED {
-        expect_call(&rt, alloc, &mut store, line, *status, text)?;
-    }
-    Ok(())
+    expect_calls(&rt, alloc, &mut store, REFUSED)
 }

@@ -1,6 +1,7 @@
 //! Tables of the former format, made by hand from its definition, and what `migrate` makes of them.
-use super::tables::expect_answer;
-use super::{call, expect_call, no_fails, sink};
+use super::{
+    Answered, expect_call, expect_calls, expect_file, expect_front, expect_length, fails, no_fails,
+};
 use frz_handmade::{plain_file, store_with, table_file};
 use frz_store::{Fail, FailOn, MemStore};
 use std::alloc::Global;
@@ -83,13 +84,40 @@ pub(super) fn former_rooks(alloc: Global) -> Result<Vec<u8>, TestFail> {
     former(alloc, FORMER)
 }
 
-/// A store whose calls fail so and that holds this former file.
-fn store_of(alloc: Global, former: &[u8], fails: Vec<Fail>) -> Result<MemStore, TestFail> {
-    store_with(alloc, fails, &[("O.t", former)])
+/// How many bytes the file of up to two rooks has today.
+const TODAY_LENGTH: usize = 219;
+
+/// The front of a file that is left, if any is.
+fn front(file: &[u8], left: Option<usize>) -> Option<&[u8]> {
+    file.get(..left?)
 }
 
-fn expect_file(rt: &impl Abort, store: &MemStore, name: &str, bytes: Option<&[u8]>) {
-    assert_eq!(rt; store.file(name), bytes);
+/// The store holds so many bytes of today's file with these codes under `N.t`, or none.
+fn expect_today(
+    rt: &impl Abort,
+    alloc: Global,
+    store: &MemStore,
+    codes: &[u32],
+    left: Option<usize>,
+) -> Result<(), TestFail> {
+    let today = plain_file(alloc, ROOKS, codes)?;
+    assert_eq!(rt; today.len(), TODAY_LENGTH);
+    expect_file(rt, store, "N.t", front(&today, left));
+    Ok(())
+}
+
+/// Rewrites this former file over another one.
+fn expect_over(
+    rt: &impl Abort,
+    alloc: Global,
+    former: &[u8],
+    codes: &[u32],
+) -> Result<(), TestFail> {
+    let files = [("O.t", former), ("N.t", b"another file".as_slice())];
+    let mut store = store_with(alloc, no_fails(alloc), &files)?;
+    expect_call(rt, alloc, &mut store, LINE, 0, "migrated 16\n")?;
+    expect_file(rt, &store, "O.t", Some(former));
+    expect_today(rt, alloc, &store, codes, Some(TODAY_LENGTH))
 }
 
 fn expect_rewritten(
@@ -98,16 +126,7 @@ fn expect_rewritten(
     rewritten: &Rewritten<'_>,
 ) -> Result<(), TestFail> {
     let former = former(alloc, rewritten.former)?;
-    let today = plain_file(alloc, ROOKS, rewritten.today)?;
-    let files = [
-        ("O.t", former.as_slice()),
-        ("N.t", b"another file".as_slice()),
-    ];
-    let mut store = store_with(alloc, no_fails(alloc), &files)?;
-    expect_call(rt, alloc, &mut store, LINE, 0, "migrated 16\n")?;
-    expect_file(rt, &store, "N.t", Some(&today));
-    expect_file(rt, &store, "O.t", Some(&former));
-    Ok(())
+    expect_over(rt, alloc, &former, rewritten.today)
 }
 
 #[test]
@@ -115,17 +134,6 @@ fn rewrites_tables(rt: HostRuntime) -> Result<(), TestFail> {
     for rewritten in REWRITTEN {
         expect_rewritten(&rt, rt.alloc(), rewritten)?;
     }
-    Ok(())
-}
-
-fn expect_length(
-    rt: &impl Abort,
-    store: &MemStore,
-    name: &str,
-    length: usize,
-) -> Result<(), TestFail> {
-    let file = store.file(name).ok_or("no file")?;
-    assert_eq!(rt; file.len(), length);
     Ok(())
 }
 
@@ -142,21 +150,19 @@ fn rules_and_former(alloc: Global) -> Result<MemStore, TestFail> {
     store_with(alloc, no_fails(alloc), &[("M", ROOKS), ("O.t", &former)])
 }
 
-/// Calls over one store, one behind the other: the words of each and the text that it answers.
-const REBUILT: &[(&[&str], &str)] = &[
-    (LINE, "migrated 16\n"),
-    (&["check", "N.t"], "exact 16\n"),
-    (&["build", "M", "M.t"], "built 16\n"),
+/// Calls over one store, one behind the other.
+const REBUILT: &[Answered] = &[
+    (LINE, 0, "migrated 16\n"),
+    (&["check", "N.t"], 0, "exact 16\n"),
+    (&["build", "M", "M.t"], 0, "built 16\n"),
 ];
 
 #[test]
 fn rewrites_the_former_file_of_a_text_to_what_build_makes(rt: HostRuntime) -> Result<(), TestFail> {
     let alloc = rt.alloc();
     let mut store = rules_and_former(alloc)?;
-    expect_length(&rt, &store, "O.t", 379)?;
-    for (line, text) in REBUILT {
-        expect_call(&rt, alloc, &mut store, line, 0, text)?;
-    }
+    expect_length(&rt, &store, "O.t", Some(379));
+    expect_calls(&rt, alloc, &mut store, REBUILT)?;
     expect_same(&rt, &store, "M.t", "N.t")
 }
 
@@ -164,13 +170,23 @@ fn rewrites_the_former_file_of_a_text_to_what_build_makes(rt: HostRuntime) -> Re
 #[derive(Clone, Copy)]
 struct Refused<'a>(&'a [u8], &'a [&'a str], u8, &'a str);
 
-fn expect_refused(rt: &impl Abort, alloc: Global, refused: &Refused<'_>) -> Result<(), TestFail> {
+/// Calls the program over the store, which is to refuse and to leave both names as they were.
+fn expect_kept(
+    rt: &impl Abort,
+    alloc: Global,
+    store: &mut MemStore,
+    refused: &Refused<'_>,
+) -> Result<(), TestFail> {
     let Refused(bytes, line, status, text) = refused;
-    let mut store = store_of(alloc, bytes, no_fails(alloc))?;
-    expect_call(rt, alloc, &mut store, line, *status, text)?;
-    expect_file(rt, &store, "O.t", Some(bytes));
-    expect_file(rt, &store, "N.t", None);
+    expect_call(rt, alloc, store, line, *status, text)?;
+    expect_file(rt, store, "O.t", Some(bytes));
+    expect_file(rt, store, "N.t", None);
     Ok(())
+}
+
+fn expect_refused(rt: &impl Abort, alloc: Global, refused: &Refused<'_>) -> Result<(), TestFail> {
+    let mut store = store_with(alloc, no_fails(alloc), &[("O.t", refused.0)])?;
+    expect_kept(rt, alloc, &mut store, refused)
 }
 
 const LINE: &[&str] = &["migrate", "O.t", "N.t"];
@@ -241,31 +257,20 @@ const CUT: &[Cut] = &[
     Cut(FailOn::Append, 2, 4, Some(16)),
     Cut(FailOn::Append, 3, 2, Some(89)),
     Cut(FailOn::Append, 4, 63, Some(154)),
-    Cut(FailOn::Append, 5, 64, Some(219)),
+    Cut(FailOn::Append, 5, 64, Some(TODAY_LENGTH)),
 ];
 
-/// A store that holds the former file of up to two rooks and fails at this cut.
-fn cut_store(alloc: Global, cut: &Cut) -> Result<MemStore, TestFail> {
-    let Cut(on, nth, keep, _) = cut;
-    let fail = Fail {
-        on: *on,
-        nth: *nth,
-        keep: *keep,
-    };
-    store_of(alloc, &former_rooks(alloc)?, vec![in alloc; fail]?)
-}
-
-/// The front of a file that is left, if any is.
-fn front(file: &[u8], left: Option<usize>) -> Option<&[u8]> {
-    file.get(..left?)
+/// A store whose calls fail so and that holds the former file of up to two rooks.
+fn former_store(alloc: Global, fails: Vec<Fail>) -> Result<MemStore, TestFail> {
+    let former = former_rooks(alloc)?;
+    store_with(alloc, fails, &[("O.t", &former)])
 }
 
 fn expect_cut(rt: &impl Abort, alloc: Global, cut: &Cut) -> Result<(), TestFail> {
-    let mut store = cut_store(alloc, cut)?;
+    let Cut(on, nth, keep, left) = cut;
+    let mut store = former_store(alloc, fails(alloc, *on, *nth, *keep)?)?;
     expect_call(rt, alloc, &mut store, LINE, 8, "store fault\n")?;
-    let today = plain_file(alloc, ROOKS, TODAY)?;
-    expect_file(rt, &store, "N.t", front(&today, cut.3));
-    Ok(())
+    expect_today(rt, alloc, &store, TODAY, *left)
 }
 
 #[test]
@@ -276,18 +281,11 @@ fn leaves_a_part_where_the_store_fails(rt: HostRuntime) -> Result<(), TestFail> 
     Ok(())
 }
 
-/// Rewrites a table of the store over a sink that takes three bytes.
-fn expect_taken(rt: &impl Abort, alloc: Global, store: &mut MemStore) -> Result<(), TestFail> {
-    let mut out = sink(alloc, 3)?;
-    let status = call(alloc, LINE, store, &mut out)?;
-    expect_answer(rt, status, out.taken(), 9, "mig");
-    Ok(())
-}
-
 #[test]
 fn rewrites_the_file_where_only_the_line_is_not_taken(rt: HostRuntime) -> Result<(), TestFail> {
     let alloc = rt.alloc();
-    let mut store = store_of(alloc, &former_rooks(alloc)?, no_fails(alloc))?;
-    expect_taken(&rt, alloc, &mut store)?;
-    expect_length(&rt, &store, "N.t", 219)
+    let mut store = former_store(alloc, no_fails(alloc))?;
+    expect_front(&rt, alloc, &mut store, LINE, "mig")?;
+    expect_length(&rt, &store, "N.t", Some(TODAY_LENGTH));
+    Ok(())
 }

@@ -1,7 +1,9 @@
 //! Sessions over tables made by hand.
-use super::tables::{expect_answer, table_store};
-use super::{CORNER, DRAWN, MATE_IN_ONE, NEXT_TO_IT, RULES, call_fails, no_fails, sink};
-use crate::run_once;
+use super::tables::table_store;
+use super::{
+    CORNER, DRAWN, MATE_IN_ONE, NEXT_TO_IT, RULES, call_fails, call_with_input, expect_ended,
+    no_fails, sink,
+};
 use frz_handmade::rook;
 use frz_store::{Fail, MemSink, MemSource};
 use std::alloc::Global;
@@ -131,14 +133,6 @@ const ROWS: &[Row] = &[
     ),
 ];
 
-fn words_of(alloc: Global, line: &[&str]) -> Result<Vec<String>, TestFail> {
-    let mut words = Vec::new(alloc);
-    for word in line {
-        words.push(String::from_str(alloc, word)?)?;
-    }
-    Ok(words)
-}
-
 /// Plays a session of a row over this input.
 fn play(
     alloc: Global,
@@ -148,12 +142,24 @@ fn play(
 ) -> Result<u8, TestFail> {
     let Row(text, codes, fen, side, _, _, _, _) = row;
     let mut store = table_store(alloc, text, codes, no_fails(alloc))?;
-    let words = words_of(alloc, &["play", "A.t", fen, side])?;
-    Ok(run_once(alloc, &words, &mut store, input, out))
+    let line = ["play", "A.t", fen, side];
+    call_with_input(alloc, &line, &mut store, input, out)
 }
 
-fn expect_left(rt: &impl Abort, left: &[u8], due: &[u8]) {
-    assert_eq!(rt; left, due);
+/// Plays a session of a row over this input, with room for so much text.
+fn expect_heard(
+    rt: &impl Abort,
+    alloc: Global,
+    row: &Row<'_>,
+    input: &mut MemSource,
+    room: usize,
+) -> Result<(), TestFail> {
+    let Row(_, _, _, _, _, status, text, left) = row;
+    let mut out = sink(alloc, room)?;
+    let answer = play(alloc, row, input, &mut out)?;
+    expect_ended(rt, (answer, out.taken()), *status, text);
+    assert_eq!(rt; input.left(), *left);
+    Ok(())
 }
 
 /// Plays a session of a row over a source that fails so, with room for so much text.
@@ -164,13 +170,8 @@ fn expect(
     fails: Vec<Fail>,
     room: usize,
 ) -> Result<(), TestFail> {
-    let Row(_, _, _, _, bytes, status, text, left) = row;
-    let mut input = MemSource::new(bytes.to_vec(alloc)?, fails);
-    let mut out = sink(alloc, room)?;
-    let answer = play(alloc, row, &mut input, &mut out)?;
-    expect_answer(rt, answer, out.taken(), *status, text);
-    expect_left(rt, input.left(), left);
-    Ok(())
+    let mut input = MemSource::new(row.4.to_vec(alloc)?, fails);
+    expect_heard(rt, alloc, row, &mut input, room)
 }
 
 #[test]

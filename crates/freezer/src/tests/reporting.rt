@@ -1,8 +1,7 @@
 //! Reports of tables, those that the program builds and one made by hand.
-use super::tables::expect_answer;
-use super::{RULES, call, expect_call, no_fails, sink};
+use super::{Answered, RULES, call, expect_calls, expect_ended, fails, no_fails, sink};
 use frz_handmade::store_with;
-use frz_store::{Fail, FailOn, MemStore};
+use frz_store::{Fail, FailOn, MemSink, MemStore};
 use std::alloc::Global;
 use std::process::Abort;
 use std::test::Fail as TestFail;
@@ -25,25 +24,28 @@ exit draw if count:white:P:0 count:white:Q:0
 exit white wins if count:white:Q:1 distance:white:d8:0-1
 ";
 
+/// Builds the table `T` of the text in the store.
+fn build(alloc: Global, store: &mut MemStore) -> Result<u8, TestFail> {
+    let mut out = sink(alloc, 200)?;
+    call(alloc, &["build", "A", "T"], store, &mut out)
+}
+
 /// A store whose calls fail so, and in which `T` is the table that is built of a text.
 fn built(alloc: Global, rules: &[u8], fails: Vec<Fail>) -> Result<MemStore, TestFail> {
     let mut store = store_with(alloc, fails, &[("A", rules)])?;
-    let build = ["build", "A", "T"];
-    let _ = call(alloc, &build, &mut store, &mut sink(alloc, 200)?)?;
+    let _ = build(alloc, &mut store)?;
     Ok(store)
 }
 
-/// Builds the table of a text and reports on it, over a sink of so much room.
-fn reported(
+/// Builds the table of a text and reports on it.
+fn report(
     alloc: Global,
     rules: &[u8],
     fails: Vec<Fail>,
-    room: usize,
-) -> Result<(u8, Vec<u8>), TestFail> {
+    out: &mut MemSink,
+) -> Result<u8, TestFail> {
     let mut store = built(alloc, rules, fails)?;
-    let mut out = sink(alloc, room)?;
-    let status = call(alloc, &["report", "T"], &mut store, &mut out)?;
-    Ok((status, out.taken().to_vec(alloc)?))
+    call(alloc, &["report", "T"], &mut store, out)
 }
 
 /// A report on the table of a text, over a sink of so much room, which is to end so with this text.
@@ -56,8 +58,9 @@ fn expect_report(
     status: u8,
     text: &str,
 ) -> Result<(), TestFail> {
-    let (answer, taken) = reported(alloc, rules, fails, room)?;
-    expect_answer(rt, answer, &taken, status, text);
+    let mut out = sink(alloc, room)?;
+    let answer = report(alloc, rules, fails, &mut out)?;
+    expect_ended(rt, (answer, out.taken()), status, text);
     Ok(())
 }
 
@@ -83,44 +86,28 @@ fn expect_within(rt: &impl Abort, text: &str, line: &str) {
 #[test]
 fn finds_a_known_mutual_zugzwang(rt: HostRuntime) -> Result<(), TestFail> {
     let alloc = rt.alloc();
-    let (status, taken) = reported(alloc, PAWN, no_fails(alloc), 20_000)?;
+    let mut out = sink(alloc, 20_000)?;
+    let status = report(alloc, PAWN, no_fails(alloc), &mut out)?;
     assert_eq!(rt; status, 0);
-    let text = str::from_utf8(&taken).or(Err("text"))?;
+    let text = str::from_utf8(out.taken()).or(Err("text"))?;
     expect_within(&rt, text, " 2k5/8/2KP4/8/8/8/8/8 w - - 0 1\n");
     expect_within(&rt, text, " 4k3/8/3PK3/8/8/8/8/8 w - - 0 1\n");
     Ok(())
 }
 
-/// The words of a call, its status and its text, over a store with a file that no report is of.
-fn expect(
-    rt: &impl Abort,
-    alloc: Global,
-    line: &[&str],
-    status: u8,
-    text: &str,
-) -> Result<(), TestFail> {
-    let files = [("C.t", b"FREEZERC and what may follow".as_slice())];
-    let mut store = store_with(alloc, no_fails(alloc), &files)?;
-    expect_call(rt, alloc, &mut store, line, status, text)
-}
+const NO_TABLE: &[Answered] = &[
+    (&["report"], 2, "words: count\n"),
+    (&["report", "C.t", "C.t"], 2, "words: count\n"),
+    (&["report", "C.t"], 5, "table: magic\n"),
+    (&["report", "none.t"], 12, "missing table\n"),
+];
 
 #[test]
 fn refuses_what_is_no_table(rt: HostRuntime) -> Result<(), TestFail> {
     let alloc = rt.alloc();
-    expect(&rt, alloc, &["report"], 2, "words: count\n")?;
-    expect(&rt, alloc, &["report", "C.t", "C.t"], 2, "words: count\n")?;
-    expect(&rt, alloc, &["report", "C.t"], 5, "table: magic\n")?;
-    expect(&rt, alloc, &["report", "none.t"], 12, "missing table\n")
-}
-
-/// The nth read fails.
-fn read_fails(alloc: Global, nth: u64) -> Result<Vec<Fail>, TestFail> {
-    let read = Fail {
-        on: FailOn::Read,
-        nth,
-        keep: 0,
-    };
-    Ok(vec![in alloc; read]?)
+    let files = [("C.t", b"FREEZERC and what may follow".as_slice())];
+    let mut store = store_with(alloc, no_fails(alloc), &files)?;
+    expect_calls(&rt, alloc, &mut store, NO_TABLE)
 }
 
 /// `build` of the rules makes one read, and `report` four that open the table and two that load it.
@@ -128,7 +115,7 @@ fn read_fails(alloc: Global, nth: u64) -> Result<Vec<Fail>, TestFail> {
 fn names_the_fault_of_each_read(rt: HostRuntime) -> Result<(), TestFail> {
     let alloc = rt.alloc();
     for nth in 2..8 {
-        let fails = read_fails(alloc, nth)?;
+        let fails = fails(alloc, FailOn::Read, nth, 0)?;
         expect_report(&rt, alloc, LOST, fails, 200, 8, "store fault\n")?;
     }
     Ok(())

@@ -1,7 +1,10 @@
 //! Tables made by hand, checked and asked.
-use super::{CORNER, MATE_IN_ONE, NEXT_TO_IT, RULES, call, call_fails, expect_call, no_fails};
+use super::{
+    Answered, CORNER, MATE_IN_ONE, NEXT_TO_IT, RULES, call_fails, expect_asking, expect_call,
+    expect_failing, no_fails, rook_file,
+};
 use frz_handmade::{plain_file, rook, store_with, table_file};
-use frz_store::{Fail, FailOn, MemSink, MemStore};
+use frz_store::{Fail, MemStore};
 use std::alloc::Global;
 use std::process::Abort;
 use std::test::Fail as TestFail;
@@ -12,6 +15,8 @@ const NEAR_ROOK: &[u8] =
 
 /// The codes of both sides, White's first.
 const NEAR_ROOK_CODES: [u32; 16] = [1, 1, 1, 1, 1, 1, 1, 1, 5, 5, 5, 5, 7, 7, 7, 7];
+
+const CHECK: &[&str] = &["check", "A.t"];
 
 /// Bytes of a table that are changed, and what a check says of it then.
 struct Changed<'a>(&'a [(usize, u8)], u8, &'a str);
@@ -53,11 +58,6 @@ const CUT: &[(usize, &str)] = &[
     (152, "table: truncated 152 due 153\n"),
 ];
 
-/// A store whose calls fail so and that holds this table.
-fn store_of(alloc: Global, file: &[u8], fails: Vec<Fail>) -> Result<MemStore, TestFail> {
-    store_with(alloc, fails, &[("A.t", file)])
-}
-
 /// A store whose calls fail so and that holds the table of a text with these codes.
 pub(super) fn table_store(
     alloc: Global,
@@ -66,13 +66,7 @@ pub(super) fn table_store(
     fails: Vec<Fail>,
 ) -> Result<MemStore, TestFail> {
     let file = plain_file(alloc, text, codes)?;
-    store_of(alloc, &file, fails)
-}
-
-/// A call answered with a status and took these bytes, which are to be this status and this text.
-pub(super) fn expect_answer(rt: &impl Abort, answer: u8, taken: &[u8], status: u8, text: &str) {
-    assert_eq!(rt; taken, text.as_bytes());
-    assert_eq!(rt; answer, status);
+    store_with(alloc, fails, &[("A.t", &file)])
 }
 
 /// Calls the program over a store with this table.
@@ -84,7 +78,7 @@ fn expect(
     status: u8,
     text: &str,
 ) -> Result<(), TestFail> {
-    let mut store = store_of(alloc, file, no_fails(alloc))?;
+    let mut store = store_with(alloc, no_fails(alloc), &[("A.t", file)])?;
     expect_call(rt, alloc, &mut store, line, status, text)
 }
 
@@ -97,23 +91,29 @@ fn with_changes(alloc: Global, file: &[u8], changes: &[(usize, u8)]) -> Result<V
     Ok(changed)
 }
 
-/// Checks a table with each of these changes.
+/// Checks a table with these changes.
 fn expect_changed(
+    rt: &impl Abort,
+    alloc: Global,
+    file: &[u8],
+    changed: &Changed<'_>,
+) -> Result<(), TestFail> {
+    let Changed(changes, status, text) = changed;
+    let table = with_changes(alloc, file, changes)?;
+    expect(rt, alloc, &table, CHECK, *status, text)
+}
+
+/// Checks a table with the changes of each row.
+fn expect_changes(
     rt: &impl Abort,
     alloc: Global,
     file: &[u8],
     rows: &[Changed<'_>],
 ) -> Result<(), TestFail> {
-    for Changed(changes, status, text) in rows {
-        let table = with_changes(alloc, file, changes)?;
-        expect(rt, alloc, &table, &["check", "A.t"], *status, text)?;
+    for changed in rows {
+        expect_changed(rt, alloc, file, changed)?;
     }
     Ok(())
-}
-
-/// The table of the rook.
-fn rook_file(alloc: Global) -> Result<Vec<u8>, TestFail> {
-    plain_file(alloc, RULES, &rook::CODES)
 }
 
 #[test]
@@ -121,14 +121,14 @@ fn checks_tables(rt: HostRuntime) -> Result<(), TestFail> {
     let alloc = rt.alloc();
     let file = rook_file(alloc)?;
     assert_eq!(rt; file.len(), 153);
-    expect_changed(&rt, alloc, &file, ROOK_ROWS)
+    expect_changes(&rt, alloc, &file, ROOK_ROWS)
 }
 
 #[test]
 fn checks_tables_where_no_mate_is_forced(rt: HostRuntime) -> Result<(), TestFail> {
     let alloc = rt.alloc();
     let near = plain_file(alloc, NEAR_ROOK, &NEAR_ROOK_CODES)?;
-    expect_changed(&rt, alloc, &near, NEAR_ROOK_ROWS)
+    expect_changes(&rt, alloc, &near, NEAR_ROOK_ROWS)
 }
 
 /// Texts of great sets, each with what a check says of a file of the text that keeps the size 8.
@@ -178,7 +178,16 @@ fn sizes_are_those_of_the_rules(rt: HostRuntime) -> Result<(), TestFail> {
     let alloc = rt.alloc();
     for (text, line) in GREAT {
         let file = table_file(alloc, b"FREEZER2", text, 8, &[])?;
-        expect(&rt, alloc, &file, &["check", "A.t"], 5, line)?;
+        expect(&rt, alloc, &file, CHECK, 5, line)?;
+    }
+    Ok(())
+}
+
+/// Checks each of the fronts of a table.
+fn expect_cut(rt: &impl Abort, alloc: Global, file: &[u8]) -> Result<(), TestFail> {
+    for (left, text) in CUT {
+        let front = file.get(..*left).ok_or("front")?;
+        expect(rt, alloc, front, CHECK, 5, text)?;
     }
     Ok(())
 }
@@ -186,16 +195,8 @@ fn sizes_are_those_of_the_rules(rt: HostRuntime) -> Result<(), TestFail> {
 #[test]
 fn refuses_tables_that_are_cut(rt: HostRuntime) -> Result<(), TestFail> {
     let alloc = rt.alloc();
-    let file = rook_file(alloc)?;
-    for (left, text) in CUT {
-        let front = file.get(..*left).ok_or("front")?;
-        expect(&rt, alloc, front, &["check", "A.t"], 5, text)?;
-    }
-    Ok(())
+    expect_cut(&rt, alloc, &rook_file(alloc)?)
 }
-
-/// The words of a call, its status and its text.
-type Answered<'a> = (&'a [&'a str], u8, &'a str);
 
 /// Calls the program over stores with this table.
 fn expect_all(
@@ -263,31 +264,15 @@ fn asks_tables(rt: HostRuntime) -> Result<(), TestFail> {
 fn a_query_reads_two_codes_in_place(rt: HostRuntime) -> Result<(), TestFail> {
     let alloc = rt.alloc();
     let mut store = table_store(alloc, RULES, &rook::CODES, no_fails(alloc))?;
-    expect_call(&rt, alloc, &mut store, &["query", "A.t", CORNER], 0, FORCED)?;
-    assert_eq!(rt; store.asked(), 24 + 73);
-    Ok(())
-}
-
-/// A sink whose first call fails and takes so many bytes.
-pub(super) fn failing_sink(alloc: Global, keep: u64) -> Result<MemSink, TestFail> {
-    let fails = vec![in alloc;
-        Fail {
-            on: FailOn::Call,
-            nth: 1,
-            keep,
-        },
-    ]?;
-    Ok(MemSink::new(alloc, 200, fails).or(Err("sink"))?)
+    let query = ["query", "A.t", CORNER];
+    expect_asking(&rt, alloc, &mut store, &query, 0, FORCED, 24 + 73)
 }
 
 #[test]
 fn a_check_stops_where_the_sink_fails(rt: HostRuntime) -> Result<(), TestFail> {
     let alloc = rt.alloc();
     let mut store = table_store(alloc, RULES, &rook::CODES, no_fails(alloc))?;
-    let mut out = failing_sink(alloc, 3)?;
-    let status = call(alloc, &["check", "A.t"], &mut store, &mut out)?;
-    expect_answer(&rt, status, out.taken(), 9, "exa");
-    Ok(())
+    expect_failing(&rt, alloc, &mut store, CHECK, "exa")
 }
 
 #[test]
