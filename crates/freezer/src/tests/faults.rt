@@ -190,21 +190,32 @@ fn whole(rt: &impl Abort, alloc: Global, asked: &Asked<'_>) -> Result<Objects, T
 }
 
 /// Refuses each call of the store in turn, and gives how many there are.
-fn refuse_calls(rt: &impl Abort, alloc: Global, asked: &Asked<'_>) -> Result<u64, TestFail> {
-    let whole = whole(rt, alloc, asked)?;
+fn refuse_calls(
+    rt: &impl Abort,
+    alloc: Global,
+    asked: &Asked<'_>,
+    whole: &MemStore,
+) -> Result<u64, TestFail> {
     for nth in 1..MOST_CALLS {
-        if refuse_call(rt, alloc, asked, &whole.store, nth)? {
+        if refuse_call(rt, alloc, asked, whole, nth)? {
             return Ok(nth - 1);
         }
     }
     Err("too many calls".into())
 }
 
+/// The command calls the store, and each of these calls may fail.
+fn expect_refusals(rt: &impl Abort, alloc: Global, asked: &Asked<'_>) -> Result<(), TestFail> {
+    let whole = whole(rt, alloc, asked)?;
+    let calls = refuse_calls(rt, alloc, asked, &whole.store)?;
+    assert!(rt; calls > 0);
+    Ok(())
+}
+
 #[test]
 fn each_call_of_the_store_may_fail(rt: HostRuntime) -> Result<(), TestFail> {
     for asked in ASKED {
-        let calls = refuse_calls(&rt, rt.alloc(), asked)?;
-        assert!(rt; calls > 0);
+        expect_refusals(&rt, rt.alloc(), asked)?;
     }
     Ok(())
 }
@@ -241,12 +252,16 @@ fn expect_unheard(rt: &impl Abort, alloc: Global, objects: &mut Objects) -> Resu
     Ok(())
 }
 
+/// Refuses the nth read of the input.
+fn refuse_read(rt: &impl Abort, alloc: Global, nth: u64) -> Result<(), TestFail> {
+    let mut objects = failing_objects(alloc, no_fails(alloc), call_fails(alloc, nth)?, ROOM)?;
+    expect_unheard(rt, alloc, &mut objects)
+}
+
 #[test]
 fn each_read_of_the_input_may_fail(rt: HostRuntime) -> Result<(), TestFail> {
-    let alloc = rt.alloc();
     for nth in 1..=INPUT.len() as u64 {
-        let mut objects = failing_objects(alloc, no_fails(alloc), call_fails(alloc, nth)?, ROOM)?;
-        expect_unheard(&rt, alloc, &mut objects)?;
+        refuse_read(&rt, rt.alloc(), nth)?;
     }
     Ok(())
 }
