@@ -81,5 +81,15 @@ pub knight_fits : (p : Board) (a b : ℕ) (queen rook bishop knight : Step) (sta
     → length start + length (chosen p a b) ≤ 1024 → length third + length (if_legal p knight) ≤ 1024
 unfolding many
 knight_fits p a b queen rook bishop knight start first second third q r i n one two three room =
-    omega (arith, room, counted p a b, ap (many p) q, ap (many p) r, ap (many p) i, ap (many p) n, longer p queen start first one,
-    longer p rook first second two, longer p bishop second third three)
+    omega (
+      arith,
+      room,
+      counted p a b,
+      ap (many p) q,
+      ap (many p) r,
+      ap (many p) i,
+      ap (many p) n,
+      longer p queen start first one,
+      longer p rook first second two,
+      longer p bishop second third three,
+    )

@@ -1,35 +1,46 @@
 //! Binomial numbers against a printed table.
+ghost use Rattle.std.specs.Prelude.{◌≡◌};
+
 use frz_combinations::{Triangle, binomial};
 use std::alloc::AllocError;
+use std::process::Abort;
 
 /// Values from a printed table of Pascal's triangle.
+const KNOWN: &[(u32, u32, u64)] = &[
+    (0, 0, 1),
+    (0, 1, 0),
+    (5, 2, 10),
+    (10, 5, 252),
+    (15, 16, 0),
+    (16, 16, 1),
+    (40, 1, 40),
+    (64, 3, 41664),
+    (64, 16, 488526937079580),
+    (384, 2, 73536),
+    (384, 16, 18446744073709551615),
+];
+
+/// Both ways give the value of the row, which is no larger than the triangle.
+fn check_value(rt: &impl Abort, triangle: &Triangle, row: &(u32, u32, u64))
+    requires { triangle.now ≡ 385 }
+{
+    let (n, k, want) = *row;
+    if n <= 384 && k <= 16 {
+        assert!(rt; binomial(n, k) == want, "C({n}, {k})");
+        assert!(rt;
+            triangle.binomial(n, k) == want,
+            "C({n}, {k}) of the triangle"
+        );
+    } else {
+        assert!(rt; false, "C({n}, {k}) is not asked");
+    }
+}
+
 #[test]
 fn binomials(rt: HostRuntime) -> Result<(), AllocError> {
     let triangle = Triangle::new(rt.alloc(), 384)?;
-    let known = [
-        (0, 0, 1),
-        (0, 1, 0),
-        (5, 2, 10),
-        (10, 5, 252),
-        (15, 16, 0),
-        (16, 16, 1),
-        (40, 1, 40),
-        (64, 3, 41664),
-        (64, 16, 488526937079580),
-        (384, 2, 73536),
-        (384, 16, 18446744073709551615),
-    ];
-    for (n, k, want) in known {
-        if n <= 384 && k <= 16 {
-            assert_eq!(rt; binomial(n, k), want, "C({n}, {k})");
-            assert_eq!(rt;
-                triangle.binomial(n, k),
-                want,
-                "C({n}, {k}) of the triangle"
-            );
-        } else {
-            assert!(rt; false);
-        }
+    for row in KNOWN {
+        check_value(&rt, &triangle, row);
     }
     Ok(())
 }
