@@ -100,6 +100,7 @@ fn the_former_format_is_no_plain_table(rt: HostRuntime) -> Result<(), Fail> {
 fn files_of_the_former_format_that_go_on_are_refused(rt: HostRuntime) -> Result<(), Fail> {
     let alloc = rt.alloc();
     let mut file = old_file(alloc, b"FREEZER1", 36)?;
+    assert_eq!(rt; file.len(), 379);
     file.push(0)?;
     let given = old_refusal(alloc, &file)?;
     assert_eq!(rt; given, Some(TableFault::Extra(380, 379)));
