@@ -1,6 +1,7 @@
 //! The steps of small tables. A ledger counts them where only clauses see them: the clause says how
 //! many there are at most, and the run that the size is what the clause reckons with.
 ghost use Rattle.std.specs.Prelude.{◌≡◌, ◌≤◌, ◌<◌, ◌+◌, ◌*◌, ◌^◌, OnOk, length};
+ghost use Rattle.frz_sets.specs.Sound.{IsSound};
 ghost use Rattle.frz_table.specs.Tables.{Carries};
 
 use super::building::BLOCKED;
@@ -10,7 +11,7 @@ use frz_check::{Verdict, check_kept};
 use frz_exits::RuleBook;
 use frz_game::Game;
 use frz_index::Set;
-use frz_rules::read_rules;
+use frz_rules::{Rules, read_rules};
 use frz_steps::Steps;
 use frz_store::{MemStore, Store};
 use frz_table::{FileKind, TableFile, open_table};
@@ -19,7 +20,55 @@ use std::marker::Brand;
 use std::sync::ledger::{Blank, Ledger};
 use std::test::Fail;
 
-/// Builds the table of a text whose set has this size, under the name `T`.
+/// Builds the table of a game whose set has this size, under the name `T`.
+fn build_game<L: Ledger>(
+    alloc: Global,
+    game: &Game<'_, RuleBook<'_>>,
+    text: &[u8],
+    size: u32,
+    store: &mut MemStore,
+    steps: &mut Steps<L>,
+) -> Result<(), Fail>
+    requires sound { IsSound game.now.rules.now }
+    requires text { length text.now < 2 ^ 32 }
+    ensures { OnOk result (steps.new ≤ steps.old + 4 * size) }
+{
+    let file = NewTable {
+        name: "T",
+        kind: FileKind::Plain,
+        text,
+    };
+    let built = build_table(alloc, game, &file, store, steps)?;
+    if built == size {
+        Ok(())
+    } else {
+        Err(Fail::from("build"))
+    }
+}
+
+/// Builds the table of the rules of the text.
+fn build_rules<L: Ledger>(
+    alloc: Global,
+    rules: &Rules,
+    text: &[u8],
+    size: u32,
+    store: &mut MemStore,
+    steps: &mut Steps<L>,
+) -> Result<(), Fail>
+    requires sound { IsSound rules.now }
+    requires text { length text.now < 2 ^ 32 }
+    ensures { OnOk result (steps.new ≤ steps.old + 4 * size) }
+{
+    let set = Set::new(alloc, rules)?;
+    let game = Game {
+        set: &set,
+        rules,
+        book: &RuleBook::new(rules),
+    };
+    build_game(alloc, &game, text, size, store, steps)
+}
+
+/// Builds the table of a text.
 fn build_text<L: Ledger>(
     alloc: Global,
     text: &[u8],
@@ -31,23 +80,7 @@ fn build_text<L: Ledger>(
     ensures { OnOk result (steps.new ≤ steps.old + 4 * size) }
 {
     let rules = read_rules(alloc, text)?;
-    let set = Set::new(alloc, &rules)?;
-    let game = Game {
-        set: &set,
-        rules: &rules,
-        book: &RuleBook::new(&rules),
-    };
-    let file = NewTable {
-        name: "T",
-        kind: FileKind::Plain,
-        text,
-    };
-    let built = build_table(alloc, &game, &file, store, steps)?;
-    if built == size {
-        Ok(())
-    } else {
-        Err(Fail::from("build"))
-    }
+    build_rules(alloc, &rules, text, size, store, steps)
 }
 
 /// Checks an open table of this size.
