@@ -19,7 +19,8 @@ use Rattle.freezer.specs.Verbs.{command_of}
 use Rattle.freezer.specs.Commands.{job_by, job_of}
 
 -- the laws of other crates that this one rests on
-module _ (line_lawful : (words : List (List ℕ)) → IsLawful (line_words words)) (play_lawful : (words : List (List ℕ)) → IsLawful (play_words words)) where
+module _ (line_lawful : (words : List (List ℕ)) → IsLawful (line_words words))
+    (play_lawful : (words : List (List ℕ)) → IsLawful (play_words words)) where
   by_command : (command : Option (Verb × List (List ℕ))) → IsLawful (job_by command)
   by_command (Some (Solve, words)) = solve_lawful words
   by_command (Some (Moves, words)) = moves_lawful words

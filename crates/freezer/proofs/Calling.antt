@@ -6,5 +6,7 @@ use Rattle.frz_answer.specs.Ends.{Ran}
 use Rattle.freezer.specs.declared.verb.Verb.{Verb}
 use Rattle.freezer.specs.Commands.{job_by}
 
-pub as_command : (end : End) (old new : World) (these words : Option (Verb × List (List ℕ))) → these ≡ words → Ran (job_by these) end old new → Ran (job_by words) end old new
-as_command end old new these words e ran = subst (λ (o : Option (Verb × List (List ℕ))). Ran (job_by o) end old new) e ran
+pub as_command : (end : End) (old new : World) (these words : Option (Verb × List (List ℕ)))
+    → these ≡ words → Ran (job_by these) end old new → Ran (job_by words) end old new
+as_command end old new these words e ran =
+    subst (λ (o : Option (Verb × List (List ℕ))). Ran (job_by o) end old new) e ran

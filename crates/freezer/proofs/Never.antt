@@ -31,13 +31,18 @@ pub record IsSure (old new : World) : Type 0 where
   pub input : Rose old.input.faults new.input.faults → ⊥
   pub out : Rose old.out.faults new.out.faults → ⊥
 
-never : (job : Job) (status : ℕ) (old new : World) → IsSure old new → HasStatus job status old new → is_outside status ≡ true → ⊥
-never job status old new sure (inl (s, one, e, fine)) h = let no : true ≡ false = sym h ∙ ap is_outside e ∙ own_is_not s in cc
+never : (job : Job) (status : ℕ) (old new : World) → IsSure old new → HasStatus job status old new
+    → is_outside status ≡ true → ⊥
+never job status old new sure (inl (s, one, e, fine)) h =
+    let no : true ≡ false = sym h ∙ ap is_outside e ∙ own_is_not s in cc
 never job status old new sure (inr (inl (faults.Store, meets, e))) h = sure.store meets.1
 never job status old new sure (inr (inl (faults.Input, meets, e))) h = sure.input meets.1
-never job status old new sure (inr (inl (faults.NoMemory, meets, e))) h = let no : true ≡ false = sym h ∙ ap is_outside e in cc
+never job status old new sure (inr (inl (faults.NoMemory, meets, e))) h =
+    let no : true ≡ false = sym h ∙ ap is_outside e in cc
 never job status old new sure (inr (inr (rose, e))) h = sure.out rose
 
 -- a status of the outside is not the call's
-pub not_given : (job : Job) (status other : ℕ) (old new : World) → is_outside other ≡ true → IsSure old new → HasStatus job status old new → status ≢ other
-not_given job status other old new outside sure can e = never job status old new sure can (ap is_outside e ∙ outside)
+pub not_given : (job : Job) (status other : ℕ) (old new : World) → is_outside other ≡ true
+    → IsSure old new → HasStatus job status old new → status ≢ other
+not_given job status other old new outside sure can e =
+    never job status old new sure can (ap is_outside e ∙ outside)

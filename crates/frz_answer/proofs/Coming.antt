@@ -1,4 +1,5 @@
--- Lines that were written and input that was taken before a stage: nothing, a text, some bytes, and one behind the other.
+-- Lines that were written and input that was taken before a
+-- stage: nothing, a text, some bytes, and one behind the other.
 use Rattle.std.proofs.Common.{◌≡◌, refl, sym, ap, subst, ◌∙◌, ℕ, ◌≤◌, List, [], ◌++◌, take, drop, length, Option, Some, None, arith, length-append}
 use Rattle.std.proofs.Math.Seq.{take-add}
 use Rattle.std.proofs.lemmas.List.{length-take-le}
@@ -28,9 +29,16 @@ quiet_came old new quiet fine = record {
 }
 
 -- a text that the sink took
-pub text_came : (text : List ℕ) (old : World) (out : SinkTold) → TookText text old.out out → Came text [] old (record old { out = out })
+pub text_came : (text : List ℕ) (old : World) (out : SinkTold) → TookText text old.out out
+    → Came text [] old (record old { out = out })
 text_came text old out took = record {
-  later = (let same = later_same old in record { store = same.store; input = same.input; out = (let e = took.faults in omega (arith, e)); steps = same.steps });
+  later = (let same = later_same old in
+      record {
+        store = same.store;
+        input = same.input;
+        out = (let e = took.faults in omega (arith, e));
+        steps = same.steps;
+      });
   fine = record { store = record { faults = refl; wants = refl }; input = refl; out = took.faults };
   store = unwritten_same old.store;
   took = took_none old.input.left;
@@ -38,16 +46,26 @@ text_came text old out took = record {
   taken = took.taken;
 }
 
-read_them : (buffer : List ℕ) (n : ℕ) (o : Option (List ℕ)) → length (take n buffer) ≡ n → IfSome o (Took buffer n) → IfSome o (λ left. take (length (take n buffer)) left ≡ take n buffer)
+read_them : (buffer : List ℕ) (n : ℕ) (o : Option (List ℕ)) → length (take n buffer) ≡ n
+    → IfSome o (Took buffer n)
+    → IfSome o (λ left. take (length (take n buffer)) left ≡ take n buffer)
 read_them buffer n None e h = tt
 read_them buffer n (Some left) e h = ap (λ k. take k left) e ∙ sym h.front
 
 -- bytes that a read put at the front of its buffer
-pub bytes_came : (buffer : List ℕ) (n : ℕ) (old : World) (input : SourceTold) → n ≤ length buffer → IfSome old.input.left (Took buffer n)
-    → input.left ≡ option_map (drop n) old.input.left → input.faults ≡ old.input.faults → Came [] (take n buffer) old (record old { input = input })
+pub bytes_came : (buffer : List ℕ) (n : ℕ) (old : World) (input : SourceTold) → n ≤ length buffer
+    → IfSome old.input.left (Took buffer n)
+    → input.left ≡ option_map (drop n) old.input.left → input.faults ≡ old.input.faults
+    → Came [] (take n buffer) old (record old { input = input })
 bytes_came buffer n old input within took left faults =
     let many : length (take n buffer) ≡ n = length-take-le n buffer within in record {
-      later = (let same = later_same old in record { store = same.store; input = omega (arith, faults); out = same.out; steps = same.steps });
+      later = (let same = later_same old in
+          record {
+            store = same.store;
+            input = omega (arith, faults);
+            out = same.out;
+            steps = same.steps;
+          });
       fine = record { store = record { faults = refl; wants = refl }; input = faults; out = refl };
       store = unwritten_same old.store;
       took = read_them buffer n old.input.left many took;
@@ -55,22 +73,29 @@ bytes_came buffer n old input within took left faults =
       taken = append_nothing old.out.taken;
     }
 
-took_twice : (first next : List ℕ) (old mid : Option (List ℕ)) → mid ≡ option_map (drop (length first)) old → IfSome old (λ left. take (length first) left ≡ first)
-    → IfSome mid (λ left. take (length next) left ≡ next) → IfSome old (λ left. take (length (first ++ next)) left ≡ first ++ next)
+took_twice : (first next : List ℕ) (old mid : Option (List ℕ))
+    → mid ≡ option_map (drop (length first)) old
+    → IfSome old (λ left. take (length first) left ≡ first)
+    → IfSome mid (λ left. take (length next) left ≡ next)
+    → IfSome old (λ left. take (length (first ++ next)) left ≡ first ++ next)
 took_twice first next None mid e h k = tt
 took_twice first next (Some left) mid e h k =
-    let then : take (length next) (drop (length first) left) ≡ next = subst (λ (o : Option (List ℕ)). IfSome o (λ left. take (length next) left ≡ next)) e k in
+    let then : take (length next) (drop (length first) left) ≡ next = subst
+    (λ (o : Option (List ℕ)). IfSome o (λ left. take (length next) left ≡ next)) e k in
     ap (λ n. take n left) (length-append first next) ∙ take-add (length first) (length next) left
-    ∙ ap (λ (l : List ℕ). l ++ take (length next) (drop (length first) left)) h ∙ ap (λ (l : List ℕ). first ++ l) then
+    ∙ ap (λ (l : List ℕ). l ++ take (length next) (drop (length first) left)) h
+    ∙ ap (λ (l : List ℕ). first ++ l) then
 
 -- one behind the other
-pub came_on : (text more first next : List ℕ) (old mid new : World) → Came text first old mid → Came more next mid new → Came (text ++ more) (first ++ next) old new
+pub came_on : (text more first next : List ℕ) (old mid new : World) → Came text first old mid
+    → Came more next mid new → Came (text ++ more) (first ++ next) old new
 came_on text more first next old mid new h k = record {
   later = later_on old mid new h.later k.later;
   fine = fine_on old mid new h.fine k.fine;
   store = unwritten_on old.store mid.store new.store h.store k.store;
   took = took_twice first next old.input.left mid.input.left h.left h.took k.took;
-  left = k.left ∙ ap (option_map (drop (length next))) h.left ∙ drop_twice old.input.left (length first) (length next)
+  left = k.left ∙ ap (option_map (drop (length next))) h.left ∙ drop_twice old.input.left
+      (length first) (length next)
       ∙ ap (λ n. option_map (drop n) old.input.left) (sym (length-append first next));
   taken = k.taken ∙ ap (λ o. append_known o more) h.taken ∙ append_twice old.out.taken text more;
 }

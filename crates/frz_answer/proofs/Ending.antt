@@ -22,7 +22,8 @@ use Rattle.frz_answer.specs.Ends.{MayMeet, MayHaveWritten, WritesOnly, Ran, Said
 use Rattle.frz_answer.proofs.Telling.{agreed, drop_none, append_nothing, append_twice}
 use Rattle.frz_answer.proofs.Worlds.{only_unwritten, risen_later, given_part}
 
--- some files and some input that agree with what is told; what the job does not look at is as it was given
+-- some files and some input that agree with what is told; what
+-- the job does not look at is as it was given
 pub record Found (job : Job) (free_files : Files) (free_input : List ℕ) (old : World) : Type 0 where
   pub files : Files
   pub input : List ℕ
@@ -31,8 +32,10 @@ pub record Found (job : Job) (free_files : Files) (free_input : List ℕ) (old :
   pub untaken : job.needs.input ≡ false → input ≡ free_input
 
 -- those that were given
-abbrev pub as_given : (job : Job) (files : Files) (input : List ℕ) (old : World) → Agrees old files input → Found job files input old
-as_given job files input old agrees = record { files = files; input = input; agrees = agrees; free = λ _. refl; untaken = λ _. refl }
+abbrev pub as_given : (job : Job) (files : Files) (input : List ℕ) (old : World)
+    → Agrees old files input → Found job files input old
+as_given job files input old agrees =
+    record { files = files; input = input; agrees = agrees; free = λ _. refl; untaken = λ _. refl }
 
 -- an answer over them with some text, of which no more was done than it says
 pub record Doing (job : Job) (files : Files) (input : List ℕ) (old new : World) : Type 0 where
@@ -42,11 +45,15 @@ pub record Doing (job : Job) (files : Files) (input : List ℕ) (old new : World
   pub costs : job.costs found.files found.input some.a (spent old) (spent new)
 
 -- a fault before any text was written
-pub stopped_doing : (job : Job) (fault : Fault) (old new : World) → Later old new → MayMeet job fault old new → WritesOnly job.writes old.store new.store
-    → ((MayHaveWritten (Stopped fault) → ⊥) → Unwritten old.store new.store) → new.out.taken ≡ old.out.taken
-    → (Sees job.needs.reads old → (files : Files) (input : List ℕ) → Agrees old files input → Doing job files input old new) → Ran job (Stopped fault) old new
+pub stopped_doing : (job : Job) (fault : Fault) (old new : World) → Later old new
+    → MayMeet job fault old new → WritesOnly job.writes old.store new.store
+    → ((MayHaveWritten (Stopped fault) → ⊥) → Unwritten old.store new.store)
+    → new.out.taken ≡ old.out.taken
+    → (Sees job.needs.reads old → (files : Files) (input : List ℕ) → Agrees old files input
+    → Doing job files input old new) → Ran job (Stopped fault) old new
 stopped_doing job fault old new later meets only unwritten same doing =
-    let text : new.out.taken ≡ append_known old.out.taken [] = same ∙ append_nothing old.out.taken in
+    let text : new.out.taken ≡ append_known old.out.taken [] = same
+    ∙ append_nothing old.out.taken in
     record {
       later = later;
       may = meets;
@@ -90,25 +97,39 @@ nothing_done a old new quiet = record {
 }
 
 -- a fault before anything was written
-pub stopped : (job : Job) (fault : Fault) (old new : World) → Quiet old new → MayMeet job fault old new
-    → (Sees job.needs.reads old → (files : Files) (input : List ℕ) → Agrees old files input → Begun job files input old new) → Ran job (Stopped fault) old new
+pub stopped : (job : Job) (fault : Fault) (old new : World) → Quiet old new
+    → MayMeet job fault old new
+    → (Sees job.needs.reads old → (files : Files) (input : List ℕ) → Agrees old files input
+    → Begun job files input old new) → Ran job (Stopped fault) old new
 stopped job fault old new quiet meets begun =
-    stopped_doing job fault old new quiet.later meets (only_unwritten job.writes old.store new.store quiet.store) (λ _. quiet.store) quiet.taken
+    stopped_doing job fault old new quiet.later meets
+    (only_unwritten job.writes old.store new.store quiet.store) (λ _. quiet.store) quiet.taken
     (λ sees files input agrees.
     let here = begun sees files input agrees in
-    record { found = here.found; some = here.some; others = nothing_done here.some.a old new quiet; costs = here.costs })
+    record {
+      found = here.found;
+      some = here.some;
+      others = nothing_done here.some.a old new quiet;
+      costs = here.costs;
+    })
 
 -- a refusal of the store before anything was written
-pub refused : (job : Job) (refusal : StoreFault) (end : End) (old new : World) → end ≡ end_of_fault refusal → Quiet old new
-    → IsTrue job.needs.store → IsTrue job.needs.memory → (refusal ≡ refusals.Failed → Rose old.store.faults new.store.faults)
-    → (Sees job.needs.reads old → (files : Files) (input : List ℕ) → Agrees old files input → Begun job files input old new) → Ran job end old new
+pub refused : (job : Job) (refusal : StoreFault) (end : End) (old new : World)
+    → end ≡ end_of_fault refusal → Quiet old new
+    → IsTrue job.needs.store → IsTrue job.needs.memory
+    → (refusal ≡ refusals.Failed → Rose old.store.faults new.store.faults)
+    → (Sees job.needs.reads old → (files : Files) (input : List ℕ) → Agrees old files input
+    → Begun job files input old new) → Ran job end old new
 refused job refusals.Failed end old new e quiet asks wants rose begun =
-    subst (λ (x : End). Ran job x old new) (sym e) (stopped job faults.Store old new quiet (asks, rose refl) begun)
+    subst (λ (x : End). Ran job x old new) (sym e)
+    (stopped job faults.Store old new quiet (asks, rose refl) begun)
 refused job refusals.NoMemory end old new e quiet asks wants rose begun =
-    subst (λ (x : End). Ran job x old new) (sym e) (stopped job faults.NoMemory old new quiet wants begun)
+    subst (λ (x : End). Ran job x old new) (sym e)
+    (stopped job faults.NoMemory old new quiet wants begun)
 
 -- an answer whose text is what was written before, and then this line
-pub record Closes (job : Job) (status : Status) (line : List ℕ) (files : Files) (input : List ℕ) (old mid : World) : Type 0 where
+pub record Closes (job : Job) (status : Status) (line : List ℕ) (files : Files) (input : List ℕ)
+    (old mid : World) : Type 0 where
   pub found : Found job files input old
   pub a : Answer
   pub answer : job.answers found.files found.input a
@@ -122,46 +143,73 @@ pub record Closes (job : Job) (status : Status) (line : List ℕ) (files : Files
 
 module _ (job : Job) (status : Status) (line : List ℕ) (old mid : World) (out : SinkTold) where
   no_more : (a : Answer) → mid.store.files ≡ option_map (λ _. a.files) old.store.files
-      → mid.input.left ≡ option_map (drop a.taken) old.input.left → NoMore a old (record mid { out = out })
-  no_more a files left = record { files = λ name. given_part a name old.store.files mid.store.files files; left = (a.taken, omega arith, left) }
+      → mid.input.left ≡ option_map (drop a.taken) old.input.left
+      → NoMore a old (record mid { out = out })
+  no_more a files left =
+      record {
+        files = λ name. given_part a name old.store.files mid.store.files files;
+        left = (a.taken, omega arith, left);
+      }
 
   -- the line ends the text of an answer, whose files were written and whose input was taken before
-  pub closed : (end : End) → Later old mid → Fine old mid → WritesOnly job.writes old.store mid.store → (old.store.room ≡ 0 → mid.store.room ≡ 0)
-      → ((MayHaveWritten (Done status) → ⊥) → Unwritten old.store mid.store) → OneOf status job.statuses → Said status line end mid.out out
-      → (Sees job.needs.reads old → (files : Files) (input : List ℕ) → Agrees old files input → Closes job status line files input old mid) → Ran job end old (record mid { out = out })
+  pub closed : (end : End) → Later old mid → Fine old mid
+      → WritesOnly job.writes old.store mid.store → (old.store.room ≡ 0 → mid.store.room ≡ 0)
+      → ((MayHaveWritten (Done status) → ⊥) → Unwritten old.store mid.store)
+      → OneOf status job.statuses → Said status line end mid.out out
+      → (Sees job.needs.reads old → (files : Files) (input : List ℕ) → Agrees old files input
+      → Closes job status line files input old mid) → Ran job end old (record mid { out = out })
   closed end later fine only room unwritten one said closes = by_end said.says
     where
       later_new : mid.out.faults ≤ out.faults → Later old (record mid { out = out })
-      later_new more = record { store = later.store; input = later.input; out = (let a = later.out in omega (arith, a, more)); steps = later.steps }
+      later_new more = record {
+        store = later.store;
+        input = later.input;
+        out = (let a = later.out in omega (arith, a, more));
+        steps = later.steps;
+      }
 
-      by_end : ((end ≡ Done status) × TookText line mid.out out) ⊎ ((end ≡ SinkFault) × FailedWithin line mid.out out) → Ran job end old (record mid { out = out })
-      by_end (inl done) = subst (λ e. Ran job e old (record mid { out = out })) (sym done.0) (record {
-        later = later_new (let same = done.1.faults in omega (arith, same));
-        may = (one, record { store = fine.store; input = fine.input; out = done.1.faults ∙ fine.out });
-        lines = tt;
-        only = only;
-        unwritten = unwritten;
-        room = room;
-        answered = λ sees files input agrees.
-            let here = closes sees files input agrees in record {
-              files = here.found.files;
-              input = here.found.input;
-              agrees = here.found.agrees;
-              free = here.found.free;
-              untaken = here.found.untaken;
-              a = here.a;
-              answer = here.answer;
-              leaves = (
-                here.status_is,
-                record {
-                  files = here.given;
-                  left = here.left;
-                  text = done.1.taken ∙ ap (λ o. append_known o line) here.before ∙ append_twice old.out.taken here.lines line ∙ ap (append_known old.out.taken) here.text;
-                },
-              );
-              costs = here.costs;
-            };
-      })
+      by_end : ((end ≡ Done status) × TookText line mid.out out)
+          ⊎ ((end ≡ SinkFault) × FailedWithin line mid.out out)
+          → Ran job end old (record mid { out = out })
+      by_end (inl done) =
+          subst (λ e. Ran job e old (record mid { out = out })) (sym done.0) (record {
+            later = later_new (let same = done.1.faults in omega (arith, same));
+            may = (
+              one,
+              record {
+                store = fine.store;
+                input = fine.input;
+                out = done.1.faults
+                    ∙ fine.out;
+              },
+            );
+            lines = tt;
+            only = only;
+            unwritten = unwritten;
+            room = room;
+            answered = λ sees files input agrees.
+                let here = closes sees files input agrees in record {
+                  files = here.found.files;
+                  input = here.found.input;
+                  agrees = here.found.agrees;
+                  free = here.found.free;
+                  untaken = here.found.untaken;
+                  a = here.a;
+                  answer = here.answer;
+                  leaves = (
+                    here.status_is,
+                    record {
+                      files = here.given;
+                      left = here.left;
+                      text = done.1.taken ∙ ap (λ o. append_known o line) here.before
+                          ∙ append_twice old.out.taken here.lines line
+                          ∙ ap (append_known old.out.taken)
+                          here.text;
+                    },
+                  );
+                  costs = here.costs;
+                };
+          })
       by_end (inr cut) =
           let k = cut.1.taken.0 in
           subst (λ e. Ran job e old (record mid { out = out })) (sym cut.0) (record {
@@ -183,8 +231,11 @@ module _ (job : Job) (status : Status) (line : List ℕ) (old mid : World) (out 
                   leaves = record {
                     written = here.lines ++ take k line;
                     rest = drop k line;
-                    begins = append_assoc here.lines (take k line) (drop k line) ∙ ap (λ (l : List ℕ). here.lines ++ l) (take-append-drop k line) ∙ here.text;
-                    text = cut.1.taken.1 ∙ ap (λ o. append_known o (take k line)) here.before ∙ append_twice old.out.taken here.lines (take k line);
+                    begins = append_assoc here.lines (take k line) (drop k line)
+                        ∙ ap (λ (l : List ℕ). here.lines ++ l) (take-append-drop k line)
+                        ∙ here.text;
+                    text = cut.1.taken.1 ∙ ap (λ o. append_known o (take k line)) here.before
+                        ∙ append_twice old.out.taken here.lines (take k line);
                     others = no_more here.a here.given here.left;
                   };
                   costs = here.costs;
@@ -192,17 +243,22 @@ module _ (job : Job) (status : Status) (line : List ℕ) (old mid : World) (out 
           })
 
 -- an answer over them that is one text, and says that no file changes
-pub record SaysAll (job : Job) (status : Status) (line : List ℕ) (files : Files) (input : List ℕ) (old mid : World) : Type 0 where
+pub record SaysAll (job : Job) (status : Status) (line : List ℕ) (files : Files) (input : List ℕ)
+    (old mid : World) : Type 0 where
   pub found : Found job files input old
   pub answer : job.answers found.files found.input (says status line found.files)
-  pub costs : job.costs found.files found.input (says status line found.files) (spent old) (spent mid)
+  pub costs : job.costs found.files found.input (says status line found.files) (spent old)
+      (spent mid)
 
 -- the line is the whole text, and nothing was written before
-pub said : (job : Job) (status : Status) (line : List ℕ) (end : End) (old mid : World) (out : SinkTold) → Quiet old mid → Fine old mid → OneOf status job.statuses
+pub said : (job : Job) (status : Status) (line : List ℕ) (end : End) (old mid : World)
+    (out : SinkTold) → Quiet old mid → Fine old mid → OneOf status job.statuses
     → Said status line end mid.out out
-    → (Sees job.needs.reads old → (files : Files) (input : List ℕ) → Agrees old files input → SaysAll job status line files input old mid) → Ran job end old (record mid { out = out })
+    → (Sees job.needs.reads old → (files : Files) (input : List ℕ) → Agrees old files input
+    → SaysAll job status line files input old mid) → Ran job end old (record mid { out = out })
 said job status line end old mid out quiet fine one says_it answers =
-    closed job status line old mid out end quiet.later fine (only_unwritten job.writes old.store mid.store quiet.store) (λ none. quiet.store.room ∙ none)
+    closed job status line old mid out end quiet.later fine
+    (only_unwritten job.writes old.store mid.store quiet.store) (λ none. quiet.store.room ∙ none)
     (λ _. quiet.store) one says_it
     (λ sees files input agrees.
     let here = answers sees files input agrees in record {

@@ -44,7 +44,8 @@ fault_stops faults.NoMemory = refl
 own_stops : {A : Type 0} (s : Status) (n : ℕ) → n ≡ code_of s → stops n ≡ true → A
 own_stops s n e stop = let no : true ≡ false = sym stop ∙ ap stops e ∙ own_goes s in cc
 
-own_fault : {A : Type 0} (s : Status) (fault : Fault) (n : ℕ) → n ≡ code_of s → n ≡ fault_code fault → A
+own_fault : {A : Type 0} (s : Status) (fault : Fault) (n : ℕ) → n ≡ code_of s → n ≡ fault_code fault
+    → A
 own_fault s fault n e f = own_stops s n e (ap stops f ∙ fault_stops fault)
 
 own_nine : {A : Type 0} (s : Status) (n : ℕ) → n ≡ code_of s → n ≡ sink_code → A
@@ -66,11 +67,15 @@ fault_back faults.NoMemory = refl
 one_fault : (f g : Fault) (n : ℕ) → n ≡ fault_code f → n ≡ fault_code g → f ≡ g
 one_fault f g n e h = sym (fault_back f) ∙ ap fault_of (sym e ∙ h) ∙ fault_back g
 
-text_on : (line lines : List ℕ) (old mid new : Option (List ℕ)) → mid ≡ append_known old (lines ++ []) → new ≡ append_known mid line → new ≡ append_known old (lines ++ line)
+text_on : (line lines : List ℕ) (old mid new : Option (List ℕ))
+    → mid ≡ append_known old (lines ++ []) → new ≡ append_known mid line
+    → new ≡ append_known old (lines ++ line)
 text_on line lines old mid new h e =
-    e ∙ ap (λ o. append_known o line) h ∙ append_twice old (lines ++ []) line ∙ ap (λ (l : List ℕ). append_known old (l ++ line)) (append-nil lines)
+    e ∙ ap (λ o. append_known o line) h ∙ append_twice old (lines ++ []) line
+    ∙ ap (λ (l : List ℕ). append_known old (l ++ line)) (append-nil lines)
 
-lines_on : (line : List ℕ) (old mid new : SinkTold) → TookLines [] old mid → new.taken ≡ append_known mid.taken line → TookLines line old new
+lines_on : (line : List ℕ) (old mid new : SinkTold) → TookLines [] old mid
+    → new.taken ≡ append_known mid.taken line → TookLines line old new
 lines_on line old mid new h e = record {
   lines = h.lines;
   whole = h.whole;
@@ -78,7 +83,8 @@ lines_on line old mid new h e = record {
 }
 
 -- the ends at which something may have been written, by the status
-written_own : (s : Status) (n : ℕ) → n ≡ code_of s → n ≢ code_of statuses.Success → MayHaveWritten (Done s) → ⊥
+written_own : (s : Status) (n : ℕ) → n ≡ code_of s → n ≢ code_of statuses.Success
+    → MayHaveWritten (Done s) → ⊥
 written_own statuses.Success n e other h = other e
 written_own statuses.Words n e other h = h
 written_own statuses.Rules n e other h = h
@@ -90,7 +96,8 @@ written_own statuses.Missing n e other h = h
 written_own statuses.Limit n e other h = h
 written_own statuses.NoMove n e other h = h
 
-named_not : (fault : Fault) (n : ℕ) (old new : SinkTold) → NamesFault fault n old new → n ≢ fault_code faults.Store → n ≢ sink_code → MayHaveWritten (Stopped fault) → ⊥
+named_not : (fault : Fault) (n : ℕ) (old new : SinkTold) → NamesFault fault n old new
+    → n ≢ fault_code faults.Store → n ≢ sink_code → MayHaveWritten (Stopped fault) → ⊥
 named_not faults.Store n old new (inl h) not8 not9 w = not8 h.0
 named_not faults.Store n old new (inr h) not8 not9 w = not9 h.0
 named_not faults.Input n old new h not8 not9 w = w
@@ -102,17 +109,20 @@ told_agrees None d = tt
 told_agrees (Some x) d = refl
 
 agrees_told : (w : World) → Agrees w (unwrap_or w.store.files no_files) (unwrap_or w.input.left [])
-agrees_told w = record { store = told_agrees w.store.files no_files; source = told_agrees w.input.left [] }
+agrees_told w =
+    record { store = told_agrees w.store.files no_files; source = told_agrees w.input.left [] }
 
 module _ (job : Job) (status : ℕ) (old mid : World) (out : SinkTold) where
   abbrev new : World
   new = record mid { out = out }
 
   -- the answer over what is told, or over some files and input where nothing is
-  abbrev told_answer : (end : End) → Ran job end old mid → Sees job.needs.reads old → Answered job (unwrap_or old.store.files no_files) (unwrap_or old.input.left []) end old mid
+  abbrev told_answer : (end : End) → Ran job end old mid → Sees job.needs.reads old
+      → Answered job (unwrap_or old.store.files no_files) (unwrap_or old.input.left []) end old mid
   told_answer end ran sees = ran.answered sees _ _ (agrees_told old)
 
-  abbrev answering : (end : End) (files : Files) (input : List ℕ) → ((f : Files) (i : List ℕ) (a : Answer) → job.answers f i a → job.means f i a)
+  abbrev answering : (end : End) (files : Files) (input : List ℕ)
+      → ((f : Files) (i : List ℕ) (a : Answer) → job.answers f i a → job.means f i a)
       → Answered job files input end old mid → Answering job old new
   answering end files input law here = record {
     files = here.files;
@@ -127,7 +137,8 @@ module _ (job : Job) (status : ℕ) (old mid : World) (out : SinkTold) where
   no_more : (a : Answer) → NoMore a old mid → NoMore a old new
   no_more a h = record { files = h.files; left = h.left }
 
-  extend : (a : Answer) (line : List ℕ) → Begins a [] old mid → out.taken ≡ append_known mid.out.taken line → Begins a line old new
+  extend : (a : Answer) (line : List ℕ) → Begins a [] old mid
+      → out.taken ≡ append_known mid.out.taken line → Begins a line old new
   extend a line h e = record {
     lines = h.lines;
     rest = h.rest;
@@ -143,37 +154,58 @@ module _ (job : Job) (status : ℕ) (old mid : World) (out : SinkTold) where
   meets_on faults.Input h = h
   meets_on faults.NoMemory h = h
 
-  unwritten_by : (end : End) → Gave end status mid.out out → status ≢ code_of statuses.Success → status ≢ fault_code faults.Store → status ≢ sink_code → MayHaveWritten end → ⊥
+  unwritten_by : (end : End) → Gave end status mid.out out → status ≢ code_of statuses.Success
+      → status ≢ fault_code faults.Store → status ≢ sink_code → MayHaveWritten end → ⊥
   unwritten_by (Done s) gave not0 not8 not9 w = written_own s status gave.0 not0 w
   unwritten_by SinkFault gave not0 not8 not9 w = not9 gave.0
-  unwritten_by (Stopped fault) gave not0 not8 not9 w = named_not fault status mid.out out gave not8 not9 w
+  unwritten_by (Stopped fault) gave not0 not8 not9 w =
+      named_not fault status mid.out out gave not8 not9 w
 
   module _ (later : mid.out.faults ≤ out.faults) where
-    can : (end : End) → Ran job end old mid → Gave end status mid.out out → HasStatus job status old new
+    can : (end : End) → Ran job end old mid → Gave end status mid.out out
+        → HasStatus job status old new
     can (Done s) ran gave =
         let fine = ran.may.1 in
-        inl (s, ran.may.0, gave.0, record { store = fine.store; input = fine.input; out = ap (λ (o : SinkTold). o.faults) gave.1 ∙ fine.out })
-    can SinkFault ran gave = inr (inr (still_risen old.out.faults mid.out.faults out.faults ran.may later, gave.0))
+        inl (
+          s,
+          ran.may.0,
+          gave.0,
+          record {
+            store = fine.store;
+            input = fine.input;
+            out = ap (λ (o : SinkTold). o.faults) gave.1 ∙ fine.out;
+          },
+        )
+    can SinkFault ran gave =
+        inr (inr (still_risen old.out.faults mid.out.faults out.faults ran.may later, gave.0))
     can (Stopped fault) ran (inl h) = inr (inl (fault, meets_on fault ran.may, h.0))
-    can (Stopped fault) ran (inr h) = let so_far = ran.later.out in inr (inr (risen_later old.out.faults mid.out.faults out.faults so_far h.1.rose, h.0))
+    can (Stopped fault) ran (inr h) = let so_far = ran.later.out in
+        inr (inr (risen_later old.out.faults mid.out.faults out.faults so_far h.1.rose, h.0))
 
-    names : (end : End) → Ran job end old mid → Gave end status mid.out out → (fault : Fault) → status ≡ fault_code fault → TookLines (fault_line fault) old.out out
+    names : (end : End) → Ran job end old mid → Gave end status mid.out out → (fault : Fault)
+        → status ≡ fault_code fault → TookLines (fault_line fault) old.out out
     names (Done s) ran gave fault e = own_fault s fault status gave.0 e
     names SinkFault ran gave fault e = nine_fault fault status gave.0 e
     names (Stopped met) ran (inl h) fault e =
-        subst (λ f. TookLines (fault_line f) old.out out) (one_fault met fault status h.0 e) (lines_on (fault_line met) old.out mid.out out ran.lines.0 h.1.taken)
+        subst (λ f. TookLines (fault_line f) old.out out) (one_fault met fault status h.0 e)
+        (lines_on (fault_line met) old.out mid.out out ran.lines.0 h.1.taken)
     names (Stopped met) ran (inr h) fault e = nine_fault fault status h.0 e
 
-    alone : (end : End) → Ran job end old mid → Gave end status mid.out out → (fault : Fault) → status ≡ fault_code fault → job.speaks ≡ false
+    alone : (end : End) → Ran job end old mid → Gave end status mid.out out → (fault : Fault)
+        → status ≡ fault_code fault → job.speaks ≡ false
         → out.taken ≡ append_known old.out.taken (fault_line fault)
     alone (Done s) ran gave fault e quiet = own_fault s fault status gave.0 e
     alone SinkFault ran gave fault e quiet = nine_fault fault status gave.0 e
     alone (Stopped met) ran (inl h) fault e quiet =
-        subst (λ f. out.taken ≡ append_known old.out.taken (fault_line f)) (one_fault met fault status h.0 e) (h.1.taken ∙ ap (λ o. append_known o (fault_line met)) (ran.lines.1 quiet))
+        subst (λ f. out.taken ≡ append_known old.out.taken (fault_line f))
+        (one_fault met fault status h.0 e)
+        (h.1.taken ∙ ap (λ o. append_known o (fault_line met)) (ran.lines.1 quiet))
     alone (Stopped met) ran (inr h) fault e quiet = nine_fault fault status h.0 e
 
-    module _ (law : (f : Files) (i : List ℕ) (a : Answer) → job.answers f i a → job.means f i a) where
-      honest : (end : End) → Ran job end old mid → Gave end status mid.out out → (s : Status) → status ≡ code_of s → Sees job.needs.reads old → Whole job status old new
+    module _ (law : (f : Files) (i : List ℕ) (a : Answer) → job.answers f i a
+        → job.means f i a) where
+      honest : (end : End) → Ran job end old mid → Gave end status mid.out out → (s : Status)
+          → status ≡ code_of s → Sees job.needs.reads old → Whole job status old new
       honest (Done t) ran gave s e sees =
           let here = told_answer (Done t) ran sees in
           let files : Files = unwrap_or old.store.files no_files in
@@ -191,16 +223,21 @@ module _ (job : Job) (status : ℕ) (old mid : World) (out : SinkTold) where
       honest (Stopped met) ran (inl h) s e sees = own_fault s met status e h.0
       honest (Stopped met) ran (inr h) s e sees = own_nine s status e h.0
 
-      halted : (end : End) → Ran job end old mid → Gave end status mid.out out → (fault : Fault) → status ≡ fault_code fault → Sees job.needs.reads old → Halted job fault old new
+      halted : (end : End) → Ran job end old mid → Gave end status mid.out out → (fault : Fault)
+          → status ≡ fault_code fault → Sees job.needs.reads old → Halted job fault old new
       halted (Done s) ran gave fault e sees = own_fault s fault status gave.0 e
       halted SinkFault ran gave fault e sees = nine_fault fault status gave.0 e
       halted (Stopped met) ran (inl h) fault e sees =
           subst (λ f. Halted job f old new) (one_fault met fault status h.0 e)
           (let here = told_answer (Stopped met) ran sees in
-          record { of = answering (Stopped met) _ _ law here; begins = extend here.a (fault_line met) here.leaves h.1.taken })
+          record {
+            of = answering (Stopped met) _ _ law here;
+            begins = extend here.a (fault_line met) here.leaves h.1.taken;
+          })
       halted (Stopped met) ran (inr h) fault e sees = nine_fault fault status h.0 e
 
-      cut : (end : End) → Ran job end old mid → Gave end status mid.out out → status ≡ sink_code → Sees job.needs.reads old → CutOff job old new
+      cut : (end : End) → Ran job end old mid → Gave end status mid.out out → status ≡ sink_code
+          → Sees job.needs.reads old → CutOff job old new
       cut (Done s) ran gave e sees = own_nine s status gave.0 e
       cut SinkFault ran gave e sees =
           let here = told_answer SinkFault ran sees in record {
@@ -217,30 +254,50 @@ module _ (job : Job) (status : ℕ) (old mid : World) (out : SinkTold) where
       cut (Stopped met) ran (inr h) e sees =
           let here = told_answer (Stopped met) ran sees in record {
             of = answering (Stopped met) _ _ law here;
-            cut = inr (met, meets_on met ran.may, (h.1.taken.0, extend here.a (take h.1.taken.0 (fault_line met)) here.leaves h.1.taken.1));
+            cut = inr (
+              met,
+              meets_on met ran.may,
+              (
+                h.1.taken.0,
+                extend here.a (take h.1.taken.0 (fault_line met)) here.leaves
+                    h.1.taken.1,
+              ),
+            );
           }
 
-  room : (end : End) → LeavesNoRoom end old.store mid.store → Gave end status mid.out out → (s : Status) → status ≡ code_of s → old.store.room ≡ 0 → mid.store.room ≡ 0
+  room : (end : End) → LeavesNoRoom end old.store mid.store → Gave end status mid.out out
+      → (s : Status) → status ≡ code_of s → old.store.room ≡ 0 → mid.store.room ≡ 0
   room (Done t) leaves gave s e = leaves
   room SinkFault leaves gave s e = own_nine s status e gave.0
   room (Stopped met) leaves (inl h) s e = own_fault s met status e h.0
   room (Stopped met) leaves (inr h) s e = own_nine s status e h.0
 
-  complete : Sees job.needs.reads old → ((s : Status) → status ≡ code_of s → Sees job.needs.reads old → Whole job status old new) → HasStatus job status old new → IsComplete job status old new
+  complete : Sees job.needs.reads old
+      → ((s : Status) → status ≡ code_of s → Sees job.needs.reads old → Whole job status old new)
+      → HasStatus job status old new → IsComplete job status old new
   complete sees whole (inl own) no_store no_input no_out = inl (whole own.0 own.2 sees)
   complete sees whole (inr (inl h)) no_store no_input no_out = by_fault h.0 h.1 h.2
     where
-      by_fault : (fault : Fault) → MayMeet job fault old new → status ≡ fault_code fault → Whole job status old new ⊎ (IsTrue job.needs.memory × (status ≡ fault_code faults.NoMemory))
+      by_fault : (fault : Fault) → MayMeet job fault old new → status ≡ fault_code fault
+          → Whole job status old new
+          ⊎ (IsTrue job.needs.memory × (status ≡ fault_code faults.NoMemory))
       by_fault faults.Store m e = absurd (no_store m.1)
       by_fault faults.Input m e = absurd (no_input m.1)
       by_fault faults.NoMemory m e = inr (m, e)
   complete sees whole (inr (inr h)) no_store no_input no_out = absurd (no_out h.0)
 
   -- what the program gives, where the command ended so and the line of its fault was written
-  pub outcome : (end : End) → ((f : Files) (i : List ℕ) (a : Answer) → job.answers f i a → job.means f i a) → Ran job end old mid → Finished end status mid.out out
+  pub outcome : (end : End)
+      → ((f : Files) (i : List ℕ) (a : Answer) → job.answers f i a → job.means f i a)
+      → Ran job end old mid → Finished end status mid.out out
       → Outcome job status old (record mid { out = out })
   outcome end law ran finished = record {
-    later = record { store = ran.later.store; input = ran.later.input; out = (let a = ran.later.out in let b = finished.later in omega (arith, a, b)); steps = ran.later.steps };
+    later = record {
+      store = ran.later.store;
+      input = ran.later.input;
+      out = (let a = ran.later.out in let b = finished.later in omega (arith, a, b));
+      steps = ran.later.steps;
+    };
     can = can finished.later end ran finished.gave;
     only = ran.only;
     unwritten = λ not0 not8 not9. ran.unwritten (unwritten_by end finished.gave not0 not8 not9);
@@ -250,5 +307,6 @@ module _ (job : Job) (status : ℕ) (old mid : World) (out : SinkTold) where
     honest = honest finished.later law end ran finished.gave;
     halted = halted finished.later law end ran finished.gave;
     cut = cut finished.later law end ran finished.gave;
-    complete = λ sees. complete sees (honest finished.later law end ran finished.gave) (can finished.later end ran finished.gave);
+    complete = λ sees. complete sees (honest finished.later law end ran finished.gave)
+        (can finished.later end ran finished.gave);
   }

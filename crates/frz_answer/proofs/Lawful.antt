@@ -14,13 +14,19 @@ pub one_answer : (a : Answer) → HasOneAnswer (λ b. b ≡ a)
 one_answer a = (a, refl, λ b h. h)
 
 -- a job of which no meaning is said
-pub said_job : (job : Job) → ((files : Files) (input : List ℕ) → HasOneAnswer (job.answers files input)) → ((files : Files) (input : List ℕ) (a : Answer) → job.answers files input a → job.means files input a) → IsLawful job
+pub said_job : (job : Job)
+    → ((files : Files) (input : List ℕ) → HasOneAnswer (job.answers files input))
+    → ((files : Files) (input : List ℕ) (a : Answer) → job.answers files input a
+    → job.means files input a) → IsLawful job
 said_job job one means = record { one = one; means = means }
 
 pub refused_lawful : (why : Refusal) → IsLawful (refusing why)
-refused_lawful why = said_job (refusing why) (λ files input. one_answer (says Words (words_line why) files)) (λ _ _ _ _. tt)
+refused_lawful why =
+    said_job (refusing why) (λ files input. one_answer (says Words (words_line why) files))
+    (λ _ _ _ _. tt)
 
-pub taking_lawful : {A : Type 0} (job : A → Job) (o : Option A) → ((x : A) → IsLawful (job x)) → IsLawful (taking job o)
+pub taking_lawful : {A : Type 0} (job : A → Job) (o : Option A) → ((x : A) → IsLawful (job x))
+    → IsLawful (taking job o)
 taking_lawful job None law = refused_lawful Count
 taking_lawful job (Some x) law = law x
 

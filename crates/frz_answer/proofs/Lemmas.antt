@@ -4,9 +4,31 @@ pub use Rattle.frz_answer.proofs.Coming.{bytes_came, came_on, quiet_came, text_c
 pub use Rattle.frz_answer.proofs.Ending.{Begun, Found, SaysAll, as_given, refused, said, stopped}
 pub use Rattle.frz_answer.proofs.Finishing.{outcome}
 pub use Rattle.frz_answer.proofs.Following.{Follows, follows}
-pub use Rattle.frz_answer.proofs.Lawful.{refused_lawful, one_answer, said_job, taking_lawful, unless_lawful}
+pub use Rattle.frz_answer.proofs.Lawful.{
+  refused_lawful,
+  one_answer,
+  said_job,
+  taking_lawful,
+  unless_lawful,
+}
 pub use Rattle.frz_answer.proofs.Naming.{GivesName, SaysName, not_written, wrote_it}
-pub use Rattle.frz_answer.proofs.Pieces.{failed_before, failed_behind, gave_up, took_behind, took_nothing, wrote_behind}
+pub use Rattle.frz_answer.proofs.Pieces.{
+  failed_before,
+  failed_behind,
+  gave_up,
+  took_behind,
+  took_nothing,
+  wrote_behind,
+}
 pub use Rattle.frz_answer.proofs.Stages.{IsStage, Stages, through}
 pub use Rattle.frz_answer.proofs.Telling.{append_nothing, append_twice}
-pub use Rattle.frz_answer.proofs.Worlds.{fine_same, fine_steps, fine_store, ok_fine, quiet_same, quiet_steps, quiet_store, refusal_rose}
+pub use Rattle.frz_answer.proofs.Worlds.{
+  fine_same,
+  fine_steps,
+  fine_store,
+  ok_fine,
+  quiet_same,
+  quiet_steps,
+  quiet_store,
+  refusal_rose,
+}

@@ -11,27 +11,35 @@ use Rattle.frz_answer.proofs.Worlds.{risen_later}
 
 -- a part of a piece that stands within the whole text
 pub part_of : (old mid new : Option (List ℕ)) (written piece rest whole : List ℕ)
-    → mid ≡ append_known old written → written ++ (piece ++ rest) ≡ whole → (k : ℕ) × (new ≡ append_known mid (take k piece))
+    → mid ≡ append_known old written → written ++ (piece ++ rest) ≡ whole → (k : ℕ)
+    × (new ≡ append_known mid (take k piece))
     → (j : ℕ) × (new ≡ append_known old (take j whole))
 part_of old mid new written piece rest whole before is part =
     let front : List ℕ = written ++ take part.0 piece in
     let all : front ++ (drop part.0 piece ++ rest) ≡ whole =
     append_assoc written (take part.0 piece) (drop part.0 piece ++ rest)
-    ∙ ap (λ (l : List ℕ). written ++ l) (sym (append_assoc (take part.0 piece) (drop part.0 piece) rest) ∙ ap (λ (l : List ℕ). l ++ rest) (take-append-drop part.0 piece)) ∙ is in
-    let cut : take (length front) whole ≡ front = sym (ap (take (length front)) all) ∙ take-append_seam front (drop part.0 piece ++ rest) in (
+    ∙ ap (λ (l : List ℕ). written ++ l)
+    (sym (append_assoc (take part.0 piece) (drop part.0 piece) rest)
+    ∙ ap (λ (l : List ℕ). l ++ rest) (take-append-drop part.0 piece)) ∙ is in
+    let cut : take (length front) whole ≡ front = sym (ap (take (length front)) all)
+    ∙ take-append_seam front (drop part.0 piece ++ rest) in (
       length front,
-      part.1 ∙ ap (λ o. append_known o (take part.0 piece)) before ∙ append_twice old written (take part.0 piece) ∙ ap (append_known old) (sym cut),
+      part.1 ∙ ap (λ o. append_known o (take part.0 piece)) before ∙ append_twice old written
+          (take part.0 piece) ∙ ap (append_known old) (sym cut),
     )
 
 -- the sink failed within the first of two texts
-pub failed_before : (first rest text : List ℕ) (old new : SinkTold) → FailedWithin first old new → first ++ rest ≡ text → FailedWithin text old new
+pub failed_before : (first rest text : List ℕ) (old new : SinkTold) → FailedWithin first old new
+    → first ++ rest ≡ text → FailedWithin text old new
 failed_before first rest text old new failed is = record {
   later = failed.later;
   rose = failed.rose;
-  taken = part_of old.taken old.taken new.taken [] first rest text (append_nothing old.taken) is failed.taken;
+  taken = part_of old.taken old.taken new.taken [] first rest text (append_nothing old.taken) is
+      failed.taken;
 }
 
-module _ (first next text : List ℕ) (old mid new : SinkTold) (took : TookText first old mid) (is : first ++ next ≡ text) where
+module _ (first next text : List ℕ) (old mid new : SinkTold) (took : TookText first old mid)
+    (is : first ++ next ≡ text) where
   -- the sink failed within the second
   pub failed_behind : FailedWithin next mid new → FailedWithin text old new
   failed_behind failed =
@@ -40,23 +48,27 @@ module _ (first next text : List ℕ) (old mid new : SinkTold) (took : TookText 
       record {
         later = omega (arith, same, more);
         rose = risen_later old.faults mid.faults new.faults (omega (arith, same)) failed.rose;
-        taken = part_of old.taken mid.taken new.taken first next [] text took.taken (ap (λ (l : List ℕ). first ++ l) (append-nil next) ∙ is) failed.taken;
+        taken = part_of old.taken mid.taken new.taken first next [] text took.taken
+            (ap (λ (l : List ℕ). first ++ l) (append-nil next) ∙ is) failed.taken;
       }
 
   -- the sink took both
   pub took_behind : TookText next mid new → TookText text old new
   took_behind more = record {
     faults = more.faults ∙ took.faults;
-    taken = more.taken ∙ ap (λ o. append_known o next) took.taken ∙ append_twice old.taken first next ∙ ap (append_known old.taken) is;
+    taken = more.taken ∙ ap (λ o. append_known o next) took.taken
+        ∙ append_twice old.taken first next ∙ ap (append_known old.taken) is;
   }
 
   -- the second was written
-  pub wrote_behind : {T E : Type 0} (result : Result T E) → WroteText next result mid new → WroteText text result old new
+  pub wrote_behind : {T E : Type 0} (result : Result T E) → WroteText next result mid new
+      → WroteText text result old new
   wrote_behind (Ok x) wrote = record { ok = took_behind wrote.ok; failed = tt }
   wrote_behind (Err e) wrote = record { ok = tt; failed = failed_behind wrote.failed }
 
 -- a call that gives up where the sink failed
-pub gave_up : {T E : Type 0} (text : List ℕ) (result : Result T E) (old new : SinkTold) → IsErr result → FailedWithin text old new → WroteText text result old new
+pub gave_up : {T E : Type 0} (text : List ℕ) (result : Result T E) (old new : SinkTold)
+    → IsErr result → FailedWithin text old new → WroteText text result old new
 gave_up text (Ok x) old new none failed = cc
 gave_up text (Err e) old new none failed = record { ok = tt; failed = failed }
 

@@ -30,13 +30,16 @@ and_right false b h = cc
 -- one that is among the first is among the second
 pub one_of_more : (s : Status) (xs ys : List Status) → subset xs ys ≡ true → OneOf s xs → OneOf s ys
 one_of_more s [] ys all h = cc
-one_of_more s (x ∷ xs) ys all h = by_first (code_of s == code_of x) refl (one_of_more s xs ys rest) h
+one_of_more s (x ∷ xs) ys all h =
+    by_first (code_of s == code_of x) refl (one_of_more s xs ys rest) h
   where
     rest : subset xs ys ≡ true
     rest = and_right (has_code ys (code_of x)) (subset xs ys) all
 
-    by_first : (b : Bool) → (code_of s == code_of x) ≡ b → (OneOf s xs → OneOf s ys) → (b || has_code xs (code_of s)) ≡ true → OneOf s ys
-    by_first true e more h = ap (has_code ys) (eqb-true (code_of s) (code_of x) e) ∙ and_left (has_code ys (code_of x)) (subset xs ys) all
+    by_first : (b : Bool) → (code_of s == code_of x) ≡ b → (OneOf s xs → OneOf s ys)
+        → (b || has_code xs (code_of s)) ≡ true → OneOf s ys
+    by_first true e more h = ap (has_code ys) (eqb-true (code_of s) (code_of x) e)
+        ∙ and_left (has_code ys (code_of x)) (subset xs ys) all
     by_first false e more h = more h
 
 -- a job that is a stage of another
@@ -56,31 +59,49 @@ no_more_true true false h e = let no : false ≡ true = h refl in cc
 no_more_true true true h e = cc
 
 -- what the stage is to find: the whole's answers are the stage's over the same files and input
-pub record Stages (part whole : Job) (files : Files) (input : List ℕ) (old mid new : World) : Type 0 where
+pub record Stages (part whole : Job) (files : Files) (input : List ℕ)
+    (old mid new : World) : Type 0 where
   pub found : Found whole files input old
-  pub answers : (m : Files) (i : List ℕ) (a : Answer) → Agrees old m i → (part.needs.reads ≡ Never → m ≡ found.files) → (part.needs.input ≡ false → i ≡ found.input)
+  pub answers : (m : Files) (i : List ℕ) (a : Answer) → Agrees old m i
+      → (part.needs.reads ≡ Never → m ≡ found.files) → (part.needs.input ≡ false → i ≡ found.input)
       → part.answers m i a → whole.answers m i a
-  pub costs : (m : Files) (i : List ℕ) (a : Answer) → Agrees old m i → (part.needs.reads ≡ Never → m ≡ found.files) → (part.needs.input ≡ false → i ≡ found.input)
-      → part.answers m i a → part.costs m i a (spent mid) (spent new) → whole.costs m i a (spent old) (spent new)
+  pub costs : (m : Files) (i : List ℕ) (a : Answer) → Agrees old m i
+      → (part.needs.reads ≡ Never → m ≡ found.files) → (part.needs.input ≡ false → i ≡ found.input)
+      → part.answers m i a → part.costs m i a (spent mid) (spent new)
+      → whole.costs m i a (spent old) (spent new)
 
--- what a stage may do, the whole may do, where nothing was written to the store before and no object failed
-module _ (part whole : Job) (old mid new : World) (later : Later old mid) (fine : Fine old mid) (same : Unwritten old.store mid.store) (stage : IsStage part whole) where
+-- what a stage may do, the whole may do, where nothing was
+-- written to the store before and no object failed
+module _ (part whole : Job) (old mid new : World) (later : Later old mid) (fine : Fine old mid)
+    (same : Unwritten old.store mid.store) (stage : IsStage part whole) where
   meets : (fault : Fault) → MayMeet part fault mid new → MayMeet whole fault old new
-  meets faults.Store h = (stage.store h.0, risen_later old.store.faults mid.store.faults new.store.faults later.store.faults h.1)
-  meets faults.Input h = (stage.input h.0, risen_later old.input.faults mid.input.faults new.input.faults later.input h.1)
+  meets faults.Store h = (
+    stage.store h.0,
+    risen_later old.store.faults mid.store.faults new.store.faults
+        later.store.faults h.1,
+  )
+  meets faults.Input h = (
+    stage.input h.0,
+    risen_later old.input.faults mid.input.faults new.input.faults later.input
+        h.1,
+  )
   meets faults.NoMemory h = stage.memory h
 
   pub ends_later : (end : End) → MayEnd part end mid new → MayEnd whole end old new
-  ends_later (Done s) h = (one_of_more s part.statuses whole.statuses stage.statuses h.0, fine_on old mid new fine h.1)
+  ends_later (Done s) h =
+      (one_of_more s part.statuses whole.statuses stage.statuses h.0, fine_on old mid new fine h.1)
   ends_later SinkFault h = risen_later old.out.faults mid.out.faults new.out.faults later.out h
   ends_later (Stopped fault) h = meets fault h
 
-  pub only_later : WritesOnly part.writes mid.store new.store → WritesOnly whole.writes old.store new.store
+  pub only_later : WritesOnly part.writes mid.store new.store
+      → WritesOnly whole.writes old.store new.store
   only_later h =
-      only_on whole.writes old.store mid.store new.store (only_unwritten whole.writes old.store mid.store same)
+      only_on whole.writes old.store mid.store new.store
+      (only_unwritten whole.writes old.store mid.store same)
       (subst (λ (w : Option (List ℕ)). WritesOnly w mid.store new.store) stage.writes h)
 
-  pub room_later : (end : End) → LeavesNoRoom end mid.store new.store → LeavesNoRoom end old.store new.store
+  pub room_later : (end : End) → LeavesNoRoom end mid.store new.store
+      → LeavesNoRoom end old.store new.store
   room_later (Done s) h = λ none. h (same.room ∙ none)
   room_later SinkFault h = tt
   room_later (Stopped fault) h = tt
@@ -90,14 +111,18 @@ module _ (part whole : Job) (old mid new : World) (later : Later old mid) (fine 
   sees_later Once h = h
   sees_later Again h = subst (λ (o : Option Files). IsSome o) (sym same.files) h
 
-  pub part_later : (a : Answer) (name : List ℕ) → IsPart a name mid.store.files new.store.files → IsPart a name old.store.files new.store.files
+  pub part_later : (a : Answer) (name : List ℕ) → IsPart a name mid.store.files new.store.files
+      → IsPart a name old.store.files new.store.files
   part_later a name h = subst (λ (o : Option Files). IsPart a name o new.store.files) same.files h
 
-module _ (part whole : Job) (old mid new : World) (quiet : Quiet old mid) (fine : Fine old mid) (stage : IsStage part whole) where
-  same_text : (text : List ℕ) → new.out.taken ≡ append_known mid.out.taken text → new.out.taken ≡ append_known old.out.taken text
+module _ (part whole : Job) (old mid new : World) (quiet : Quiet old mid) (fine : Fine old mid)
+    (stage : IsStage part whole) where
+  same_text : (text : List ℕ) → new.out.taken ≡ append_known mid.out.taken text
+      → new.out.taken ≡ append_known old.out.taken text
   same_text text e = e ∙ ap (λ o. append_known o text) quiet.taken
 
-  lines_too : (end : End) → EndsInLines part.speaks end mid.out new.out → EndsInLines whole.speaks end old.out new.out
+  lines_too : (end : End) → EndsInLines part.speaks end mid.out new.out
+      → EndsInLines whole.speaks end old.out new.out
   lines_too (Done s) h = tt
   lines_too SinkFault h = tt
   lines_too (Stopped fault) h = (
@@ -107,7 +132,8 @@ module _ (part whole : Job) (old mid new : World) (quiet : Quiet old mid) (fine 
 
   no_more_too : (a : Answer) → NoMore a mid new → NoMore a old new
   no_more_too a h = record {
-    files = λ name. part_later part whole old mid new quiet.later fine quiet.store stage a name (h.files name);
+    files = λ name. part_later part whole old mid new quiet.later fine quiet.store stage a name
+        (h.files name);
     left = (h.left.0, h.left.1, h.left.2 ∙ ap (option_map (drop h.left.0)) quiet.left);
   }
 
@@ -120,7 +146,14 @@ module _ (part whole : Job) (old mid new : World) (quiet : Quiet old mid) (fine 
       text = same_text a.text h.1.text;
     },
   )
-  leaves_too SinkFault a h = record { written = h.written; rest = h.rest; begins = h.begins; text = same_text h.written h.text; others = no_more_too a h.others }
+  leaves_too SinkFault a h =
+      record {
+        written = h.written;
+        rest = h.rest;
+        begins = h.begins;
+        text = same_text h.written h.text;
+        others = no_more_too a h.others;
+      }
   leaves_too (Stopped fault) a h = record {
     lines = h.lines;
     rest = h.rest;
@@ -133,7 +166,8 @@ module _ (part whole : Job) (old mid new : World) (quiet : Quiet old mid) (fine 
 
   -- the stage was done, after nothing but calls and steps
   pub through : (end : End)
-      → (Sees whole.needs.reads old → (files : Files) (input : List ℕ) → Agrees old files input → Stages part whole files input old mid new)
+      → (Sees whole.needs.reads old → (files : Files) (input : List ℕ) → Agrees old files input
+      → Stages part whole files input old mid new)
       → Ran part end mid new → Ran whole end old new
   through end stages ran = record {
     later = later_on old mid new quiet.later ran.later;
@@ -145,17 +179,23 @@ module _ (part whole : Job) (old mid new : World) (quiet : Quiet old mid) (fine 
     answered = λ sees files input agrees.
         let here = stages sees files input agrees in
         let found = here.found in
-        let part_sees = sees_later part whole old mid new quiet.later fine quiet.store stage part.needs.reads (stage.sees old sees) in
-        let given = ran.answered part_sees found.files found.input (agrees_on old mid found.files found.input quiet.store.files quiet.left found.agrees) in
-        let fits = agrees_on mid old given.files given.input (sym quiet.store.files) (sym quiet.left) given.agrees in record {
+        let part_sees = sees_later part whole old mid new quiet.later fine quiet.store stage
+        part.needs.reads (stage.sees old sees) in
+        let given = ran.answered part_sees found.files found.input
+        (agrees_on old mid found.files found.input quiet.store.files quiet.left found.agrees) in
+        let fits = agrees_on mid old given.files given.input (sym quiet.store.files)
+        (sym quiet.left) given.agrees in record {
           files = given.files;
           input = given.input;
           agrees = fits;
           free = λ e. given.free (stage.reads e) ∙ found.free e;
-          untaken = λ e. given.untaken (no_more_true part.needs.input whole.needs.input stage.input e) ∙ found.untaken e;
+          untaken = λ e. given.untaken
+              (no_more_true part.needs.input whole.needs.input stage.input e) ∙ found.untaken e;
           a = given.a;
-          answer = here.answers given.files given.input given.a fits given.free given.untaken given.answer;
+          answer = here.answers given.files given.input given.a fits given.free given.untaken
+              given.answer;
           leaves = leaves_too end given.a given.leaves;
-          costs = here.costs given.files given.input given.a fits given.free given.untaken given.answer given.costs;
+          costs = here.costs given.files given.input given.a fits given.free given.untaken
+              given.answer given.costs;
         };
   }

@@ -13,21 +13,25 @@ pub append_nothing : (o : Option (List ℕ)) → o ≡ append_known o []
 append_nothing None = refl
 append_nothing (Some x) = ap Some (search rules)
 
-pub append_twice : (o : Option (List ℕ)) (x y : List ℕ) → append_known (append_known o x) y ≡ append_known o (x ++ y)
+pub append_twice : (o : Option (List ℕ)) (x y : List ℕ)
+    → append_known (append_known o x) y ≡ append_known o (x ++ y)
 append_twice None x y = refl
 append_twice (Some t) x y = ap Some (append_assoc t x y)
 
 pub with_line : (o : Option (List ℕ)) (x y : List ℕ) → x ≡ y → append_known o x ≡ append_known o y
 with_line o x y e = ap (append_known o) e
 
-pub with_start : (o : Option (List ℕ)) (k : ℕ) (x y : List ℕ) → x ≡ y → append_known o (take k x) ≡ append_known o (take k y)
+pub with_start : (o : Option (List ℕ)) (k : ℕ) (x y : List ℕ) → x ≡ y
+    → append_known o (take k x) ≡ append_known o (take k y)
 with_start o k x y e = ap (λ (l : List ℕ). append_known o (take k l)) e
 
-pub drop_twice : (o : Option (List ℕ)) (i j : ℕ) → option_map (drop j) (option_map (drop i) o) ≡ option_map (drop (i + j)) o
+pub drop_twice : (o : Option (List ℕ)) (i j : ℕ)
+    → option_map (drop j) (option_map (drop i) o) ≡ option_map (drop (i + j)) o
 drop_twice None i j = refl
 drop_twice (Some x) i j = ap Some (drop-drop j i x)
 
 -- what is told, where it agrees
-pub agreed : {A : Type 0} (o : Option A) (x : A) → IfSome o (λ told. told ≡ x) → o ≡ option_map (λ _. x) o
+pub agreed : {A : Type 0} (o : Option A) (x : A) → IfSome o (λ told. told ≡ x)
+    → o ≡ option_map (λ _. x) o
 agreed None x e = refl
 agreed {A} (Some told) x e = ap (λ (y : A). Some y) e

@@ -22,7 +22,8 @@ abbrev pub world_of : {A B C : Type 0} → StoreGhosts A → SourceGhosts B → 
 world_of s i o store input out steps =
     world (store_of s store) (source_of i input) (sink_of o out) steps
 
--- what was spent until now: the steps that were made, the calls of the store and the bytes asked of it
+-- what was spent until now: the steps that were made, the calls
+-- of the store and the bytes asked of it
 pub record Spent : Type 0 where
   pub steps : ℕ
   pub calls : ℕ

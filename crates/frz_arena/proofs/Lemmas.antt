@@ -8,16 +8,53 @@ pub use Rattle.frz_arena.proofs.Lists.Members.{true_or_false, none_in_empty}
 pub use Rattle.frz_arena.proofs.Plies.NeverBoth.{never_both}
 pub use Rattle.frz_arena.proofs.Names.NumberedGames.{going, inside}
 pub use Rattle.frz_arena.proofs.Names.NumbersAreNames.{numbered_is, numbers_lawful}
-pub use Rattle.frz_arena.proofs.Bounds.OneBound.{one_bound, opposed_bounds, codes_of_bounds, bounds_are_codes, broken_never_wins, broken_never_fails, codes_differ}
+pub use Rattle.frz_arena.proofs.Bounds.OneBound.{
+  one_bound,
+  opposed_bounds,
+  codes_of_bounds,
+  bounds_are_codes,
+  broken_never_wins,
+  broken_never_fails,
+  codes_differ,
+}
 pub use Rattle.frz_arena.proofs.LocalCodes.OnePly.{TellBefore, broken_of_code, local_tells}
-pub use Rattle.frz_arena.proofs.Tables.OneTable.{exact_is_table, table_is_exact, plies_small, one_table}
+pub use Rattle.frz_arena.proofs.Tables.OneTable.{
+  exact_is_table,
+  table_is_exact,
+  plies_small,
+  one_table,
+}
 pub use Rattle.frz_arena.proofs.Plies.Opposed.{wins_later, fails_later}
 pub use Rattle.frz_arena.proofs.LocalCodes.PlyCodes.{from_mapped, at_broken}
 pub use Rattle.frz_arena.proofs.Plies.Stable.{wins_stay, fails_stay}
 pub use Rattle.frz_arena.proofs.Tables.TablesExist.{table_exists}
 pub use Rattle.frz_arena.proofs.Forcing.TrueWins.{wins_mates, wins_mates_in}
-pub use Rattle.frz_arena.proofs.LocalCodes.UniqueCodes.{none, hold, win, failure, code_is, as_win, as_failure, codes_meet}
+pub use Rattle.frz_arena.proofs.LocalCodes.UniqueCodes.{
+  none,
+  hold,
+  win,
+  failure,
+  code_is,
+  as_win,
+  as_failure,
+  codes_meet,
+}
 pub use Rattle.frz_arena.proofs.Forcing.WinsForced.{mated_by, goes, wins_forces}
 pub use Rattle.frz_arena.proofs.Ways.Stages.{IsSound, StageIs, stage_is}
 pub use Rattle.frz_arena.proofs.Ways.FoundChoices.{choice_is_arm}
-pub use Rattle.frz_arena.proofs.Ways.Reaching.{Reaches, reaches_start, reaches_end, reaches_stop, reaches_exit, reaches_more, ply_here, next_in_line, line_left, IsFew, chosen_here, few_after, left_after, few_fits}
+pub use Rattle.frz_arena.proofs.Ways.Reaching.{
+  Reaches,
+  reaches_start,
+  reaches_end,
+  reaches_stop,
+  reaches_exit,
+  reaches_more,
+  ply_here,
+  next_in_line,
+  line_left,
+  IsFew,
+  chosen_here,
+  few_after,
+  left_after,
+  few_fits,
+}

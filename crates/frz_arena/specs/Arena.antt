@@ -10,7 +10,8 @@ use Rattle.frz_arena.specs.declared.class.Class.TheVariants.{Good, Bad}
 use Rattle.frz_arena.specs.declared.node.Node.{Node}
 use Rattle.frz_arena.specs.declared.node.Node.TheVariants.{Going}
 
--- what each position is, its legal moves, and what each value is worth to a side, with its lag in plies
+-- what each position is, its legal moves, and what each value
+-- is worth to a side, with its lag in plies
 pub record Arena (M N V : Type 0) : Type 0 where
   pub node : N → Node
   pub arms : N → List (Arm M N V)
@@ -26,7 +27,8 @@ abbrev pub LeadsInside : {M N V : Type 0} → List (Arm M N V) → ℕ → N →
 LeadsInside {M} {N} {V} arms k q =
     (a : Arm M N V) × (slice_get arms k ≡ Some a) × (a.next ≡ Inside q)
 
--- a position at which the game goes on has a move, and a value that is good for a side is bad for the other
+-- a position at which the game goes on has a move, and a value
+-- that is good for a side is bad for the other
 pub record IsLawful {M N V : Type 0} (arena : Arena M N V) : Type 0 where
   pub goes_on : (p : N) (mover : Colour) → arena.node p ≡ Going mover → arena.arms p ≢ []
   pub opposed : (v : V) (side : Colour) → arena.class v side ≡ Good →

@@ -14,8 +14,8 @@ pub record IsFirst {A : Type 0} (test : A → Bool) (xs : List A) (i : ℕ) (x :
   pub passes : test x ≡ true
   pub before : (j : ℕ) (y : A) → j < i → slice_get xs j ≡ Some y → test y ≡ false
 
--- from a win the first with one ply less; else the first that holds, and where none holds, the first
--- with code 0
+-- from a win the first with one ply less; else the first that
+-- holds, and where none holds, the first with code 0
 abbrev pub IsFound : {A : Type 0} → (with_code : ℕ → A → Bool) → (won : Bool) → ℕ → List A → ℕ → A →
     Type 0
 IsFound with_code true c xs i x = IsFirst (with_code (c - 2)) xs i x

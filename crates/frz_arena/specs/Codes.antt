@@ -1,5 +1,5 @@
--- The codes that stand for bounds in a table: 0 at a broken number, 1 for a hold, even ones for wins,
--- odd ones for failures.
+-- The codes that stand for bounds in a table: 0 at a broken number, 1 for a hold, even ones for
+-- wins, odd ones for failures.
 use Rattle.std.specs.Prelude.{◌≡◌, ◌≤◌, ◌+◌, ◌*◌, ◌%◌, ◌==◌, ◌&&◌, ℕ, Bool, true, nat_lt}
 use Rattle.frz_arena.specs.declared.bound.Bound.{Bound}
 use Rattle.frz_arena.specs.declared.bound.Bound.TheVariants.{Wins, Holds, Fails}

@@ -16,8 +16,8 @@ pub record IsExit {P M V : Type 0} (game : Game P M V) (q : P) : Type 0 where
   pub ends : game.chess.play from move ≡ q
   pub outside : game.member q ≡ false
 
--- the value is true at the position: who wins by it forces mate, within its number where it has one,
--- and who holds by it is never mated by force
+-- the value is true at the position: who wins by it forces mate, within its number where it has
+-- one, and who holds by it is never mated by force
 pub record IsTrueAt {P M V : Type 0} (game : Game P M V) (v : V) (q : P) : Type 0 where
   pub wins : (side : Colour) → game.class v side ≡ Good → game.numbered v ≡ false →
       (n : ℕ) × ForcesMate game.chess side n q
@@ -33,4 +33,5 @@ TrueExits {P} game = (q : P) → IsExit game q → IsTrueAt game (game.value q) 
 -- each value by which the side wins just outside the set has a number
 abbrev pub AllNumbered : {P M V : Type 0} → Game P M V → Colour → Type 0
 AllNumbered {P} game side =
-    (q : P) → IsExit game q → game.class (game.value q) side ≡ Good → game.numbered (game.value q) ≡ true
+    (q : P) → IsExit game q → game.class (game.value q) side ≡ Good
+    → game.numbered (game.value q) ≡ true

@@ -11,7 +11,8 @@ use Rattle.frz_arena.specs.declared.arm.Next.TheVariants.{Inside, Outside}
 use Rattle.frz_arena.specs.Arena.{Arena}
 use Rattle.frz_arena.specs.Chess.{Chess}
 
--- the set, the free moves, and the value of each position outside, which may have a number for its lag
+-- the set, the free moves, and the value of each position
+-- outside, which may have a number for its lag
 pub record Game (P M V : Type 0) : Type 0 where
   pub chess : Chess P M
   pub member : P → Bool

@@ -5,8 +5,8 @@ use Rattle.frz_arena.specs.declared.arm.Arm.{Arm}
 use Rattle.frz_arena.specs.declared.node.Node.TheVariants.{Going}
 use Rattle.frz_arena.specs.Arena.{Arena}
 
--- what the input gives where the opponent is to move: the place of his arm, after some lines that are
--- refused, or why it stops; and what is left of the input
+-- what the input gives where the opponent is to move: the place of his arm, after some lines that
+-- are refused, or why it stops; and what is left of the input
 pub data Answer (S R : Type 0) : Type 0 where
   Reply : (refused place : ℕ) (left : S) → Answer S R
   Stop : (reason : R) (left : S) → Answer S R

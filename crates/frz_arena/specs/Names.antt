@@ -32,8 +32,8 @@ pub record Numbering (N : Type 0) : Type 0 where
   pub number : N → Option ℕ
   pub at : ℕ → Option N
 
--- both ways are inverse, each number is below the size, and exactly the positions that are not broken
--- have one
+-- both ways are inverse, each number is below the size, and
+-- exactly the positions that are not broken have one
 pub record IsNumbering {M N V : Type 0} (numbers : Numbering N) (arena : Arena M N V) : Type 0 where
   pub at_number : (p : N) (i : ℕ) → numbers.number p ≡ Some i → numbers.at i ≡ Some p
   pub number_at : (p : N) (i : ℕ) → numbers.at i ≡ Some p → numbers.number p ≡ Some i

@@ -38,22 +38,22 @@ SomeArm {M} {N} {V} arena p P = (a : Arm M N V) × IsArm arena p a × P a.next
 abbrev pub EachArm : {M N V : Type 0} → Arena M N V → N → (Next N V → Type 0) → Type 0
 EachArm {M} {N} {V} arena p P = (a : Arm M N V) → IsArm arena p a → P a.next
 
--- the side is to move and has a free move to what is good, or its opponent is to move, has a move, and
--- each of his moves leads to what is good
+-- the side is to move and has a free move to what is good, or its opponent is to move, has a move,
+-- and each of his moves leads to what is good
 abbrev pub MovesToGood : {M N V : Type 0} → Arena M N V → Colour → (Next N V → Type 0) → N → Type 0
 MovesToGood arena side IsGood p =
     ((arena.node p ≡ Going side) × SomeFree arena p IsGood)
     ⊎ ((arena.node p ≡ Going (other_of side)) × SomeArm arena p IsGood × EachArm arena p IsGood)
 
--- the opponent is to move and has a move to what is bad, or the side is to move, has a free move, and
--- each of its free moves leads to what is bad
+-- the opponent is to move and has a move to what is bad, or the side is to move, has a free move,
+-- and each of its free moves leads to what is bad
 abbrev pub MovesToBad : {M N V : Type 0} → Arena M N V → Colour → (Next N V → Type 0) → N → Type 0
 MovesToBad arena side IsBad p =
     ((arena.node p ≡ Going (other_of side)) × SomeArm arena p IsBad)
     ⊎ ((arena.node p ≡ Going side) × SomeFree arena p IsBad × EachFree arena p IsBad)
 
--- the side wins within n plies: the opponent is mated, or the next ply leads to what is good within one
--- ply less
+-- the side wins within n plies: the opponent is mated, or the
+-- next ply leads to what is good within one ply less
 abbrev pub WinsWithin : {M N V : Type 0} → Arena M N V → Colour → ℕ → N → Type 0
 WinsWithin arena side zero p = arena.node p ≡ Mate (other_of side)
 WinsWithin arena side (suc n) p =
@@ -66,7 +66,8 @@ IsLost {M} {N} {V} arena side p =
     (arena.node p ≡ Mate side)
     ⊎ ((arena.node p ≡ Going side) × ((a : Arm M N V) → IsArm arena p a → a.free ≡ true → ⊥))
 
--- the side fails within n plies: it is lost, or the next ply leads to what is bad within one ply less
+-- the side fails within n plies: it is lost, or the next ply
+-- leads to what is bad within one ply less
 abbrev pub FailsWithin : {M N V : Type 0} → Arena M N V → Colour → ℕ → N → Type 0
 FailsWithin arena side zero p = IsLost arena side p
 FailsWithin arena side (suc n) p =

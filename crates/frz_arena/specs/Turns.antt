@@ -17,5 +17,6 @@ pub record IsClosed {M N V : Type 0} (arena : Arena M N V) : Type 0 where
 -- the sides move in turn
 pub record Alternates {M N V : Type 0} (arena : Arena M N V) : Type 0 where
   pub turns : (p : N) (a : Arm M N V) (mover turn : Colour) (q : N) →
-      Contains (arena.arms p) a → a.next ≡ Inside q → arena.node p ≡ Going mover → arena.node q ≡ Going turn →
+      Contains (arena.arms p) a → a.next ≡ Inside q → arena.node p ≡ Going mover →
+      arena.node q ≡ Going turn →
       turn ≡ other_of mover

@@ -5,8 +5,9 @@ use Rattle.frz_board.specs.Men.{other_of}
 use Rattle.frz_arena.specs.declared.class.Class.TheVariants.{Good, Safe}
 use Rattle.frz_arena.specs.Arena.{Arena}
 
--- how a way ends: at a position whose kept code is not the given, local one; at a start that fails; where
--- the mover is mated or stalemated; by a ply that leaves the positions; cut; or stopped by the input
+-- how a way ends: at a position whose kept code is not the given, local one; at a start that fails;
+-- where the mover is mated or stalemated; by a ply that leaves
+-- the positions; cut; or stopped by the input
 pub data End (N V R : Type 0) : Type 0 where
   Wrong : (position : N) (kept given : ℕ) → End N V R
   NoBound : End N V R
@@ -16,7 +17,8 @@ pub data End (N V R : Type 0) : Type 0 where
   Cut : End N V R
   Stopped : (reason : R) → End N V R
 
--- from a win: the opponent is mated, or the exit wins for the side, but for a wrong code and the input
+-- from a win: the opponent is mated, or the exit wins for the
+-- side, but for a wrong code and the input
 abbrev pub EndsWon : {M N V R : Type 0} → Arena M N V → Colour → End N V R → Type 0
 EndsWon arena side (Wrong p kept given) = ⊤
 EndsWon arena side NoBound = ⊥

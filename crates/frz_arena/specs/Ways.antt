@@ -1,5 +1,5 @@
--- The way of a side that plays by its codes: in a line against an opponent who plays by them too, in a
--- session against an opponent whose plies come from an input.
+-- The way of a side that plays by its codes: in a line against an opponent who plays by them too,
+-- in a session against an opponent whose plies come from an input.
 use Rattle.std.specs.Prelude.{◌≡◌, ◌≤◌, ◌+◌, ◌==◌, ◌&&◌, ◌||◌, nat_le, ℕ, suc, Bool, true, false, List, [], ◌∷◌, Some, slice_get, slice_index, if◌then◌else◌, ◌⊎◌}
 use Rattle.frz_board.specs.declared.man.Colour.{Colour}
 use Rattle.frz_board.specs.Men.{same_colour}
@@ -15,8 +15,8 @@ use Rattle.frz_arena.specs.Names.{Numbering, numbers_of}
 use Rattle.frz_arena.specs.Plies.{LeadsTo}
 use Rattle.frz_arena.specs.WayEnds.{End, Wrong, NoBound, Mated, Stalemated, Exit, Cut, Stopped}
 
--- a ply: the position before it, the place of its arm among the arms there, the arm, who moved, and how
--- many lines of the input were refused before it
+-- a ply: the position before it, the place of its arm among the arms there, the arm, who moved, and
+-- how many lines of the input were refused before it
 pub record Ply (M N V : Type 0) : Type 0 where
   pub from : N
   pub place : ℕ
@@ -24,8 +24,8 @@ pub record Ply (M N V : Type 0) : Type 0 where
   pub mover : Colour
   pub refused : ℕ
 
--- who finds the opponent's plies: the codes, in a line, which a hold cuts after so many plies; or an
--- input, in a session
+-- who finds the opponent's plies: the codes, in a line, which a
+-- hold cuts after so many plies; or an input, in a session
 pub data Opponent (N S R : Type 0) : Type 0 where
   ByCodes : (most : ℕ) → Opponent N S R
   ByInput : (read : N → S → Answer S R) → Opponent N S R
@@ -54,7 +54,8 @@ stage_of player plies p (Stalemate mover) = Over (Stalemated mover)
 stage_of player plies p (Going mover) =
     if is_cut player.opponent plies (player.entry p) then Over Cut else Moves mover
 
--- after so many plies: first the kept code is compared with the local one, then the start must not fail
+-- after so many plies: first the kept code is compared with the
+-- local one, then the start must not fail
 abbrev pub stage : {M N V S R : Type 0} → Player M N V S R → (plies : ℕ) → N → Stage N V R
 stage player plies p =
     let given = local_code player.arena player.side player.entry p in
@@ -63,15 +64,19 @@ stage player plies p =
     else stage_of player plies p (player.arena.node p))
     else Over (Wrong p (player.entry p) given)
 
--- the ply is the one that the codes or the input ask for, and the input goes from one state to another
+-- the ply is the one that the codes or the input ask for, and
+-- the input goes from one state to another
 abbrev pub IsTakenBy : {M N V S R : Type 0} → Player M N V S R → (own : Bool) → Opponent N S R → S →
     Ply M N V → S → Type 0
 IsTakenBy player true opponent s x t =
-    IsChosen player.arena player.side player.entry x.mover x.from x.place x.arm × (x.refused ≡ 0) × (t ≡ s)
+    IsChosen player.arena player.side player.entry x.mover x.from x.place x.arm × (x.refused ≡ 0)
+    × (t ≡ s)
 IsTakenBy player false (ByCodes most) s x t =
-    IsChosen player.arena player.side player.entry x.mover x.from x.place x.arm × (x.refused ≡ 0) × (t ≡ s)
+    IsChosen player.arena player.side player.entry x.mover x.from x.place x.arm × (x.refused ≡ 0)
+    × (t ≡ s)
 IsTakenBy player false (ByInput read) s x t =
-    (slice_get (player.arena.arms x.from) x.place ≡ Some x.arm) × (read x.from s ≡ Reply x.refused x.place t)
+    (slice_get (player.arena.arms x.from) x.place ≡ Some x.arm)
+    × (read x.from s ≡ Reply x.refused x.place t)
 
 abbrev pub IsTaken : {M N V S R : Type 0} → Player M N V S R → S → Ply M N V → S → Type 0
 IsTaken player s x t = IsTakenBy player (same_colour x.mover player.side) player.opponent s x t
@@ -90,7 +95,8 @@ IsStop player plies s p end t =
     (mover : Colour) × (stage player plies p ≡ Moves mover)
     × IsStopBy (same_colour mover player.side) player.opponent s p end t
 
--- after so many plies the way goes on from p with these plies to this end, and takes the input from s to t
+-- after so many plies the way goes on from p with these plies
+-- to this end, and takes the input from s to t
 abbrev pub IsWay : {M N V S R : Type 0} → Player M N V S R → (plies : ℕ) → S → N →
     List (Ply M N V) → End N V R → S → Type 0
 IsWay player plies s p [] end t =
@@ -98,7 +104,8 @@ IsWay player plies s p [] end t =
 IsWay {S = S} player plies s p (x ∷ xs) end t =
     (x.from ≡ p) × (stage player plies p ≡ Moves x.mover)
     × ((u : S) × IsTaken player s x u
-    × LeadsTo (λ q. IsWay player (suc plies) u q xs end t) (λ v. (xs ≡ []) × (end ≡ Exit v) × (t ≡ u)) x.arm.next)
+    × LeadsTo (λ q. IsWay player (suc plies) u q xs end t)
+    (λ v. (xs ≡ []) × (end ≡ Exit v) × (t ≡ u)) x.arm.next)
 
 -- the codes find the ply: the side's own in every way, and each in a line
 abbrev pub is_line : {N S R : Type 0} → Opponent N S R → Bool
@@ -108,9 +115,10 @@ is_line (ByInput read) = false
 abbrev pub is_by_codes : {M N V S R : Type 0} → Player M N V S R → Colour → Bool
 is_by_codes player mover = same_colour mover player.side || is_line player.opponent
 
--- what holds of each ply of a way: the kept code is the local one, a win or a hold; the arm is there, and
--- free where the side moves; a win stays a win of at least one ply less, of just one ply less where the
--- codes find the ply; a hold does not become a failure, and stays a hold where the codes find the ply
+-- what holds of each ply of a way: the kept code is the local one, a win or a hold; the arm is
+-- there, and free where the side moves; a win stays a win of at least one ply less, of just one ply
+-- less where the codes find the ply; a hold does not become a
+-- failure, and stays a hold where the codes find the ply
 pub record IsPlyOf {M N V S R : Type 0} (player : Player M N V S R) (x : Ply M N V) : Type 0 where
   pub agrees : player.entry x.from ≡ local_code player.arena player.side player.entry x.from
   pub stands : (is_win (player.entry x.from) ≡ true) ⊎ (player.entry x.from ≡ 1)

@@ -32,10 +32,11 @@ fn first_with(choices: &[Choice], code: u32) -> Option<usize>
     None
 }
 
-/// The place of the move that the kept code asks for: from a win the first with one ply less, else the
-/// first that holds, and where none holds the first with code 0.
+/// The place of the move that the kept code asks for: from a win the first with one ply less, else
+/// the first that holds, and where none holds the first with code 0.
 pub fn choose(choices: &[Choice], kept: u32) -> Option<usize>
-    ensures some { IfSome result (λ i. (x : Choice) × IsFound has_code (codes.is_win kept) kept choices.now i x) }
+    ensures some { IfSome result
+        (λ i. (x : Choice) × IsFound has_code (codes.is_win kept) kept choices.now i x) }
     ensures none { IsNone result → (i : ℕ) (x : Choice) →
         IsFound has_code (codes.is_win kept) kept choices.now i x → ⊥ }
 {

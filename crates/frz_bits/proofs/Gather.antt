@@ -14,11 +14,14 @@ use Rattle.frz_bits.specs.Rays.{is_open}
 use Rattle.frz_squares.specs.SquareSets.{bits_below, set_of, has_square}
 use Rattle.frz_squares.proofs.Lemmas.{bits_below-next, bits_below-jump, bits_below-small, has-set_of}
 
--- a walk over the squares of the word w, which holds all that pass the test f: the squares that pass it are gathered into a word
-module _ (f : ℕ → Bool) (w : ℕ) (all : (k : ℕ) → k < 64 → has_square w k ≡ false → f k ≡ false) where
+-- a walk over the squares of the word w, which holds all that pass the test f: the squares that
+-- pass it are gathered into a word
+module _ (f : ℕ → Bool) (w : ℕ)
+    (all : (k : ℕ) → k < 64 → has_square w k ≡ false → f k ≡ false) where
   pub walked : (n s : ℕ) → IsNext w n s → bits_below f s ≡ bits_below f n
   walked n s next =
-      bits_below-jump f n s next.from (λ k l m. let on = next.on_board in all k (omega arith) (next.first k l m))
+      bits_below-jump f n s next.from
+      (λ k l m. let on = next.on_board in all k (omega arith) (next.first k l m))
 
   pub walk_room : (n s word : ℕ) → word ≡ bits_below f n → IsNext w n s → word < 2 ^ s
   walk_room n s word e next =
@@ -67,7 +70,8 @@ king_is_man Black x h = grind (arith, nat_tests)
 pub checks_in : (p : Board) (c : Colour) (w : ℕ) → w ≡ set_of (λ s. holds p c s) → (k : ℕ) →
     k < 64 → has_square w k ≡ false → checks p c k ≡ false
 checks_in p c w e k l h =
-    and_left (has p c King k) (is_attacked p k (other_of c)) (king_is_man c (slice_index p.cells k) (sym (in_side p c w k e l) ∙ h))
+    and_left (has p c King k) (is_attacked p k (other_of c))
+    (king_is_man c (slice_index p.cells k) (sym (in_side p c w k e l) ∙ h))
 
 -- what fails below n, between n and s, and at s, fails below s + 1
 pub fails_on : (f : ℕ → Bool) (w n s : ℕ) →

@@ -30,10 +30,13 @@ pub occupied_is : (p : Board) (white black : ℕ) → HasSides p white black →
     bit_or white black ≡ set_of (λ s. not (is_empty p s))
 occupied_is p white black h =
     set_of-from (bit_or white black) (λ s. not (is_empty p s))
-    (or_lt 64 white black (side_small p White white h.of_white) (side_small p Black black h.of_black))
+    (or_lt 64 white black (side_small p White white h.of_white)
+    (side_small p Black black h.of_black))
     (λ k l. has-or white black k
-    ∙ ap (λ x. x || has_square black k) (ap (λ w. has_square w k) h.of_white ∙ has-set_of (λ s. holds p White s) k l)
-    ∙ ap (λ x. holds p White k || x) (ap (λ w. has_square w k) h.of_black ∙ has-set_of (λ s. holds p Black s) k l)
+    ∙ ap (λ x. x || has_square black k)
+    (ap (λ w. has_square w k) h.of_white ∙ has-set_of (λ s. holds p White s) k l)
+    ∙ ap (λ x. holds p White k || x)
+    (ap (λ w. has_square w k) h.of_black ∙ has-set_of (λ s. holds p Black s) k l)
     ∙ either_side (slice_index p.cells k) (cell_fits p h.fits k l))
 
 -- no square strictly between is occupied where each is empty
@@ -41,9 +44,13 @@ pub clear_is : (p : Board) (a b : ℕ) →
     (bit_and (set_of (λ s. is_between a s b)) (set_of (λ s. not (is_empty p s))) == 0)
     ≡ is_clear p a b
 clear_is p a b =
-    apart_sets (λ s. is_between a s b) (set_of (λ s. not (is_empty p s))) (set_of-small (λ s. not (is_empty p s)))
-    ∙ all_squares-same (λ s. not (is_between a s b) || not (has_square (set_of (λ s. not (is_empty p s))) s)) (λ s. not (is_between a s b) || is_empty p s)
-    (λ k l. ap (λ x. not (is_between a k b) || x) (ap not (has-set_of (λ s. not (is_empty p s)) k l) ∙ not-not (is_empty p k)))
+    apart_sets (λ s. is_between a s b) (set_of (λ s. not (is_empty p s)))
+    (set_of-small (λ s. not (is_empty p s)))
+    ∙ all_squares-same
+    (λ s. not (is_between a s b) || not (has_square (set_of (λ s. not (is_empty p s))) s))
+    (λ s. not (is_between a s b) || is_empty p s)
+    (λ k l. ap (λ x. not (is_between a k b) || x)
+    (ap not (has-set_of (λ s. not (is_empty p s)) k l) ∙ not-not (is_empty p k)))
 
 pub one_or_none : (b : Bool) → (cond b 1 0 == 1) ≡ b
 one_or_none true = refl
@@ -60,8 +67,11 @@ black_cell x h = grind (arith, nat_tests)
 -- the words of the cells of each side's men
 pub sides_of : (p : Board) (cells : List ℕ) (white black : ℕ) → cells ≡ p.cells → CellsFit p.cells →
     white < 2 ^ 64 → black < 2 ^ 64 →
-    ((k : ℕ) → k < 64 → has_square white k ≡ (nat_lt (slice_index cells k) 7 && not (nat_lt (slice_index cells k) 1))) →
-    ((k : ℕ) → k < 64 → has_square black k ≡ (nat_lt (slice_index cells k) 13 && not (nat_lt (slice_index cells k) 7))) →
+    ((k : ℕ) → k < 64 →
+    has_square white k ≡ (nat_lt (slice_index cells k) 7 && not (nat_lt (slice_index cells k) 1))) →
+    ((k : ℕ) → k < 64 →
+    has_square black k
+    ≡ (nat_lt (slice_index cells k) 13 && not (nat_lt (slice_index cells k) 7))) →
     HasSides p white black
 sides_of p cells white black e fits w b hw hb = record {
   fits = fits;

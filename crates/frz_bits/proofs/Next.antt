@@ -15,7 +15,8 @@ has-shifted w n k = ap (λ v. v % 2 == 1) (shr-shr w n k)
 -- the bits from n on, as those of the shifted word
 moved : (w n k : ℕ) → n ≤ k → has_square w k ≡ has_square (w / 2 ^ n) (k - n)
 moved w n k l =
-    let e : n + (k - n) ≡ k = omega arith in ap (has_square w) (sym e) ∙ sym (has-shifted w n (k - n))
+    let e : n + (k - n) ≡ k = omega arith in ap (has_square w) (sym e)
+    ∙ sym (has-shifted w n (k - n))
 
 pub none_left : (w n : ℕ) → w / 2 ^ n ≡ 0 → HasNoneFrom w n
 none_left w n e =
@@ -35,7 +36,8 @@ next_is w n small some =
     let rest = w / 2 ^ n in
     let low : rest < 2 ^ 64 = omega (arith, shr_le w n) in
     let t = bit_at-trailing_zeros w64 rest (omega arith) low in
-    let there : bit_at w (n + trailing_zeros w64 rest) ≡ 1 = ap (λ v. v % 2) (sym (shr-shr w n (trailing_zeros w64 rest))) ∙ t.1 in
+    let there : bit_at w (n + trailing_zeros w64 rest) ≡ 1 = ap (λ v. v % 2)
+    (sym (shr-shr w n (trailing_zeros w64 rest))) ∙ t.1 in
     record {
       from = omega arith;
       on_board = inside w (n + trailing_zeros w64 rest) small there;

@@ -49,22 +49,30 @@ choose false c v x = refl
 
 side_put : (p : Board) (c : Colour) (w s v r : ℕ) → length p.cells ≡ 64 → s < 64 →
     w ≡ set_of (λ k. holds p c k) → r < 2 ^ 64 →
-    ((k : ℕ) → k < 64 → has_square r k ≡ (if k == s then is_man_of c (man_of_cell v) else has_square w k)) →
+    ((k : ℕ) → k < 64 →
+    has_square r k ≡ (if k == s then is_man_of c (man_of_cell v) else has_square w k)) →
     r ≡ set_of (λ k. holds (record p { cells = slice_set p.cells s v }) c k)
 side_put p c w s v r size ls e small h =
     set_of-from r (λ k. holds (record p { cells = slice_set p.cells s v }) c k) small
     (λ k l. h k l
-    ∙ ap (λ x. if k == s then is_man_of c (man_of_cell v) else x) (ap (λ u. has_square u k) e ∙ has-set_of (λ j. holds p c j) k l)
-    ∙ sym (ap (λ x. is_man_of c (man_of_cell x)) (set_at p.cells s v k (omega arith)) ∙ choose (k == s) c v (slice_index p.cells k)))
+    ∙ ap (λ x. if k == s then is_man_of c (man_of_cell v) else x)
+    (ap (λ u. has_square u k) e ∙ has-set_of (λ j. holds p c j) k l)
+    ∙ sym (ap (λ x. is_man_of c (man_of_cell x)) (set_at p.cells s v k (omega arith))
+    ∙ choose (k == s) c v (slice_index p.cells k)))
 
 pub put_keeps : (p : Board) (white black s v r q : ℕ) → HasSides p white black → s < 64 → v < 13 →
     r < 2 ^ 64 → q < 2 ^ 64 →
-    ((k : ℕ) → k < 64 → has_square r k ≡ (if k == s then is_man_of White (man_of_cell v) else has_square white k)) →
-    ((k : ℕ) → k < 64 → has_square q k ≡ (if k == s then is_man_of Black (man_of_cell v) else has_square black k)) →
+    ((k : ℕ) → k < 64 →
+    has_square r k ≡ (if k == s then is_man_of White (man_of_cell v) else has_square white k)) →
+    ((k : ℕ) → k < 64 →
+    has_square q k ≡ (if k == s then is_man_of Black (man_of_cell v) else has_square black k)) →
     HasSides (record p { cells = slice_set p.cells s v }) r q
 put_keeps p white black s v r q h ls lv lr lq hr hq = record {
   fits =
-      record { size = rw length-set h.fits.size; men = All-set (λ c. c < 13) p.cells s v lv h.fits.men };
+      record {
+        size = rw length-set h.fits.size;
+        men = All-set (λ c. c < 13) p.cells s v lv h.fits.men;
+      };
   of_white = side_put p White white s v r h.fits.size ls h.of_white lr hr;
   of_black = side_put p Black black s v q h.fits.size ls h.of_black lq hq;
 }

@@ -97,6 +97,7 @@ between_at a b la lb =
     let row : i / 64 ≡ a = omega arith in
     let column : i % 64 ≡ b = omega arith in
     sym (joined_at BETWEEN_HIGH BETWEEN_LOW i refl)
-    ∙ in_table (λ k. set_of (λ s. is_between (k / 64) s (k % 64))) 4096 (joined BETWEEN_HIGH BETWEEN_LOW) between_table i (omega arith)
+    ∙ in_table (λ k. set_of (λ s. is_between (k / 64) s (k % 64))) 4096
+    (joined BETWEEN_HIGH BETWEEN_LOW) between_table i (omega arith)
     ∙ ap (λ j. set_of (λ s. is_between j s (i % 64))) row
     ∙ ap (λ j. set_of (λ s. is_between a s j)) column

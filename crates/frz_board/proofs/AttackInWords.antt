@@ -19,12 +19,14 @@ use Rattle.frz_board.proofs.CellsOfMen.{cell_back, cell_forth}
 clear_means : (p : Board) (a b : ℕ) → is_clear p a b ≡ true → IsClear p a b
 clear_means p a b h s l w =
     eqb-true (slice_index p.cells s) 0
-    (implied (is_between a s b) (is_empty p s) (each_square (λ k. not (is_between a k b) || is_empty p k) h s l) w)
+    (implied (is_between a s b) (is_empty p s)
+    (each_square (λ k. not (is_between a k b) || is_empty p k) h s l) w)
 
 means_clear : (p : Board) (a b : ℕ) → IsClear p a b → is_clear p a b ≡ true
 means_clear p a b h =
     all_squares (λ k. not (is_between a k b) || is_empty p k)
-    (λ k l. implies (is_between a k b) (is_empty p k) (λ w. eq-eqb (slice_index p.cells k) 0 (h k l w)))
+    (λ k l. implies (is_between a k b) (is_empty p k)
+    (λ w. eq-eqb (slice_index p.cells k) 0 (h k l w)))
 
 diagonal_means : (a b : ℕ) → is_bishop_line a b ≡ true → IsDiagonal a b
 diagonal_means a b h =
@@ -33,7 +35,8 @@ diagonal_means a b h =
 
 means_diagonal : (a b : ℕ) → IsDiagonal a b → is_bishop_line a b ≡ true
 means_diagonal a b h =
-    and_from (not (a == b)) (files_apart a b == ranks_apart a b) (same_not a b h.0) (eq-eqb (files_apart a b) (ranks_apart a b) h.1)
+    and_from (not (a == b)) (files_apart a b == ranks_apart a b) (same_not a b h.0)
+    (eq-eqb (files_apart a b) (ranks_apart a b) h.1)
 
 line_means : (a b : ℕ) → is_rook_line a b ≡ true → IsFileOrRank a b
 line_means a b h =
@@ -88,7 +91,8 @@ by_kind p c Queen a b s h =
     (clear_means p a b parts.1)
 by_kind p c Knight a b s h =
     knight c s
-    (elim (or_cases (files_apart a b == 1 && ranks_apart a b == 2) (files_apart a b == 2 && ranks_apart a b == 1) h) [
+    (elim (or_cases (files_apart a b == 1 && ranks_apart a b == 2)
+    (files_apart a b == 2 && ranks_apart a b == 1) h) [
       | inl w ↦ inl (two_means (files_apart a b) (ranks_apart a b) 1 2 w)
       | inr w ↦ inr (two_means (files_apart a b) (ranks_apart a b) 2 1 w)
     ])
@@ -115,9 +119,11 @@ pub means_test : (p : Board) (a b : ℕ) → Attack p a b → attacks p a b ≡ 
 means_test p a b (king c s h) =
     opened p c King a b s (eq-eqb (max (files_apart a b) (ranks_apart a b)) 1 h)
 means_test p a b (rook c s l w) =
-    opened p c Rook a b s (and_from (is_rook_line a b) (is_clear p a b) (means_line a b l) (means_clear p a b w))
+    opened p c Rook a b s
+    (and_from (is_rook_line a b) (is_clear p a b) (means_line a b l) (means_clear p a b w))
 means_test p a b (bishop c s l w) =
-    opened p c Bishop a b s (and_from (is_bishop_line a b) (is_clear p a b) (means_diagonal a b l) (means_clear p a b w))
+    opened p c Bishop a b s
+    (and_from (is_bishop_line a b) (is_clear p a b) (means_diagonal a b l) (means_clear p a b w))
 means_test p a b (queen c s l w) =
     opened p c Queen a b s
     (and_from (is_rook_line a b || is_bishop_line a b) (is_clear p a b)
@@ -126,11 +132,13 @@ means_test p a b (queen c s l w) =
     (means_clear p a b w))
 means_test p a b (knight c s h) =
     opened p c Knight a b s
-    (either_or (files_apart a b == 1 && ranks_apart a b == 2) (files_apart a b == 2 && ranks_apart a b == 1)
+    (either_or (files_apart a b == 1 && ranks_apart a b == 2)
+    (files_apart a b == 2 && ranks_apart a b == 1)
     (elim h [
       | inl w ↦ inl (means_two (files_apart a b) (ranks_apart a b) 1 2 w)
       | inr w ↦ inr (means_two (files_apart a b) (ranks_apart a b) 2 1 w)
     ]))
 means_test p a b (pawn c s f h) =
     opened p c Pawn a b s
-    (and_from (files_apart a b == 1) (is_forward c 1 a b) (eq-eqb (files_apart a b) 1 f) (means_forward c a b h))
+    (and_from (files_apart a b == 1) (is_forward c 1 a b) (eq-eqb (files_apart a b) 1 f)
+    (means_forward c a b h))

@@ -7,10 +7,14 @@ use Rattle.frz_board.specs.declared.man.Kind.{Kind}
 use Rattle.frz_board.specs.declared.man.Kind.TheVariants.{King, Queen, Rook, Bishop, Knight, Pawn}
 use Rattle.frz_board.specs.Men.{man_of_cell, cell_of_man, other_of}
 
-pub cell_back : (x : ℕ) (c : Colour) (k : Kind) → man_of_cell x ≡ Some (record { colour = c; kind = k }) → x ≡ cell_of_man (record { colour = c; kind = k })
+pub cell_back : (x : ℕ) (c : Colour) (k : Kind)
+    → man_of_cell x ≡ Some (record { colour = c; kind = k })
+    → x ≡ cell_of_man (record { colour = c; kind = k })
 cell_back x c k e = grind (arith, nat_tests)
 
-pub cell_forth : (c : Colour) (k : Kind) → man_of_cell (cell_of_man (record { colour = c; kind = k })) ≡ Some (record { colour = c; kind = k })
+pub cell_forth : (c : Colour) (k : Kind)
+    → man_of_cell (cell_of_man (record { colour = c; kind = k })) ≡ Some
+    (record { colour = c; kind = k })
 cell_forth White King = refl
 cell_forth White Queen = refl
 cell_forth White Rook = refl

@@ -32,10 +32,12 @@ count_one n xs = count_by_same (λ x. nat_le n x && nat_le x n) (λ x. x == n) (
 pub count_white : (xs : List ℕ) →
     count_by (λ x. nat_le 1 x && nat_le x 6) xs ≡ count_by (λ x. is_man_of White (man_of_cell x)) xs
 count_white xs =
-    count_by_same (λ x. nat_le 1 x && nat_le x 6) (λ x. is_man_of White (man_of_cell x)) white_numbers xs
+    count_by_same (λ x. nat_le 1 x && nat_le x 6) (λ x. is_man_of White (man_of_cell x))
+    white_numbers xs
 
 pub count_black : (xs : List ℕ) →
     count_by (λ x. nat_le 7 x && nat_le x 12) xs
     ≡ count_by (λ x. is_man_of Black (man_of_cell x)) xs
 count_black xs =
-    count_by_same (λ x. nat_le 7 x && nat_le x 12) (λ x. is_man_of Black (man_of_cell x)) black_numbers xs
+    count_by_same (λ x. nat_le 7 x && nat_le x 12) (λ x. is_man_of Black (man_of_cell x))
+    black_numbers xs

@@ -25,7 +25,8 @@ first_end f l =
 
 last_end : (f : ℕ) → f < 8 → is_end (56 + f) ≡ true
 last_end f l =
-    either_or (rank_of (56 + f) == 0) (rank_of (56 + f) == 7) (inr (eq-eqb (rank_of (56 + f)) 7 (omega arith)))
+    either_or (rank_of (56 + f) == 0) (rank_of (56 + f) == 7)
+    (inr (eq-eqb (rank_of (56 + f)) 7 (omega arith)))
 
 -- no pawn stands on the ends of the files below n
 abbrev pub HasFreeEnds : Board → ℕ → Type 0

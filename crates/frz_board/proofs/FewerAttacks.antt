@@ -12,16 +12,20 @@ use Rattle.std.proofs.lemmas.Bool.{and_parts, and_from}
 use Rattle.frz_squares.proofs.Lemmas.{implied, implies, each_square, all_squares}
 
 -- each square that is empty on q is empty on p
-module _ (q p : Board) (emptier : (s : ℕ) → s < 64 → is_empty q s ≡ true → is_empty p s ≡ true) where
+module _ (q p : Board)
+    (emptier : (s : ℕ) → s < 64 → is_empty q s ≡ true → is_empty p s ≡ true) where
   clear_too : (a b : ℕ) → is_clear q a b ≡ true → is_clear p a b ≡ true
   clear_too a b h =
       all_squares (λ s. not (is_between a s b) || is_empty p s)
       (λ s l. implies (is_between a s b) (is_empty p s)
-      (λ w. emptier s l (implied (is_between a s b) (is_empty q s) (each_square (λ k. not (is_between a k b) || is_empty q k) h s l) w)))
+      (λ w. emptier s l
+      (implied (is_between a s b) (is_empty q s)
+      (each_square (λ k. not (is_between a k b) || is_empty q k) h s l) w)))
 
   along : (x : Bool) (a b : ℕ) → (x && is_clear q a b) ≡ true → (x && is_clear p a b) ≡ true
   along x a b h =
-      let parts = and_parts x (is_clear q a b) h in and_from x (is_clear p a b) parts.0 (clear_too a b parts.1)
+      let parts = and_parts x (is_clear q a b) h in and_from x (is_clear p a b) parts.0
+      (clear_too a b parts.1)
 
   reaches_too : (c : Colour) (k : Kind) (a b : ℕ) → reaches q c k a b ≡ true →
       reaches p c k a b ≡ true

@@ -25,22 +25,29 @@ beside_cases s b l m h k = grind arith
 
 before : (b : ℕ) → b < 64 → 0 < file_of b → is_beside (b - 1) b ≡ true
 before b l h =
-    and_from (ranks_apart (b - 1) b == 0) (files_apart (b - 1) b == 1) (eq-eqb (ranks_apart (b - 1) b) 0 (omega arith)) (eq-eqb (files_apart (b - 1) b) 1 (omega arith))
+    and_from (ranks_apart (b - 1) b == 0) (files_apart (b - 1) b == 1)
+    (eq-eqb (ranks_apart (b - 1) b) 0 (omega arith))
+    (eq-eqb (files_apart (b - 1) b) 1 (omega arith))
 
 after : (b : ℕ) → b < 64 → file_of b < 7 → is_beside (b + 1) b ≡ true
 after b l h =
-    and_from (ranks_apart (b + 1) b == 0) (files_apart (b + 1) b == 1) (eq-eqb (ranks_apart (b + 1) b) 0 (omega arith)) (eq-eqb (files_apart (b + 1) b) 1 (omega arith))
+    and_from (ranks_apart (b + 1) b == 0) (files_apart (b + 1) b == 1)
+    (eq-eqb (ranks_apart (b + 1) b) 0 (omega arith))
+    (eq-eqb (files_apart (b + 1) b) 1 (omega arith))
 
 from_found : (q : ℕ → Bool) (b : ℕ) → b < 64 → Found (λ s. is_beside s b && q s) →
     passes_beside q b ≡ true
 from_found q b l f =
     let parts = and_parts (is_beside f.square b) (q f.square) f.passes in
     let near = and_parts (ranks_apart f.square b == 0) (files_apart f.square b == 1) parts.0 in
-    elim (beside_cases f.square b f.on_board l (eqb-true (ranks_apart f.square b) 0 near.0) (eqb-true (files_apart f.square b) 1 near.1)) [
+    elim (beside_cases f.square b f.on_board l (eqb-true (ranks_apart f.square b) 0 near.0)
+    (eqb-true (files_apart f.square b) 1 near.1)) [
       | inl w ↦ either_or (nat_lt 0 (file_of b) && q (b - 1)) (nat_lt (file_of b) 7 && q (b + 1))
-          (inl (and_from (nat_lt 0 (file_of b)) (q (b - 1)) (lt-ltb 0 (file_of b) w.0) (ap q (sym w.1) ∙ parts.1)))
+          (inl (and_from (nat_lt 0 (file_of b)) (q (b - 1)) (lt-ltb 0 (file_of b) w.0)
+          (ap q (sym w.1) ∙ parts.1)))
       | inr w ↦ either_or (nat_lt 0 (file_of b) && q (b - 1)) (nat_lt (file_of b) 7 && q (b + 1))
-          (inr (and_from (nat_lt (file_of b) 7) (q (b + 1)) (lt-ltb (file_of b) 7 w.0) (ap q (sym w.1) ∙ parts.1)))
+          (inr (and_from (nat_lt (file_of b) 7) (q (b + 1)) (lt-ltb (file_of b) 7 w.0)
+          (ap q (sym w.1) ∙ parts.1)))
     ]
 
 to_any : (q : ℕ → Bool) (b : ℕ) → b < 64 → passes_beside q b ≡ true →
@@ -50,7 +57,8 @@ to_any q b l h =
       | inl w ↦
           (let parts = and_parts (nat_lt 0 (file_of b)) (q (b - 1)) w in
           any_square (λ s. is_beside s b && q s) (b - 1) (omega arith)
-          (and_from (is_beside (b - 1) b) (q (b - 1)) (before b l (ltb-true 0 (file_of b) parts.0)) parts.1))
+          (and_from (is_beside (b - 1) b) (q (b - 1)) (before b l (ltb-true 0 (file_of b) parts.0))
+          parts.1))
       | inr w ↦
           (let parts = and_parts (nat_lt (file_of b) 7) (q (b + 1)) w in
           let inside : file_of b < 7 = ltb-true (file_of b) 7 parts.0 in
@@ -69,7 +77,8 @@ beside_by_number p c b l =
 pub beside_before : (p : Board) (c : Colour) (b : ℕ) (x : Bool) → b < 64 →
     x ≡ (nat_lt 0 (file_of b) && has p c Pawn (b - 1)) → x ≡ true → x ≡ has_pawn_beside p c b
 beside_before p c b x l e h =
-    (h ∙ sym (either_or (nat_lt 0 (file_of b) && has p c Pawn (b - 1)) (nat_lt (file_of b) 7 && has p c Pawn (b + 1)) (inl (sym e ∙ h))))
+    (h ∙ sym (either_or (nat_lt 0 (file_of b) && has p c Pawn (b - 1))
+    (nat_lt (file_of b) 7 && has p c Pawn (b + 1)) (inl (sym e ∙ h))))
     ∙ beside_by_number p c b l
 
 pub beside_after : (p : Board) (c : Colour) (b : ℕ) (x y : Bool) → b < 64 →

@@ -21,15 +21,18 @@ pub record Tables (rules : RuleLines) (value : Board → Value) : Type 0 where
   pub black_is : IsTableOf rules value Black black
 
 -- where each side has one
-pub some_tables : (rules : RuleLines) (value : Board → Value) → ((side : Colour) → (codes : List ℕ) × IsTableOf rules value side codes) → Tables rules value
+pub some_tables : (rules : RuleLines) (value : Board → Value)
+    → ((side : Colour) → (codes : List ℕ) × IsTableOf rules value side codes) → Tables rules value
 some_tables rules value there =
     let white = there White in
     let black = there Black in
     record { white = white.0; black = black.0; white_is = white.1; black_is = black.1 }
 
 -- what was written of the file of two tables was written of the one file
-pub builds : {T : Type 0} (magic text : List ℕ) (rules : RuleLines) (value : Board → Value) (name : List ℕ) (size : ℕ) (result : Result T StoreFault) (old new : StoreTold)
-    → size ≡ size_of rules.groups → (t : Tables rules value) → Written name (file_of magic text size t.white t.black) result old new
+pub builds : {T : Type 0} (magic text : List ℕ) (rules : RuleLines) (value : Board → Value)
+    (name : List ℕ) (size : ℕ) (result : Result T StoreFault) (old new : StoreTold)
+    → size ≡ size_of rules.groups → (t : Tables rules value)
+    → Written name (file_of magic text size t.white t.black) result old new
     → Builds magic text rules value name result old new
 builds magic text rules value name size result old new sized t written = record {
   bytes = file_of magic text size t.white t.black;

@@ -36,11 +36,13 @@ use Rattle.frz_chain.specs.declared.fault.ChainFault.TheVariants as chain
 use Rattle.frz_chain.proofs.Moved.{same_verdict}
 
 -- the values of rules that were read have small lags
-pub read_small : (text : List ℕ) (rules : RuleLines) → rules_of text ≡ Ok rules → HasSmallLags (value_by rules)
+pub read_small : (text : List ℕ) (rules : RuleLines) → rules_of text ≡ Ok rules
+    → HasSmallLags (value_by rules)
 read_small text rules read q valid = small_values rules (answer_sound text (Ok rules) read) q
 
 -- a file that is refused is refused as a back table
-file_refused : (held : Option (List ℕ)) (fault : TableFault) → Refuses (opened (table_format Plain) held) fault → IsRefusedBack held (back_fault fault)
+file_refused : (held : Option (List ℕ)) (fault : TableFault)
+    → Refuses (opened (table_format Plain) held) fault → IsRefusedBack held (back_fault fault)
 file_refused held Missing h = h
 file_refused held Magic h = h
 file_refused held (Truncated length due) h = h
@@ -51,13 +53,18 @@ file_refused held Failed h = tt
 file_refused held NoMemory h = tt
 
 -- it was opened, and the lists of its codes were not loaded
-pub not_loaded : (table : Table) (name : List ℕ) (old mid new : StoreTold) (steps_before steps_now : ℕ) (fault : TableFault)
+pub not_loaded : (table : Table) (name : List ℕ) (old mid new : StoreTold)
+    (steps_before steps_now : ℕ) (fault : TableFault)
     → MayOpen (table_format Plain) old.files name (contents_of table)
     → mid.asked ≤ old.asked + (16 + length table.text) → mid.calls ≤ old.calls + 5
-    → new.asked ≤ mid.asked + 8 * table_size table → new.calls ≤ mid.calls + 2 * pieces_of (table_size table)
-    → steps_now ≤ steps_before + table_size table → IsOutside fault → RefusesBack name old new steps_before steps_now (back_fault fault)
-not_loaded table name old mid new steps_before steps_now fault opens asked calls more_asked more_calls steps outside =
-    let h = file_not_loaded table name old mid new steps_before steps_now fault opens asked calls more_asked more_calls steps outside in record {
+    → new.asked ≤ mid.asked + 8 * table_size table
+    → new.calls ≤ mid.calls + 2 * pieces_of (table_size table)
+    → steps_now ≤ steps_before + table_size table → IsOutside fault
+    → RefusesBack name old new steps_before steps_now (back_fault fault)
+not_loaded table name old mid new steps_before steps_now fault opens asked calls more_asked
+    more_calls steps outside =
+    let h = file_not_loaded table name old mid new steps_before steps_now fault opens asked calls
+    more_asked more_calls steps outside in record {
       held = h.held;
       may = h.may;
       refuses = file_refused h.held fault h.refuses;
@@ -65,7 +72,8 @@ not_loaded table name old mid new steps_before steps_now fault opens asked calls
     }
 
 -- a file that the name may hold, with the verdict on the lists that were loaded
-pub record JudgedBack (name : List ℕ) (back : Back) (v : Verdict) (old new : StoreTold) (steps_before steps_now : ℕ) : Type 0 where
+pub record JudgedBack (name : List ℕ) (back : Back) (v : Verdict) (old new : StoreTold)
+    (steps_before steps_now : ℕ) : Type 0 where
   pub bytes : List ℕ
   pub may : MayHold old.files name (Some bytes)
   pub contents : Contents
@@ -74,51 +82,67 @@ pub record JudgedBack (name : List ℕ) (back : Back) (v : Verdict) (old new : S
   pub within : WithinFile (Some bytes) old new steps_before steps_now
 
 -- the verdict on the lists is one on the file
-judged_bytes : (table : Table) (white black bytes : List ℕ) (v : Verdict) → rules_of table.text ≡ Ok table.rules
+judged_bytes : (table : Table) (white black bytes : List ℕ) (v : Verdict)
+    → rules_of table.text ≡ Ok table.rules
     → opened (table_format Plain) (Some bytes) ≡ Ok (contents_of table)
-    → white ≡ kept_codes (contents_of table) bytes White → black ≡ kept_codes (contents_of table) bytes Black
-    → IsVerdict table.rules (value_by table.rules) (λ side. of_side side white black) v → IsBackJudged bytes (contents_of table) v
+    → white ≡ kept_codes (contents_of table) bytes White
+    → black ≡ kept_codes (contents_of table) bytes Black
+    → IsVerdict table.rules (value_by table.rules) (λ side. of_side side white black) v
+    → IsBackJudged bytes (contents_of table) v
 judged_bytes table white black bytes v read opens white_is black_is h = record {
   opens = opens;
   told =
-      verdict_on Plain (value_by table.rules) (contents_of table) bytes v (table_exact table.rules (value_by table.rules))
-      (plies_few table.rules (value_by table.rules) (read_small table.text table.rules read)) read opens
-      (same_verdict table.rules (value_by table.rules) (λ side. of_side side white black) (kept_codes (contents_of table) bytes) v by_side h);
+      verdict_on Plain (value_by table.rules) (contents_of table) bytes v
+      (table_exact table.rules (value_by table.rules))
+      (plies_few table.rules (value_by table.rules) (read_small table.text table.rules read)) read
+      opens
+      (same_verdict table.rules (value_by table.rules) (λ side. of_side side white black)
+      (kept_codes (contents_of table) bytes) v by_side h);
 }
   where
     by_side : (side : Colour) → of_side side white black ≡ kept_codes (contents_of table) bytes side
     by_side White = white_is
     by_side Black = black_is
 
-pub judged_back : (table : Table) (name white black : List ℕ) (v : Verdict) (old mid new : StoreTold) (steps_before steps_now : ℕ)
-    → MayKeep mid.files table white black → mid.files ≡ old.files → table.kind ≡ Plain → table.name ≡ name
+pub judged_back : (table : Table) (name white black : List ℕ) (v : Verdict)
+    (old mid new : StoreTold) (steps_before steps_now : ℕ)
+    → MayKeep mid.files table white black → mid.files ≡ old.files → table.kind ≡ Plain
+    → table.name ≡ name
     → MayOpen (table_format Plain) old.files name (contents_of table)
     → mid.asked ≤ old.asked + (16 + length table.text) → mid.calls ≤ old.calls + 5
-    → new.asked ≤ mid.asked + 8 * table_size table → new.calls ≤ mid.calls + 2 * pieces_of (table_size table)
+    → new.asked ≤ mid.asked + 8 * table_size table
+    → new.calls ≤ mid.calls + 2 * pieces_of (table_size table)
     → steps_now ≤ steps_before + table_size table
     → IsVerdict table.rules (value_by table.rules) (λ side. of_side side white black) v
     → JudgedBack name (back_with table.rules.groups white black) v old new steps_before steps_now
-judged_back table name white black v old mid new steps_before steps_now kept same kind named may asked calls more_asked more_calls steps h =
+judged_back table name white black v old mid new steps_before steps_now kept same kind named may
+    asked calls more_asked more_calls steps h =
     let contents : Contents = contents_of table in
-    let read : rules_of table.text ≡ Ok table.rules = (belongs (table_format Plain) may.bytes (contents_of table) may.opens).read in
+    let read : rules_of table.text ≡ Ok table.rules =
+    (belongs (table_format Plain) may.bytes (contents_of table) may.opens).read in
     let opens : opened (table_format Plain) (Some kept.bytes) ≡ Ok contents =
     subst (λ (k : FileKind). opened (table_format k) (Some kept.bytes) ≡ Ok contents) kind
-    (opens_by (table_format table.kind) kept.bytes contents (record { file = kept.file; short = read_short table.text table.rules read; read = read })) in
+    (opens_by (table_format table.kind) kept.bytes contents
+    (record { file = kept.file; short = read_short table.text table.rules read; read = read })) in
     record {
       bytes = kept.bytes;
       may =
           subst (λ (o : Option Files). MayHold o name (Some kept.bytes)) same
           (subst (λ (n : List ℕ). MayHold mid.files n (Some kept.bytes)) named kept.may);
       contents = contents;
-      judged = judged_bytes table white black kept.bytes v read opens (sym kept.white_is) (sym kept.black_is) h;
+      judged = judged_bytes table white black kept.bytes v read opens (sym kept.white_is)
+          (sym kept.black_is) h;
       keeps =
           ap (λ (l : List ℕ). back_with table.rules.groups l black) (sym kept.white_is)
-          ∙ ap (λ (l : List ℕ). back_with table.rules.groups (kept_codes contents kept.bytes White) l) (sym kept.black_is);
-      within = within_file kept.bytes contents old mid new steps_before steps_now opens asked calls more_asked more_calls steps;
+          ∙ ap (λ (l : List ℕ). back_with table.rules.groups (kept_codes contents kept.bytes White)
+          l) (sym kept.black_is);
+      within = within_file kept.bytes contents old mid new steps_before steps_now opens asked calls
+          more_asked more_calls steps;
     }
 
 -- the back table is given, or its first wrong entry
-module _ (name : List ℕ) (back : Back) (v : Verdict) (old new : StoreTold) (steps_before steps_now : ℕ) (h : JudgedBack name back v old new steps_before steps_now) where
+module _ (name : List ℕ) (back : Back) (v : Verdict) (old new : StoreTold)
+    (steps_before steps_now : ℕ) (h : JudgedBack name back v old new steps_before steps_now) where
   pub back_given : (result : Result BackTable ChainFault) → GivesBack back v result
       → IfOk result (λ b. OpensBack name (loaded_back b) old new steps_before steps_now)
   back_given (Ok given) gives = record {

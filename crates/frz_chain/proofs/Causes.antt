@@ -7,12 +7,19 @@ use Rattle.frz_chain.specs.declared.fault.ChainFault.{ChainFault}
 use Rattle.frz_chain.specs.declared.fault.ChainFault.TheVariants as chain
 
 -- calls before that succeeded change no cause
-pub chain_later : (T : Type 0) (result : Result T ChainFault) (old mid new : StoreTold) → StoreFine old mid
+pub chain_later : (T : Type 0) (result : Result T ChainFault) (old mid new : StoreTold)
+    → StoreFine old mid
     → HasChainCause result mid new → HasChainCause result old new
-chain_later T (Ok x) old mid new fine h = record { faults = h.faults ∙ fine.faults; wants = h.wants ∙ fine.wants }
-chain_later T (Err (chain.Rules f)) old mid new fine h = record { faults = h.faults ∙ fine.faults; wants = h.wants ∙ fine.wants }
-chain_later T (Err (chain.Table f)) old mid new fine h = record { faults = h.faults ∙ fine.faults; wants = h.wants ∙ fine.wants }
-chain_later T (Err (chain.Back f)) old mid new fine h = record { faults = h.faults ∙ fine.faults; wants = h.wants ∙ fine.wants }
-chain_later T (Err (chain.BackWrong w)) old mid new fine h = record { faults = h.faults ∙ fine.faults; wants = h.wants ∙ fine.wants }
-chain_later T (Err chain.Failed) old mid new fine h = subst (λ (n : ℕ). Rose n new.faults) fine.faults h
+chain_later T (Ok x) old mid new fine h =
+    record { faults = h.faults ∙ fine.faults; wants = h.wants ∙ fine.wants }
+chain_later T (Err (chain.Rules f)) old mid new fine h =
+    record { faults = h.faults ∙ fine.faults; wants = h.wants ∙ fine.wants }
+chain_later T (Err (chain.Table f)) old mid new fine h =
+    record { faults = h.faults ∙ fine.faults; wants = h.wants ∙ fine.wants }
+chain_later T (Err (chain.Back f)) old mid new fine h =
+    record { faults = h.faults ∙ fine.faults; wants = h.wants ∙ fine.wants }
+chain_later T (Err (chain.BackWrong w)) old mid new fine h =
+    record { faults = h.faults ∙ fine.faults; wants = h.wants ∙ fine.wants }
+chain_later T (Err chain.Failed) old mid new fine h =
+    subst (λ (n : ℕ). Rose n new.faults) fine.faults h
 chain_later T (Err chain.NoMemory) old mid new fine h = tt

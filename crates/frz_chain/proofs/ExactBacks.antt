@@ -40,7 +40,8 @@ module _ {M V : Type 0} (arena : Arena M ℕ V) (codes : Colour → List ℕ) wh
   -- where the codes of both sides agree they are found to
   agree_there : (i : ℕ) → AgreeAt arena codes i → agree_at arena codes i ≡ true
   agree_there i agree =
-      both (kept_code codes White i == given_code arena codes White i) (kept_code codes Black i == given_code arena codes Black i)
+      both (kept_code codes White i == given_code arena codes White i)
+      (kept_code codes Black i == given_code arena codes Black i)
       (same_number (kept_code codes White i) (given_code arena codes White i) (agree White))
       (same_number (kept_code codes Black i) (given_code arena codes Black i) (agree Black))
 
@@ -48,16 +49,20 @@ module _ {M V : Type 0} (arena : Arena M ℕ V) (codes : Colour → List ℕ) wh
   unfolding all_agree
   all_there zero agree = refl
   all_there (suc n) agree =
-      both (all_agree arena codes n) (agree_at arena codes n) (all_there n (λ i l. agree i (omega (arith, l))))
+      both (all_agree arena codes n) (agree_at arena codes n)
+      (all_there n (λ i l. agree i (omega (arith, l))))
       (agree_there n (agree n (omega arith)))
 
   -- and where one differs they are not
-  differ_there : (side : Colour) (i : ℕ) → kept_code codes side i ≢ given_code arena codes side i → agree_at arena codes i ≡ false
+  differ_there : (side : Colour) (i : ℕ) → kept_code codes side i ≢ given_code arena codes side i
+      → agree_at arena codes i ≡ false
   differ_there White i differ =
-      first_not (kept_code codes White i == given_code arena codes White i) (kept_code codes Black i == given_code arena codes Black i)
+      first_not (kept_code codes White i == given_code arena codes White i)
+      (kept_code codes Black i == given_code arena codes Black i)
       (other_number (kept_code codes White i) (given_code arena codes White i) differ)
   differ_there Black i differ =
-      second_not (kept_code codes White i == given_code arena codes White i) (kept_code codes Black i == given_code arena codes Black i)
+      second_not (kept_code codes White i == given_code arena codes White i)
+      (kept_code codes Black i == given_code arena codes Black i)
       (other_number (kept_code codes Black i) (given_code arena codes Black i) differ)
 
   some_differ : (n i : ℕ) → i < n → agree_at arena codes i ≡ false → all_agree arena codes n ≡ false
@@ -65,41 +70,53 @@ module _ {M V : Type 0} (arena : Arena M ℕ V) (codes : Colour → List ℕ) wh
   some_differ zero i l e = absurd (omega (arith, l))
   some_differ (suc n) i l e =
       elim (cases_lt i n) [
-        | inl below ↦ first_not (all_agree arena codes n) (agree_at arena codes n) (some_differ n i below e)
+        | inl below ↦ first_not (all_agree arena codes n) (agree_at arena codes n)
+            (some_differ n i below e)
         | inr above ↦
             (let same : i ≡ n = omega (arith, l, above) in
-            second_not (all_agree arena codes n) (agree_at arena codes n) (ap (λ k. agree_at arena codes k) (sym same) ∙ e))
+            second_not (all_agree arena codes n) (agree_at arena codes n)
+            (ap (λ k. agree_at arena codes k) (sym same) ∙ e))
       ]
 
-  exact_agree : (size : ℕ) → ((side : Colour) → IsExact arena side size (codes side)) → all_agree arena codes size ≡ true
+  exact_agree : (size : ℕ) → ((side : Colour) → IsExact arena side size (codes side))
+      → all_agree arena codes size ≡ true
   exact_agree size exact = all_there size (λ i l side. (exact side).local i l)
 
-  wrong_differ : (size : ℕ) (wrong : Wrong) → IsFirstWrong arena size codes wrong → all_agree arena codes size ≡ false
+  wrong_differ : (size : ℕ) (wrong : Wrong) → IsFirstWrong arena size codes wrong
+      → all_agree arena codes size ≡ false
   wrong_differ size wrong h =
       some_differ size wrong.number h.inside
       (differ_there wrong.side wrong.number (λ e. h.differs (h.kept ∙ e ∙ sym h.given)))
 
 -- bytes that open are exact where their codes agree
-by_opening : (bytes : List ℕ) (contents : Contents) → opened (table_format Plain) (Some bytes) ≡ Ok contents
-    → is_exact (Some bytes) ≡ all_agree (graph_by contents.rules (value_by contents.rules)) (kept_codes contents bytes) (size_of contents.rules.groups)
+by_opening : (bytes : List ℕ) (contents : Contents)
+    → opened (table_format Plain) (Some bytes) ≡ Ok contents
+    → is_exact (Some bytes) ≡ all_agree (graph_by contents.rules (value_by contents.rules))
+    (kept_codes contents bytes) (size_of contents.rules.groups)
 unfolding is_exact
 by_opening bytes contents opens = ap (λ (x : Result Contents TableFault). is_exact_by x bytes) opens
 
-pub judged_exact : (bytes : List ℕ) (contents : Contents) → IsBackJudged bytes contents verdict.Exact → is_exact (Some bytes) ≡ true
+pub judged_exact : (bytes : List ℕ) (contents : Contents)
+    → IsBackJudged bytes contents verdict.Exact → is_exact (Some bytes) ≡ true
 judged_exact bytes contents h =
     let value = value_by contents.rules in
     by_opening bytes contents h.opens
-    ∙ exact_agree (graph_by contents.rules value) (kept_codes contents bytes) (size_of contents.rules.groups)
-    (λ side. table_exact contents.rules value side (kept_codes contents bytes side) (h.told.codes side))
+    ∙ exact_agree (graph_by contents.rules value) (kept_codes contents bytes)
+    (size_of contents.rules.groups)
+    (λ side. table_exact contents.rules value side (kept_codes contents bytes side)
+    (h.told.codes side))
 
-pub judged_wrong : (held : Option (List ℕ)) (wrong : Wrong) → HasWrong held wrong → is_exact held ≡ false
+pub judged_wrong : (held : Option (List ℕ)) (wrong : Wrong) → HasWrong held wrong
+    → is_exact held ≡ false
 judged_wrong held wrong h =
     let contents = h.contents in
     ap is_exact h.there
     ∙ by_opening h.bytes contents h.judged.opens
-    ∙ wrong_differ (graph_by contents.rules (value_by contents.rules)) (kept_codes contents h.bytes) (size_of contents.rules.groups) wrong h.judged.told.codes
+    ∙ wrong_differ (graph_by contents.rules (value_by contents.rules)) (kept_codes contents h.bytes)
+    (size_of contents.rules.groups) wrong h.judged.told.codes
 
-pub not_open : (held : Option (List ℕ)) (fault : TableFault) → opened (table_format Plain) held ≡ Err fault → is_exact held ≡ false
+pub not_open : (held : Option (List ℕ)) (fault : TableFault)
+    → opened (table_format Plain) held ≡ Err fault → is_exact held ≡ false
 unfolding is_exact
 not_open None fault e = refl
 not_open (Some bytes) fault e = ap (λ (x : Result Contents TableFault). is_exact_by x bytes) e

@@ -7,13 +7,15 @@ use Rattle.frz_sets.specs.declared.exit.Value.TheVariants.{WhiteWins, BlackWins,
 use Rattle.frz_chain.specs.PairValues.{pair_value}
 
 -- the value of a test, or the rest
-either : (P : Value → Type 0) (v rest : Value) (test : Bool) → (test ≡ true → P v) → P rest → P (if test then v else rest)
+either : (P : Value → Type 0) (v rest : Value) (test : Bool) → (test ≡ true → P v) → P rest
+    → P (if test then v else rest)
 either P v rest true h k = h refl
 either P v rest false h k = k
 
 pub of_pairs : (P : Value → Type 0) (white black : ℕ)
     → (is_win white ≡ true → P WhiteWins) → (is_win black ≡ true → P BlackWins)
-    → (white ≡ 1 → black ≡ 1 → P Draw) → (white ≡ 1 → P WhiteHolds) → (black ≡ 1 → P BlackHolds) → P Unknown
+    → (white ≡ 1 → black ≡ 1 → P Draw) → (white ≡ 1 → P WhiteHolds) → (black ≡ 1 → P BlackHolds)
+    → P Unknown
     → P (pair_value white black)
 of_pairs P white black white_wins black_wins draw white_holds black_holds unknown =
     let fifth : Value = if is_failure white && (black == 1) then BlackHolds else Unknown in
@@ -25,8 +27,10 @@ of_pairs P white black white_wins black_wins draw white_holds black_holds unknow
     (either P BlackWins third (is_failure white && is_win black)
     (λ e. black_wins (and_parts (is_failure white) (is_win black) e).1)
     (either P Draw fourth ((white == 1) && (black == 1))
-    (λ e. draw (eqb-true white 1 (and_parts (white == 1) (black == 1) e).0) (eqb-true black 1 (and_parts (white == 1) (black == 1) e).1))
+    (λ e. draw (eqb-true white 1 (and_parts (white == 1) (black == 1) e).0)
+    (eqb-true black 1 (and_parts (white == 1) (black == 1) e).1))
     (either P WhiteHolds fifth ((white == 1) && is_failure black)
     (λ e. white_holds (eqb-true white 1 (and_parts (white == 1) (is_failure black) e).0))
     (either P BlackHolds Unknown (is_failure white && (black == 1))
-    (λ e. black_holds (eqb-true black 1 (and_parts (is_failure white) (black == 1) e).1)) unknown))))
+    (λ e. black_holds (eqb-true black 1 (and_parts (is_failure white) (black == 1) e).1))
+    unknown))))

@@ -18,9 +18,11 @@ told_small : (back : Back) (o : Option ℕ) → lag_of (told_at back o) ≤ 1000
 told_small back None = omega arith
 told_small back (Some i) =
     of_pairs (λ (v : Value). lag_of v ≤ 1000) (slice_index back.white i) (slice_index back.black i)
-    (λ _. omega arith) (λ _. omega arith) (λ _ _. omega arith) (λ _. omega arith) (λ _. omega arith) (omega arith)
+    (λ _. omega arith) (λ _. omega arith) (λ _ _. omega arith) (λ _. omega arith) (λ _. omega arith)
+    (omega arith)
 
-either_small : (first second : Value) → lag_of first ≤ 1000 → lag_of second ≤ 1000 → lag_of (or_else first second) ≤ 1000
+either_small : (first second : Value) → lag_of first ≤ 1000 → lag_of second ≤ 1000
+    → lag_of (or_else first second) ≤ 1000
 either_small WhiteWins second h k = h
 either_small BlackWins second h k = h
 either_small Draw second h k = h
@@ -31,7 +33,8 @@ either_small (WhiteWinsIn n) second h k = h
 either_small (BlackWinsIn n) second h k = h
 
 -- and the first value has none that the chain has not
-pub first_small : (first second : Value) → lag_of (or_else first second) ≤ 1000 → lag_of first ≤ 1000
+pub first_small : (first second : Value) → lag_of (or_else first second) ≤ 1000
+    → lag_of first ≤ 1000
 first_small WhiteWins second h = h
 first_small BlackWins second h = h
 first_small Draw second h = h
@@ -41,6 +44,8 @@ first_small Unknown second h = omega arith
 first_small (WhiteWinsIn n) second h = h
 first_small (BlackWinsIn n) second h = h
 
-pub chain_small : (rules : RuleLines) (back : Back) → IsSound rules → HasSmallLags (chain_value rules back)
+pub chain_small : (rules : RuleLines) (back : Back) → IsSound rules
+    → HasSmallLags (chain_value rules back)
 chain_small rules back sound q valid =
-    either_small (value_by rules q) (back_value back q) (small_values rules sound q) (told_small back (number_of back.groups q))
+    either_small (value_by rules q) (back_value back q) (small_values rules sound q)
+    (told_small back (number_of back.groups q))

@@ -13,7 +13,8 @@ use Rattle.frz_chain.proofs.TrueValues.{chained_true}
 
 pub tells_chess : (rules backs : RuleLines) (back : Back) → IsExactBack backs (value_by backs) back
     → AreTrueExits rules (value_by rules) → AreTrueExits backs (value_by backs)
-    → (side : Colour) (codes : List ℕ) → IsTableOf rules (chain_value rules back) side codes → TellsChess rules (chain_value rules back) side codes
+    → (side : Colour) (codes : List ℕ) → IsTableOf rules (chain_value rules back) side codes
+    → TellsChess rules (chain_value rules back) side codes
 tells_chess rules backs back exact own others side codes table =
     let exits = chained_true rules backs (value_by backs) back exact own others in
     let means = table_means rules (chain_value rules back) side codes table in

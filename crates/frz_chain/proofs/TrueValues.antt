@@ -29,26 +29,31 @@ use Rattle.frz_chain.proofs.Pairs.{of_pairs}
 -- a bound whose code is a win is a win
 win_is : (b : Bound) (code : ℕ) → code ≡ code_of b → is_win code ≡ true → (n : ℕ) × (b ≡ Wins n)
 win_is (Wins n) code e win = (n, refl)
-win_is Holds code e win = let h : is_win 1 ≡ true = subst (λ (c : ℕ). is_win c ≡ true) e win in absurd (cc h)
+win_is Holds code e win =
+    let h : is_win 1 ≡ true = subst (λ (c : ℕ). is_win c ≡ true) e win in absurd (cc h)
 win_is (Fails m) code e win = absurd (win_and_failure code win (as_failure code m e).0)
 
 hold_is : (b : Bound) (code : ℕ) → code ≡ code_of b → code ≡ 1 → b ≡ Holds
 hold_is b code e one = codes_differ b Holds (sym e ∙ one)
 
-module _ (rules : RuleLines) (value : Board → Value) (exits : AreTrueExits rules value) (q : Board) where
-  wins_true : (side : Colour) (b : Bound) (code : ℕ) → Means rules value side q b → code ≡ code_of b → is_win code ≡ true
+module _ (rules : RuleLines) (value : Board → Value) (exits : AreTrueExits rules value)
+    (q : Board) where
+  wins_true : (side : Colour) (b : Bound) (code : ℕ) → Means rules value side q b → code ≡ code_of b
+      → is_win code ≡ true
       → (n : ℕ) × ForcesMate chess side n q
   wins_true side b code means e win =
       let is = win_is b code e win in
       (subst (λ (x : Bound). Means rules value side q x) is.1 means).mate exits
 
-  hold_true : (side : Colour) (b : Bound) (code : ℕ) → Means rules value side q b → code ≡ code_of b → code ≡ 1
+  hold_true : (side : Colour) (b : Bound) (code : ℕ) → Means rules value side q b → code ≡ code_of b
+      → code ≡ 1
       → NeverForcesMate chess (other_of side) q
   hold_true side b code means e one =
       subst (λ (x : Bound). Means rules value side q x) (hold_is b code e one) means exits
 
 -- what the table tells of a position of its set, or of another
-module _ (rules : RuleLines) (value : Board → Value) (back : Back) (exact : IsExactBack rules value back) (exits : AreTrueExits rules value) (q : Board) where
+module _ (rules : RuleLines) (value : Board → Value) (back : Back)
+    (exact : IsExactBack rules value back) (exits : AreTrueExits rules value) (q : Board) where
   in_set : Member rules.groups q → IsTrueValue (told_at back (Some (Num rules.groups q))) q
   in_set member =
       let i : ℕ = Num rules.groups q in
@@ -56,22 +61,31 @@ module _ (rules : RuleLines) (value : Board → Value) (back : Back) (exact : Is
       let black = stored_bound rules value Black back.black exact.black q member in
       let white_means = bound_means rules value White q white.0 member white.2 in
       let black_means = bound_means rules value Black q black.0 member black.2 in
-      of_pairs (λ (v : Value). IsTrueValue v q) (slice_index back.white i) (slice_index back.black i)
-      (λ win. wins_true rules value exits q White white.0 (slice_index back.white i) white_means white.1 win)
-      (λ win. wins_true rules value exits q Black black.0 (slice_index back.black i) black_means black.1 win)
+      of_pairs (λ (v : Value). IsTrueValue v q) (slice_index back.white i)
+      (slice_index back.black i)
+      (λ win. wins_true rules value exits q White white.0 (slice_index back.white i) white_means
+      white.1 win)
+      (λ win. wins_true rules value exits q Black black.0 (slice_index back.black i) black_means
+      black.1 win)
       (λ w b. (
-        hold_true rules value exits q White white.0 (slice_index back.white i) white_means white.1 w,
-        hold_true rules value exits q Black black.0 (slice_index back.black i) black_means black.1 b,
+        hold_true rules value exits q White white.0 (slice_index back.white i) white_means white.1
+            w,
+        hold_true rules value exits q Black black.0 (slice_index back.black i) black_means black.1
+            b,
       ))
-      (λ w. hold_true rules value exits q White white.0 (slice_index back.white i) white_means white.1 w)
-      (λ b. hold_true rules value exits q Black black.0 (slice_index back.black i) black_means black.1 b)
+      (λ w. hold_true rules value exits q White white.0 (slice_index back.white i) white_means
+      white.1 w)
+      (λ b. hold_true rules value exits q Black black.0 (slice_index back.black i) black_means
+      black.1 b)
       tt
 
-  by_membership : (member : Bool) → is_member rules.groups q ≡ member → IsTrueValue (back_value back q) q
+  by_membership : (member : Bool) → is_member rules.groups q ≡ member
+      → IsTrueValue (back_value back q) q
   by_membership true e =
       let there : number_of back.groups q ≡ Some (Num rules.groups q) =
       ap (λ (g : List GroupLine). number_of g q) exact.set ∙ number_there rules.groups q e in
-      subst (λ (o : Option ℕ). IsTrueValue (told_at back o) q) (sym there) (in_set (member_of rules.groups q e))
+      subst (λ (o : Option ℕ). IsTrueValue (told_at back o) q) (sym there)
+      (in_set (member_of rules.groups q e))
   by_membership false e =
       let none : number_of back.groups q ≡ None =
       ap (λ (g : List GroupLine). number_of g q) exact.set ∙ number_missing rules.groups q e in
@@ -81,7 +95,8 @@ module _ (rules : RuleLines) (value : Board → Value) (back : Back) (exact : Is
   back_true = by_membership (is_member rules.groups q) refl
 
 -- the first value or the second
-either_true : (first second : Value) (q : Board) → IsTrueValue first q → IsTrueValue second q → IsTrueValue (or_else first second) q
+either_true : (first second : Value) (q : Board) → IsTrueValue first q → IsTrueValue second q
+    → IsTrueValue (or_else first second) q
 either_true WhiteWins second q h k = h
 either_true BlackWins second q h k = h
 either_true Draw second q h k = h
@@ -91,8 +106,11 @@ either_true Unknown second q h k = k
 either_true (WhiteWinsIn n) second q h k = h
 either_true (BlackWinsIn n) second q h k = h
 
-pub chained_true : (rules backs : RuleLines) (value : Board → Value) (back : Back) → IsExactBack backs value back
-    → AreTrueExits rules (value_by rules) → AreTrueExits backs value → AreTrueExits rules (chain_value rules back)
+pub chained_true : (rules backs : RuleLines) (value : Board → Value) (back : Back)
+    → IsExactBack backs value back
+    → AreTrueExits rules (value_by rules) → AreTrueExits backs value
+    → AreTrueExits rules (chain_value rules back)
 chained_true rules backs value back exact own others p m member legal outside =
-    either_true (value_by rules (after p m)) (back_value back (after p m)) (after p m) (own p m member legal outside)
+    either_true (value_by rules (after p m)) (back_value back (after p m)) (after p m)
+    (own p m member legal outside)
     (back_true backs value back exact others (after p m))

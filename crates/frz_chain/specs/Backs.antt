@@ -27,7 +27,8 @@ GivesBack back verdict (Err (BackWrong wrong)) = verdict ≡ Wrong wrong
 GivesBack back verdict (Err fault) = ⊥
 
 -- the name may hold a plain table that is exact, and this is the back table that it keeps
-pub record OpensBack (name : List ℕ) (back : Back) (old new : StoreTold) (steps_before steps_now : ℕ) : Type 0 where
+pub record OpensBack (name : List ℕ) (back : Back) (old new : StoreTold)
+    (steps_before steps_now : ℕ) : Type 0 where
   pub bytes : List ℕ
   pub may : MayHold old.files name (Some bytes)
   pub contents : Contents

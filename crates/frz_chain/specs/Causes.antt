@@ -1,4 +1,5 @@
--- The faults of a chain that come from the store, from memory, from a file or from the reader of rules.
+-- The faults of a chain that come from the store, from memory,
+-- from a file or from the reader of rules.
 use Rattle.std.specs.Prelude.{Result, Err, ⊤}
 use Rattle.frz_rules.specs.declared.fault.RulesError.{RulesError}
 use Rattle.frz_rules.specs.declared.fault.RulesError.TheVariants as reading
@@ -31,8 +32,8 @@ back_fault table.Failed = Failed
 back_fault table.NoMemory = NoMemory
 back_fault fault = Back fault
 
--- a failure has raised the count of faults, want of memory is free, and with any other answer no call of
--- the store was refused
+-- a failure has raised the count of faults, want of memory is free, and with any other answer no
+-- call of the store was refused
 abbrev pub HasChainCause : {T : Type 0} → Result T ChainFault → StoreTold → StoreTold → Type 0
 HasChainCause (Err Failed) old new = Rose old.faults new.faults
 HasChainCause (Err NoMemory) old new = ⊤

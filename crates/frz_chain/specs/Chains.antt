@@ -33,22 +33,25 @@ abbrev pub CarriesSizes : ChainVerdict → ℕ → ℕ → Type 0
 CarriesSizes (Exact size back) due back_due = (size ≡ due) × (back ≡ back_due)
 CarriesSizes (Wrong wrong) due back_due = ⊤
 
--- what checking the back table costs: a step for each number, and the bytes and the calls that open and
--- load it
+-- what checking the back table costs: a step for each number,
+-- and the bytes and the calls that open and load it
 abbrev pub steps_of_back : Option (List ℕ) → ℕ
 steps_of_back held = opened_size (opened (table_format Plain) held)
 
 abbrev pub bytes_of_back : Option (List ℕ) → ℕ
-bytes_of_back held = 16 + length (held_text held) + 8 * opened_size (opened (table_format Plain) held)
+bytes_of_back held =
+    16 + length (held_text held) + 8 * opened_size (opened (table_format Plain) held)
 
 abbrev pub calls_of_back : Option (List ℕ) → ℕ
 calls_of_back held =
-    opening_calls (table_format Plain) held + 2 * pieces_of (opened_size (opened (table_format Plain) held))
+    opening_calls (table_format Plain) held + 2 * pieces_of
+    (opened_size (opened (table_format Plain) held))
 
 -- what comes behind opening the table. Where it is refused that is nothing; else the back table is
 -- checked, and where that one is exact, the codes of the table are loaded and checked
 abbrev pub steps_behind : Result Contents TableFault → Option (List ℕ) → ℕ
-steps_behind (Ok contents) back_held = steps_of_back back_held + if_exact back_held (size_of contents.rules.groups)
+steps_behind (Ok contents) back_held =
+    steps_of_back back_held + if_exact back_held (size_of contents.rules.groups)
 steps_behind (Err fault) back_held = 0
 
 abbrev pub bytes_behind : Result Contents TableFault → Option (List ℕ) → ℕ
@@ -71,7 +74,8 @@ bytes_for_both held back_held =
 
 abbrev pub calls_for_both : (held back_held : Option (List ℕ)) → ℕ
 calls_for_both held back_held =
-    opening_calls (table_format Chained) held + calls_behind (opened (table_format Chained) held) back_held
+    opening_calls (table_format Chained) held + calls_behind (opened (table_format Chained) held)
+    back_held
 
 -- no more than checking both files costs
 pub record WithinBoth (held back_held : Option (List ℕ)) (old new : StoreTold)
@@ -80,8 +84,8 @@ pub record WithinBoth (held back_held : Option (List ℕ)) (old new : StoreTold)
   pub asked : new.asked ≤ old.asked + bytes_for_both held back_held
   pub calls : new.calls ≤ old.calls + calls_for_both held back_held
 
--- the verdict on a table and a back table that the two names may hold: the back table is exact, and the
--- verdict on the table is by the book that has the back table behind the exit lines
+-- the verdict on a table and a back table that the two names may hold: the back table is exact, and
+-- the verdict on the table is by the book that has the back table behind the exit lines
 pub record ChecksChain (table back : List ℕ) (old new : StoreTold) (steps_before steps_now : ℕ)
     (verdict : ChainVerdict) : Type 0 where
   pub bytes : List ℕ
@@ -93,9 +97,11 @@ pub record ChecksChain (table back : List ℕ) (old new : StoreTold) (steps_befo
   pub back_contents : Contents
   pub back_judged : IsBackJudged back_bytes back_contents verdicts.Exact
   pub told :
-      IsVerdictOn Chained (chain_value contents.rules (back_of back_contents back_bytes)) contents bytes
+      IsVerdictOn Chained (chain_value contents.rules (back_of back_contents back_bytes)) contents
+      bytes
       (judgement verdict)
-  pub sizes : CarriesSizes verdict (size_of contents.rules.groups) (size_of back_contents.rules.groups)
+  pub sizes : CarriesSizes verdict (size_of contents.rules.groups)
+      (size_of back_contents.rules.groups)
   pub within : WithinBoth (Some bytes) (Some back_bytes) old new steps_before steps_now
 
 -- the file opens as a table over a back table
@@ -105,8 +111,10 @@ OpensChained held = (contents : Contents) × (opened (table_format Chained) held
 -- the first file is refused so, or it opens and the second is refused so
 abbrev pub IsRefusedChain : (held back_held : Option (List ℕ)) → ChainFault → Type 0
 IsRefusedChain held back_held (Table fault) = opened (table_format Chained) held ≡ Err fault
-IsRefusedChain held back_held (BackFault fault) = OpensChained held × IsRefusedBack back_held (BackFault fault)
-IsRefusedChain held back_held (BackWrong wrong) = OpensChained held × IsRefusedBack back_held (BackWrong wrong)
+IsRefusedChain held back_held (BackFault fault) =
+    OpensChained held × IsRefusedBack back_held (BackFault fault)
+IsRefusedChain held back_held (BackWrong wrong) =
+    OpensChained held × IsRefusedBack back_held (BackWrong wrong)
 IsRefusedChain held back_held Failed = ⊤
 IsRefusedChain held back_held NoMemory = ⊤
 IsRefusedChain held back_held (Rules fault) = ⊥
@@ -121,8 +129,8 @@ pub record RefusesChain (table back : List ℕ) (old new : StoreTold) (steps_bef
   pub refuses : IsRefusedChain held back_held fault
   pub within : WithinBoth held back_held old new steps_before steps_now
 
--- the text is accepted, the name of the back table may hold one that is exact, before and afterwards, and
--- the one file of the text over it was written
+-- the text is accepted, the name of the back table may hold one that is exact, before and
+-- afterwards, and the one file of the text over it was written
 pub record Chains (text back name : List ℕ) (old new : StoreTold) (size : ℕ) : Type 0 where
   pub rules : RuleLines
   pub accepted : rules_of text ≡ Ok rules
@@ -150,11 +158,14 @@ pub record FailsWriting (name : List ℕ) (old new : StoreTold) : Type 0 where
   pub part : WrotePart name bytes old new
   pub rose : Rose old.faults new.faults
 
--- why no table was built: the text is refused, or the back table, or the store failed, or memory was wanted
+-- why no table was built: the text is refused, or the back
+-- table, or the store failed, or memory was wanted
 abbrev pub RefusesToChain : (text back name : List ℕ) → StoreTold → StoreTold → ChainFault → Type 0
 RefusesToChain text back name old new (Rules fault) = (rules_of text ≡ Err fault) × (new ≡ old)
-RefusesToChain text back name old new (BackFault fault) = RefusesBackOf back (BackFault fault) old new
-RefusesToChain text back name old new (BackWrong wrong) = RefusesBackOf back (BackWrong wrong) old new
+RefusesToChain text back name old new (BackFault fault) =
+    RefusesBackOf back (BackFault fault) old new
+RefusesToChain text back name old new (BackWrong wrong) =
+    RefusesBackOf back (BackWrong wrong) old new
 RefusesToChain text back name old new Failed = FailsWriting name old new
 RefusesToChain text back name old new NoMemory = StoreQuiet old new
 RefusesToChain text back name old new (Table fault) = ⊥

@@ -23,9 +23,11 @@ back_of contents bytes = record {
 
 -- the back table that was loaded
 abbrev pub loaded_back : BackTable → Back
-loaded_back back = record { groups = back.table.rules.groups; white = back.white.items; black = back.black.items }
+loaded_back back =
+    record { groups = back.table.rules.groups; white = back.white.items; black = back.black.items }
 
--- the back table has the set of these rules, and its codes are the tables of both sides by the values of a book
+-- the back table has the set of these rules, and its codes are
+-- the tables of both sides by the values of a book
 pub record IsExactBack (rules : RuleLines) (value : Board → Value) (back : Back) : Type 0 where
   pub set : back.groups ≡ rules.groups
   pub white : IsTableOf rules value White back.white
@@ -33,4 +35,5 @@ pub record IsExactBack (rules : RuleLines) (value : Board → Value) (back : Bac
 
 -- the bytes are the one file of the text over the back table
 abbrev pub IsFileOn : List ℕ → RuleLines → Back → List ℕ → Type 0
-IsFileOn text rules back bytes = IsOneFile (magic_of Chained) text rules (chain_value rules back) bytes
+IsFileOn text rules back bytes =
+    IsOneFile (magic_of Chained) text rules (chain_value rules back) bytes

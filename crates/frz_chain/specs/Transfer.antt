@@ -12,15 +12,19 @@ use Rattle.frz_arena.specs.Codes.{code_of}
 use Rattle.frz_arena.specs.Exits.{AllNumbered}
 use Rattle.frz_game.specs.Games.{chess, game_of}
 
--- a stored win forces mate, within its plies where each value by which the side wins has a number; and
--- with a stored win or hold the opponent forces none
-pub record TellsChess (rules : RuleLines) (value : Board → Value) (side : Colour) (codes : List ℕ) : Type 0 where
+-- a stored win forces mate, within its plies where each value by which the side wins has a number;
+-- and with a stored win or hold the opponent forces none
+pub record TellsChess (rules : RuleLines) (value : Board → Value) (side : Colour)
+    (codes : List ℕ) : Type 0 where
   pub win_mates : (p : Board) (n : ℕ) → Member rules.groups p
       → slice_index codes (Num rules.groups p) ≡ code_of (Wins n)
       → (k : ℕ) × ForcesMate chess side k p
-  pub win_within : AllNumbered (game_of rules value) side → (p : Board) (n : ℕ) → Member rules.groups p
+  pub win_within : AllNumbered (game_of rules value) side → (p : Board) (n : ℕ)
+      → Member rules.groups p
       → slice_index codes (Num rules.groups p) ≡ code_of (Wins n) → ForcesMate chess side n p
-  pub win_safe : (p : Board) (n : ℕ) → Member rules.groups p → slice_index codes (Num rules.groups p) ≡ code_of (Wins n)
+  pub win_safe : (p : Board) (n : ℕ) → Member rules.groups p
+      → slice_index codes (Num rules.groups p) ≡ code_of (Wins n)
       → NeverForcesMate chess (other_of side) p
-  pub hold_safe : (p : Board) → Member rules.groups p → slice_index codes (Num rules.groups p) ≡ code_of Holds
+  pub hold_safe : (p : Board) → Member rules.groups p
+      → slice_index codes (Num rules.groups p) ≡ code_of Holds
       → NeverForcesMate chess (other_of side) p

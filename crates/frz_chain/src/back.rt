@@ -33,7 +33,8 @@ impl BackTable {
     pub fn behind<'a>(&'a self, rules: &'a Rules) -> ChainBook<'a>
         requires { IsSound rules.now }
         ensures rules { result.rules.now ≡ rules.now }
-        ensures back { back_with result.back.now result.white.now result.black.now ≡ loaded_back self.now }
+        ensures back { back_with result.back.now result.white.now result.black.now ≡ loaded_back
+            self.now }
     {
         ChainBook::new(rules, self.table.set(), &self.white, &self.black)
     }

@@ -13,16 +13,17 @@ use frz_exits::{ExitBook, RuleBook};
 use frz_index::Set;
 use frz_sets::{Rules, Value};
 
-/// The value by the exit lines of the rules and, where these say nothing, what the codes of a second
-/// table tell, the back table. Its type keeps that both lists have a code for each number of the back
-/// table's set, and that no value has a number above 1,000.
+/// The value by the exit lines of the rules and, where these say nothing, what the codes of a
+/// second table tell, the back table. Its type keeps that both lists have a code for each number of
+/// the back table's set, and that no value has a number above 1,000.
 #[derive(Clone, Copy)]
 pub struct ChainBook<'a> {
     pub rules: &'a Rules,
     pub back: &'a Set,
     pub white: &'a [u32],
     pub black: &'a [u32],
-    pub ghost small: { HasSmallLags (chain_value rules.now (back_with back.now white.now black.now)) },
+    pub ghost small: { HasSmallLags
+        (chain_value rules.now (back_with back.now white.now black.now)) },
     pub ghost white_many: { length white.now ≡ size_of back.now },
     pub ghost black_many: { length black.now ≡ size_of back.now },
 }
@@ -48,7 +49,8 @@ impl<'a> ChainBook<'a> {
     /// What the back table tells of the position.
     fn told(&self, q: &Position) -> Value
         requires { IsValid q.now }
-        ensures { result ≡ back_value (back_with self.now.back.now self.now.white.now self.now.black.now) q.now }
+        ensures { result ≡ back_value
+            (back_with self.now.back.now self.now.white.now self.now.black.now) q.now }
     {
         match self.back.number(q) {
             Some(i) => pair_value(self.white[i as usize], self.black[i as usize]),

@@ -71,8 +71,8 @@ pub fn build_over<S: Store, L: Ledger>(
     build_table(alloc, &game, &file, store, steps)
 }
 
-/// Reads the rules of the text, opens and checks the back table, and writes the one file of the text
-/// over it under the name, which is not that of the back table. Gives the size.
+/// Reads the rules of the text, opens and checks the back table, and writes the one file of the
+/// text over it under the name, which is not that of the back table. Gives the size.
 pub fn build_chain<S: Store, L: Ledger>(
     alloc: Global,
     store: &mut S,

@@ -41,7 +41,8 @@ fn check_over<S: Store, L: Ledger>(
     requires { Carries (S.files store.old) table.now }
     ensures verdict { IfOk result (λ v. ChecksTable (S.files store.old) table.now
         (chain_value table.now.rules (loaded_back back.now)) (judgement v)) }
-    ensures sizes { IfOk result (λ v. CarriesSizes v (table_size table.now) (size_of back.now.table.rules.groups)) }
+    ensures sizes { IfOk result
+        (λ v. CarriesSizes v (table_size table.now) (size_of back.now.table.rules.groups)) }
     ensures outside { IfErr result IsOutsideFault }
     ensures quiet { StoreQuiet (store_of S.Store store.old) (store_of S.Store store.new) }
     ensures asked { S.asked store.new ≤ S.asked store.old + 8 * table_size table.now }

@@ -10,9 +10,9 @@ use frz_rules::{RulesError, RulesFault};
 use frz_store::StoreFault;
 use frz_table::TableFault;
 
-/// The first thing that is wrong with the rules or with one of the two tables, or why they could not
-/// be read. A fault of the store and want of memory have variants of their own, whichever file they
-/// met.
+/// The first thing that is wrong with the rules or with one of the two tables, or why they could
+/// not be read. A fault of the store and want of memory have
+/// variants of their own, whichever file they met.
 #[derive(Clone, Copy, Debug, PartialEq, Eq)]
 pub enum ChainFault {
     /// The rules text is refused.

@@ -1,5 +1,5 @@
-//! Tables over a second table: where the exit lines of the rules say nothing of a position, the codes
-//! of a table that was checked before tell its value.
+//! Tables over a second table: where the exit lines of the rules say nothing of a position, the
+//! codes of a table that was checked before tell its value.
 #![tactic(auto)]
 
 mod back;

@@ -39,7 +39,8 @@ fn load_checked<S: Store, L: Ledger>(
     steps: &mut Steps<L>,
 ) -> Result<Loaded, TableFault>
     requires { Carries (S.files store.old) table.now }
-    ensures kept { IfOk result (λ l. MayKeep (S.files store.old) table.now l.white.items l.black.items) }
+    ensures kept { IfOk result
+        (λ l. MayKeep (S.files store.old) table.now l.white.items l.black.items) }
     ensures verdict { IfOk result (λ l. IsVerdict table.now.rules (value_by table.now.rules)
         (λ side. of_side side l.white.items l.black.items) l.verdict) }
     ensures white_many { IfOk result (λ l. length l.white.items ≡ table_size table.now) }

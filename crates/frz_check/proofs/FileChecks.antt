@@ -32,82 +32,115 @@ use Rattle.frz_check.proofs.OneFile.{verdict_on}
 use Rattle.frz_check.proofs.OneVerdict.{TablesExact}
 
 -- a verdict on codes is one on the same codes
-pub same_verdict : (rules : RuleLines) (value : Board → Value) (codes others : Colour → List ℕ) (v : Verdict) →
-    ((side : Colour) → codes side ≡ others side) → IsVerdict rules value codes v → IsVerdict rules value others v
-same_verdict rules value codes others verdict.Exact same h = λ side. subst (λ (l : List ℕ). IsTableOf rules value side l) (same side) (h side)
+pub same_verdict : (rules : RuleLines) (value : Board → Value) (codes others : Colour → List ℕ)
+    (v : Verdict) →
+    ((side : Colour) → codes side ≡ others side) → IsVerdict rules value codes v
+    → IsVerdict rules value others v
+same_verdict rules value codes others verdict.Exact same h =
+    λ side. subst (λ (l : List ℕ). IsTableOf rules value side l) (same side) (h side)
 same_verdict rules value codes others (verdict.Wrong w) same h = record {
   inside = h.inside;
   kept = h.kept ∙ ap (λ (l : List ℕ). slice_index l w.number) (same w.side);
-  given = h.given ∙ ap (λ (l : List ℕ). local_code (graph_by rules value) w.side (λ k. slice_index l k) w.number) (same w.side);
+  given = h.given ∙ ap
+      (λ (l : List ℕ). local_code (graph_by rules value) w.side (λ k. slice_index l k) w.number)
+      (same w.side);
   differs = h.differs;
   before = λ i l side. moved side i (h.before i l side);
   white_first = λ black. moved White w.number (h.white_first black);
 }
   where
-    moved : (side : Colour) (i : ℕ) → kept_code codes side i ≡ given_code (graph_by rules value) codes side i →
+    moved : (side : Colour) (i : ℕ) →
+        kept_code codes side i ≡ given_code (graph_by rules value) codes side i →
         kept_code others side i ≡ given_code (graph_by rules value) others side i
     moved side i e =
-        subst (λ (l : List ℕ). slice_index l i ≡ local_code (graph_by rules value) side (λ k. slice_index l k) i) (same side) e
+        subst (λ (l : List ℕ). slice_index l i ≡ local_code (graph_by rules value) side
+        (λ k. slice_index l k) i) (same side) e
 
 -- the lists that were loaded are those in a file that the name may hold
-pub table_checked : (files : Option Files) (table : Table) (value : Board → Value) (white black : List ℕ) (rules : RuleLines) (white_slice black_slice : List ℕ) (v : Verdict) →
+pub table_checked : (files : Option Files) (table : Table) (value : Board → Value)
+    (white black : List ℕ) (rules : RuleLines) (white_slice black_slice : List ℕ) (v : Verdict) →
     TablesExact table.rules value →
-    ((side : Colour) (codes : List ℕ) → IsTableOf table.rules value side codes → (i : ℕ) → slice_index codes i ≤ 3 + 2 * (size_of table.rules.groups + 1000)) →
-    rules_of table.text ≡ Ok table.rules → MayKeep files table white black → rules ≡ table.rules → white_slice ≡ white → black_slice ≡ black →
-    IsVerdict rules value (λ side. of_side side white_slice black_slice) v → ChecksTable files table value v
-table_checked files table value white black rules white_slice black_slice v exact plies read kept same_rules white_is black_is h =
+    ((side : Colour) (codes : List ℕ) → IsTableOf table.rules value side codes → (i : ℕ) →
+    slice_index codes i ≤ 3 + 2 * (size_of table.rules.groups + 1000)) →
+    rules_of table.text ≡ Ok table.rules → MayKeep files table white black → rules ≡ table.rules →
+    white_slice ≡ white → black_slice ≡ black →
+    IsVerdict rules value (λ side. of_side side white_slice black_slice) v
+    → ChecksTable files table value v
+table_checked files table value white black rules white_slice black_slice v exact plies read kept
+    same_rules white_is black_is h =
     let opens : opened (table_format table.kind) (Some kept.bytes) ≡ Ok (contents_of table) =
-    opens_by (table_format table.kind) kept.bytes (contents_of table) (record { file = kept.file; short = read_short table.text table.rules read; read = read }) in
+    opens_by (table_format table.kind) kept.bytes (contents_of table)
+    (record {
+      file = kept.file;
+      short = read_short table.text table.rules read;
+      read = read;
+    }) in
     record {
       bytes = kept.bytes;
       may = kept.may;
       file = kept.file;
       told =
           verdict_on table.kind value (contents_of table) kept.bytes v exact plies read opens
-          (same_verdict table.rules value (λ side. of_side side white_slice black_slice) (kept_codes (contents_of table) kept.bytes) v same
-          (subst (λ (r : RuleLines). IsVerdict r value (λ side. of_side side white_slice black_slice) v) same_rules h));
+          (same_verdict table.rules value (λ side. of_side side white_slice black_slice)
+          (kept_codes (contents_of table) kept.bytes) v same
+          (subst (λ (r : RuleLines). IsVerdict r value
+          (λ side. of_side side white_slice black_slice) v) same_rules h));
     }
   where
-    same : (side : Colour) → of_side side white_slice black_slice ≡ kept_codes (contents_of table) kept.bytes side
+    same : (side : Colour) → of_side side white_slice black_slice ≡ kept_codes (contents_of table)
+        kept.bytes side
     same White = white_is ∙ sym kept.white_is
     same Black = black_is ∙ sym kept.black_is
 
 -- what opening and loading ask for is within what the file asks for
-pub within_file : (bytes : List ℕ) (contents : Contents) (old mid new : StoreTold) (steps_before steps_now : ℕ) →
+pub within_file : (bytes : List ℕ) (contents : Contents) (old mid new : StoreTold)
+    (steps_before steps_now : ℕ) →
     opened (table_format Plain) (Some bytes) ≡ Ok contents →
     mid.asked ≤ old.asked + (16 + length contents.text) → mid.calls ≤ old.calls + 5 →
     new.asked ≤ mid.asked + 8 * size_of contents.rules.groups →
     new.calls ≤ mid.calls + 2 * pieces_of (size_of contents.rules.groups) →
     steps_now ≤ steps_before + size_of contents.rules.groups →
     WithinFile (Some bytes) old new steps_before steps_now
-within_file bytes contents old mid new steps_before steps_now opens asked calls more_asked more_calls steps =
+within_file bytes contents old mid new steps_before steps_now opens asked calls more_asked
+    more_calls steps =
     let size : ℕ = size_of contents.rules.groups in
     let is : opened_size (opened (table_format Plain) (Some bytes)) ≡ size = ap opened_size opens in
     let file = belongs (table_format Plain) bytes contents opens in
-    let text : length (kept_text bytes) ≡ length contents.text = ap (length {A = ℕ}) (text_kept _ contents.text size bytes file.file) in
-    let pieces : pieces_of (opened_size (opened (table_format Plain) (Some bytes))) ≡ pieces_of size = ap pieces_of is in
+    let text : length (kept_text bytes) ≡ length contents.text = ap (length {A = ℕ})
+    (text_kept _ contents.text size bytes file.file) in
+    let pieces : pieces_of (opened_size (opened (table_format Plain) (Some bytes)))
+    ≡ pieces_of size = ap pieces_of is in
     let first = opened_calls (table_format Plain) bytes contents opens in
     record {
       steps = omega (arith, is, steps);
       asked = omega (arith, is, text, asked, more_asked);
-      calls = calls_within (pieces_of (opened_size (opened (table_format Plain) (Some bytes)))) (pieces_of size) (opening_calls (table_format Plain) (Some bytes)) pieces first calls more_calls;
+      calls = calls_within (pieces_of (opened_size (opened (table_format Plain) (Some bytes))))
+          (pieces_of size) (opening_calls (table_format Plain) (Some bytes)) pieces first calls
+          more_calls;
     }
   where
-    calls_within : (due pieces first : ℕ) → due ≡ pieces → first ≡ 5 → mid.calls ≤ old.calls + 5 → new.calls ≤ mid.calls + 2 * pieces → new.calls ≤ old.calls + (first + 2 * due)
+    calls_within : (due pieces first : ℕ) → due ≡ pieces → first ≡ 5 → mid.calls ≤ old.calls + 5
+        → new.calls ≤ mid.calls + 2 * pieces → new.calls ≤ old.calls + (first + 2 * due)
     calls_within due pieces first same five few more = omega (arith, same, five, few, more)
 
 -- the table that was opened is the one in the file
-pub file_checked : (files : Option Files) (table : Table) (rules : RuleLines) (name : List ℕ) (old mid new : StoreTold) (steps_before steps_now : ℕ) (v : Verdict) →
-    files ≡ old.files → table.kind ≡ Plain → table.name ≡ name → rules ≡ table.rules → rules_of table.text ≡ Ok table.rules →
+pub file_checked : (files : Option Files) (table : Table) (rules : RuleLines) (name : List ℕ)
+    (old mid new : StoreTold) (steps_before steps_now : ℕ) (v : Verdict) →
+    files ≡ old.files → table.kind ≡ Plain → table.name ≡ name → rules ≡ table.rules →
+    rules_of table.text ≡ Ok table.rules →
     mid.asked ≤ old.asked + (16 + length table.text) → mid.calls ≤ old.calls + 5 →
-    new.asked ≤ mid.asked + 8 * table_size table → new.calls ≤ mid.calls + 2 * pieces_of (table_size table) →
+    new.asked ≤ mid.asked + 8 * table_size table →
+    new.calls ≤ mid.calls + 2 * pieces_of (table_size table) →
     steps_now ≤ steps_before + table_size table →
-    ChecksTable files table (λ q. value_by rules q) v → ChecksFile name old new steps_before steps_now v
-file_checked files table rules name old mid new steps_before steps_now v same kind named same_rules read asked calls more_asked more_calls steps h =
+    ChecksTable files table (λ q. value_by rules q) v
+    → ChecksFile name old new steps_before steps_now v
+file_checked files table rules name old mid new steps_before steps_now v same kind named same_rules
+    read asked calls more_asked more_calls steps h =
     let contents : Contents = contents_of table in
     let opens : opened (table_format Plain) (Some h.bytes) ≡ Ok contents =
     subst (λ (k : FileKind). opened (table_format k) (Some h.bytes) ≡ Ok contents) kind
-    (opens_by (table_format table.kind) h.bytes contents (record { file = h.file; short = read_short table.text table.rules read; read = read })) in
+    (opens_by (table_format table.kind) h.bytes contents
+    (record { file = h.file; short = read_short table.text table.rules read; read = read })) in
     record {
       bytes = h.bytes;
       may =
@@ -117,29 +150,37 @@ file_checked files table rules name old mid new steps_before steps_now v same ki
       opens = opens;
       told =
           subst (λ (k : FileKind). IsVerdictOn k (value_by table.rules) contents h.bytes v) kind
-          (subst (λ (r : RuleLines). IsVerdictOn table.kind (value_by r) contents h.bytes v) same_rules h.told);
-      within = within_file h.bytes contents old mid new steps_before steps_now opens asked calls more_asked more_calls steps;
+          (subst (λ (r : RuleLines). IsVerdictOn table.kind (value_by r) contents h.bytes v)
+          same_rules h.told);
+      within = within_file h.bytes contents old mid new steps_before steps_now opens asked calls
+          more_asked more_calls steps;
     }
 
 -- the table was opened and not loaded
-pub file_not_loaded : (table : Table) (name : List ℕ) (old mid new : StoreTold) (steps_before steps_now : ℕ) (fault : TableFault) →
+pub file_not_loaded : (table : Table) (name : List ℕ) (old mid new : StoreTold)
+    (steps_before steps_now : ℕ) (fault : TableFault) →
     MayOpen (table_format Plain) old.files name (contents_of table) →
     mid.asked ≤ old.asked + (16 + length table.text) → mid.calls ≤ old.calls + 5 →
-    new.asked ≤ mid.asked + 8 * table_size table → new.calls ≤ mid.calls + 2 * pieces_of (table_size table) →
+    new.asked ≤ mid.asked + 8 * table_size table →
+    new.calls ≤ mid.calls + 2 * pieces_of (table_size table) →
     steps_now ≤ steps_before + table_size table →
     IsOutside fault → RefusesFile name old new steps_before steps_now fault
-file_not_loaded table name old mid new steps_before steps_now fault opens asked calls more_asked more_calls steps outside = record {
-  held = Some opens.bytes;
-  may = opens.may;
-  refuses = outside_refuses (opened (table_format Plain) (Some opens.bytes)) fault outside;
-  within = within_file opens.bytes (contents_of table) old mid new steps_before steps_now opens.opens asked calls more_asked more_calls steps;
-}
+file_not_loaded table name old mid new steps_before steps_now fault opens asked calls more_asked
+    more_calls steps outside = record {
+      held = Some opens.bytes;
+      may = opens.may;
+      refuses = outside_refuses (opened (table_format Plain) (Some opens.bytes)) fault outside;
+      within = within_file opens.bytes (contents_of table) old mid new steps_before steps_now
+          opens.opens asked calls more_asked more_calls steps;
+    }
 
 -- what a refusal says of its fault
-pub if_refused : {T E : Type 0} (P Q : E → Type 0) (r : Result T E) → ((e : E) → P e → Q e) → IfErr r P → IfErr r Q
+pub if_refused : {T E : Type 0} (P Q : E → Type 0) (r : Result T E) → ((e : E) → P e → Q e)
+    → IfErr r P → IfErr r Q
 if_refused P Q (Ok v) f h = tt
 if_refused P Q (Err e) f h = f e h
 
-pub if_given : {T E : Type 0} (P Q : T → Type 0) (r : Result T E) → ((v : T) → P v → Q v) → IfOk r P → IfOk r Q
+pub if_given : {T E : Type 0} (P Q : T → Type 0) (r : Result T E) → ((v : T) → P v → Q v) → IfOk r P
+    → IfOk r Q
 if_given P Q (Ok v) f h = f v h
 if_given P Q (Err e) f h = tt

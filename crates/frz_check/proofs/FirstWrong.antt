@@ -17,17 +17,22 @@ use Rattle.frz_check.specs.Entries.{IsCheckedAt, IsCompared, IsWrongAt, code_by_
 use Rattle.frz_check.specs.Verdicts.{AgreeAt, IsFirstWrong, given_code, kept_code}
 
 -- the local code by a node and moves that are those of the number
-pub code_of_number : (arena : Arena Step ℕ Value) (side : Colour) (entries : List ℕ) (i : ℕ) (node : Node) (arms : List (Arm Step ℕ Value)) →
+pub code_of_number : (arena : Arena Step ℕ Value) (side : Colour) (entries : List ℕ) (i : ℕ)
+    (node : Node) (arms : List (Arm Step ℕ Value)) →
     node ≡ arena.node i → arms ≡ arena.arms i →
-    code_by_moves side (arena.node i) (arena.arms i) entries ≡ local_code arena side (λ k. slice_index entries k) i →
+    code_by_moves side (arena.node i) (arena.arms i) entries ≡ local_code arena side
+    (λ k. slice_index entries k) i →
     code_by_moves side node arms entries ≡ local_code arena side (λ k. slice_index entries k) i
 code_of_number arena side entries i node arms same_node same_arms is =
     ap (λ (n : Node). code_by_moves side n arms entries) same_node
-    ∙ (ap (λ (z : List (Arm Step ℕ Value)). code_by_moves side (arena.node i) z entries) same_arms ∙ is)
+    ∙ (ap (λ (z : List (Arm Step ℕ Value)). code_by_moves side (arena.node i) z entries) same_arms
+    ∙ is)
 
 -- a wrong entry that a comparison gives
-pub wrong_there : {M V : Type 0} (arena : Arena M ℕ V) (codes : Colour → List ℕ) (side : Colour) (number given : ℕ) (wrong : Wrong) →
-    given ≡ given_code arena codes side number → IsCompared side number (kept_code codes side number) given (Some wrong) →
+pub wrong_there : {M V : Type 0} (arena : Arena M ℕ V) (codes : Colour → List ℕ) (side : Colour)
+    (number given : ℕ) (wrong : Wrong) →
+    given ≡ given_code arena codes side number →
+    IsCompared side number (kept_code codes side number) given (Some wrong) →
     (side ≡ Black → kept_code codes White number ≡ given_code arena codes White number) →
     IsWrongAt arena codes number wrong
 wrong_there arena codes side number given wrong is compared white =
@@ -51,8 +56,10 @@ agree_there arena codes number white black White = white
 agree_there arena codes number white black Black = black
 
 -- behind numbers that agree, the wrong entry is the first
-pub first_there : {M V : Type 0} (arena : Arena M ℕ V) (size : ℕ) (codes : Colour → List ℕ) (number : ℕ) (wrong : Wrong) →
-    number < size → ((i : ℕ) → i < number → AgreeAt arena codes i) → IsWrongAt arena codes number wrong →
+pub first_there : {M V : Type 0} (arena : Arena M ℕ V) (size : ℕ) (codes : Colour → List ℕ)
+    (number : ℕ) (wrong : Wrong) →
+    number < size → ((i : ℕ) → i < number → AgreeAt arena codes i) →
+    IsWrongAt arena codes number wrong →
     IsFirstWrong arena size codes wrong
 first_there arena size codes number wrong inside agree at =
     let here : wrong.number ≡ number = at.here in
@@ -63,7 +70,8 @@ first_there arena size codes number wrong inside agree at =
       differs = at.differs;
       before = λ i l. agree i (omega (arith, l, here));
       white_first = λ black.
-          subst (λ (i : ℕ). kept_code codes White i ≡ given_code arena codes White i) (sym here) (at.white_first black);
+          subst (λ (i : ℕ). kept_code codes White i ≡ given_code arena codes White i) (sym here)
+          (at.white_first black);
     }
 
 -- one number more agrees
@@ -73,16 +81,19 @@ pub agree_more : {M V : Type 0} (arena : Arena M ℕ V) (codes : Colour → List
 agree_more arena codes number below here i l =
     elim (cases_lt i number) [
       | inl less ↦ below i less
-      | inr above ↦ (let same : number ≡ i = omega (arith, l, above) in subst (λ (k : ℕ). AgreeAt arena codes k) same here)
+      | inr above ↦ (let same : number ≡ i = omega (arith, l, above) in
+          subst (λ (k : ℕ). AgreeAt arena codes k) same here)
     ]
 
 -- where all agree, the codes of each side are exact
 pub all_agree : {M V : Type 0} (arena : Arena M ℕ V) (size : ℕ) (codes : Colour → List ℕ) →
     ((side : Colour) → length (codes side) ≡ size) → ((i : ℕ) → i < size → AgreeAt arena codes i) →
     (side : Colour) → IsExact arena side size (codes side)
-all_agree arena size codes many agree side = record { many = many side; local = λ i l. agree i l side }
+all_agree arena size codes many agree side =
+    record { many = many side; local = λ i l. agree i l side }
 
-pub both_long : (codes : Colour → List ℕ) (size : ℕ) → length (codes White) ≡ size → length (codes White) ≡ length (codes Black) →
+pub both_long : (codes : Colour → List ℕ) (size : ℕ) → length (codes White) ≡ size →
+    length (codes White) ≡ length (codes Black) →
     (side : Colour) → length (codes side) ≡ size
 both_long codes size white equal White = white
 both_long codes size white equal Black = sym equal ∙ white
@@ -93,14 +104,33 @@ compared_at : {M V : Type 0} (arena : Arena M ℕ V) (codes : Colour → List �
 compared_at arena codes number =
     elim (cases_eq (kept_code codes White number) (given_code arena codes White number)) [
       | inr differs ↦
-          (let wrong : Wrong = record { side = White; number = number; kept = kept_code codes White number; given = given_code arena codes White number } in
-          (Some wrong, wrong_there arena codes White number (given_code arena codes White number) wrong refl (differs, refl) (λ black. absurd (cc))))
-      | inl white ↦ elim (cases_eq (kept_code codes Black number) (given_code arena codes Black number)) [
-        | inr differs ↦
-            (let wrong : Wrong = record { side = Black; number = number; kept = kept_code codes Black number; given = given_code arena codes Black number } in
-            (Some wrong, wrong_there arena codes Black number (given_code arena codes Black number) wrong refl (differs, refl) (λ black. white)))
-        | inl black ↦ (None, agree_there arena codes number white black)
-      ]
+          (let wrong : Wrong =
+          record {
+            side = White;
+            number = number;
+            kept = kept_code codes White number;
+            given = given_code arena codes White number;
+          } in (
+            Some wrong,
+            wrong_there arena codes White number (given_code arena codes White number)
+                wrong refl (differs, refl) (λ black. absurd (cc)),
+          ))
+      | inl white ↦ elim (cases_eq (kept_code codes Black number)
+          (given_code arena codes Black number)) [
+            | inr differs ↦
+                (let wrong : Wrong =
+                record {
+                  side = Black;
+                  number = number;
+                  kept = kept_code codes Black number;
+                  given = given_code arena codes Black number;
+                } in (
+                  Some wrong,
+                  wrong_there arena codes Black number (given_code arena codes Black number)
+                      wrong refl (differs, refl) (λ black. white),
+                ))
+            | inl black ↦ (None, agree_there arena codes number white black)
+          ]
     ]
 
 -- below a number all agree, or there is a first entry that is wrong
@@ -109,23 +139,42 @@ pub first_below : {M V : Type 0} (arena : Arena M ℕ V) (codes : Colour → Lis
 first_below arena codes zero = inl (λ i l. absurd (omega arith))
 first_below arena codes (suc n) = by_below (first_below arena codes n)
   where
-    by_here : ((i : ℕ) → i < n → AgreeAt arena codes i) → (r : Option Wrong) → IsCheckedAt arena codes n r →
-        ((i : ℕ) → i < suc n → AgreeAt arena codes i) ⊎ ((wrong : Wrong) × IsFirstWrong arena (suc n) codes wrong)
+    by_here : ((i : ℕ) → i < n → AgreeAt arena codes i) → (r : Option Wrong) →
+        IsCheckedAt arena codes n r →
+        ((i : ℕ) → i < suc n → AgreeAt arena codes i)
+        ⊎ ((wrong : Wrong) × IsFirstWrong arena (suc n) codes wrong)
     by_here below None here = inl (λ i l. agree_more arena codes n below here i (omega (arith, l)))
-    by_here below (Some wrong) here = inr (wrong, first_there arena (suc n) codes n wrong (omega arith) below here)
+    by_here below (Some wrong) here =
+        inr (wrong, first_there arena (suc n) codes n wrong (omega arith) below here)
 
-    by_below : ((i : ℕ) → i < n → AgreeAt arena codes i) ⊎ ((wrong : Wrong) × IsFirstWrong arena n codes wrong) →
-        ((i : ℕ) → i < suc n → AgreeAt arena codes i) ⊎ ((wrong : Wrong) × IsFirstWrong arena (suc n) codes wrong)
+    by_below : ((i : ℕ) → i < n → AgreeAt arena codes i)
+        ⊎ ((wrong : Wrong) × IsFirstWrong arena n codes wrong) →
+        ((i : ℕ) → i < suc n → AgreeAt arena codes i)
+        ⊎ ((wrong : Wrong) × IsFirstWrong arena (suc n) codes wrong)
     by_below (inl below) = (let here = compared_at arena codes n in by_here below here.0 here.1)
     by_below (inr first) =
         (let f = first.1 in
-        inr (first.0, record { inside = omega (arith, f.inside); kept = f.kept; given = f.given; differs = f.differs; before = f.before; white_first = f.white_first }))
+        inr (
+          first.0,
+          record {
+            inside = omega (arith, f.inside);
+            kept = f.kept;
+            given = f.given;
+            differs = f.differs;
+            before = f.before;
+            white_first = f.white_first;
+          },
+        ))
 
 -- White's entry agrees, and Black's was compared
-pub checked_there : {M V : Type 0} (arena : Arena M ℕ V) (codes : Colour → List ℕ) (number given : ℕ) (r : Option Wrong) →
-    given ≡ given_code arena codes Black number → kept_code codes White number ≡ given_code arena codes White number →
-    IsCompared Black number (kept_code codes Black number) given r → IsCheckedAt arena codes number r
-checked_there arena codes number given None is white compared = agree_there arena codes number white (compared ∙ is)
+pub checked_there : {M V : Type 0} (arena : Arena M ℕ V) (codes : Colour → List ℕ)
+    (number given : ℕ) (r : Option Wrong) →
+    given ≡ given_code arena codes Black number →
+    kept_code codes White number ≡ given_code arena codes White number →
+    IsCompared Black number (kept_code codes Black number) given r
+    → IsCheckedAt arena codes number r
+checked_there arena codes number given None is white compared =
+    agree_there arena codes number white (compared ∙ is)
 checked_there arena codes number given (Some wrong) is white compared =
     wrong_there arena codes Black number given wrong is compared (λ black. white)
 

@@ -1,4 +1,12 @@
 -- The lemmas that the crates above use.
 pub use Rattle.frz_check.proofs.FileChecks.{file_not_loaded, within_file}
 pub use Rattle.frz_check.proofs.OneVerdict.{TablesExact, verdict_there, one_verdict, exact_verdict}
-pub use Rattle.frz_check.proofs.OneFile.{file_there, one_file, one_file_opens, one_file_holds, tables_are_one, one_text, verdict_on}
+pub use Rattle.frz_check.proofs.OneFile.{
+  file_there,
+  one_file,
+  one_file_opens,
+  one_file_holds,
+  tables_are_one,
+  one_text,
+  verdict_on,
+}

@@ -32,9 +32,11 @@ pub record IsWrongAt {M V : Type 0} (arena : Arena M ℕ V) (codes : Colour → 
   pub kept : wrong.kept ≡ kept_code codes wrong.side number
   pub given : wrong.given ≡ given_code arena codes wrong.side number
   pub differs : wrong.kept ≢ wrong.given
-  pub white_first : wrong.side ≡ Black → kept_code codes White number ≡ given_code arena codes White number
+  pub white_first : wrong.side ≡ Black → kept_code codes White number ≡ given_code arena codes White
+      number
 
 -- both sides' entries agree at the number, or this is the first of them that is wrong
-abbrev pub IsCheckedAt : {M V : Type 0} → Arena M ℕ V → (Colour → List ℕ) → ℕ → Option Wrong → Type 0
+abbrev pub IsCheckedAt : {M V : Type 0} → Arena M ℕ V → (Colour → List ℕ) → ℕ → Option Wrong
+    → Type 0
 IsCheckedAt arena codes number None = AgreeAt arena codes number
 IsCheckedAt arena codes number (Some wrong) = IsWrongAt arena codes number wrong

@@ -24,8 +24,8 @@ use Rattle.frz_check.specs.Verdicts.{IsVerdict}
 abbrev pub kept_codes : Contents → List ℕ → Colour → List ℕ
 kept_codes contents bytes side = codes_at side contents.text (size_of contents.rules.groups) bytes
 
--- the verdict on bytes that open so, by the values of a book; it is exact just where byte by byte they
--- are the one file of their text
+-- the verdict on bytes that open so, by the values of a book; it is exact just where byte by byte
+-- they are the one file of their text
 pub record IsVerdictOn (kind : FileKind) (value : Board → Value) (contents : Contents)
     (bytes : List ℕ) (verdict : Verdict) : Type 0 where
   pub codes : IsVerdict contents.rules value (kept_codes contents bytes) verdict
@@ -33,7 +33,8 @@ pub record IsVerdictOn (kind : FileKind) (value : Board → Value) (contents : C
       (verdict ≡ Exact) ↔ IsOneFile (magic_of kind) contents.text contents.rules value bytes
 
 -- the verdict on a file that the open table's name may hold
-pub record ChecksTable (files : Option Files) (table : Table) (value : Board → Value) (verdict : Verdict) : Type 0 where
+pub record ChecksTable (files : Option Files) (table : Table) (value : Board → Value)
+    (verdict : Verdict) : Type 0 where
   pub bytes : List ℕ
   pub may : MayHold files table.name (Some bytes)
   pub file : IsFileOf table bytes
@@ -45,12 +46,15 @@ opened_size (Ok contents) = size_of contents.rules.groups
 opened_size (Err fault) = 0
 
 -- no more steps, bytes and calls than the file that is held asks for
-pub record WithinFile (held : Option (List ℕ)) (old new : StoreTold) (steps_before steps_now : ℕ) : Type 0 where
+pub record WithinFile (held : Option (List ℕ)) (old new : StoreTold)
+    (steps_before steps_now : ℕ) : Type 0 where
   pub steps : steps_now ≤ steps_before + opened_size (opened (table_format Plain) held)
   pub asked : new.asked ≤
-      old.asked + (16 + length (held_text held) + 8 * opened_size (opened (table_format Plain) held))
+      old.asked + (16 + length (held_text held) + 8 * opened_size
+      (opened (table_format Plain) held))
   pub calls : new.calls ≤
-      old.calls + (opening_calls (table_format Plain) held + 2 * pieces_of (opened_size (opened (table_format Plain) held)))
+      old.calls + (opening_calls (table_format Plain) held + 2 * pieces_of
+      (opened_size (opened (table_format Plain) held)))
 
 -- the verdict on a plain table that the name may hold
 pub record ChecksFile (name : List ℕ) (old new : StoreTold) (steps_before steps_now : ℕ)

@@ -10,7 +10,8 @@ use Rattle.frz_table.specs.Layout.{file_of}
 
 -- the bytes are the file with this magic and this text that holds the tables of both sides, by the
 -- values of a book
-pub record IsOneFile (magic text : List ℕ) (rules : RuleLines) (value : Board → Value) (bytes : List ℕ) : Type 0 where
+pub record IsOneFile (magic text : List ℕ) (rules : RuleLines) (value : Board → Value)
+    (bytes : List ℕ) : Type 0 where
   pub white : List ℕ
   pub black : List ℕ
   pub white_table : IsTableOf rules value White white

@@ -1,4 +1,5 @@
--- What a check says of two lists of codes: they are the tables, or which entry is the first that is wrong.
+-- What a check says of two lists of codes: they are the tables,
+-- or which entry is the first that is wrong.
 use Rattle.std.specs.Prelude.{◌≡◌, ◌≢◌, ◌<◌, ℕ, List, slice_index}
 use Rattle.frz_board.specs.Boards.{Board}
 use Rattle.frz_board.specs.declared.man.Colour.{Colour}
@@ -41,12 +42,14 @@ pub record IsFirstWrong {M V : Type 0} (arena : Arena M ℕ V) (size : ℕ)
 
 -- over an arena of numbers: each code is its local code, or this entry is the first that is wrong
 abbrev pub IsVerdictOver : {M V : Type 0} → Arena M ℕ V → ℕ → (Colour → List ℕ) → Verdict → Type 0
-IsVerdictOver arena size codes verdict.Exact = (side : Colour) → IsExact arena side size (codes side)
+IsVerdictOver arena size codes verdict.Exact =
+    (side : Colour) → IsExact arena side size (codes side)
 IsVerdictOver arena size codes (verdict.Wrong wrong) = IsFirstWrong arena size codes wrong
 
--- over the game of rules and a book: the codes of each side are its table, or this entry is the first
--- that is wrong
+-- over the game of rules and a book: the codes of each side are
+-- its table, or this entry is the first that is wrong
 abbrev pub IsVerdict : RuleLines → (Board → Value) → (Colour → List ℕ) → Verdict → Type 0
-IsVerdict rules value codes verdict.Exact = (side : Colour) → IsTableOf rules value side (codes side)
+IsVerdict rules value codes verdict.Exact =
+    (side : Colour) → IsTableOf rules value side (codes side)
 IsVerdict rules value codes (verdict.Wrong wrong) =
     IsFirstWrong (graph_by rules value) (size_of rules.groups) codes wrong

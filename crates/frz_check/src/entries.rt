@@ -30,7 +30,8 @@ fn compare<E: Entries>(
     lists: &mut Lists,
 ) -> Option<Wrong>
     requires inside { number < length (E.codes entries.now side) }
-    requires within { All (λ a. IsWithin (length (E.codes entries.now side)) a.next) lists.old.nexts.items }
+    requires within { All (λ a. IsWithin (length (E.codes entries.now side)) a.next)
+        lists.old.nexts.items }
     ensures compared { IsCompared side number (slice_index (E.codes entries.now side) number)
         (code_by_moves side node lists.old.nexts.items (E.codes entries.now side)) result }
     ensures moves { lists.new.nexts.items ≡ lists.old.nexts.items }
@@ -81,7 +82,8 @@ fn check_numbers<G: NumberedGame<L>, E: Entries, L: Ledger>(
 ) -> Verdict
     requires sound { G.sound game.now }
     requires many { length (E.codes entries.now White) ≡ G.count game.now }
-    ensures verdict { IsVerdictOver (G.arena game.now) (G.count game.now) (E.codes entries.now) result }
+    ensures verdict { IsVerdictOver (G.arena game.now) (G.count game.now) (E.codes entries.now)
+        result }
     ensures steps { steps.new ≤ steps.old + G.count game.now }
     ensures later { steps.old ≤ steps.new }
 {
@@ -105,8 +107,10 @@ pub fn check_entries<B: ExitBook, E: Entries, L: Ledger>(
     requires sound { IsSound game.now.rules.now }
     requires many { length (E.codes entries.now White) ≡ size_of game.now.rules.now.groups }
     ensures exact { (result ≡ Exact) ↔ ((side : Colour) →
-        IsTableOf game.now.rules.now (B.value_at game.now.book.now) side (E.codes entries.now side)) }
-    ensures verdict { IsVerdict game.now.rules.now (B.value_at game.now.book.now) (E.codes entries.now) result }
+        IsTableOf game.now.rules.now (B.value_at game.now.book.now) side
+        (E.codes entries.now side)) }
+    ensures verdict { IsVerdict game.now.rules.now (B.value_at game.now.book.now)
+        (E.codes entries.now) result }
     ensures steps { steps.new ≤ steps.old + size_of game.now.rules.now.groups }
     ensures later { steps.old ≤ steps.new }
 {

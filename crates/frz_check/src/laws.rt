@@ -24,7 +24,8 @@ pub fn one_verdict()
     ensures there { (rules : RuleLines) (value : Board → Value) (codes : Colour → List ℕ) →
         ((side : Colour) → length (codes side) ≡ size_of rules.groups) →
         (v : Verdict) × IsVerdict rules value codes v }
-    ensures one { (rules : RuleLines) (value : Board → Value) (codes : Colour → List ℕ) (v w : Verdict) →
+    ensures one { (rules : RuleLines) (value : Board → Value) (codes : Colour → List ℕ)
+        (v w : Verdict) →
         IsVerdict rules value codes v → IsVerdict rules value codes w → v ≡ w }
 {
     tables();
@@ -32,16 +33,19 @@ pub fn one_verdict()
 
 /// There is one file with any magic and any text that holds the tables of rules and a book.
 pub fn one_file()
-    ensures there { (rules : RuleLines) (value : Board → Value) → HasSmallLags value → (magic text : List ℕ) →
+    ensures there { (rules : RuleLines) (value : Board → Value) → HasSmallLags value →
+        (magic text : List ℕ) →
         (bytes : List ℕ) × IsOneFile magic text rules value bytes }
     ensures one { (rules : RuleLines) (value : Board → Value) (magic text bytes others : List ℕ) →
-        IsOneFile magic text rules value bytes → IsOneFile magic text rules value others → bytes ≡ others }
+        IsOneFile magic text rules value bytes → IsOneFile magic text rules value others
+        → bytes ≡ others }
 {
     tables();
 }
 
 /// The one file opens with its text and its rules, and its codes are the tables of both sides. Byte
-/// strings of which this holds are the one file of their text, so of all with one text there is one.
+/// strings of which this holds are the one file of their text,
+/// so of all with one text there is one.
 pub fn what_is_exact()
     ensures opens { (kind : FileKind) (value : Board → Value)
         (contents : Contents) (bytes : List ℕ) → rules_of contents.text ≡ Ok contents.rules →
@@ -51,7 +55,8 @@ pub fn what_is_exact()
         (contents : Contents) (bytes : List ℕ) → rules_of contents.text ≡ Ok contents.rules →
         IsOneFile (magic_of kind) contents.text contents.rules value bytes →
         (side : Colour) → IsTableOf contents.rules value side (kept_codes contents bytes side) }
-    ensures exact { (kind : FileKind) (value : Board → Value) (contents : Contents) (bytes : List ℕ) →
+    ensures exact { (kind : FileKind) (value : Board → Value) (contents : Contents)
+        (bytes : List ℕ) →
         AreBytes bytes → opened (table_format kind) (Some bytes) ≡ Ok contents →
         ((side : Colour) → IsTableOf contents.rules value side (kept_codes contents bytes side)) →
         IsOneFile (magic_of kind) contents.text contents.rules value bytes }
@@ -60,8 +65,10 @@ pub fn what_is_exact()
         AreBytes bytes → AreBytes other_bytes → contents.text ≡ others.text →
         opened (table_format kind) (Some bytes) ≡ Ok contents →
         opened (table_format kind) (Some other_bytes) ≡ Ok others →
-        ((side : Colour) → IsTableOf contents.rules (value contents.rules) side (kept_codes contents bytes side)) →
-        ((side : Colour) → IsTableOf others.rules (value others.rules) side (kept_codes others other_bytes side)) →
+        ((side : Colour) → IsTableOf contents.rules (value contents.rules) side
+        (kept_codes contents bytes side)) →
+        ((side : Colour) → IsTableOf others.rules (value others.rules) side
+        (kept_codes others other_bytes side)) →
         bytes ≡ other_bytes }
 {
     tables();

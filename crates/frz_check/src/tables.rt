@@ -26,7 +26,8 @@ pub fn check_kept<B: ExitBook, S: Store, L: Ledger>(
     steps: &mut Steps<L>,
 ) -> Result<Verdict, TableFault>
     requires { Carries (S.files store.old) table.now }
-    ensures verdict { IfOk result (ChecksTable (S.files store.old) table.now (B.value_at book.now)) }
+    ensures verdict { IfOk result
+        (ChecksTable (S.files store.old) table.now (B.value_at book.now)) }
     ensures outside { IfErr result IsOutside }
     ensures quiet { StoreQuiet (store_of S.Store store.old) (store_of S.Store store.new) }
     ensures asked { S.asked store.new ≤ S.asked store.old + 8 * table_size table.now }
@@ -59,9 +60,11 @@ pub fn check_table<S: Store, L: Ledger>(
     name: &str,
     steps: &mut Steps<L>,
 ) -> Result<Verdict, TableFault>
-    ensures verdict { IfOk result (ChecksFile name.now (store_of S.Store store.old) (store_of S.Store store.new)
+    ensures verdict { IfOk result
+        (ChecksFile name.now (store_of S.Store store.old) (store_of S.Store store.new)
         steps.old steps.new) }
-    ensures refused { IfErr result (RefusesFile name.now (store_of S.Store store.old) (store_of S.Store store.new)
+    ensures refused { IfErr result
+        (RefusesFile name.now (store_of S.Store store.old) (store_of S.Store store.new)
         steps.old steps.new) }
     ensures quiet { StoreQuiet (store_of S.Store store.old) (store_of S.Store store.new) }
     ensures later { steps.old ≤ steps.new }

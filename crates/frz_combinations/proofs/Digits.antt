@@ -24,7 +24,8 @@ digits-value [] ds h = sym h
 digits-value (b ∷ bs) [] h = absurd h
 digits-value (b ∷ bs) (d ∷ ds) h =
     let below = value_below bs ds h.1 in
-    ap (λ x. x ∷ digits bs ((d * product bs + value bs ds) % product bs)) (div-mul-add d (product bs) (value bs ds) below)
+    ap (λ x. x ∷ digits bs ((d * product bs + value bs ds) % product bs))
+    (div-mul-add d (product bs) (value bs ds) below)
     ∙ ap (λ x. d ∷ digits bs x) (mod-mul-add d (product bs) (value bs ds) below)
     ∙ ap (λ xs. d ∷ xs) (digits-value bs ds h.1)
 
@@ -32,14 +33,18 @@ digits-value (b ∷ bs) (d ∷ ds) h =
 pub digits_fit : (bs : List ℕ) (n : ℕ) → n < product bs → AreDigits bs (digits bs n)
 digits_fit [] n h = refl
 digits_fit (b ∷ bs) n h =
-    let some : 0 < product bs = pos_from_product b (product bs) n h in
-    (div_below n (product bs) b some h, digits_fit bs (n % product bs) (mod_below n (product bs) some))
+    let some : 0 < product bs = pos_from_product b (product bs) n h in (
+      div_below n (product bs) b some h,
+      digits_fit bs (n % product bs)
+          (mod_below n (product bs) some),
+    )
 
 pub value-digits : (bs : List ℕ) (n : ℕ) → n < product bs → value bs (digits bs n) ≡ n
 value-digits [] n h = omega arith
 value-digits (b ∷ bs) n h =
     let some : 0 < product bs = pos_from_product b (product bs) n h in
-    ap (λ x. n / product bs * product bs + x) (value-digits bs (n % product bs) (mod_below n (product bs) some))
+    ap (λ x. n / product bs * product bs + x)
+    (value-digits bs (n % product bs) (mod_below n (product bs) some))
     ∙ div-add-mod' n (product bs)
 
 -- from the first digit on
@@ -56,7 +61,8 @@ pub value_onto-append : (n : ℕ) (rs bs xs ys : List ℕ) → length rs ≡ len
 value_onto-append n [] bs [] ys h = refl
 value_onto-append n [] bs (x ∷ xs) ys h = absurd (omega arith)
 value_onto-append n (a ∷ rs) bs [] ys h = absurd (omega arith)
-value_onto-append n (a ∷ rs) bs (x ∷ xs) ys h = value_onto-append (n * a + x) rs bs xs ys (omega arith)
+value_onto-append n (a ∷ rs) bs (x ∷ xs) ys h =
+    value_onto-append (n * a + x) rs bs xs ys (omega arith)
 
 pub AreDigits-append : (rs bs xs ys : List ℕ) → AreDigits rs xs → AreDigits bs ys →
     AreDigits (rs ++ bs) (xs ++ ys)

@@ -24,7 +24,12 @@ pub choose-past : (n k : ℕ) → n < k → choose n k ≡ 0
 choose-past n zero h = absurd (omega arith)
 choose-past zero (suc k) h = choose-none k
 choose-past (suc n) (suc k) h =
-    omega (arith, choose-suc n k, choose-past n (suc k) (omega arith), choose-past n k (omega arith))
+    omega (
+      arith,
+      choose-suc n k,
+      choose-past n (suc k) (omega arith),
+      choose-past n k (omega arith),
+    )
 
 pub choose-pascal : (n k : ℕ) → 0 < k → choose (n + 1) k ≡ choose n k + choose n (k - 1)
 choose-pascal n zero h = absurd (omega arith)
@@ -45,7 +50,8 @@ choose_grows n (suc d) k = grind (arith, choose_grows n d k, choose_step (d + n)
 
 pub choose_wider : (n m k : ℕ) → n ≤ m → choose n k ≤ choose m k
 choose_wider n m k h =
-    let e : (m - n) + n ≡ m = omega arith in subst (λ x. choose n k ≤ choose x k) e (choose_grows n (m - n) k)
+    let e : (m - n) + n ≡ m = omega arith in subst (λ x. choose n k ≤ choose x k) e
+    (choose_grows n (m - n) k)
 
 -- there is some way to place l men on enough states
 pub choose_some : (s l : ℕ) → l ≤ s → 0 < choose s l

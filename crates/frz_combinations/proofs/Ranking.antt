@@ -25,7 +25,12 @@ places_descend f (suc n) =
 pub rank_below : (s : ℕ) (cs : List ℕ) → AreDescending s cs → rank cs < choose s (length cs)
 rank_below s [] h = omega (arith, choose-zero s)
 rank_below s (c ∷ cs) h =
-    omega (arith, rank_below c cs h.1, choose-suc c (length cs), choose_wider (suc c) s (suc (length cs)) (omega (arith, h.0)))
+    omega (
+      arith,
+      rank_below c cs h.1,
+      choose-suc c (length cs),
+      choose_wider (suc c) s (suc (length cs)) (omega (arith, h.0)),
+    )
 
 unrank_at : (s j r : ℕ) (b : Bool) → nat_le (choose s (suc j)) r ≡ b →
     unrank (suc s) (suc j) r ≡ cond b (s ∷ unrank s j (r - choose s (suc j))) (unrank s (suc j) r)
@@ -35,7 +40,8 @@ unrank_at s j r b e =
 unrank_top : (s : ℕ) (cs : List ℕ) → unrank s (length cs) (rank cs) ≡ cs →
     unrank (suc s) (suc (length cs)) (choose s (suc (length cs)) + rank cs) ≡ s ∷ cs
 unrank_top s cs h =
-    let e : choose s (suc (length cs)) + rank cs - choose s (suc (length cs)) ≡ rank cs = omega arith in
+    let e : choose s (suc (length cs)) + rank cs - choose s (suc (length cs)) ≡ rank cs =
+    omega arith in
     unrank_at s (length cs) (choose s (suc (length cs)) + rank cs) true (grind (arith, nat_tests))
     ∙ ap (λ r. s ∷ unrank s (length cs) r) e ∙ ap (λ xs. s ∷ xs) h
 
@@ -52,7 +58,8 @@ unrank-rank (suc s) (c ∷ cs) h =
           ∙ unrank-rank s (c ∷ cs) (less, h.1)
       | inr more ↦
           let e : s ≡ c = omega (arith, h.0) in
-          subst (λ x. unrank (suc s) (suc (length cs)) (choose x (suc (length cs)) + rank cs) ≡ x ∷ cs) e (unrank_top s cs (unrank-rank s cs (subst (λ x. AreDescending x cs) (sym e) h.1)))
+          subst (λ x. unrank (suc s) (suc (length cs)) (choose x (suc (length cs)) + rank cs) ≡ x
+          ∷ cs) e (unrank_top s cs (unrank-rank s cs (subst (λ x. AreDescending x cs) (sym e) h.1)))
     ]
 
 found_more : (s j r : ℕ) (cs : List ℕ) → choose s (suc j) ≤ r →
@@ -74,11 +81,20 @@ rank-unrank (suc s) (suc j) r h =
     elim (cases_lt r (choose s (suc j))) [
       | inl less ↦
           let f = rank-unrank s (suc j) r less in
-          let e : unrank (suc s) (suc j) r ≡ unrank s (suc j) r = unrank_at s j r false (grind (arith, nat_tests)) in
-          subst (IsRanked (suc s) (suc j) r) (sym e) (record { count = f.count; places = descend_wider s (suc s) _ (omega arith) f.places; rank_is = f.rank_is })
+          let e : unrank (suc s) (suc j) r ≡ unrank s (suc j) r = unrank_at s j r false
+          (grind (arith, nat_tests)) in
+          subst (IsRanked (suc s) (suc j) r) (sym e)
+          (record {
+            count = f.count;
+            places = descend_wider s (suc s) _ (omega arith) f.places;
+            rank_is = f.rank_is;
+          })
       | inr more ↦
-          let e : unrank (suc s) (suc j) r ≡ s ∷ unrank s j (r - choose s (suc j)) = unrank_at s j r true (grind (arith, nat_tests)) in
-          subst (IsRanked (suc s) (suc j) r) (sym e) (found_more s j r _ more (rank-unrank s j (r - choose s (suc j)) (omega (arith, choose-suc s j))))
+          let e : unrank (suc s) (suc j) r ≡ s ∷ unrank s j (r - choose s (suc j)) =
+          unrank_at s j r true (grind (arith, nat_tests)) in
+          subst (IsRanked (suc s) (suc j) r) (sym e)
+          (found_more s j r _ more
+          (rank-unrank s j (r - choose s (suc j)) (omega (arith, choose-suc s j))))
     ]
 
 -- with its own last place as the bound
@@ -104,7 +120,8 @@ rank_ordered s t (c ∷ cs) (d ∷ ds) h k e (inl less) =
     let same : choose d (length (c ∷ cs)) ≡ choose d (length (d ∷ ds)) = ap (choose d) e in
     omega (arith, rank_below d (c ∷ cs) (less, h.1), same)
 rank_ordered s t (c ∷ cs) (d ∷ ds) h k e (inr later) =
-    let here : choose c (length (c ∷ cs)) ≡ choose d (length (d ∷ ds)) = ap (λ x. choose x (length (c ∷ cs))) later.0 ∙ ap (choose d) e in
+    let here : choose c (length (c ∷ cs)) ≡ choose d (length (d ∷ ds)) =
+    ap (λ x. choose x (length (c ∷ cs))) later.0 ∙ ap (choose d) e in
     omega (arith, rank_ordered c d cs ds h.1 k.1 (omega arith) later.1, here)
 
 -- the first place that is found is the greatest whose binomial is not above the rank
@@ -128,21 +145,25 @@ unrank-greatest (suc s) j r c h fits above =
 -- one more place is looked at
 places_step : (f : ℕ → Bool) (n : ℕ) → length (places_below f n) ≤ length (places_below f (suc n))
 places_step f n =
-    elim (f n) as (λ b. length (places_below f n) ≤ length (cond b (n ∷ places_below f n) (places_below f n))) [ true ↦ omega arith | false ↦ omega arith ]
+    elim (f n) as (λ b. length (places_below f n) ≤ length
+    (cond b (n ∷ places_below f n) (places_below f n))) [ true ↦ omega arith | false ↦ omega arith ]
 
 pub places_wider : (f : ℕ → Bool) (k n : ℕ) → k ≤ n →
     length (places_below f k) ≤ length (places_below f n)
 places_wider f k zero h =
-    let e : 0 ≡ k = omega arith in subst (λ x. length (places_below f x) ≤ length (places_below f 0)) e (omega arith)
+    let e : 0 ≡ k = omega arith in
+    subst (λ x. length (places_below f x) ≤ length (places_below f 0)) e (omega arith)
 places_wider f k (suc n) h =
     elim (cases_lt k (suc n)) [
       | inl less ↦ omega (arith, places_wider f k n (omega arith), places_step f n)
-      | inr more ↦ let e : suc n ≡ k = omega arith in subst (λ x. length (places_below f x) ≤ length (places_below f (suc n))) e (omega arith)
+      | inr more ↦ let e : suc n ≡ k = omega arith in
+          subst (λ x. length (places_below f x) ≤ length (places_below f (suc n))) e (omega arith)
     ]
 
 -- a place where f holds counts
 pub place_counts : (f : ℕ → Bool) (k n : ℕ) → k < n → f k ≡ true →
     length (places_below f k) < length (places_below f n)
 place_counts f k n h e =
-    let here : length (places_below f (suc k)) ≡ suc (length (places_below f k)) = ap (λ b. length (cond b (k ∷ places_below f k) (places_below f k))) e in
+    let here : length (places_below f (suc k)) ≡ suc (length (places_below f k)) =
+    ap (λ b. length (cond b (k ∷ places_below f k) (places_below f k))) e in
     omega (arith, places_wider f (suc k) n h)

@@ -22,7 +22,8 @@ pub number_below_at : (row : List ℕ) (k : ℕ) → 1 ≤ k →
     min (slice_index row k + slice_index row (k - 1)) (2 ^ 64 - 1) ≡ number_below row k
 number_below_at row zero h = absurd (omega arith)
 number_below_at row (suc k) h =
-    let e : suc k - 1 ≡ k = omega arith in ap (λ j. min (slice_index row (suc k) + slice_index row j) (2 ^ 64 - 1)) e
+    let e : suc k - 1 ≡ k = omega arith in
+    ap (λ j. min (slice_index row (suc k) + slice_index row j) (2 ^ 64 - 1)) e
 
 capped_sum : (a b : ℕ) → capped (capped a + capped b) ≡ capped (a + b)
 capped_sum a b = omega arith
@@ -41,7 +42,8 @@ pub row_next : (row next : List ℕ) → length next ≡ 17 →
     ((k : ℕ) → k < 17 → slice_index next k ≡ number_below row k) → (n : ℕ) → IsRow n row →
     IsRow (n + 1) next
 row_next row next e below n r =
-    subst (λ m. IsRow m next) (sym (add-one n)) (record { width = e; numbers = λ k h. below k h ∙ next_number n row r k h })
+    subst (λ m. IsRow m next) (sym (add-one n))
+    (record { width = e; numbers = λ k h. below k h ∙ next_number n row r k h })
 
 pub rows_none : (rows : List (List ℕ)) → length rows ≡ 0 → AreRows rows
 unfolding AreRows
@@ -58,7 +60,8 @@ rows_more rows row h r n k =
       | inl less ↦ subst (IsRow n) (sym (get_or_append_left rows (row ∷ []) [] n less)) (h n less)
       | inr more ↦
           let at : n ≡ length rows = let l = length-append rows (row ∷ []) in omega arith in
-          let read : get_or (rows ++ row ∷ []) n [] ≡ row = get_or-append_right rows (row ∷ []) n n [] (sym at) (omega arith) ∙ ap (λ i. get_or (row ∷ []) i []) (none_past n) in
+          let read : get_or (rows ++ row ∷ []) n [] ≡ row = get_or-append_right rows (row ∷ []) n n
+          [] (sym at) (omega arith) ∙ ap (λ i. get_or (row ∷ []) i []) (none_past n) in
           subst (IsRow n) (sym read) (subst (λ m. IsRow m row) (sym at) r)
     ]
 

@@ -25,7 +25,8 @@ men_found s l (suc n) zero x h k =
 men_found s l (suc n) (suc d) x h k =
     let e : l + suc d ≡ suc l + d = omega arith in
     let k' : x < choose s (suc l + d) = subst (λ j. x < choose s j) e k in
-    let r : choose s l + choices s (suc l) d + x - choose s l ≡ choices s (suc l) d + x = omega arith in
+    let r : choose s l + choices s (suc l) d + x - choose s l ≡ choices s (suc l) d + x =
+    omega arith in
     count_and_rank_at s l n (choose s l + choices s (suc l) d + x) false (grind (arith, nat_tests))
     ∙ ap (count_and_rank s (suc l) n) r ∙ men_found s (suc l) n d x (omega arith) k'
     ∙ ap (λ j. (j, x)) (sym e)
@@ -48,13 +49,15 @@ pub digit_below : (s l m : ℕ) (cs : List ℕ) → AreDescending s cs → l ≤
     digit s l cs < radix s l m
 digit_below s l m cs h lo hi =
     let e : l + (length cs - l) ≡ length cs = omega arith in
-    choices_below s l (m - l) (length cs - l) (rank cs) (omega arith) (subst (λ j. rank cs < choose s j) (sym e) (rank_below s cs h))
+    choices_below s l (m - l) (length cs - l) (rank cs) (omega arith)
+    (subst (λ j. rank cs < choose s j) (sym e) (rank_below s cs h))
 
 -- the places are those of their digit
 pub selection_at-digit : (s l m : ℕ) (cs : List ℕ) → AreDescending s cs → l ≤ length cs →
     length cs ≤ m → selection_at s l m (digit s l cs) ≡ cs
 selection_at-digit s l m cs h lo hi =
     let e : l + (length cs - l) ≡ length cs = omega arith in
-    let found = men_found s l (m - l) (length cs - l) (rank cs) (omega arith) (subst (λ j. rank cs < choose s j) (sym e) (rank_below s cs h)) in
+    let found = men_found s l (m - l) (length cs - l) (rank cs) (omega arith)
+    (subst (λ j. rank cs < choose s j) (sym e) (rank_below s cs h)) in
     ap (λ (x : ℕ × ℕ). unrank s x.0 x.1) found ∙ ap (λ j. unrank s j (rank cs)) e
     ∙ unrank-rank s cs h

@@ -18,13 +18,14 @@ IsBefore [] ds = ⊥
 IsBefore (c ∷ cs) [] = ⊥
 IsBefore (c ∷ cs) (d ∷ ds) = (c < d) ⊎ ((c ≡ d) × IsBefore cs ds)
 
--- the combination of j places below s with rank r: from the last place to the first, each is the greatest whose
--- binomial is not above what is left
+-- the combination of j places below s with rank r: from the last place to the first, each is the
+-- greatest whose binomial is not above what is left
 abbrev pub unrank : ℕ → ℕ → ℕ → List ℕ
 unrank zero j r = []
 unrank (suc s) zero r = []
 unrank (suc s) (suc j) r =
-    if nat_le (choose s (suc j)) r then s ∷ unrank s j (r - choose s (suc j)) else unrank s (suc j) r
+    if nat_le (choose s (suc j)) r then s ∷ unrank s j (r - choose s (suc j))
+    else unrank s (suc j) r
 
 -- j places below s whose rank is r
 pub record IsRanked (s j r : ℕ) (cs : List ℕ) : Type 0 where

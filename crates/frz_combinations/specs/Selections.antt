@@ -1,4 +1,5 @@
--- Selections: combinations of l to m places among s, numbered by how many places they have, then by rank.
+-- Selections: combinations of l to m places among s, numbered
+-- by how many places they have, then by rank.
 use Rattle.std.specs.Prelude.{ℕ, zero, suc, ◌+◌, ◌-◌, List, length, if◌then◌else◌, nat_lt}
 use Rattle.frz_combinations.specs.Binomials.{choose}
 use Rattle.frz_combinations.specs.Combinations.{rank, unrank}
@@ -16,8 +17,8 @@ radix s l m = choices s l (suc (m - l))
 abbrev pub digit : ℕ → ℕ → List ℕ → ℕ
 digit s l cs = choices s l (length cs - l) + rank cs
 
--- the number of places of the selection with number r, from l on and at most n more, and its rank among those of
--- as many
+-- the number of places of the selection with number r, from l
+-- on and at most n more, and its rank among those of as many
 abbrev pub count_and_rank : ℕ → ℕ → ℕ → ℕ → ℕ × ℕ
 count_and_rank s l zero r = (l, r)
 count_and_rank s l (suc n) r =

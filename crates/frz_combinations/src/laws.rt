@@ -17,7 +17,8 @@ pub fn binomials()
 pub fn combinations()
     ensures below { (s : ℕ) (cs : List ℕ) → AreDescending s cs → rank cs < choose s (length cs) }
 
-    // The last place is the greatest whose binomial is not above the rank, and so it is found again.
+    // The last place is the greatest whose binomial is not
+    // above the rank, and so it is found again.
     ensures last { (c : ℕ) (cs : List ℕ) → AreDescending c cs →
         rank (c ∷ cs) < choose (c + 1) (length (c ∷ cs)) }
     ensures greatest { (s j r c : ℕ) → c < s → choose c (j + 1) ≤ r →

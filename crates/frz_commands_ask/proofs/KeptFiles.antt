@@ -34,35 +34,44 @@ use Rattle.frz_commands_ask.specs.Kept.{code_reads, keeping_bytes, keeping_calls
 use Rattle.frz_commands_ask.proofs.Soundness.{read_sound}
 
 -- the text of a file that opens is the one that it keeps
-pub opened_text : (kind : FileKind) (bytes : List ℕ) (contents : Contents) → opened (table_format kind) (Some bytes) ≡ Ok contents
+pub opened_text : (kind : FileKind) (bytes : List ℕ) (contents : Contents)
+    → opened (table_format kind) (Some bytes) ≡ Ok contents
     → held_text (Some bytes) ≡ contents.text
 opened_text kind bytes contents opens =
     text_kept _ _ _ bytes (belongs (table_format kind) bytes contents opens).file
 
 -- no more was asked of the store, in no more calls, than what the name holds takes
-record WithinKept (kind : FileKind) (p : Board) (held : Option (List ℕ)) (old new : StoreTold) : Type 0 where
+record WithinKept (kind : FileKind) (p : Board) (held : Option (List ℕ))
+    (old new : StoreTold) : Type 0 where
   asked : new.asked ≤ old.asked + keeping_bytes kind p held
   calls : new.calls ≤ old.calls + keeping_calls kind p held
 
 -- what a name gives that holds this
 module _ (kind : FileKind) (p : Board) (name : List ℕ) (old new : StoreTold) where
-  kept_where : (result : Result KeptCodes Stop) (held : Option (List ℕ)) → IfSome old.files (λ m. m name ≡ held)
-      → Answers result (kept_of kind p held) → WithinKept kind p held old new → IsKept kind p name result old new
+  kept_where : (result : Result KeptCodes Stop) (held : Option (List ℕ))
+      → IfSome old.files (λ m. m name ≡ held)
+      → Answers result (kept_of kind p held) → WithinKept kind p held old new
+      → IsKept kind p name result old new
   kept_where result held there due within =
       let at = holding old.files name held there in record {
         files = at.files;
         agrees = at.agrees;
         due = subst (λ (h : Option (List ℕ)). Answers result (kept_of kind p h)) (sym at.holds) due;
-        asked = subst (λ (h : Option (List ℕ)). new.asked ≤ old.asked + keeping_bytes kind p h) (sym at.holds) within.asked;
-        calls = subst (λ (h : Option (List ℕ)). new.calls ≤ old.calls + keeping_calls kind p h) (sym at.holds) within.calls;
+        asked = subst (λ (h : Option (List ℕ)). new.asked ≤ old.asked + keeping_bytes kind p h)
+            (sym at.holds) within.asked;
+        calls = subst (λ (h : Option (List ℕ)). new.calls ≤ old.calls + keeping_calls kind p h)
+            (sym at.holds) within.calls;
       }
 
   -- the table was not opened
-  fault_due : (held : Option (List ℕ)) (fault : TableFault) → opened (table_format kind) held ≡ Err fault
+  fault_due : (held : Option (List ℕ)) (fault : TableFault)
+      → opened (table_format kind) held ≡ Err fault
       → kept_of kind p held ≡ Err (refusals.Table fault)
-  fault_due held fault e = ap (λ (x : Result Contents TableFault). kept_by x (unwrap_or held []) p) e
+  fault_due held fault e =
+      ap (λ (x : Result Contents TableFault). kept_by x (unwrap_or held []) p) e
 
-  refused_due : (held : Option (List ℕ)) (fault : TableFault) → Refuses (opened (table_format kind) held) fault
+  refused_due : (held : Option (List ℕ)) (fault : TableFault)
+      → Refuses (opened (table_format kind) held) fault
       → Answers {A = KeptCodes} (Err (stop_of_table fault)) (kept_of kind p held)
   refused_due held Missing e = fault_due held Missing e
   refused_due held Magic e = fault_due held Magic e
@@ -77,35 +86,51 @@ module _ (kind : FileKind) (p : Board) (name : List ℕ) (old new : StoreTold) w
       → MayRefuse (table_format kind) name old new fault → IsKept kind p name (Err stop) old new
   refused_kept fault stop is may =
       kept_where (Err stop) may.held (same_held old.files name may.held may.may)
-      (subst (λ (s : Stop). Answers {A = KeptCodes} (Err s) (kept_of kind p may.held)) (sym is) (refused_due may.held fault may.refuses))
-      (record { asked = (let asked = may.asked in omega (arith, asked)); calls = (let calls = may.calls in omega (arith, calls)) })
+      (subst (λ (s : Stop). Answers {A = KeptCodes} (Err s) (kept_of kind p may.held)) (sym is)
+      (refused_due may.held fault may.refuses))
+      (record {
+        asked = (let asked = may.asked in omega (arith, asked));
+        calls = (let calls = may.calls in omega (arith, calls));
+      })
 
 -- what the bytes of a file that opens give
-module _ (kind : FileKind) (contents : Contents) (bytes : List ℕ) (p : Board) (opens : opened (table_format kind) (Some bytes) ≡ Ok contents) where
+module _ (kind : FileKind) (contents : Contents) (bytes : List ℕ) (p : Board)
+    (opens : opened (table_format kind) (Some bytes) ≡ Ok contents) where
   abbrev by_member : Bool → Result KeptCodes Refusal
   by_member inside =
-      if inside then Ok (record { white = kept_at White contents bytes p; black = kept_at Black contents bytes p })
+      if inside then Ok (record {
+        white = kept_at White contents bytes p;
+        black = kept_at Black contents bytes p;
+      })
       else Err refusals.Outside
 
-  kept_by_member : (inside : Bool) → is_member contents.rules.groups p ≡ inside → kept_of kind p (Some bytes) ≡ by_member inside
-  kept_by_member inside e = ap (λ (x : Result Contents TableFault). kept_by x bytes p) opens ∙ ap by_member e
+  kept_by_member : (inside : Bool) → is_member contents.rules.groups p ≡ inside
+      → kept_of kind p (Some bytes) ≡ by_member inside
+  kept_by_member inside e =
+      ap (λ (x : Result Contents TableFault). kept_by x bytes p) opens ∙ ap by_member e
 
-  outside_test : (inside : Bool) → is_member contents.rules.groups p ≡ inside → (Member contents.rules.groups p → ⊥) → is_member contents.rules.groups p ≡ false
+  outside_test : (inside : Bool) → is_member contents.rules.groups p ≡ inside
+      → (Member contents.rules.groups p → ⊥) → is_member contents.rules.groups p ≡ false
   outside_test true e none = absurd (none (member_of contents.rules.groups p e))
   outside_test false e none = e
 
-  pub gives_outside : (Member contents.rules.groups p → ⊥) → kept_of kind p (Some bytes) ≡ Err refusals.Outside
-  gives_outside none = kept_by_member false (outside_test (is_member contents.rules.groups p) refl none)
+  pub gives_outside : (Member contents.rules.groups p → ⊥)
+      → kept_of kind p (Some bytes) ≡ Err refusals.Outside
+  gives_outside none =
+      kept_by_member false (outside_test (is_member contents.rules.groups p) refl none)
 
-  pub gives_codes : (codes : KeptCodes) → Member contents.rules.groups p → kept_at White contents bytes p ≡ codes.white
+  pub gives_codes : (codes : KeptCodes) → Member contents.rules.groups p
+      → kept_at White contents bytes p ≡ codes.white
       → kept_at Black contents bytes p ≡ codes.black → kept_of kind p (Some bytes) ≡ Ok codes
   gives_codes codes inside white black =
       let both : ℕ → ℕ → Result KeptCodes Refusal = λ w b. Ok (record { white = w; black = b }) in
       kept_by_member true (of_member contents.rules.groups p inside)
-      ∙ ap (λ (w : ℕ). both w (kept_at Black contents bytes p)) white ∙ ap (λ (b : ℕ). both codes.white b) black
+      ∙ ap (λ (w : ℕ). both w (kept_at Black contents bytes p)) white
+      ∙ ap (λ (b : ℕ). both codes.white b) black
 
 -- a file that keeps one code of each side at every number
-pub record KeepsCodes (kind : FileKind) (contents : Contents) (p : Board) (codes : KeptCodes) : Type 0 where
+pub record KeepsCodes (kind : FileKind) (contents : Contents) (p : Board)
+    (codes : KeptCodes) : Type 0 where
   pub bytes : List ℕ
   pub opens : opened (table_format kind) (Some bytes) ≡ Ok contents
   pub white : kept_at White contents bytes p ≡ codes.white
@@ -116,8 +141,10 @@ small_codes zero code small i = lit< tt
 small_codes (suc n) code small zero = small
 small_codes (suc n) code small (suc i) = small_codes n code small i
 
-pub some_file : (kind : FileKind) (contents : Contents) (other : List ℕ) → opened (table_format kind) (Some other) ≡ Ok contents → (p : Board)
-    → Member contents.rules.groups p → (codes : KeptCodes) → codes.white < 2 ^ 32 → codes.black < 2 ^ 32 → KeepsCodes kind contents p codes
+pub some_file : (kind : FileKind) (contents : Contents) (other : List ℕ)
+    → opened (table_format kind) (Some other) ≡ Ok contents → (p : Board)
+    → Member contents.rules.groups p → (codes : KeptCodes) → codes.white < 2 ^ 32
+    → codes.black < 2 ^ 32 → KeepsCodes kind contents p codes
 some_file kind contents other opens p inside codes white_small black_small =
     let text : List ℕ = contents.text in
     let size : ℕ = size_of contents.rules.groups in
@@ -129,78 +156,117 @@ some_file kind contents other opens p inside codes white_small black_small =
     let few = (read_sound text contents.rules known.read).size in
     let white_long : length white ≡ size = length-replicate size codes.white in
     let black_long : length black ≡ size = length-replicate size codes.black in
-    let file = written_belongs magic text size white black (magic_long kind) (omega (arith, short)) (omega (arith, few)) white_long black_long in
-    let loaded = written_is_loaded magic text size white black (magic_long kind) white_long black_long
+    let file = written_belongs magic text size white black (magic_long kind) (omega (arith, short))
+    (omega (arith, few)) white_long black_long in
+    let loaded = written_is_loaded magic text size white black (magic_long kind) white_long
+    black_long
     (small_codes size codes.white white_small) (small_codes size codes.black black_small) in
     let below = Num_below contents.rules.groups p inside in
     record {
       bytes = file_of magic text size white black;
-      opens = opens_by (table_format kind) (file_of magic text size white black) contents (record { file = file; short = short; read = known.read });
-      white = ap (λ (l : List ℕ). slice_index l (Num contents.rules.groups p)) loaded.0 ∙ get_or-replicate size (Num contents.rules.groups p) codes.white 0 below;
-      black = ap (λ (l : List ℕ). slice_index l (Num contents.rules.groups p)) loaded.1 ∙ get_or-replicate size (Num contents.rules.groups p) codes.black 0 below;
+      opens = opens_by (table_format kind) (file_of magic text size white black) contents
+          (record { file = file; short = short; read = known.read });
+      white = ap (λ (l : List ℕ). slice_index l (Num contents.rules.groups p)) loaded.0
+          ∙ get_or-replicate size (Num contents.rules.groups p) codes.white 0 below;
+      black = ap (λ (l : List ℕ). slice_index l (Num contents.rules.groups p)) loaded.1
+          ∙ get_or-replicate size (Num contents.rules.groups p) codes.black 0 below;
     }
 
 -- the table was opened
-module _ (kind : FileKind) (table : Table) (p : Board) (name : List ℕ) (old new : StoreTold) (named : table.name ≡ name)
+module _ (kind : FileKind) (table : Table) (p : Board) (name : List ℕ) (old new : StoreTold)
+    (named : table.name ≡ name)
     (asked : new.asked ≤ old.asked + (24 + length table.text))
     (unasked : (Member table.rules.groups p → ⊥) → new.asked ≤ old.asked + (16 + length table.text))
-    (calls : new.calls ≤ old.calls + 7) (unread : (Member table.rules.groups p → ⊥) → new.calls ≤ old.calls + 5) where
-  text_long : (bytes : List ℕ) → opened (table_format kind) (Some bytes) ≡ Ok (contents_of table) → length (held_text (Some bytes)) ≡ length table.text
+    (calls : new.calls ≤ old.calls + 7)
+    (unread : (Member table.rules.groups p → ⊥) → new.calls ≤ old.calls + 5) where
+  text_long : (bytes : List ℕ) → opened (table_format kind) (Some bytes) ≡ Ok (contents_of table)
+      → length (held_text (Some bytes)) ≡ length table.text
   text_long bytes opens = ap (length {A = ℕ}) (opened_text kind bytes (contents_of table) opens)
 
-  with_codes : (bytes : List ℕ) → opened (table_format kind) (Some bytes) ≡ Ok (contents_of table) → (codes : KeptCodes)
+  with_codes : (bytes : List ℕ) → opened (table_format kind) (Some bytes) ≡ Ok (contents_of table)
+      → (codes : KeptCodes)
       → kept_of kind p (Some bytes) ≡ Ok codes → WithinKept kind p (Some bytes) old new
   with_codes bytes opens codes e = record {
     asked = omega (arith, asked, text_long bytes opens, ap code_reads e);
-    calls = omega (arith, calls, opened_calls (table_format kind) bytes (contents_of table) opens, ap code_reads e);
+    calls = omega (
+      arith,
+      calls,
+      opened_calls (table_format kind) bytes (contents_of table) opens,
+      ap code_reads e,
+    );
   }
 
-  with_none : (bytes : List ℕ) → opened (table_format kind) (Some bytes) ≡ Ok (contents_of table) → (Member table.rules.groups p → ⊥)
+  with_none : (bytes : List ℕ) → opened (table_format kind) (Some bytes) ≡ Ok (contents_of table)
+      → (Member table.rules.groups p → ⊥)
       → WithinKept kind p (Some bytes) old new
   with_none bytes opens none = record {
     asked = omega (arith, unasked none, text_long bytes opens);
-    calls = omega (arith, unread none, opened_calls (table_format kind) bytes (contents_of table) opens);
+    calls = omega (
+      arith,
+      unread none,
+      opened_calls (table_format kind) bytes (contents_of table)
+          opens,
+    );
   }
 
-  by_place : (bytes : List ℕ) → opened (table_format kind) (Some bytes) ≡ Ok (contents_of table) → (inside : Bool)
+  by_place : (bytes : List ℕ) → opened (table_format kind) (Some bytes) ≡ Ok (contents_of table)
+      → (inside : Bool)
       → is_member table.rules.groups p ≡ inside → WithinKept kind p (Some bytes) old new
-  by_place bytes opens true e = with_codes bytes opens _ (kept_by_member kind (contents_of table) bytes p opens true e)
-  by_place bytes opens false e = with_none bytes opens (λ inside. let no : true ≡ false = sym (of_member table.rules.groups p inside) ∙ e in cc)
+  by_place bytes opens true e =
+      with_codes bytes opens _ (kept_by_member kind (contents_of table) bytes p opens true e)
+  by_place bytes opens false e =
+      with_none bytes opens
+      (λ inside. let no : true ≡ false = sym (of_member table.rules.groups p inside) ∙ e in cc)
 
-  at_name : (P : List ℕ → Type 0) (m : Files) (bytes : List ℕ) → m name ≡ Some bytes → IfSome (m table.name) P → P bytes
-  at_name P m bytes there h = subst (λ (held : Option (List ℕ)). IfSome held P) (ap m named ∙ there) h
+  at_name : (P : List ℕ → Type 0) (m : Files) (bytes : List ℕ) → m name ≡ Some bytes
+      → IfSome (m table.name) P → P bytes
+  at_name P m bytes there h =
+      subst (λ (held : Option (List ℕ)). IfSome held P) (ap m named ∙ there) h
 
-  codes_kept : (told : Option Files) → old.files ≡ told → MayOpen (table_format kind) told name (contents_of table) → (codes : KeptCodes)
+  codes_kept : (told : Option Files) → old.files ≡ told
+      → MayOpen (table_format kind) told name (contents_of table) → (codes : KeptCodes)
       → AreKept table p told codes → IsKept kind p name (Ok codes) old new
   codes_kept (Some m) e may codes kept =
       let gives = gives_codes kind (contents_of table) may.bytes p may.opens codes kept.inside
-      (at_name (λ bytes. kept_at White (contents_of table) bytes p ≡ codes.white) m may.bytes may.may kept.white)
-      (at_name (λ bytes. kept_at Black (contents_of table) bytes p ≡ codes.black) m may.bytes may.may kept.black) in
-      kept_where kind p name old new (Ok codes) (Some may.bytes) (subst (λ (o : Option Files). IfSome o (λ f. f name ≡ Some may.bytes)) (sym e) may.may)
+      (at_name (λ bytes. kept_at White (contents_of table) bytes p ≡ codes.white) m may.bytes
+      may.may kept.white)
+      (at_name (λ bytes. kept_at Black (contents_of table) bytes p ≡ codes.black) m may.bytes
+      may.may kept.black) in
+      kept_where kind p name old new (Ok codes) (Some may.bytes)
+      (subst (λ (o : Option Files). IfSome o (λ f. f name ≡ Some may.bytes)) (sym e) may.may)
       gives (with_codes may.bytes may.opens codes gives)
   codes_kept None e may codes kept =
-      let file = some_file kind (contents_of table) may.bytes may.opens p kept.inside codes kept.white_small kept.black_small in
-      let gives = gives_codes kind (contents_of table) file.bytes p file.opens codes kept.inside file.white file.black in
-      kept_where kind p name old new (Ok codes) (Some file.bytes) (subst (λ (o : Option Files). IfSome o (λ f. f name ≡ Some file.bytes)) (sym e) tt)
+      let file = some_file kind (contents_of table) may.bytes may.opens p kept.inside codes
+      kept.white_small kept.black_small in
+      let gives = gives_codes kind (contents_of table) file.bytes p file.opens codes kept.inside
+      file.white file.black in
+      kept_where kind p name old new (Ok codes) (Some file.bytes)
+      (subst (λ (o : Option Files). IfSome o (λ f. f name ≡ Some file.bytes)) (sym e) tt)
       gives (with_codes file.bytes file.opens codes gives)
 
-  pub opened_kept : MayOpen (table_format kind) old.files name (contents_of table) → (result : Result KeptCodes Stop)
+  pub opened_kept : MayOpen (table_format kind) old.files name (contents_of table)
+      → (result : Result KeptCodes Stop)
       → IsKeptIn table p old.files result → IsKept kind p name result old new
   opened_kept may (Ok codes) kept = codes_kept old.files refl may codes kept
   opened_kept may (Err (Refused why)) kept =
-      kept_where kind p name old new (Err (Refused why)) (Some may.bytes) (same_held old.files name (Some may.bytes) may.may)
-      (gives_outside kind (contents_of table) may.bytes p may.opens kept.0 ∙ ap (λ (w : Refusal). Err w) (sym kept.1))
+      kept_where kind p name old new (Err (Refused why)) (Some may.bytes)
+      (same_held old.files name (Some may.bytes) may.may)
+      (gives_outside kind (contents_of table) may.bytes p may.opens kept.0
+      ∙ ap (λ (w : Refusal). Err w) (sym kept.1))
       (with_none may.bytes may.opens kept.0)
   opened_kept may (Err (Fault fault)) kept =
-      kept_where kind p name old new (Err (Fault fault)) (Some may.bytes) (same_held old.files name (Some may.bytes) may.may) tt
+      kept_where kind p name old new (Err (Fault fault)) (Some may.bytes)
+      (same_held old.files name (Some may.bytes) may.may) tt
       (by_place may.bytes may.opens (is_member table.rules.groups p) refl)
 
-if_some : {A : Type 0} (o : Option A) (P Q : A → Type 0) → ((x : A) → P x → Q x) → IfSome o P → IfSome o Q
+if_some : {A : Type 0} (o : Option A) (P Q : A → Type 0) → ((x : A) → P x → Q x) → IfSome o P
+    → IfSome o Q
 if_some None P Q f h = tt
 if_some (Some x) P Q f h = f x h
 
 -- what was read in place is the code that the file keeps at the position
-module _ (table : Table) (groups : List GroupLine) (same : groups ≡ table.rules.groups) (p : Board) (i : ℕ)
+module _ (table : Table) (groups : List GroupLine) (same : groups ≡ table.rules.groups) (p : Board)
+    (i : ℕ)
     (placed : Member groups p × (i ≡ Num groups p)) where
   pub inside_it : Member table.rules.groups p
   inside_it = subst (λ (g : List GroupLine). Member g p) same placed.0
@@ -209,20 +275,31 @@ module _ (table : Table) (groups : List GroupLine) (same : groups ≡ table.rule
   number_is = placed.1 ∙ ap (λ (g : List GroupLine). Num g p) same
 
   pub number_below : i < table_size table
-  number_below = subst (λ (n : ℕ). n < table_size table) (sym number_is) (Num_below table.rules.groups p inside_it)
+  number_below = subst (λ (n : ℕ). n < table_size table) (sym number_is)
+      (Num_below table.rules.groups p inside_it)
 
-  code_kept : (side : Colour) (bytes : List ℕ) (code : ℕ) → slice_get (codes_at side table.text (table_size table) bytes) i ≡ Some code
+  code_kept : (side : Colour) (bytes : List ℕ) (code : ℕ)
+      → slice_get (codes_at side table.text (table_size table) bytes) i ≡ Some code
       → kept_at side (contents_of table) bytes p ≡ code
   code_kept side bytes code read =
-      ap (λ (n : ℕ). slice_index (codes_at side table.text (table_size table) bytes) n) (sym number_is)
+      ap (λ (n : ℕ). slice_index (codes_at side table.text (table_size table) bytes) n)
+      (sym number_is)
       ∙ get_or_from_slice_get (codes_at side table.text (table_size table) bytes) i code 0 read
 
   pub entry_kept : (side : Colour) (told mid : Option Files) → mid ≡ told → (code : ℕ)
-      → IfSome mid (λ m. IfSome (m table.name) (λ bytes. slice_get (codes_at side table.text (table_size table) bytes) i ≡ Some code))
-      → IfSome told (λ m. IfSome (m table.name) (λ bytes. kept_at side (contents_of table) bytes p ≡ code))
+      → IfSome mid (λ m. IfSome (m table.name)
+      (λ bytes. slice_get (codes_at side table.text (table_size table) bytes) i ≡ Some code))
+      → IfSome told (λ m. IfSome (m table.name)
+      (λ bytes. kept_at side (contents_of table) bytes p ≡ code))
   entry_kept side told mid e code read =
-      if_some told (λ m. IfSome (m table.name) (λ bytes. slice_get (codes_at side table.text (table_size table) bytes) i ≡ Some code))
+      if_some told (λ m. IfSome (m table.name)
+      (λ bytes. slice_get (codes_at side table.text (table_size table) bytes) i ≡ Some code))
       (λ m. IfSome (m table.name) (λ bytes. kept_at side (contents_of table) bytes p ≡ code))
-      (λ m h. if_some (m table.name) (λ bytes. slice_get (codes_at side table.text (table_size table) bytes) i ≡ Some code)
-      (λ bytes. kept_at side (contents_of table) bytes p ≡ code) (λ bytes k. code_kept side bytes code k) h)
-      (subst (λ (o : Option Files). IfSome o (λ m. IfSome (m table.name) (λ bytes. slice_get (codes_at side table.text (table_size table) bytes) i ≡ Some code))) e read)
+      (λ m h. if_some (m table.name)
+      (λ bytes. slice_get (codes_at side table.text (table_size table) bytes) i ≡ Some code)
+      (λ bytes. kept_at side (contents_of table) bytes p ≡ code)
+      (λ bytes k. code_kept side bytes code k) h)
+      (subst (λ (o : Option Files). IfSome o
+      (λ m. IfSome (m table.name)
+      (λ bytes. slice_get (codes_at side table.text (table_size table) bytes) i ≡ Some code))) e
+      read)

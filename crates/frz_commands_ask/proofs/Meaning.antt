@@ -25,7 +25,8 @@ use Rattle.frz_commands_ask.specs.Meaning.{TellsBounds, MeansStatus, MeansSolve}
 use Rattle.frz_commands_ask.specs.Solving.{Solves, AreBounds, IsSolvedBy, IsSolvedIn, IsSolvedAt}
 
 -- the bounds of a position of the set hold in chess
-pub tells_bounds : (r : RuleLines) (value : Board → Value) (p : Board) (white black : Bound) → Member r.groups p → Solves r value p white black
+pub tells_bounds : (r : RuleLines) (value : Board → Value) (p : Board) (white black : Bound)
+    → Member r.groups p → Solves r value p white black
     → TellsBounds r value p (bounds_text white black)
 tells_bounds r value p white black inside s = record {
   white = white;
@@ -40,12 +41,15 @@ tells_bounds r value p white black inside s = record {
 
 module _ (rules : List ℕ) (p : Board) (files : Files) (a : Answer) where
   -- an answer that is said in full, with what its status says
-  said_means : (status : Status) (text : List ℕ) → a ≡ says status text files → MeansStatus rules p files status text → MeansSolve rules p files a
+  said_means : (status : Status) (text : List ℕ) → a ≡ says status text files
+      → MeansStatus rules p files status text → MeansSolve rules p files a
   said_means status text e means =
-      subst (λ (x : Answer). MeansSolve rules p files x) (sym e) (record { same = refl; untaken = refl; says = means })
+      subst (λ (x : Answer). MeansSolve rules p files x) (sym e)
+      (record { same = refl; untaken = refl; says = means })
 
   module _ (source : List ℕ) (there : files rules ≡ Some source) where
-    bounds_mean : (r : RuleLines) → rules_of source ≡ Ok r → Member r.groups p → AreBounds r p files a → MeansSolve rules p files a
+    bounds_mean : (r : RuleLines) → rules_of source ≡ Ok r → Member r.groups p
+        → AreBounds r p files a → MeansSolve rules p files a
     bounds_mean r accepted inside (white, black, s, e) =
         said_means Success (bounds_text white black) e (record {
           source = source;
@@ -57,7 +61,8 @@ module _ (rules : List ℕ) (p : Board) (files : Files) (a : Answer) where
         })
 
     by_rules : (r : RuleLines) → rules_of source ≡ Ok r → (b : Bool) → is_member r.groups p ≡ b
-        → MatchBool b (AreBounds r p files a) (a ≡ says Outside (codes "outside\n") files) → MeansSolve rules p files a
+        → MatchBool b (AreBounds r p files a) (a ≡ says Outside (codes "outside\n") files)
+        → MeansSolve rules p files a
     by_rules r accepted true member h = bounds_mean r accepted (member_of r.groups p member) h
     by_rules r accepted false member e =
         said_means Outside (codes "outside\n") e (record {
@@ -65,18 +70,24 @@ module _ (rules : List ℕ) (p : Board) (files : Files) (a : Answer) where
           there = there;
           lines = r;
           accepted = accepted;
-          outside = λ inside. let no : false ≡ true = sym member ∙ of_member r.groups p inside in cc;
+          outside =
+              λ inside. let no : false ≡ true = sym member ∙ of_member r.groups p inside in cc;
         })
 
     by_text : (x : Result RuleLines RulesFault) → rules_of source ≡ x
-        → MatchResult x (λ r. IsSolvedBy r p files a) (λ fault. a ≡ says Rules (rules_line fault) files) → MeansSolve rules p files a
+        → MatchResult x (λ r. IsSolvedBy r p files a)
+        (λ fault. a ≡ says Rules (rules_line fault) files) → MeansSolve rules p files a
     by_text (Ok r) e h = by_rules r e (is_member r.groups p) refl h
     by_text (Err fault) e h =
-        said_means Rules (rules_line fault) h (record { source = source; there = there; fault = fault; refused = e; told = refl })
+        said_means Rules (rules_line fault) h
+        (record { source = source; there = there; fault = fault; refused = e; told = refl })
 
-  by_file : (x : Option (List ℕ)) → files rules ≡ x → MatchOption x (a ≡ says Missing (codes "missing rules\n") files) (λ text. IsSolvedIn text p files a) → MeansSolve rules p files a
+  by_file : (x : Option (List ℕ)) → files rules ≡ x
+      → MatchOption x (a ≡ says Missing (codes "missing rules\n") files)
+      (λ text. IsSolvedIn text p files a) → MeansSolve rules p files a
   by_file None e h = said_means Missing (codes "missing rules\n") h e
   by_file (Some source) e h = by_text source e (rules_of source) refl h
 
-pub solve_means : (rules : List ℕ) (p : Board) (files : Files) (a : Answer) → IsSolvedAt p rules files a → MeansSolve rules p files a
+pub solve_means : (rules : List ℕ) (p : Board) (files : Files) (a : Answer)
+    → IsSolvedAt p rules files a → MeansSolve rules p files a
 solve_means rules p files a h = by_file rules p files a (files rules) refl h

@@ -44,65 +44,91 @@ line_of_bound : (side : Colour) (b : Bound) → kept_line side (code_of b) ≡ b
 line_of_bound side b = ap (λ (words : List ℕ). side_name side ++ words ++ codes "\n") (kept_bound b)
 
 -- the bound of the side at the position, and the code of it that the one file of a text keeps
-stored : (kind : FileKind) (value : Board → Value) → HasSmallLags value → (contents : Contents) (bytes : List ℕ) (p : Board) → Member contents.rules.groups p
+stored : (kind : FileKind) (value : Board → Value) → HasSmallLags value
+    → (contents : Contents) (bytes : List ℕ) (p : Board) → Member contents.rules.groups p
     → opened (table_format kind) (Some bytes) ≡ Ok contents
     → IsOneFile (magic_of kind) contents.text contents.rules value bytes → (side : Colour)
-    → (b : Bound) × (kept_at side contents bytes p ≡ code_of b) × IsBoundAt contents.rules value side p b
+    → (b : Bound) × (kept_at side contents bytes p ≡ code_of b)
+    × IsBoundAt contents.rules value side p b
 stored kind value small contents bytes p inside opens one side =
     let rules = contents.rules in
     let accepted = (belongs (table_format kind) bytes contents opens).read in
     stored_bound rules value side (kept_codes contents bytes side)
-    (one_file_holds kind value contents bytes (plies_few rules value small) accepted one side) p inside
+    (one_file_holds kind value contents bytes (plies_few rules value small) accepted one side) p
+    inside
 
 -- in the one file of its text, the codes of a position tell its bounds
-tells_kept : (kind : FileKind) (value : Board → Value) → HasSmallLags value → (contents : Contents) (bytes : List ℕ) (p : Board) → Member contents.rules.groups p
+tells_kept : (kind : FileKind) (value : Board → Value) → HasSmallLags value
+    → (contents : Contents) (bytes : List ℕ) (p : Board) → Member contents.rules.groups p
     → opened (table_format kind) (Some bytes) ≡ Ok contents
     → IsOneFile (magic_of kind) contents.text contents.rules value bytes
-    → TellsBounds contents.rules value p (kept_text (kept_at White contents bytes p) (kept_at Black contents bytes p))
+    → TellsBounds contents.rules value p
+    (kept_text (kept_at White contents bytes p) (kept_at Black contents bytes p))
 tells_kept kind value small contents bytes p inside opens one =
     let white = stored kind value small contents bytes p inside opens one White in
     let black = stored kind value small contents bytes p inside opens one Black in
-    let text : kept_text (kept_at White contents bytes p) (kept_at Black contents bytes p) ≡ bounds_text white.0 black.0 =
-    ap (λ (w : ℕ). kept_text w (kept_at Black contents bytes p)) white.1 ∙ ap (λ (b : ℕ). kept_text (code_of white.0) b) black.1
+    let text : kept_text (kept_at White contents bytes p) (kept_at Black contents bytes p)
+    ≡ bounds_text white.0 black.0 =
+    ap (λ (w : ℕ). kept_text w (kept_at Black contents bytes p)) white.1
+    ∙ ap (λ (b : ℕ). kept_text (code_of white.0) b) black.1
     ∙ ap (λ (w : List ℕ). w ++ kept_line Black (code_of black.0)) (line_of_bound White white.0)
     ∙ ap (λ (b : List ℕ). bound_line White white.0 ++ b) (line_of_bound Black black.0) in
     subst (λ (t : List ℕ). TellsBounds contents.rules value p t) (sym text)
-    (tells_bounds contents.rules value p white.0 black.0 inside (record { white_is = white.2; black_is = black.2 }))
+    (tells_bounds contents.rules value p white.0 black.0 inside
+    (record { white_is = white.2; black_is = black.2 }))
 
 -- by the book of the kind
-tells_exact : (kind : FileKind) (contents : Contents) (bytes : List ℕ) (p : Board) → Member contents.rules.groups p
+tells_exact : (kind : FileKind) (contents : Contents) (bytes : List ℕ) (p : Board)
+    → Member contents.rules.groups p
     → opened (table_format kind) (Some bytes) ≡ Ok contents
-    → TellsWhereExact kind contents bytes p (kept_text (kept_at White contents bytes p) (kept_at Black contents bytes p))
+    → TellsWhereExact kind contents bytes p
+    (kept_text (kept_at White contents bytes p) (kept_at Black contents bytes p))
 tells_exact Plain contents bytes p inside opens = λ one.
     let accepted = (belongs (table_format Plain) bytes contents opens).read in
     let small = small_lags contents.rules (read_sound contents.text contents.rules accepted) in
     tells_kept Plain (value_by contents.rules) small contents bytes p inside opens one
-tells_exact Chained contents bytes p inside opens = λ value small one. tells_kept Chained value small contents bytes p inside opens one
+tells_exact Chained contents bytes p inside opens =
+    λ value small one. tells_kept Chained value small contents bytes p inside opens one
 
 module _ (kind : FileKind) (table : List ℕ) (p : Board) (files : Files) where
-  fault_told : (bytes : List ℕ) → files table ≡ Some bytes → (fault : TableFault) → opened (table_format kind) (Some bytes) ≡ Err fault
+  fault_told : (bytes : List ℕ) → files table ≡ Some bytes → (fault : TableFault)
+      → opened (table_format kind) (Some bytes) ≡ Err fault
       → TellsFaultOfKind kind table files (table_line fault)
-  fault_told bytes there fault e = record { bytes = bytes; there = there; fault = fault; refused = e; told = refl }
+  fault_told bytes there fault e =
+      record { bytes = bytes; there = there; fault = fault; refused = e; told = refl }
 
-  means_so : (a : Answer) → a.files ≡ files → a.taken ≡ 0 → MeansStatus kind table p files a.status a.text → MeansQuery kind table p files a
+  means_so : (a : Answer) → a.files ≡ files → a.taken ≡ 0
+      → MeansStatus kind table p files a.status a.text → MeansQuery kind table p files a
   means_so a same untaken says = record { same = same; untaken = untaken; says = says }
 
-  refused_means : (bytes : List ℕ) → files table ≡ Some bytes → (fault : TableFault) → opened (table_format kind) (Some bytes) ≡ Err fault
-      → IsOfBytes fault → MeansQuery kind table p files (answer_by (Err (refusals.Table fault)) files)
+  refused_means : (bytes : List ℕ) → files table ≡ Some bytes → (fault : TableFault)
+      → opened (table_format kind) (Some bytes) ≡ Err fault
+      → IsOfBytes fault
+      → MeansQuery kind table p files (answer_by (Err (refusals.Table fault)) files)
   refused_means bytes there Missing e of = absurd of
   refused_means bytes there Magic e of = means_so _ refl refl (fault_told bytes there Magic e)
-  refused_means bytes there (Truncated length due) e of = means_so _ refl refl (fault_told bytes there (Truncated length due) e)
-  refused_means bytes there (Extra length due) e of = means_so _ refl refl (fault_told bytes there (Extra length due) e)
-  refused_means bytes there (Rules fault) e of = means_so _ refl refl (fault_told bytes there (Rules fault) e)
-  refused_means bytes there (Size kept due) e of = means_so _ refl refl (fault_told bytes there (Size kept due) e)
+  refused_means bytes there (Truncated length due) e of =
+      means_so _ refl refl (fault_told bytes there (Truncated length due) e)
+  refused_means bytes there (Extra length due) e of =
+      means_so _ refl refl (fault_told bytes there (Extra length due) e)
+  refused_means bytes there (Rules fault) e of =
+      means_so _ refl refl (fault_told bytes there (Rules fault) e)
+  refused_means bytes there (Size kept due) e of =
+      means_so _ refl refl (fault_told bytes there (Size kept due) e)
   refused_means bytes there Failed e of = absurd of
   refused_means bytes there NoMemory e of = absurd of
 
-  by_member : (bytes : List ℕ) → files table ≡ Some bytes → (contents : Contents) → opened (table_format kind) (Some bytes) ≡ Ok contents
-      → (inside : Bool) → is_member contents.rules.groups p ≡ inside → MeansQuery kind table p files (answer_by (kept_of kind p (Some bytes)) files)
+  by_member : (bytes : List ℕ) → files table ≡ Some bytes → (contents : Contents)
+      → opened (table_format kind) (Some bytes) ≡ Ok contents
+      → (inside : Bool) → is_member contents.rules.groups p ≡ inside
+      → MeansQuery kind table p files (answer_by (kept_of kind p (Some bytes)) files)
   by_member bytes there contents opens true e =
       let inside = member_of contents.rules.groups p e in
-      let codes : KeptCodes = record { white = kept_at White contents bytes p; black = kept_at Black contents bytes p } in
+      let codes : KeptCodes =
+      record {
+        white = kept_at White contents bytes p;
+        black = kept_at Black contents bytes p;
+      } in
       subst (λ (r : Result KeptCodes Refused). MeansQuery kind table p files (answer_by r files))
       (sym (gives_codes kind contents bytes p opens codes inside refl refl))
       (means_so _ refl refl (record {
@@ -114,7 +140,9 @@ module _ (kind : FileKind) (table : List ℕ) (p : Board) (files : Files) where
         where_exact = tells_exact kind contents bytes p inside opens;
       }))
   by_member bytes there contents opens false e =
-      let none : Member contents.rules.groups p → ⊥ = λ inside. (let no : false ≡ true = sym e ∙ of_member contents.rules.groups p inside in cc) in
+      let none : Member contents.rules.groups p
+      → ⊥ = λ inside. (let no : false ≡ true = sym e ∙ of_member contents.rules.groups p
+      inside in cc) in
       subst (λ (r : Result KeptCodes Refused). MeansQuery kind table p files (answer_by r files))
       (sym (gives_outside kind contents bytes p opens none))
       (means_so _ refl refl (record {
@@ -124,19 +152,26 @@ module _ (kind : FileKind) (table : List ℕ) (p : Board) (files : Files) where
         outside = none;
       }))
 
-  by_opening : (bytes : List ℕ) → files table ≡ Some bytes → (x : Result Contents TableFault) → opened (table_format kind) (Some bytes) ≡ x
+  by_opening : (bytes : List ℕ) → files table ≡ Some bytes → (x : Result Contents TableFault)
+      → opened (table_format kind) (Some bytes) ≡ x
       → MeansQuery kind table p files (answer_by (kept_of kind p (Some bytes)) files)
-  by_opening bytes there (Ok contents) e = by_member bytes there contents e (is_member contents.rules.groups p) refl
+  by_opening bytes there (Ok contents) e =
+      by_member bytes there contents e (is_member contents.rules.groups p) refl
   by_opening bytes there (Err fault) e =
-      subst (λ (x : Result Contents TableFault). MeansQuery kind table p files (answer_by (kept_by x bytes p) files)) (sym e)
+      subst (λ (x : Result Contents TableFault). MeansQuery kind table p files
+      (answer_by (kept_by x bytes p) files)) (sym e)
       (refused_means bytes there fault e (of_bytes (table_format kind) bytes fault e))
 
-  by_file : (held : Option (List ℕ)) → files table ≡ held → MeansQuery kind table p files (answer_by (kept_of kind p held) files)
+  by_file : (held : Option (List ℕ)) → files table ≡ held
+      → MeansQuery kind table p files (answer_by (kept_of kind p held) files)
   by_file None e =
-      subst (λ (x : Result Contents TableFault). MeansQuery kind table p files (answer_by (kept_by x [] p) files)) (sym (opened_missing (table_format kind)))
+      subst (λ (x : Result Contents TableFault). MeansQuery kind table p files
+      (answer_by (kept_by x [] p) files)) (sym (opened_missing (table_format kind)))
       (means_so _ refl refl e)
   by_file (Some bytes) e = by_opening bytes e (opened (table_format kind) (Some bytes)) refl
 
-pub query_means : (kind : FileKind) (table : List ℕ) (p : Board) (files : Files) (a : Answer) → a ≡ answer_by (kept_of kind p (files table)) files
+pub query_means : (kind : FileKind) (table : List ℕ) (p : Board) (files : Files) (a : Answer)
+    → a ≡ answer_by (kept_of kind p (files table)) files
     → MeansQuery kind table p files a
-query_means kind table p files a e = subst (λ (x : Answer). MeansQuery kind table p files x) (sym e) (by_file kind table p files (files table) refl)
+query_means kind table p files a e = subst (λ (x : Answer). MeansQuery kind table p files x) (sym e)
+    (by_file kind table p files (files table) refl)

@@ -24,32 +24,40 @@ use Rattle.frz_commands_ask.specs.Reporting.{MeansReport, MeansStatus, report_at
 use Rattle.frz_commands_ask.proofs.Soundness.{read_sound, small_lags}
 
 -- the codes of the one file of a text are the tables of both sides
-tables_kept : (contents : Contents) (bytes : List ℕ) → opened (table_format Plain) (Some bytes) ≡ Ok contents
+tables_kept : (contents : Contents) (bytes : List ℕ)
+    → opened (table_format Plain) (Some bytes) ≡ Ok contents
     → IsOneFile (magic_of Plain) contents.text contents.rules (value_by contents.rules) bytes
-    → (side : Colour) → IsTableOf contents.rules (value_by contents.rules) side (kept_codes contents bytes side)
+    → (side : Colour) → IsTableOf contents.rules (value_by contents.rules) side
+    (kept_codes contents bytes side)
 tables_kept contents bytes opens one side =
     let rules = contents.rules in
     let accepted = (belongs (table_format Plain) bytes contents opens).read in
     let small = small_lags rules (read_sound contents.text rules accepted) in
-    one_file_holds Plain (value_by rules) contents bytes (plies_few rules (value_by rules) small) accepted one side
+    one_file_holds Plain (value_by rules) contents bytes (plies_few rules (value_by rules) small)
+    accepted one side
 
 module _ (table : List ℕ) (files : Files) where
-  fault_told : (bytes : List ℕ) → files table ≡ Some bytes → (fault : TableFault) → opened (table_format Plain) (Some bytes) ≡ Err fault
+  fault_told : (bytes : List ℕ) → files table ≡ Some bytes → (fault : TableFault)
+      → opened (table_format Plain) (Some bytes) ≡ Err fault
       → TellsTableFault table files (table_line fault)
-  fault_told bytes there fault e = record { bytes = bytes; there = there; fault = fault; refused = e; told = refl }
+  fault_told bytes there fault e =
+      record { bytes = bytes; there = there; fault = fault; refused = e; told = refl }
 
-  says_fault : (bytes : List ℕ) → files table ≡ Some bytes → (fault : TableFault) → opened (table_format Plain) (Some bytes) ≡ Err fault
+  says_fault : (bytes : List ℕ) → files table ≡ Some bytes → (fault : TableFault)
+      → opened (table_format Plain) (Some bytes) ≡ Err fault
       → IsOfBytes fault → MeansStatus table files (table_status fault) (table_line fault)
   says_fault bytes there Missing e of = absurd of
   says_fault bytes there Magic e of = fault_told bytes there Magic e
-  says_fault bytes there (Truncated length due) e of = fault_told bytes there (Truncated length due) e
+  says_fault bytes there (Truncated length due) e of =
+      fault_told bytes there (Truncated length due) e
   says_fault bytes there (Extra length due) e of = fault_told bytes there (Extra length due) e
   says_fault bytes there (Rules fault) e of = fault_told bytes there (Rules fault) e
   says_fault bytes there (Size kept due) e of = fault_told bytes there (Size kept due) e
   says_fault bytes there Failed e of = absurd of
   says_fault bytes there NoMemory e of = absurd of
 
-  by_opening : (bytes : List ℕ) → files table ≡ Some bytes → (x : Result Contents TableFault) → opened (table_format Plain) (Some bytes) ≡ x
+  by_opening : (bytes : List ℕ) → files table ≡ Some bytes → (x : Result Contents TableFault)
+      → opened (table_format Plain) (Some bytes) ≡ x
       → MeansReport table files (report_by x bytes files)
   by_opening bytes there (Ok contents) e = record {
     same = refl;
@@ -63,13 +71,23 @@ module _ (table : List ℕ) (files : Files) where
     };
   }
   by_opening bytes there (Err fault) e =
-      record { same = refl; untaken = refl; says = says_fault bytes there fault e (of_bytes (table_format Plain) bytes fault e) }
+      record {
+        same = refl;
+        untaken = refl;
+        says = says_fault bytes there fault e
+            (of_bytes (table_format Plain) bytes fault e);
+      }
 
-  by_file : (held : Option (List ℕ)) → files table ≡ held → MeansReport table files (report_by (opened (table_format Plain) held) (unwrap_or held []) files)
+  by_file : (held : Option (List ℕ)) → files table ≡ held
+      → MeansReport table files
+      (report_by (opened (table_format Plain) held) (unwrap_or held []) files)
   by_file None e =
-      subst (λ (x : Result Contents TableFault). MeansReport table files (report_by x [] files)) (sym (opened_missing (table_format Plain)))
+      subst (λ (x : Result Contents TableFault). MeansReport table files (report_by x [] files))
+      (sym (opened_missing (table_format Plain)))
       (record { same = refl; untaken = refl; says = e })
   by_file (Some bytes) e = by_opening bytes e (opened (table_format Plain) (Some bytes)) refl
 
-pub report_means : (table : List ℕ) (files : Files) (a : Answer) → a ≡ report_at table files → MeansReport table files a
-report_means table files a e = subst (λ (x : Answer). MeansReport table files x) (sym e) (by_file table files (files table) refl)
+pub report_means : (table : List ℕ) (files : Files) (a : Answer) → a ≡ report_at table files
+    → MeansReport table files a
+report_means table files a e = subst (λ (x : Answer). MeansReport table files x) (sym e)
+    (by_file table files (files table) refl)

@@ -50,7 +50,8 @@ use Rattle.frz_commands_ask.proofs.ReportMeans.{report_means}
 use Rattle.frz_commands_ask.specs.Reporting.{end_by, report_at, report_by, report_of, reporting_at, reporting_costs, report_words}
 
 -- the store was called and steps were made, and nothing was written
-abbrev quiet_so : (old new : StoreTold) (input : SourceTold) (out : SinkTold) (before now : ℕ) → StoreQuiet old new → before ≤ now
+abbrev quiet_so : (old new : StoreTold) (input : SourceTold) (out : SinkTold) (before now : ℕ)
+    → StoreQuiet old new → before ≤ now
     → Quiet (world old input out before) (world new input out now)
 quiet_so old new input out before now quiet later = record {
   later = record { store = quiet.later; input = omega arith; out = omega arith; steps = later };
@@ -60,12 +61,14 @@ quiet_so old new input out before now quiet later = record {
 }
 
 -- a file that the name may hold, and what was spent on it
-pub record FileSeen (name : List ℕ) (old new : StoreTold) (before now : ℕ) (contents : Contents) (bytes : List ℕ) : Type 0 where
+pub record FileSeen (name : List ℕ) (old new : StoreTold) (before now : ℕ) (contents : Contents)
+    (bytes : List ℕ) : Type 0 where
   pub may : MayHold old.files name (Some bytes)
   pub opens : opened (table_format Plain) (Some bytes) ≡ Ok contents
   pub within : WithinFile (Some bytes) old new before now
 
-within_costs : (held : Option (List ℕ)) (old new : World) → WithinFile held old.store new.store old.steps new.steps
+within_costs : (held : Option (List ℕ)) (old new : World)
+    → WithinFile held old.store new.store old.steps new.steps
     → WithinCosts (reporting_costs held) (spent old) (spent new)
 within_costs held old new h = record { steps = h.steps; calls = h.calls; asked = h.asked }
 
@@ -74,8 +77,10 @@ drop_nothing None = refl
 drop_nothing (Some x) = refl
 
 -- there is an answer, and its text is not empty
-some_report : (x : Result Contents TableFault) (bytes : List ℕ) (files : Files) → (report_by x bytes files).text ≡ [] → ⊥
-some_report (Ok contents) bytes files = report_said contents.rules (value_by contents.rules) (kept_codes contents bytes)
+some_report : (x : Result Contents TableFault) (bytes : List ℕ) (files : Files)
+    → (report_by x bytes files).text ≡ [] → ⊥
+some_report (Ok contents) bytes files =
+    report_said contents.rules (value_by contents.rules) (kept_codes contents bytes)
 some_report (Err fault) bytes files = refusal_said (refusals.Table fault)
 
 some_at : (table : List ℕ) (files : Files) → SomeAnswer (λ a. a ≡ report_at table files)
@@ -86,24 +91,32 @@ some_at table files = record {
 }
 
 -- an answer of a file that the name may hold
-pub record GivenBy (name : List ℕ) (contents : Contents) (bytes : List ℕ) (files : Files) (input : List ℕ) (old new : World) : Type 0 where
+pub record GivenBy (name : List ℕ) (contents : Contents) (bytes : List ℕ) (files : Files)
+    (input : List ℕ) (old new : World) : Type 0 where
   pub found : Found (reporting_at name) files input old
   pub answer : says Success (report_of contents bytes) found.files ≡ report_at name found.files
   pub costs : WithinCosts (reporting_costs (found.files name)) (spent old) (spent new)
 
-given_by : (name : List ℕ) (contents : Contents) (bytes : List ℕ) (files : Files) (input : List ℕ) (old new : World) → Agrees old files input
-    → FileSeen name old.store new.store old.steps new.steps contents bytes → GivenBy name contents bytes files input old new
+given_by : (name : List ℕ) (contents : Contents) (bytes : List ℕ) (files : Files) (input : List ℕ)
+    (old new : World) → Agrees old files input
+    → FileSeen name old.store new.store old.steps new.steps contents bytes
+    → GivenBy name contents bytes files input old new
 given_by name contents bytes files input old new agrees seen =
-    let at = holding old.store.files name (Some bytes) (same_held old.store.files name (Some bytes) seen.may) in record {
+    let at = holding old.store.files name (Some bytes)
+    (same_held old.store.files name (Some bytes) seen.may) in record {
       found = found_where (reporting_at name) at.files files input old (λ e. cc) at.agrees agrees;
       answer = sym
-          (ap (λ (h : Option (List ℕ)). report_by (opened (table_format Plain) h) (unwrap_or h []) at.files) at.holds
+          (ap (λ (h : Option (List ℕ)). report_by (opened (table_format Plain) h) (unwrap_or h [])
+          at.files) at.holds
           ∙ ap (λ (x : Result Contents TableFault). report_by x bytes at.files) seen.opens);
-      costs = subst (λ (h : Option (List ℕ)). WithinCosts (reporting_costs h) (spent old) (spent new)) (sym at.holds) (within_costs (Some bytes) old new seen.within);
+      costs = subst (λ (h : Option (List ℕ)). WithinCosts (reporting_costs h) (spent old)
+          (spent new)) (sym at.holds) (within_costs (Some bytes) old new seen.within);
     }
 
-module _ (name : List ℕ) (contents : Contents) (bytes : List ℕ) (old new : StoreTold) (input : SourceTold) (out_old out_new : SinkTold) (before now : ℕ)
-    (quiet : StoreQuiet old new) (later : before ≤ now) (seen : FileSeen name old new before now contents bytes) where
+module _ (name : List ℕ) (contents : Contents) (bytes : List ℕ) (old new : StoreTold)
+    (input : SourceTold) (out_old out_new : SinkTold) (before now : ℕ)
+    (quiet : StoreQuiet old new) (later : before ≤ now)
+    (seen : FileSeen name old new before now contents bytes) where
   abbrev start : World
   start = world old input out_old before
 
@@ -111,22 +124,34 @@ module _ (name : List ℕ) (contents : Contents) (bytes : List ℕ) (old new : S
   finish = world new input out_new now
 
   -- the report was written, or the sink failed within it
-  told_so : (end : End) → StoreFine old new → Said Success (report_of contents bytes) end out_old out_new → Ran (reporting_at name) end start finish
+  told_so : (end : End) → StoreFine old new
+      → Said Success (report_of contents bytes) end out_old out_new
+      → Ran (reporting_at name) end start finish
   told_so end fine says_it =
-      said (reporting_at name) Success (report_of contents bytes) end start (world new input out_old now) out_new (quiet_so old new input out_old before now quiet later)
+      said (reporting_at name) Success (report_of contents bytes) end start
+      (world new input out_old now) out_new (quiet_so old new input out_old before now quiet later)
       (fine_store old new input out_old before now fine) refl says_it
       (λ sees files left agrees.
-      let here = given_by name contents bytes files left start (world new input out_old now) agrees seen in
+      let here = given_by name contents bytes files left start (world new input out_old now) agrees
+      seen in
       record { found = here.found; answer = here.answer; costs = here.costs })
 
   -- a fault stopped it behind whole lines
-  halted_so : (fault : Fault) (text rest : List ℕ) → MayMeet (reporting_at name) fault start finish → IsLines text → TookText text out_old out_new
-      → text ++ rest ≡ report_of contents bytes → (rest ≡ [] → ⊥) → Ran (reporting_at name) (Stopped fault) start finish
+  halted_so : (fault : Fault) (text rest : List ℕ) → MayMeet (reporting_at name) fault start finish
+      → IsLines text → TookText text out_old out_new
+      → text ++ rest ≡ report_of contents bytes → (rest ≡ [] → ⊥)
+      → Ran (reporting_at name) (Stopped fault) start finish
   halted_so fault text rest meets lines took begins more =
-      let written : out_new.taken ≡ append_known out_old.taken (text ++ []) = took.taken ∙ ap (append_known out_old.taken) (sym (append-nil text)) in
+      let written : out_new.taken ≡ append_known out_old.taken (text ++ []) = took.taken
+      ∙ ap (append_known out_old.taken) (sym (append-nil text)) in
       let none_less = took.faults in
       record {
-        later = record { store = quiet.later; input = omega arith; out = omega (arith, none_less); steps = later };
+        later = record {
+          store = quiet.later;
+          input = omega arith;
+          out = omega (arith, none_less);
+          steps = later;
+        };
         may = meets;
         lines = (record { lines = text; whole = lines; text = written }, λ silent. cc);
         only = quiet.unwritten;
@@ -153,29 +178,51 @@ module _ (name : List ℕ) (contents : Contents) (bytes : List ℕ) (old new : S
                   left = (0, omega arith, drop_nothing input.left);
                 };
               };
-              costs = record { steps = here.costs.steps; calls = here.costs.calls; asked = here.costs.asked };
+              costs = record {
+                steps = here.costs.steps;
+                calls = here.costs.calls;
+                asked = here.costs.asked;
+              };
             };
       }
 
   -- by what was written of the report
   by_text : (result : Result Totals ReportFault) → StoreCause result old new
-      → WritesReport contents.rules (value_by contents.rules) (kept_codes contents bytes) result out_old out_new → Ran (reporting_at name) (end_by result) start finish
+      → WritesReport contents.rules (value_by contents.rules) (kept_codes contents bytes) result
+      out_old out_new → Ran (reporting_at name) (end_by result) start finish
   by_text (Ok totals) fine h =
-      let whole : h.text ≡ report_of contents bytes = sym (append-nil h.text) ∙ ap (λ (l : List ℕ). h.text ++ l) (sym h.finishes.1) ∙ h.begins in
-      told_so (Done Success) fine (record { says = inl (refl, subst (λ (l : List ℕ). TookText l out_old out_new) whole h.wrote) })
-  by_text (Err faults.Store) rose h = halted_so stops.Store h.text h.rest (refl, rose) h.lines h.wrote h.begins h.finishes
+      let whole : h.text ≡ report_of contents bytes = sym (append-nil h.text)
+      ∙ ap (λ (l : List ℕ). h.text ++ l) (sym h.finishes.1) ∙ h.begins in
+      told_so (Done Success) fine
+      (record {
+        says = inl
+            (refl, subst (λ (l : List ℕ). TookText l out_old out_new) whole h.wrote);
+      })
+  by_text (Err faults.Store) rose h =
+      halted_so stops.Store h.text h.rest (refl, rose) h.lines h.wrote h.begins h.finishes
   by_text (Err faults.Output) fine h =
-      told_so SinkFault fine (record { says = inr (refl, failed_before h.text h.rest (report_of contents bytes) out_old out_new h.wrote h.begins) })
-  by_text (Err faults.NoMemory) free h = halted_so stops.NoMemory h.text h.rest refl h.lines h.wrote h.begins h.finishes
+      told_so SinkFault fine
+      (record {
+        says = inr (
+          refl,
+          failed_before h.text h.rest (report_of contents bytes) out_old out_new h.wrote
+              h.begins,
+        );
+      })
+  by_text (Err faults.NoMemory) free h =
+      halted_so stops.NoMemory h.text h.rest refl h.lines h.wrote h.begins h.finishes
 
   -- a fault before anything was written
-  unread_so : (fault : Fault) → MayMeet (reporting_at name) fault start finish → out_new ≡ out_old → Ran (reporting_at name) (Stopped fault) start finish
+  unread_so : (fault : Fault) → MayMeet (reporting_at name) fault start finish → out_new ≡ out_old
+      → Ran (reporting_at name) (Stopped fault) start finish
   unread_so fault meets same =
-      halted_so fault [] (report_of contents bytes) meets (inl refl) (subst (λ (o : SinkTold). TookText [] out_old o) (sym same) (took_nothing out_old)) refl
+      halted_so fault [] (report_of contents bytes) meets (inl refl)
+      (subst (λ (o : SinkTold). TookText [] out_old o) (sym same) (took_nothing out_old)) refl
       (report_said contents.rules (value_by contents.rules) (kept_codes contents bytes))
 
 -- a table was opened, and its report was begun
-pub record Begins (name : List ℕ) (table : Table) (old mid new : StoreTold) (before now : ℕ) : Type 0 where
+pub record Begins (name : List ℕ) (table : Table) (old mid new : StoreTold)
+    (before now : ℕ) : Type 0 where
   pub opens : MayOpen (table_format Plain) old.files name (contents_of table)
   pub kind : table.kind ≡ Plain
   pub named : table.name ≡ name
@@ -189,7 +236,8 @@ pub record Begins (name : List ℕ) (table : Table) (old mid new : StoreTold) (b
   pub later : before ≤ now
   pub steps : now ≤ before + table_size table
 
-module _ (name : List ℕ) (table : Table) (old mid new : StoreTold) (input : SourceTold) (out_old out_new : SinkTold) (before now : ℕ)
+module _ (name : List ℕ) (table : Table) (old mid new : StoreTold) (input : SourceTold)
+    (out_old out_new : SinkTold) (before now : ℕ)
     (begun : Begins name table old mid new before now) where
   quiet_all : StoreQuiet old new
   quiet_all = record {
@@ -201,25 +249,40 @@ module _ (name : List ℕ) (table : Table) (old mid new : StoreTold) (input : So
     later = later_store old mid new begun.opening.later begun.loading.later;
   }
 
-  cause_all : (result : Result Totals ReportFault) → StoreCause result mid new → StoreCause result old new
-  cause_all (Ok totals) h = record { faults = h.faults ∙ begun.fine.faults; wants = h.wants ∙ begun.fine.wants }
+  cause_all : (result : Result Totals ReportFault) → StoreCause result mid new
+      → StoreCause result old new
+  cause_all (Ok totals) h =
+      record { faults = h.faults ∙ begun.fine.faults; wants = h.wants ∙ begun.fine.wants }
   cause_all (Err faults.Store) h = subst (λ (n : ℕ). Rose n new.faults) begun.fine.faults h
-  cause_all (Err faults.Output) h = record { faults = h.faults ∙ begun.fine.faults; wants = h.wants ∙ begun.fine.wants }
+  cause_all (Err faults.Output) h =
+      record { faults = h.faults ∙ begun.fine.faults; wants = h.wants ∙ begun.fine.wants }
   cause_all (Err faults.NoMemory) h = tt
 
-  within : (bytes : List ℕ) → opened (table_format Plain) (Some bytes) ≡ Ok (contents_of table) → WithinFile (Some bytes) old new before now
-  within bytes opens = within_file bytes (contents_of table) old mid new before now opens begun.asked begun.calls begun.more_asked begun.more_calls begun.steps
+  within : (bytes : List ℕ) → opened (table_format Plain) (Some bytes) ≡ Ok (contents_of table)
+      → WithinFile (Some bytes) old new before now
+  within bytes opens = within_file bytes (contents_of table) old mid new before now opens
+      begun.asked begun.calls begun.more_asked begun.more_calls begun.steps
 
   first_seen : FileSeen name old new before now (contents_of table) begun.opens.bytes
-  first_seen = record { may = begun.opens.may; opens = begun.opens.opens; within = within begun.opens.bytes begun.opens.opens }
+  first_seen = record {
+    may = begun.opens.may;
+    opens = begun.opens.opens;
+    within = within begun.opens.bytes begun.opens.opens;
+  }
 
   -- the file whose codes were loaded opens as the table
-  loaded_seen : (bytes : List ℕ) → MayHold mid.files table.name (Some bytes) → IsFileOf table bytes → FileSeen name old new before now (contents_of table) bytes
+  loaded_seen : (bytes : List ℕ) → MayHold mid.files table.name (Some bytes) → IsFileOf table bytes
+      → FileSeen name old new before now (contents_of table) bytes
   loaded_seen bytes may file =
-      let read : rules_of table.text ≡ Ok table.rules = (belongs (table_format Plain) begun.opens.bytes (contents_of table) begun.opens.opens).read in
+      let read : rules_of table.text ≡ Ok table.rules =
+      (belongs (table_format Plain) begun.opens.bytes (contents_of table)
+      begun.opens.opens).read in
       let opens : opened (table_format Plain) (Some bytes) ≡ Ok (contents_of table) =
-      subst (λ (k : FileKind). opened (table_format k) (Some bytes) ≡ Ok (contents_of table)) begun.kind
-      (opens_by (table_format table.kind) bytes (contents_of table) (record { file = file; short = read_short table.text table.rules read; read = read })) in record {
+      subst (λ (k : FileKind). opened (table_format k) (Some bytes) ≡ Ok (contents_of table))
+      begun.kind
+      (opens_by (table_format table.kind) bytes (contents_of table)
+      (record { file = file; short = read_short table.text table.rules read; read = read })) in
+      record {
         may =
             subst (λ (o : Option Files). MayHold o name (Some bytes)) begun.opening.unwritten.files
             (subst (λ (n : List ℕ). MayHold mid.files n (Some bytes)) begun.named may);
@@ -227,26 +290,36 @@ module _ (name : List ℕ) (table : Table) (old mid new : StoreTold) (input : So
         within = within bytes opens;
       }
 
-  of_file : (result : Result Totals ReportFault) → StoreCause result mid new → WritesOfFile mid.files table result out_old out_new
-      → Ran (reporting_at name) (end_by result) (world old input out_old before) (world new input out_new now)
+  of_file : (result : Result Totals ReportFault) → StoreCause result mid new
+      → WritesOfFile mid.files table result out_old out_new
+      → Ran (reporting_at name) (end_by result) (world old input out_old before)
+      (world new input out_new now)
   of_file result cause h =
-      by_text name (contents_of table) h.bytes old new input out_old out_new before now quiet_all begun.later (loaded_seen h.bytes h.may h.file) result (cause_all result cause) h.wrote
+      by_text name (contents_of table) h.bytes old new input out_old out_new before now quiet_all
+      begun.later (loaded_seen h.bytes h.may h.file) result (cause_all result cause) h.wrote
 
-  unread : (fault : Fault) → MayMeet (reporting_at name) fault (world old input out_old before) (world new input out_new now) → out_new ≡ out_old
-      → Ran (reporting_at name) (Stopped fault) (world old input out_old before) (world new input out_new now)
+  unread : (fault : Fault) → MayMeet (reporting_at name) fault (world old input out_old before)
+      (world new input out_new now) → out_new ≡ out_old
+      → Ran (reporting_at name) (Stopped fault) (world old input out_old before)
+      (world new input out_new now)
   unread fault meets same =
-      unread_so name (contents_of table) begun.opens.bytes old new input out_old out_new before now quiet_all begun.later first_seen fault meets same
+      unread_so name (contents_of table) begun.opens.bytes old new input out_old out_new before now
+      quiet_all begun.later first_seen fault meets same
 
   -- the report of an open table ends the command
-  pub reported : (result : Result Totals ReportFault) → StoreCause result mid new → WritesOfTable mid.files table result out_old out_new
-      → Ran (reporting_at name) (end_by result) (world old input out_old before) (world new input out_new now)
+  pub reported : (result : Result Totals ReportFault) → StoreCause result mid new
+      → WritesOfTable mid.files table result out_old out_new
+      → Ran (reporting_at name) (end_by result) (world old input out_old before)
+      (world new input out_new now)
   reported (Ok totals) cause h = of_file (Ok totals) cause h
-  reported (Err faults.Store) cause h = unread stops.Store (refl, cause_all (Err faults.Store) cause) h
+  reported (Err faults.Store) cause h =
+      unread stops.Store (refl, cause_all (Err faults.Store) cause) h
   reported (Err faults.Output) cause h = of_file (Err faults.Output) cause h
   reported (Err faults.NoMemory) cause (inl same) = unread stops.NoMemory refl same
   reported (Err faults.NoMemory) cause (inr h) = of_file (Err faults.NoMemory) cause h
 
-from_table : (fault : TableFault) (why : Refusal) → stop_of_table fault ≡ stop.Refused why → refusals.Table fault ≡ why
+from_table : (fault : TableFault) (why : Refusal) → stop_of_table fault ≡ stop.Refused why
+    → refusals.Table fault ≡ why
 from_table Missing why e = cc
 from_table Magic why e = cc
 from_table (Truncated length due) why e = cc
@@ -256,50 +329,74 @@ from_table (Size kept due) why e = cc
 from_table Failed why e = cc
 from_table NoMemory why e = cc
 
-pub own_refusal : (fault : TableFault) (why : Refusal) → stop_of_table fault ≡ stop.Refused why → OneOf (status_of why) (Success ∷ Refused ∷ Absent ∷ [])
+pub own_refusal : (fault : TableFault) (why : Refusal) → stop_of_table fault ≡ stop.Refused why
+    → OneOf (status_of why) (Success ∷ Refused ∷ Absent ∷ [])
 own_refusal fault why e =
-    subst (λ (w : Refusal). OneOf (status_of w) (Success ∷ Refused ∷ Absent ∷ [])) (from_table fault why e)
+    subst (λ (w : Refusal). OneOf (status_of w) (Success ∷ Refused ∷ Absent ∷ []))
+    (from_table fault why e)
     (table_own fault (Success ∷ Refused ∷ Absent ∷ []) refl refl)
 
-module _ (name : List ℕ) (files : Files) (input : List ℕ) (old new : World) (agrees : Agrees old files input) (fault : TableFault)
-    (h : MayRefuse (table_format Plain) name old.store new.store fault) (steps : new.steps ≤ old.steps) where
+module _ (name : List ℕ) (files : Files) (input : List ℕ) (old new : World)
+    (agrees : Agrees old files input) (fault : TableFault)
+    (h : MayRefuse (table_format Plain) name old.store new.store fault)
+    (steps : new.steps ≤ old.steps) where
   -- opening costs no more than the report
   opening_costs : WithinCosts (reporting_costs h.held) (spent old) (spent new)
   opening_costs =
       let asked = h.asked in
       let calls = h.calls in
-      record { steps = omega (arith, steps); calls = omega (arith, calls); asked = omega (arith, asked) }
+      record {
+        steps = omega (arith, steps);
+        calls = omega (arith, calls);
+        asked = omega (arith, asked);
+      }
 
-  refused_so : opened (table_format Plain) h.held ≡ Err fault → SaysAll (reporting_at name) (table_status fault) (table_line fault) files input old new
+  refused_so : opened (table_format Plain) h.held ≡ Err fault
+      → SaysAll (reporting_at name) (table_status fault) (table_line fault) files input old new
   refused_so e =
-      let at = holding old.store.files name h.held (same_held old.store.files name h.held h.may) in record {
+      let at = holding old.store.files name h.held (same_held old.store.files name h.held h.may) in
+      record {
         found = found_where (reporting_at name) at.files files input old (λ x. cc) at.agrees agrees;
         answer = sym
-            (ap (λ (x : Option (List ℕ)). report_by (opened (table_format Plain) x) (unwrap_or x []) at.files) at.holds
-            ∙ ap (λ (x : Result Contents TableFault). report_by x (unwrap_or h.held []) at.files) e);
-        costs = subst (λ (x : Option (List ℕ)). WithinCosts (reporting_costs x) (spent old) (spent new)) (sym at.holds) opening_costs;
+            (ap (λ (x : Option (List ℕ)). report_by (opened (table_format Plain) x) (unwrap_or x [])
+            at.files) at.holds
+            ∙ ap (λ (x : Result Contents TableFault). report_by x (unwrap_or h.held []) at.files)
+            e);
+        costs = subst (λ (x : Option (List ℕ)). WithinCosts (reporting_costs x) (spent old)
+            (spent new)) (sym at.holds) opening_costs;
       }
 
   begun_so : Begun (reporting_at name) files input old new
   begun_so =
-      let at = holding old.store.files name h.held (same_held old.store.files name h.held h.may) in record {
+      let at = holding old.store.files name h.held (same_held old.store.files name h.held h.may) in
+      record {
         found = found_where (reporting_at name) at.files files input old (λ x. cc) at.agrees agrees;
         some = some_at name at.files;
-        costs = subst (λ (x : Option (List ℕ)). WithinCosts (reporting_costs x) (spent old) (spent new)) (sym at.holds) opening_costs;
+        costs = subst (λ (x : Option (List ℕ)). WithinCosts (reporting_costs x) (spent old)
+            (spent new)) (sym at.holds) opening_costs;
       }
 
 -- the table was not opened
-pub stopped_so : (name : List ℕ) (files : Files) (input : List ℕ) (old new : World) → Agrees old files input → (fault : TableFault)
+pub stopped_so : (name : List ℕ) (files : Files) (input : List ℕ) (old new : World)
+    → Agrees old files input → (fault : TableFault)
     → MayRefuse (table_format Plain) name old.store new.store fault → new.steps ≤ old.steps
     → StopsWith (reporting_at name) (stop_of_table fault) files input old new
-stopped_so name files input old new agrees Missing h steps = refused_so name files input old new agrees Missing h steps h.refuses
-stopped_so name files input old new agrees Magic h steps = refused_so name files input old new agrees Magic h steps h.refuses
-stopped_so name files input old new agrees (Truncated length due) h steps = refused_so name files input old new agrees (Truncated length due) h steps h.refuses
-stopped_so name files input old new agrees (Extra length due) h steps = refused_so name files input old new agrees (Extra length due) h steps h.refuses
-stopped_so name files input old new agrees (Rules fault) h steps = refused_so name files input old new agrees (Rules fault) h steps h.refuses
-stopped_so name files input old new agrees (Size kept due) h steps = refused_so name files input old new agrees (Size kept due) h steps h.refuses
-stopped_so name files input old new agrees Failed h steps = begun_so name files input old new agrees Failed h steps
-stopped_so name files input old new agrees NoMemory h steps = begun_so name files input old new agrees NoMemory h steps
+stopped_so name files input old new agrees Missing h steps =
+    refused_so name files input old new agrees Missing h steps h.refuses
+stopped_so name files input old new agrees Magic h steps =
+    refused_so name files input old new agrees Magic h steps h.refuses
+stopped_so name files input old new agrees (Truncated length due) h steps =
+    refused_so name files input old new agrees (Truncated length due) h steps h.refuses
+stopped_so name files input old new agrees (Extra length due) h steps =
+    refused_so name files input old new agrees (Extra length due) h steps h.refuses
+stopped_so name files input old new agrees (Rules fault) h steps =
+    refused_so name files input old new agrees (Rules fault) h steps h.refuses
+stopped_so name files input old new agrees (Size kept due) h steps =
+    refused_so name files input old new agrees (Size kept due) h steps h.refuses
+stopped_so name files input old new agrees Failed h steps =
+    begun_so name files input old new agrees Failed h steps
+stopped_so name files input old new agrees NoMemory h steps =
+    begun_so name files input old new agrees NoMemory h steps
 
 reporting_lawful : (table : List ℕ) → IsLawful (reporting_at table)
 reporting_lawful table = record {

@@ -1,4 +1,5 @@
--- The codes that a table file keeps at a position of its set, and what `query TABLE FEN` answers by them.
+-- The codes that a table file keeps at a position of its set,
+-- and what `query TABLE FEN` answers by them.
 use Rattle.std.specs.Prelude.{◌≡◌, ℕ, ◌+◌, ◌*◌, ◌≤◌, ◌<◌, ◌^◌, List, [], length, slice_index, Option, IfSome, Result, Ok, Err, if◌then◌else◌, ⊤}
 use Rattle.std.specs.Option.{unwrap_or}
 use Rattle.frz_board.specs.declared.man.Colour.{Colour}
@@ -27,13 +28,17 @@ use Rattle.frz_commands_ask.specs.declared.kept.KeptCodes.{KeptCodes}
 
 -- the code that the bytes of a file keep for the side at the number of a position
 abbrev pub kept_at : Colour → Contents → List ℕ → Board → ℕ
-kept_at side contents bytes p = slice_index (kept_codes contents bytes side) (Num contents.rules.groups p)
+kept_at side contents bytes p =
+    slice_index (kept_codes contents bytes side) (Num contents.rules.groups p)
 
 -- the codes of both sides, or the position is outside the set of the file's rules
 abbrev pub kept_in : Contents → List ℕ → Board → Result KeptCodes Refused
 kept_in contents bytes p =
     if is_member contents.rules.groups p
-    then Ok (record { white = kept_at White contents bytes p; black = kept_at Black contents bytes p })
+    then Ok (record {
+      white = kept_at White contents bytes p;
+      black = kept_at Black contents bytes p;
+    })
     else Err refusals.Outside
 
 abbrev pub kept_by : Result Contents TableFault → List ℕ → Board → Result KeptCodes Refused
@@ -64,8 +69,10 @@ abbrev pub answer_by : Result KeptCodes Refused → Files → Answer
 answer_by (Ok codes) files = says Success (kept_text codes.white codes.black) files
 answer_by (Err why) files = says (status_of why) (refusal_line why) files
 
--- where the store tells, these are the codes that the table's file keeps at the position; they have 32 bits
-pub record AreKept (table : Table) (p : Board) (told : Option Files) (codes : KeptCodes) : Type 0 where
+-- where the store tells, these are the codes that the table's
+-- file keeps at the position; they have 32 bits
+pub record AreKept (table : Table) (p : Board) (told : Option Files)
+    (codes : KeptCodes) : Type 0 where
   pub inside : Member table.rules.groups p
   pub white_small : codes.white < 2 ^ 32
   pub black_small : codes.black < 2 ^ 32
@@ -77,12 +84,14 @@ pub record AreKept (table : Table) (p : Board) (told : Option Files) (codes : Ke
 -- the codes of an open table, or the position is outside its set, or a fault stopped the call
 abbrev pub IsKeptIn : Table → Board → Option Files → Result KeptCodes Stop → Type 0
 IsKeptIn table p told (Ok codes) = AreKept table p told codes
-IsKeptIn table p told (Err (stops.Refused why)) = (Member table.rules.groups p → ⊥) × (why ≡ refusals.Outside)
+IsKeptIn table p told (Err (stops.Refused why)) =
+    (Member table.rules.groups p → ⊥) × (why ≡ refusals.Outside)
 IsKeptIn table p told (Err (stops.Fault fault)) = ⊤
 
--- the answer is that of the name in some files, which are those that the store tells where it does, and no more was
--- asked of the store, in no more calls, than these files take
-pub record IsKept (kind : FileKind) (p : Board) (name : List ℕ) (result : Result KeptCodes Stop) (old new : StoreTold) : Type 0 where
+-- the answer is that of the name in some files, which are those that the store tells where it does,
+-- and no more was asked of the store, in no more calls, than these files take
+pub record IsKept (kind : FileKind) (p : Board) (name : List ℕ) (result : Result KeptCodes Stop)
+    (old new : StoreTold) : Type 0 where
   pub files : Files
   pub agrees : IfSome old.files (λ told. told ≡ files)
   pub due : Answers result (kept_of kind p (files name))

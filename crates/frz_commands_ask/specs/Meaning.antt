@@ -25,7 +25,8 @@ use Rattle.frz_commands_ask.specs.Solving.{Solves, IsSolvedAt}
 
 -- the text tells the bounds of both sides at a position of the rules' set, in the game of the rules
 -- and a book, and they hold in chess
-pub record TellsBounds (lines : RuleLines) (value : Board → Value) (p : Board) (text : List ℕ) : Type 0 where
+pub record TellsBounds (lines : RuleLines) (value : Board → Value) (p : Board)
+    (text : List ℕ) : Type 0 where
   pub white : Bound
   pub black : Bound
   pub told : text ≡ bounds_text white black
@@ -68,7 +69,8 @@ MeansStatus rules p files Outside text = IsOutside rules p files
 MeansStatus rules p files Missing text = files rules ≡ None
 MeansStatus rules p files status text = ⊥
 
--- what an answer of `solve` means: it changes no file and takes no input, and each status has its cause
+-- what an answer of `solve` means: it changes no file and takes
+-- no input, and each status has its cause
 pub record MeansSolve (rules : List ℕ) (p : Board) (files : Files) (a : Answer) : Type 0 where
   pub same : a.files ≡ files
   pub untaken : a.taken ≡ 0
@@ -90,4 +92,5 @@ solving_at rules p = record (plain (Success ∷ Rules ∷ Outside ∷ Missing �
 
 -- solve RULES FEN
 abbrev pub solve_words : List (List ℕ) → Job
-solve_words words = taking (λ names. on_position (solving_at names.0) (fen_of names.1)) (two_words_of words)
+solve_words words =
+    taking (λ names. on_position (solving_at names.0) (fen_of names.1)) (two_words_of words)

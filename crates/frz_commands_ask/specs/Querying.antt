@@ -25,19 +25,21 @@ use Rattle.frz_prelude.specs.TableFiles.{OpensAsKind, TellsFaultOfKind}
 use Rattle.frz_commands_ask.specs.Kept.{keeping_bytes, keeping_calls, kept_at, kept_of, answer_by}
 use Rattle.frz_commands_ask.specs.Meaning.{TellsBounds}
 
--- where the file is the one file of its text, the text tells the bounds of both sides, and they hold
--- in chess: by its exit lines, or, for a table over a second one, by any book whose values have small
--- lags, of which it is the one file
+-- where the file is the one file of its text, the text tells the bounds of both sides, and they
+-- hold in chess: by its exit lines, or, for a table over a second one, by any book whose values
+-- have small lags, of which it is the one file
 abbrev pub TellsWhereExact : FileKind → Contents → List ℕ → Board → List ℕ → Type 0
 TellsWhereExact Plain contents bytes p text =
     IsOneFile (magic_of Plain) contents.text contents.rules (value_by contents.rules) bytes
     → TellsBounds contents.rules (value_by contents.rules) p text
 TellsWhereExact Chained contents bytes p text =
-    (value : Board → Value) → HasSmallLags value → IsOneFile (magic_of Chained) contents.text contents.rules value bytes
+    (value : Board → Value) → HasSmallLags value
+    → IsOneFile (magic_of Chained) contents.text contents.rules value bytes
     → TellsBounds contents.rules value p text
 
 -- the text tells the codes that the file keeps at the position of its set
-pub record TellsKept (kind : FileKind) (table : List ℕ) (p : Board) (files : Files) (text : List ℕ) : Type 0 where
+pub record TellsKept (kind : FileKind) (table : List ℕ) (p : Board) (files : Files)
+    (text : List ℕ) : Type 0 where
   pub bytes : List ℕ
   pub contents : Contents
   pub open_file : OpensAsKind kind table files bytes contents
@@ -61,13 +63,15 @@ MeansStatus kind table p files Missing text = files table ≡ None
 MeansStatus kind table p files status text = ⊥
 
 -- what an answer means: it changes no file and takes no input, and each status has its cause
-pub record MeansQuery (kind : FileKind) (table : List ℕ) (p : Board) (files : Files) (a : Answer) : Type 0 where
+pub record MeansQuery (kind : FileKind) (table : List ℕ) (p : Board) (files : Files)
+    (a : Answer) : Type 0 where
   pub same : a.files ≡ files
   pub untaken : a.taken ≡ 0
   pub says : MeansStatus kind table p files a.status a.text
 
--- to query a table of this kind at a position: no step, and the calls of the store and the bytes that open
--- what is there; where the position is in its set, one call and four bytes more for each of the two codes
+-- to query a table of this kind at a position: no step, and the calls of the store and the bytes
+-- that open what is there; where the position is in its set,
+-- one call and four bytes more for each of the two codes
 abbrev pub querying_at : FileKind → List ℕ → Board → Job
 querying_at kind table p = record (plain (Success ∷ Table ∷ Outside ∷ Missing ∷ [])
     (λ files input a. a ≡ answer_by (kept_of kind p (files table)) files)) {

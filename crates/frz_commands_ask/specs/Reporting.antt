@@ -29,7 +29,8 @@ use Rattle.frz_prelude.specs.TableFiles.{OpensAs, TellsTableFault}
 
 -- the report of a file that opens, by the codes that it keeps and the values of its own exit lines
 abbrev pub report_of : Contents → List ℕ → List ℕ
-report_of contents bytes = report_text contents.rules (value_by contents.rules) (kept_codes contents bytes)
+report_of contents bytes =
+    report_text contents.rules (value_by contents.rules) (kept_codes contents bytes)
 
 abbrev pub report_by : Result Contents TableFault → List ℕ → Files → Answer
 report_by (Ok contents) bytes files = says Success (report_of contents bytes) files
@@ -37,7 +38,8 @@ report_by (Err fault) bytes files = says (table_status fault) (table_line fault)
 
 -- the report of the file that has the name, or why it does not open
 abbrev pub report_at : List ℕ → Files → Answer
-report_at table files = report_by (opened (table_format Plain) (files table)) (bytes_at files table) files
+report_at table files =
+    report_by (opened (table_format Plain) (files table)) (bytes_at files table) files
 
 -- how a report ends the command
 abbrev pub end_by : Result Totals ReportFault → End
@@ -46,15 +48,17 @@ end_by (Err faults.Store) = Stopped stops.Store
 end_by (Err faults.Output) = SinkFault
 end_by (Err faults.NoMemory) = Stopped stops.NoMemory
 
--- the text is the report of the file; where it is the one file of its text, its codes are those of the bounds of
--- both sides
+-- the text is the report of the file; where it is the one file
+-- of its text, its codes are those of the bounds of both sides
 pub record TellsReport (table : List ℕ) (files : Files) (text : List ℕ) : Type 0 where
   pub bytes : List ℕ
   pub contents : Contents
   pub open_file : OpensAs table files bytes contents
   pub told : text ≡ report_of contents bytes
-  pub where_exact : IsOneFile (magic_of Plain) contents.text contents.rules (value_by contents.rules) bytes →
-      (side : Colour) → IsTableOf contents.rules (value_by contents.rules) side (kept_codes contents bytes side)
+  pub where_exact : IsOneFile (magic_of Plain) contents.text contents.rules
+      (value_by contents.rules) bytes →
+      (side : Colour) → IsTableOf contents.rules (value_by contents.rules) side
+      (kept_codes contents bytes side)
 
 -- what an answer says, by its status
 abbrev pub MeansStatus : List ℕ → Files → Status → List ℕ → Type 0
@@ -63,14 +67,15 @@ MeansStatus table files Table text = TellsTableFault table files text
 MeansStatus table files Missing text = files table ≡ None
 MeansStatus table files status text = ⊥
 
--- what an answer of `report` means: it changes no file and takes no input, and each status has its cause
+-- what an answer of `report` means: it changes no file and
+-- takes no input, and each status has its cause
 pub record MeansReport (table : List ℕ) (files : Files) (a : Answer) : Type 0 where
   pub same : a.files ≡ files
   pub untaken : a.taken ≡ 0
   pub says : MeansStatus table files a.status a.text
 
--- at most a step a number; the calls of the store that open the file and two for each piece of a side's codes; and no
--- more bytes asked than the file has
+-- at most a step a number; the calls of the store that open the file and two for each piece of a
+-- side's codes; and no more bytes asked than the file has
 abbrev pub reporting_costs : Option (List ℕ) → Costs
 reporting_costs held =
     let size = opened_size (opened (table_format Plain) held) in
@@ -82,12 +87,13 @@ reporting_costs held =
 
 -- `report` of the table of this name: its lines are written as they are made
 abbrev pub reporting_at : List ℕ → Job
-reporting_at table = record (plain (Success ∷ Table ∷ Missing ∷ []) (λ files input a. a ≡ report_at table files)) {
-  means = λ files input a. MeansReport table files a;
-  needs = record { store = true; reads = Once; input = false; memory = true };
-  speaks = true;
-  costs = λ files input a. WithinCosts (reporting_costs (files table));
-}
+reporting_at table =
+    record (plain (Success ∷ Table ∷ Missing ∷ []) (λ files input a. a ≡ report_at table files)) {
+      means = λ files input a. MeansReport table files a;
+      needs = record { store = true; reads = Once; input = false; memory = true };
+      speaks = true;
+      costs = λ files input a. WithinCosts (reporting_costs (files table));
+    }
 
 -- report TABLE
 abbrev pub report_words : List (List ℕ) → Job

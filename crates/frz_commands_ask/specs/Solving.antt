@@ -23,7 +23,8 @@ use Rattle.frz_prelude.specs.declared.stop.Stop.TheVariants.{Refused, Fault}
 use Rattle.frz_commands_ask.specs.declared.bounds.Bounds.{Bounds}
 
 -- the bounds of both sides at the position, in the game of the rules and a book
-pub record Solves (r : RuleLines) (value : Board → Value) (p : Board) (white black : Bound) : Type 0 where
+pub record Solves (r : RuleLines) (value : Board → Value) (p : Board)
+    (white black : Bound) : Type 0 where
   pub white_is : IsBoundAt r value White p white
   pub black_is : IsBoundAt r value Black p black
 

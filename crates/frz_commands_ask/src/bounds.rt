@@ -40,7 +40,8 @@ fn bound_at<L: Ledger>(
     requires member { Member rules.now.groups p.now }
     requires number { i ≡ Num rules.now.groups p.now }
     ensures later { steps.old ≤ steps.new }
-    ensures bound { IfOk result (λ bound. IsBoundAt rules.now (value_by rules.now) side p.now bound) }
+    ensures bound { IfOk result
+        (λ bound. IsBoundAt rules.now (value_by rules.now) side p.now bound) }
 {
     let book = RuleBook::new(rules);
     let game = Game {

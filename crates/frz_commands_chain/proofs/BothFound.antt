@@ -26,16 +26,21 @@ use Rattle.frz_commands_chain.specs.declared.reading.BothRead.{BothRead}
 use Rattle.frz_commands_chain.proofs.BothHeld.{HoldBoth, agreed_at, hold_both}
 
 -- the rules file was not read
-rules_due : (held back_held : Option (List ℕ)) (stop : Stop) → GivesText held (Err stop) → GivesBoth held back_held (Err stop)
+rules_due : (held back_held : Option (List ℕ)) (stop : Stop) → GivesText held (Err stop)
+    → GivesBoth held back_held (Err stop)
 rules_due held back_held (Refused why) due =
-    of_rules (λ w. rules_held held ≡ Err w → IsRefusedBoth held back_held w) held why due (λ e. e) (λ fault e. e) due
+    of_rules (λ w. rules_held held ≡ Err w → IsRefusedBoth held back_held w) held why due (λ e. e)
+    (λ fault e. e) due
 rules_due held back_held (Fault fault) due = tt
 
-pub rules_stop : (held : Option (List ℕ)) (stop : Stop) → GivesText held (Err stop) → StopsReading stop
-rules_stop held (Refused why) due = of_rules (λ w. StopsReading (Refused w)) held why due tt (λ fault. tt)
+pub rules_stop : (held : Option (List ℕ)) (stop : Stop) → GivesText held (Err stop)
+    → StopsReading stop
+rules_stop held (Refused why) due =
+    of_rules (λ w. StopsReading (Refused w)) held why due tt (λ fault. tt)
 rules_stop held (Fault fault) due = tt
 
-pub back_stop : (held : Option (List ℕ)) (fault : ChainFault) → IsRefusedBack held fault → StopsReading (stop_of_chain fault)
+pub back_stop : (held : Option (List ℕ)) (fault : ChainFault) → IsRefusedBack held fault
+    → StopsReading (stop_of_chain fault)
 back_stop held (chain.Rules fault) h = absurd h
 back_stop held (chain.Table fault) h = absurd h
 back_stop held (chain.Back fault) h = tt
@@ -43,7 +48,8 @@ back_stop held (chain.BackWrong wrong) h = tt
 back_stop held chain.Failed h = tt
 back_stop held chain.NoMemory h = tt
 
-pub not_read : (rules back : List ℕ) (stop : Stop) (old new : StoreTold) (steps : ℕ) → IsTextRead rules (Err stop) old new
+pub not_read : (rules back : List ℕ) (stop : Stop) (old new : StoreTold) (steps : ℕ)
+    → IsTextRead rules (Err stop) old new
     → AreBothRead rules back (Err stop) old new steps steps
 not_read rules back stop old new steps read =
     let asked = read.asked in
@@ -57,54 +63,79 @@ not_read rules back stop old new steps read =
     }
 
 -- the rules file was read, and then the back table was looked for
-module _ (rules back : List ℕ) (read : RulesText) (old mid new : StoreTold) (input : SourceTold) (out : SinkTold) (before now : ℕ)
+module _ (rules back : List ℕ) (read : RulesText) (old mid new : StoreTold) (input : SourceTold)
+    (out : SinkTold) (before now : ℕ)
     (there : IsTextRead rules (Ok read) old mid) (same : mid.files ≡ old.files)
     (sees : Sees (reads_of rules back) (world old input out before)) where
-  both : (back_held : Option (List ℕ)) → MayHold mid.files back back_held → HoldBoth old.files rules back (there.files rules) back_held
+  both : (back_held : Option (List ℕ)) → MayHold mid.files back back_held
+      → HoldBoth old.files rules back (there.files rules) back_held
   both back_held may =
-      hold_both (world old input out before) rules back (there.files rules) back_held sees (agreed_at old.files there.files rules there.agrees)
-      (same_held old.files back back_held (subst (λ (o : Option Files). MayHold o back back_held) same may))
+      hold_both (world old input out before) rules back (there.files rules) back_held sees
+      (agreed_at old.files there.files rules there.agrees)
+      (same_held old.files back back_held
+      (subst (λ (o : Option Files). MayHold o back back_held) same may))
 
   has_rules : (m : Files) → m rules ≡ there.files rules → HasRules (m rules)
   has_rules m e = (read.rules, ap rules_held (e ∙ there.due.0) ∙ ap or_fault there.due.1)
 
-  both_read : (result : Result BothRead Stop) (back_held : Option (List ℕ)) → MayHold mid.files back back_held → WithinFile back_held mid new before now
-      → ((m : Files) → m rules ≡ there.files rules → m back ≡ back_held → GivesBoth (m rules) (m back) result) → AreBothRead rules back result old new before now
+  both_read : (result : Result BothRead Stop) (back_held : Option (List ℕ))
+      → MayHold mid.files back back_held → WithinFile back_held mid new before now
+      → ((m : Files) → m rules ≡ there.files rules → m back ≡ back_held
+      → GivesBoth (m rules) (m back) result) → AreBothRead rules back result old new before now
   both_read result back_held may within gives =
       let at = both back_held may in
       let asked : new.asked ≤ old.asked + (asked_of (there.files rules) + bytes_of_back back_held) =
       (let a = there.asked in let b = within.asked in omega (arith, a, b)) in
-      let call : new.calls ≤ old.calls + (1 + rules_reads (there.files rules) + calls_of_back back_held) =
+      let call : new.calls
+      ≤ old.calls + (1 + rules_reads (there.files rules) + calls_of_back back_held) =
       (let a = there.calls in let b = within.calls in omega (arith, a, b)) in
       let accepted = (has_rules at.files at.first).1 in
-      let all : (n : ℕ) → n ≡ if_accepted (rules_held (at.files rules)) n = λ n. sym (ap (λ x. if_accepted x n) accepted) in
+      let all : (n : ℕ) → n ≡ if_accepted (rules_held (at.files rules)) n = λ n. sym
+      (ap (λ x. if_accepted x n) accepted) in
       record {
         files = at.files;
         agrees = at.agrees;
         due = gives at.files at.first at.second;
         steps =
             subst (λ (n : ℕ). now ≤ before + n) (all (steps_of_back (at.files back)))
-            (subst (λ (h : Option (List ℕ)). now ≤ before + steps_of_back h) (sym at.second) within.steps);
+            (subst (λ (h : Option (List ℕ)). now ≤ before + steps_of_back h) (sym at.second)
+            within.steps);
         asked =
-            subst (λ (n : ℕ). new.asked ≤ old.asked + (asked_of (at.files rules) + n)) (all (bytes_of_back (at.files back)))
-            (subst (λ (h : Option (List ℕ)). new.asked ≤ old.asked + (asked_of h + bytes_of_back (at.files back))) (sym at.first)
-            (subst (λ (h : Option (List ℕ)). new.asked ≤ old.asked + (asked_of (there.files rules) + bytes_of_back h)) (sym at.second) asked));
+            subst (λ (n : ℕ). new.asked ≤ old.asked + (asked_of (at.files rules) + n))
+            (all (bytes_of_back (at.files back)))
+            (subst (λ (h : Option (List ℕ)). new.asked
+            ≤ old.asked + (asked_of h + bytes_of_back (at.files back))) (sym at.first)
+            (subst (λ (h : Option (List ℕ)). new.asked
+            ≤ old.asked + (asked_of (there.files rules) + bytes_of_back h)) (sym at.second) asked));
         calls =
-            subst (λ (n : ℕ). new.calls ≤ old.calls + (1 + rules_reads (at.files rules) + n)) (all (calls_of_back (at.files back)))
-            (subst (λ (h : Option (List ℕ)). new.calls ≤ old.calls + (1 + rules_reads h + calls_of_back (at.files back))) (sym at.first)
-            (subst (λ (h : Option (List ℕ)). new.calls ≤ old.calls + (1 + rules_reads (there.files rules) + calls_of_back h)) (sym at.second) call));
+            subst (λ (n : ℕ). new.calls ≤ old.calls + (1 + rules_reads (at.files rules) + n))
+            (all (calls_of_back (at.files back)))
+            (subst (λ (h : Option (List ℕ)). new.calls
+            ≤ old.calls + (1 + rules_reads h + calls_of_back (at.files back))) (sym at.first)
+            (subst (λ (h : Option (List ℕ)). new.calls
+            ≤ old.calls + (1 + rules_reads (there.files rules) + calls_of_back h)) (sym at.second)
+            call));
       }
 
-  pub back_read : (both_is : BothRead) → both_is.read ≡ read → OpensBack back (loaded_back both_is.back) mid new before now
+  pub back_read : (both_is : BothRead) → both_is.read ≡ read
+      → OpensBack back (loaded_back both_is.back) mid new before now
       → AreBothRead rules back (Ok both_is) old new before now
   back_read both_is e h =
       both_read (Ok both_is) (Some h.bytes) h.may h.within
       (λ m first second. (
-        subst (λ (r : RulesText). GivesText (m rules) (Ok r)) (sym e) (first ∙ there.due.0, there.due.1),
-        record { bytes = h.bytes; there = second; contents = h.contents; judged = h.judged; keeps = h.keeps },
+        subst (λ (r : RulesText). GivesText (m rules) (Ok r)) (sym e)
+            (first ∙ there.due.0, there.due.1),
+        record {
+          bytes = h.bytes;
+          there = second;
+          contents = h.contents;
+          judged = h.judged;
+          keeps = h.keeps;
+        },
       ))
 
-  pub back_refused : (fault : ChainFault) → RefusesBack back mid new before now fault → AreBothRead rules back (Err (stop_of_chain fault)) old new before now
+  pub back_refused : (fault : ChainFault) → RefusesBack back mid new before now fault
+      → AreBothRead rules back (Err (stop_of_chain fault)) old new before now
   back_refused (chain.Rules fault) h = absurd h.refuses
   back_refused (chain.Table fault) h = absurd h.refuses
   back_refused (chain.Back fault) h =
@@ -112,6 +143,9 @@ module _ (rules back : List ℕ) (read : RulesText) (old mid new : StoreTold) (i
       (λ m first second. (has_rules m first, ap (opened (table_format Plain)) second ∙ h.refuses))
   back_refused (chain.BackWrong wrong) h =
       both_read (Err (stop_of_chain (chain.BackWrong wrong))) h.held h.may h.within
-      (λ m first second. (has_rules m first, subst (λ (x : Option (List ℕ)). HasWrong x wrong) (sym second) h.refuses))
-  back_refused chain.Failed h = both_read (Err (stop_of_chain chain.Failed)) h.held h.may h.within (λ m first second. tt)
-  back_refused chain.NoMemory h = both_read (Err (stop_of_chain chain.NoMemory)) h.held h.may h.within (λ m first second. tt)
+      (λ m first second.
+      (has_rules m first, subst (λ (x : Option (List ℕ)). HasWrong x wrong) (sym second) h.refuses))
+  back_refused chain.Failed h =
+      both_read (Err (stop_of_chain chain.Failed)) h.held h.may h.within (λ m first second. tt)
+  back_refused chain.NoMemory h =
+      both_read (Err (stop_of_chain chain.NoMemory)) h.held h.may h.within (λ m first second. tt)

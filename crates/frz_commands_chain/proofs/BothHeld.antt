@@ -19,7 +19,8 @@ pub reads_some : (name other : List ℕ) → reads_of name other ≡ Never → �
 reads_some name other e = by_name (bytes_eq name other) e
 
 -- files that agree with what is told, where the names hold these
-pub record HoldBoth (told : Option Files) (name other : List ℕ) (held other_held : Option (List ℕ)) : Type 0 where
+pub record HoldBoth (told : Option Files) (name other : List ℕ)
+    (held other_held : Option (List ℕ)) : Type 0 where
   pub files : Files
   pub agrees : IfSome told (λ m. m ≡ files)
   pub first : files name ≡ held
@@ -30,42 +31,55 @@ abbrev place : Files → List ℕ → Option (List ℕ) → Files
 place m name None = m
 place m name (Some bytes) = put m name bytes
 
-place_at : (m : Files) (name : List ℕ) (held : Option (List ℕ)) → m name ≡ None → place m name held name ≡ held
+place_at : (m : Files) (name : List ℕ) (held : Option (List ℕ)) → m name ≡ None
+    → place m name held name ≡ held
 place_at m name None e = e
 place_at m name (Some bytes) e = put-same m name bytes
 
-place_off : (m : Files) (name : List ℕ) (held : Option (List ℕ)) (q : List ℕ) → bytes_eq name q ≡ false → place m name held q ≡ m q
+place_off : (m : Files) (name : List ℕ) (held : Option (List ℕ)) (q : List ℕ)
+    → bytes_eq name q ≡ false → place m name held q ≡ m q
 place_off m name None q e = refl
 place_off m name (Some bytes) q e = put-off m name bytes q e
 
 other_way : (name other : List ℕ) → bytes_eq name other ≡ false → bytes_eq other name ≡ false
 other_way name other e =
     false_from_ne_true (bytes_eq other name)
-    (λ t. (let same : bytes_eq name other ≡ true = (bytes_eq-Decides name other).1 (sym ((bytes_eq-Decides other name).0 t)) in cc))
+    (λ t. (let same : bytes_eq name other ≡ true = (bytes_eq-Decides name other).1
+    (sym ((bytes_eq-Decides other name).0 t)) in cc))
 
 -- what the name holds in files that agree with what is told
-pub agreed_at : (told : Option Files) (m : Files) (name : List ℕ) → IfSome told (λ t. t ≡ m) → IfSome told (λ t. t name ≡ m name)
+pub agreed_at : (told : Option Files) (m : Files) (name : List ℕ) → IfSome told (λ t. t ≡ m)
+    → IfSome told (λ t. t name ≡ m name)
 agreed_at None m name e = tt
 agreed_at (Some t) m name e = ap (λ (f : Files). f name) e
 
-by_told : (told : Option Files) (name other : List ℕ) (held other_held : Option (List ℕ)) (same : Bool) → bytes_eq name other ≡ same
-    → (same ≡ true → IsSome told) → IfSome told (λ m. m name ≡ held) → IfSome told (λ m. m other ≡ other_held) → HoldBoth told name other held other_held
-by_told (Some m) name other held other_held same e sees may other_may = record { files = m; agrees = refl; first = may; second = other_may }
-by_told None name other held other_held true e sees may other_may = let no : false ≡ true = sees refl in cc
+by_told : (told : Option Files) (name other : List ℕ) (held other_held : Option (List ℕ))
+    (same : Bool) → bytes_eq name other ≡ same
+    → (same ≡ true → IsSome told) → IfSome told (λ m. m name ≡ held)
+    → IfSome told (λ m. m other ≡ other_held) → HoldBoth told name other held other_held
+by_told (Some m) name other held other_held same e sees may other_may =
+    record { files = m; agrees = refl; first = may; second = other_may }
+by_told None name other held other_held true e sees may other_may =
+    let no : false ≡ true = sees refl in cc
 by_told None name other held other_held false e sees may other_may =
     let behind : Files = place no_files other other_held in
     record {
       files = place behind name held;
       agrees = tt;
-      first = place_at behind name held (place_off no_files other other_held name (other_way name other e));
+      first = place_at behind name held
+          (place_off no_files other other_held name (other_way name other e));
       second = place_off behind name held other e ∙ place_at no_files other other_held refl;
     }
 
-seen : (same : Bool) (w : World) → Sees (if same then Again else Once) w → same ≡ true → IsSome w.store.files
+seen : (same : Bool) (w : World) → Sees (if same then Again else Once) w → same ≡ true
+    → IsSome w.store.files
 seen true w h e = h
 seen false w h e = cc
 
-pub hold_both : (w : World) (name other : List ℕ) (held other_held : Option (List ℕ)) → Sees (reads_of name other) w
-    → IfSome w.store.files (λ m. m name ≡ held) → IfSome w.store.files (λ m. m other ≡ other_held) → HoldBoth w.store.files name other held other_held
+pub hold_both : (w : World) (name other : List ℕ) (held other_held : Option (List ℕ))
+    → Sees (reads_of name other) w
+    → IfSome w.store.files (λ m. m name ≡ held) → IfSome w.store.files (λ m. m other ≡ other_held)
+    → HoldBoth w.store.files name other held other_held
 hold_both w name other held other_held sees may other_may =
-    by_told w.store.files name other held other_held (bytes_eq name other) refl (seen (bytes_eq name other) w sees) may other_may
+    by_told w.store.files name other held other_held (bytes_eq name other) refl
+    (seen (bytes_eq name other) w sees) may other_may

@@ -30,24 +30,41 @@ own_refusal (refusals.Fen fault) h = absurd h
 own_refusal refusals.MissingRules h = refl
 own_refusal (refusals.Rules fault) h = refl
 own_refusal (refusals.Table fault) h = absurd h
-own_refusal (refusals.Back fault) h = table_own fault (Success ∷ Rules ∷ Table ∷ Wrong ∷ Missing ∷ []) refl refl
+own_refusal (refusals.Back fault) h =
+    table_own fault (Success ∷ Rules ∷ Table ∷ Wrong ∷ Missing ∷ []) refl refl
 own_refusal (refusals.BackWrong wrong) h = refl
 own_refusal refusals.Outside h = absurd h
 
 pub own_stop : (stop : Stop) → StopsReading stop → (why : Refusal) → stop ≡ Refused why → own why
 own_stop stop due why is = own_refusal why (subst (λ (s : Stop). StopsReading s) is due)
 
-pub at_stage : (text : List ℕ) (r : RuleLines) (behind : Back) (rules back table : List ℕ) → IsStage (chaining_by text r behind table) (chaining_at rules back table)
-at_stage text r behind rules back table = record { statuses = refl; store = λ h. h; reads = λ e. refl; sees = λ w h. tt; input = λ h. cc; memory = λ h. h; speaks = λ e. e; writes = refl }
+pub at_stage : (text : List ℕ) (r : RuleLines) (behind : Back) (rules back table : List ℕ)
+    → IsStage (chaining_by text r behind table) (chaining_at rules back table)
+at_stage text r behind rules back table =
+    record {
+      statuses = refl;
+      store = λ h. h;
+      reads = λ e. refl;
+      sees = λ w h. tt;
+      input = λ h. cc;
+      memory = λ h. h;
+      speaks = λ e. e;
+      writes = refl;
+    }
 
 -- the files over which it answers
-abbrev pub found_both : (rules back table : List ℕ) (stop : Result BothRead Stop) (files : Files) (input : List ℕ) (old new : World)
-    → (h : AreBothRead rules back stop old.store new.store old.steps new.steps) → Agrees old files input → Found (chaining_at rules back table) files input old
+abbrev pub found_both : (rules back table : List ℕ) (stop : Result BothRead Stop) (files : Files)
+    (input : List ℕ) (old new : World)
+    → (h : AreBothRead rules back stop old.store new.store old.steps new.steps)
+    → Agrees old files input → Found (chaining_at rules back table) files input old
 found_both rules back table stop files input old new h agrees =
-    found_where (chaining_at rules back table) h.files files input old (reads_some rules back) h.agrees agrees
+    found_where (chaining_at rules back table) h.files files input old (reads_some rules back)
+    h.agrees agrees
 
-pub stopped_at : (rules back table : List ℕ) (stop : Stop) (files : Files) (input : List ℕ) (old new : World)
-    → AreBothRead rules back (Err stop) old.store new.store old.steps new.steps → Agrees old files input
+pub stopped_at : (rules back table : List ℕ) (stop : Stop) (files : Files) (input : List ℕ)
+    (old new : World)
+    → AreBothRead rules back (Err stop) old.store new.store old.steps new.steps
+    → Agrees old files input
     → StopsWith (chaining_at rules back table) stop files input old new
 stopped_at rules back table (Refused why) files input old new h agrees =
     let steps = h.steps in
@@ -55,7 +72,11 @@ stopped_at rules back table (Refused why) files input old new h agrees =
     let asked = h.asked in record {
       found = found_both rules back table (Err (Refused why)) files input old new h agrees;
       answer = refused why h.due refl;
-      costs = record { steps = omega (arith, steps); calls = omega (arith, calls); asked = omega (arith, asked) };
+      costs = record {
+        steps = omega (arith, steps);
+        calls = omega (arith, calls);
+        asked = omega (arith, asked);
+      };
     }
 stopped_at rules back table (Fault fault) files input old new h agrees =
     let steps = h.steps in
@@ -63,10 +84,15 @@ stopped_at rules back table (Fault fault) files input old new h agrees =
     let asked = h.asked in record {
       found = found_both rules back table (Err (Fault fault)) files input old new h agrees;
       some = some_chained rules back table h.files;
-      costs = record { steps = omega (arith, steps); calls = omega (arith, calls); asked = omega (arith, asked) };
+      costs = record {
+        steps = omega (arith, steps);
+        calls = omega (arith, calls);
+        asked = omega (arith, asked);
+      };
     }
 
 -- where the names differ the store is called
-pub calls_store : (b : Bool) (job : Job) → b ≡ false → job.needs.store ≡ true → (unless b job).needs.store ≡ false → ⊥
+pub calls_store : (b : Bool) (job : Job) → b ≡ false → job.needs.store ≡ true
+    → (unless b job).needs.store ≡ false → ⊥
 calls_store true job e asks none = cc
 calls_store false job e asks none = cc

@@ -19,28 +19,38 @@ use Rattle.frz_commands_chain.specs.declared.reading.BothRead.{BothRead}
 use Rattle.frz_commands_chain.proofs.BackOnce.{back_exact}
 use Rattle.frz_commands_chain.proofs.ChainAt.{found_both}
 
-module _ (rules back table : List ℕ) (both : BothRead) (files : Files) (input : List ℕ) (old mid new : World)
-    (h : AreBothRead rules back (Ok both) old.store mid.store old.steps mid.steps) (agrees : Agrees old files input) where
+module _ (rules back table : List ℕ) (both : BothRead) (files : Files) (input : List ℕ)
+    (old mid new : World)
+    (h : AreBothRead rules back (Ok both) old.store mid.store old.steps mid.steps)
+    (agrees : Agrees old files input) where
   read_rules : (m : Files) → m ≡ h.files → rules_held (m rules) ≡ Ok both.read.rules
-  read_rules m e = ap (λ (f : Files). rules_held (f rules)) e ∙ ap rules_held h.due.0.0 ∙ ap or_fault h.due.0.1
+  read_rules m e =
+      ap (λ (f : Files). rules_held (f rules)) e ∙ ap rules_held h.due.0.0 ∙ ap or_fault h.due.0.1
 
   exact_there : (m : Files) → m ≡ h.files → is_exact (m back) ≡ true
-  exact_there m e = ap (λ (f : Files). is_exact (f back)) e ∙ back_exact (h.files back) (loaded_back both.back) h.due.1
+  exact_there m e = ap (λ (f : Files). is_exact (f back)) e ∙ back_exact (h.files back)
+      (loaded_back both.back) h.due.1
 
   abbrev size : ℕ
   size = size_of both.read.rules.groups
 
-  all_spent : (m : Files) → m ≡ h.files → new.steps ≤ mid.steps + 4 * size → new.store.calls ≤ mid.store.calls + writing_calls size
-      → new.store.asked ≤ mid.store.asked + 0 → WithinCosts (chain_costs (m rules) (m back)) (spent old) (spent new)
+  all_spent : (m : Files) → m ≡ h.files → new.steps ≤ mid.steps + 4 * size
+      → new.store.calls ≤ mid.store.calls + writing_calls size
+      → new.store.asked ≤ mid.store.asked + 0 → WithinCosts (chain_costs (m rules) (m back))
+      (spent old) (spent new)
   all_spent m e steps calls asked =
       let all = all_if_exact (m back) (exact_there m e) in
-      let due = all (4 * size_by (rules_held (m rules))) ∙ ap (λ (x : Result RuleLines Refused). 4 * size_by x) (read_rules m e) in
+      let due = all (4 * size_by (rules_held (m rules)))
+      ∙ ap (λ (x : Result RuleLines Refused). 4 * size_by x) (read_rules m e) in
       let old_steps : mid.steps ≤ old.steps + reading_steps (m rules) (m back) =
-      subst (λ (f : Files). mid.steps ≤ old.steps + reading_steps (f rules) (f back)) (sym e) h.steps in
+      subst (λ (f : Files). mid.steps ≤ old.steps + reading_steps (f rules) (f back))
+      (sym e) h.steps in
       let old_asked : mid.store.asked ≤ old.store.asked + reading_bytes (m rules) (m back) =
-      subst (λ (f : Files). mid.store.asked ≤ old.store.asked + reading_bytes (f rules) (f back)) (sym e) h.asked in
+      subst (λ (f : Files). mid.store.asked ≤ old.store.asked + reading_bytes (f rules) (f back))
+      (sym e) h.asked in
       let old_calls : mid.store.calls ≤ old.store.calls + reading_calls (m rules) (m back) =
-      subst (λ (f : Files). mid.store.calls ≤ old.store.calls + reading_calls (f rules) (f back)) (sym e) h.calls in
+      subst (λ (f : Files). mid.store.calls ≤ old.store.calls + reading_calls (f rules) (f back))
+      (sym e) h.calls in
       let writing : if_exact (m back) (writing_by (rules_held (m rules))) ≡ writing_calls size =
       all (writing_by (rules_held (m rules))) ∙ ap writing_by (read_rules m e) in
       record {
@@ -49,7 +59,8 @@ module _ (rules back table : List ℕ) (both : BothRead) (files : Files) (input 
         asked = omega (arith, asked, old_asked);
       }
 
-  pub stages : Stages (chaining_by both.read.text.items both.read.rules (loaded_back both.back) table) (chaining_at rules back table) files input old mid new
+  pub stages : Stages (chaining_by both.read.text.items both.read.rules (loaded_back both.back)
+      table) (chaining_at rules back table) files input old mid new
   stages = record {
     found = found_both rules back table (Ok both) files input old mid h agrees;
     answers = λ m i a fits same untaken built.
@@ -60,8 +71,10 @@ module _ (rules back table : List ℕ) (both : BothRead) (files : Files) (input 
           lines = both.read.rules;
           accepted = h.due.0.1;
           behind = loaded_back both.back;
-          back_there = subst (λ (f : Files). IsBackIn (f back) (loaded_back both.back)) (sym e) h.due.1;
+          back_there =
+              subst (λ (f : Files). IsBackIn (f back) (loaded_back both.back)) (sym e) h.due.1;
           made = built;
         });
-    costs = λ m i a fits same untaken built costs. all_spent m (same refl) costs.steps costs.calls costs.asked;
+    costs = λ m i a fits same untaken built costs. all_spent m (same refl) costs.steps costs.calls
+        costs.asked;
   }

@@ -39,14 +39,17 @@ use Rattle.frz_commands_chain.proofs.PairOnce.{by_refusal, never_judged, one_pai
 use Rattle.frz_commands_chain.proofs.Stopped.{by_table_status}
 
 -- what stands in a back table is exact by its own exit lines
-exact_back : (held : Option (List ℕ)) (back : Back) → (h : IsBackIn held back) → IsExactBack h.contents.rules (value_by h.contents.rules) back
+exact_back : (held : Option (List ℕ)) (back : Back) → (h : IsBackIn held back)
+    → IsExactBack h.contents.rules (value_by h.contents.rules) back
 exact_back held back h =
     subst (λ (b : Back). IsExactBack h.contents.rules (value_by h.contents.rules) b) (sym h.keeps)
     (record { set = refl; white = h.judged.told.codes White; black = h.judged.told.codes Black })
 
 -- the one file of a text over a back table is exact
-pub judged_on : (held back_held : Option (List ℕ)) (bytes text : List ℕ) (rules : RuleLines) (behind : Back) → held ≡ Some bytes → IsBackIn back_held behind
-    → rules_of text ≡ Ok rules → IsFileOn text rules behind bytes → IsJudgedPair held back_held verdict.Exact
+pub judged_on : (held back_held : Option (List ℕ)) (bytes text : List ℕ) (rules : RuleLines)
+    (behind : Back) → held ≡ Some bytes → IsBackIn back_held behind
+    → rules_of text ≡ Ok rules → IsFileOn text rules behind bytes
+    → IsJudgedPair held back_held verdict.Exact
 judged_on held back_held bytes text rules behind there back_there read one =
     let contents : Contents = record { text = text; rules = rules } in
     let value = chain_value rules behind in
@@ -58,12 +61,14 @@ judged_on held back_held bytes text rules behind there back_there read one =
       opens = one_file_opens Chained value contents bytes read one;
       behind = behind;
       back_there = back_there;
-      judged = one_file_holds Chained value contents bytes (plies_few rules value (chain_small rules behind sound)) read one;
+      judged = one_file_holds Chained value contents bytes
+          (plies_few rules value (chain_small rules behind sound)) read one;
     }
 
 module _ (table back : List ℕ) (files : Files) where
   -- both tables are exact
-  abbrev headline : IsJudgedPair (files table) (files back) verdict.Exact → ChainHeadline table back files
+  abbrev headline : IsJudgedPair (files table) (files back) verdict.Exact
+      → ChainHeadline table back files
   headline h =
       let k = h.back_there in
       let rules = h.contents.rules in
@@ -95,30 +100,39 @@ module _ (table back : List ℕ) (files : Files) where
         white_table = h.judged White;
         black_table = h.judged Black;
         one_file = λ are. tables_are_one Chained value h.contents h.bytes are h.opens h.judged;
-        white_means = table_means rules value White (kept_codes h.contents h.bytes White) (h.judged White);
-        black_means = table_means rules value Black (kept_codes h.contents h.bytes Black) (h.judged Black);
-        true_exits = λ own others. chained_true rules k.contents.rules (value_by k.contents.rules) h.behind exact own others;
+        white_means =
+            table_means rules value White (kept_codes h.contents h.bytes White) (h.judged White);
+        black_means =
+            table_means rules value Black (kept_codes h.contents h.bytes Black) (h.judged Black);
+        true_exits = λ own others. chained_true rules k.contents.rules (value_by k.contents.rules)
+            h.behind exact own others;
       }
 
   says_verdict : (v : Verdict) → (h : IsJudgedPair (files table) (files back) v)
-      → MeansStatus table back files (chain_status v) (chain_verdict_line (size_of h.contents.rules.groups) (size_of h.behind.groups) v)
+      → MeansStatus table back files (chain_status v)
+      (chain_verdict_line (size_of h.contents.rules.groups) (size_of h.behind.groups) v)
   says_verdict verdict.Exact h = record { exact = headline h; told = refl }
   says_verdict (verdict.Wrong w) h = of_table (record { wrong = w; first = h; told = refl })
 
   -- by the status of a table that is refused
-  tells : (why : Refusal) (status : Status) → IsRefusedPair (files table) (files back) why → status ≡ status_of why
+  tells : (why : Refusal) (status : Status) → IsRefusedPair (files table) (files back) why
+      → status ≡ status_of why
       → TellsRefusal table back files status (refusal_line why)
   tells why status h e = record { why = why; refused = h; status_is = e; told = refl }
 
-  of_status : (why : Refusal) (fault : TableFault) → IsRefusedPair (files table) (files back) why → table_status fault ≡ status_of why
+  of_status : (why : Refusal) (fault : TableFault) → IsRefusedPair (files table) (files back) why
+      → table_status fault ≡ status_of why
       → MeansStatus table back files (table_status fault) (refusal_line why)
   of_status why fault h e =
-      by_table_status (λ s. s ≡ status_of why → MeansStatus table back files s (refusal_line why)) fault
+      by_table_status (λ s. s ≡ status_of why → MeansStatus table back files s (refusal_line why))
+      fault
       (λ is. tells why statuses.Missing h is) (λ is. tells why statuses.Table h is) e
 
-  says_refusal : (why : Refusal) → IsRefusedPair (files table) (files back) why → MeansStatus table back files (status_of why) (refusal_line why)
+  says_refusal : (why : Refusal) → IsRefusedPair (files table) (files back) why
+      → MeansStatus table back files (status_of why) (refusal_line why)
   says_refusal why h =
-      by_refusal (λ w. MeansStatus table back files (status_of w) (refusal_line w)) (files table) (files back) why h
+      by_refusal (λ w. MeansStatus table back files (status_of w) (refusal_line w)) (files table)
+      (files back) why h
       (λ fault e. of_status (refusals.Table fault) fault e refl)
       (λ fault opens e. of_status (refusals.Back fault) fault (opens, e) refl)
       (λ w opens e. of_back (tells (refusals.BackWrong w) statuses.Wrong (opens, e) refl))
@@ -128,7 +142,8 @@ module _ (table back : List ℕ) (files : Files) where
   exact_pair p =
       let k = p.back_contents in
       let back_sound = answer_sound k.text (Ok k.rules) p.back_accepted in
-      let back_small : HasSmallLags (value_by k.rules) = λ q valid. small_values k.rules back_sound q in
+      let back_small : HasSmallLags (value_by k.rules) = λ q valid. small_values k.rules back_sound
+      q in
       judged_on (files table) (files back) p.bytes p.text p.rules (back_of k p.back_bytes) p.there
       (record {
         bytes = p.back_bytes;
@@ -137,27 +152,39 @@ module _ (table back : List ℕ) (files : Files) where
         judged =
             judged_so p.back_bytes k verdict.Exact
             (one_file_opens Plain (value_by k.rules) k p.back_bytes p.back_accepted p.back_file)
-            (one_file_holds Plain (value_by k.rules) k p.back_bytes (plies_few k.rules (value_by k.rules) back_small) p.back_accepted p.back_file);
+            (one_file_holds Plain (value_by k.rules) k p.back_bytes
+            (plies_few k.rules (value_by k.rules) back_small) p.back_accepted p.back_file);
         keeps = refl;
       })
       p.accepted p.one_file
 
-  means_so : (a : Answer) (status : Status) (text : List ℕ) → a ≡ says status text files → MeansStatus table back files status text
-      → (HoldsPair table back files → status ≡ statuses.Success) → MeansChainCheck table back files a
+  means_so : (a : Answer) (status : Status) (text : List ℕ) → a ≡ says status text files
+      → MeansStatus table back files status text
+      → (HoldsPair table back files → status ≡ statuses.Success)
+      → MeansChainCheck table back files a
   means_so a status text e says accepts =
-      subst (λ (x : Answer). MeansChainCheck table back files x) (sym e) (record { same = refl; untaken = refl; says = says; accepts = accepts })
+      subst (λ (x : Answer). MeansChainCheck table back files x) (sym e)
+      (record { same = refl; untaken = refl; says = says; accepts = accepts })
 
   pair_means : (a : Answer) → IsCheckedPair table back files a → MeansChainCheck table back files a
   pair_means a (refused why h e) =
       means_so a (status_of why) (refusal_line why) e (says_refusal why h)
       (λ p. absurd (never_judged (files table) (files back) why verdict.Exact h (exact_pair p)))
   pair_means a (judged v h e) =
-      means_so a (chain_status v) (chain_verdict_line (size_of h.contents.rules.groups) (size_of h.behind.groups) v) e (says_verdict v h)
-      (λ p. ap chain_status (same_verdict (files table) (files back) verdict.Exact v (exact_pair p) h))
+      means_so a (chain_status v)
+      (chain_verdict_line (size_of h.contents.rules.groups) (size_of h.behind.groups) v) e
+      (says_verdict v h)
+      (λ p. ap chain_status
+      (same_verdict (files table) (files back) verdict.Exact v (exact_pair p) h))
 
 pair_lawful : (table back : List ℕ) → IsLawful (checking_pair table back)
-pair_lawful table back = record { one = λ files input. one_pair table back files; means = λ files input a h. pair_means table back files a h }
+pair_lawful table back =
+    record {
+      one = λ files input. one_pair table back files;
+      means = λ files input a h. pair_means table back files a h;
+    }
 
 pub chaincheck_lawful : (words : List (List ℕ)) → IsLawful (chaincheck_words words)
 chaincheck_lawful words =
-    taking_lawful (λ (names : List ℕ × List ℕ). checking_pair names.0 names.1) (two_words_of words) (λ names. pair_lawful names.0 names.1)
+    taking_lawful (λ (names : List ℕ × List ℕ). checking_pair names.0 names.1) (two_words_of words)
+    (λ names. pair_lawful names.0 names.1)

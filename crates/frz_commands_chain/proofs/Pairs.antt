@@ -33,15 +33,18 @@ pub own_verdict : (v : Verdict) → OneOf (chain_status v) (Success ∷ Wrong �
 own_verdict verdict.Exact = refl
 own_verdict (verdict.Wrong wrong) = refl
 
-pub own_refusal : (held back_held : Option (List ℕ)) (fault : ChainFault) → IsRefusedChain held back_held fault → (why : Refusal) → stop_of_chain fault ≡ Refused why
+pub own_refusal : (held back_held : Option (List ℕ)) (fault : ChainFault)
+    → IsRefusedChain held back_held fault → (why : Refusal) → stop_of_chain fault ≡ Refused why
     → OneOf (status_of why) (Success ∷ Wrong ∷ Table ∷ Missing ∷ [])
 own_refusal held back_held (chain.Rules fault) h why e = absurd h
 own_refusal held back_held (chain.Table fault) h why e =
     let same : refusals.Table fault ≡ why = cc in
-    subst (λ (w : Refusal). OneOf (status_of w) (Success ∷ Wrong ∷ Table ∷ Missing ∷ [])) same (table_own fault (Success ∷ Wrong ∷ Table ∷ Missing ∷ []) refl refl)
+    subst (λ (w : Refusal). OneOf (status_of w) (Success ∷ Wrong ∷ Table ∷ Missing ∷ [])) same
+    (table_own fault (Success ∷ Wrong ∷ Table ∷ Missing ∷ []) refl refl)
 own_refusal held back_held (chain.Back fault) h why e =
     let same : refusals.Back fault ≡ why = cc in
-    subst (λ (w : Refusal). OneOf (status_of w) (Success ∷ Wrong ∷ Table ∷ Missing ∷ [])) same (table_own fault (Success ∷ Wrong ∷ Table ∷ Missing ∷ []) refl refl)
+    subst (λ (w : Refusal). OneOf (status_of w) (Success ∷ Wrong ∷ Table ∷ Missing ∷ [])) same
+    (table_own fault (Success ∷ Wrong ∷ Table ∷ Missing ∷ []) refl refl)
 own_refusal held back_held (chain.BackWrong wrong) h why e =
     let same : refusals.BackWrong wrong ≡ why = cc in
     subst (λ (w : Refusal). OneOf (status_of w) (Success ∷ Wrong ∷ Table ∷ Missing ∷ [])) same refl
@@ -49,26 +52,36 @@ own_refusal held back_held chain.Failed h why e = cc
 own_refusal held back_held chain.NoMemory h why e = cc
 
 -- what was spent is within the costs of what the names hold
-within_pair : (table back : List ℕ) (m : Files) (held back_held : Option (List ℕ)) (old new : World) → m table ≡ held → m back ≡ back_held
-    → WithinBoth held back_held old.store new.store old.steps new.steps → WithinCosts (pair_costs (m table) (m back)) (spent old) (spent new)
+within_pair : (table back : List ℕ) (m : Files) (held back_held : Option (List ℕ)) (old new : World)
+    → m table ≡ held → m back ≡ back_held
+    → WithinBoth held back_held old.store new.store old.steps new.steps
+    → WithinCosts (pair_costs (m table) (m back)) (spent old) (spent new)
 within_pair table back m held back_held old new e f h =
-    subst (λ (x : Option (List ℕ)). WithinCosts (pair_costs x (m back)) (spent old) (spent new)) (sym e)
-    (subst (λ (x : Option (List ℕ)). WithinCosts (pair_costs held x) (spent old) (spent new)) (sym f) (record { steps = h.steps; calls = h.calls; asked = h.asked }))
+    subst (λ (x : Option (List ℕ)). WithinCosts (pair_costs x (m back)) (spent old) (spent new))
+    (sym e)
+    (subst (λ (x : Option (List ℕ)). WithinCosts (pair_costs held x) (spent old) (spent new))
+    (sym f) (record { steps = h.steps; calls = h.calls; asked = h.asked }))
 
-module _ (table back : List ℕ) (files : Files) (input : List ℕ) (old new : World) (sees : Sees (reads_of table back) old) (agrees : Agrees old files input) where
+module _ (table back : List ℕ) (files : Files) (input : List ℕ) (old new : World)
+    (sees : Sees (reads_of table back) old) (agrees : Agrees old files input) where
   -- files in which the names hold what they may hold
-  both : (held back_held : Option (List ℕ)) → MayHold old.store.files table held → MayHold old.store.files back back_held
+  both : (held back_held : Option (List ℕ)) → MayHold old.store.files table held
+      → MayHold old.store.files back back_held
       → HoldBoth old.store.files table back held back_held
   both held back_held may back_may =
-      hold_both old table back held back_held sees (same_held old.store.files table held may) (same_held old.store.files back back_held back_may)
+      hold_both old table back held back_held sees (same_held old.store.files table held may)
+      (same_held old.store.files back back_held back_may)
 
   -- the verdict was told
-  pub judged_so : (v : ChainVerdict) → (h : ChecksChain table back old.store new.store old.steps new.steps v)
+  pub judged_so : (v : ChainVerdict)
+      → (h : ChecksChain table back old.store new.store old.steps new.steps v)
       → SaysAll (checking_pair table back) (chain_status (judgement v))
-      (chain_verdict_line (size_of h.contents.rules.groups) (size_of h.back_contents.rules.groups) (judgement v)) files input old new
+      (chain_verdict_line (size_of h.contents.rules.groups) (size_of h.back_contents.rules.groups)
+      (judgement v)) files input old new
   judged_so v h =
       let at = both (Some h.bytes) (Some h.back_bytes) h.may h.back_may in record {
-        found = found_where (checking_pair table back) at.files files input old (reads_some table back) at.agrees agrees;
+        found = found_where (checking_pair table back) at.files files input old
+            (reads_some table back) at.agrees agrees;
         answer =
             judged (judgement v)
             (record {
@@ -77,20 +90,30 @@ module _ (table back : List ℕ) (files : Files) (input : List ℕ) (old new : W
               contents = h.contents;
               opens = h.opens;
               behind = back_of h.back_contents h.back_bytes;
-              back_there = record { bytes = h.back_bytes; there = at.second; contents = h.back_contents; judged = h.back_judged; keeps = refl };
+              back_there = record {
+                bytes = h.back_bytes;
+                there = at.second;
+                contents = h.back_contents;
+                judged = h.back_judged;
+                keeps = refl;
+              };
               judged = h.told.codes;
             })
             refl;
-        costs = within_pair table back at.files (Some h.bytes) (Some h.back_bytes) old new at.first at.second h.within;
+        costs = within_pair table back at.files (Some h.bytes) (Some h.back_bytes) old new at.first
+            at.second h.within;
       }
 
   -- one of the tables was refused
-  refused_so : (why : Refusal) (held back_held : Option (List ℕ)) → MayHold old.store.files table held → MayHold old.store.files back back_held
-      → IsRefusedPair held back_held why → WithinBoth held back_held old.store new.store old.steps new.steps
+  refused_so : (why : Refusal) (held back_held : Option (List ℕ))
+      → MayHold old.store.files table held → MayHold old.store.files back back_held
+      → IsRefusedPair held back_held why
+      → WithinBoth held back_held old.store new.store old.steps new.steps
       → SaysAll (checking_pair table back) (status_of why) (refusal_line why) files input old new
   refused_so why held back_held may back_may h within =
       let at = both held back_held may back_may in record {
-        found = found_where (checking_pair table back) at.files files input old (reads_some table back) at.agrees agrees;
+        found = found_where (checking_pair table back) at.files files input old
+            (reads_some table back) at.agrees agrees;
         answer =
             refused why
             (subst (λ (x : Option (List ℕ)). IsRefusedPair x (at.files back) why) (sym at.first)
@@ -99,20 +122,27 @@ module _ (table back : List ℕ) (files : Files) (input : List ℕ) (old new : W
         costs = within_pair table back at.files held back_held old new at.first at.second within;
       }
 
-  begun_so : (fault : ChainFault) → RefusesChain table back old.store new.store old.steps new.steps fault
+  begun_so : (fault : ChainFault) → RefusesChain table back old.store new.store old.steps new.steps
+      fault
       → StopsWith (checking_pair table back) (stop_of_chain chain.Failed) files input old new
   begun_so fault h =
       let at = both h.held h.back_held h.may h.back_may in record {
-        found = found_where (checking_pair table back) at.files files input old (reads_some table back) at.agrees agrees;
+        found = found_where (checking_pair table back) at.files files input old
+            (reads_some table back) at.agrees agrees;
         some = some_pair table back at.files;
-        costs = within_pair table back at.files h.held h.back_held old new at.first at.second h.within;
+        costs = within_pair table back at.files h.held h.back_held old new at.first at.second
+            h.within;
       }
 
-  pub stopped_so : (fault : ChainFault) → RefusesChain table back old.store new.store old.steps new.steps fault
+  pub stopped_so : (fault : ChainFault)
+      → RefusesChain table back old.store new.store old.steps new.steps fault
       → StopsWith (checking_pair table back) (stop_of_chain fault) files input old new
   stopped_so (chain.Rules fault) h = absurd h.refuses
-  stopped_so (chain.Table fault) h = refused_so (refusals.Table fault) h.held h.back_held h.may h.back_may h.refuses h.within
-  stopped_so (chain.Back fault) h = refused_so (refusals.Back fault) h.held h.back_held h.may h.back_may h.refuses h.within
-  stopped_so (chain.BackWrong wrong) h = refused_so (refusals.BackWrong wrong) h.held h.back_held h.may h.back_may h.refuses h.within
+  stopped_so (chain.Table fault) h =
+      refused_so (refusals.Table fault) h.held h.back_held h.may h.back_may h.refuses h.within
+  stopped_so (chain.Back fault) h =
+      refused_so (refusals.Back fault) h.held h.back_held h.may h.back_may h.refuses h.within
+  stopped_so (chain.BackWrong wrong) h =
+      refused_so (refusals.BackWrong wrong) h.held h.back_held h.may h.back_may h.refuses h.within
   stopped_so chain.Failed h = begun_so chain.Failed h
   stopped_so chain.NoMemory h = begun_so chain.NoMemory h

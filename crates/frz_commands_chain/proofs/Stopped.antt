@@ -15,7 +15,8 @@ use Rattle.frz_chain.specs.declared.fault.ChainFault.TheVariants as chain
 use Rattle.frz_commands_chain.specs.Stops.{stop_of_chain}
 
 -- the store was called and steps were made, and nothing was written
-pub quiet_so : (old new : StoreTold) (input : SourceTold) (out : SinkTold) (before now : ℕ) → StoreQuiet old new → before ≤ now
+pub quiet_so : (old new : StoreTold) (input : SourceTold) (out : SinkTold) (before now : ℕ)
+    → StoreQuiet old new → before ≤ now
     → Quiet (world old input out before) (world new input out now)
 quiet_so old new input out before now quiet later = record {
   later = record { store = quiet.later; input = omega arith; out = omega arith; steps = later };
@@ -25,7 +26,8 @@ quiet_so old new input out before now quiet later = record {
 }
 
 -- the status of a table that is missing or refused
-pub by_table_status : (P : Status → Type 0) (fault : TableFault) → P Missing → P Table → P (table_status fault)
+pub by_table_status : (P : Status → Type 0) (fault : TableFault) → P Missing → P Table
+    → P (table_status fault)
 by_table_status P table.Missing missing refused = missing
 by_table_status P table.Magic missing refused = refused
 by_table_status P (table.Truncated length due) missing refused = refused
@@ -39,7 +41,8 @@ fine_after : (old mid new : StoreTold) → StoreFine old mid → StoreFine mid n
 fine_after old mid new h k = record { faults = k.faults ∙ h.faults; wants = k.wants ∙ h.wants }
 
 -- a fault that was met after calls that succeeded has its cause
-pub chain_cause : (T A : Type 0) (fault : ChainFault) (old mid new : StoreTold) → StoreFine old mid → HasChainCause {T = T} (Err fault) mid new
+pub chain_cause : (T A : Type 0) (fault : ChainFault) (old mid new : StoreTold) → StoreFine old mid
+    → HasChainCause {T = T} (Err fault) mid new
     → HasItsCause {A = A} (Err (stop_of_chain fault)) old new
 chain_cause T A (chain.Rules fault) old mid new fine h = fine_after old mid new fine h
 chain_cause T A (chain.Table fault) old mid new fine h = fine_after old mid new fine h

@@ -27,13 +27,14 @@ pub record ChainHeadline (table back : List ℕ) (files : Files) : Type 0 where
   pub back_accepted : rules_of back_text ≡ Ok back_rules
   pub back_layout : IsTableFile (magic_of Plain) back_text (size_of back_rules.groups) back_bytes
   pub behind : Back
-  pub behind_is : back_with back_rules.groups (codes_at White back_text (size_of back_rules.groups) back_bytes)
+  pub behind_is : back_with back_rules.groups
+      (codes_at White back_text (size_of back_rules.groups) back_bytes)
       (codes_at Black back_text (size_of back_rules.groups) back_bytes) ≡ behind
   pub back_exact : IsExactBack back_rules (value_by back_rules) behind
   pub back_one_file : AreBytes back_bytes →
       IsOneFile (magic_of Plain) back_text back_rules (value_by back_rules) back_bytes
-  -- TABLE holds a text that is accepted, and behind it the tables of both sides, with the values of its
-  -- exit lines and of BACK behind them
+  -- TABLE holds a text that is accepted, and behind it the tables of both sides, with the values of
+  -- its exit lines and of BACK behind them
   pub bytes : List ℕ
   pub there : files table ≡ Some bytes
   pub text : List ℕ
@@ -47,10 +48,11 @@ pub record ChainHeadline (table back : List ℕ) (files : Files) : Type 0 where
   pub white_table : IsTableOf rules (chain_value rules behind) White white
   pub black_table : IsTableOf rules (chain_value rules behind) Black black
   pub one_file : AreBytes bytes → IsFileOn text rules behind bytes
-  -- a win forces mate or an assigned win within its plies; where the exits are true it forces mate, and
-  -- with a win or a hold the opponent forces none
+  -- a win forces mate or an assigned win within its plies; where the exits are true it forces mate,
+  -- and with a win or a hold the opponent forces none
   pub white_means : TableMeans rules (chain_value rules behind) White white
   pub black_means : TableMeans rules (chain_value rules behind) Black black
   -- and the exits are true where the exit lines of both texts are
-  pub true_exits : AreTrueExits rules (value_by rules) → AreTrueExits back_rules (value_by back_rules)
+  pub true_exits : AreTrueExits rules (value_by rules)
+      → AreTrueExits back_rules (value_by back_rules)
       → AreTrueExits rules (chain_value rules behind)

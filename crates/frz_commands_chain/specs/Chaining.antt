@@ -1,5 +1,5 @@
--- What `chain RULES BACK TABLE` is to do: the table file of the rules over the back table is written
--- under the name TABLE.
+-- What `chain RULES BACK TABLE` is to do: the table file of the rules over the back table is
+-- written under the name TABLE.
 use Rattle.std.specs.Prelude.{◌≡◌, ℕ, ◌+◌, ◌*◌, List, [], ◌∷◌, ◌++◌, true, false, Bool, ◌||◌, Option, Some, Result, Ok, Err, codes, decimal}
 use Rattle.std.specs.Str.{bytes_eq}
 use Rattle.frz_store.specs.Files.{Files, put}
@@ -25,14 +25,15 @@ use Rattle.frz_commands_chain.specs.Reading.{IsRefusedBoth, reading_bytes, readi
 abbrev pub chained_line : ℕ → List ℕ
 chained_line size = codes "chained " ++ decimal size ++ codes "\n"
 
--- by what was read: TABLE holds the one file of the text over the back table, and every other name what it held
+-- by what was read: TABLE holds the one file of the text over
+-- the back table, and every other name what it held
 abbrev pub IsChainedBy : List ℕ → RuleLines → Back → List ℕ → Files → Answer → Type 0
 IsChainedBy text r back table files a =
     (bytes : List ℕ) × IsFileOn text r back bytes
     × (a ≡ says statuses.Success (chained_line (size_of r.groups)) (put files table bytes))
 
--- RULES holds a text that is accepted, BACK a back table that is exact, and TABLE the one file of the
--- text over it afterwards
+-- RULES holds a text that is accepted, BACK a back table that is exact, and TABLE the one file of
+-- the text over it afterwards
 pub record MakesChain (rules back table : List ℕ) (files : Files) (a : Answer) : Type 0 where
   pub text : List ℕ
   pub there : files rules ≡ Some text
@@ -53,7 +54,8 @@ pub data IsChainedAt (rules back table : List ℕ) (files : Files) (a : Answer) 
 abbrev pub MeansByStatus : List ℕ → List ℕ → List ℕ → Files → Answer → Status → Type 0
 MeansByStatus rules back table files a statuses.Success = MakesChain rules back table files a
 MeansByStatus rules back table files a status =
-    (why : Refused) × IsRefusedBoth (files rules) (files back) why × (a ≡ says (status_of why) (refusal_line why) files)
+    (why : Refused) × IsRefusedBoth (files rules) (files back) why
+    × (a ≡ says (status_of why) (refusal_line why) files)
 
 -- what an answer of `chain` means: it takes no input, and each status has its cause
 pub record MeansChain (rules back table : List ℕ) (files : Files) (a : Answer) : Type 0 where
@@ -82,8 +84,8 @@ abbrev pub size_by : Result RuleLines Refused → ℕ
 size_by (Ok r) = size_of r.groups
 size_by (Err why) = 0
 
--- what reading the rules file and checking the back table costs. Where both are accepted, four steps a
--- number and the calls that write the table come behind
+-- what reading the rules file and checking the back table costs. Where both are accepted, four
+-- steps a number and the calls that write the table come behind
 abbrev pub chain_costs : (held back_held : Option (List ℕ)) → Costs
 chain_costs held back_held = record {
   steps = Some (reading_steps held back_held + if_exact back_held (4 * size_by (rules_held held)));
@@ -109,5 +111,6 @@ is_named_twice rules back table = bytes_eq table rules || bytes_eq table back
 -- chain RULES BACK TABLE
 abbrev pub chain_words : List (List ℕ) → Job
 chain_words words =
-    taking (λ names. unless (is_named_twice names.0 names.1 names.2) (chaining_at names.0 names.1 names.2))
+    taking (λ names. unless (is_named_twice names.0 names.1 names.2)
+    (chaining_at names.0 names.1 names.2))
     (three_words_of words)

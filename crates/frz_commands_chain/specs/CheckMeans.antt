@@ -30,7 +30,8 @@ pub record TellsExactOn (table back : List ℕ) (files : Files) (text : List ℕ
   pub told : text ≡ exact_on_line (size_of exact.rules.groups) (size_of exact.behind.groups)
 
 -- what one of the names holds is refused with this status, and the text says why
-pub record TellsRefusal (table back : List ℕ) (files : Files) (status : Status) (text : List ℕ) : Type 0 where
+pub record TellsRefusal (table back : List ℕ) (files : Files) (status : Status)
+    (text : List ℕ) : Type 0 where
   pub why : Refused
   pub refused : IsRefusedPair (files table) (files back) why
   pub status_is : status ≡ status_of why
@@ -52,7 +53,8 @@ abbrev pub MeansStatus : List ℕ → List ℕ → Files → Status → List ℕ
 MeansStatus table back files statuses.Success text = TellsExactOn table back files text
 MeansStatus table back files statuses.Wrong text = TellsWrong table back files text
 MeansStatus table back files statuses.Table text = TellsRefusal table back files statuses.Table text
-MeansStatus table back files statuses.Missing text = TellsRefusal table back files statuses.Missing text
+MeansStatus table back files statuses.Missing text =
+    TellsRefusal table back files statuses.Missing text
 MeansStatus table back files status text = ⊥
 
 -- BACK holds the one file of a text that is accepted, and TABLE the one file of another over it
@@ -62,7 +64,8 @@ pub record HoldsPair (table back : List ℕ) (files : Files) : Type 0 where
   pub back_contents : Contents
   pub back_accepted : rules_of back_contents.text ≡ Ok back_contents.rules
   pub back_file :
-      IsOneFile (magic_of Plain) back_contents.text back_contents.rules (value_by back_contents.rules) back_bytes
+      IsOneFile (magic_of Plain) back_contents.text back_contents.rules
+      (value_by back_contents.rules) back_bytes
   pub bytes : List ℕ
   pub there : files table ≡ Some bytes
   pub text : List ℕ

@@ -1,5 +1,5 @@
--- What `chaincheck TABLE BACK` answers: the sizes of two tables that are exact, or the first entry that
--- is wrong. No file changes.
+-- What `chaincheck TABLE BACK` answers: the sizes of two tables that are exact, or the first entry
+-- that is wrong. No file changes.
 use Rattle.std.specs.Prelude.{◌≡◌, ℕ, List, ◌++◌, Option, Some, Ok, Err, codes, decimal}
 use Rattle.frz_sets.specs.Sets.{size_of}
 use Rattle.frz_store.specs.Files.{Files}
@@ -24,7 +24,8 @@ use Rattle.frz_commands_chain.specs.Backs.{IsBackIn}
 
 -- the sizes of the table and of the back table
 abbrev pub exact_on_line : ℕ → ℕ → List ℕ
-exact_on_line size back = codes "exact " ++ decimal size ++ (codes " on " ++ decimal back) ++ codes "\n"
+exact_on_line size back =
+    codes "exact " ++ decimal size ++ (codes " on " ++ decimal back) ++ codes "\n"
 
 -- how the verdict on a table of so many numbers over one of so many is told
 abbrev pub chain_status : Verdict → Status
@@ -40,10 +41,12 @@ abbrev pub IsRefusedPair : (held back_held : Option (List ℕ)) → Refused → 
 IsRefusedPair held back_held (refusals.Table fault) = opened (table_format Chained) held ≡ Err fault
 IsRefusedPair held back_held (refusals.Back fault) =
     OpensChained held × (opened (table_format Plain) back_held ≡ Err fault)
-IsRefusedPair held back_held (refusals.BackWrong wrong) = OpensChained held × HasWrong back_held wrong
+IsRefusedPair held back_held (refusals.BackWrong wrong) =
+    OpensChained held × HasWrong back_held wrong
 IsRefusedPair held back_held why = ⊥
 
--- TABLE opens, BACK holds a back table that is exact, and this is the verdict on the codes of TABLE over it
+-- TABLE opens, BACK holds a back table that is exact, and this
+-- is the verdict on the codes of TABLE over it
 pub record IsJudgedPair (held back_held : Option (List ℕ)) (judgement : Verdict) : Type 0 where
   pub bytes : List ℕ
   pub there : held ≡ Some bytes
@@ -51,7 +54,8 @@ pub record IsJudgedPair (held back_held : Option (List ℕ)) (judgement : Verdic
   pub opens : opened (table_format Chained) (Some bytes) ≡ Ok contents
   pub behind : Back
   pub back_there : IsBackIn back_held behind
-  pub judged : IsVerdict contents.rules (chain_value contents.rules behind) (kept_codes contents bytes) judgement
+  pub judged : IsVerdict contents.rules (chain_value contents.rules behind)
+      (kept_codes contents bytes) judgement
 
 -- what one of the names holds is refused, or the verdict is told
 pub data IsCheckedPair (table back : List ℕ) (files : Files) (a : Answer) : Type 0 where

@@ -24,7 +24,8 @@ HasRules held = (r : RuleLines) × (rules_held held ≡ Ok r)
 abbrev pub IsRefusedBoth : (held back_held : Option (List ℕ)) → Refusal → Type 0
 IsRefusedBoth held back_held refusals.MissingRules = rules_held held ≡ Err refusals.MissingRules
 IsRefusedBoth held back_held (refusals.Rules fault) = rules_held held ≡ Err (refusals.Rules fault)
-IsRefusedBoth held back_held (refusals.Back fault) = HasRules held × (opened (table_format Plain) back_held ≡ Err fault)
+IsRefusedBoth held back_held (refusals.Back fault) =
+    HasRules held × (opened (table_format Plain) back_held ≡ Err fault)
 IsRefusedBoth held back_held (refusals.BackWrong wrong) = HasRules held × HasWrong back_held wrong
 IsRefusedBoth held back_held why = ⊥
 
@@ -39,7 +40,8 @@ StopsReading (Fault fault) = ⊤
 
 -- both were read, or one is refused. Nothing is said where a fault stopped the call
 abbrev pub GivesBoth : (held back_held : Option (List ℕ)) → Result BothRead Stop → Type 0
-GivesBoth held back_held (Ok both) = GivesText held (Ok both.read) × IsBackIn back_held (loaded_back both.back)
+GivesBoth held back_held (Ok both) =
+    GivesText held (Ok both.read) × IsBackIn back_held (loaded_back both.back)
 GivesBoth held back_held (Err (Refused why)) = IsRefusedBoth held back_held why
 GivesBoth held back_held (Err (Fault fault)) = ⊤
 
@@ -53,13 +55,15 @@ abbrev pub reading_steps : (held back_held : Option (List ℕ)) → ℕ
 reading_steps held back_held = if_accepted (rules_held held) (steps_of_back back_held)
 
 abbrev pub reading_bytes : (held back_held : Option (List ℕ)) → ℕ
-reading_bytes held back_held = asked_of held + if_accepted (rules_held held) (bytes_of_back back_held)
+reading_bytes held back_held =
+    asked_of held + if_accepted (rules_held held) (bytes_of_back back_held)
 
 abbrev pub reading_calls : (held back_held : Option (List ℕ)) → ℕ
-reading_calls held back_held = 1 + reads_of held + if_accepted (rules_held held) (calls_of_back back_held)
+reading_calls held back_held =
+    1 + reads_of held + if_accepted (rules_held held) (calls_of_back back_held)
 
--- both are those of the two names in some files, which are those that the store tells where it does, and
--- no more was spent than they cost
+-- both are those of the two names in some files, which are those that the store tells where it
+-- does, and no more was spent than they cost
 pub record AreBothRead (rules back : List ℕ) (result : Result BothRead Stop) (old new : StoreTold)
     (steps_before steps_now : ℕ) : Type 0 where
   pub files : Files

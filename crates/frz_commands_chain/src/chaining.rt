@@ -39,7 +39,8 @@ fn chain_by<S: Store, O: Sink, L: Ledger>(
     requires sound { IsSound both.now.read.rules }
     requires short { length both.now.read.text.items ≤ LONGEST_TEXT }
     ensures { (input : SourceTold)
-        → Ran (chaining_by both.now.read.text.items both.now.read.rules (loaded_back both.now.back) table.now) result
+        → Ran (chaining_by both.now.read.text.items both.now.read.rules (loaded_back both.now.back)
+        table.now) result
         (world (store_of S.Store store.old) input (sink_of O.Sink out.old) steps.old)
         (world (store_of S.Store store.new) input (sink_of O.Sink out.new) steps.new) }
 {
@@ -69,7 +70,8 @@ fn chain_at<S: Store, O: Sink, L: Ledger>(
     out: &mut O,
     steps: &mut Steps<L>,
 ) -> End
-    ensures { (input : SourceTold) → Ran (chaining_at names.now.rules.now names.now.back.now names.now.table.now) result
+    ensures { (input : SourceTold)
+        → Ran (chaining_at names.now.rules.now names.now.back.now names.now.table.now) result
         (world (store_of S.Store store.old) input (sink_of O.Sink out.old) steps.old)
         (world (store_of S.Store store.new) input (sink_of O.Sink out.new) steps.new) }
 {
@@ -99,8 +101,10 @@ fn chain_named<S: Store, O: Sink, L: Ledger>(
         (chaining_at names.now.rules.now names.now.back.now names.now.table.now)) result
         (world (store_of S.Store store.old) input (sink_of O.Sink out.old) steps.old)
         (world (store_of S.Store store.new) input (sink_of O.Sink out.new) steps.new) }
-    ensures unread { (unless (is_named_twice names.now.rules.now names.now.back.now names.now.table.now)
-        (chaining_at names.now.rules.now names.now.back.now names.now.table.now)).needs.store ≡ false
+    ensures unread { (unless
+        (is_named_twice names.now.rules.now names.now.back.now names.now.table.now)
+        (chaining_at names.now.rules.now names.now.back.now names.now.table.now)).needs.store
+        ≡ false
         → store.new ≡ store.old }
 {
     if is_repeated(names) {

@@ -1,4 +1,5 @@
-//! The command `chaincheck TABLE BACK`: whether a table is exact over a back table, and that one too.
+//! The command `chaincheck TABLE BACK`: whether a table is
+//! exact over a back table, and that one too.
 ghost use Rattle.std.specs.Prelude.{◌≡◌, map, false, ℕ};
 ghost use Rattle.std.specs.String.{string_bytes};
 ghost use Rattle.frz_store.specs.Told.{SourceTold, store_of, sink_of};
@@ -31,7 +32,8 @@ fn write_exact_on<O: Sink>(size: u32, back: u32, out: &mut O) -> Result<(), Fail
 /// Tells the verdict on a table over a back table.
 fn tell<O: Sink>(verdict: ChainVerdict, out: &mut O) -> End
     ensures { (size back : ℕ) → CarriesSizes verdict size back →
-        Said (chain_status (judgement verdict)) (chain_verdict_line size back (judgement verdict)) result
+        Said (chain_status (judgement verdict)) (chain_verdict_line size back (judgement verdict))
+        result
         (sink_of O.Sink out.old) (sink_of O.Sink out.new) }
 {
     match verdict {

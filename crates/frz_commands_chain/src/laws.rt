@@ -1,4 +1,5 @@
-//! What holds of the answers of these commands, each law the contract of a function that does nothing.
+//! What holds of the answers of these commands, each law the
+//! contract of a function that does nothing.
 ghost use Rattle.std.specs.Prelude.{◌≡◌, ℕ, List, false};
 ghost use Rattle.frz_answer.specs.Answers.{Answer};
 ghost use Rattle.frz_answer.specs.declared.status.Status.TheVariants.{Success};

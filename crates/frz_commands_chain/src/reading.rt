@@ -34,7 +34,8 @@ pub fn read_both<S: Store, L: Ledger>(
     steps: &mut Steps<L>,
 ) -> Result<BothRead, Stop>
     ensures read { (input : SourceTold) (out : SinkTold)
-        → Sees (reads_of rules.now back.now) (world (store_of S.Store store.old) input out steps.old)
+        → Sees (reads_of rules.now back.now)
+        (world (store_of S.Store store.old) input out steps.old)
         → AreBothRead rules.now back.now result
         (store_of S.Store store.old) (store_of S.Store store.new) steps.old steps.new }
     ensures quiet { StoreQuiet (store_of S.Store store.old) (store_of S.Store store.new) }

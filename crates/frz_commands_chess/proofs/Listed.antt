@@ -21,7 +21,8 @@ use Rattle.frz_commands_chess.specs.Listing.{text_by, steps_by, moves_line, list
 listing_lawful : (notation : Notation) (p : Board) → IsLawful (listing notation p)
 listing_lawful notation p =
     said_job (listing notation p)
-    (λ files input. one_answer (says Success (moves_line (text_by notation p) p) files)) (λ _ _ _ _. tt)
+    (λ files input. one_answer (says Success (moves_line (text_by notation p) p) files))
+    (λ _ _ _ _. tt)
 
 by_notation : (notation : Notation) (words : List (List ℕ))
     → IsLawful (taking (λ fen. on_position (listing notation) (fen_of fen)) (one_word_of words))
@@ -47,11 +48,13 @@ no_steps Coordinates = omega arith
 no_steps Algebraic = omega arith
 
 -- one text more
-pub more_steps : (notation : Notation) (i : ℕ) → steps_by notation i + steps_by notation 1 ≤ steps_by notation (i + 1)
+pub more_steps : (notation : Notation) (i : ℕ)
+    → steps_by notation i + steps_by notation 1 ≤ steps_by notation (i + 1)
 more_steps Coordinates i = omega arith
 more_steps Algebraic i = omega arith
 
 -- fewer texts take no more
-pub fewer_steps : (notation : Notation) (i n : ℕ) → i ≤ n → steps_by notation i ≤ steps_by notation n
+pub fewer_steps : (notation : Notation) (i n : ℕ) → i ≤ n
+    → steps_by notation i ≤ steps_by notation n
 fewer_steps Coordinates i n h = omega arith
 fewer_steps Algebraic i n h = omega arith

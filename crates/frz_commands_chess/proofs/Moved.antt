@@ -23,8 +23,10 @@ use Rattle.frz_prelude.proofs.Lemmas.{fen_lawful}
 use Rattle.frz_commands_chess.specs.Moving.{move_lines, IsMoved, moved, no_move, moving, move_words}
 
 -- two lines, one behind the other
-pub both_lines : (x y text fen : List ℕ) → x ≡ text → y ≡ fen → (x ++ codes "\n") ++ (y ++ codes "\n") ≡ text ++ codes "\n" ++ fen ++ codes "\n"
-both_lines x y text fen e h = ap (λ (l : List ℕ). (l ++ codes "\n") ++ (y ++ codes "\n")) e ∙ ap (λ (l : List ℕ). (text ++ codes "\n") ++ (l ++ codes "\n")) h
+pub both_lines : (x y text fen : List ℕ) → x ≡ text → y ≡ fen
+    → (x ++ codes "\n") ++ (y ++ codes "\n") ≡ text ++ codes "\n" ++ fen ++ codes "\n"
+both_lines x y text fen e h = ap (λ (l : List ℕ). (l ++ codes "\n") ++ (y ++ codes "\n")) e
+    ∙ ap (λ (l : List ℕ). (text ++ codes "\n") ++ (l ++ codes "\n")) h
     ∙ sym (append_assoc (text ++ codes "\n") fen (codes "\n"))
 
 or_cases : (a b : Bool) → (a || b) ≡ true → (a ≡ true) ⊎ (b ≡ true)
@@ -43,8 +45,10 @@ module _ (text : List ℕ) (p : Board) where
 
   passes : (m : Step) → IsSan p m text → has_text m ≡ true
   unfolding has_text
-  passes m (inl e) = or_true (bytes_eq text (san_of p m)) (bytes_eq text (unsigned p m)) (inl ((bytes_eq-Decides text (san_of p m)).1 e))
-  passes m (inr e) = or_true (bytes_eq text (san_of p m)) (bytes_eq text (unsigned p m)) (inr ((bytes_eq-Decides text (unsigned p m)).1 e))
+  passes m (inl e) = or_true (bytes_eq text (san_of p m)) (bytes_eq text (unsigned p m))
+      (inl ((bytes_eq-Decides text (san_of p m)).1 e))
+  passes m (inr e) = or_true (bytes_eq text (san_of p m)) (bytes_eq text (unsigned p m))
+      (inr ((bytes_eq-Decides text (unsigned p m)).1 e))
 
   told : (m : Step) → has_text m ≡ true → IsSan p m text
   unfolding has_text
@@ -55,28 +59,35 @@ module _ (text : List ℕ) (p : Board) where
       ]
 
   module _ (files : Files) where
-    by_test : (b : Bool) → list_any has_text (legal_moves_of p) ≡ b → (a : Answer) × IsMoved text p files a
+    by_test : (b : Bool) → list_any has_text (legal_moves_of p) ≡ b → (a : Answer)
+        × IsMoved text p files a
     by_test true h =
         let found = Any-from_list_any has_text (legal_moves_of p) h in
-        let legal = only_legal p found.1 (found.0, found.2, found.3) in
-        (says Success (move_lines p found.1) files, moved found.1 legal.0 legal.1 (told found.1 found.4) refl)
+        let legal = only_legal p found.1 (found.0, found.2, found.3) in (
+          says Success (move_lines p found.1) files,
+          moved found.1 legal.0 legal.1
+              (told found.1 found.4) refl,
+        )
     by_test false h = (
       says NoMove (codes "no move\n") files,
       no_move (λ m step legal t.
           let place = listed p m step legal in
-          let yes = list_any_at has_text (legal_moves_of p) place.0 m place.1 (ap has_text place.2 ∙ passes m t) in
+          let yes = list_any_at has_text (legal_moves_of p) place.0 m place.1
+          (ap has_text place.2 ∙ passes m t) in
           cc) refl,
     )
 
     same : (a b : Answer) → IsMoved text p files a → IsMoved text p files b → b ≡ a
     same a b (moved m sm lm tm e) (moved n sn ln tn h) =
-        h ∙ ap (λ x. says Success (move_lines p x) files) (one_move p n m text sn sm ln lm tn tm) ∙ sym e
+        h ∙ ap (λ x. says Success (move_lines p x) files) (one_move p n m text sn sm ln lm tn tm)
+        ∙ sym e
     same a b (moved m sm lm tm e) (no_move n h) = absurd (n m sm lm tm)
     same a b (no_move n h) (moved m sm lm tm e) = absurd (n m sm lm tm)
     same a b (no_move n e) (no_move o h) = h ∙ sym e
 
     one : HasOneAnswer (IsMoved text p files)
-    one = let some = by_test (list_any has_text (legal_moves_of p)) refl in (some.0, some.1, λ b h. same some.0 b some.1 h)
+    one = let some = by_test (list_any has_text (legal_moves_of p)) refl in
+        (some.0, some.1, λ b h. same some.0 b some.1 h)
 
 moving_lawful : (text : List ℕ) (p : Board) → IsLawful (moving text p)
 moving_lawful text p = said_job (moving text p) (λ files input. one text p files) (λ _ _ _ _. tt)

@@ -44,12 +44,14 @@ moves_line text p = line_of_moves text (legal_moves_of p) (is_in_check p p.turn)
 abbrev pub listing : Notation → Board → Job
 listing notation p = record (plain (Success ∷ [])
     (λ files input a. a ≡ says Success (moves_line (text_by notation p) p) files)) {
-      costs = λ files input a. WithinCosts (steps_alone (Some (1 + steps_by notation (length (legal_moves_of p)))));
+      costs = λ files input a. WithinCosts
+          (steps_alone (Some (1 + steps_by notation (length (legal_moves_of p)))));
     }
 
 -- moves FEN
 abbrev pub moves_words : List (List ℕ) → Job
-moves_words words = taking (λ fen. on_position (listing Coordinates) (fen_of fen)) (one_word_of words)
+moves_words words =
+    taking (λ fen. on_position (listing Coordinates) (fen_of fen)) (one_word_of words)
 
 -- sans FEN
 abbrev pub sans_words : List (List ℕ) → Job

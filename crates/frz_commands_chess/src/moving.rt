@@ -27,7 +27,8 @@ use std::sync::ledger::Ledger;
 fn write_moved<O: Sink>(p: &Position, m: Move, out: &mut O) -> Result<(), Failed>
     requires valid { IsValid p.now }
     requires legal { is_legal p.now m ≡ true }
-    ensures { WroteText (move_lines p.now m) result (sink_of O.Sink out.old) (sink_of O.Sink out.new) }
+    ensures { WroteText (move_lines p.now m) result (sink_of O.Sink out.old)
+        (sink_of O.Sink out.new) }
 {
     let q = after(&Bitboards::of(p), m).position();
     write_line(move_text(m).as_bytes(), out)?;

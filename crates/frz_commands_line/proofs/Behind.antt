@@ -23,7 +23,8 @@ rest_of job text = record job {
   costs = λ files input a. job.costs files input (behind text 0 a);
 }
 
-is_rest : (job : Job) (text : List ℕ) → subset job.statuses job.statuses ≡ true → IsStage (rest_of job text) job
+is_rest : (job : Job) (text : List ℕ) → subset job.statuses job.statuses ≡ true
+    → IsStage (rest_of job text) job
 is_rest job text all = record {
   statuses = all;
   store = λ h. h;
@@ -36,10 +37,13 @@ is_rest job text all = record {
 }
 
 -- the rest was done behind these lines
-pub behind_lines : (job : Job) (text : List ℕ) (end : End) (old : World) (out : SinkTold) (new : World) → TookText text old.out out → IsLines text
-    → IsTrue job.speaks → subset job.statuses job.statuses ≡ true → Ran (rest_of job text) end (record old { out = out }) new → Ran job end old new
+pub behind_lines : (job : Job) (text : List ℕ) (end : End) (old : World) (out : SinkTold)
+    (new : World) → TookText text old.out out → IsLines text
+    → IsTrue job.speaks → subset job.statuses job.statuses ≡ true
+    → Ran (rest_of job text) end (record old { out = out }) new → Ran job end old new
 behind_lines job text end old out new took lines speaks all ran =
-    follows (rest_of job text) job text [] old (record old { out = out }) new (text_came text old out took) lines speaks (is_rest job text all) end (λ _. refl)
+    follows (rest_of job text) job text [] old (record old { out = out }) new
+    (text_came text old out took) lines speaks (is_rest job text all) end (λ _. refl)
     (λ sees files input agrees. record {
       found = as_given job files input old agrees;
       rest = input;
@@ -50,7 +54,8 @@ behind_lines job text end old out new took lines speaks all ran =
     ran
 
 -- an answer of which these lines are the first
-pub record Beginning (job : Job) (text : List ℕ) (files : Files) (input : List ℕ) (old mid : World) : Type 0 where
+pub record Beginning (job : Job) (text : List ℕ) (files : Files) (input : List ℕ)
+    (old mid : World) : Type 0 where
   pub a : Answer
   pub answer : job.answers files input a
   pub rest : List ℕ
@@ -62,11 +67,18 @@ drop_none None = refl
 drop_none (Some x) = refl
 
 -- the sink failed within the lines
-pub cut_within : (job : Job) (text : List ℕ) (old mid : World) (out : SinkTold) → job.writes ≡ None → Quiet old mid → FailedWithin text old.out out
-    → (Sees job.needs.reads old → (files : Files) (input : List ℕ) → Agrees old files input → Beginning job text files input old mid)
+pub cut_within : (job : Job) (text : List ℕ) (old mid : World) (out : SinkTold) → job.writes ≡ None
+    → Quiet old mid → FailedWithin text old.out out
+    → (Sees job.needs.reads old → (files : Files) (input : List ℕ) → Agrees old files input
+    → Beginning job text files input old mid)
     → Ran job SinkFault old (record mid { out = out })
 cut_within job text old mid out none quiet failed begun = record {
-  later = record { store = quiet.later.store; input = quiet.later.input; out = failed.later; steps = quiet.later.steps };
+  later = record {
+    store = quiet.later.store;
+    input = quiet.later.input;
+    out = failed.later;
+    steps = quiet.later.steps;
+  };
   may = failed.rose;
   lines = tt;
   only = only_quiet job.writes none;
@@ -85,7 +97,8 @@ cut_within job text old mid out none quiet failed begun = record {
         leaves = record {
           written = take k text;
           rest = drop k text ++ here.rest;
-          begins = sym (append_assoc (take k text) (drop k text) here.rest) ∙ ap (λ (l : List ℕ). l ++ here.rest) (take-append-drop k text) ∙ here.begins;
+          begins = sym (append_assoc (take k text) (drop k text) here.rest)
+              ∙ ap (λ (l : List ℕ). l ++ here.rest) (take-append-drop k text) ∙ here.begins;
           text = failed.taken.1;
           others = record {
             files = λ name. inl (ap (λ (o : Option Files). held o name) quiet.store.files);

@@ -32,17 +32,21 @@ lines_behind xs ys one = let more = lines_more xs ys in omega (arith, more, one)
 end_there : (end : LineEnd) → 1 ≤ lines_in (end_line end)
 end_there ends.Mate = line_there (codes "mate")
 end_there ends.Stalemate = line_there (codes "stalemate")
-end_there (ends.Exit v) = lines_behind (codes "exit ") (value_text v ++ codes "\n") (line_there (value_text v))
+end_there (ends.Exit v) =
+    lines_behind (codes "exit ") (value_text v ++ codes "\n") (line_there (value_text v))
 end_there ends.Cut = line_there (codes "cut")
 
 wrong_there : (w : WrongEntry) → 1 ≤ lines_in (wrong_line w)
 wrong_there w =
-    lines_behind (place_text w) (codes_text w) (line_there (codes " kept " ++ decimal w.kept ++ (codes " given " ++ decimal w.given)))
+    lines_behind (place_text w) (codes_text w)
+    (line_there (codes " kept " ++ decimal w.kept ++ (codes " given " ++ decimal w.given)))
 
 -- the end has a line, its own or the one that names it
-closing : (side : Colour) (end : EndOfLine) → 1 ≤ lines_in (last_line (told side end)) + lines_in (naming_line (told side end))
+closing : (side : Colour) (end : EndOfLine) → 1 ≤ lines_in (last_line (told side end)) + lines_in
+    (naming_line (told side end))
 closing side (Wrong number kept given) =
-    let one = wrong_there (record { side = side; number = number; kept = kept; given = given }) in omega (arith, one)
+    let one = wrong_there (record { side = side; number = number; kept = kept; given = given }) in
+    omega (arith, one)
 closing side NoBound = let one = line_there (codes "no bound") in omega (arith, one)
 closing side (Mated mover) = let one = end_there ends.Mate in omega (arith, one)
 closing side (Stalemated mover) = let one = end_there ends.Stalemate in omega (arith, one)
@@ -63,11 +67,14 @@ no_right [] ys e = e
 no_right (x ∷ xs) ys e = cc
 
 -- something is left to say of a line that the store stopped
-pub unfinished_said : (side : Colour) (end : EndOfLine) (rest : List ℕ) → IsUnfinished (told side end) rest → rest ++ naming_line (told side end) ≡ [] → ⊥
+pub unfinished_said : (side : Colour) (end : EndOfLine) (rest : List ℕ)
+    → IsUnfinished (told side end) rest → rest ++ naming_line (told side end) ≡ [] → ⊥
 unfinished_said side (Wrong number kept given) rest left e =
     let w : WrongEntry = record { side = side; number = number; kept = kept; given = given } in
     not_nil (wrong_line w) (wrong_there w) (no_right rest (wrong_line w) e)
-unfinished_said side NoBound rest left e = not_nil (codes "no bound\n") (line_there (codes "no bound")) (no_right rest (codes "no bound\n") e)
+unfinished_said side NoBound rest left e =
+    not_nil (codes "no bound\n") (line_there (codes "no bound"))
+    (no_right rest (codes "no bound\n") e)
 unfinished_said side (Mated mover) rest left e = left (no_left rest [] e)
 unfinished_said side (Stalemated mover) rest left e = left (no_left rest [] e)
 unfinished_said side (Exit v) rest left e = left (no_left rest [] e)
@@ -75,7 +82,8 @@ unfinished_said side Cut rest left e = left (no_left rest [] e)
 unfinished_said side (Stopped reason) rest left e = elim reason [ ]
 
 -- the text of a line says something
-pub told_said : (side : Colour) (code : ℕ) (plies : List LinePly) (end : EndOfLine) → told_text side code plies (told side end) ≡ [] → ⊥
+pub told_said : (side : Colour) (code : ℕ) (plies : List LinePly) (end : EndOfLine)
+    → told_text side code plies (told side end) ≡ [] → ⊥
 told_said side code plies end =
     let answer = told side end in
     let first = start_line side code plies answer in

@@ -38,34 +38,50 @@ use Rattle.frz_commands_line.proofs.Seen.{LineThere}
 
 -- that there is no other line
 abbrev pub LineAlone : Type 0
-LineAlone = (rules : RuleLines) (value : Board → Value) (side : Colour) (codes : List ℕ) (start : ℕ) (plies others : List LinePly) (end last : EndOfLine)
-    → IsLine rules value side codes start plies end → IsLine rules value side codes start others last → (plies ≡ others) × (end ≡ last)
+LineAlone = (rules : RuleLines) (value : Board → Value) (side : Colour) (codes : List ℕ) (start : ℕ)
+    (plies others : List LinePly) (end last : EndOfLine)
+    → IsLine rules value side codes start plies end
+    → IsLine rules value side codes start others last → (plies ≡ others) × (end ≡ last)
 
-one_by_test : LineAlone → (contents : Contents) (bytes : List ℕ) (side : Colour) (p : Board) (files : Files) (a b : Answer) (inside : Bool)
-    → MatchBool inside (IsLined contents bytes side p files a) (a ≡ says (status_of refusals.Outside) (refusal_line refusals.Outside) files)
-    → MatchBool inside (IsLined contents bytes side p files b) (b ≡ says (status_of refusals.Outside) (refusal_line refusals.Outside) files) → b ≡ a
+one_by_test : LineAlone → (contents : Contents) (bytes : List ℕ) (side : Colour) (p : Board)
+    (files : Files) (a b : Answer) (inside : Bool)
+    → MatchBool inside (IsLined contents bytes side p files a)
+    (a ≡ says (status_of refusals.Outside) (refusal_line refusals.Outside) files)
+    → MatchBool inside (IsLined contents bytes side p files b)
+    (b ≡ says (status_of refusals.Outside) (refusal_line refusals.Outside) files) → b ≡ a
 one_by_test alone contents bytes side p files a b true h k =
     let code = code_at contents bytes side p in
-    let same = alone contents.rules (value_by contents.rules) side (kept_codes contents bytes side) (Num contents.rules.groups p) k.plies h.plies k.end h.end k.line h.line in
+    let same = alone contents.rules (value_by contents.rules) side (kept_codes contents bytes side)
+    (Num contents.rules.groups p) k.plies h.plies k.end h.end k.line h.line in
     k.told ∙ ap (λ (l : List LinePly). line_answer side code l (ends.told side k.end) files) same.0
-    ∙ ap (λ (e : EndOfLine). line_answer side code h.plies (ends.told side e) files) same.1 ∙ sym h.told
+    ∙ ap (λ (e : EndOfLine). line_answer side code h.plies (ends.told side e) files) same.1
+    ∙ sym h.told
 one_by_test alone contents bytes side p files a b false h k = k ∙ sym h
 
-one_by : LineAlone → (x : Result Contents TableFault) (bytes : List ℕ) (side : Colour) (p : Board) (files : Files) (a b : Answer)
+one_by : LineAlone → (x : Result Contents TableFault) (bytes : List ℕ) (side : Colour) (p : Board)
+    (files : Files) (a b : Answer)
     → IsLinedBy x bytes side p files a → IsLinedBy x bytes side p files b → b ≡ a
-one_by alone (Ok contents) bytes side p files a b h k = one_by_test alone contents bytes side p files a b (is_member contents.rules.groups p) h k
+one_by alone (Ok contents) bytes side p files a b h k =
+    one_by_test alone contents bytes side p files a b (is_member contents.rules.groups p) h k
 one_by alone (Err fault) bytes side p files a b h k = k ∙ sym h
 
-pub side_lawful : (job : Colour → Job) (o : Option Colour) → ((side : Colour) → IsLawful (job side)) → IsLawful (on_side job o)
+pub side_lawful : (job : Colour → Job) (o : Option Colour) → ((side : Colour) → IsLawful (job side))
+    → IsLawful (on_side job o)
 side_lawful job None law =
-    said_job (on_side job None) (λ files input. one_answer (says Words side_line files)) (λ _ _ _ _. tt)
+    said_job (on_side job None) (λ files input. one_answer (says Words side_line files))
+    (λ _ _ _ _. tt)
 side_lawful job (Some side) law = law side
 
 module _ (there : LineThere) (alone : LineAlone) (laws : LineLaws) where
-  one_at : (table : List ℕ) (side : Colour) (p : Board) (files : Files) → HasOneAnswer (λ a. IsLinedAt table side p files a)
+  one_at : (table : List ℕ) (side : Colour) (p : Board) (files : Files)
+      → HasOneAnswer (λ a. IsLinedAt table side p files a)
   one_at table side p files =
-      let some = some_at there table side p files in
-      (some.a, some.answer, λ b k. one_by alone (opened (table_format Plain) (files table)) (bytes_at files table) side p files some.a b some.answer k)
+      let some = some_at there table side p files in (
+        some.a,
+        some.answer,
+        λ b k. one_by alone (opened (table_format Plain) (files table))
+            (bytes_at files table) side p files some.a b some.answer k,
+      )
 
   lining_lawful : (table : List ℕ) (side : Colour) (p : Board) → IsLawful (lining_at table side p)
   lining_lawful table side p = record {
@@ -75,10 +91,16 @@ module _ (there : LineThere) (alone : LineAlone) (laws : LineLaws) where
 
   pub line_lawful : (words : List (List ℕ)) → IsLawful (line_words words)
   line_lawful words =
-      taking_lawful (λ (names : List ℕ × List ℕ × List ℕ). on_side (λ side. on_position (lining_at names.0 side) (fen_of names.1)) (side_of names.2)) (three_words_of words)
-      (λ names. side_lawful (λ side. on_position (lining_at names.0 side) (fen_of names.1)) (side_of names.2)
-      (λ side. fen_lawful (lining_at names.0 side) (fen_of names.1) (λ p read. lining_lawful names.0 side p)))
+      taking_lawful (λ (names : List ℕ × List ℕ × List ℕ). on_side
+      (λ side. on_position (lining_at names.0 side) (fen_of names.1)) (side_of names.2))
+      (three_words_of words)
+      (λ names. side_lawful (λ side. on_position (lining_at names.0 side) (fen_of names.1))
+      (side_of names.2)
+      (λ side. fen_lawful (lining_at names.0 side) (fen_of names.1)
+      (λ p read. lining_lawful names.0 side p)))
 
 -- what was done for some side was done for an equal one
-pub as_side : (end : End) (old new : World) (job : Colour → Job) (these word : Option Colour) → these ≡ word → Ran (on_side job these) end old new → Ran (on_side job word) end old new
-as_side end old new job these word e ran = subst (λ (o : Option Colour). Ran (on_side job o) end old new) e ran
+pub as_side : (end : End) (old new : World) (job : Colour → Job) (these word : Option Colour)
+    → these ≡ word → Ran (on_side job these) end old new → Ran (on_side job word) end old new
+as_side end old new job these word e ran =
+    subst (λ (o : Option Colour). Ran (on_side job o) end old new) e ran

@@ -48,54 +48,85 @@ use Rattle.frz_commands_line.specs.LineMeaning.{KeepsWin, KeepsHold, KeepsBound,
 
 -- what the laws say of all lines
 pub record LineLaws : Type 0 where
-  pub won : (rules : RuleLines) (value : Board → Value) (side : Colour) (codes : List ℕ) (start n : ℕ) (plies : List LinePly) (end : EndOfLine)
-      → slice_index codes start ≡ 2 + 2 * n → IsLine rules value side codes start plies end → EndsWon (graph_by rules value) side end
-  pub mate : (rules : RuleLines) (value : Board → Value) (side mover : Colour) (codes : List ℕ) (start n : ℕ) (plies : List LinePly)
-      → slice_index codes start ≡ 2 + 2 * n → IsLine rules value side codes start plies (Mated mover) → length plies ≡ n
-  pub exit : (rules : RuleLines) (value : Board → Value) (side : Colour) (codes : List ℕ) (start n : ℕ) (plies : List LinePly) (v : Value)
-      → slice_index codes start ≡ 2 + 2 * n → IsLine rules value side codes start plies (Exit v) → length plies + lag_of v ≡ n
-  pub drawn : (rules : RuleLines) (value : Board → Value) (side : Colour) (codes : List ℕ) (start : ℕ) (plies : List LinePly) (end : EndOfLine)
-      → slice_index codes start ≡ 1 → IsLine rules value side codes start plies end → EndsDrawn (graph_by rules value) side end
-  pub few : (rules : RuleLines) (value : Board → Value) (side : Colour) (codes : List ℕ) (start : ℕ) (plies : List LinePly) (end : EndOfLine)
-      → slice_index codes start ≡ 1 → IsLine rules value side codes start plies end → length plies ≤ MOST_PLIES
-  pub cut : (rules : RuleLines) (value : Board → Value) (side : Colour) (codes : List ℕ) (start : ℕ) (plies : List LinePly)
-      → slice_index codes start ≡ 1 → IsLine rules value side codes start plies Cut → length plies ≡ MOST_PLIES
-  pub right : (rules : RuleLines) (value : Board → Value) (side : Colour) (codes : List ℕ) → IsTableOf rules value side codes
+  pub won : (rules : RuleLines) (value : Board → Value) (side : Colour) (codes : List ℕ)
+      (start n : ℕ) (plies : List LinePly) (end : EndOfLine)
+      → slice_index codes start ≡ 2 + 2 * n → IsLine rules value side codes start plies end
+      → EndsWon (graph_by rules value) side end
+  pub mate : (rules : RuleLines) (value : Board → Value) (side mover : Colour) (codes : List ℕ)
+      (start n : ℕ) (plies : List LinePly)
+      → slice_index codes start ≡ 2 + 2 * n
+      → IsLine rules value side codes start plies (Mated mover) → length plies ≡ n
+  pub exit : (rules : RuleLines) (value : Board → Value) (side : Colour) (codes : List ℕ)
+      (start n : ℕ) (plies : List LinePly) (v : Value)
+      → slice_index codes start ≡ 2 + 2 * n → IsLine rules value side codes start plies (Exit v)
+      → length plies + lag_of v ≡ n
+  pub drawn : (rules : RuleLines) (value : Board → Value) (side : Colour) (codes : List ℕ)
+      (start : ℕ) (plies : List LinePly) (end : EndOfLine)
+      → slice_index codes start ≡ 1 → IsLine rules value side codes start plies end
+      → EndsDrawn (graph_by rules value) side end
+  pub few : (rules : RuleLines) (value : Board → Value) (side : Colour) (codes : List ℕ) (start : ℕ)
+      (plies : List LinePly) (end : EndOfLine)
+      → slice_index codes start ≡ 1 → IsLine rules value side codes start plies end
+      → length plies ≤ MOST_PLIES
+  pub cut : (rules : RuleLines) (value : Board → Value) (side : Colour) (codes : List ℕ) (start : ℕ)
+      (plies : List LinePly)
+      → slice_index codes start ≡ 1 → IsLine rules value side codes start plies Cut
+      → length plies ≡ MOST_PLIES
+  pub right : (rules : RuleLines) (value : Board → Value) (side : Colour) (codes : List ℕ)
+      → IsTableOf rules value side codes
       → (p : Board) → Member rules.groups p → (plies : List LinePly) (number kept given : ℕ)
       → IsLine rules value side codes (Num rules.groups p) plies (Wrong number kept given) → ⊥
 
 -- the codes of the one file of a text are the table of the side
-module _ (contents : Contents) (bytes : List ℕ) (opens : opened (table_format Plain) (Some bytes) ≡ Ok contents)
-    (one : IsOneFile (magic_of Plain) contents.text contents.rules (value_by contents.rules) bytes) (side : Colour) where
+module _ (contents : Contents) (bytes : List ℕ)
+    (opens : opened (table_format Plain) (Some bytes) ≡ Ok contents)
+    (one : IsOneFile (magic_of Plain) contents.text contents.rules (value_by contents.rules) bytes)
+    (side : Colour) where
   accepted : rules_of contents.text ≡ Ok contents.rules
   accepted = (belongs (table_format Plain) bytes contents opens).read
 
   small_lags : HasSmallLags (value_by contents.rules)
-  small_lags q valid = small_values contents.rules (answer_sound contents.text (Ok contents.rules) accepted) q
+  small_lags q valid =
+      small_values contents.rules (answer_sound contents.text (Ok contents.rules) accepted) q
 
-  pub table_kept : IsTableOf contents.rules (value_by contents.rules) side (kept_codes contents bytes side)
-  table_kept = one_file_holds Plain (value_by contents.rules) contents bytes (plies_few contents.rules (value_by contents.rules) small_lags) accepted one side
+  pub table_kept : IsTableOf contents.rules (value_by contents.rules) side
+      (kept_codes contents bytes side)
+  table_kept = one_file_holds Plain (value_by contents.rules) contents bytes
+      (plies_few contents.rules (value_by contents.rules) small_lags) accepted one side
 
-  pub bound_kept : (p : Board) → Member contents.rules.groups p → KeepsBound contents.rules side p (code_at contents bytes side p)
+  pub bound_kept : (p : Board) → Member contents.rules.groups p
+      → KeepsBound contents.rules side p (code_at contents bytes side p)
   bound_kept p inside =
-      let b = stored_bound contents.rules (value_by contents.rules) side (kept_codes contents bytes side) table_kept p inside in
-      record { bound = b.0; is = b.1; of = b.2; means = bound_means contents.rules (value_by contents.rules) side p b.0 inside b.2 }
+      let b = stored_bound contents.rules (value_by contents.rules) side
+      (kept_codes contents bytes side) table_kept p inside in
+      record {
+        bound = b.0;
+        is = b.1;
+        of = b.2;
+        means = bound_means contents.rules
+            (value_by contents.rules) side p b.0 inside b.2;
+      }
 
 module _ (laws : LineLaws) (name : List ℕ) (side : Colour) (p : Board) (files : Files) where
   -- a line from a win or a hold
-  keeps_win : (has : HasLine name side p files) (n : ℕ) → start_code has ≡ 2 + 2 * n → KeepsWin has.contents.rules side n has.plies has.end
+  keeps_win : (has : HasLine name side p files) (n : ℕ) → start_code has ≡ 2 + 2 * n
+      → KeepsWin has.contents.rules side n has.plies has.end
   keeps_win has n e =
       let rules = has.contents.rules in
       let codes = kept_codes has.contents has.bytes side in
       let start = Num rules.groups p in
-      let line : EndOfLine → Type 0 = λ x. IsLine rules (value_by rules) side codes start has.plies x in
+      let line : EndOfLine → Type 0 = λ x. IsLine rules (value_by rules) side codes start has.plies
+      x in
       record {
         ends = laws.won rules (value_by rules) side codes start n has.plies has.end e has.line;
-        mate = λ mover is. laws.mate rules (value_by rules) side mover codes start n has.plies e (subst line is has.line);
-        exit = λ v is. laws.exit rules (value_by rules) side codes start n has.plies v e (subst line is has.line);
+        mate = λ mover is. laws.mate rules (value_by rules) side mover codes start n has.plies e
+            (subst line is has.line);
+        exit = λ v is. laws.exit rules (value_by rules) side codes start n has.plies v e
+            (subst line is has.line);
       }
 
-  keeps_hold : (has : HasLine name side p files) → start_code has ≡ 1 → KeepsHold has.contents.rules side has.plies has.end
+  keeps_hold : (has : HasLine name side p files) → start_code has ≡ 1
+      → KeepsHold has.contents.rules side has.plies has.end
   keeps_hold has e =
       let rules = has.contents.rules in
       let codes = kept_codes has.contents has.bytes side in
@@ -103,15 +134,20 @@ module _ (laws : LineLaws) (name : List ℕ) (side : Colour) (p : Board) (files 
       record {
         ends = laws.drawn rules (value_by rules) side codes start has.plies has.end e has.line;
         few = laws.few rules (value_by rules) side codes start has.plies has.end e has.line;
-        cut = λ is. laws.cut rules (value_by rules) side codes start has.plies e (subst (λ (x : EndOfLine). IsLine rules (value_by rules) side codes start has.plies x) is has.line);
+        cut = λ is. laws.cut rules (value_by rules) side codes start has.plies e
+            (subst (λ (x : EndOfLine). IsLine rules (value_by rules) side codes start has.plies x)
+            is has.line);
       }
 
   -- by how the line ends
   abbrev Says : HasLine name side p files → EndOfLine → Type 0
-  Says has end = MeansStatus name side p files (end_status (told side end)) (told_text side (start_code has) has.plies (told side end))
+  Says has end = MeansStatus name side p files (end_status (told side end))
+      (told_text side (start_code has) has.plies (told side end))
 
-  own_end : (has : HasLine name side p files) (end : EndOfLine) → has.end ≡ end → (last : LineEnd) → told side end ≡ Ok last
-      → MeansStatus name side p files statuses.Success (told_text side (start_code has) has.plies (told side end))
+  own_end : (has : HasLine name side p files) (end : EndOfLine) → has.end ≡ end → (last : LineEnd)
+      → told side end ≡ Ok last
+      → MeansStatus name side p files statuses.Success
+      (told_text side (start_code has) has.plies (told side end))
   own_end has end is last ends = record {
     has = has;
     told = ap (λ (x : EndOfLine). told_text side (start_code has) has.plies (told side x)) (sym is);
@@ -119,7 +155,8 @@ module _ (laws : LineLaws) (name : List ℕ) (side : Colour) (p : Board) (files 
     ends = ap (told side) is ∙ ends;
     win = λ n e. keeps_win has n e;
     hold = λ e. keeps_hold has e;
-    where_exact = λ one. bound_kept has.contents has.bytes has.open_file.opens one side p has.inside;
+    where_exact =
+        λ one. bound_kept has.contents has.bytes has.open_file.opens one side p has.inside;
   }
 
   says_end : (has : HasLine name side p files) (end : EndOfLine) → has.end ≡ end → Says has end
@@ -133,10 +170,19 @@ module _ (laws : LineLaws) (name : List ℕ) (side : Colour) (p : Board) (files 
     not_exact = λ one.
         let rules = has.contents.rules in
         let codes = kept_codes has.contents has.bytes side in
-        laws.right rules (value_by rules) side codes (table_kept has.contents has.bytes has.open_file.opens one side) p has.inside has.plies number kept given
-        (subst (λ (x : EndOfLine). IsLine rules (value_by rules) side codes (Num rules.groups p) has.plies x) is has.line);
+        laws.right rules (value_by rules) side codes
+        (table_kept has.contents has.bytes has.open_file.opens one side) p has.inside has.plies
+        number kept given
+        (subst (λ (x : EndOfLine). IsLine rules (value_by rules) side codes (Num rules.groups p)
+        has.plies x) is has.line);
   }
-  says_end has NoBound is = inr (record { has = has; told = ap (λ (x : EndOfLine). told_text side (start_code has) has.plies (told side x)) (sym is); ends = is })
+  says_end has NoBound is =
+      inr (record {
+        has = has;
+        told = ap (λ (x : EndOfLine). told_text side (start_code has) has.plies (told side x))
+            (sym is);
+        ends = is;
+      })
   says_end has (Mated mover) is = own_end has (Mated mover) is ends.Mate refl
   says_end has (Stalemated mover) is = own_end has (Stalemated mover) is ends.Stalemate refl
   says_end has (Exit v) is = own_end has (Exit v) is (ends.Exit v) refl
@@ -144,26 +190,38 @@ module _ (laws : LineLaws) (name : List ℕ) (side : Colour) (p : Board) (files 
   says_end has (Stopped reason) is = elim reason [ ]
 
   -- an answer that is said in full, with what its status says
-  means_so : (a : Answer) (status : Status) (text : List ℕ) → a ≡ says status text files → MeansStatus name side p files status text → MeansLine name side p files a
+  means_so : (a : Answer) (status : Status) (text : List ℕ) → a ≡ says status text files
+      → MeansStatus name side p files status text → MeansLine name side p files a
   means_so a status text e means =
-      subst (λ (x : Answer). MeansLine name side p files x) (sym e) (record { same = refl; untaken = refl; says = means })
+      subst (λ (x : Answer). MeansLine name side p files x) (sym e)
+      (record { same = refl; untaken = refl; says = means })
 
-  fault_told : (bytes : List ℕ) → files name ≡ Some bytes → (fault : TableFault) → opened (table_format Plain) (Some bytes) ≡ Err fault → TellsTableFault name files (table_line fault)
-  fault_told bytes there fault e = record { bytes = bytes; there = there; fault = fault; refused = e; told = refl }
+  fault_told : (bytes : List ℕ) → files name ≡ Some bytes → (fault : TableFault)
+      → opened (table_format Plain) (Some bytes) ≡ Err fault
+      → TellsTableFault name files (table_line fault)
+  fault_told bytes there fault e =
+      record { bytes = bytes; there = there; fault = fault; refused = e; told = refl }
 
-  refused_says : (bytes : List ℕ) → files name ≡ Some bytes → (fault : TableFault) → opened (table_format Plain) (Some bytes) ≡ Err fault → IsOfBytes fault
-      → MeansStatus name side p files (status_of (refusals.Table fault)) (refusal_line (refusals.Table fault))
+  refused_says : (bytes : List ℕ) → files name ≡ Some bytes → (fault : TableFault)
+      → opened (table_format Plain) (Some bytes) ≡ Err fault → IsOfBytes fault
+      → MeansStatus name side p files (status_of (refusals.Table fault))
+      (refusal_line (refusals.Table fault))
   refused_says bytes there table.Missing e of = absurd of
   refused_says bytes there table.Magic e of = fault_told bytes there table.Magic e
-  refused_says bytes there (table.Truncated length due) e of = fault_told bytes there (table.Truncated length due) e
-  refused_says bytes there (table.Extra length due) e of = fault_told bytes there (table.Extra length due) e
+  refused_says bytes there (table.Truncated length due) e of =
+      fault_told bytes there (table.Truncated length due) e
+  refused_says bytes there (table.Extra length due) e of =
+      fault_told bytes there (table.Extra length due) e
   refused_says bytes there (table.Rules fault) e of = fault_told bytes there (table.Rules fault) e
-  refused_says bytes there (table.Size kept due) e of = fault_told bytes there (table.Size kept due) e
+  refused_says bytes there (table.Size kept due) e of =
+      fault_told bytes there (table.Size kept due) e
   refused_says bytes there table.Failed e of = absurd of
   refused_says bytes there table.NoMemory e of = absurd of
 
-  module _ (bytes : List ℕ) (there : files name ≡ Some bytes) (contents : Contents) (opens : opened (table_format Plain) (Some bytes) ≡ Ok contents) (a : Answer) where
-    lined_means : Member contents.rules.groups p → IsLined contents bytes side p files a → MeansLine name side p files a
+  module _ (bytes : List ℕ) (there : files name ≡ Some bytes) (contents : Contents)
+      (opens : opened (table_format Plain) (Some bytes) ≡ Ok contents) (a : Answer) where
+    lined_means : Member contents.rules.groups p → IsLined contents bytes side p files a
+        → MeansLine name side p files a
     lined_means inside lined =
         let has : HasLine name side p files = record {
           bytes = bytes;
@@ -174,29 +232,50 @@ module _ (laws : LineLaws) (name : List ℕ) (side : Colour) (p : Board) (files 
           end = lined.end;
           line = lined.line;
         } in
-        means_so a (end_status (told side lined.end)) (told_text side (start_code has) lined.plies (told side lined.end)) lined.told (says_end has lined.end refl)
+        means_so a (end_status (told side lined.end))
+        (told_text side (start_code has) lined.plies (told side lined.end)) lined.told
+        (says_end has lined.end refl)
 
-    outside_means : (Member contents.rules.groups p → ⊥) → a ≡ says (status_of refusals.Outside) (refusal_line refusals.Outside) files → MeansLine name side p files a
+    outside_means : (Member contents.rules.groups p → ⊥)
+        → a ≡ says (status_of refusals.Outside) (refusal_line refusals.Outside) files
+        → MeansLine name side p files a
     outside_means none e =
         means_so a statuses.Outside (refusal_line refusals.Outside) e
-        (inl (record { bytes = bytes; contents = contents; open_file = record { there = there; opens = opens }; outside = none; told = refl }))
+        (inl (record {
+          bytes = bytes;
+          contents = contents;
+          open_file = record { there = there; opens = opens };
+          outside = none;
+          told = refl;
+        }))
 
     by_test : (b : Bool) → is_member contents.rules.groups p ≡ b
-        → MatchBool b (IsLined contents bytes side p files a) (a ≡ says (status_of refusals.Outside) (refusal_line refusals.Outside) files) → MeansLine name side p files a
+        → MatchBool b (IsLined contents bytes side p files a)
+        (a ≡ says (status_of refusals.Outside) (refusal_line refusals.Outside) files)
+        → MeansLine name side p files a
     by_test true e h = lined_means (member_of contents.rules.groups p e) h
-    by_test false e h = outside_means (λ inside. let no : false ≡ true = sym e ∙ of_member contents.rules.groups p inside in cc) h
+    by_test false e h = outside_means
+        (λ inside. let no : false ≡ true = sym e ∙ of_member contents.rules.groups p inside in cc) h
 
-  by_opening : (bytes : List ℕ) → files name ≡ Some bytes → (x : Result Contents TableFault) → opened (table_format Plain) (Some bytes) ≡ x
+  by_opening : (bytes : List ℕ) → files name ≡ Some bytes → (x : Result Contents TableFault)
+      → opened (table_format Plain) (Some bytes) ≡ x
       → (a : Answer) → IsLinedBy x bytes side p files a → MeansLine name side p files a
-  by_opening bytes there (Ok contents) opens a h = by_test bytes there contents opens a (is_member contents.rules.groups p) refl h
+  by_opening bytes there (Ok contents) opens a h =
+      by_test bytes there contents opens a (is_member contents.rules.groups p) refl h
   by_opening bytes there (Err fault) e a h =
-      means_so a (status_of (refusals.Table fault)) (refusal_line (refusals.Table fault)) h (refused_says bytes there fault e (of_bytes (table_format Plain) bytes fault e))
+      means_so a (status_of (refusals.Table fault)) (refusal_line (refusals.Table fault)) h
+      (refused_says bytes there fault e (of_bytes (table_format Plain) bytes fault e))
 
-  by_file : (held : Option (List ℕ)) → files name ≡ held → (a : Answer) → IsLinedBy (opened (table_format Plain) held) (unwrap_or held []) side p files a → MeansLine name side p files a
+  by_file : (held : Option (List ℕ)) → files name ≡ held → (a : Answer)
+      → IsLinedBy (opened (table_format Plain) held) (unwrap_or held []) side p files a
+      → MeansLine name side p files a
   by_file None e a h =
       means_so a statuses.Missing (table_line table.Missing)
-      (subst (λ (x : Result Contents TableFault). IsLinedBy x [] side p files a) (opened_missing (table_format Plain)) h) e
-  by_file (Some bytes) e a h = by_opening bytes e (opened (table_format Plain) (Some bytes)) refl a h
+      (subst (λ (x : Result Contents TableFault). IsLinedBy x [] side p files a)
+      (opened_missing (table_format Plain)) h) e
+  by_file (Some bytes) e a h =
+      by_opening bytes e (opened (table_format Plain) (Some bytes)) refl a h
 
-pub line_means : LineLaws → (name : List ℕ) (side : Colour) (p : Board) (files : Files) (a : Answer) → IsLinedAt name side p files a → MeansLine name side p files a
+pub line_means : LineLaws → (name : List ℕ) (side : Colour) (p : Board) (files : Files) (a : Answer)
+    → IsLinedAt name side p files a → MeansLine name side p files a
 line_means laws name side p files a h = by_file laws name side p files (files name) refl a h

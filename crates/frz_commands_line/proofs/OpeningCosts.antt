@@ -26,12 +26,15 @@ module _ (contents : Contents) (p : Board) (comes : List ℕ → Type 0) where
   -- by whether the position is in the set
   abbrev CostsWhere : Bool → (calls asked : ℕ) → Spent → Spent → Type 0
   CostsWhere b calls asked before now = MatchBool b
-      ((numbers : List ℕ) → comes numbers → WithinCosts (playing_costs contents numbers calls asked) before now)
+      ((numbers : List ℕ) → comes numbers
+      → WithinCosts (playing_costs contents numbers calls asked) before now)
       (WithinCosts (opening_costs calls asked) before now)
 
   -- what the way spends, where the position is in the set
   pub costs_inside : (before now : Spent) → Member contents.rules.groups p
-      → ((numbers : List ℕ) → comes numbers → SpendsAt (graph_by contents.rules (value_by contents.rules)) 1 numbers before now) → CostsIn contents p comes 0 0 before now
+      → ((numbers : List ℕ) → comes numbers
+      → SpendsAt (graph_by contents.rules (value_by contents.rules)) 1 numbers before now)
+      → CostsIn contents p comes 0 0 before now
   costs_inside before now inside spends =
       subst (λ b. CostsWhere b 0 0 before now) (sym (of_member contents.rules.groups p inside))
       (λ numbers it.
@@ -41,63 +44,106 @@ module _ (contents : Contents) (p : Board) (comes : List ℕ → Type 0) where
       record { steps = steps; calls = omega (arith, calls); asked = omega (arith, asked) })
 
   -- nothing, where it is not
-  pub costs_outside : (before now : Spent) → (Member contents.rules.groups p → ⊥) → WithinCosts (opening_costs 0 0) before now → CostsIn contents p comes 0 0 before now
+  pub costs_outside : (before now : Spent) → (Member contents.rules.groups p → ⊥)
+      → WithinCosts (opening_costs 0 0) before now → CostsIn contents p comes 0 0 before now
   costs_outside before now none costs =
       subst (λ b. CostsWhere b 0 0 before now) (sym (not_member contents.rules.groups p none)) costs
 
-  module _ (calls asked : ℕ) (old mid : Spent) (steps : mid.steps ≡ old.steps) (few : mid.calls ≤ old.calls + calls) (bytes : mid.asked ≤ old.asked + asked) where
+  module _ (calls asked : ℕ) (old mid : Spent) (steps : mid.steps ≡ old.steps)
+      (few : mid.calls ≤ old.calls + calls) (bytes : mid.asked ≤ old.asked + asked) where
     -- behind what opening spends
-    behind_by : (new : Spent) (b : Bool) → CostsWhere b 0 0 mid new → CostsWhere b calls asked old new
+    behind_by : (new : Spent) (b : Bool) → CostsWhere b 0 0 mid new
+        → CostsWhere b calls asked old new
     behind_by new true costs = λ numbers it.
         let s = (costs numbers it).steps in
         let c = (costs numbers it).calls in
         let a = (costs numbers it).asked in
-        record { steps = omega (arith, steps, s); calls = omega (arith, few, c); asked = omega (arith, bytes, a) }
+        record {
+          steps = omega (arith, steps, s);
+          calls = omega (arith, few, c);
+          asked = omega (arith, bytes, a);
+        }
     behind_by new false costs =
         let s = costs.steps in
         let c = costs.calls in
         let a = costs.asked in
-        record { steps = omega (arith, steps, s); calls = omega (arith, few, c); asked = omega (arith, bytes, a) }
+        record {
+          steps = omega (arith, steps, s);
+          calls = omega (arith, few, c);
+          asked = omega (arith, bytes, a);
+        }
 
-    pub behind_opening : (new : Spent) → CostsIn contents p comes 0 0 mid new → CostsIn contents p comes calls asked old new
+    pub behind_opening : (new : Spent) → CostsIn contents p comes 0 0 mid new
+        → CostsIn contents p comes calls asked old new
     behind_opening new costs = behind_by new (is_member contents.rules.groups p) costs
 
     -- opening alone
     alone_by : (b : Bool) → CostsWhere b calls asked old mid
-    alone_by true = λ numbers it. record { steps = omega (arith, steps); calls = omega (arith, few); asked = omega (arith, bytes) }
-    alone_by false = record { steps = omega (arith, steps); calls = omega (arith, few); asked = omega (arith, bytes) }
+    alone_by true = λ numbers it.
+        record {
+          steps = omega (arith, steps);
+          calls = omega (arith, few);
+          asked = omega (arith, bytes);
+        }
+    alone_by false = record {
+      steps = omega (arith, steps);
+      calls = omega (arith, few);
+      asked = omega (arith, bytes);
+    }
 
     pub opening_alone : CostsIn contents p comes calls asked old mid
     opening_alone = alone_by (is_member contents.rules.groups p)
 
 -- opening alone is within the costs
-pub opening_within : (x : Result Contents TableFault) (p : Board) (comes : Contents → List ℕ → Type 0) (calls asked : ℕ) (old new : Spent) → new.steps ≡ old.steps → new.calls ≤ old.calls + calls
+pub opening_within : (x : Result Contents TableFault) (p : Board)
+    (comes : Contents → List ℕ → Type 0) (calls asked : ℕ) (old new : Spent) → new.steps ≡ old.steps
+    → new.calls ≤ old.calls + calls
     → new.asked ≤ old.asked + asked → CostsBy x p comes calls asked old new
-opening_within (Ok contents) p comes calls asked old new steps few bytes = opening_alone contents p (comes contents) calls asked old new steps few bytes
-opening_within (Err fault) p comes calls asked old new steps few bytes = record { steps = omega (arith, steps); calls = omega (arith, few); asked = omega (arith, bytes) }
+opening_within (Ok contents) p comes calls asked old new steps few bytes =
+    opening_alone contents p (comes contents) calls asked old new steps few bytes
+opening_within (Err fault) p comes calls asked old new steps few bytes =
+    record {
+      steps = omega (arith, steps);
+      calls = omega (arith, few);
+      asked = omega (arith, bytes);
+    }
 
 -- five calls open what opens
-pub opened_by_five : (held : Option (List ℕ)) (contents : Contents) → opened (table_format Plain) held ≡ Ok contents → opening_calls (table_format Plain) held ≡ 5
-opened_by_five None contents e = (let no : Err Missing ≡ Ok contents = sym (opened_missing (table_format Plain)) ∙ e in cc)
+pub opened_by_five : (held : Option (List ℕ)) (contents : Contents)
+    → opened (table_format Plain) held ≡ Ok contents → opening_calls (table_format Plain) held ≡ 5
+opened_by_five None contents e =
+    (let no : Err Missing ≡ Ok contents = sym (opened_missing (table_format Plain)) ∙ e in cc)
 opened_by_five (Some bytes) contents e = opened_calls (table_format Plain) bytes contents e
 
 -- opening and playing are within the costs
-pub playing_within : (held : Option (List ℕ)) (contents : Contents) (p : Board) (comes : Contents → List ℕ → Type 0) (old mid new : Spent) → opened (table_format Plain) held ≡ Ok contents
-    → mid.steps ≡ old.steps → mid.calls ≤ old.calls + 5 → mid.asked ≤ old.asked + (16 + length (held_text held)) → CostsIn contents p (comes contents) 0 0 mid new
+pub playing_within : (held : Option (List ℕ)) (contents : Contents) (p : Board)
+    (comes : Contents → List ℕ → Type 0) (old mid new : Spent)
+    → opened (table_format Plain) held ≡ Ok contents
+    → mid.steps ≡ old.steps → mid.calls ≤ old.calls + 5
+    → mid.asked ≤ old.asked + (16 + length (held_text held))
+    → CostsIn contents p (comes contents) 0 0 mid new
     → CostsAt held p comes old new
 playing_within held contents p comes old mid new e steps few bytes costs =
     let five = opened_by_five held contents e in
-    let calls : mid.calls ≤ old.calls + opening_calls (table_format Plain) held = omega (arith, five, few) in
-    subst (λ (x : Result Contents TableFault). CostsBy x p comes (opening_calls (table_format Plain) held) (16 + length (held_text held)) old new) (sym e)
-    (behind_opening contents p (comes contents) (opening_calls (table_format Plain) held) (16 + length (held_text held)) old mid steps calls bytes new costs)
+    let calls : mid.calls ≤ old.calls + opening_calls (table_format Plain) held = omega
+    (arith, five, few) in
+    subst (λ (x : Result Contents TableFault). CostsBy x p comes
+    (opening_calls (table_format Plain) held) (16 + length (held_text held)) old new) (sym e)
+    (behind_opening contents p (comes contents) (opening_calls (table_format Plain) held)
+    (16 + length (held_text held)) old mid steps calls bytes new costs)
 
-tells : (told : Option Files) (name : List ℕ) (held : Option (List ℕ)) → MayHold told name held → IfSome told (λ m. m name ≡ held)
+tells : (told : Option Files) (name : List ℕ) (held : Option (List ℕ)) → MayHold told name held
+    → IfSome told (λ m. m name ≡ held)
 tells None name held may = tt
 tells (Some m) name held may = may
 
 -- the calls at a table that does not open are those that opening what the name holds takes
-pub refused_calls : (name : List ℕ) (old new : StoreTold) (fault : TableFault) (files : Files) → IsSome old.files → IfSome old.files (λ m. m ≡ files)
-    → MayRefuse (table_format Plain) name old new fault → new.calls ≤ old.calls + opening_calls (table_format Plain) (files name)
+pub refused_calls : (name : List ℕ) (old new : StoreTold) (fault : TableFault) (files : Files)
+    → IsSome old.files → IfSome old.files (λ m. m ≡ files)
+    → MayRefuse (table_format Plain) name old new fault
+    → new.calls ≤ old.calls + opening_calls (table_format Plain) (files name)
 refused_calls name old new fault files sees agrees h =
-    let same = of_told old.files files (λ m. m name ≡ h.held) sees agrees (tells old.files name h.held h.may) in
-    subst (λ (held : Option (List ℕ)). new.calls ≤ old.calls + opening_calls (table_format Plain) held) (sym same) h.calls
+    let same = of_told old.files files (λ m. m name ≡ h.held) sees agrees
+    (tells old.files name h.held h.may) in
+    subst (λ (held : Option (List ℕ)). new.calls ≤ old.calls + opening_calls (table_format Plain)
+    held) (sym same) h.calls

@@ -38,13 +38,17 @@ use Rattle.frz_commands_line.proofs.OpeningCosts.{costs_inside, costs_outside}
 use Rattle.frz_commands_line.proofs.Seen.{LineThere, LineSo, by_member, lined_inside, lined_outside, line_so}
 
 -- what was written of the line
-abbrev pub Wrote : Table → Colour → Board → Option Files → Result LineEnd LineFault → SinkTold → SinkTold → (before now : Spent) → Type 0
+abbrev pub Wrote : Table → Colour → Board → Option Files → Result LineEnd LineFault → SinkTold
+    → SinkTold → (before now : Spent) → Type 0
 Wrote table side p files result old new before now =
     (text : List ℕ) × IsLines text × WroteBy result text old new
-    × IfSome (told_codes table side files) (λ codes. TellsLine table.rules side codes p text result before now)
+    × IfSome (told_codes table side files)
+    (λ codes. TellsLine table.rules side codes p text result before now)
 
-module _ (there : LineThere) (table : Table) (side : Colour) (p : Board) (store left : StoreTold) (input : SourceTold) (out mid taken : SinkTold) (before now : ℕ)
-    (quiet : StoreQuiet store left) (later : before ≤ now) (carried : Carries store.files table) where
+module _ (there : LineThere) (table : Table) (side : Colour) (p : Board) (store left : StoreTold)
+    (input : SourceTold) (out mid taken : SinkTold) (before now : ℕ)
+    (quiet : StoreQuiet store left) (later : before ≤ now)
+    (carried : Carries store.files table) where
   abbrev job : Job
   job = lining_in table side p
 
@@ -66,7 +70,8 @@ module _ (there : LineThere) (table : Table) (side : Colour) (p : Board) (store 
   }
 
   abbrev Line : List ℕ → Result LineEnd LineFault → Files → Type 0
-  Line text result m = LineSo (contents_of table) (bytes_at m table.name) side p text result (spent_by store before) (spent_by left now)
+  Line text result m = LineSo (contents_of table) (bytes_at m table.name) side p text result
+      (spent_by store before) (spent_by left now)
 
   abbrev code_in : Files → ℕ
   code_in m = code_at (contents_of table) (bytes_at m table.name) side p
@@ -76,86 +81,120 @@ module _ (there : LineThere) (table : Table) (side : Colour) (p : Board) (store 
   Comes m numbers = LineComes (bytes_at m table.name) side p (contents_of table) numbers
 
   -- what was spent is within the costs of the line
-  line_costs : (inside : Member table.rules.groups p) (text : List ℕ) (result : Result LineEnd LineFault) (m : Files) (i : List ℕ) (so : Line text result m) (a : Answer)
+  line_costs : (inside : Member table.rules.groups p) (text : List ℕ)
+      (result : Result LineEnd LineFault) (m : Files) (i : List ℕ) (so : Line text result m)
+      (a : Answer)
       → job.costs m i a (spent old) (spent played)
-  line_costs inside text result m i so a = costs_inside (contents_of table) p (Comes m) (spent old) (spent played) inside so.costs
+  line_costs inside text result m i so a =
+      costs_inside (contents_of table) p (Comes m) (spent old) (spent played) inside so.costs
 
   -- an answer is this one of the line
-  is_answer : (inside : Member table.rules.groups p) (text : List ℕ) (result : Result LineEnd LineFault) (m : Files) (i : List ℕ) (so : Line text result m) (a : Answer)
+  is_answer : (inside : Member table.rules.groups p) (text : List ℕ)
+      (result : Result LineEnd LineFault) (m : Files) (i : List ℕ) (so : Line text result m)
+      (a : Answer)
       → a ≡ line_answer side (code_in m) so.plies (told side so.end) m → job.answers m i a
   is_answer inside text result m i so a e =
-      lined_inside (contents_of table) (bytes_at m table.name) side p m a inside (record { plies = so.plies; end = so.end; line = so.line; told = e })
+      lined_inside (contents_of table) (bytes_at m table.name) side p m a inside
+      (record { plies = so.plies; end = so.end; line = so.line; told = e })
 
   module _ (inside : Member table.rules.groups p) (text : List ℕ) (lines : IsLines text) where
     abbrev TellsIt : Result LineEnd LineFault → Type 0
-    TellsIt result = IfSome (told_codes table side store.files) (λ codes. TellsLine table.rules side codes p text result (spent_by store before) (spent_by left now))
+    TellsIt result = IfSome (told_codes table side store.files)
+        (λ codes. TellsLine table.rules side codes p text result (spent_by store before)
+        (spent_by left now))
 
-    so_in : (result : Result LineEnd LineFault) → TellsIt result → IsSome store.files → (m : Files) (i : List ℕ) → Agrees old m i → Line text result m
+    so_in : (result : Result LineEnd LineFault) → TellsIt result → IsSome store.files
+        → (m : Files) (i : List ℕ) → Agrees old m i → Line text result m
     so_in result tells sees m i agrees =
-        line_so there table side p text result (spent_by store before) (spent_by left now) inside store.files m sees agrees.store carried tells
+        line_so there table side p text result (spent_by store before) (spent_by left now) inside
+        store.files m sees agrees.store carried tells
 
     -- the whole line was written, and its end is told
-    all_told : (result : Result LineEnd LineFault) (end : End) → TellsIt result → TookText text out mid → StoreFine store left
-        → OneOf (end_status result) (rest_of job text).statuses → Said (end_status result) (naming_line result) end mid taken
-        → ((answer : Result LineEnd LineFault) (rest : List ℕ) → Finishes result answer rest → (result ≡ answer) × (rest ≡ []))
+    all_told : (result : Result LineEnd LineFault) (end : End) → TellsIt result
+        → TookText text out mid → StoreFine store left
+        → OneOf (end_status result) (rest_of job text).statuses
+        → Said (end_status result) (naming_line result) end mid taken
+        → ((answer : Result LineEnd LineFault) (rest : List ℕ) → Finishes result answer rest
+        → (result ≡ answer) × (rest ≡ []))
         → Ran job end old (world left input taken now)
     all_told result end tells took fine own said_it whole =
         behind_lines job text end old mid (world left input taken now) took lines refl refl
-        (said (rest_of job text) (end_status result) (naming_line result) end between played taken quiet_between (fine_store store left input mid before now fine) own said_it
+        (said (rest_of job text) (end_status result) (naming_line result) end between played taken
+        quiet_between (fine_store store left input mid before now fine) own said_it
         (λ sees m i agrees.
-        let so = so_in result tells sees m i (record { store = agrees.store; source = agrees.source }) in
+        let so = so_in result tells sees m i
+        (record { store = agrees.store; source = agrees.source }) in
         let ended = whole (told side so.end) so.rest so.finishes in
         let written : text ≡ line_text side (code_in m) so.plies (told side so.end) =
         sym (append-nil text) ∙ ap (λ (l : List ℕ). text ++ l) (sym ended.1) ∙ so.whole in
-        let texts : text ++ naming_line result ≡ told_text side (code_in m) so.plies (told side so.end) =
+        let texts : text ++ naming_line result ≡ told_text side (code_in m) so.plies
+        (told side so.end) =
         ap (λ (l : List ℕ). l ++ naming_line result) written
-        ∙ ap (λ (r : Result LineEnd LineFault). line_text side (code_in m) so.plies (told side so.end) ++ naming_line r) ended.0 in
-        let same : says (end_status result) (text ++ naming_line result) m ≡ line_answer side (code_in m) so.plies (told side so.end) m =
+        ∙ ap (λ (r : Result LineEnd LineFault). line_text side (code_in m) so.plies
+        (told side so.end) ++ naming_line r) ended.0 in
+        let same : says (end_status result) (text ++ naming_line result) m ≡ line_answer side
+        (code_in m) so.plies (told side so.end) m =
         ap (λ (l : List ℕ). says (end_status result) l m) texts
-        ∙ ap (λ (r : Result LineEnd LineFault). says (end_status r) (told_text side (code_in m) so.plies (told side so.end)) m) ended.0 in
+        ∙ ap (λ (r : Result LineEnd LineFault). says (end_status r)
+        (told_text side (code_in m) so.plies (told side so.end)) m) ended.0 in
         record {
           found = as_given (rest_of job text) m i between agrees;
-          answer = is_answer inside text result m i so (says (end_status result) (text ++ naming_line result) m) same;
-          costs = line_costs inside text result m i so (says (end_status result) (text ++ naming_line result) m);
+          answer = is_answer inside text result m i so
+              (says (end_status result) (text ++ naming_line result) m) same;
+          costs = line_costs inside text result m i so
+              (says (end_status result) (text ++ naming_line result) m);
         }))
 
     -- the rest of the line's answer
     rest_answer : (result : Result LineEnd LineFault) (m : Files) (so : Line text result m)
-        → text ++ (so.rest ++ naming_line (told side so.end)) ≡ told_text side (code_in m) so.plies (told side so.end)
+        → text ++ (so.rest ++ naming_line (told side so.end)) ≡ told_text side (code_in m) so.plies
+        (told side so.end)
     rest_answer result m so =
-        sym (append_assoc text so.rest (naming_line (told side so.end))) ∙ ap (λ (l : List ℕ). l ++ naming_line (told side so.end)) so.whole
+        sym (append_assoc text so.rest (naming_line (told side so.end)))
+        ∙ ap (λ (l : List ℕ). l ++ naming_line (told side so.end)) so.whole
 
     -- the store stopped the line
-    stopped_short : (result : Result LineEnd LineFault) (fault : Fault) → TellsIt result → TookText text out mid → MayMeet (rest_of job text) fault between played
-        → ((answer : Result LineEnd LineFault) (rest : List ℕ) → Finishes result answer rest → IsUnfinished answer rest)
+    stopped_short : (result : Result LineEnd LineFault) (fault : Fault) → TellsIt result
+        → TookText text out mid → MayMeet (rest_of job text) fault between played
+        → ((answer : Result LineEnd LineFault) (rest : List ℕ) → Finishes result answer rest
+        → IsUnfinished answer rest)
         → Ran job (Stopped fault) old played
     stopped_short result fault tells took meets short =
         behind_lines job text (Stopped fault) old mid played took lines refl refl
         (stopped (rest_of job text) fault between played quiet_between meets
         (λ sees m i agrees.
-        let so = so_in result tells sees m i (record { store = agrees.store; source = agrees.source }) in
+        let so = so_in result tells sees m i
+        (record { store = agrees.store; source = agrees.source }) in
         let answer = told side so.end in
         let rest = so.rest ++ naming_line answer in
         let whole = rest_answer result m so in
         let a = says (end_status answer) rest m in
-        let same : says (end_status answer) (text ++ rest) m ≡ line_answer side (code_in m) so.plies answer m =
+        let same : says (end_status answer) (text ++ rest) m ≡ line_answer side (code_in m) so.plies
+        answer m =
         ap (λ (l : List ℕ). says (end_status answer) l m) whole in
         record {
           found = as_given (rest_of job text) m i between agrees;
           some = record {
             a = a;
-            answer = is_answer inside text result m i so (says (end_status answer) (text ++ rest) m) same;
+            answer = is_answer inside text result m i so (says (end_status answer) (text ++ rest) m)
+                same;
             text = unfinished_said side so.end so.rest (short answer so.rest so.finishes);
           };
           costs = line_costs inside text result m i so (says (end_status answer) (text ++ rest) m);
         }))
 
     -- the sink failed within the line
-    cut_short : TellsIt (Err faults.Output) → FailedWithin text out mid → Ran job SinkFault old played
+    cut_short : TellsIt (Err faults.Output) → FailedWithin text out mid
+        → Ran job SinkFault old played
     cut_short tells failed =
         cut_within job text old (world left input out now) mid refl
         (record {
-          later = record { store = quiet.later; input = omega arith; out = omega arith; steps = later };
+          later = record {
+            store = quiet.later;
+            input = omega arith;
+            out = omega arith;
+            steps = later;
+          };
           store = quiet.unwritten;
           left = refl;
           taken = refl;
@@ -175,53 +214,80 @@ module _ (there : LineThere) (table : Table) (side : Colour) (p : Board) (store 
         })
 
   -- the position is not in the set: neither object was touched
-  outside_told : (end : End) → (Member table.rules.groups p → ⊥) → left ≡ store → mid ≡ out → now ≡ before → Said (status_of refusals.Outside) (refusal_line refusals.Outside) end mid taken
+  outside_told : (end : End) → (Member table.rules.groups p → ⊥) → left ≡ store → mid ≡ out
+      → now ≡ before → Said (status_of refusals.Outside) (refusal_line refusals.Outside) end mid
+      taken
       → Ran job end old (world left input taken now)
   outside_told end none same unwritten unstepped said_it =
-      said job (status_of refusals.Outside) (refusal_line refusals.Outside) end old (world left input out now) taken
+      said job (status_of refusals.Outside) (refusal_line refusals.Outside) end old
+      (world left input out now) taken
       (record {
-        later = record { store = quiet.later; input = omega arith; out = omega arith; steps = later };
+        later = record {
+          store = quiet.later;
+          input = omega arith;
+          out = omega arith;
+          steps = later;
+        };
         store = quiet.unwritten;
         left = refl;
         taken = refl;
       })
-      (fine_store store left input out before now (subst (λ (s : StoreTold). StoreFine store s) (sym same) (record { faults = refl; wants = refl }))) refl
-      (subst (λ (o : SinkTold). Said (status_of refusals.Outside) (refusal_line refusals.Outside) end o taken) unwritten said_it)
+      (fine_store store left input out before now
+      (subst (λ (s : StoreTold). StoreFine store s) (sym same)
+      (record { faults = refl; wants = refl }))) refl
+      (subst (λ (o : SinkTold). Said (status_of refusals.Outside) (refusal_line refusals.Outside)
+      end o taken) unwritten said_it)
       (λ sees m i agrees. record {
         found = as_given job m i old agrees;
-        answer = lined_outside (contents_of table) (bytes_at m table.name) side p m (says (status_of refusals.Outside) (refusal_line refusals.Outside) m) none refl;
-        costs = costs_outside (contents_of table) p (Comes m) (spent old) (spent played) none (record {
-          steps = omega (arith, unstepped);
-          calls = (let e = ap (λ (s : StoreTold). s.calls) same in omega (arith, e));
-          asked = (let e = ap (λ (s : StoreTold). s.asked) same in omega (arith, e));
-        });
+        answer = lined_outside (contents_of table) (bytes_at m table.name) side p m
+            (says (status_of refusals.Outside) (refusal_line refusals.Outside) m) none refl;
+        costs = costs_outside (contents_of table) p (Comes m) (spent old) (spent played) none
+            (record {
+              steps = omega (arith, unstepped);
+              calls = (let e = ap (λ (s : StoreTold). s.calls) same in omega (arith, e));
+              asked = (let e = ap (λ (s : StoreTold). s.asked) same in omega (arith, e));
+            });
       })
 
-  is_inside : (result : Result LineEnd LineFault) → ((result ≡ Err faults.Outside) ↔ (Member table.rules.groups p → ⊥)) → (result ≡ Err faults.Outside → ⊥) → Member table.rules.groups p
-  is_inside result outside other = by_member table.rules.groups p (λ inside. inside) (λ none. absurd (other (outside.1 none)))
+  is_inside : (result : Result LineEnd LineFault)
+      → ((result ≡ Err faults.Outside) ↔ (Member table.rules.groups p → ⊥))
+      → (result ≡ Err faults.Outside → ⊥) → Member table.rules.groups p
+  is_inside result outside other =
+      by_member table.rules.groups p (λ inside. inside) (λ none. absurd (other (outside.1 none)))
 
   -- a fault ended the command, and nothing more was written
-  ended_as : (end wanted : End) → (end ≡ wanted) × (taken ≡ mid) → Ran job wanted old played → Ran job end old (world left input taken now)
+  ended_as : (end wanted : End) → (end ≡ wanted) × (taken ≡ mid) → Ran job wanted old played
+      → Ran job end old (world left input taken now)
   ended_as end wanted ends ran =
-      subst (λ (o : SinkTold). Ran job end old (world left input o now)) (sym ends.1) (subst (λ (e : End). Ran job e old played) (sym ends.0) ran)
+      subst (λ (o : SinkTold). Ran job end old (world left input o now)) (sym ends.1)
+      (subst (λ (e : End). Ran job e old played) (sym ends.0) ran)
 
   -- the line was played, and its end told
-  pub line_ran : (result : Result LineEnd LineFault) (end : End) → ((result ≡ Err faults.Outside) ↔ (Member table.rules.groups p → ⊥))
-      → (result ≡ Err faults.Outside → (left ≡ store) × (mid ≡ out) × (now ≡ before)) → StoreCause result store left → EndsLine result end mid taken
-      → Wrote table side p store.files result out mid (spent_by store before) (spent_by left now) → Ran job end old (world left input taken now)
+  pub line_ran : (result : Result LineEnd LineFault) (end : End)
+      → ((result ≡ Err faults.Outside) ↔ (Member table.rules.groups p → ⊥))
+      → (result ≡ Err faults.Outside → (left ≡ store) × (mid ≡ out) × (now ≡ before))
+      → StoreCause result store left → EndsLine result end mid taken
+      → Wrote table side p store.files result out mid (spent_by store before) (spent_by left now)
+      → Ran job end old (world left input taken now)
   line_ran (Ok last) end outside touched cause ends wrote =
-      all_told (is_inside (Ok last) outside (λ e. cc)) wrote.0 wrote.1 (Ok last) end wrote.3 wrote.2 cause refl ends (λ answer rest h. h)
+      all_told (is_inside (Ok last) outside (λ e. cc)) wrote.0 wrote.1 (Ok last) end wrote.3 wrote.2
+      cause refl ends (λ answer rest h. h)
   line_ran (Err faults.Outside) end outside touched cause ends wrote =
       let same = touched refl in outside_told end (outside.0 refl) same.0 same.1 same.2 ends
   line_ran (Err faults.NoBound) end outside touched cause ends wrote =
-      all_told (is_inside (Err faults.NoBound) outside (λ e. cc)) wrote.0 wrote.1 (Err faults.NoBound) end wrote.3 wrote.2 cause refl ends (λ answer rest h. h)
+      all_told (is_inside (Err faults.NoBound) outside (λ e. cc)) wrote.0 wrote.1
+      (Err faults.NoBound) end wrote.3 wrote.2 cause refl ends (λ answer rest h. h)
   line_ran (Err (faults.Wrong w)) end outside touched cause ends wrote =
-      all_told (is_inside (Err (faults.Wrong w)) outside (λ e. cc)) wrote.0 wrote.1 (Err (faults.Wrong w)) end wrote.3 wrote.2 cause refl ends (λ answer rest h. h)
+      all_told (is_inside (Err (faults.Wrong w)) outside (λ e. cc)) wrote.0 wrote.1
+      (Err (faults.Wrong w)) end wrote.3 wrote.2 cause refl ends (λ answer rest h. h)
   line_ran (Err faults.Store) end outside touched cause ends wrote =
       ended_as end (Stopped Store) ends
-      (stopped_short (is_inside (Err faults.Store) outside (λ e. cc)) wrote.0 wrote.1 (Err faults.Store) Store wrote.3 wrote.2 (refl, cause) (λ answer rest h. h))
+      (stopped_short (is_inside (Err faults.Store) outside (λ e. cc)) wrote.0 wrote.1
+      (Err faults.Store) Store wrote.3 wrote.2 (refl, cause) (λ answer rest h. h))
   line_ran (Err faults.NoMemory) end outside touched cause ends wrote =
       ended_as end (Stopped NoMemory) ends
-      (stopped_short (is_inside (Err faults.NoMemory) outside (λ e. cc)) wrote.0 wrote.1 (Err faults.NoMemory) NoMemory wrote.3 wrote.2 refl (λ answer rest h. h))
+      (stopped_short (is_inside (Err faults.NoMemory) outside (λ e. cc)) wrote.0 wrote.1
+      (Err faults.NoMemory) NoMemory wrote.3 wrote.2 refl (λ answer rest h. h))
   line_ran (Err faults.Output) end outside touched cause ends wrote =
-      ended_as end SinkFault ends (cut_short (is_inside (Err faults.Output) outside (λ e. cc)) wrote.0 wrote.1 wrote.3 wrote.2)
+      ended_as end SinkFault ends
+      (cut_short (is_inside (Err faults.Output) outside (λ e. cc)) wrote.0 wrote.1 wrote.3 wrote.2)

@@ -31,22 +31,27 @@ use Rattle.frz_commands_line.specs.LineOf.{code_at, IsLineBy, LineComes, line_an
 
 -- that there is a line from each number
 abbrev pub LineThere : Type 0
-LineThere = (rules : RuleLines) (value : Board → Value) (side : Colour) (codes : List ℕ) (start : ℕ) → (plies : List LinePly) × (end : EndOfLine) × IsLine rules value side codes start plies end
+LineThere = (rules : RuleLines) (value : Board → Value) (side : Colour) (codes : List ℕ) (start : ℕ)
+    → (plies : List LinePly) × (end : EndOfLine) × IsLine rules value side codes start plies end
 
 -- a fact of the files that the store tells
-pub of_told : (o : Option Files) (m : Files) (P : Files → Type 0) → IsSome o → IfSome o (λ told. told ≡ m) → IfSome o P → P m
+pub of_told : (o : Option Files) (m : Files) (P : Files → Type 0) → IsSome o
+    → IfSome o (λ told. told ≡ m) → IfSome o P → P m
 of_told None m P some e h = let no : false ≡ true = some in cc
 of_told (Some held) m P some e h = subst P e h
 
 -- the position is in the set, or not
-pub by_member : {A : Type 0} (groups : List GroupLine) (p : Board) → (Member groups p → A) → ((Member groups p → ⊥) → A) → A
+pub by_member : {A : Type 0} (groups : List GroupLine) (p : Board) → (Member groups p → A)
+    → ((Member groups p → ⊥) → A) → A
 by_member {A} groups p inside outside = by_test (is_member groups p) refl
   where
     by_test : (b : Bool) → is_member groups p ≡ b → A
     by_test true e = inside (member_of groups p e)
-    by_test false e = outside (λ member. let no : false ≡ true = sym e ∙ of_member groups p member in cc)
+    by_test false e =
+        outside (λ member. let no : false ≡ true = sym e ∙ of_member groups p member in cc)
 
-pub not_member : (groups : List GroupLine) (p : Board) → (Member groups p → ⊥) → is_member groups p ≡ false
+pub not_member : (groups : List GroupLine) (p : Board) → (Member groups p → ⊥)
+    → is_member groups p ≡ false
 not_member groups p none = by_test (is_member groups p) refl
   where
     by_test : (b : Bool) → is_member groups p ≡ b → b ≡ false
@@ -54,39 +59,51 @@ not_member groups p none = by_test (is_member groups p) refl
     by_test false e = refl
 
 -- the answer at a position of the set, and at one that is outside
-module _ (contents : Contents) (bytes : List ℕ) (side : Colour) (p : Board) (files : Files) (a : Answer) where
-  pub lined_inside : Member contents.rules.groups p → IsLined contents bytes side p files a → IsLinedIn contents bytes side p files a
+module _ (contents : Contents) (bytes : List ℕ) (side : Colour) (p : Board) (files : Files)
+    (a : Answer) where
+  pub lined_inside : Member contents.rules.groups p → IsLined contents bytes side p files a
+      → IsLinedIn contents bytes side p files a
   lined_inside inside lined =
-      subst (λ b. MatchBool b (IsLined contents bytes side p files a) (a ≡ says (status_of refusals.Outside) (refusal_line refusals.Outside) files))
+      subst (λ b. MatchBool b (IsLined contents bytes side p files a)
+      (a ≡ says (status_of refusals.Outside) (refusal_line refusals.Outside) files))
       (sym (of_member contents.rules.groups p inside)) lined
 
-  pub lined_outside : (Member contents.rules.groups p → ⊥) → a ≡ says (status_of refusals.Outside) (refusal_line refusals.Outside) files → IsLinedIn contents bytes side p files a
+  pub lined_outside : (Member contents.rules.groups p → ⊥)
+      → a ≡ says (status_of refusals.Outside) (refusal_line refusals.Outside) files
+      → IsLinedIn contents bytes side p files a
   lined_outside none e =
-      subst (λ b. MatchBool b (IsLined contents bytes side p files a) (a ≡ says (status_of refusals.Outside) (refusal_line refusals.Outside) files))
+      subst (λ b. MatchBool b (IsLined contents bytes side p files a)
+      (a ≡ says (status_of refusals.Outside) (refusal_line refusals.Outside) files))
       (sym (not_member contents.rules.groups p none)) e
 
 -- the line of which this text was written, with what was spent on it
-pub record LineSo (contents : Contents) (bytes : List ℕ) (side : Colour) (p : Board) (text : List ℕ) (result : Result LineEnd LineFault) (before now : Spent) : Type 0 where
+pub record LineSo (contents : Contents) (bytes : List ℕ) (side : Colour) (p : Board) (text : List ℕ)
+    (result : Result LineEnd LineFault) (before now : Spent) : Type 0 where
   pub plies : List LinePly
   pub end : EndOfLine
   pub line : IsLineBy contents bytes side p plies end
   pub rest : List ℕ
   pub whole : text ++ rest ≡ line_text side (code_at contents bytes side p) plies (told side end)
   pub finishes : Finishes result (told side end) rest
-  pub costs : (numbers : List ℕ) → LineComes bytes side p contents numbers → SpendsAt (graph_by contents.rules (value_by contents.rules)) 1 numbers before now
+  pub costs : (numbers : List ℕ) → LineComes bytes side p contents numbers
+      → SpendsAt (graph_by contents.rules (value_by contents.rules)) 1 numbers before now
 
-module _ (there : LineThere) (table : Table) (side : Colour) (p : Board) (text : List ℕ) (result : Result LineEnd LineFault) (before now : Spent) (inside : Member table.rules.groups p) where
+module _ (there : LineThere) (table : Table) (side : Colour) (p : Board) (text : List ℕ)
+    (result : Result LineEnd LineFault) (before now : Spent)
+    (inside : Member table.rules.groups p) where
   abbrev codes_of : List ℕ → List ℕ
   codes_of bytes = codes_at side table.text (table_size table) bytes
 
   abbrev Tells : List ℕ → Type 0
   Tells codes = TellsLine table.rules side codes p text result before now
 
-  in_file : (held : Option (List ℕ)) → IsSomeAnd held (IsFileOf table) → IfSome (option_map codes_of held) Tells
+  in_file : (held : Option (List ℕ)) → IsSomeAnd held (IsFileOf table)
+      → IfSome (option_map codes_of held) Tells
       → LineSo (contents_of table) (unwrap_or held []) side p text result before now
   in_file None carried tells = absurd carried
   in_file (Some bytes) carried tells =
-      let line = there table.rules (value_by table.rules) side (codes_of bytes) (Num table.rules.groups p) in
+      let line = there table.rules (value_by table.rules) side (codes_of bytes)
+      (Num table.rules.groups p) in
       let so = tells inside line.0 line.1 line.2 in
       let arena = graph_by table.rules (value_by table.rules) in
       record {
@@ -96,15 +113,21 @@ module _ (there : LineThere) (table : Table) (side : Colour) (p : Board) (text :
         rest = so.0;
         whole = so.1;
         finishes = so.2;
-        costs = λ numbers comes. subst (λ (z : List ℕ). SpendsAt arena 1 z before now) (sym comes.are) (tells inside comes.plies comes.end comes.line).3;
+        costs = λ numbers comes. subst (λ (z : List ℕ). SpendsAt arena 1 z before now)
+            (sym comes.are) (tells inside comes.plies comes.end comes.line).3;
       }
 
-  pub line_so : (o : Option Files) (m : Files) → IsSome o → IfSome o (λ f. f ≡ m) → Carries o table → IfSome (told_codes table side o) Tells
+  pub line_so : (o : Option Files) (m : Files) → IsSome o → IfSome o (λ f. f ≡ m) → Carries o table
+      → IfSome (told_codes table side o) Tells
       → LineSo (contents_of table) (bytes_at m table.name) side p text result before now
   line_so None m some e carried tells = let no : false ≡ true = some in cc
   line_so (Some f) m some e carried tells =
-      subst (λ (g : Files). LineSo (contents_of table) (bytes_at g table.name) side p text result before now) e (in_file (f table.name) carried tells)
+      subst (λ (g : Files). LineSo (contents_of table) (bytes_at g table.name) side p text result
+      before now) e (in_file (f table.name) carried tells)
 
 -- the answer of the line
-abbrev pub answer_of : {contents : Contents} {bytes : List ℕ} {side : Colour} {p : Board} {text : List ℕ} {result : Result LineEnd LineFault} {before now : Spent} → LineSo contents bytes side p text result before now → Files → Answer
-answer_of {contents} {bytes} {side} {p} so files = line_answer side (code_at contents bytes side p) so.plies (told side so.end) files
+abbrev pub answer_of : {contents : Contents} {bytes : List ℕ} {side : Colour} {p : Board}
+    {text : List ℕ} {result : Result LineEnd LineFault} {before now : Spent}
+    → LineSo contents bytes side p text result before now → Files → Answer
+answer_of {contents} {bytes} {side} {p} so files =
+    line_answer side (code_at contents bytes side p) so.plies (told side so.end) files

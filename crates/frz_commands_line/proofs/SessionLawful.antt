@@ -39,11 +39,16 @@ use Rattle.frz_commands_line.proofs.SessionSeen.{SessionThere}
 
 -- that there is no other session
 abbrev pub SessionAlone : Type 0
-SessionAlone = (rules : RuleLines) (value : Board → Value) (side : Colour) (codes : List ℕ) (start : ℕ) (input : List ℕ) (plies others : List SessionPly) (end last : EndOfSession) (left rest : Input)
-    → IsSession rules value side codes start input plies end left → IsSession rules value side codes start input others last rest → (plies ≡ others) × (end ≡ last) × (left ≡ rest)
+SessionAlone = (rules : RuleLines) (value : Board → Value) (side : Colour) (codes : List ℕ)
+    (start : ℕ) (input : List ℕ) (plies others : List SessionPly) (end last : EndOfSession)
+    (left rest : Input)
+    → IsSession rules value side codes start input plies end left
+    → IsSession rules value side codes start input others last rest → (plies ≡ others)
+    × (end ≡ last) × (left ≡ rest)
 
 -- one answer is told at an end
-one_told : (side : Colour) (end : EndOfSession) (a b : Result SessionEnd PlayFault) → Tells side end a → Tells side end b → a ≡ b
+one_told : (side : Colour) (end : EndOfSession) (a b : Result SessionEnd PlayFault)
+    → Tells side end a → Tells side end b → a ≡ b
 one_told side (Wrong number kept given) a b h k = h ∙ sym k
 one_told side NoBound a b h k = h ∙ sym k
 one_told side (Mated mover) a b h k = h ∙ sym k
@@ -52,29 +57,45 @@ one_told side (Exit v) a b h k = h ∙ sym k
 one_told side Cut a b h k = absurd h
 one_told side (Stopped halt) a b h k = h ∙ sym k
 
-one_by_test : SessionAlone → (contents : Contents) (bytes : List ℕ) (side : Colour) (p : Board) (files : Files) (input : List ℕ) (a b : Answer) (inside : Bool)
-    → MatchBool inside (IsPlayed contents bytes side p files input a) (a ≡ says (status_of refusals.Outside) (refusal_line refusals.Outside) files)
-    → MatchBool inside (IsPlayed contents bytes side p files input b) (b ≡ says (status_of refusals.Outside) (refusal_line refusals.Outside) files) → b ≡ a
+one_by_test : SessionAlone → (contents : Contents) (bytes : List ℕ) (side : Colour) (p : Board)
+    (files : Files) (input : List ℕ) (a b : Answer) (inside : Bool)
+    → MatchBool inside (IsPlayed contents bytes side p files input a)
+    (a ≡ says (status_of refusals.Outside) (refusal_line refusals.Outside) files)
+    → MatchBool inside (IsPlayed contents bytes side p files input b)
+    (b ≡ says (status_of refusals.Outside) (refusal_line refusals.Outside) files) → b ≡ a
 one_by_test alone contents bytes side p files input a b true h k =
     let code = code_at contents bytes side p in
-    let same = alone contents.rules (value_by contents.rules) side (kept_codes contents bytes side) (Num contents.rules.groups p) input k.plies h.plies k.end h.end k.left h.left k.session h.session in
-    let told = one_told side h.end k.answer h.answer (subst (λ (e : EndOfSession). Tells side e k.answer) same.1 k.tells) h.tells in
-    k.told ∙ ap (λ (l : List SessionPly). session_answer side code input l k.end k.left k.answer files) same.0
-    ∙ ap (λ (e : EndOfSession). session_answer side code input h.plies e k.left k.answer files) same.1
+    let same = alone contents.rules (value_by contents.rules) side (kept_codes contents bytes side)
+    (Num contents.rules.groups p) input k.plies h.plies k.end h.end k.left h.left k.session
+    h.session in
+    let told = one_told side h.end k.answer h.answer
+    (subst (λ (e : EndOfSession). Tells side e k.answer) same.1 k.tells) h.tells in
+    k.told ∙ ap (λ (l : List SessionPly). session_answer side code input l k.end k.left k.answer
+    files) same.0
+    ∙ ap (λ (e : EndOfSession). session_answer side code input h.plies e k.left k.answer files)
+    same.1
     ∙ ap (λ (l : Input). session_answer side code input h.plies h.end l k.answer files) same.2
-    ∙ ap (λ (r : Result SessionEnd PlayFault). session_answer side code input h.plies h.end h.left r files) told ∙ sym h.told
+    ∙ ap (λ (r : Result SessionEnd PlayFault). session_answer side code input h.plies h.end h.left r
+    files) told ∙ sym h.told
 one_by_test alone contents bytes side p files input a b false h k = k ∙ sym h
 
-one_by : SessionAlone → (x : Result Contents TableFault) (bytes : List ℕ) (side : Colour) (p : Board) (files : Files) (input : List ℕ) (a b : Answer)
+one_by : SessionAlone → (x : Result Contents TableFault) (bytes : List ℕ) (side : Colour)
+    (p : Board) (files : Files) (input : List ℕ) (a b : Answer)
     → IsPlayedBy x bytes side p files input a → IsPlayedBy x bytes side p files input b → b ≡ a
-one_by alone (Ok contents) bytes side p files input a b h k = one_by_test alone contents bytes side p files input a b (is_member contents.rules.groups p) h k
+one_by alone (Ok contents) bytes side p files input a b h k =
+    one_by_test alone contents bytes side p files input a b (is_member contents.rules.groups p) h k
 one_by alone (Err fault) bytes side p files input a b h k = k ∙ sym h
 
 module _ (there : SessionThere) (alone : SessionAlone) (laws : SessionLaws) where
-  one_at : (table : List ℕ) (side : Colour) (p : Board) (files : Files) (input : List ℕ) → HasOneAnswer (λ a. IsPlayedAt table side p files input a)
+  one_at : (table : List ℕ) (side : Colour) (p : Board) (files : Files) (input : List ℕ)
+      → HasOneAnswer (λ a. IsPlayedAt table side p files input a)
   one_at table side p files input =
-      let some = some_at there table side p files input in
-      (some.a, some.answer, λ b k. one_by alone (opened (table_format Plain) (files table)) (bytes_at files table) side p files input some.a b some.answer k)
+      let some = some_at there table side p files input in (
+        some.a,
+        some.answer,
+        λ b k. one_by alone (opened (table_format Plain) (files table))
+            (bytes_at files table) side p files input some.a b some.answer k,
+      )
 
   playing_lawful : (table : List ℕ) (side : Colour) (p : Board) → IsLawful (playing_at table side p)
   playing_lawful table side p = record {
@@ -84,6 +105,10 @@ module _ (there : SessionThere) (alone : SessionAlone) (laws : SessionLaws) wher
 
   pub play_lawful : (words : List (List ℕ)) → IsLawful (play_words words)
   play_lawful words =
-      taking_lawful (λ (names : List ℕ × List ℕ × List ℕ). on_side (λ side. on_position (playing_at names.0 side) (fen_of names.1)) (side_of names.2)) (three_words_of words)
-      (λ names. side_lawful (λ side. on_position (playing_at names.0 side) (fen_of names.1)) (side_of names.2)
-      (λ side. fen_lawful (playing_at names.0 side) (fen_of names.1) (λ p read. playing_lawful names.0 side p)))
+      taking_lawful (λ (names : List ℕ × List ℕ × List ℕ). on_side
+      (λ side. on_position (playing_at names.0 side) (fen_of names.1)) (side_of names.2))
+      (three_words_of words)
+      (λ names. side_lawful (λ side. on_position (playing_at names.0 side) (fen_of names.1))
+      (side_of names.2)
+      (λ side. fen_lawful (playing_at names.0 side) (fen_of names.1)
+      (λ p read. playing_lawful names.0 side p)))

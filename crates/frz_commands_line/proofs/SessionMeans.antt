@@ -52,127 +52,200 @@ use Rattle.frz_commands_line.proofs.LineMeans.{table_kept, bound_kept}
 
 -- what the laws say of all sessions
 pub record SessionLaws : Type 0 where
-  pub few : (rules : RuleLines) (value : Board → Value) (side : Colour) (codes : List ℕ) (start n : ℕ) (input : List ℕ) (plies : List SessionPly) (end : EndOfSession) (left : Input)
-      → slice_index codes start ≡ 2 + 2 * n → IsSession rules value side codes start input plies end left → length plies ≤ n
-  pub won : (rules : RuleLines) (value : Board → Value) (side : Colour) (codes : List ℕ) (start n : ℕ) (input : List ℕ) (plies : List SessionPly) (end : EndOfSession) (left : Input)
-      → slice_index codes start ≡ 2 + 2 * n → IsSession rules value side codes start input plies end left → EndsWon (graph_by rules value) side end
-  pub exit : (rules : RuleLines) (value : Board → Value) (side : Colour) (codes : List ℕ) (start n : ℕ) (input : List ℕ) (plies : List SessionPly) (v : Value) (left : Input)
-      → slice_index codes start ≡ 2 + 2 * n → IsSession rules value side codes start input plies (Exit v) left → length plies + lag_of v ≤ n
-  pub held : (rules : RuleLines) (value : Board → Value) (side : Colour) (codes : List ℕ) (start : ℕ) (input : List ℕ) (plies : List SessionPly) (end : EndOfSession) (left : Input)
-      → slice_index codes start ≡ 1 → IsSession rules value side codes start input plies end left → EndsHeld (graph_by rules value) side end
-  pub right : (rules : RuleLines) (value : Board → Value) (side : Colour) (codes : List ℕ) → IsTableOf rules value side codes
-      → (p : Board) → Member rules.groups p → (input : List ℕ) (plies : List SessionPly) (number kept given : ℕ) (left : Input)
-      → IsSession rules value side codes (Num rules.groups p) input plies (Wrong number kept given) left → ⊥
-  pub safe : (rules : RuleLines) (value : Board → Value) → AreTrueExits rules value → (side : Colour) (codes : List ℕ) → IsTableOf rules value side codes
-      → (start : ℕ) (input : List ℕ) (plies : List SessionPly) (end : EndOfSession) (left : Input) → IsSession rules value side codes start input plies end left
-      → (x : SessionPly) → Contains plies x → (p : Board) (m : Step) → position_at rules.groups x.from ≡ Some p
-      → slice_get (legal_moves_of p) x.place ≡ Some m → NeverForcesMate chess (other_of side) (after p m)
+  pub few : (rules : RuleLines) (value : Board → Value) (side : Colour) (codes : List ℕ)
+      (start n : ℕ) (input : List ℕ) (plies : List SessionPly) (end : EndOfSession) (left : Input)
+      → slice_index codes start ≡ 2 + 2 * n
+      → IsSession rules value side codes start input plies end left → length plies ≤ n
+  pub won : (rules : RuleLines) (value : Board → Value) (side : Colour) (codes : List ℕ)
+      (start n : ℕ) (input : List ℕ) (plies : List SessionPly) (end : EndOfSession) (left : Input)
+      → slice_index codes start ≡ 2 + 2 * n
+      → IsSession rules value side codes start input plies end left
+      → EndsWon (graph_by rules value) side end
+  pub exit : (rules : RuleLines) (value : Board → Value) (side : Colour) (codes : List ℕ)
+      (start n : ℕ) (input : List ℕ) (plies : List SessionPly) (v : Value) (left : Input)
+      → slice_index codes start ≡ 2 + 2 * n → IsSession rules value side codes start input plies
+      (Exit v) left → length plies + lag_of v ≤ n
+  pub held : (rules : RuleLines) (value : Board → Value) (side : Colour) (codes : List ℕ)
+      (start : ℕ) (input : List ℕ) (plies : List SessionPly) (end : EndOfSession) (left : Input)
+      → slice_index codes start ≡ 1 → IsSession rules value side codes start input plies end left
+      → EndsHeld (graph_by rules value) side end
+  pub right : (rules : RuleLines) (value : Board → Value) (side : Colour) (codes : List ℕ)
+      → IsTableOf rules value side codes
+      → (p : Board) → Member rules.groups p
+      → (input : List ℕ) (plies : List SessionPly) (number kept given : ℕ) (left : Input)
+      → IsSession rules value side codes (Num rules.groups p) input plies (Wrong number kept given)
+      left → ⊥
+  pub safe : (rules : RuleLines) (value : Board → Value) → AreTrueExits rules value
+      → (side : Colour) (codes : List ℕ) → IsTableOf rules value side codes
+      → (start : ℕ) (input : List ℕ) (plies : List SessionPly) (end : EndOfSession) (left : Input)
+      → IsSession rules value side codes start input plies end left
+      → (x : SessionPly) → Contains plies x → (p : Board) (m : Step)
+      → position_at rules.groups x.from ≡ Some p
+      → slice_get (legal_moves_of p) x.place ≡ Some m
+      → NeverForcesMate chess (other_of side) (after p m)
 
-module _ (laws : SessionLaws) (name : List ℕ) (side : Colour) (p : Board) (files : Files) (input : List ℕ) where
+module _ (laws : SessionLaws) (name : List ℕ) (side : Colour) (p : Board) (files : Files)
+    (input : List ℕ) where
   -- a session from a win or a hold
-  plays_win : (has : HasSession name side p files input) (n : ℕ) → start_code has ≡ 2 + 2 * n → PlaysWin has.contents.rules side n has.plies has.end
+  plays_win : (has : HasSession name side p files input) (n : ℕ) → start_code has ≡ 2 + 2 * n
+      → PlaysWin has.contents.rules side n has.plies has.end
   plays_win has n e =
       let rules = has.contents.rules in
       let codes = kept_codes has.contents has.bytes side in
       let start = Num rules.groups p in
       record {
-        few = laws.few rules (value_by rules) side codes start n input has.plies has.end has.left e has.session;
-        ends = laws.won rules (value_by rules) side codes start n input has.plies has.end has.left e has.session;
-        exit = λ v is. laws.exit rules (value_by rules) side codes start n input has.plies v has.left e (subst (λ (x : EndOfSession). IsSession rules (value_by rules) side codes start input has.plies x has.left) is has.session);
+        few = laws.few rules (value_by rules) side codes start n input has.plies has.end has.left e
+            has.session;
+        ends = laws.won rules (value_by rules) side codes start n input has.plies has.end has.left e
+            has.session;
+        exit = λ v is. laws.exit rules (value_by rules) side codes start n input has.plies v
+            has.left e (subst
+            (λ (x : EndOfSession). IsSession rules (value_by rules) side codes start input has.plies
+            x has.left) is has.session);
       }
 
-  plays_hold : (has : HasSession name side p files input) → start_code has ≡ 1 → PlaysHold has.contents.rules side has.end
+  plays_hold : (has : HasSession name side p files input) → start_code has ≡ 1
+      → PlaysHold has.contents.rules side has.end
   plays_hold has e =
       let rules = has.contents.rules in
-      laws.held rules (value_by rules) side (kept_codes has.contents has.bytes side) (Num rules.groups p) input has.plies has.end has.left e has.session
+      laws.held rules (value_by rules) side (kept_codes has.contents has.bytes side)
+      (Num rules.groups p) input has.plies has.end has.left e has.session
 
-  is_safe : (has : HasSession name side p files input) → IsExactFile has → AreTrueExits has.contents.rules (value_by has.contents.rules) → IsSafe has.contents.rules side has.plies
+  is_safe : (has : HasSession name side p files input) → IsExactFile has
+      → AreTrueExits has.contents.rules (value_by has.contents.rules)
+      → IsSafe has.contents.rules side has.plies
   is_safe has one true_exits =
       let rules = has.contents.rules in
-      laws.safe rules (value_by rules) true_exits side (kept_codes has.contents has.bytes side) (table_kept has.contents has.bytes has.open_file.opens one side) (Num rules.groups p) input has.plies has.end has.left has.session
+      laws.safe rules (value_by rules) true_exits side (kept_codes has.contents has.bytes side)
+      (table_kept has.contents has.bytes has.open_file.opens one side) (Num rules.groups p) input
+      has.plies has.end has.left has.session
 
   -- by how the session ends
   abbrev Says : HasSession name side p files input → Result SessionEnd PlayFault → Type 0
-  Says has answer = MeansStatus name side p files input (session_status answer) (played_text side (start_code has) has.plies has.end answer)
+  Says has answer = MeansStatus name side p files input (session_status answer)
+      (played_text side (start_code has) has.plies has.end answer)
 
-  own_end : (has : HasSession name side p files input) (last : SessionEnd) → Tells side has.end (Ok last) → Says has (Ok last)
+  own_end : (has : HasSession name side p files input) (last : SessionEnd)
+      → Tells side has.end (Ok last) → Says has (Ok last)
   own_end has last tells = record {
     has = has;
     last = last;
     ends = record { tells = tells; told = refl };
     win = λ n e. plays_win has n e;
     hold = λ e. plays_hold has e;
-    where_exact = λ one. bound_kept has.contents has.bytes has.open_file.opens one side p has.inside;
+    where_exact =
+        λ one. bound_kept has.contents has.bytes has.open_file.opens one side p has.inside;
     safe = λ one true_exits. is_safe has one true_exits;
   }
 
   -- an answer that is told is one of these
-  as_told : (has : HasSession name side p files input) (answer given : Result SessionEnd PlayFault) → answer ≡ given → Says has given → Says has answer
-  as_told has answer given e says = subst (λ (r : Result SessionEnd PlayFault). Says has r) (sym e) says
+  as_told : (has : HasSession name side p files input) (answer given : Result SessionEnd PlayFault)
+      → answer ≡ given → Says has given → Says has answer
+  as_told has answer given e says =
+      subst (λ (r : Result SessionEnd PlayFault). Says has r) (sym e) says
 
-  tells_end : (has : HasSession name side p files input) (end : EndOfSession) (answer : Result SessionEnd PlayFault) → has.end ≡ end → Tells side end answer → Tells side has.end answer
-  tells_end has end answer is tells = subst (λ (x : EndOfSession). Tells side x answer) (sym is) tells
+  tells_end : (has : HasSession name side p files input) (end : EndOfSession)
+      (answer : Result SessionEnd PlayFault) → has.end ≡ end → Tells side end answer
+      → Tells side has.end answer
+  tells_end has end answer is tells =
+      subst (λ (x : EndOfSession). Tells side x answer) (sym is) tells
 
-  says_why : (has : HasSession name side p files input) (halt : Halt) (why : Why) → halt.why ≡ why → has.end ≡ Stopped halt → (answer : Result SessionEnd PlayFault) → answer ≡ why_told halt.why → Says has answer
+  says_why : (has : HasSession name side p files input) (halt : Halt) (why : Why) → halt.why ≡ why
+      → has.end ≡ Stopped halt → (answer : Result SessionEnd PlayFault) → answer ≡ why_told halt.why
+      → Says has answer
   says_why has halt Ended e is answer tells =
       let given : answer ≡ Ok ends.InputEnded = tells ∙ ap why_told e in
-      as_told has answer (Ok ends.InputEnded) given (own_end has ends.InputEnded (tells_end has (Stopped halt) (Ok ends.InputEnded) is (sym (ap why_told e))))
+      as_told has answer (Ok ends.InputEnded) given
+      (own_end has ends.InputEnded
+      (tells_end has (Stopped halt) (Ok ends.InputEnded) is (sym (ap why_told e))))
   says_why has halt (Limit limit) e is answer tells =
       let given : answer ≡ Err (plays.Limit limit) = tells ∙ ap why_told e in
       as_told has answer (Err (plays.Limit limit)) given (record {
         has = has;
         limit = limit;
-        ends = record { tells = tells_end has (Stopped halt) (Err (plays.Limit limit)) is (sym (ap why_told e)); told = refl };
+        ends = record {
+          tells = tells_end has (Stopped halt) (Err (plays.Limit limit)) is
+              (sym (ap why_told e));
+          told = refl;
+        };
       })
 
-  says_end : (has : HasSession name side p files input) (end : EndOfSession) → has.end ≡ end → (answer : Result SessionEnd PlayFault) → Tells side end answer → Says has answer
+  says_end : (has : HasSession name side p files input) (end : EndOfSession) → has.end ≡ end
+      → (answer : Result SessionEnd PlayFault) → Tells side end answer → Says has answer
   says_end has (Wrong number kept given) is answer tells =
-      let fault : PlayFault = plays.Line (faults.Wrong (record { side = side; number = number; kept = kept; given = given })) in
+      let fault : PlayFault = plays.Line
+      (faults.Wrong (record { side = side; number = number; kept = kept; given = given })) in
       as_told has answer (Err fault) tells (record {
         has = has;
         fault = fault;
-        ends = record { tells = tells_end has (Wrong number kept given) (Err fault) is refl; told = refl };
+        ends = record {
+          tells = tells_end has (Wrong number kept given) (Err fault) is refl;
+          told = refl;
+        };
         wrong = (number, kept, given, is);
         not_exact = λ one.
             let rules = has.contents.rules in
             let codes = kept_codes has.contents has.bytes side in
-            laws.right rules (value_by rules) side codes (table_kept has.contents has.bytes has.open_file.opens one side) p has.inside input has.plies number kept given has.left
-            (subst (λ (x : EndOfSession). IsSession rules (value_by rules) side codes (Num rules.groups p) input has.plies x has.left) is has.session);
+            laws.right rules (value_by rules) side codes
+            (table_kept has.contents has.bytes has.open_file.opens one side) p has.inside input
+            has.plies number kept given has.left
+            (subst (λ (x : EndOfSession). IsSession rules (value_by rules) side codes
+            (Num rules.groups p) input has.plies x has.left) is has.session);
       })
   says_end has NoBound is answer tells =
       as_told has answer (Err (plays.Line faults.NoBound)) tells (inr (record {
         has = has;
         fault = plays.Line faults.NoBound;
-        ends = record { tells = tells_end has NoBound (Err (plays.Line faults.NoBound)) is refl; told = refl };
+        ends = record {
+          tells = tells_end has NoBound (Err (plays.Line faults.NoBound)) is refl;
+          told = refl;
+        };
         no_bound = is;
       }))
-  says_end has (Mated mover) is answer tells = as_told has answer (Ok ends.Mate) tells (own_end has ends.Mate (tells_end has (Mated mover) (Ok ends.Mate) is refl))
-  says_end has (Stalemated mover) is answer tells = as_told has answer (Ok ends.Stalemate) tells (own_end has ends.Stalemate (tells_end has (Stalemated mover) (Ok ends.Stalemate) is refl))
-  says_end has (Exit v) is answer tells = as_told has answer (Ok (ends.Exit v)) tells (own_end has (ends.Exit v) (tells_end has (Exit v) (Ok (ends.Exit v)) is refl))
+  says_end has (Mated mover) is answer tells =
+      as_told has answer (Ok ends.Mate) tells
+      (own_end has ends.Mate (tells_end has (Mated mover) (Ok ends.Mate) is refl))
+  says_end has (Stalemated mover) is answer tells = as_told has answer (Ok ends.Stalemate) tells
+      (own_end has ends.Stalemate (tells_end has (Stalemated mover) (Ok ends.Stalemate) is refl))
+  says_end has (Exit v) is answer tells = as_told has answer (Ok (ends.Exit v)) tells
+      (own_end has (ends.Exit v) (tells_end has (Exit v) (Ok (ends.Exit v)) is refl))
   says_end has Cut is answer tells = absurd tells
   says_end has (Stopped halt) is answer tells = says_why has halt halt.why refl is answer tells
 
   -- an answer that is said in full, with what its status says
-  means_so : (a : Answer) (status : Status) (text : List ℕ) (taken : ℕ) → taken ≤ length input → a ≡ record { status = status; text = text; files = files; taken = taken } → MeansStatus name side p files input status text → MeansPlay name side p files input a
+  means_so : (a : Answer) (status : Status) (text : List ℕ) (taken : ℕ) → taken ≤ length input
+      → a ≡ record { status = status; text = text; files = files; taken = taken }
+      → MeansStatus name side p files input status text → MeansPlay name side p files input a
   means_so a status text taken few e means =
-      subst (λ (x : Answer). MeansPlay name side p files input x) (sym e) (record { same = refl; few = few; says = means })
+      subst (λ (x : Answer). MeansPlay name side p files input x) (sym e)
+      (record { same = refl; few = few; says = means })
 
-  fault_told : (bytes : List ℕ) → files name ≡ Some bytes → (fault : TableFault) → opened (table_format Plain) (Some bytes) ≡ Err fault → TellsTableFault name files (table_line fault)
-  fault_told bytes there fault e = record { bytes = bytes; there = there; fault = fault; refused = e; told = refl }
+  fault_told : (bytes : List ℕ) → files name ≡ Some bytes → (fault : TableFault)
+      → opened (table_format Plain) (Some bytes) ≡ Err fault
+      → TellsTableFault name files (table_line fault)
+  fault_told bytes there fault e =
+      record { bytes = bytes; there = there; fault = fault; refused = e; told = refl }
 
-  refused_says : (bytes : List ℕ) → files name ≡ Some bytes → (fault : TableFault) → opened (table_format Plain) (Some bytes) ≡ Err fault → IsOfBytes fault
-      → MeansStatus name side p files input (status_of (refusals.Table fault)) (refusal_line (refusals.Table fault))
+  refused_says : (bytes : List ℕ) → files name ≡ Some bytes → (fault : TableFault)
+      → opened (table_format Plain) (Some bytes) ≡ Err fault → IsOfBytes fault
+      → MeansStatus name side p files input (status_of (refusals.Table fault))
+      (refusal_line (refusals.Table fault))
   refused_says bytes there table.Missing e of = absurd of
   refused_says bytes there table.Magic e of = fault_told bytes there table.Magic e
-  refused_says bytes there (table.Truncated length due) e of = fault_told bytes there (table.Truncated length due) e
-  refused_says bytes there (table.Extra length due) e of = fault_told bytes there (table.Extra length due) e
+  refused_says bytes there (table.Truncated length due) e of =
+      fault_told bytes there (table.Truncated length due) e
+  refused_says bytes there (table.Extra length due) e of =
+      fault_told bytes there (table.Extra length due) e
   refused_says bytes there (table.Rules fault) e of = fault_told bytes there (table.Rules fault) e
-  refused_says bytes there (table.Size kept due) e of = fault_told bytes there (table.Size kept due) e
+  refused_says bytes there (table.Size kept due) e of =
+      fault_told bytes there (table.Size kept due) e
   refused_says bytes there table.Failed e of = absurd of
   refused_says bytes there table.NoMemory e of = absurd of
 
-  module _ (bytes : List ℕ) (there : files name ≡ Some bytes) (contents : Contents) (opens : opened (table_format Plain) (Some bytes) ≡ Ok contents) (a : Answer) where
-    played_means : Member contents.rules.groups p → IsPlayed contents bytes side p files input a → MeansPlay name side p files input a
+  module _ (bytes : List ℕ) (there : files name ≡ Some bytes) (contents : Contents)
+      (opens : opened (table_format Plain) (Some bytes) ≡ Ok contents) (a : Answer) where
+    played_means : Member contents.rules.groups p → IsPlayed contents bytes side p files input a
+        → MeansPlay name side p files input a
     played_means inside played =
         let has : HasSession name side p files input = record {
           bytes = bytes;
@@ -184,30 +257,54 @@ module _ (laws : SessionLaws) (name : List ℕ) (side : Colour) (p : Board) (fil
           left = played.left;
           session = played.session;
         } in
-        means_so a (session_status played.answer) (played_text side (start_code has) played.plies played.end played.answer) (length input - length played.left.left) (omega arith) played.told
+        means_so a (session_status played.answer)
+        (played_text side (start_code has) played.plies played.end played.answer)
+        (length input - length played.left.left) (omega arith) played.told
         (says_end has played.end refl played.answer played.tells)
 
-    outside_means : (Member contents.rules.groups p → ⊥) → a ≡ says (status_of refusals.Outside) (refusal_line refusals.Outside) files → MeansPlay name side p files input a
+    outside_means : (Member contents.rules.groups p → ⊥)
+        → a ≡ says (status_of refusals.Outside) (refusal_line refusals.Outside) files
+        → MeansPlay name side p files input a
     outside_means none e =
         means_so a statuses.Outside (refusal_line refusals.Outside) 0 (omega arith) e
-        (inl (record { bytes = bytes; contents = contents; open_file = record { there = there; opens = opens }; outside = none; told = refl }))
+        (inl (record {
+          bytes = bytes;
+          contents = contents;
+          open_file = record { there = there; opens = opens };
+          outside = none;
+          told = refl;
+        }))
 
     by_test : (b : Bool) → is_member contents.rules.groups p ≡ b
-        → MatchBool b (IsPlayed contents bytes side p files input a) (a ≡ says (status_of refusals.Outside) (refusal_line refusals.Outside) files) → MeansPlay name side p files input a
+        → MatchBool b (IsPlayed contents bytes side p files input a)
+        (a ≡ says (status_of refusals.Outside) (refusal_line refusals.Outside) files)
+        → MeansPlay name side p files input a
     by_test true e h = played_means (member_of contents.rules.groups p e) h
-    by_test false e h = outside_means (λ inside. let no : false ≡ true = sym e ∙ of_member contents.rules.groups p inside in cc) h
+    by_test false e h = outside_means
+        (λ inside. let no : false ≡ true = sym e ∙ of_member contents.rules.groups p inside in cc) h
 
-  by_opening : (bytes : List ℕ) → files name ≡ Some bytes → (x : Result Contents TableFault) → opened (table_format Plain) (Some bytes) ≡ x
+  by_opening : (bytes : List ℕ) → files name ≡ Some bytes → (x : Result Contents TableFault)
+      → opened (table_format Plain) (Some bytes) ≡ x
       → (a : Answer) → IsPlayedBy x bytes side p files input a → MeansPlay name side p files input a
-  by_opening bytes there (Ok contents) opens a h = by_test bytes there contents opens a (is_member contents.rules.groups p) refl h
+  by_opening bytes there (Ok contents) opens a h =
+      by_test bytes there contents opens a (is_member contents.rules.groups p) refl h
   by_opening bytes there (Err fault) e a h =
-      means_so a (status_of (refusals.Table fault)) (refusal_line (refusals.Table fault)) 0 (omega arith) h (refused_says bytes there fault e (of_bytes (table_format Plain) bytes fault e))
+      means_so a (status_of (refusals.Table fault)) (refusal_line (refusals.Table fault)) 0
+      (omega arith) h (refused_says bytes there fault e
+      (of_bytes (table_format Plain) bytes fault e))
 
-  by_file : (held : Option (List ℕ)) → files name ≡ held → (a : Answer) → IsPlayedBy (opened (table_format Plain) held) (unwrap_or held []) side p files input a → MeansPlay name side p files input a
+  by_file : (held : Option (List ℕ)) → files name ≡ held → (a : Answer)
+      → IsPlayedBy (opened (table_format Plain) held) (unwrap_or held []) side p files input a
+      → MeansPlay name side p files input a
   by_file None e a h =
       means_so a statuses.Missing (table_line table.Missing) 0 (omega arith)
-      (subst (λ (x : Result Contents TableFault). IsPlayedBy x [] side p files input a) (opened_missing (table_format Plain)) h) e
-  by_file (Some bytes) e a h = by_opening bytes e (opened (table_format Plain) (Some bytes)) refl a h
+      (subst (λ (x : Result Contents TableFault). IsPlayedBy x [] side p files input a)
+      (opened_missing (table_format Plain)) h) e
+  by_file (Some bytes) e a h =
+      by_opening bytes e (opened (table_format Plain) (Some bytes)) refl a h
 
-pub play_means : SessionLaws → (name : List ℕ) (side : Colour) (p : Board) (files : Files) (input : List ℕ) (a : Answer) → IsPlayedAt name side p files input a → MeansPlay name side p files input a
-play_means laws name side p files input a h = by_file laws name side p files input (files name) refl a h
+pub play_means : SessionLaws → (name : List ℕ) (side : Colour) (p : Board) (files : Files)
+    (input : List ℕ) (a : Answer) → IsPlayedAt name side p files input a
+    → MeansPlay name side p files input a
+play_means laws name side p files input a h =
+    by_file laws name side p files input (files name) refl a h

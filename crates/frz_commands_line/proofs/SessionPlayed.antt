@@ -46,21 +46,27 @@ use Rattle.frz_commands_line.proofs.SessionTexts.{Answered, answered_at, never_c
 use Rattle.frz_commands_line.proofs.Taken.{rest_after, Split, found_in, after_lines, rest_left, cut_after}
 
 -- what was written of the session and taken of the input
-abbrev pub Played : Table → Colour → Board → Option Files → Result SessionEnd PlayFault → SourceTold → SourceTold → SinkTold → SinkTold → (before now : Spent) → Type 0
+abbrev pub Played : Table → Colour → Board → Option Files → Result SessionEnd PlayFault → SourceTold
+    → SourceTold → SinkTold → SinkTold → (before now : Spent) → Type 0
 Played table side p files result source gone old new before now =
-    (text : List ℕ) × (took : List ℕ) × IsLines text × WroteBy result text old new × TookBytes took source gone
+    (text : List ℕ) × (took : List ℕ) × IsLines text × WroteBy result text old new
+    × TookBytes took source gone
     × IfSome (told_codes table side files)
-    (λ codes. (whole : List ℕ) × MayHold source whole × TellsSession table.rules side codes p whole took text result before now)
+    (λ codes. (whole : List ℕ) × MayHold source whole
+    × TellsSession table.rules side codes p whole took text result before now)
 
 -- neither count of the input has fallen
-input_later : (result : Result SessionEnd PlayFault) (source gone : SourceTold) → InputCause result source gone → source.faults ≤ gone.faults
+input_later : (result : Result SessionEnd PlayFault) (source gone : SourceTold)
+    → InputCause result source gone → source.faults ≤ gone.faults
 input_later (Ok end) source gone cause = omega (arith, cause)
 input_later (Err (plays.Line fault)) source gone cause = omega (arith, cause)
 input_later (Err plays.Input) source gone cause = cause.later
 input_later (Err (plays.Limit limit)) source gone cause = omega (arith, cause)
 
-module _ (there : SessionThere) (table : Table) (side : Colour) (p : Board) (store left : StoreTold) (source gone : SourceTold) (out mid taken : SinkTold) (before now : ℕ)
-    (quiet : StoreQuiet store left) (later : before ≤ now) (carried : Carries store.files table) where
+module _ (there : SessionThere) (table : Table) (side : Colour) (p : Board) (store left : StoreTold)
+    (source gone : SourceTold) (out mid taken : SinkTold) (before now : ℕ)
+    (quiet : StoreQuiet store left) (later : before ≤ now)
+    (carried : Carries store.files table) where
   abbrev job : Job
   job = playing_in table side p
 
@@ -80,24 +86,37 @@ module _ (there : SessionThere) (table : Table) (side : Colour) (p : Board) (sto
   abbrev code_in : Files → ℕ
   code_in m = code_at (contents_of table) (bytes_at m table.name) side p
 
-  module _ (inside : Member table.rules.groups p) (text took : List ℕ) (lines : IsLines text) (bytes : TookBytes took source gone) (fell : source.faults ≤ gone.faults) where
+  module _ (inside : Member table.rules.groups p) (text took : List ℕ) (lines : IsLines text)
+      (bytes : TookBytes took source gone) (fell : source.faults ≤ gone.faults) where
     abbrev Session : Result SessionEnd PlayFault → Files → Type 0
-    Session result m = SessionSo (contents_of table) (bytes_at m table.name) side p text took result source (spent_by store before) (spent_by left now)
+    Session result m = SessionSo (contents_of table) (bytes_at m table.name) side p text took result
+        source (spent_by store before) (spent_by left now)
 
     abbrev TellsIt : Result SessionEnd PlayFault → Type 0
     TellsIt result =
         IfSome (told_codes table side store.files)
-        (λ codes. (whole : List ℕ) × MayHold source whole × TellsSession table.rules side codes p whole took text result (spent_by store before) (spent_by left now))
+        (λ codes. (whole : List ℕ) × MayHold source whole
+        × TellsSession table.rules side codes p whole took text result (spent_by store before)
+        (spent_by left now))
 
     came : TookText text out mid → Came text took old between
     came wrote = record {
       later = record {
-        store = record { asked = omega arith; calls = omega arith; faults = omega arith; wants = omega arith };
+        store = record {
+          asked = omega arith;
+          calls = omega arith;
+          faults = omega arith;
+          wants = omega arith;
+        };
         input = omega arith;
         out = (let e = wrote.faults in omega (arith, e));
         steps = omega arith;
       };
-      fine = record { store = record { faults = refl; wants = refl }; input = refl; out = wrote.faults };
+      fine = record {
+        store = record { faults = refl; wants = refl };
+        input = refl;
+        out = wrote.faults;
+      };
       store = record { files = refl; last = refl; room = refl };
       took = bytes.front;
       left = bytes.behind;
@@ -112,35 +131,54 @@ module _ (there : SessionThere) (table : Table) (side : Colour) (p : Board) (sto
       taken = refl;
     }
 
-    so_in : (result : Result SessionEnd PlayFault) → TellsIt result → IsSome store.files → (m : Files) → IfSome store.files (λ told. told ≡ m) → Session result m
+    so_in : (result : Result SessionEnd PlayFault) → TellsIt result → IsSome store.files
+        → (m : Files) → IfSome store.files (λ told. told ≡ m) → Session result m
     so_in result tells sees m agrees =
-        session_so there table side p text took result source (spent_by store before) (spent_by left now) inside store.files m sees agrees carried tells
+        session_so there table side p text took result source (spent_by store before)
+        (spent_by left now) inside store.files m sees agrees carried tells
 
     abbrev rest_of : (result : Result SessionEnd PlayFault) (m : Files) → Session result m → List ℕ
     rest_of result m so = so.of.unread ++ so.left.left
 
-    split_in : (result : Result SessionEnd PlayFault) → TellsIt result → IsSome store.files → (m : Files) → IfSome store.files (λ told. told ≡ m) → Split took source.left
+    split_in : (result : Result SessionEnd PlayFault) → TellsIt result → IsSome store.files
+        → (m : Files) → IfSome store.files (λ told. told ≡ m) → Split took source.left
     split_in result tells sees m agrees =
         let so = so_in result tells sees m agrees in
         record { input = so.input; rest = rest_of result m so; may = so.may; split = so.of.takes }
 
     -- what was spent is within the costs of the session
-    session_costs : (result : Result SessionEnd PlayFault) (m : Files) (so : Session result m) (a : Answer) → job.costs m so.input a (spent old) (spent played)
+    session_costs : (result : Result SessionEnd PlayFault) (m : Files) (so : Session result m)
+        (a : Answer) → job.costs m so.input a (spent old) (spent played)
     session_costs result m so a =
-        costs_inside (contents_of table) p (SessionComes (bytes_at m table.name) side p so.input (contents_of table)) (spent old) (spent played) inside so.costs
+        costs_inside (contents_of table) p
+        (SessionComes (bytes_at m table.name) side p so.input (contents_of table)) (spent old)
+        (spent played) inside so.costs
 
-    rest_costs : (result : Result SessionEnd PlayFault) (m : Files) (so : Session result m) (a : Answer) → job.costs m (took ++ rest_of result m so) a (spent old) (spent played)
-    rest_costs result m so a = subst (λ (i : List ℕ). job.costs m i a (spent old) (spent played)) (sym so.of.takes) (session_costs result m so a)
+    rest_costs : (result : Result SessionEnd PlayFault) (m : Files) (so : Session result m)
+        (a : Answer) → job.costs m (took ++ rest_of result m so) a (spent old) (spent played)
+    rest_costs result m so a = subst (λ (i : List ℕ). job.costs m i a (spent old) (spent played))
+        (sym so.of.takes) (session_costs result m so a)
 
     -- an answer is this one of the session
-    is_answer : (result : Result SessionEnd PlayFault) (m : Files) (so : Session result m) (answer : Result SessionEnd PlayFault) → Tells side so.end answer → (a : Answer)
-        → a ≡ session_answer side (code_in m) so.input so.plies so.end so.left answer m → job.answers m so.input a
+    is_answer : (result : Result SessionEnd PlayFault) (m : Files) (so : Session result m)
+        (answer : Result SessionEnd PlayFault) → Tells side so.end answer → (a : Answer)
+        → a ≡ session_answer side (code_in m) so.input so.plies so.end so.left answer m
+        → job.answers m so.input a
     is_answer result m so answer tells a e =
         played_inside (contents_of table) (bytes_at m table.name) side p m so.input a inside
-        (record { plies = so.plies; end = so.end; left = so.left; session = so.session; answer = answer; tells = tells; told = e })
+        (record {
+          plies = so.plies;
+          end = so.end;
+          left = so.left;
+          session = so.session;
+          answer = answer;
+          tells = tells;
+          told = e;
+        })
 
     -- how many bytes the session takes
-    many_taken : (result : Result SessionEnd PlayFault) (m : Files) (so : Session result m) → length took + length so.of.unread ≡ length so.input - length so.left.left
+    many_taken : (result : Result SessionEnd PlayFault) (m : Files) (so : Session result m)
+        → length took + length so.of.unread ≡ length so.input - length so.left.left
     many_taken result m so =
         let all = ap length so.of.takes in
         let first = length-append took (so.of.unread ++ so.left.left) in
@@ -151,63 +189,95 @@ module _ (there : SessionThere) (table : Table) (side : Colour) (p : Board) (sto
     this m status line many = record { status = status; text = line; files = m; taken = many }
 
     -- an answer behind what was written and taken is that of the session
-    behind_it : (result : Result SessionEnd PlayFault) (m : Files) (so : Session result m) (answer : Result SessionEnd PlayFault) → Tells side so.end answer → (line : List ℕ) (many : ℕ)
-        → text ++ line ≡ played_text side (code_in m) so.plies so.end answer → many ≡ length so.of.unread
-        → job.answers m (took ++ rest_of result m so) (behind text (length took) (this m (session_status answer) line many))
+    behind_it : (result : Result SessionEnd PlayFault) (m : Files) (so : Session result m)
+        (answer : Result SessionEnd PlayFault) → Tells side so.end answer
+        → (line : List ℕ) (many : ℕ)
+        → text ++ line ≡ played_text side (code_in m) so.plies so.end answer
+        → many ≡ length so.of.unread
+        → job.answers m (took ++ rest_of result m so)
+        (behind text (length took) (this m (session_status answer) line many))
     behind_it result m so answer tells line many texts unread =
         let whole = played_text side (code_in m) so.plies so.end answer in
-        let takes : length took + many ≡ length so.input - length so.left.left = ap (λ n. length took + n) unread ∙ many_taken result m so in
-        let same : this m (session_status answer) (text ++ line) (length took + many) ≡ session_answer side (code_in m) so.input so.plies so.end so.left answer m =
-        ap (λ (l : List ℕ). this m (session_status answer) l (length took + many)) texts ∙ ap (λ n. this m (session_status answer) whole n) takes in
-        subst (λ (i : List ℕ). job.answers m i (this m (session_status answer) (text ++ line) (length took + many))) (sym so.of.takes)
-        (is_answer result m so answer tells (this m (session_status answer) (text ++ line) (length took + many)) same)
+        let takes : length took + many ≡ length so.input - length so.left.left =
+        ap (λ n. length took + n) unread ∙ many_taken result m so in
+        let same : this m (session_status answer) (text ++ line) (length took + many)
+        ≡ session_answer side (code_in m) so.input so.plies so.end so.left answer m =
+        ap (λ (l : List ℕ). this m (session_status answer) l (length took + many)) texts
+        ∙ ap (λ n. this m (session_status answer) whole n) takes in
+        subst (λ (i : List ℕ). job.answers m i
+        (this m (session_status answer) (text ++ line) (length took + many))) (sym so.of.takes)
+        (is_answer result m so answer tells
+        (this m (session_status answer) (text ++ line) (length took + many)) same)
 
-    left_told : (result : Result SessionEnd PlayFault) (m : Files) (so : Session result m) → IfSome gone.left (λ told. told ≡ rest_of result m so)
-    left_told result m so = rest_left took (rest_of result m so) so.input source.left gone.left so.of.takes bytes.behind so.may
+    left_told : (result : Result SessionEnd PlayFault) (m : Files) (so : Session result m)
+        → IfSome gone.left (λ told. told ≡ rest_of result m so)
+    left_told result m so = rest_left took (rest_of result m so) so.input source.left gone.left
+        so.of.takes bytes.behind so.may
 
     -- the whole session was written, and its end is told
-    all_told : (result : Result SessionEnd PlayFault) (end : End) → TellsIt result → TookText text out mid → StoreFine store left → gone.faults ≡ source.faults
-        → OneOf (session_status result) job.statuses → Said (session_status result) (session_naming result) end mid taken
-        → ((final : EndOfSession) (rest unread : List ℕ) → Finishes result side final rest unread → Tells side final result × (rest ≡ []) × (unread ≡ []))
+    all_told : (result : Result SessionEnd PlayFault) (end : End) → TellsIt result
+        → TookText text out mid → StoreFine store left → gone.faults ≡ source.faults
+        → OneOf (session_status result) job.statuses
+        → Said (session_status result) (session_naming result) end mid taken
+        → ((final : EndOfSession) (rest unread : List ℕ) → Finishes result side final rest unread
+        → Tells side final result × (rest ≡ []) × (unread ≡ []))
         → Ran job end old (world left gone taken now)
     all_told result end tells took_text fine unfailed own said_it whole =
-        after_lines job text took end old between (world left gone taken now) (came took_text) lines refl refl refl
+        after_lines job text took end old between (world left gone taken now) (came took_text) lines
+        refl refl refl
         (λ sees m agrees. split_in result tells sees m agrees)
         (λ m i a costs. costs)
-        (said (rest_after job text took) (session_status result) (session_naming result) end between played taken quiet_between
+        (said (rest_after job text took) (session_status result) (session_naming result) end between
+        played taken quiet_between
         (record { store = fine; input = unfailed; out = refl }) own said_it
         (λ sees m i agrees.
         let so = so_in result tells sees m agrees.store in
         let ended = whole so.end so.of.rest so.of.unread so.of.finishes in
-        let texts : text ++ session_naming result ≡ played_text side (code_in m) so.plies so.end result =
-        ap (λ (l : List ℕ). l ++ session_naming result) (sym (append-nil text) ∙ ap (λ (l : List ℕ). text ++ l) (sym ended.1) ∙ so.of.begins) in
+        let texts : text ++ session_naming result ≡ played_text side (code_in m) so.plies so.end
+        result =
+        ap (λ (l : List ℕ). l ++ session_naming result)
+        (sym (append-nil text) ∙ ap (λ (l : List ℕ). text ++ l) (sym ended.1) ∙ so.of.begins) in
         record {
-          found = found_in (rest_after job text took) m i between (rest_of result m so) refl agrees.store (left_told result m so);
-          answer = behind_it result m so result ended.0 (session_naming result) 0 texts (sym (ap length ended.2));
-          costs = rest_costs result m so (this m (session_status result) (text ++ session_naming result) (length took + 0));
+          found = found_in (rest_after job text took) m i between (rest_of result m so) refl
+              agrees.store (left_told result m so);
+          answer = behind_it result m so result ended.0 (session_naming result) 0 texts
+              (sym (ap length ended.2));
+          costs = rest_costs result m so
+              (this m (session_status result) (text ++ session_naming result) (length took + 0));
         }))
 
     -- what the session answers at its end
-    answer_in : (result : Result SessionEnd PlayFault) (m : Files) (so : Session result m) → Answered side so.end
+    answer_in : (result : Result SessionEnd PlayFault) (m : Files) (so : Session result m)
+        → Answered side so.end
     answer_in result m so =
         answered_at side so.end
-        (λ cut. never_cut (graph_by table.rules (value_by table.rules)) side (codes_in (contents_of table) (bytes_at m table.name) side) 0 (opened so.input) (Num table.rules.groups p) so.plies so.left
-        (subst (λ (e : EndOfSession). IsSessionBy (contents_of table) (bytes_at m table.name) side p so.input so.plies e so.left) cut so.session))
+        (λ cut. never_cut (graph_by table.rules (value_by table.rules)) side
+        (codes_in (contents_of table) (bytes_at m table.name) side) 0 (opened so.input)
+        (Num table.rules.groups p) so.plies so.left
+        (subst (λ (e : EndOfSession). IsSessionBy (contents_of table) (bytes_at m table.name) side p
+        so.input so.plies e so.left) cut so.session))
 
-    rest_told : (result : Result SessionEnd PlayFault) (m : Files) (so : Session result m) (answer : Result SessionEnd PlayFault)
-        → text ++ (so.of.rest ++ session_naming answer) ≡ played_text side (code_in m) so.plies so.end answer
+    rest_told : (result : Result SessionEnd PlayFault) (m : Files) (so : Session result m)
+        (answer : Result SessionEnd PlayFault)
+        → text ++ (so.of.rest ++ session_naming answer) ≡ played_text side (code_in m) so.plies
+        so.end answer
     rest_told result m so answer =
-        sym (append_assoc text so.of.rest (session_naming answer)) ∙ ap (λ (l : List ℕ). l ++ session_naming answer) so.of.begins
+        sym (append_assoc text so.of.rest (session_naming answer))
+        ∙ ap (λ (l : List ℕ). l ++ session_naming answer) so.of.begins
 
     -- a fault of the store or of the input stopped the session
-    stopped_short : (result : Result SessionEnd PlayFault) (fault : Fault) → TellsIt result → TookText text out mid → MayMeet job fault between played
-        → ((final : EndOfSession) (rest unread : List ℕ) → Finishes result side final rest unread → StopsShort side final rest)
+    stopped_short : (result : Result SessionEnd PlayFault) (fault : Fault) → TellsIt result
+        → TookText text out mid → MayMeet job fault between played
+        → ((final : EndOfSession) (rest unread : List ℕ) → Finishes result side final rest unread
+        → StopsShort side final rest)
         → Ran job (Stopped fault) old played
     stopped_short result fault tells took_text meets short =
-        after_lines job text took (Stopped fault) old between played (came took_text) lines refl refl refl
+        after_lines job text took (Stopped fault) old between played (came took_text) lines refl
+        refl refl
         (λ sees m agrees. split_in result tells sees m agrees)
         (λ m i a costs. costs)
-        (stopped (rest_after job text took) fault between played quiet_between (meets_rest fault meets)
+        (stopped (rest_after job text took) fault between played quiet_between
+        (meets_rest fault meets)
         (λ sees m i agrees.
         let so = so_in result tells sees m agrees.store in
         let final = answer_in result m so in
@@ -215,25 +285,30 @@ module _ (there : SessionThere) (table : Table) (side : Colour) (p : Board) (sto
         let line = so.of.rest ++ session_naming answer in
         let texts = rest_told result m so answer in
         record {
-          found = found_in (rest_after job text took) m i between (rest_of result m so) refl agrees.store (left_told result m so);
+          found = found_in (rest_after job text took) m i between (rest_of result m so) refl
+              agrees.store (left_told result m so);
           some = record {
             a = this m (session_status answer) line (length so.of.unread);
             answer = behind_it result m so answer final.tells line (length so.of.unread) texts refl;
             text = final.said so.of.rest (short so.end so.of.rest so.of.unread so.of.finishes);
           };
-          costs = rest_costs result m so (this m (session_status answer) (text ++ line) (length took + length so.of.unread));
+          costs = rest_costs result m so
+              (this m (session_status answer) (text ++ line) (length took + length so.of.unread));
         }))
       where
-        meets_rest : (f : Fault) → MayMeet job f between played → MayMeet (rest_after job text took) f between played
+        meets_rest : (f : Fault) → MayMeet job f between played
+            → MayMeet (rest_after job text took) f between played
         meets_rest stops.Store h = h
         meets_rest stops.Input h = h
         meets_rest stops.NoMemory h = h
 
     -- the sink failed within the session
-    cut_short : TellsIt (Err (plays.Line faults.Output)) → FailedWithin text out mid → Ran job SinkFault old played
+    cut_short : TellsIt (Err (plays.Line faults.Output)) → FailedWithin text out mid
+        → Ran job SinkFault old played
     cut_short tells failed =
         cut_after job text took old (world left gone out now) mid refl refl
-        (record { store = quiet.later; input = fell; out = omega arith; steps = later }) quiet.unwritten bytes.behind failed
+        (record { store = quiet.later; input = fell; out = omega arith; steps = later })
+        quiet.unwritten bytes.behind failed
         (λ sees m agrees.
         let result : Result SessionEnd PlayFault = Err (plays.Line faults.Output) in
         let so = so_in result tells sees m agrees in
@@ -253,45 +328,73 @@ module _ (there : SessionThere) (table : Table) (side : Colour) (p : Board) (sto
         })
 
   -- a fault ended the command, and nothing more was written
-  ended_as : (end wanted : End) → (end ≡ wanted) × (taken ≡ mid) → Ran job wanted old played → Ran job end old (world left gone taken now)
+  ended_as : (end wanted : End) → (end ≡ wanted) × (taken ≡ mid) → Ran job wanted old played
+      → Ran job end old (world left gone taken now)
   ended_as end wanted ends ran =
-      subst (λ (o : SinkTold). Ran job end old (world left gone o now)) (sym ends.1) (subst (λ (e : End). Ran job e old played) (sym ends.0) ran)
+      subst (λ (o : SinkTold). Ran job end old (world left gone o now)) (sym ends.1)
+      (subst (λ (e : End). Ran job e old played) (sym ends.0) ran)
 
   -- the session was played from a position of the set, and its end told
-  pub session_ran : Member table.rules.groups p → (result : Result SessionEnd PlayFault) (end : End) → ((result ≡ Err (plays.Line faults.Outside)) ↔ (Member table.rules.groups p → ⊥))
-      → StoreCause result store left → InputCause result source gone → EndsSession result end mid taken
-      → Played table side p store.files result source gone out mid (spent_by store before) (spent_by left now) → Ran job end old (world left gone taken now)
+  pub session_ran : Member table.rules.groups p → (result : Result SessionEnd PlayFault) (end : End)
+      → ((result ≡ Err (plays.Line faults.Outside)) ↔ (Member table.rules.groups p → ⊥))
+      → StoreCause result store left → InputCause result source gone
+      → EndsSession result end mid taken
+      → Played table side p store.files result source gone out mid (spent_by store before)
+      (spent_by left now) → Ran job end old (world left gone taken now)
   session_ran inside (Ok last) end outside cause input ends w =
-      all_told inside w.0 w.1 w.2 w.4 (input_later (Ok last) source gone input) (Ok last) end w.5 w.3 cause input refl ends (λ final rest unread h. h)
+      all_told inside w.0 w.1 w.2 w.4 (input_later (Ok last) source gone input) (Ok last) end w.5
+      w.3 cause input refl ends (λ final rest unread h. h)
   session_ran inside (Err (plays.Limit limit)) end outside cause input ends w =
-      all_told inside w.0 w.1 w.2 w.4 (input_later (Err (plays.Limit limit)) source gone input) (Err (plays.Limit limit)) end w.5 w.3 cause input refl ends (λ final rest unread h. h)
+      all_told inside w.0 w.1 w.2 w.4 (input_later (Err (plays.Limit limit)) source gone input)
+      (Err (plays.Limit limit)) end w.5 w.3 cause input refl ends (λ final rest unread h. h)
   session_ran inside (Err (plays.Line faults.NoBound)) end outside cause input ends w =
-      all_told inside w.0 w.1 w.2 w.4 (input_later (Err (plays.Line faults.NoBound)) source gone input) (Err (plays.Line faults.NoBound)) end w.5 w.3 cause input refl ends (λ final rest unread h. h)
+      all_told inside w.0 w.1 w.2 w.4
+      (input_later (Err (plays.Line faults.NoBound)) source gone input)
+      (Err (plays.Line faults.NoBound)) end w.5 w.3 cause input refl ends (λ final rest unread h. h)
   session_ran inside (Err (plays.Line (faults.Wrong x))) end outside cause input ends w =
-      all_told inside w.0 w.1 w.2 w.4 (input_later (Err (plays.Line (faults.Wrong x))) source gone input) (Err (plays.Line (faults.Wrong x))) end w.5 w.3 cause input refl ends (λ final rest unread h. h)
-  session_ran inside (Err (plays.Line faults.Outside)) end outside cause input ends w = absurd (outside.0 refl inside)
+      all_told inside w.0 w.1 w.2 w.4
+      (input_later (Err (plays.Line (faults.Wrong x))) source gone input)
+      (Err (plays.Line (faults.Wrong x))) end w.5 w.3 cause input refl ends
+      (λ final rest unread h. h)
+  session_ran inside (Err (plays.Line faults.Outside)) end outside cause input ends w =
+      absurd (outside.0 refl inside)
   session_ran inside (Err (plays.Line faults.Store)) end outside cause input ends w =
       ended_as end (Stopped stops.Store) ends
-      (stopped_short inside w.0 w.1 w.2 w.4 (input_later (Err (plays.Line faults.Store)) source gone input) (Err (plays.Line faults.Store)) stops.Store w.5 w.3 (refl, cause) (λ final rest unread h. h))
+      (stopped_short inside w.0 w.1 w.2 w.4
+      (input_later (Err (plays.Line faults.Store)) source gone input)
+      (Err (plays.Line faults.Store)) stops.Store w.5 w.3 (refl, cause) (λ final rest unread h. h))
   session_ran inside (Err (plays.Line faults.NoMemory)) end outside cause input ends w =
       ended_as end (Stopped stops.NoMemory) ends
-      (stopped_short inside w.0 w.1 w.2 w.4 (input_later (Err (plays.Line faults.NoMemory)) source gone input) (Err (plays.Line faults.NoMemory)) stops.NoMemory w.5 w.3 refl (λ final rest unread h. h))
+      (stopped_short inside w.0 w.1 w.2 w.4
+      (input_later (Err (plays.Line faults.NoMemory)) source gone input)
+      (Err (plays.Line faults.NoMemory)) stops.NoMemory w.5 w.3 refl (λ final rest unread h. h))
   session_ran inside (Err plays.Input) end outside cause input ends w =
       ended_as end (Stopped stops.Input) ends
-      (stopped_short inside w.0 w.1 w.2 w.4 (input_later (Err plays.Input) source gone input) (Err plays.Input) stops.Input w.5 w.3 (refl, input.rose) (λ final rest unread h. h))
+      (stopped_short inside w.0 w.1 w.2 w.4 (input_later (Err plays.Input) source gone input)
+      (Err plays.Input) stops.Input w.5 w.3 (refl, input.rose) (λ final rest unread h. h))
   session_ran inside (Err (plays.Line faults.Output)) end outside cause input ends w =
       ended_as end SinkFault ends
-      (cut_short inside w.0 w.1 w.2 w.4 (input_later (Err (plays.Line faults.Output)) source gone input) w.5 w.3)
+      (cut_short inside w.0 w.1 w.2 w.4
+      (input_later (Err (plays.Line faults.Output)) source gone input) w.5 w.3)
 
 -- the position is not in the set
-pub outside_ran : (table : Table) (side : Colour) (p : Board) (store : StoreTold) (source : SourceTold) (out taken : SinkTold) (steps : ℕ) (end : End) → (Member table.rules.groups p → ⊥)
-    → Said (status_of refusals.Outside) (refusal_line refusals.Outside) end out taken → Ran (playing_in table side p) end (world store source out steps) (world store source taken steps)
+pub outside_ran : (table : Table) (side : Colour) (p : Board) (store : StoreTold)
+    (source : SourceTold) (out taken : SinkTold) (steps : ℕ) (end : End)
+    → (Member table.rules.groups p → ⊥)
+    → Said (status_of refusals.Outside) (refusal_line refusals.Outside) end out taken
+    → Ran (playing_in table side p) end (world store source out steps)
+    (world store source taken steps)
 outside_ran table side p store source out taken steps end none said_it =
-    said (playing_in table side p) (status_of refusals.Outside) (refusal_line refusals.Outside) end (world store source out steps) (world store source out steps) taken
-    (quiet_same (world store source out steps)) (fine_same (world store source out steps)) refl said_it
+    said (playing_in table side p) (status_of refusals.Outside) (refusal_line refusals.Outside) end
+    (world store source out steps) (world store source out steps) taken
+    (quiet_same (world store source out steps)) (fine_same (world store source out steps)) refl
+    said_it
     (λ sees m i agrees. record {
       found = as_given (playing_in table side p) m i (world store source out steps) agrees;
-      answer = played_outside (contents_of table) (bytes_at m table.name) side p m i (says (status_of refusals.Outside) (refusal_line refusals.Outside) m) none refl;
-      costs = costs_outside (contents_of table) p (SessionComes (bytes_at m table.name) side p i (contents_of table)) (spent_by store steps) (spent_by store steps) none
+      answer = played_outside (contents_of table) (bytes_at m table.name) side p m i
+          (says (status_of refusals.Outside) (refusal_line refusals.Outside) m) none refl;
+      costs = costs_outside (contents_of table) p
+          (SessionComes (bytes_at m table.name) side p i (contents_of table)) (spent_by store steps)
+          (spent_by store steps) none
           (record { steps = omega arith; calls = omega arith; asked = omega arith });
     })

@@ -1,4 +1,5 @@
--- What is known of a session that was played, by the file that the store tells and some input that may be told.
+-- What is known of a session that was played, by the file that
+-- the store tells and some input that may be told.
 use Rattle.std.proofs.Common.{◌≡◌, sym, subst, ℕ, List, [], true, false, Option, Some, None, Result, IfSome}
 use Rattle.std.specs.Prelude.{IsSome, IsSomeAnd, MatchBool}
 use Rattle.std.specs.Option.{option_map, unwrap_or}
@@ -33,24 +34,33 @@ use Rattle.frz_commands_line.proofs.Seen.{not_member}
 
 -- that there is a session from each number against each input
 abbrev pub SessionThere : Type 0
-SessionThere = (rules : RuleLines) (value : Board → Value) (side : Colour) (codes : List ℕ) (start : ℕ) (input : List ℕ)
-    → (plies : List SessionPly) × (end : EndOfSession) × (left : Input) × IsSession rules value side codes start input plies end left
+SessionThere = (rules : RuleLines) (value : Board → Value) (side : Colour) (codes : List ℕ)
+    (start : ℕ) (input : List ℕ)
+    → (plies : List SessionPly) × (end : EndOfSession) × (left : Input)
+    × IsSession rules value side codes start input plies end left
 
 -- the answer at a position of the set, and at one that is outside
-module _ (contents : Contents) (bytes : List ℕ) (side : Colour) (p : Board) (files : Files) (input : List ℕ) (a : Answer) where
+module _ (contents : Contents) (bytes : List ℕ) (side : Colour) (p : Board) (files : Files)
+    (input : List ℕ) (a : Answer) where
   abbrev Refuses : Type 0
   Refuses = a ≡ says (status_of refusals.Outside) (refusal_line refusals.Outside) files
 
-  pub played_inside : Member contents.rules.groups p → IsPlayed contents bytes side p files input a → IsPlayedIn contents bytes side p files input a
+  pub played_inside : Member contents.rules.groups p → IsPlayed contents bytes side p files input a
+      → IsPlayedIn contents bytes side p files input a
   played_inside inside played =
-      subst (λ b. MatchBool b (IsPlayed contents bytes side p files input a) Refuses) (sym (of_member contents.rules.groups p inside)) played
+      subst (λ b. MatchBool b (IsPlayed contents bytes side p files input a) Refuses)
+      (sym (of_member contents.rules.groups p inside)) played
 
-  pub played_outside : (Member contents.rules.groups p → ⊥) → Refuses → IsPlayedIn contents bytes side p files input a
+  pub played_outside : (Member contents.rules.groups p → ⊥) → Refuses
+      → IsPlayedIn contents bytes side p files input a
   played_outside none e =
-      subst (λ b. MatchBool b (IsPlayed contents bytes side p files input a) Refuses) (sym (not_member contents.rules.groups p none)) e
+      subst (λ b. MatchBool b (IsPlayed contents bytes side p files input a) Refuses)
+      (sym (not_member contents.rules.groups p none)) e
 
 -- the session of which this text was written and these bytes taken, with what was spent on it
-pub record SessionSo (contents : Contents) (bytes : List ℕ) (side : Colour) (p : Board) (text took : List ℕ) (result : Result SessionEnd PlayFault) (source : SourceTold) (before now : Spent) : Type 0 where
+pub record SessionSo (contents : Contents) (bytes : List ℕ) (side : Colour) (p : Board)
+    (text took : List ℕ) (result : Result SessionEnd PlayFault) (source : SourceTold)
+    (before now : Spent) : Type 0 where
   pub input : List ℕ
   pub may : MayHold source input
   pub plies : List SessionPly
@@ -58,20 +68,26 @@ pub record SessionSo (contents : Contents) (bytes : List ℕ) (side : Colour) (p
   pub left : Input
   pub session : IsSessionBy contents bytes side p input plies end left
   pub of : PlayedOf side (code_at contents bytes side p) input took text result plies end left
-  pub costs : (numbers : List ℕ) → SessionComes bytes side p input contents numbers → SpendsAt (graph_by contents.rules (value_by contents.rules)) 1 numbers before now
+  pub costs : (numbers : List ℕ) → SessionComes bytes side p input contents numbers
+      → SpendsAt (graph_by contents.rules (value_by contents.rules)) 1 numbers before now
 
-module _ (there : SessionThere) (table : Table) (side : Colour) (p : Board) (text took : List ℕ) (result : Result SessionEnd PlayFault) (source : SourceTold) (before now : Spent) (inside : Member table.rules.groups p) where
+module _ (there : SessionThere) (table : Table) (side : Colour) (p : Board) (text took : List ℕ)
+    (result : Result SessionEnd PlayFault) (source : SourceTold) (before now : Spent)
+    (inside : Member table.rules.groups p) where
   abbrev codes_of : List ℕ → List ℕ
   codes_of bytes = codes_at side table.text (table_size table) bytes
 
   abbrev TellsIt : List ℕ → Type 0
-  TellsIt codes = (whole : List ℕ) × MayHold source whole × TellsSession table.rules side codes p whole took text result before now
+  TellsIt codes = (whole : List ℕ) × MayHold source whole
+      × TellsSession table.rules side codes p whole took text result before now
 
-  in_file : (held : Option (List ℕ)) → IsSomeAnd held (IsFileOf table) → IfSome (option_map codes_of held) TellsIt
+  in_file : (held : Option (List ℕ)) → IsSomeAnd held (IsFileOf table)
+      → IfSome (option_map codes_of held) TellsIt
       → SessionSo (contents_of table) (unwrap_or held []) side p text took result source before now
   in_file None carried tells = absurd carried
   in_file (Some bytes) carried tells =
-      let session = there table.rules (value_by table.rules) side (codes_of bytes) (Num table.rules.groups p) tells.0 in
+      let session = there table.rules (value_by table.rules) side (codes_of bytes)
+      (Num table.rules.groups p) tells.0 in
       let so = tells.2 inside session.0 session.1 session.2 session.3 in
       let arena = graph_by table.rules (value_by table.rules) in
       record {
@@ -82,11 +98,15 @@ module _ (there : SessionThere) (table : Table) (side : Colour) (p : Board) (tex
         left = session.2;
         session = session.3;
         of = so.0;
-        costs = λ numbers comes. subst (λ (z : List ℕ). SpendsAt arena 1 z before now) (sym comes.are) (tells.2 inside comes.plies comes.end comes.left comes.session).1;
+        costs = λ numbers comes. subst (λ (z : List ℕ). SpendsAt arena 1 z before now)
+            (sym comes.are) (tells.2 inside comes.plies comes.end comes.left comes.session).1;
       }
 
-  pub session_so : (o : Option Files) (m : Files) → IsSome o → IfSome o (λ f. f ≡ m) → Carries o table → IfSome (told_codes table side o) TellsIt
-      → SessionSo (contents_of table) (bytes_at m table.name) side p text took result source before now
+  pub session_so : (o : Option Files) (m : Files) → IsSome o → IfSome o (λ f. f ≡ m)
+      → Carries o table → IfSome (told_codes table side o) TellsIt
+      → SessionSo (contents_of table) (bytes_at m table.name) side p text took result source before
+      now
   session_so None m some e carried tells = let no : false ≡ true = some in cc
   session_so (Some f) m some e carried tells =
-      subst (λ (g : Files). SessionSo (contents_of table) (bytes_at g table.name) side p text took result source before now) e (in_file (f table.name) carried tells)
+      subst (λ (g : Files). SessionSo (contents_of table) (bytes_at g table.name) side p text took
+      result source before now) e (in_file (f table.name) carried tells)

@@ -25,7 +25,8 @@ rest_after job text bytes = record job {
   costs = λ files input a. job.costs files (bytes ++ input) (behind text (length bytes) a);
 }
 
-is_rest : (job : Job) (text bytes : List ℕ) → subset job.statuses job.statuses ≡ true → IsStage (rest_after job text bytes) job
+is_rest : (job : Job) (text bytes : List ℕ) → subset job.statuses job.statuses ≡ true
+    → IsStage (rest_after job text bytes) job
 is_rest job text bytes all = record {
   statuses = all;
   store = λ h. h;
@@ -48,7 +49,8 @@ pub never_both : {A : Type 0} (b : Bool) → b ≡ true → b ≡ false → A
 never_both b e f = let no : true ≡ false = sym e ∙ f in cc
 
 -- some input that may be told, for a job that takes input
-abbrev pub found_in : (job : Job) (files : Files) (free : List ℕ) (old : World) (input : List ℕ) → IsTrue job.needs.input → IfSome old.store.files (λ told. told ≡ files)
+abbrev pub found_in : (job : Job) (files : Files) (free : List ℕ) (old : World) (input : List ℕ)
+    → IsTrue job.needs.input → IfSome old.store.files (λ told. told ≡ files)
     → IfSome old.input.left (λ told. told ≡ input) → Found job files free old
 found_in job files free old input takes there may = record {
   files = files;
@@ -59,12 +61,18 @@ found_in job files free old input takes there may = record {
 }
 
 -- the rest was done behind these lines and bytes
-pub after_lines : (job : Job) (text bytes : List ℕ) (end : End) (old mid new : World) → Came text bytes old mid → IsLines text → IsTrue job.speaks → IsTrue job.needs.input
-    → subset job.statuses job.statuses ≡ true → (Sees job.needs.reads old → (files : Files) → IfSome old.store.files (λ told. told ≡ files) → Split bytes old.input.left)
-    → ((m : Files) (i : List ℕ) (a : Answer) → (rest_after job text bytes).costs m i a (spent mid) (spent new) → job.costs m (bytes ++ i) (behind text (length bytes) a) (spent old) (spent new))
+pub after_lines : (job : Job) (text bytes : List ℕ) (end : End) (old mid new : World)
+    → Came text bytes old mid → IsLines text → IsTrue job.speaks → IsTrue job.needs.input
+    → subset job.statuses job.statuses ≡ true
+    → (Sees job.needs.reads old → (files : Files)
+    → IfSome old.store.files (λ told. told ≡ files) → Split bytes old.input.left)
+    → ((m : Files) (i : List ℕ) (a : Answer) → (rest_after job text bytes).costs m i a (spent mid)
+    (spent new) → job.costs m (bytes ++ i) (behind text (length bytes) a) (spent old)
+    (spent new))
     → Ran (rest_after job text bytes) end mid new → Ran job end old new
 after_lines job text bytes end old mid new came lines speaks takes all split costs ran =
-    follows (rest_after job text bytes) job text bytes old mid new came lines speaks (is_rest job text bytes all) end
+    follows (rest_after job text bytes) job text bytes old mid new came lines speaks
+    (is_rest job text bytes all) end
     (λ e. (let no : true ≡ false = sym takes ∙ e in cc))
     (λ sees files input agrees.
     let here = split sees files agrees.store in record {
@@ -77,10 +85,14 @@ after_lines job text bytes end old mid new came lines speaks takes all split cos
     ran
 
 -- what is left behind the bytes, where it is told, is the rest
-pub rest_left : (bytes rest input : List ℕ) (old mid : Option (List ℕ)) → bytes ++ rest ≡ input → mid ≡ option_map (drop (length bytes)) old → IfSome old (λ told. told ≡ input) → IfSome mid (λ told. told ≡ rest)
-rest_left bytes rest input None mid split e h = subst (λ (o : Option (List ℕ)). IfSome o (λ told. told ≡ rest)) (sym e) tt
+pub rest_left : (bytes rest input : List ℕ) (old mid : Option (List ℕ)) → bytes ++ rest ≡ input
+    → mid ≡ option_map (drop (length bytes)) old → IfSome old (λ told. told ≡ input)
+    → IfSome mid (λ told. told ≡ rest)
+rest_left bytes rest input None mid split e h =
+    subst (λ (o : Option (List ℕ)). IfSome o (λ told. told ≡ rest)) (sym e) tt
 rest_left bytes rest input (Some left) mid split e h =
-    subst (λ (o : Option (List ℕ)). IfSome o (λ told. told ≡ rest)) (sym e) (ap (drop (length bytes)) (h ∙ sym split) ∙ drop-append_seam bytes rest)
+    subst (λ (o : Option (List ℕ)). IfSome o (λ told. told ≡ rest)) (sym e)
+    (ap (drop (length bytes)) (h ∙ sym split) ∙ drop-append_seam bytes rest)
 
 -- an answer of which these lines and bytes are the first
 pub record Begins (job : Job) (text bytes : List ℕ) (files : Files) (old mid : World) : Type 0 where
@@ -94,12 +106,21 @@ pub record Begins (job : Job) (text bytes : List ℕ) (files : Files) (old mid :
   pub costs : job.costs files input a (spent old) (spent mid)
 
 -- the sink failed within the lines
-pub cut_after : (job : Job) (text bytes : List ℕ) (old mid : World) (out : SinkTold) → job.writes ≡ None → IsTrue job.needs.input
-    → Later old mid → Unwritten old.store mid.store → mid.input.left ≡ option_map (drop (length bytes)) old.input.left → FailedWithin text old.out out
-    → (Sees job.needs.reads old → (files : Files) → IfSome old.store.files (λ told. told ≡ files) → Begins job text bytes files old mid)
+pub cut_after : (job : Job) (text bytes : List ℕ) (old mid : World) (out : SinkTold)
+    → job.writes ≡ None → IsTrue job.needs.input
+    → Later old mid → Unwritten old.store mid.store
+    → mid.input.left ≡ option_map (drop (length bytes)) old.input.left
+    → FailedWithin text old.out out
+    → (Sees job.needs.reads old → (files : Files) → IfSome old.store.files (λ told. told ≡ files)
+    → Begins job text bytes files old mid)
     → Ran job SinkFault old (record mid { out = out })
 cut_after job text bytes old mid out none takes later same left failed begun = record {
-  later = record { store = later.store; input = later.input; out = failed.later; steps = later.steps };
+  later = record {
+    store = later.store;
+    input = later.input;
+    out = failed.later;
+    steps = later.steps;
+  };
   may = failed.rose;
   lines = tt;
   only = only_quiet job.writes none;
@@ -119,7 +140,8 @@ cut_after job text bytes old mid out none takes later same left failed begun = r
         leaves = record {
           written = take k text;
           rest = drop k text ++ here.rest;
-          begins = sym (append_assoc (take k text) (drop k text) here.rest) ∙ ap (λ (l : List ℕ). l ++ here.rest) (take-append-drop k text) ∙ here.begins;
+          begins = sym (append_assoc (take k text) (drop k text) here.rest)
+              ∙ ap (λ (l : List ℕ). l ++ here.rest) (take-append-drop k text) ∙ here.begins;
           text = failed.taken.1;
           others = record {
             files = λ name. inl (ap (λ (o : Option Files). held o name) same.files);

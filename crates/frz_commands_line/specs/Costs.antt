@@ -1,5 +1,5 @@
--- What `line` and `play` may cost: what opening the table does, and at a position of its set what the way of the line
--- or session does.
+-- What `line` and `play` may cost: what opening the table does, and at a position of its set what
+-- the way of the line or session does.
 use Rattle.std.specs.Prelude.{◌+◌, ◌*◌, ℕ, List, length, Some, Option, MatchBool, Result, Ok, Err}
 use Rattle.frz_board.specs.Boards.{Board}
 use Rattle.frz_exits.specs.Books.{value_by}
@@ -17,29 +17,35 @@ use Rattle.frz_line.specs.Costs.{reads_at}
 abbrev pub opening_costs : (calls asked : ℕ) → Costs
 opening_costs calls asked = record { steps = Some 0; calls = Some calls; asked = Some asked }
 
--- and then a call for the code of the start, and at each number that the way comes to a step, and a call for each move
--- there that stays inside; each of these calls asks for four bytes
+-- and then a call for the code of the start, and at each number that the way comes to a step, and a
+-- call for each move there that stays inside; each of these calls asks for four bytes
 abbrev pub playing_costs : Contents → (numbers : List ℕ) → (calls asked : ℕ) → Costs
 playing_costs contents numbers calls asked = record {
   steps = Some (length numbers);
   calls = Some (calls + (1 + reads_at (graph_by contents.rules (value_by contents.rules)) numbers));
-  asked = Some (asked + 4 * (1 + reads_at (graph_by contents.rules (value_by contents.rules)) numbers));
+  asked = Some (asked + 4
+      * (1 + reads_at (graph_by contents.rules (value_by contents.rules)) numbers));
 }
 
 -- by an open table: `comes` says which numbers the way from the position comes to
-abbrev pub CostsIn : Contents → Board → (comes : List ℕ → Type 0) → (calls asked : ℕ) → Spent → Spent → Type 0
+abbrev pub CostsIn : Contents → Board → (comes : List ℕ → Type 0) → (calls asked : ℕ) → Spent
+    → Spent → Type 0
 CostsIn contents p comes calls asked before now = MatchBool (is_member contents.rules.groups p)
-    ((numbers : List ℕ) → comes numbers → WithinCosts (playing_costs contents numbers calls asked) before now)
+    ((numbers : List ℕ) → comes numbers
+    → WithinCosts (playing_costs contents numbers calls asked) before now)
     (WithinCosts (opening_costs calls asked) before now)
 
 -- by how the file opens
 abbrev pub CostsBy : Result Contents TableFault → Board → (comes : Contents → List ℕ → Type 0) →
     (calls asked : ℕ) → Spent → Spent → Type 0
-CostsBy (Ok contents) p comes calls asked before now = CostsIn contents p (comes contents) calls asked before now
-CostsBy (Err fault) p comes calls asked before now = WithinCosts (opening_costs calls asked) before now
+CostsBy (Ok contents) p comes calls asked before now =
+    CostsIn contents p (comes contents) calls asked before now
+CostsBy (Err fault) p comes calls asked before now =
+    WithinCosts (opening_costs calls asked) before now
 
 -- by what the name holds: to open it, the store is asked for 16 bytes and the text
-abbrev pub CostsAt : Option (List ℕ) → Board → (comes : Contents → List ℕ → Type 0) → Spent → Spent → Type 0
+abbrev pub CostsAt : Option (List ℕ) → Board → (comes : Contents → List ℕ → Type 0) → Spent → Spent
+    → Type 0
 CostsAt held p comes before now =
     CostsBy (opened (table_format Plain) held) p comes (opening_calls (table_format Plain) held)
     (16 + length (held_text held)) before now

@@ -30,16 +30,18 @@ use Rattle.frz_line.specs.Ends as line_ends
 use Rattle.frz_line.specs.Lines.{LinePly, EndOfLine}
 use Rattle.frz_commands_line.specs.LineOf.{code_at, IsLineBy, told_text}
 
--- from a win within n plies: the opponent is mated after n plies, or an exit wins for the side, after n plies with
--- its lag counted
-pub record KeepsWin (rules : RuleLines) (side : Colour) (n : ℕ) (plies : List LinePly) (end : EndOfLine) : Type 0 where
+-- from a win within n plies: the opponent is mated after n plies, or an exit wins for the side,
+-- after n plies with its lag counted
+pub record KeepsWin (rules : RuleLines) (side : Colour) (n : ℕ) (plies : List LinePly)
+    (end : EndOfLine) : Type 0 where
   pub ends : EndsWon (graph_by rules (value_by rules)) side end
   pub mate : (mover : Colour) → end ≡ ways.Mated mover → length plies ≡ n
   pub exit : (v : Value) → end ≡ ways.Exit v → length plies + lag_of v ≡ n
 
--- from a hold: nobody is mated, and an exit holds for the side and no more; it has at most the most plies, and so many
--- where it is cut
-pub record KeepsHold (rules : RuleLines) (side : Colour) (plies : List LinePly) (end : EndOfLine) : Type 0 where
+-- from a hold: nobody is mated, and an exit holds for the side and no more; it has at most the most
+-- plies, and so many where it is cut
+pub record KeepsHold (rules : RuleLines) (side : Colour) (plies : List LinePly)
+    (end : EndOfLine) : Type 0 where
   pub ends : EndsDrawn (graph_by rules (value_by rules)) side end
   pub few : length plies ≤ MOST_PLIES
   pub cut : end ≡ ways.Cut → length plies ≡ MOST_PLIES
@@ -51,7 +53,8 @@ pub record KeepsBound (rules : RuleLines) (side : Colour) (p : Board) (code : �
   pub of : IsBoundAt rules (value_by rules) side p bound
   pub means : Means rules (value_by rules) side p bound
 
--- the file opens, the position is in its set, and this is the line of the side by the codes in the file
+-- the file opens, the position is in its set, and this is the
+-- line of the side by the codes in the file
 pub record HasLine (table : List ℕ) (side : Colour) (p : Board) (files : Files) : Type 0 where
   pub bytes : List ℕ
   pub contents : Contents
@@ -62,33 +65,41 @@ pub record HasLine (table : List ℕ) (side : Colour) (p : Board) (files : Files
   pub line : IsLineBy contents bytes side p plies end
 
 -- the code of its start
-abbrev pub start_code : {table : List ℕ} {side : Colour} {p : Board} {files : Files} → HasLine table side p files → ℕ
+abbrev pub start_code : {table : List ℕ} {side : Colour} {p : Board} {files : Files}
+    → HasLine table side p files → ℕ
 start_code {side = side} {p = p} has = code_at has.contents has.bytes side p
 
 -- the file is the one file of its text
-abbrev pub IsExactFile : {table : List ℕ} {side : Colour} {p : Board} {files : Files} → HasLine table side p files →
+abbrev pub IsExactFile : {table : List ℕ} {side : Colour} {p : Board} {files : Files} →
+    HasLine table side p files →
     Type 0
 IsExactFile has =
-    IsOneFile (magic_of Plain) has.contents.text has.contents.rules (value_by has.contents.rules) has.bytes
+    IsOneFile (magic_of Plain) has.contents.text has.contents.rules (value_by has.contents.rules)
+    has.bytes
 
 -- the text is that of the line
-abbrev pub TellsText : {table : List ℕ} {side : Colour} {p : Board} {files : Files} → HasLine table side p files →
+abbrev pub TellsText : {table : List ℕ} {side : Colour} {p : Board} {files : Files} →
+    HasLine table side p files →
     List ℕ → Type 0
-TellsText {side = side} has text = text ≡ told_text side (start_code has) has.plies (line_ends.told side has.end)
+TellsText {side = side} has text =
+    text ≡ told_text side (start_code has) has.plies (line_ends.told side has.end)
 
--- the whole line is told, with its end; a win is brought home in its plies, and a hold stays one; in the one file of a
--- text the code of the start is that of the bound
-pub record TellsLine (table : List ℕ) (side : Colour) (p : Board) (files : Files) (text : List ℕ) : Type 0 where
+-- the whole line is told, with its end; a win is brought home in its plies, and a hold stays one;
+-- in the one file of a text the code of the start is that of the bound
+pub record TellsLine (table : List ℕ) (side : Colour) (p : Board) (files : Files)
+    (text : List ℕ) : Type 0 where
   pub has : HasLine table side p files
   pub told : TellsText has text
   pub last : LineEnd
   pub ends : line_ends.told side has.end ≡ Ok last
-  pub win : (n : ℕ) → start_code has ≡ code_of (Wins n) → KeepsWin has.contents.rules side n has.plies has.end
+  pub win : (n : ℕ) → start_code has ≡ code_of (Wins n)
+      → KeepsWin has.contents.rules side n has.plies has.end
   pub hold : start_code has ≡ code_of Holds → KeepsHold has.contents.rules side has.plies has.end
   pub where_exact : IsExactFile has → KeepsBound has.contents.rules side p (start_code has)
 
 -- a code on its way is not the local one, which does not happen in the one file of a text
-pub record TellsWrong (table : List ℕ) (side : Colour) (p : Board) (files : Files) (text : List ℕ) : Type 0 where
+pub record TellsWrong (table : List ℕ) (side : Colour) (p : Board) (files : Files)
+    (text : List ℕ) : Type 0 where
   pub has : HasLine table side p files
   pub told : TellsText has text
   pub number : ℕ
@@ -98,7 +109,8 @@ pub record TellsWrong (table : List ℕ) (side : Colour) (p : Board) (files : Fi
   pub not_exact : IsExactFile has → ⊥
 
 -- the start fails
-pub record TellsNoBound (table : List ℕ) (side : Colour) (p : Board) (files : Files) (text : List ℕ) : Type 0 where
+pub record TellsNoBound (table : List ℕ) (side : Colour) (p : Board) (files : Files)
+    (text : List ℕ) : Type 0 where
   pub has : HasLine table side p files
   pub told : TellsText has text
   pub ends : has.end ≡ ways.NoBound
@@ -121,8 +133,10 @@ MeansStatus table side p files Outside text =
 MeansStatus table side p files Missing text = files table ≡ None
 MeansStatus table side p files status text = ⊥
 
--- what an answer of `line` means: it changes no file and takes no input, and each status has its cause
-pub record MeansLine (table : List ℕ) (side : Colour) (p : Board) (files : Files) (a : Answer) : Type 0 where
+-- what an answer of `line` means: it changes no file and takes
+-- no input, and each status has its cause
+pub record MeansLine (table : List ℕ) (side : Colour) (p : Board) (files : Files)
+    (a : Answer) : Type 0 where
   pub same : a.files ≡ files
   pub untaken : a.taken ≡ 0
   pub says : MeansStatus table side p files a.status a.text

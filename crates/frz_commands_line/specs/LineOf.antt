@@ -1,4 +1,5 @@
--- What `line TABLE FEN SIDE` answers: the best line of the side by the codes in the file. No file changes.
+-- What `line TABLE FEN SIDE` answers: the best line of the side
+-- by the codes in the file. No file changes.
 use Rattle.std.specs.Prelude.{◌≡◌, ℕ, List, ◌++◌, slice_index, MatchBool, Result, Ok, Err}
 use Rattle.frz_board.specs.declared.man.Colour.{Colour}
 use Rattle.frz_board.specs.Boards.{Board}
@@ -24,16 +25,19 @@ use Rattle.frz_commands_line.specs.LineEnds.{end_status, naming_line}
 
 -- the code that the bytes keep for the side at the number of the position
 abbrev pub code_at : Contents → List ℕ → Colour → Board → ℕ
-code_at contents bytes side p = slice_index (kept_codes contents bytes side) (Num contents.rules.groups p)
+code_at contents bytes side p =
+    slice_index (kept_codes contents bytes side) (Num contents.rules.groups p)
 
--- the line of the side from the position, by the codes that the bytes keep, in the game of their rules
+-- the line of the side from the position, by the codes that the
+-- bytes keep, in the game of their rules
 abbrev pub IsLineBy : Contents → List ℕ → Colour → Board → List LinePly → EndOfLine → Type 0
 IsLineBy contents bytes side p plies end =
     IsLine contents.rules (value_by contents.rules) side (kept_codes contents bytes side)
     (Num contents.rules.groups p) plies end
 
 -- these are the numbers that it comes to
-pub record LineComes (bytes : List ℕ) (side : Colour) (p : Board) (contents : Contents) (numbers : List ℕ) : Type 0 where
+pub record LineComes (bytes : List ℕ) (side : Colour) (p : Board) (contents : Contents)
+    (numbers : List ℕ) : Type 0 where
   pub plies : List LinePly
   pub end : EndOfLine
   pub line : IsLineBy contents bytes side p plies end
@@ -44,11 +48,13 @@ abbrev pub told_text : Colour → ℕ → List LinePly → Result LineEnd LineFa
 told_text side code plies answer = line_text side code plies answer ++ naming_line answer
 
 abbrev pub line_answer : Colour → ℕ → List LinePly → Result LineEnd LineFault → Files → Answer
-line_answer side code plies answer files = says (end_status answer) (told_text side code plies answer) files
+line_answer side code plies answer files =
+    says (end_status answer) (told_text side code plies answer) files
 
 -- at a position of the set: its line is told
 pub record IsLined
-    (contents : Contents) (bytes : List ℕ) (side : Colour) (p : Board) (files : Files) (a : Answer) : Type 0 where
+    (contents : Contents) (bytes : List ℕ) (side : Colour) (p : Board) (files : Files)
+    (a : Answer) : Type 0 where
   pub plies : List LinePly
   pub end : EndOfLine
   pub line : IsLineBy contents bytes side p plies end
@@ -61,7 +67,8 @@ IsLinedIn contents bytes side p files a = MatchBool (is_member contents.rules.gr
     (a ≡ says (status_of refusals.Outside) (refusal_line refusals.Outside) files)
 
 -- by how the file opens
-abbrev pub IsLinedBy : Result Contents TableFault → List ℕ → Colour → Board → Files → Answer → Type 0
+abbrev pub IsLinedBy : Result Contents TableFault → List ℕ → Colour → Board → Files → Answer
+    → Type 0
 IsLinedBy (Ok contents) bytes side p files a = IsLinedIn contents bytes side p files a
 IsLinedBy (Err fault) bytes side p files a =
     a ≡ says (status_of (refusals.Table fault)) (refusal_line (refusals.Table fault)) files

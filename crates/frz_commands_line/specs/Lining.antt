@@ -27,7 +27,8 @@ lining_in table side p =
       needs = playing_needs;
       speaks = true;
       costs = λ files input a.
-          CostsIn (contents_of table) p (LineComes (bytes_at files table.name) side p (contents_of table)) 0 0;
+          CostsIn (contents_of table) p
+          (LineComes (bytes_at files table.name) side p (contents_of table)) 0 0;
     }
 
 -- by the table of this name
@@ -44,5 +45,6 @@ lining_at table side p =
 -- line TABLE FEN SIDE
 abbrev pub line_words : List (List ℕ) → Job
 line_words words =
-    taking (λ names. on_side (λ side. on_position (lining_at names.0 side) (fen_of names.1)) (side_of names.2))
+    taking (λ names. on_side (λ side. on_position (lining_at names.0 side) (fen_of names.1))
+    (side_of names.2))
     (three_words_of words)

@@ -23,11 +23,13 @@ session_needs = record playing_needs { input = true }
 abbrev pub playing_in : OpenTable → Colour → Board → Job
 playing_in table side p =
     record (plain (Success ∷ Wrong ∷ Outside ∷ Limit ∷ [])
-    (λ files input a. IsPlayedIn (contents_of table) (bytes_at files table.name) side p files input a)) {
+    (λ files input a. IsPlayedIn (contents_of table) (bytes_at files table.name) side p files input
+    a)) {
       needs = session_needs;
       speaks = true;
       costs = λ files input a.
-          CostsIn (contents_of table) p (SessionComes (bytes_at files table.name) side p input (contents_of table)) 0 0;
+          CostsIn (contents_of table) p
+          (SessionComes (bytes_at files table.name) side p input (contents_of table)) 0 0;
     }
 
 -- by the table of this name
@@ -38,11 +40,13 @@ playing_at table side p =
       means = λ files input a. MeansPlay table side p files input a;
       needs = session_needs;
       speaks = true;
-      costs = λ files input a. CostsAt (files table) p (SessionComes (bytes_at files table) side p input);
+      costs = λ files input a. CostsAt (files table) p
+          (SessionComes (bytes_at files table) side p input);
     }
 
 -- play TABLE FEN SIDE
 abbrev pub play_words : List (List ℕ) → Job
 play_words words =
-    taking (λ names. on_side (λ side. on_position (playing_at names.0 side) (fen_of names.1)) (side_of names.2))
+    taking (λ names. on_side (λ side. on_position (playing_at names.0 side) (fen_of names.1))
+    (side_of names.2))
     (three_words_of words)

@@ -40,10 +40,11 @@ use Rattle.frz_commands_line.specs.LineMeaning.{KeepsBound, TellsOutside}
 use Rattle.frz_commands_line.specs.LineOf.{code_at}
 use Rattle.frz_commands_line.specs.SessionOf.{IsSessionBy, played_text}
 
--- from a win within n plies: at most n plies are played, with the lag of an exit counted; the opponent is mated, or the
--- exit wins for the side, unless the input ends it
+-- from a win within n plies: at most n plies are played, with the lag of an exit counted; the
+-- opponent is mated, or the exit wins for the side, unless the input ends it
 pub record PlaysWin
-    (rules : RuleLines) (side : Colour) (n : ℕ) (plies : List SessionPly) (end : EndOfSession) : Type 0 where
+    (rules : RuleLines) (side : Colour) (n : ℕ) (plies : List SessionPly)
+    (end : EndOfSession) : Type 0 where
   pub few : length plies ≤ n
   pub ends : EndsWon (graph_by rules (value_by rules)) side end
   pub exit : (v : Value) → end ≡ ways.Exit v → length plies + lag_of v ≤ n
@@ -57,10 +58,13 @@ abbrev pub IsSafe : RuleLines → Colour → List SessionPly → Type 0
 IsSafe rules side plies =
     (x : SessionPly) → Contains plies x →
     (p : Board) (m : Step) → position_at rules.groups x.from ≡ Some p →
-    slice_get (legal_moves_of p) x.place ≡ Some m → NeverForcesMate chess (other_of side) (after p m)
+    slice_get (legal_moves_of p) x.place ≡ Some m
+    → NeverForcesMate chess (other_of side) (after p m)
 
--- the file opens, the position is in its set, and this is the session of the side by the codes in the file
-pub record HasSession (table : List ℕ) (side : Colour) (p : Board) (files : Files) (input : List ℕ) : Type 0 where
+-- the file opens, the position is in its set, and this is the
+-- session of the side by the codes in the file
+pub record HasSession (table : List ℕ) (side : Colour) (p : Board) (files : Files)
+    (input : List ℕ) : Type 0 where
   pub bytes : List ℕ
   pub contents : Contents
   pub open_file : OpensAs table files bytes contents
@@ -71,38 +75,46 @@ pub record HasSession (table : List ℕ) (side : Colour) (p : Board) (files : Fi
   pub session : IsSessionBy contents bytes side p input plies end left
 
 -- the code of its start
-abbrev pub start_code : {table : List ℕ} {side : Colour} {p : Board} {files : Files} {input : List ℕ} →
+abbrev pub start_code : {table : List ℕ} {side : Colour} {p : Board} {files : Files}
+    {input : List ℕ} →
     HasSession table side p files input → ℕ
 start_code {side = side} {p = p} has = code_at has.contents has.bytes side p
 
 -- the file is the one file of its text
-abbrev pub IsExactFile : {table : List ℕ} {side : Colour} {p : Board} {files : Files} {input : List ℕ} →
+abbrev pub IsExactFile : {table : List ℕ} {side : Colour} {p : Board} {files : Files}
+    {input : List ℕ} →
     HasSession table side p files input → Type 0
 IsExactFile has =
-    IsOneFile (magic_of Plain) has.contents.text has.contents.rules (value_by has.contents.rules) has.bytes
+    IsOneFile (magic_of Plain) has.contents.text has.contents.rules (value_by has.contents.rules)
+    has.bytes
 
 -- the session answers this, and the text is its own
 pub record Ends
     {table : List ℕ} {side : Colour} {p : Board} {files : Files} {input : List ℕ}
-    (has : HasSession table side p files input) (text : List ℕ) (answer : Result SessionEnd PlayFault) : Type 0 where
+    (has : HasSession table side p files input) (text : List ℕ)
+    (answer : Result SessionEnd PlayFault) : Type 0 where
   pub tells : Tells side has.end answer
   pub told : text ≡ played_text side (start_code has) has.plies has.end answer
 
--- the whole session is told, with its end; a win and a hold are kept. In the one file of a text the code of the start
--- is that of the bound, and where the exits are true each position after a ply is safe
+-- the whole session is told, with its end; a win and a hold are kept. In the one file of a text the
+-- code of the start is that of the bound, and where the exits
+-- are true each position after a ply is safe
 pub record TellsSession
-    (table : List ℕ) (side : Colour) (p : Board) (files : Files) (input text : List ℕ) : Type 0 where
+    (table : List ℕ) (side : Colour) (p : Board) (files : Files)
+    (input text : List ℕ) : Type 0 where
   pub has : HasSession table side p files input
   pub last : SessionEnd
   pub ends : Ends has text (Ok last)
-  pub win : (n : ℕ) → start_code has ≡ code_of (Wins n) → PlaysWin has.contents.rules side n has.plies has.end
+  pub win : (n : ℕ) → start_code has ≡ code_of (Wins n)
+      → PlaysWin has.contents.rules side n has.plies has.end
   pub hold : start_code has ≡ code_of Holds → PlaysHold has.contents.rules side has.end
   pub where_exact : IsExactFile has → KeepsBound has.contents.rules side p (start_code has)
   pub safe : IsExactFile has → AreTrueExits has.contents.rules (value_by has.contents.rules) →
       IsSafe has.contents.rules side has.plies
 
 -- a code on its way is not the local one, which does not happen in the one file of a text
-pub record TellsWrong (table : List ℕ) (side : Colour) (p : Board) (files : Files) (input text : List ℕ) : Type 0 where
+pub record TellsWrong (table : List ℕ) (side : Colour) (p : Board) (files : Files)
+    (input text : List ℕ) : Type 0 where
   pub has : HasSession table side p files input
   pub fault : PlayFault
   pub ends : Ends has text (Err fault)
@@ -111,14 +123,16 @@ pub record TellsWrong (table : List ℕ) (side : Colour) (p : Board) (files : Fi
 
 -- the start fails
 pub record TellsNoBound
-    (table : List ℕ) (side : Colour) (p : Board) (files : Files) (input text : List ℕ) : Type 0 where
+    (table : List ℕ) (side : Colour) (p : Board) (files : Files)
+    (input text : List ℕ) : Type 0 where
   pub has : HasSession table side p files input
   pub fault : PlayFault
   pub ends : Ends has text (Err fault)
   pub no_bound : has.end ≡ ways.NoBound
 
 -- the input has come to a limit
-pub record TellsLimit (table : List ℕ) (side : Colour) (p : Board) (files : Files) (input text : List ℕ) : Type 0 where
+pub record TellsLimit (table : List ℕ) (side : Colour) (p : Board) (files : Files)
+    (input text : List ℕ) : Type 0 where
   pub has : HasSession table side p files input
   pub limit : PlayLimit
   pub ends : Ends has text (Err (plays.Limit limit))
@@ -136,7 +150,8 @@ MeansStatus table side p files input status text = ⊥
 
 -- what an answer of `play` means: it changes no file, and each status has its cause
 pub record MeansPlay
-    (table : List ℕ) (side : Colour) (p : Board) (files : Files) (input : List ℕ) (a : Answer) : Type 0 where
+    (table : List ℕ) (side : Colour) (p : Board) (files : Files) (input : List ℕ)
+    (a : Answer) : Type 0 where
   pub same : a.files ≡ files
   pub few : a.taken ≤ length input
   pub says : MeansStatus table side p files input a.status a.text

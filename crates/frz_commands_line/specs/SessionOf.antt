@@ -1,5 +1,5 @@
--- What `play TABLE FEN SIDE` answers: the session of the side by the codes in the file against the input. No file
--- changes.
+-- What `play TABLE FEN SIDE` answers: the session of the side
+-- by the codes in the file against the input. No file changes.
 use Rattle.std.specs.Prelude.{◌≡◌, ℕ, ◌-◌, List, ◌++◌, length, MatchBool, Result, Ok, Err}
 use Rattle.frz_board.specs.declared.man.Colour.{Colour}
 use Rattle.frz_board.specs.Boards.{Board}
@@ -25,9 +25,10 @@ use Rattle.frz_play.specs.Texts.{session_text}
 use Rattle.frz_commands_line.specs.LineOf.{code_at}
 use Rattle.frz_commands_line.specs.SessionEnds.{session_status, session_naming}
 
--- the session of the side from the position against the input, by the codes that the bytes keep, in the game of their
--- rules; and what it leaves of the input
-abbrev pub IsSessionBy : Contents → List ℕ → Colour → Board → (input : List ℕ) → List SessionPly → EndOfSession →
+-- the session of the side from the position against the input, by the codes that the bytes keep, in
+-- the game of their rules; and what it leaves of the input
+abbrev pub IsSessionBy : Contents → List ℕ → Colour → Board → (input : List ℕ) → List SessionPly →
+    EndOfSession →
     Input → Type 0
 IsSessionBy contents bytes side p input plies end left =
     IsSession contents.rules (value_by contents.rules) side (kept_codes contents bytes side)
@@ -35,7 +36,8 @@ IsSessionBy contents bytes side p input plies end left =
 
 -- these are the numbers that it comes to
 pub record SessionComes
-    (bytes : List ℕ) (side : Colour) (p : Board) (input : List ℕ) (contents : Contents) (numbers : List ℕ)
+    (bytes : List ℕ) (side : Colour) (p : Board) (input : List ℕ) (contents : Contents)
+    (numbers : List ℕ)
     : Type 0 where
   pub plies : List SessionPly
   pub end : EndOfSession
@@ -44,7 +46,8 @@ pub record SessionComes
   pub are : numbers ≡ way_numbers (Inside (Num contents.rules.groups p)) plies
 
 -- its text, and the line that names an end which has none of its own
-abbrev pub played_text : Colour → ℕ → List SessionPly → EndOfSession → Result SessionEnd PlayFault → List ℕ
+abbrev pub played_text : Colour → ℕ → List SessionPly → EndOfSession → Result SessionEnd PlayFault
+    → List ℕ
 played_text side code plies end answer = session_text side code plies end ++ session_naming answer
 
 -- and all that the session does not leave of the input is taken
@@ -59,7 +62,8 @@ session_answer side code input plies end left answer files = record {
 
 -- at a position of the set: its session is told
 pub record IsPlayed
-    (contents : Contents) (bytes : List ℕ) (side : Colour) (p : Board) (files : Files) (input : List ℕ) (a : Answer)
+    (contents : Contents) (bytes : List ℕ) (side : Colour) (p : Board) (files : Files)
+    (input : List ℕ) (a : Answer)
     : Type 0 where
   pub plies : List SessionPly
   pub end : EndOfSession
@@ -67,7 +71,8 @@ pub record IsPlayed
   pub session : IsSessionBy contents bytes side p input plies end left
   pub answer : Result SessionEnd PlayFault
   pub tells : Tells side end answer
-  pub told : a ≡ session_answer side (code_at contents bytes side p) input plies end left answer files
+  pub told : a ≡ session_answer side (code_at contents bytes side p) input plies end left answer
+      files
 
 -- by a file that opens: the position has a session, or is outside the set
 abbrev pub IsPlayedIn : Contents → List ℕ → Colour → Board → Files → List ℕ → Answer → Type 0
@@ -76,7 +81,8 @@ IsPlayedIn contents bytes side p files input a = MatchBool (is_member contents.r
     (a ≡ says (status_of refusals.Outside) (refusal_line refusals.Outside) files)
 
 -- by how the file opens
-abbrev pub IsPlayedBy : Result Contents TableFault → List ℕ → Colour → Board → Files → List ℕ → Answer → Type 0
+abbrev pub IsPlayedBy : Result Contents TableFault → List ℕ → Colour → Board → Files → List ℕ
+    → Answer → Type 0
 IsPlayedBy (Ok contents) bytes side p files input a = IsPlayedIn contents bytes side p files input a
 IsPlayedBy (Err fault) bytes side p files input a =
     a ≡ says (status_of (refusals.Table fault)) (refusal_line (refusals.Table fault)) files
@@ -84,4 +90,5 @@ IsPlayedBy (Err fault) bytes side p files input a =
 -- by the file that has the name
 abbrev pub IsPlayedAt : List ℕ → Colour → Board → Files → List ℕ → Answer → Type 0
 IsPlayedAt table side p files input a =
-    IsPlayedBy (opened (table_format Plain) (files table)) (bytes_at files table) side p files input a
+    IsPlayedBy (opened (table_format Plain) (files table)) (bytes_at files table) side p files input
+    a

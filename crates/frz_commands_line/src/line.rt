@@ -96,7 +96,8 @@ fn line_from<S: Store, O: Sink, L: Ledger>(
         → Ran (on_position (lining_at table.now side) (fen_of fen.now)) result
         (world (store_of S.Store store.old) input (sink_of O.Sink out.old) steps.old)
         (world (store_of S.Store store.new) input (sink_of O.Sink out.new) steps.new) }
-    ensures store_unused { (on_position (lining_at table.now side) (fen_of fen.now)).needs.store ≡ false
+    ensures store_unused { (on_position (lining_at table.now side) (fen_of fen.now)).needs.store
+        ≡ false
         → store.new ≡ store.old }
 {
     match read_fen(fen.as_bytes()) {
@@ -116,7 +117,8 @@ fn line_for<S: Store, O: Sink, L: Ledger>(
     steps: &mut Steps<L>,
 ) -> End
     ensures ran { (input : SourceTold)
-        → Ran (on_side (λ x. on_position (lining_at table.now x) (fen_of fen.now)) (side_of side.now)) result
+        → Ran (on_side (λ x. on_position (lining_at table.now x) (fen_of fen.now))
+        (side_of side.now)) result
         (world (store_of S.Store store.old) input (sink_of O.Sink out.old) steps.old)
         (world (store_of S.Store store.new) input (sink_of O.Sink out.new) steps.new) }
     ensures store_unused { (on_side (λ x. on_position (lining_at table.now x) (fen_of fen.now))

@@ -104,9 +104,11 @@ fn play_from<S: Store, I: Source, O: Sink, L: Ledger>(
     ensures ran { Ran (on_position (playing_at table.now side) (fen_of fen.now)) result
         (world_of S.Store I.Source O.Sink store.old input.old out.old steps.old)
         (world_of S.Store I.Source O.Sink store.new input.new out.new steps.new) }
-    ensures store_unused { (on_position (playing_at table.now side) (fen_of fen.now)).needs.store ≡ false
+    ensures store_unused { (on_position (playing_at table.now side) (fen_of fen.now)).needs.store
+        ≡ false
         → store.new ≡ store.old }
-    ensures input_unused { (on_position (playing_at table.now side) (fen_of fen.now)).needs.input ≡ false
+    ensures input_unused { (on_position (playing_at table.now side) (fen_of fen.now)).needs.input
+        ≡ false
         → input.new ≡ input.old }
 {
     match read_fen(fen.as_bytes()) {
@@ -126,7 +128,8 @@ fn play_for<S: Store, I: Source, O: Sink, L: Ledger>(
     out: &mut O,
     steps: &mut Steps<L>,
 ) -> End
-    ensures ran { Ran (on_side (λ x. on_position (playing_at table.now x) (fen_of fen.now)) (side_of side.now)) result
+    ensures ran { Ran (on_side (λ x. on_position (playing_at table.now x) (fen_of fen.now))
+        (side_of side.now)) result
         (world_of S.Store I.Source O.Sink store.old input.old out.old steps.old)
         (world_of S.Store I.Source O.Sink store.new input.new out.new steps.new) }
     ensures store_unused { (on_side (λ x. on_position (playing_at table.now x) (fen_of fen.now))

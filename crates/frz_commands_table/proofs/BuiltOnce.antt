@@ -26,18 +26,27 @@ use Rattle.frz_commands_table.proofs.BuildMeaning.{build_means}
 
 module _ (table : List ℕ) (m : Files) (a b : Answer) where
   -- the one file is one
-  one_by : (text : List ℕ) (r : RuleLines) → IsBuiltBy text r table m a → IsBuiltBy text r table m b → b ≡ a
+  one_by : (text : List ℕ) (r : RuleLines) → IsBuiltBy text r table m a → IsBuiltBy text r table m b
+      → b ≡ a
   one_by text r (bytes, one, e) (others, other, e') =
-      let same : others ≡ bytes = one_file r (value_by r) (table_one r (value_by r)) (magic_of Plain) text others bytes other one in
-      e' ∙ ap (λ (x : List ℕ). says Success (built_line (size_of r.groups)) (put m table x)) same ∙ sym e
+      let same : others ≡ bytes = one_file r (value_by r) (table_one r (value_by r))
+      (magic_of Plain) text others bytes other one in
+      e' ∙ ap (λ (x : List ℕ). says Success (built_line (size_of r.groups)) (put m table x)) same
+      ∙ sym e
 
-  one_in : (text : List ℕ) (x : Result RuleLines RulesFault) → MatchResult x (λ r. IsBuiltBy text r table m a) (λ fault. a ≡ says Rules (rules_line fault) m)
-      → MatchResult x (λ r. IsBuiltBy text r table m b) (λ fault. b ≡ says Rules (rules_line fault) m) → b ≡ a
+  one_in : (text : List ℕ) (x : Result RuleLines RulesFault)
+      → MatchResult x (λ r. IsBuiltBy text r table m a)
+      (λ fault. a ≡ says Rules (rules_line fault) m)
+      → MatchResult x (λ r. IsBuiltBy text r table m b)
+      (λ fault. b ≡ says Rules (rules_line fault) m) → b ≡ a
   one_in text (Ok r) h k = one_by text r h k
   one_in text (Err fault) h k = k ∙ sym h
 
-  one_at : (held : Option (List ℕ)) → MatchOption held (a ≡ says Missing (codes "missing rules\n") m) (λ text. IsBuiltIn text table m a)
-      → MatchOption held (b ≡ says Missing (codes "missing rules\n") m) (λ text. IsBuiltIn text table m b) → b ≡ a
+  one_at : (held : Option (List ℕ))
+      → MatchOption held (a ≡ says Missing (codes "missing rules\n") m)
+      (λ text. IsBuiltIn text table m a)
+      → MatchOption held (b ≡ says Missing (codes "missing rules\n") m)
+      (λ text. IsBuiltIn text table m b) → b ≡ a
   one_at None h k = k ∙ sym h
   one_at (Some text) h k = one_in text (rules_of text) h k
 
@@ -47,9 +56,15 @@ one_built rules table m =
     (some.a, some.answer, λ b k. one_at table m some.a b (m rules) some.answer k)
 
 building_lawful : (rules table : List ℕ) → IsLawful (building_at rules table)
-building_lawful rules table = record { one = λ files input. one_built rules table files; means = λ files input a h. build_means rules table files a h }
+building_lawful rules table =
+    record {
+      one = λ files input. one_built rules table files;
+      means = λ files input a h. build_means rules table files a h;
+    }
 
 pub build_lawful : (words : List (List ℕ)) → IsLawful (build_words words)
 build_lawful words =
-    taking_lawful (λ (names : List ℕ × List ℕ). unless (bytes_eq names.0 names.1) (building_at names.0 names.1)) (two_words_of words)
-    (λ names. unless_lawful (bytes_eq names.0 names.1) (building_at names.0 names.1) (building_lawful names.0 names.1))
+    taking_lawful (λ (names : List ℕ × List ℕ). unless (bytes_eq names.0 names.1)
+    (building_at names.0 names.1)) (two_words_of words)
+    (λ names. unless_lawful (bytes_eq names.0 names.1) (building_at names.0 names.1)
+    (building_lawful names.0 names.1))

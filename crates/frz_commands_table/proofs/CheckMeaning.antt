@@ -32,8 +32,10 @@ use Rattle.frz_commands_table.proofs.Reading.{few_plies, exact_tables}
 
 module _ (table : List ℕ) (files : Files) where
   -- the table is exact
-  abbrev headline : (bytes : List ℕ) → files table ≡ Some bytes → (contents : Contents) → opened (table_format Plain) (Some bytes) ≡ Ok contents
-      → ((side : Colour) → IsTableOf contents.rules (value_by contents.rules) side (kept_codes contents bytes side)) → Headline table files
+  abbrev headline : (bytes : List ℕ) → files table ≡ Some bytes → (contents : Contents)
+      → opened (table_format Plain) (Some bytes) ≡ Ok contents
+      → ((side : Colour) → IsTableOf contents.rules (value_by contents.rules) side
+      (kept_codes contents bytes side)) → Headline table files
   headline bytes there contents opens tables =
       let known = belongs (table_format Plain) bytes contents opens in record {
         bytes = bytes;
@@ -48,15 +50,22 @@ module _ (table : List ℕ) (files : Files) where
         black_is = refl;
         white_table = tables White;
         black_table = tables Black;
-        one_file = λ are. tables_are_one Plain (value_by contents.rules) contents bytes are opens tables;
-        white_means = table_means contents.rules (value_by contents.rules) White (kept_codes contents bytes White) (tables White);
-        black_means = table_means contents.rules (value_by contents.rules) Black (kept_codes contents bytes Black) (tables Black);
+        one_file =
+            λ are. tables_are_one Plain (value_by contents.rules) contents bytes are opens tables;
+        white_means = table_means contents.rules (value_by contents.rules) White
+            (kept_codes contents bytes White) (tables White);
+        black_means = table_means contents.rules (value_by contents.rules) Black
+            (kept_codes contents bytes Black) (tables Black);
       }
 
-  says_verdict : (bytes : List ℕ) → files table ≡ Some bytes → (contents : Contents) → opened (table_format Plain) (Some bytes) ≡ Ok contents
-      → (verdict : Verdict) → IsVerdict contents.rules (value_by contents.rules) (kept_codes contents bytes) verdict
-      → MeansStatus table files (verdict_status verdict) (verdict_line (size_of contents.rules.groups) verdict)
-  says_verdict bytes there contents opens Exact is = record { exact = headline bytes there contents opens is; told = refl }
+  says_verdict : (bytes : List ℕ) → files table ≡ Some bytes → (contents : Contents)
+      → opened (table_format Plain) (Some bytes) ≡ Ok contents
+      → (verdict : Verdict) → IsVerdict contents.rules (value_by contents.rules)
+      (kept_codes contents bytes) verdict
+      → MeansStatus table files (verdict_status verdict)
+      (verdict_line (size_of contents.rules.groups) verdict)
+  says_verdict bytes there contents opens Exact is =
+      record { exact = headline bytes there contents opens is; told = refl }
   says_verdict bytes there contents opens (Wrong wrong) is = record {
     bytes = bytes;
     contents = contents;
@@ -66,15 +75,19 @@ module _ (table : List ℕ) (files : Files) where
     told = refl;
   }
 
-  fault_told : (bytes : List ℕ) → files table ≡ Some bytes → (fault : TableFault) → opened (table_format Plain) (Some bytes) ≡ Err fault
+  fault_told : (bytes : List ℕ) → files table ≡ Some bytes → (fault : TableFault)
+      → opened (table_format Plain) (Some bytes) ≡ Err fault
       → TellsTableFault table files (table_line fault)
-  fault_told bytes there fault e = record { bytes = bytes; there = there; fault = fault; refused = e; told = refl }
+  fault_told bytes there fault e =
+      record { bytes = bytes; there = there; fault = fault; refused = e; told = refl }
 
-  says_fault : (bytes : List ℕ) → files table ≡ Some bytes → (fault : TableFault) → opened (table_format Plain) (Some bytes) ≡ Err fault
+  says_fault : (bytes : List ℕ) → files table ≡ Some bytes → (fault : TableFault)
+      → opened (table_format Plain) (Some bytes) ≡ Err fault
       → IsOfBytes fault → MeansStatus table files (table_status fault) (table_line fault)
   says_fault bytes there Missing e of = absurd of
   says_fault bytes there Magic e of = fault_told bytes there Magic e
-  says_fault bytes there (Truncated length due) e of = fault_told bytes there (Truncated length due) e
+  says_fault bytes there (Truncated length due) e of =
+      fault_told bytes there (Truncated length due) e
   says_fault bytes there (Extra length due) e of = fault_told bytes there (Extra length due) e
   says_fault bytes there (Rules fault) e of = fault_told bytes there (Rules fault) e
   says_fault bytes there (Size kept due) e of = fault_told bytes there (Size kept due) e
@@ -82,52 +95,74 @@ module _ (table : List ℕ) (files : Files) where
   says_fault bytes there NoMemory e of = absurd of
 
   -- the one file of a text opens as a table of its text and its rules
-  opens_as : (one : HoldsOneFile table files) → opened (table_format Plain) (Some one.bytes) ≡ Ok (record { text = one.text; rules = one.rules })
-  opens_as one = one_file_opens Plain (value_by one.rules) (record { text = one.text; rules = one.rules }) one.bytes one.accepted one.one_file
+  opens_as : (one : HoldsOneFile table files) → opened (table_format Plain) (Some one.bytes) ≡ Ok
+      (record { text = one.text; rules = one.rules })
+  opens_as one = one_file_opens Plain (value_by one.rules)
+      (record { text = one.text; rules = one.rules }) one.bytes one.accepted one.one_file
 
   -- so its verdict is that it is exact
   accepted_there : (one : HoldsOneFile table files) (verdict : Verdict)
-      → IsVerdict one.rules (value_by one.rules) (kept_codes (record { text = one.text; rules = one.rules }) one.bytes) verdict → verdict ≡ Exact
+      → IsVerdict one.rules (value_by one.rules)
+      (kept_codes (record { text = one.text; rules = one.rules }) one.bytes) verdict
+      → verdict ≡ Exact
   accepted_there one verdict is =
       let contents : Contents = record { text = one.text; rules = one.rules } in
-      one_verdict one.rules (value_by one.rules) (exact_tables one.rules) (kept_codes contents one.bytes) verdict Exact is
-      (one_file_holds Plain (value_by one.rules) contents one.bytes (few_plies one.text one.rules one.accepted) one.accepted one.one_file)
+      one_verdict one.rules (value_by one.rules) (exact_tables one.rules)
+      (kept_codes contents one.bytes) verdict Exact is
+      (one_file_holds Plain (value_by one.rules) contents one.bytes
+      (few_plies one.text one.rules one.accepted) one.accepted one.one_file)
 
-  means_so : (a : Answer) (status : Status) (text : List ℕ) → a ≡ says status text files → MeansStatus table files status text
+  means_so : (a : Answer) (status : Status) (text : List ℕ) → a ≡ says status text files
+      → MeansStatus table files status text
       → (HoldsOneFile table files → status ≡ statuses.Success) → MeansCheck table files a
   means_so a status text e says accepts =
-      subst (λ (x : Answer). MeansCheck table files x) (sym e) (record { same = refl; untaken = refl; says = says; accepts = accepts })
+      subst (λ (x : Answer). MeansCheck table files x) (sym e)
+      (record { same = refl; untaken = refl; says = says; accepts = accepts })
 
-  same_bytes : (bytes : List ℕ) → files table ≡ Some bytes → (one : HoldsOneFile table files) → one.bytes ≡ bytes
+  same_bytes : (bytes : List ℕ) → files table ≡ Some bytes → (one : HoldsOneFile table files)
+      → one.bytes ≡ bytes
   same_bytes bytes there one = let e : Some one.bytes ≡ Some bytes = sym one.there ∙ there in cc
 
-  by_opening : (bytes : List ℕ) → files table ≡ Some bytes → (x : Result Contents TableFault) → opened (table_format Plain) (Some bytes) ≡ x
+  by_opening : (bytes : List ℕ) → files table ≡ Some bytes → (x : Result Contents TableFault)
+      → opened (table_format Plain) (Some bytes) ≡ x
       → (a : Answer) → IsCheckedBy x bytes files a → MeansCheck table files a
   by_opening bytes there (Ok contents) opens a judged =
-      means_so a (verdict_status judged.verdict) (verdict_line (size_of contents.rules.groups) judged.verdict) judged.told
+      means_so a (verdict_status judged.verdict)
+      (verdict_line (size_of contents.rules.groups) judged.verdict) judged.told
       (says_verdict bytes there contents opens judged.verdict judged.judged)
       (λ one.
       let same : one.bytes ≡ bytes = same_bytes bytes there one in
-      let here : ◌≡◌ {A = Result Contents TableFault} (Ok contents) (Ok (record { text = one.text; rules = one.rules })) =
-      sym opens ∙ ap (λ (l : List ℕ). opened (table_format Plain) (Some l)) (sym same) ∙ opens_as one in
+      let here : ◌≡◌ {A = Result Contents TableFault} (Ok contents)
+      (Ok (record { text = one.text; rules = one.rules })) =
+      sym opens ∙ ap (λ (l : List ℕ). opened (table_format Plain) (Some l)) (sym same)
+      ∙ opens_as one in
       let is : contents ≡ record { text = one.text; rules = one.rules } = cc in
       ap verdict_status
       (accepted_there one judged.verdict
-      (subst (λ (l : List ℕ). IsVerdict one.rules (value_by one.rules) (kept_codes (record { text = one.text; rules = one.rules }) l) judged.verdict) (sym same)
-      (subst (λ (c : Contents). IsVerdict c.rules (value_by c.rules) (kept_codes c bytes) judged.verdict) is judged.judged))))
+      (subst (λ (l : List ℕ). IsVerdict one.rules (value_by one.rules)
+      (kept_codes (record { text = one.text; rules = one.rules }) l) judged.verdict) (sym same)
+      (subst (λ (c : Contents). IsVerdict c.rules (value_by c.rules) (kept_codes c bytes)
+      judged.verdict) is judged.judged))))
   by_opening bytes there (Err fault) refused a e =
-      means_so a (table_status fault) (table_line fault) e (says_fault bytes there fault refused (of_bytes (table_format Plain) bytes fault refused))
+      means_so a (table_status fault) (table_line fault) e
+      (says_fault bytes there fault refused (of_bytes (table_format Plain) bytes fault refused))
       (λ one.
-      let no : ◌≡◌ {A = Result Contents TableFault} (Err fault) (Ok (record { text = one.text; rules = one.rules })) =
-      sym refused ∙ ap (λ (l : List ℕ). opened (table_format Plain) (Some l)) (sym (same_bytes bytes there one)) ∙ opens_as one in cc)
+      let no : ◌≡◌ {A = Result Contents TableFault} (Err fault)
+      (Ok (record { text = one.text; rules = one.rules })) =
+      sym refused ∙ ap (λ (l : List ℕ). opened (table_format Plain) (Some l))
+      (sym (same_bytes bytes there one)) ∙ opens_as one in cc)
 
   by_file : (held : Option (List ℕ)) → files table ≡ held → (a : Answer)
-      → IsCheckedBy (opened (table_format Plain) held) (unwrap_or held []) files a → MeansCheck table files a
+      → IsCheckedBy (opened (table_format Plain) held) (unwrap_or held []) files a
+      → MeansCheck table files a
   by_file None e a h =
       means_so a statuses.Missing (table_line Missing)
-      (subst (λ (x : Result Contents TableFault). IsCheckedBy x [] files a) (opened_missing (table_format Plain)) h) e
+      (subst (λ (x : Result Contents TableFault). IsCheckedBy x [] files a)
+      (opened_missing (table_format Plain)) h) e
       (λ one. let no : Some one.bytes ≡ None = sym one.there ∙ e in cc)
-  by_file (Some bytes) e a h = by_opening bytes e (opened (table_format Plain) (Some bytes)) refl a h
+  by_file (Some bytes) e a h =
+      by_opening bytes e (opened (table_format Plain) (Some bytes)) refl a h
 
-pub check_means : (table : List ℕ) (files : Files) (a : Answer) → IsCheckedAt table files a → MeansCheck table files a
+pub check_means : (table : List ℕ) (files : Files) (a : Answer) → IsCheckedAt table files a
+    → MeansCheck table files a
 check_means table files a h = by_file table files (files table) refl a h

@@ -49,23 +49,29 @@ unfolding numbers
 many_numbers zero bytes = refl
 many_numbers (suc n) bytes = ap suc (many_numbers n (drop 4 bytes))
 
-many_codes : (contents : Contents) (bytes : List ℕ) (side : Colour) → length (kept_codes contents bytes side) ≡ size_of contents.rules.groups
-many_codes contents bytes White = many_numbers (size_of contents.rules.groups) (drop (16 + length contents.text) bytes)
+many_codes : (contents : Contents) (bytes : List ℕ) (side : Colour)
+    → length (kept_codes contents bytes side) ≡ size_of contents.rules.groups
+many_codes contents bytes White =
+    many_numbers (size_of contents.rules.groups) (drop (16 + length contents.text) bytes)
 many_codes contents bytes Black =
-    many_numbers (size_of contents.rules.groups) (drop (16 + length contents.text + 4 * size_of contents.rules.groups) bytes)
+    many_numbers (size_of contents.rules.groups)
+    (drop (16 + length contents.text + 4 * size_of contents.rules.groups) bytes)
 
 -- there is a verdict on a file that opens
 some_verdict : (contents : Contents) (bytes : List ℕ)
-    → (v : Verdict) × IsVerdict contents.rules (value_by contents.rules) (kept_codes contents bytes) v
+    → (v : Verdict) × IsVerdict contents.rules (value_by contents.rules) (kept_codes contents bytes)
+    v
 some_verdict contents bytes =
-    verdict_there contents.rules (value_by contents.rules) (kept_codes contents bytes) (many_codes contents bytes)
+    verdict_there contents.rules (value_by contents.rules) (kept_codes contents bytes)
+    (many_codes contents bytes)
 
 text_said : (size : ℕ) (v : Verdict) → verdict_line size v ≡ [] → ⊥
 text_said size verdict.Exact e = cc
 text_said size (verdict.Wrong wrong) e = cc
 
 -- there is an answer, and only one
-some_by : (x : Result Contents TableFault) (bytes : List ℕ) (files : Files) → SomeAnswer (λ a. IsCheckedBy x bytes files a)
+some_by : (x : Result Contents TableFault) (bytes : List ℕ) (files : Files)
+    → SomeAnswer (λ a. IsCheckedBy x bytes files a)
 some_by (Ok contents) bytes files =
     let v = some_verdict contents bytes in
     let size : ℕ = size_of contents.rules.groups in
@@ -80,75 +86,109 @@ some_by (Err fault) bytes files = record {
   text = refusal_said (refusals.Table fault);
 }
 
-one_by : (x : Result Contents TableFault) (bytes : List ℕ) (files : Files) (a b : Answer) → IsCheckedBy x bytes files a → IsCheckedBy x bytes files b → b ≡ a
+one_by : (x : Result Contents TableFault) (bytes : List ℕ) (files : Files) (a b : Answer)
+    → IsCheckedBy x bytes files a → IsCheckedBy x bytes files b → b ≡ a
 one_by (Ok contents) bytes files a b h k =
     let same : k.verdict ≡ h.verdict =
-    one_verdict contents.rules (value_by contents.rules) (exact_tables contents.rules) (kept_codes contents bytes) k.verdict h.verdict k.judged h.judged in
-    let say : Verdict → Answer = λ v. says (verdict_status v) (verdict_line (size_of contents.rules.groups) v) files in
+    one_verdict contents.rules (value_by contents.rules) (exact_tables contents.rules)
+    (kept_codes contents bytes) k.verdict h.verdict k.judged h.judged in
+    let say : Verdict → Answer = λ v. says (verdict_status v)
+    (verdict_line (size_of contents.rules.groups) v) files in
     k.told ∙ ap say same ∙ sym h.told
 one_by (Err fault) bytes files a b h k = k ∙ sym h
 
 some_at : (table : List ℕ) (files : Files) → SomeAnswer (λ a. IsCheckedAt table files a)
-some_at table files = some_by (opened (table_format Plain) (files table)) (bytes_at files table) files
+some_at table files =
+    some_by (opened (table_format Plain) (files table)) (bytes_at files table) files
 
 one_at : (table : List ℕ) (files : Files) → HasOneAnswer (λ a. IsCheckedAt table files a)
 one_at table files =
-    let some = some_at table files in
-    (some.a, some.answer, λ b k. one_by (opened (table_format Plain) (files table)) (bytes_at files table) files some.a b some.answer k)
+    let some = some_at table files in (
+      some.a,
+      some.answer,
+      λ b k. one_by (opened (table_format Plain) (files table))
+          (bytes_at files table) files some.a b some.answer k,
+    )
 
 checking_lawful : (table : List ℕ) → IsLawful (checking_at table)
-checking_lawful table = record { one = λ files input. one_at table files; means = λ files input a h. check_means table files a h }
+checking_lawful table =
+    record {
+      one = λ files input. one_at table files;
+      means = λ files input a h. check_means table
+          files a h;
+    }
 
 pub check_lawful : (words : List (List ℕ)) → IsLawful (check_words words)
 check_lawful words = taking_lawful checking_at (one_word_of words) checking_lawful
 
 -- what was spent is within the costs of the file
-within_costs : (held : Option (List ℕ)) (old new : World) → WithinFile held old.store new.store old.steps new.steps
+within_costs : (held : Option (List ℕ)) (old new : World)
+    → WithinFile held old.store new.store old.steps new.steps
     → WithinCosts (checking_costs held) (spent old) (spent new)
 within_costs held old new h = record { steps = h.steps; calls = h.calls; asked = h.asked }
 
-module _ (table : List ℕ) (files : Files) (input : List ℕ) (old new : World) (agrees : Agrees old files input) where
+module _ (table : List ℕ) (files : Files) (input : List ℕ) (old new : World)
+    (agrees : Agrees old files input) where
   -- an answer of what the name may hold, in some files
-  pub held_so : (status : Status) (line : List ℕ) (held : Option (List ℕ)) → MayHold old.store.files table held
-      → ((m : Files) → IsCheckedBy (opened (table_format Plain) held) (unwrap_or held []) m (says status line m))
-      → WithinFile held old.store new.store old.steps new.steps → SaysAll (checking_at table) status line files input old new
+  pub held_so : (status : Status) (line : List ℕ) (held : Option (List ℕ))
+      → MayHold old.store.files table held
+      → ((m : Files) → IsCheckedBy (opened (table_format Plain) held) (unwrap_or held []) m
+      (says status line m))
+      → WithinFile held old.store new.store old.steps new.steps
+      → SaysAll (checking_at table) status line files input old new
   held_so status line held may answer within =
-      let at = holding old.store.files table held (same_held old.store.files table held may) in record {
+      let at = holding old.store.files table held (same_held old.store.files table held may) in
+      record {
         found = found_where (checking_at table) at.files files input old (λ e. cc) at.agrees agrees;
-        answer = subst (λ (h : Option (List ℕ)). IsCheckedBy (opened (table_format Plain) h) (unwrap_or h []) at.files (says status line at.files)) (sym at.holds) (answer at.files);
-        costs = subst (λ (h : Option (List ℕ)). WithinCosts (checking_costs h) (spent old) (spent new)) (sym at.holds) (within_costs held old new within);
+        answer = subst (λ (h : Option (List ℕ)). IsCheckedBy (opened (table_format Plain) h)
+            (unwrap_or h []) at.files (says status line at.files)) (sym at.holds) (answer at.files);
+        costs = subst (λ (h : Option (List ℕ)). WithinCosts (checking_costs h) (spent old)
+            (spent new)) (sym at.holds) (within_costs held old new within);
       }
 
   -- the verdict was told
-  pub judged_so : (judged : Judged) → JudgesFile table old.store new.store old.steps new.steps judged
-      → SaysAll (checking_at table) (verdict_status judged.verdict) (verdict_line judged.size judged.verdict) files input old new
+  pub judged_so : (judged : Judged)
+      → JudgesFile table old.store new.store old.steps new.steps judged
+      → SaysAll (checking_at table) (verdict_status judged.verdict)
+      (verdict_line judged.size judged.verdict) files input old new
   judged_so judged h =
-      held_so (verdict_status judged.verdict) (verdict_line judged.size judged.verdict) (Some h.file.bytes) h.file.may
-      (λ m. subst (λ (x : Result Contents TableFault). IsCheckedBy x h.file.bytes m (says (verdict_status judged.verdict) (verdict_line judged.size judged.verdict) m)) (sym h.file.opens)
+      held_so (verdict_status judged.verdict) (verdict_line judged.size judged.verdict)
+      (Some h.file.bytes) h.file.may
+      (λ m. subst (λ (x : Result Contents TableFault). IsCheckedBy x h.file.bytes m
+      (says (verdict_status judged.verdict) (verdict_line judged.size judged.verdict) m))
+      (sym h.file.opens)
       (record {
         verdict = judged.verdict;
         judged = h.file.told.codes;
-        told = ap (λ (n : ℕ). says (verdict_status judged.verdict) (verdict_line n judged.verdict) m) h.size;
+        told = ap (λ (n : ℕ). says (verdict_status judged.verdict) (verdict_line n judged.verdict)
+            m) h.size;
       }))
       h.file.within
 
   -- the table was refused
-  refused_so : (fault : TableFault) → (h : RefusesFile table old.store new.store old.steps new.steps fault) → opened (table_format Plain) h.held ≡ Err fault
+  refused_so : (fault : TableFault)
+      → (h : RefusesFile table old.store new.store old.steps new.steps fault)
+      → opened (table_format Plain) h.held ≡ Err fault
       → SaysAll (checking_at table) (table_status fault) (table_line fault) files input old new
   refused_so fault h e =
       held_so (table_status fault) (table_line fault) h.held h.may
-      (λ m. subst (λ (x : Result Contents TableFault). IsCheckedBy x (unwrap_or h.held []) m (says (table_status fault) (table_line fault) m)) (sym e) refl) h.within
+      (λ m. subst (λ (x : Result Contents TableFault). IsCheckedBy x (unwrap_or h.held []) m
+      (says (table_status fault) (table_line fault) m)) (sym e) refl) h.within
 
-  begun_so : (fault : TableFault) → (h : RefusesFile table old.store new.store old.steps new.steps fault)
+  begun_so : (fault : TableFault)
+      → (h : RefusesFile table old.store new.store old.steps new.steps fault)
       → StopsWith (checking_at table) (stop_of_table Failed) files input old new
   begun_so fault h =
-      let at = holding old.store.files table h.held (same_held old.store.files table h.held h.may) in record {
+      let at = holding old.store.files table h.held
+      (same_held old.store.files table h.held h.may) in record {
         found = found_where (checking_at table) at.files files input old (λ e. cc) at.agrees agrees;
         some = some_at table at.files;
-        costs = subst (λ (x : Option (List ℕ)). WithinCosts (checking_costs x) (spent old) (spent new)) (sym at.holds) (within_costs h.held old new h.within);
+        costs = subst (λ (x : Option (List ℕ)). WithinCosts (checking_costs x) (spent old)
+            (spent new)) (sym at.holds) (within_costs h.held old new h.within);
       }
 
-  pub stopped_so : (fault : TableFault) → RefusesFile table old.store new.store old.steps new.steps fault
+  pub stopped_so : (fault : TableFault) → RefusesFile table old.store new.store old.steps new.steps
+      fault
       → StopsWith (checking_at table) (stop_of_table fault) files input old new
   stopped_so Missing h = refused_so Missing h h.refuses
   stopped_so Magic h = refused_so Magic h h.refuses
@@ -164,7 +204,8 @@ pub own_verdict : (v : Verdict) → OneOf (verdict_status v) (Success ∷ Wrong 
 own_verdict verdict.Exact = refl
 own_verdict (verdict.Wrong wrong) = refl
 
-pub from_table : (fault : TableFault) (why : Refusal) → stop_of_table fault ≡ Refused why → refusals.Table fault ≡ why
+pub from_table : (fault : TableFault) (why : Refusal) → stop_of_table fault ≡ Refused why
+    → refusals.Table fault ≡ why
 from_table Missing why e = cc
 from_table Magic why e = cc
 from_table (Truncated length due) why e = cc
@@ -177,11 +218,13 @@ from_table NoMemory why e = cc
 pub own_refusal : (fault : TableFault) (why : Refusal) → stop_of_table fault ≡ Refused why
     → OneOf (status_of why) (Success ∷ Wrong ∷ Table ∷ Absent ∷ [])
 own_refusal fault why e =
-    subst (λ (w : Refusal). OneOf (status_of w) (Success ∷ Wrong ∷ Table ∷ Absent ∷ [])) (from_table fault why e)
+    subst (λ (w : Refusal). OneOf (status_of w) (Success ∷ Wrong ∷ Table ∷ Absent ∷ []))
+    (from_table fault why e)
     (table_own fault (Success ∷ Wrong ∷ Table ∷ Absent ∷ []) refl refl)
 
 -- the store was called and steps were made, and nothing was written
-pub quiet_so : (old new : StoreTold) (input : SourceTold) (out : SinkTold) (before now : ℕ) → StoreQuiet old new → before ≤ now
+pub quiet_so : (old new : StoreTold) (input : SourceTold) (out : SinkTold) (before now : ℕ)
+    → StoreQuiet old new → before ≤ now
     → Quiet (world old input out before) (world new input out now)
 quiet_so old new input out before now quiet later = record {
   later = record { store = quiet.later; input = omega arith; out = omega arith; steps = later };

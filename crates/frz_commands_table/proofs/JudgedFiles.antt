@@ -17,17 +17,23 @@ use Rattle.frz_check.proofs.Lemmas.{within_file}
 use Rattle.frz_commands_table.specs.declared.judging.Judged.{Judged}
 use Rattle.frz_commands_table.specs.Judging.{JudgesFile}
 
-pub judged_file : (table : Table) (rules : RuleLines) (name : List ℕ) (old mid new : StoreTold) (steps_before steps_now : ℕ) (judged : Judged)
-    → mid.files ≡ old.files → table.kind ≡ Plain → table.name ≡ name → rules ≡ table.rules → rules_of table.text ≡ Ok table.rules
+pub judged_file : (table : Table) (rules : RuleLines) (name : List ℕ) (old mid new : StoreTold)
+    (steps_before steps_now : ℕ) (judged : Judged)
+    → mid.files ≡ old.files → table.kind ≡ Plain → table.name ≡ name → rules ≡ table.rules
+    → rules_of table.text ≡ Ok table.rules
     → mid.asked ≤ old.asked + (16 + length table.text) → mid.calls ≤ old.calls + 5
-    → new.asked ≤ mid.asked + 8 * table_size table → new.calls ≤ mid.calls + 2 * pieces_of (table_size table)
+    → new.asked ≤ mid.asked + 8 * table_size table
+    → new.calls ≤ mid.calls + 2 * pieces_of (table_size table)
     → steps_now ≤ steps_before + table_size table → judged.size ≡ table_size table
-    → ChecksTable mid.files table (value_by rules) judged.verdict → JudgesFile name old new steps_before steps_now judged
-judged_file table rules name old mid new steps_before steps_now judged same kind named same_rules read asked calls more_asked more_calls steps size h =
+    → ChecksTable mid.files table (value_by rules) judged.verdict
+    → JudgesFile name old new steps_before steps_now judged
+judged_file table rules name old mid new steps_before steps_now judged same kind named same_rules
+    read asked calls more_asked more_calls steps size h =
     let contents : Contents = contents_of table in
     let opens : opened (table_format Plain) (Some h.bytes) ≡ Ok contents =
     subst (λ (k : FileKind). opened (table_format k) (Some h.bytes) ≡ Ok contents) kind
-    (opens_by (table_format table.kind) h.bytes contents (record { file = h.file; short = read_short table.text table.rules read; read = read })) in
+    (opens_by (table_format table.kind) h.bytes contents
+    (record { file = h.file; short = read_short table.text table.rules read; read = read })) in
     record {
       file = record {
         bytes = h.bytes;
@@ -37,9 +43,12 @@ judged_file table rules name old mid new steps_before steps_now judged same kind
         contents = contents;
         opens = opens;
         told =
-            subst (λ (k : FileKind). IsVerdictOn k (value_by table.rules) contents h.bytes judged.verdict) kind
-            (subst (λ (r : RuleLines). IsVerdictOn table.kind (value_by r) contents h.bytes judged.verdict) same_rules h.told);
-        within = within_file h.bytes contents old mid new steps_before steps_now opens asked calls more_asked more_calls steps;
+            subst (λ (k : FileKind). IsVerdictOn k (value_by table.rules) contents h.bytes
+            judged.verdict) kind
+            (subst (λ (r : RuleLines). IsVerdictOn table.kind (value_by r) contents h.bytes
+            judged.verdict) same_rules h.told);
+        within = within_file h.bytes contents old mid new steps_before steps_now opens asked calls
+            more_asked more_calls steps;
       };
       size = size;
     }

@@ -20,7 +20,8 @@ use Rattle.frz_commands_table.specs.MigrateMeans.{migrating_at, migrate_words}
 use Rattle.frz_commands_table.proofs.MigrateMeaning.{migrate_means}
 use Rattle.frz_commands_table.proofs.MovedCodes.{one_migrated, some_migrated}
 
-some_by : (x : Result Contents TableFault) (bytes new : List ℕ) (files : Files) → SomeAnswer (λ a. IsMigratedBy x bytes new files a)
+some_by : (x : Result Contents TableFault) (bytes new : List ℕ) (files : Files)
+    → SomeAnswer (λ a. IsMigratedBy x bytes new files a)
 some_by (Ok contents) bytes new files =
     let file = some_migrated contents bytes in record {
       a = says Success (migrated_line (size_of contents.rules.groups)) (put files new file.0);
@@ -33,24 +34,40 @@ some_by (Err fault) bytes new files = record {
   text = refusal_said (refusals.Table fault);
 }
 
-one_by : (x : Result Contents TableFault) (bytes new : List ℕ) (files : Files) (a b : Answer) → IsMigratedBy x bytes new files a → IsMigratedBy x bytes new files b → b ≡ a
+one_by : (x : Result Contents TableFault) (bytes new : List ℕ) (files : Files) (a b : Answer)
+    → IsMigratedBy x bytes new files a → IsMigratedBy x bytes new files b → b ≡ a
 one_by (Ok contents) bytes new files a b h k =
-    let same : k.new_bytes ≡ h.new_bytes = one_migrated contents bytes h.new_bytes k.new_bytes h.migrated k.migrated in
-    k.told ∙ ap (λ (l : List ℕ). says Success (migrated_line (size_of contents.rules.groups)) (put files new l)) same ∙ sym h.told
+    let same : k.new_bytes ≡ h.new_bytes = one_migrated contents bytes h.new_bytes k.new_bytes
+    h.migrated k.migrated in
+    k.told ∙ ap (λ (l : List ℕ). says Success (migrated_line (size_of contents.rules.groups))
+    (put files new l)) same ∙ sym h.told
 one_by (Err fault) bytes new files a b h k = k ∙ sym h
 
-pub some_migrated_at : (old new : List ℕ) (files : Files) → SomeAnswer (λ a. IsMigratedAt old new files a)
-some_migrated_at old new files = some_by (opened old_format (files old)) (bytes_at files old) new files
+pub some_migrated_at : (old new : List ℕ) (files : Files)
+    → SomeAnswer (λ a. IsMigratedAt old new files a)
+some_migrated_at old new files =
+    some_by (opened old_format (files old)) (bytes_at files old) new files
 
 one_at : (old new : List ℕ) (files : Files) → HasOneAnswer (λ a. IsMigratedAt old new files a)
 one_at old new files =
-    let some = some_migrated_at old new files in
-    (some.a, some.answer, λ b k. one_by (opened old_format (files old)) (bytes_at files old) new files some.a b some.answer k)
+    let some = some_migrated_at old new files in (
+      some.a,
+      some.answer,
+      λ b k. one_by (opened old_format (files old)) (bytes_at files old) new
+          files some.a b some.answer k,
+    )
 
 migrating_lawful : (old new : List ℕ) → IsLawful (migrating_at old new)
-migrating_lawful old new = record { one = λ files input. one_at old new files; means = λ files input a h. migrate_means old new files a h }
+migrating_lawful old new =
+    record {
+      one = λ files input. one_at old new files;
+      means = λ files input a h. migrate_means old
+          new files a h;
+    }
 
 pub migrate_lawful : (words : List (List ℕ)) → IsLawful (migrate_words words)
 migrate_lawful words =
-    taking_lawful (λ (names : List ℕ × List ℕ). unless (bytes_eq names.0 names.1) (migrating_at names.0 names.1)) (two_words_of words)
-    (λ names. unless_lawful (bytes_eq names.0 names.1) (migrating_at names.0 names.1) (migrating_lawful names.0 names.1))
+    taking_lawful (λ (names : List ℕ × List ℕ). unless (bytes_eq names.0 names.1)
+    (migrating_at names.0 names.1)) (two_words_of words)
+    (λ names. unless_lawful (bytes_eq names.0 names.1) (migrating_at names.0 names.1)
+    (migrating_lawful names.0 names.1))

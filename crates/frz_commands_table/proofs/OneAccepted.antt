@@ -22,36 +22,50 @@ use Rattle.frz_commands_table.specs.Headline.{Headline}
 use Rattle.frz_commands_table.proofs.CheckMeaning.{check_means}
 
 -- what an answer with status 0 says
-pub accepted : (table : List ℕ) (files : Files) (a : Answer) → IsCheckedAt table files a → a.status ≡ Success → Headline table files
+pub accepted : (table : List ℕ) (files : Files) (a : Answer) → IsCheckedAt table files a
+    → a.status ≡ Success → Headline table files
 accepted table files a checked done =
     let means = check_means table files a checked in
-    let tells : TellsExact table files a.text = subst (λ (s : Status). MeansStatus table files s a.text) done means.says in
+    let tells : TellsExact table files a.text = subst
+    (λ (s : Status). MeansStatus table files s a.text) done means.says in
     tells.exact
 
 -- the text of the headline is the one that the file holds
-text_held : (table : List ℕ) (files : Files) (one : Headline table files) → held_text (files table) ≡ one.text
+text_held : (table : List ℕ) (files : Files) (one : Headline table files)
+    → held_text (files table) ≡ one.text
 text_held table files one =
-    ap held_text one.there ∙ ap (λ (n : ℕ). take n (drop 12 one.bytes)) one.layout.counted ∙ one.layout.has_text
+    ap held_text one.there ∙ ap (λ (n : ℕ). take n (drop 12 one.bytes)) one.layout.counted
+    ∙ one.layout.has_text
 
-bytes_held : (table : List ℕ) (files : Files) (one : Headline table files) → AreBytes (bytes_at files table) → AreBytes one.bytes
-bytes_held table files one are = subst (λ (held : Option (List ℕ)). AreBytes (unwrap_or held [])) one.there are
+bytes_held : (table : List ℕ) (files : Files) (one : Headline table files)
+    → AreBytes (bytes_at files table) → AreBytes one.bytes
+bytes_held table files one are =
+    subst (λ (held : Option (List ℕ)). AreBytes (unwrap_or held [])) one.there are
 
-same_rules : (r s : RuleLines) (read : Result RuleLines RulesFault) → read ≡ Ok r → read ≡ Ok s → r ≡ s
+same_rules : (r s : RuleLines) (read : Result RuleLines RulesFault) → read ≡ Ok r → read ≡ Ok s
+    → r ≡ s
 same_rules r s read a b = cc
 
 -- of files with one text there is one that is accepted
 pub one_accepted : ((rules : RuleLines) (value : Board → Value) (magic text bytes others : List ℕ) →
-    IsOneFile magic text rules value bytes → IsOneFile magic text rules value others → bytes ≡ others) →
+    IsOneFile magic text rules value bytes → IsOneFile magic text rules value others →
+    bytes ≡ others) →
     (table other : List ℕ) (files others : Files) → Headline table files → Headline other others →
-    AreBytes (bytes_at files table) → AreBytes (bytes_at others other) → held_text (files table) ≡ held_text (others other) →
+    AreBytes (bytes_at files table) → AreBytes (bytes_at others other) →
+    held_text (files table) ≡ held_text (others other) →
     files table ≡ others other
 one_accepted law table other files others one another are other_are same =
-    let text : one.text ≡ another.text = sym (text_held table files one) ∙ same ∙ text_held other others another in
-    let rules : one.rules ≡ another.rules = same_rules one.rules another.rules (rules_of one.text) one.accepted (ap rules_of text ∙ another.accepted) in
+    let text : one.text ≡ another.text = sym (text_held table files one) ∙ same
+    ∙ text_held other others another in
+    let rules : one.rules ≡ another.rules = same_rules one.rules another.rules (rules_of one.text)
+    one.accepted (ap rules_of text ∙ another.accepted) in
     let first = one.one_file (bytes_held table files one are) in
     let second = another.one_file (bytes_held other others another other_are) in
     let moved : IsOneFile (magic_of Plain) one.text one.rules (value_by one.rules) another.bytes =
-    subst (λ (r : RuleLines). IsOneFile (magic_of Plain) one.text r (value_by r) another.bytes) (sym rules)
-    (subst (λ (t : List ℕ). IsOneFile (magic_of Plain) t another.rules (value_by another.rules) another.bytes) (sym text) second) in
-    let bytes : one.bytes ≡ another.bytes = law one.rules (value_by one.rules) (magic_of Plain) one.text one.bytes another.bytes first moved in
+    subst (λ (r : RuleLines). IsOneFile (magic_of Plain) one.text r (value_by r) another.bytes)
+    (sym rules)
+    (subst (λ (t : List ℕ). IsOneFile (magic_of Plain) t another.rules (value_by another.rules)
+    another.bytes) (sym text) second) in
+    let bytes : one.bytes ≡ another.bytes = law one.rules (value_by one.rules) (magic_of Plain)
+    one.text one.bytes another.bytes first moved in
     one.there ∙ ap Some bytes ∙ sym another.there

@@ -21,9 +21,12 @@ small_lags : (rules : RuleLines) → IsSound rules → HasSmallLags (value_by ru
 small_lags rules sound q valid = small_values rules sound q
 
 -- the codes of its tables are small
-pub few_plies : (text : List ℕ) (rules : RuleLines) → rules_of text ≡ Ok rules → (side : Colour) (codes : List ℕ)
-    → IsTableOf rules (value_by rules) side codes → (i : ℕ) → slice_index codes i ≤ 3 + 2 * (size_of rules.groups + 1000)
-few_plies text rules e = plies_few rules (value_by rules) (small_lags rules (read_sound text rules e))
+pub few_plies : (text : List ℕ) (rules : RuleLines) → rules_of text ≡ Ok rules
+    → (side : Colour) (codes : List ℕ)
+    → IsTableOf rules (value_by rules) side codes → (i : ℕ)
+    → slice_index codes i ≤ 3 + 2 * (size_of rules.groups + 1000)
+few_plies text rules e =
+    plies_few rules (value_by rules) (small_lags rules (read_sound text rules e))
 
 -- codes are a table exactly where each is its local code
 pub exact_tables : (rules : RuleLines) → TablesExact rules (value_by rules)

@@ -31,13 +31,15 @@ use Rattle.frz_commands_table.proofs.Built.{read_sound, small_lags}
 use Rattle.frz_commands_table.proofs.SampleText.{text_read}
 
 -- the table of either side is exact where both are
-pub either_table : (rules : RuleLines) (value : Board → Value) (white black : List ℕ) → IsTableOf rules value White white → IsTableOf rules value Black black
+pub either_table : (rules : RuleLines) (value : Board → Value) (white black : List ℕ)
+    → IsTableOf rules value White white → IsTableOf rules value Black black
     → (side : Colour) → IsTableOf rules value side (of_side side white black)
 either_table rules value white black w b White = w
 either_table rules value white black w b Black = b
 
 -- there is an answer by the rules of the text
-pub some_sampled : (k : ℕ) (r : RuleLines) → rules_of (sample_text k) ≡ Ok r → (m : Files) → SomeAnswer (λ a. IsSampled k m a)
+pub some_sampled : (k : ℕ) (r : RuleLines) → rules_of (sample_text k) ≡ Ok r → (m : Files)
+    → SomeAnswer (λ a. IsSampled k m a)
 some_sampled k r read m =
     let small = small_lags r (read_sound (sample_text k) r read) in
     let white = table_there r (value_by r) small White in
@@ -60,15 +62,19 @@ never_bad k small fault e =
 same_rules : (r s : RuleLines) → ◌≡◌ {A = Result RuleLines RulesFault} (Ok r) (Ok s) → r ≡ s
 same_rules r s e = cc
 
-pub size_is : (k : ℕ) → k < 64 → (r : RuleLines) → rules_of (sample_text k) ≡ Ok r → size_of r.groups ≡ sample_size
+pub size_is : (k : ℕ) → k < 64 → (r : RuleLines) → rules_of (sample_text k) ≡ Ok r
+    → size_of r.groups ≡ sample_size
 size_is k small r e =
     let given = text_read k small in
-    ap (λ (x : RuleLines). size_of x.groups) (same_rules r given.rules (sym e ∙ given.read)) ∙ given.size
+    ap (λ (x : RuleLines). size_of x.groups) (same_rules r given.rules (sym e ∙ given.read))
+    ∙ given.size
 
 -- a table by the values of equal rules, in an equal list
-pub table_as : (r b : RuleLines) (side : Colour) (codes others : List ℕ) → b ≡ r → others ≡ codes → IsTableOf r (value_by b) side codes → IsTableOf r (value_by r) side others
+pub table_as : (r b : RuleLines) (side : Colour) (codes others : List ℕ) → b ≡ r → others ≡ codes
+    → IsTableOf r (value_by b) side codes → IsTableOf r (value_by r) side others
 table_as r b side codes others e f table =
-    subst (λ (s : RuleLines). IsTableOf r (value_by s) side others) e (subst (λ (l : List ℕ). IsTableOf r (value_by b) side l) (sym f) table)
+    subst (λ (s : RuleLines). IsTableOf r (value_by s) side others) e
+    (subst (λ (l : List ℕ). IsTableOf r (value_by b) side l) (sym f) table)
 
 module _ (k : ℕ) (m : Files) (a b : Answer) where
   -- the tables of the rules are one
@@ -90,25 +96,34 @@ one_sampled k small m =
     (some.a, some.answer, λ b h. one_of k m some.a b some.answer h)
 
 -- a number that a word writes is that of a square
-below_last : (first second third : Bool) (n k : ℕ) → third ≡ nat_le n LAST_SQUARE → (if first && (second && third) then Some n else None) ≡ Some k → k < 64
-below_last true true true n k e h = let same : n ≡ k = cc in let small : n ≤ LAST_SQUARE = leb-true n LAST_SQUARE (sym e) in omega arith
+below_last : (first second third : Bool) (n k : ℕ) → third ≡ nat_le n LAST_SQUARE
+    → (if first && (second && third) then Some n else None) ≡ Some k → k < 64
+below_last true true true n k e h = let same : n ≡ k = cc in let small : n ≤ LAST_SQUARE =
+    leb-true n LAST_SQUARE (sym e) in omega arith
 below_last false second third n k e h = cc
 below_last true false third n k e h = cc
 below_last true true false n k e h = cc
 
 on_board : (word : List ℕ) (k : ℕ) → number_of word LAST_SQUARE ≡ Some k → k < 64
 unfolding number_of
-on_board word k h = below_last (is_short word) (list_all is_digit word) (nat_le (decimal 0 word) LAST_SQUARE) (decimal 0 word) k refl h
+on_board word k h = below_last (is_short word) (list_all is_digit word)
+    (nat_le (decimal 0 word) LAST_SQUARE) (decimal 0 word) k refl h
 
-named_lawful : (number : Option ℕ) → ((k : ℕ) → number ≡ Some k → k < 64) → IsLawful (sampling_named number)
-named_lawful None small = said_job (sampling_named None) (λ files input. one_answer (says Words number_line files)) (λ _ _ _ _. tt)
-named_lawful (Some k) small = said_job (sampling k) (λ files input. one_sampled k (small k refl) files) (λ _ _ _ _. tt)
+named_lawful : (number : Option ℕ) → ((k : ℕ) → number ≡ Some k → k < 64)
+    → IsLawful (sampling_named number)
+named_lawful None small =
+    said_job (sampling_named None) (λ files input. one_answer (says Words number_line files))
+    (λ _ _ _ _. tt)
+named_lawful (Some k) small =
+    said_job (sampling k) (λ files input. one_sampled k (small k refl) files) (λ _ _ _ _. tt)
 
 pub sample_lawful : (words : List (List ℕ)) → IsLawful (sample_words words)
 sample_lawful words =
-    taking_lawful (λ (word : List ℕ). sampling_named (number_of word LAST_SQUARE)) (one_word_of words)
+    taking_lawful (λ (word : List ℕ). sampling_named (number_of word LAST_SQUARE))
+    (one_word_of words)
     (λ word. named_lawful (number_of word LAST_SQUARE) (on_board word))
 
 -- what was done for a number was done for an equal one
-pub as_named : (end : End) (old new : World) (these number : Option ℕ) → these ≡ number → Ran (sampling_named these) end old new → Ran (sampling_named number) end old new
+pub as_named : (end : End) (old new : World) (these number : Option ℕ) → these ≡ number
+    → Ran (sampling_named these) end old new → Ran (sampling_named number) end old new
 as_named end old new these number e ran = subst (λ o. Ran (sampling_named o) end old new) e ran

@@ -19,7 +19,8 @@ use Rattle.frz_table.specs.Layout.{magic_of}
 use Rattle.frz_check.specs.OneFile.{IsOneFile}
 use Rattle.frz_commands_table.specs.Building.{built_line, IsBuiltAt, steps_by, calls_by}
 
--- the rules file is there and accepted, TABLE holds the one file of its text afterwards, and no other name changes
+-- the rules file is there and accepted, TABLE holds the one
+-- file of its text afterwards, and no other name changes
 pub record MakesTable (rules table : List ℕ) (files : Files) (a : Answer) : Type 0 where
   pub source : List ℕ
   pub there : files rules ≡ Some source
@@ -56,8 +57,8 @@ pub record MeansBuild (rules table : List ℕ) (files : Files) (a : Answer) : Ty
   pub untaken : a.taken ≡ 0
   pub says : MeansByStatus rules table files a a.status
 
--- `build` at two names that differ: one `size` and one `read` of the rules file, which is not read where
--- it is missing or too long, and the calls that write the table
+-- `build` at two names that differ: one `size` and one `read` of the rules file, which is not read
+-- where it is missing or too long, and the calls that write the table
 abbrev pub building_at : List ℕ → List ℕ → Job
 building_at rules table = record (plain (Success ∷ Rules ∷ Missing ∷ [])
     (λ files input a. IsBuiltAt rules table files a)) {
@@ -74,4 +75,5 @@ building_at rules table = record (plain (Success ∷ Rules ∷ Missing ∷ [])
 -- build RULES TABLE
 abbrev pub build_words : List (List ℕ) → Job
 build_words words =
-    taking (λ names. unless (bytes_eq names.0 names.1) (building_at names.0 names.1)) (two_words_of words)
+    taking (λ names. unless (bytes_eq names.0 names.1) (building_at names.0 names.1))
+    (two_words_of words)

@@ -19,7 +19,8 @@ use Rattle.frz_build.specs.Building.{writing_calls}
 abbrev pub built_line : ℕ → List ℕ
 built_line size = codes "built " ++ decimal size ++ codes "\n"
 
--- by rules that were read: TABLE holds the one file of their text, and every other name what it held
+-- by rules that were read: TABLE holds the one file of their
+-- text, and every other name what it held
 abbrev pub IsBuiltBy : List ℕ → RuleLines → List ℕ → Files → Answer → Type 0
 IsBuiltBy text r table files a =
     (bytes : List ℕ) × IsOneFile (magic_of Plain) text r (value_by r) bytes
@@ -39,15 +40,16 @@ IsBuiltAt rules table files a = MatchOption (files rules)
 
 -- `build` by rules that were read: four steps a number, and the calls that write the file
 abbrev pub building_by : List ℕ → RuleLines → List ℕ → Job
-building_by text r table = record (plain (Success ∷ []) (λ files input a. IsBuiltBy text r table files a)) {
-  needs = record nothing { store = true; memory = true };
-  writes = Some table;
-  costs = λ files input a. WithinCosts (record {
-    steps = Some (4 * size_of r.groups);
-    calls = Some (writing_calls (size_of r.groups));
-    asked = Some 0;
-  });
-}
+building_by text r table =
+    record (plain (Success ∷ []) (λ files input a. IsBuiltBy text r table files a)) {
+      needs = record nothing { store = true; memory = true };
+      writes = Some table;
+      costs = λ files input a. WithinCosts (record {
+        steps = Some (4 * size_of r.groups);
+        calls = Some (writing_calls (size_of r.groups));
+        asked = Some 0;
+      });
+    }
 
 -- what the rules of a name cost, and nothing where it has none
 abbrev pub steps_by : Result RuleLines Refused → ℕ

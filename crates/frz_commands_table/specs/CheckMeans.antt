@@ -28,13 +28,15 @@ pub record TellsExact (table : List ℕ) (files : Files) (text : List ℕ) : Typ
   pub exact : Headline table files
   pub told : text ≡ exact_line (size_of exact.rules.groups)
 
--- the file opens, and the text tells its first entry that is not its local code, by number, White's before Black's
+-- the file opens, and the text tells its first entry that is
+-- not its local code, by number, White's before Black's
 pub record TellsWrong (table : List ℕ) (files : Files) (text : List ℕ) : Type 0 where
   pub bytes : List ℕ
   pub contents : Contents
   pub open_file : OpensAs table files bytes contents
   pub wrong : Wrong
-  pub first : IsFirstWrong (graph_by contents.rules (value_by contents.rules)) (size_of contents.rules.groups)
+  pub first : IsFirstWrong (graph_by contents.rules (value_by contents.rules))
+      (size_of contents.rules.groups)
       (kept_codes contents bytes) wrong
   pub told : text ≡ wrong_line wrong
 
@@ -55,8 +57,8 @@ pub record HoldsOneFile (table : List ℕ) (files : Files) : Type 0 where
   pub accepted : rules_of text ≡ Ok rules
   pub one_file : IsOneFile (magic_of Plain) text rules (value_by rules) bytes
 
--- what an answer of `check` means: it changes no file and takes no input, each status has its cause, and the
--- one file of a text is found exact
+-- what an answer of `check` means: it changes no file and takes no input, each status has its
+-- cause, and the one file of a text is found exact
 pub record MeansCheck (table : List ℕ) (files : Files) (a : Answer) : Type 0 where
   pub same : a.files ≡ files
   pub untaken : a.taken ≡ 0
@@ -65,7 +67,8 @@ pub record MeansCheck (table : List ℕ) (files : Files) (a : Answer) : Type 0 w
 
 -- `check` of the table of this name
 abbrev pub checking_at : List ℕ → Job
-checking_at table = record (plain (statuses.Success ∷ statuses.Wrong ∷ statuses.Table ∷ statuses.Missing ∷ [])
+checking_at table =
+    record (plain (statuses.Success ∷ statuses.Wrong ∷ statuses.Table ∷ statuses.Missing ∷ [])
     (λ files input a. IsCheckedAt table files a)) {
       means = λ files input a. MeansCheck table files a;
       needs = record { store = true; reads = Once; input = false; memory = true };

@@ -1,4 +1,5 @@
--- What `check TABLE` answers: the size of a table that is exact, or its first entry that is wrong. No file changes.
+-- What `check TABLE` answers: the size of a table that is
+-- exact, or its first entry that is wrong. No file changes.
 use Rattle.std.specs.Prelude.{◌≡◌, ℕ, ◌+◌, ◌*◌, List, ◌++◌, length, Option, Some, Result, Ok, Err, codes, decimal}
 use Rattle.frz_exits.specs.Books.{value_by}
 use Rattle.frz_sets.specs.Sets.{size_of}
@@ -33,10 +34,13 @@ verdict_line size verdict.Exact = exact_line size
 verdict_line size (verdict.Wrong wrong) = wrong_line wrong
 
 -- on a file that opens: the verdict on its codes
-pub record IsJudged (contents : Contents) (bytes : List ℕ) (files : Files) (a : Answer) : Type 0 where
+pub record IsJudged (contents : Contents) (bytes : List ℕ) (files : Files)
+    (a : Answer) : Type 0 where
   pub verdict : Verdict
-  pub judged : IsVerdict contents.rules (value_by contents.rules) (kept_codes contents bytes) verdict
-  pub told : a ≡ says (verdict_status verdict) (verdict_line (size_of contents.rules.groups) verdict) files
+  pub judged : IsVerdict contents.rules (value_by contents.rules) (kept_codes contents bytes)
+      verdict
+  pub told : a ≡ says (verdict_status verdict)
+      (verdict_line (size_of contents.rules.groups) verdict) files
 
 -- by how the file opens
 abbrev pub IsCheckedBy : Result Contents TableFault → List ℕ → Files → Answer → Type 0
@@ -45,10 +49,11 @@ IsCheckedBy (Err fault) bytes files a = a ≡ says (table_status fault) (table_l
 
 -- by the file that has the name
 abbrev pub IsCheckedAt : List ℕ → Files → Answer → Type 0
-IsCheckedAt table files a = IsCheckedBy (opened (table_format Plain) (files table)) (bytes_at files table) files a
+IsCheckedAt table files a =
+    IsCheckedBy (opened (table_format Plain) (files table)) (bytes_at files table) files a
 
--- at most a step a number; the calls of the store that open the file and two for each piece of a side's
--- codes; and no more bytes asked than the file has
+-- at most a step a number; the calls of the store that open the file and two for each piece of a
+-- side's codes; and no more bytes asked than the file has
 abbrev pub checking_costs : Option (List ℕ) → Costs
 checking_costs held =
     let size = opened_size (opened (table_format Plain) held) in

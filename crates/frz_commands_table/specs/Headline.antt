@@ -23,18 +23,20 @@ pub record Headline (table : List ℕ) (files : Files) : Type 0 where
   pub text : List ℕ
   pub rules : RuleLines
   pub accepted : rules_of text ≡ Ok rules
-  -- behind the text and the size of its set stand White's codes and then Black's, one for each number
+  -- behind the text and the size of its set stand White's codes
+  -- and then Black's, one for each number
   pub layout : IsTableFile (magic_of Plain) text (size_of rules.groups) bytes
   pub white : List ℕ
   pub black : List ℕ
   pub white_is : codes_at White text (size_of rules.groups) bytes ≡ white
   pub black_is : codes_at Black text (size_of rules.groups) bytes ≡ black
-  -- they are the codes of the values of the restricted game, with least plies; broken numbers have 0
+  -- they are the codes of the values of the restricted game,
+  -- with least plies; broken numbers have 0
   pub white_table : IsTableOf rules (value_by rules) White white
   pub black_table : IsTableOf rules (value_by rules) Black black
   -- so the file is the one file of its text
   pub one_file : AreBytes bytes → IsOneFile (magic_of Plain) text rules (value_by rules) bytes
-  -- a win forces, within its plies and against every legal reply, mate or an assigned win; where the exits are
-  -- true it forces mate, and with a win or a hold the opponent forces none
+  -- a win forces, within its plies and against every legal reply, mate or an assigned win; where
+  -- the exits are true it forces mate, and with a win or a hold the opponent forces none
   pub white_means : TableMeans rules (value_by rules) White white
   pub black_means : TableMeans rules (value_by rules) Black black

@@ -31,7 +31,8 @@ use Rattle.frz_prelude.specs.TableCauses.{table_line}
 use Rattle.frz_commands_table.specs.Migrated.{IsMigrated}
 use Rattle.frz_commands_table.specs.Migrating.{migrated_line, IsMigratedAt, migrating_costs}
 
--- OLD holds a table of the former format, NEW holds it rewritten afterwards, and no other name changes
+-- OLD holds a table of the former format, NEW holds it
+-- rewritten afterwards, and no other name changes
 pub record Rewrites (old new : List ℕ) (files : Files) (a : Answer) : Type 0 where
   pub bytes : List ℕ
   pub there : files old ≡ Some bytes
@@ -63,17 +64,20 @@ MeansByStatus old new files a Table = RefusesOld old files a
 MeansByStatus old new files a Missing = MissesOld old files a
 MeansByStatus old new files a status = ⊥
 
--- a former file of a text: its header with the former magic and the former size, and for each side, at
--- the former number of each position of the set, the code of its bound. What stands at the other numbers
--- is free
-pub record IsFormerFile (text : List ℕ) (rules : RuleLines) (value : Board → Value) (bytes : List ℕ) : Type 0 where
+-- a former file of a text: its header with the former magic and the former size, and for each side,
+-- at the former number of each position of the set, the code of
+-- its bound. What stands at the other numbers is free
+pub record IsFormerFile (text : List ℕ) (rules : RuleLines) (value : Board → Value)
+    (bytes : List ℕ) : Type 0 where
   pub layout : IsTableFile old_magic text (old_size_of rules.groups) bytes
   pub bound : (side : Colour) (p : Board) → Member rules.groups p →
       (b : Bound)
-      × (slice_index (codes_at side text (old_size_of rules.groups) bytes) (OldNum rules.groups p) ≡ code_of b)
+      × (slice_index (codes_at side text (old_size_of rules.groups) bytes) (OldNum rules.groups p)
+      ≡ code_of b)
       × IsBoundAt rules value side p b
 
--- the name holds a former file of a text that is accepted, whose set has few numbers by the former format
+-- the name holds a former file of a text that is accepted,
+-- whose set has few numbers by the former format
 pub record HoldsFormerFile (old : List ℕ) (files : Files) : Type 0 where
   pub bytes : List ℕ
   pub there : files old ≡ Some bytes
@@ -84,14 +88,15 @@ pub record HoldsFormerFile (old : List ℕ) (files : Files) : Type 0 where
   pub former : IsFormerFile text rules (value_by rules) bytes
 
 -- it is rewritten, and NEW holds the one file of this text afterwards
-pub record BecomesOneFile (text : List ℕ) (rules : RuleLines) (new : List ℕ) (files : Files) (a : Answer) : Type 0 where
+pub record BecomesOneFile (text : List ℕ) (rules : RuleLines) (new : List ℕ) (files : Files)
+    (a : Answer) : Type 0 where
   pub done : a.status ≡ Success
   pub new_bytes : List ℕ
   pub one_file : IsOneFile (magic_of Plain) text rules (value_by rules) new_bytes
   pub written : a.files ≡ put files new new_bytes
 
--- what an answer of `migrate` means: it takes no input, each status has its cause, and a former file of
--- a text becomes the one file of this text, which `check` accepts
+-- what an answer of `migrate` means: it takes no input, each status has its cause, and a former
+-- file of a text becomes the one file of this text, which `check` accepts
 pub record MeansMigrate (old new : List ℕ) (files : Files) (a : Answer) : Type 0 where
   pub untaken : a.taken ≡ 0
   pub says : MeansByStatus old new files a a.status
@@ -99,14 +104,17 @@ pub record MeansMigrate (old new : List ℕ) (files : Files) (a : Answer) : Type
 
 -- `migrate` at two names that differ
 abbrev pub migrating_at : (old new : List ℕ) → Job
-migrating_at old new = record (plain (Success ∷ Table ∷ Missing ∷ []) (λ files input a. IsMigratedAt old new files a)) {
-  means = λ files input a. MeansMigrate old new files a;
-  needs = record { store = true; reads = Once; input = false; memory = true };
-  writes = Some new;
-  costs = λ files input a. WithinCosts (migrating_costs (files old));
-}
+migrating_at old new =
+    record (plain (Success ∷ Table ∷ Missing ∷ [])
+    (λ files input a. IsMigratedAt old new files a)) {
+      means = λ files input a. MeansMigrate old new files a;
+      needs = record { store = true; reads = Once; input = false; memory = true };
+      writes = Some new;
+      costs = λ files input a. WithinCosts (migrating_costs (files old));
+    }
 
 -- migrate OLD NEW
 abbrev pub migrate_words : List (List ℕ) → Job
 migrate_words words =
-    taking (λ names. unless (bytes_eq names.0 names.1) (migrating_at names.0 names.1)) (two_words_of words)
+    taking (λ names. unless (bytes_eq names.0 names.1) (migrating_at names.0 names.1))
+    (two_words_of words)

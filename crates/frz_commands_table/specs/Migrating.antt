@@ -23,10 +23,12 @@ abbrev pub migrated_line : ℕ → List ℕ
 migrated_line size = codes "migrated " ++ decimal size ++ codes "\n"
 
 -- of a file that opens: NEW holds it rewritten, and every other name what it held
-pub record IsRewritten (contents : Contents) (bytes new : List ℕ) (files : Files) (a : Answer) : Type 0 where
+pub record IsRewritten (contents : Contents) (bytes new : List ℕ) (files : Files)
+    (a : Answer) : Type 0 where
   pub new_bytes : List ℕ
   pub migrated : IsMigrated contents bytes new_bytes
-  pub told : a ≡ says Success (migrated_line (size_of contents.rules.groups)) (put files new new_bytes)
+  pub told : a ≡ says Success (migrated_line (size_of contents.rules.groups))
+      (put files new new_bytes)
 
 -- by how the file opens
 abbrev pub IsMigratedBy : Result Contents TableFault → List ℕ → List ℕ → Files → Answer → Type 0
@@ -35,13 +37,15 @@ IsMigratedBy (Err fault) bytes new files a = a ≡ says (table_status fault) (ta
 
 -- by the file that has the name OLD
 abbrev pub IsMigratedAt : (old new : List ℕ) → Files → Answer → Type 0
-IsMigratedAt old new files a = IsMigratedBy (opened old_format (files old)) (bytes_at files old) new files a
+IsMigratedAt old new files a =
+    IsMigratedBy (opened old_format (files old)) (bytes_at files old) new files a
 
 -- to write a table of this text and size with these codes under the name, and to say its size
 abbrev pub writing_new : (text : List ℕ) (size : ℕ) (white black name : List ℕ) → Job
 writing_new text size white black name =
     record (plain (Success ∷ []) (λ files input a.
-    a ≡ says Success (migrated_line size) (put files name (file_of (magic_of Plain) text size white black)))) {
+    a ≡ says Success (migrated_line size)
+    (put files name (file_of (magic_of Plain) text size white black)))) {
       needs = record nothing { store = true; memory = true };
       writes = Some name;
       costs = λ files input a. WithinCosts (record {
@@ -54,7 +58,8 @@ writing_new text size white black name =
 -- where the file opens, each side's codes are read in pieces, and the new file is written
 abbrev pub moving_calls : Result Contents TableFault → ℕ
 moving_calls (Ok contents) =
-    2 * pieces_of (old_size_of contents.rules.groups) + writing_calls (size_of contents.rules.groups)
+    2 * pieces_of (old_size_of contents.rules.groups) + writing_calls
+    (size_of contents.rules.groups)
 moving_calls (Err fault) = 0
 
 -- no step, these calls of the store, and no more bytes asked than the file has

@@ -19,17 +19,22 @@ former_size (Err fault) = 0
 
 -- no more bytes and calls than to open what is held, and to load its codes
 pub record WithinFormer (held : Option (List ℕ)) (old new : StoreTold) : Type 0 where
-  pub asked : new.asked ≤ old.asked + (16 + length (held_text held) + 8 * former_size (opened old_format held))
+  pub asked : new.asked
+      ≤ old.asked + (16 + length (held_text held) + 8 * former_size (opened old_format held))
   pub calls : new.calls ≤
-      old.calls + (opening_calls old_format held + 2 * pieces_of (former_size (opened old_format held)))
+      old.calls + (opening_calls old_format held + 2 * pieces_of
+      (former_size (opened old_format held)))
 
 -- the lists are the moved codes of a file that the open table's name may hold
-pub record MovesLists (files : Option Files) (table : OldTable) (white black : List ℕ) : Type 0 where
+pub record MovesLists (files : Option Files) (table : OldTable)
+    (white black : List ℕ) : Type 0 where
   pub bytes : List ℕ
   pub may : MayHold files table.name (Some bytes)
   pub file : IsOldFileOf table bytes
-  pub white_moved : AreMoved table.rules.groups (former_codes (old_contents_of table) bytes White) white
-  pub black_moved : AreMoved table.rules.groups (former_codes (old_contents_of table) bytes Black) black
+  pub white_moved : AreMoved table.rules.groups (former_codes (old_contents_of table) bytes White)
+      white
+  pub black_moved : AreMoved table.rules.groups (former_codes (old_contents_of table) bytes Black)
+      black
 
 -- the name may hold a file that opens so, and these are its moved codes
 pub record MovesFile (name : List ℕ) (old new : StoreTold) (moved : Moved) : Type 0 where
@@ -37,9 +42,11 @@ pub record MovesFile (name : List ℕ) (old new : StoreTold) (moved : Moved) : T
   pub may : MayHold old.files name (Some bytes)
   pub opens : opened old_format (Some bytes) ≡ Ok (old_contents_of moved.file)
   pub white_moved :
-      AreMoved moved.file.rules.groups (former_codes (old_contents_of moved.file) bytes White) moved.white.items
+      AreMoved moved.file.rules.groups (former_codes (old_contents_of moved.file) bytes White)
+      moved.white.items
   pub black_moved :
-      AreMoved moved.file.rules.groups (former_codes (old_contents_of moved.file) bytes Black) moved.black.items
+      AreMoved moved.file.rules.groups (former_codes (old_contents_of moved.file) bytes Black)
+      moved.black.items
   pub within : WithinFormer (Some bytes) old new
 
 -- the name may hold what is refused so

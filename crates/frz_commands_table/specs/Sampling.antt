@@ -1,4 +1,5 @@
--- What `sample K` answers: the tables of two kings and a rook anywhere, where the rook leaves the square K alone.
+-- What `sample K` answers: the tables of two kings and a rook
+-- anywhere, where the rook leaves the square K alone.
 use Rattle.std.specs.Prelude.{◌≡◌, ℕ, ◌-◌, ◌*◌, ◌/◌, ◌==◌, Bool, max, List, [], ◌∷◌, ◌++◌, true, Some, Option, None, Ok, if◌then◌else◌, codes, decimal}
 use Rattle.std.specs.List.{count_by, fold}
 use Rattle.frz_store.specs.Files.{Files}
@@ -80,7 +81,8 @@ IsSampledBy k r files a =
 abbrev pub IsSampled : ℕ → Files → Answer → Type 0
 IsSampled k files a = (r : RuleLines) × (rules_of (sample_text k) ≡ Ok r) × IsSampledBy k r files a
 
--- `sample` at the square of a number: no file is looked at or changed, and at most five steps a number are made
+-- `sample` at the square of a number: no file is looked at or
+-- changed, and at most five steps a number are made
 abbrev pub sampling : ℕ → Job
 sampling k = record (plain (Success ∷ []) (λ files input a. IsSampled k files a)) {
   needs = record nothing { memory = true };
@@ -97,4 +99,5 @@ sampling_named (Some k) = sampling k
 
 -- sample K: one to nine digits, of the number of a square
 abbrev pub sample_words : List (List ℕ) → Job
-sample_words words = taking (λ word. sampling_named (number_of word LAST_SQUARE)) (one_word_of words)
+sample_words words =
+    taking (λ word. sampling_named (number_of word LAST_SQUARE)) (one_word_of words)

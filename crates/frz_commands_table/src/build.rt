@@ -43,7 +43,8 @@ fn build_by<S: Store, O: Sink, L: Ledger>(
 ) -> End
     requires sound { IsSound read.now.rules }
     requires short { length read.now.text.items ≤ LONGEST_TEXT }
-    ensures { (input : SourceTold) → Ran (building_by read.now.text.items read.now.rules table.now) result
+    ensures { (input : SourceTold) → Ran (building_by read.now.text.items read.now.rules table.now)
+        result
         (world (store_of S.Store store.old) input (sink_of O.Sink out.old) steps.old)
         (world (store_of S.Store store.new) input (sink_of O.Sink out.new) steps.new) }
 {
@@ -99,7 +100,8 @@ fn build_named<S: Store, O: Sink, L: Ledger>(
         → Ran (unless (bytes_eq rules.now table.now) (building_at rules.now table.now)) result
         (world (store_of S.Store store.old) input (sink_of O.Sink out.old) steps.old)
         (world (store_of S.Store store.new) input (sink_of O.Sink out.new) steps.new) }
-    ensures unread { (unless (bytes_eq rules.now table.now) (building_at rules.now table.now)).needs.store ≡ false
+    ensures unread { (unless (bytes_eq rules.now table.now)
+        (building_at rules.now table.now)).needs.store ≡ false
         → store.new ≡ store.old }
 {
     if rules == table {

@@ -20,8 +20,8 @@ pub struct Judged {
     pub verdict: Verdict,
 }
 
-/// Opens the table of this name and checks its codes: the calls of the store are those of opening and
-/// of loading, and the steps at most the size.
+/// Opens the table of this name and checks its codes: the calls of the store are those of opening
+/// and of loading, and the steps at most the size.
 pub fn judge_file<S: Store, L: Ledger>(
     alloc: Global,
     name: &str,

@@ -1,4 +1,5 @@
-//! What holds of the answers of these commands, each law the contract of a function that does nothing.
+//! What holds of the answers of these commands, each law the
+//! contract of a function that does nothing.
 ghost use Rattle.std.specs.Prelude.{◌≡◌, ℕ, List};
 ghost use Rattle.frz_answer.specs.Answers.{Answer};
 ghost use Rattle.frz_answer.specs.declared.status.Status.TheVariants.{Success};
@@ -9,8 +10,8 @@ ghost use Rattle.frz_commands_table.specs.CheckMeans.{checking_at};
 
 use frz_check::laws::one_file;
 
-/// Of two files with one text `check` accepts at most one: where it answers with status 0 over both,
-/// they are the same bytes.
+/// Of two files with one text `check` accepts at most one: where it answers with status 0 over
+/// both, they are the same bytes.
 pub fn one_is_accepted()
     ensures { (table other : List ℕ) (files others : Files) (input more : List ℕ) (a b : Answer) →
         (checking_at table).answers files input a → a.status ≡ Success →

@@ -56,7 +56,9 @@ pub four_fields : (xs ys zs us vs : List (List ℕ)) (a b c d : List ℕ) → xs
     zs ≡ c ∷ us → us ≡ d ∷ vs → xs ≡ a ∷ b ∷ c ∷ d ∷ vs
 four_fields xs ys zs us vs a b c d e f g h = rw (e, f, g, h) refl
 
-pub named_four : (xs vs : List (List ℕ)) (a b c d : List ℕ) → xs ≡ a ∷ b ∷ c ∷ d ∷ vs → vs ≡ [] → named xs ≡ Some (record { placement = a; turn = b; castling = c; target = d; halfmove = None; fullmove = None })
+pub named_four : (xs vs : List (List ℕ)) (a b c d : List ℕ) → xs ≡ a ∷ b ∷ c ∷ d ∷ vs → vs ≡ []
+    → named xs ≡ Some
+    (record { placement = a; turn = b; castling = c; target = d; halfmove = None; fullmove = None })
 unfolding named
 named_four xs vs a b c d e f = rw (e, f) refl
 
@@ -65,7 +67,17 @@ pub named_five : (xs vs ws : List (List ℕ)) (a b c d h : List ℕ) → xs ≡ 
 unfolding named
 named_five xs vs ws a b c d h e f g = rw (e, f, g) refl
 
-pub named_six : (xs vs ws us : List (List ℕ)) (a b c d h m : List ℕ) → xs ≡ a ∷ b ∷ c ∷ d ∷ vs → vs ≡ h ∷ ws → ws ≡ m ∷ us → us ≡ [] → named xs ≡ Some (record { placement = a; turn = b; castling = c; target = d; halfmove = Some h; fullmove = Some m })
+pub named_six : (xs vs ws us : List (List ℕ)) (a b c d h m : List ℕ) → xs ≡ a ∷ b ∷ c ∷ d ∷ vs
+    → vs ≡ h ∷ ws → ws ≡ m ∷ us → us ≡ []
+    → named xs ≡ Some
+    (record {
+      placement = a;
+      turn = b;
+      castling = c;
+      target = d;
+      halfmove = Some h;
+      fullmove = Some m;
+    })
 unfolding named
 named_six xs vs ws us a b c d h m e f g k = rw (e, f, g, k) refl
 
@@ -74,5 +86,14 @@ pub named_more : (xs vs ws us ts : List (List ℕ)) (a b c d h m n : List ℕ) �
 unfolding named
 named_more xs vs ws us ts a b c d h m n e f g k = rw (e, f, g, k) refl
 
-pub ruleset naming =
-    (named_nil, named_one, named_two, named_three, four_fields, named_four, named_five, named_six, named_more)
+pub ruleset naming = (
+  named_nil,
+  named_one,
+  named_two,
+  named_three,
+  four_fields,
+  named_four,
+  named_five,
+  named_six,
+  named_more,
+)

@@ -31,21 +31,30 @@ wrong_turn text f e cells h p t = past p t ∙ has_fields text f h
     past : Ok cells ≡ placement_of f.placement → Err e ≡ turn_of f.turn → Err e ≡ position_of f
     past p t = rw (← p, ← t) refl
 
-pub wrong_castling : (text : List ℕ) (f : FieldTexts) (e : FenFault) (cells : List ℕ) (turn : Colour) → named_fields text ≡ Some f → Ok cells ≡ placement_of f.placement → Ok turn ≡ turn_of f.turn → Err e ≡ castling_of f.castling → Err e ≡ fen_of text
+pub wrong_castling : (text : List ℕ) (f : FieldTexts) (e : FenFault) (cells : List ℕ)
+    (turn : Colour) → named_fields text ≡ Some f → Ok cells ≡ placement_of f.placement
+    → Ok turn ≡ turn_of f.turn → Err e ≡ castling_of f.castling → Err e ≡ fen_of text
 wrong_castling text f e cells turn h p t k = past p t k ∙ has_fields text f h
   where
     past : Ok cells ≡ placement_of f.placement → Ok turn ≡ turn_of f.turn →
         Err e ≡ castling_of f.castling → Err e ≡ position_of f
     past p t k = rw (← p, ← t, ← k) refl
 
-pub wrong_target : (text : List ℕ) (f : FieldTexts) (e : FenFault) (cells : List ℕ) (turn : Colour) (u : Unit {0}) → named_fields text ≡ Some f → Ok cells ≡ placement_of f.placement → Ok turn ≡ turn_of f.turn → Ok u ≡ castling_of f.castling → Err e ≡ target_of turn f.target → Err e ≡ fen_of text
+pub wrong_target : (text : List ℕ) (f : FieldTexts) (e : FenFault) (cells : List ℕ) (turn : Colour)
+    (u : Unit {0}) → named_fields text ≡ Some f → Ok cells ≡ placement_of f.placement
+    → Ok turn ≡ turn_of f.turn → Ok u ≡ castling_of f.castling → Err e ≡ target_of turn f.target
+    → Err e ≡ fen_of text
 wrong_target text f e cells turn u h p t k s = past p t k s ∙ has_fields text f h
   where
     past : Ok cells ≡ placement_of f.placement → Ok turn ≡ turn_of f.turn →
         Ok u ≡ castling_of f.castling → Err e ≡ target_of turn f.target → Err e ≡ position_of f
     past p t k s = rw (← p, ← t, ← k, ← s) refl
 
-pub wrong_clock : (text : List ℕ) (f : FieldTexts) (e : FenFault) (cells : List ℕ) (turn : Colour) (u : Unit {0}) (target : Option ℕ) → named_fields text ≡ Some f → Ok cells ≡ placement_of f.placement → Ok turn ≡ turn_of f.turn → Ok u ≡ castling_of f.castling → Ok target ≡ target_of turn f.target → Err e ≡ clocks_of f.halfmove f.fullmove → Err e ≡ fen_of text
+pub wrong_clock : (text : List ℕ) (f : FieldTexts) (e : FenFault) (cells : List ℕ) (turn : Colour)
+    (u : Unit {0}) (target : Option ℕ) → named_fields text ≡ Some f
+    → Ok cells ≡ placement_of f.placement → Ok turn ≡ turn_of f.turn → Ok u ≡ castling_of f.castling
+    → Ok target ≡ target_of turn f.target → Err e ≡ clocks_of f.halfmove f.fullmove
+    → Err e ≡ fen_of text
 wrong_clock text f e cells turn u target h p t k s w = past p t k s w ∙ has_fields text f h
   where
     past : Ok cells ≡ placement_of f.placement → Ok turn ≡ turn_of f.turn →
@@ -53,10 +62,17 @@ wrong_clock text f e cells turn u target h p t k s w = past p t k s w ∙ has_fi
         Err e ≡ clocks_of f.halfmove f.fullmove → Err e ≡ position_of f
     past p t k s w = rw (← p, ← t, ← k, ← s, ← w) refl
 
-pub all_right : (text : List ℕ) (f : FieldTexts) (cells : List ℕ) (turn : Colour) (u v : Unit {0}) (target : Option ℕ) → named_fields text ≡ Some f → Ok cells ≡ placement_of f.placement → Ok turn ≡ turn_of f.turn → Ok u ≡ castling_of f.castling → Ok target ≡ target_of turn f.target → Ok v ≡ clocks_of f.halfmove f.fullmove → checked (with_kept (record { cells = cells; turn = turn; ep = target })) ≡ fen_of text
+pub all_right : (text : List ℕ) (f : FieldTexts) (cells : List ℕ) (turn : Colour) (u v : Unit {0})
+    (target : Option ℕ) → named_fields text ≡ Some f → Ok cells ≡ placement_of f.placement
+    → Ok turn ≡ turn_of f.turn → Ok u ≡ castling_of f.castling → Ok target ≡ target_of turn f.target
+    → Ok v ≡ clocks_of f.halfmove f.fullmove
+    → checked (with_kept (record { cells = cells; turn = turn; ep = target })) ≡ fen_of text
 all_right text f cells turn u v target h p t k s w = past p t k s w ∙ has_fields text f h
   where
-    past : Ok cells ≡ placement_of f.placement → Ok turn ≡ turn_of f.turn → Ok u ≡ castling_of f.castling → Ok target ≡ target_of turn f.target → Ok v ≡ clocks_of f.halfmove f.fullmove → checked (with_kept (record { cells = cells; turn = turn; ep = target })) ≡ position_of f
+    past : Ok cells ≡ placement_of f.placement → Ok turn ≡ turn_of f.turn
+        → Ok u ≡ castling_of f.castling → Ok target ≡ target_of turn f.target
+        → Ok v ≡ clocks_of f.halfmove f.fullmove
+        → checked (with_kept (record { cells = cells; turn = turn; ep = target })) ≡ position_of f
     past p t k s w = rw (← p, ← t, ← k, ← s, ← w) refl
 
 pub ruleset meaning =

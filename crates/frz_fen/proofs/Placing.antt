@@ -69,7 +69,8 @@ byte_fits : (c : Bool) (b : ℕ) →
     All (λ x. x < 13) (cond c (replicate (b - 48) 0) (unwrap_or (cell_of_letter b) 1 ∷ []))
 byte_fits true b = All-replicate (λ x. x < 13) (b - 48) 0 (lit< tt)
 byte_fits false b =
-    All-cons (λ x. x < 13) (unwrap_or (cell_of_letter b) 1) [] (letter_fits b) (All-nil (λ x. x < 13))
+    All-cons (λ x. x < 13) (unwrap_or (cell_of_letter b) 1) [] (letter_fits b)
+    (All-nil (λ x. x < 13))
 
 pub rank_fits : (part : List ℕ) → All (λ x. x < 13) (rank_cells part)
 rank_fits [] = All-nil (λ x. x < 13)
@@ -79,10 +80,17 @@ rank_fits (b ∷ bs) =
 ranks_fit : (parts : List (List ℕ)) → All (λ x. x < 13) (flat_map rank_cells parts)
 ranks_fit [] = All-nil (λ x. x < 13)
 ranks_fit (part ∷ parts) =
-    All-append (λ x. x < 13) (rank_cells part) (flat_map rank_cells parts) (rank_fits part) (ranks_fit parts)
+    All-append (λ x. x < 13) (rank_cells part) (flat_map rank_cells parts) (rank_fits part)
+    (ranks_fit parts)
 
 pub board_fits : (parts : List (List ℕ)) → All (λ x. x < 13) (board_cells parts)
 board_fits parts = ranks_fit (reverse parts)
 
-pub ruleset placing =
-    (wrong_rank-step, wrong_rank-here, wrong_rank-missing, wrong_rank-done, wrong_rank-further, board_cells-cons)
+pub ruleset placing = (
+  wrong_rank-step,
+  wrong_rank-here,
+  wrong_rank-missing,
+  wrong_rank-done,
+  wrong_rank-further,
+  board_cells-cons,
+)

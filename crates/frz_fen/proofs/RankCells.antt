@@ -38,7 +38,8 @@ pub wrong_byte : (part : List ℕ) (i : ℕ) → i < length part →
     is_gap_or_man (get_or part i 0) ≡ false → is_rank part ≡ false
 unfolding is_rank
 wrong_byte part i l h =
-    both_false (list_all is_gap_or_man part) (length (rank_cells part) == 8) (list_all_at is_gap_or_man part i 0 l h)
+    both_false (list_all is_gap_or_man part) (length (rank_cells part) == 8)
+    (list_all_at is_gap_or_man part i 0 l h)
 
 pub too_wide : (part : List ℕ) (i n cell : ℕ) → i < length part →
     cells_of (get_or part i 0) ≡ replicate n cell → 8 < length (rank_cells (take i part)) + n →

@@ -30,25 +30,34 @@ pub letter-ascii : (c : ℕ) → 0 < c → c < 13 → letter_of c < 128
 letter-ascii c l m =
     ltb-true (letter_of c) 128
     (and_parts (nat_lt (letter_of c) 128) (not (is_gap (letter_of c)))
-    (and_parts (nat_lt (letter_of c) 128 && not (is_gap (letter_of c))) (is_some (cell_of_letter (letter_of c)) && (unwrap_or (cell_of_letter (letter_of c)) 1 == c)) (letter_right c l m)).0).0
+    (and_parts (nat_lt (letter_of c) 128 && not (is_gap (letter_of c)))
+    (is_some (cell_of_letter (letter_of c)) && (unwrap_or (cell_of_letter (letter_of c)) 1 == c))
+    (letter_right c l m)).0).0
 
 letter-gap : (c : ℕ) → 0 < c → c < 13 → is_gap (letter_of c) ≡ false
 letter-gap c l m =
     not_gap (is_gap (letter_of c))
     (and_parts (nat_lt (letter_of c) 128) (not (is_gap (letter_of c)))
-    (and_parts (nat_lt (letter_of c) 128 && not (is_gap (letter_of c))) (is_some (cell_of_letter (letter_of c)) && (unwrap_or (cell_of_letter (letter_of c)) 1 == c)) (letter_right c l m)).0).1
+    (and_parts (nat_lt (letter_of c) 128 && not (is_gap (letter_of c)))
+    (is_some (cell_of_letter (letter_of c)) && (unwrap_or (cell_of_letter (letter_of c)) 1 == c))
+    (letter_right c l m)).0).1
 
 letter-man : (c : ℕ) → 0 < c → c < 13 →
     (is_some (cell_of_letter (letter_of c)) ≡ true)
     × ((unwrap_or (cell_of_letter (letter_of c)) 1 == c) ≡ true)
 letter-man c l m =
-    and_parts (is_some (cell_of_letter (letter_of c))) (unwrap_or (cell_of_letter (letter_of c)) 1 == c)
-    (and_parts (nat_lt (letter_of c) 128 && not (is_gap (letter_of c))) (is_some (cell_of_letter (letter_of c)) && (unwrap_or (cell_of_letter (letter_of c)) 1 == c)) (letter_right c l m)).1
+    and_parts (is_some (cell_of_letter (letter_of c)))
+    (unwrap_or (cell_of_letter (letter_of c)) 1 == c)
+    (and_parts (nat_lt (letter_of c) 128 && not (is_gap (letter_of c)))
+    (is_some (cell_of_letter (letter_of c)) && (unwrap_or (cell_of_letter (letter_of c)) 1 == c))
+    (letter_right c l m)).1
 
 letter-cells : (c : ℕ) → 0 < c → c < 13 → cells_of (letter_of c) ≡ c ∷ []
 letter-cells c l m =
-    ap (λ (x : Bool). cond x (replicate (letter_of c - 48) 0) (unwrap_or (cell_of_letter (letter_of c)) 1 ∷ [])) (letter-gap c l m)
-    ∙ ap (λ n. n ∷ []) (eqb-true (unwrap_or (cell_of_letter (letter_of c)) 1) c (letter-man c l m).1)
+    ap (λ (x : Bool). cond x (replicate (letter_of c - 48) 0)
+    (unwrap_or (cell_of_letter (letter_of c)) 1 ∷ [])) (letter-gap c l m)
+    ∙ ap (λ n. n ∷ [])
+    (eqb-true (unwrap_or (cell_of_letter (letter_of c)) 1) c (letter-man c l m).1)
 
 -- whether a text begins with a digit
 abbrev pub begins_gap : List ℕ → Bool
@@ -73,7 +82,8 @@ gap_grows : (n : ℕ) (text : List ℕ) → n ≤ 7 → begins_gap text ≡ fals
 gap_grows zero text l h = fresh_gap text h
 gap_grows (suc n) text l h =
     ap (λ xs. with_gap (xs ++ text)) (gap_text-some (suc n) (omega arith))
-    ∙ ap (λ (x : Bool). cond x ((48 + suc n + 1) ∷ text) (49 ∷ (48 + suc n) ∷ text)) (digit_is_gap (48 + suc n) (omega arith) (omega arith))
+    ∙ ap (λ (x : Bool). cond x ((48 + suc n + 1) ∷ text) (49 ∷ (48 + suc n) ∷ text))
+    (digit_is_gap (48 + suc n) (omega arith) (omega arith))
     ∙ ap (λ d. d ∷ text) (more n)
     ∙ ap (λ xs. xs ++ text) (sym (gap_text-some (suc (suc n)) (omega arith)))
   where
@@ -100,7 +110,9 @@ pub gap_and_man : (old : List ℕ) (n cell : ℕ) (cells : List ℕ) → n ≤ 8
     old ++ rank_text (replicate n 0 ++ cell ∷ cells)
     ≡ ((old ++ gap_text n) ++ letter_of cell ∷ []) ++ rank_text cells
 gap_and_man old n cell cells l m k =
-    ap (λ xs. old ++ xs) (gaps_first n (cell ∷ cells) l (man_begins cell cells m k) ∙ ap (λ xs. gap_text n ++ xs) (man_first cell cells m))
+    ap (λ xs. old ++ xs)
+    (gaps_first n (cell ∷ cells) l (man_begins cell cells m k) ∙ ap (λ xs. gap_text n ++ xs)
+    (man_first cell cells m))
     ∙ sym (append_assoc old (gap_text n) (letter_of cell ∷ rank_text cells))
     ∙ sym (append_assoc (old ++ gap_text n) (letter_of cell ∷ []) (rank_text cells))
 
@@ -111,7 +123,8 @@ pub gap_more : (old : List ℕ) (n : ℕ) (cells : List ℕ) →
     old ++ rank_text (replicate n 0 ++ 0 ∷ cells) ≡ old ++ rank_text (replicate (n + 1) 0 ++ cells)
 gap_more old n cells =
     ap (λ xs. old ++ rank_text xs)
-    (sym (append_assoc (replicate n 0) (0 ∷ []) cells) ∙ ap (λ xs. xs ++ cells) (sym (replicate_next n 0)))
+    (sym (append_assoc (replicate n 0) (0 ∷ []) cells) ∙ ap (λ xs. xs ++ cells)
+    (sym (replicate_next n 0)))
 
 -- the rest of a rank after the last gap
 pub rank_ends : (old text row : List ℕ) (n i : ℕ) → n ≤ 8 → length row ≤ i →
@@ -124,7 +137,8 @@ rank_ends old text row n i l m e =
 
 pub gap_bounds : (b : ℕ) → is_gap b ≡ true → (49 ≤ b) × (b ≤ 56)
 gap_bounds b h =
-    let parts = and_parts (nat_le 49 b) (nat_le b 56) h in (leb-true 49 b parts.0, leb-true b 56 parts.1)
+    let parts = and_parts (nat_le 49 b) (nat_le b 56) h in
+    (leb-true 49 b parts.0, leb-true b 56 parts.1)
 
 pub gap_cells : (b : ℕ) → is_gap b ≡ true → cells_of b ≡ replicate (b - 48) 0
 gap_cells b h =
@@ -136,8 +150,10 @@ pub next_digit : (b : ℕ) (bs : List ℕ) → is_gap b ≡ true → length (ran
 next_digit b bs h l =
     let bounds = gap_bounds b h in
     let low = bounds.0 in
-    let size : length (cells_of b) ≡ b - 48 = ap length (gap_cells b h) ∙ length-replicate (b - 48) 0 in
-    let whole : length (cells_of b ++ rank_cells bs) ≡ length (cells_of b) + length (rank_cells bs) = length-append (cells_of b) (rank_cells bs) in
+    let size : length (cells_of b) ≡ b - 48 = ap length (gap_cells b h)
+    ∙ length-replicate (b - 48) 0 in
+    let whole : length (cells_of b ++ rank_cells bs) ≡ length (cells_of b) + length
+    (rank_cells bs) = length-append (cells_of b) (rank_cells bs) in
     digit_is_gap (b + 1) (omega arith) (omega arith)
 
 longer_gap : (b : ℕ) → is_gap b ≡ true → is_gap (b + 1) ≡ true → cells_of (b + 1) ≡ 0 ∷ cells_of b
@@ -166,7 +182,8 @@ one_more_right : (x : Bool) (b : ℕ) (bs : List ℕ) → is_gap b ≡ x →
     length (rank_cells (b ∷ bs)) ≤ 7 → list_all is_gap_or_man (b ∷ bs) ≡ true →
     list_all is_gap_or_man (cond x ((b + 1) ∷ bs) (49 ∷ b ∷ bs)) ≡ true
 one_more_right true b bs h l e =
-    and_from (is_gap_or_man (b + 1)) (list_all is_gap_or_man bs) (gap_right (b + 1) (next_digit b bs h l))
+    and_from (is_gap_or_man (b + 1)) (list_all is_gap_or_man bs)
+    (gap_right (b + 1) (next_digit b bs h l))
     (and_parts (is_gap_or_man b) (list_all is_gap_or_man bs) e).1
 one_more_right false b bs h l e = e
 
@@ -187,7 +204,8 @@ pub record Reads (squares text : List ℕ) : Type 0 where
 reads_empty : (cells : List ℕ) → length cells ≤ 7 → Reads cells (rank_text cells) →
     Reads (0 ∷ cells) (rank_text (0 ∷ cells))
 reads_empty cells l r =
-    let few : length (rank_cells (rank_text cells)) ≤ 7 = subst (λ xs. length xs ≤ 7) (sym r.cells) l in
+    let few : length (rank_cells (rank_text cells)) ≤ 7 = subst (λ xs. length xs ≤ 7) (sym r.cells)
+    l in
     record {
       cells = with_gap-cells (rank_text cells) few ∙ ap (λ xs. 0 ∷ xs) r.cells;
       right = with_gap-right (rank_text cells) few r.right;
@@ -203,7 +221,8 @@ reads_man cell cells l m r =
       right =
           ap (list_all is_gap_or_man) (man_first cell cells l)
           ∙ and_from (is_gap_or_man (letter_of cell)) (list_all is_gap_or_man (rank_text cells))
-          (either_or (is_gap (letter_of cell)) (is_some (cell_of_letter (letter_of cell))) (inr (letter-man cell l m).0)) r.right;
+          (either_or (is_gap (letter_of cell)) (is_some (cell_of_letter (letter_of cell)))
+          (inr (letter-man cell l m).0)) r.right;
     }
 
 pub rank_reads : (cells : List ℕ) → length cells ≤ 8 → AreCells cells →
@@ -213,7 +232,8 @@ rank_reads (cell ∷ cells) l h =
     let rest = rank_reads cells (omega arith) (λ i m. h (suc i) (omega arith)) in
     elim (eqb_tells cell 0) [
       | inl w ↦
-          subst (λ c. Reads (c ∷ cells) (rank_text (c ∷ cells))) (sym w.1) (reads_empty cells (omega arith) rest)
+          subst (λ c. Reads (c ∷ cells) (rank_text (c ∷ cells))) (sym w.1)
+          (reads_empty cells (omega arith) rest)
       | inr w ↦ reads_man cell cells (let ne = w.1 in omega arith) (h 0 (omega arith)) rest
     ]
 
@@ -222,5 +242,6 @@ pub is_rank-text : (cells : List ℕ) → length cells ≡ 8 → AreCells cells 
 unfolding is_rank
 is_rank-text cells l h =
     let r = rank_reads cells (omega arith) h in
-    and_from (list_all is_gap_or_man (rank_text cells)) (length (rank_cells (rank_text cells)) == 8) r.right
+    and_from (list_all is_gap_or_man (rank_text cells)) (length (rank_cells (rank_text cells)) == 8)
+    r.right
     (eq-eqb (length (rank_cells (rank_text cells))) 8 (ap length r.cells ∙ l))

@@ -53,9 +53,12 @@ two_are_no_dash x y = never_both (x == 45)
 square_read : (t : ℕ) → t < 64 → square_word (file_letter t ∷ rank_digit t ∷ []) ≡ Some t
 square_read t l =
     ap (λ (x : Bool). cond x (Some (8 * (rank_digit t - 49) + (file_letter t - 97))) None)
-    (and_from (nat_le 97 (file_letter t) && nat_le (file_letter t) 104) (nat_le 49 (rank_digit t) && nat_le (rank_digit t) 56)
-    (and_from (nat_le 97 (file_letter t)) (nat_le (file_letter t) 104) (le-leb 97 (file_letter t) (omega arith)) (le-leb (file_letter t) 104 (omega arith)))
-    (and_from (nat_le 49 (rank_digit t)) (nat_le (rank_digit t) 56) (le-leb 49 (rank_digit t) (omega arith)) (le-leb (rank_digit t) 56 (omega arith))))
+    (and_from (nat_le 97 (file_letter t) && nat_le (file_letter t) 104)
+    (nat_le 49 (rank_digit t) && nat_le (rank_digit t) 56)
+    (and_from (nat_le 97 (file_letter t)) (nat_le (file_letter t) 104)
+    (le-leb 97 (file_letter t) (omega arith)) (le-leb (file_letter t) 104 (omega arith)))
+    (and_from (nat_le 49 (rank_digit t)) (nat_le (rank_digit t) 56)
+    (le-leb 49 (rank_digit t) (omega arith)) (le-leb (rank_digit t) 56 (omega arith))))
     ∙ ap (λ (n : ℕ). Some n) (back t l)
   where
     back : (k : ℕ) → k < 64 → 8 * (rank_digit k - 49) + (file_letter k - 97) ≡ k
@@ -68,7 +71,8 @@ passing_on_board Black t h = let e = eqb-true (rank_of t) 5 h in omega arith
 passed_rank : (p : Board) (c : Colour) (t : ℕ) → is_passed p c t ≡ true → is_passing_rank c t ≡ true
 passed_rank p c t h =
     (and_parts (is_passing_rank c t) (is_empty p t && is_empty p (ahead (other_of c) t))
-    (and_parts (is_passing_rank c t && (is_empty p t && is_empty p (ahead (other_of c) t))) (has p c Pawn (ahead c t))
+    (and_parts (is_passing_rank c t && (is_empty p t && is_empty p (ahead (other_of c) t)))
+    (has p c Pawn (ahead c t))
     (and_parts (has_passed p c t) (has_pawn_beside p (other_of c) (ahead c t)) h).0).0).0
 
 target_read : (p : Board) (o : Option ℕ) → target_stands p o ≡ true →
@@ -77,7 +81,9 @@ target_read p None h = refl
 target_read p (Some t) h =
     let rank = passed_rank p (other_of p.turn) t h in
     sym
-    (ap (λ (x : Bool). cond x (Ok None) (target_on p.turn (square_word (file_letter t ∷ rank_digit t ∷ [])))) (two_are_no_dash (file_letter t) (rank_digit t))
+    (ap (λ (x : Bool). cond x (Ok None)
+    (target_on p.turn (square_word (file_letter t ∷ rank_digit t ∷ []))))
+    (two_are_no_dash (file_letter t) (rank_digit t))
     ∙ ap (target_on p.turn) (square_read t (passing_on_board (other_of p.turn) t rank))
     ∙ ap (λ (x : Bool). cond x (Ok (Some t)) (Err WrongSquare)) rank)
 
@@ -100,9 +106,11 @@ kept_busy false t = refl
 kept_same : (p : Board) (o : Option ℕ) → target_stands p o ≡ true → kept p o ≡ o
 kept_same p None h = refl
 kept_same p (Some t) h =
-    let parts = and_parts (has_passed p (other_of p.turn) t) (has_pawn_beside p (other_of (other_of p.turn)) (ahead (other_of p.turn) t)) h in
+    let parts = and_parts (has_passed p (other_of p.turn) t)
+    (has_pawn_beside p (other_of (other_of p.turn)) (ahead (other_of p.turn) t)) h in
     let beside : has_pawn_beside p p.turn (ahead (other_of p.turn) t) ≡ true =
-    subst (λ (c : Colour). has_pawn_beside p c (ahead (other_of p.turn) t) ≡ true) (other_other p.turn) parts.1 in
+    subst (λ (c : Colour). has_pawn_beside p c (ahead (other_of p.turn) t) ≡ true)
+    (other_other p.turn) parts.1 in
     ap (λ (x : Bool). cond (has_passed p (other_of p.turn) t && not x) None (Some t)) beside
     ∙ kept_busy (has_passed p (other_of p.turn) t) t
 
@@ -122,7 +130,8 @@ valid_ok p v =
 
 checked_same : (p : Board) → IsValid p → checked (with_kept p) ≡ Ok p
 checked_same p v =
-    let same : with_kept p ≡ p = ap (λ (o : Option ℕ). record p { ep = o }) (kept_same p p.ep (stands p v.target)) in
+    let same : with_kept p ≡ p = ap (λ (o : Option ℕ). record p { ep = o })
+    (kept_same p p.ep (stands p v.target)) in
     ap checked same ∙ ap (accepted p) (valid_ok p v)
 
 -- the placement
@@ -145,11 +154,13 @@ texts_of p = record {
 fields_read : (p : Board) → IsValid p → named_fields (fen_text p) ≡ Some (texts_of p)
 unfolding named
 fields_read p v =
-    ap named (fen_fields p (are_rows p v) (turn_lacks p.turn) (turn_bytes p.turn) (target_lacks p.ep) (target_bytes p.ep))
+    ap named (fen_fields p (are_rows p v) (turn_lacks p.turn) (turn_bytes p.turn)
+    (target_lacks p.ep) (target_bytes p.ep))
 
 pub reads_back : (p : Board) → IsValid p → fen_of (fen_text p) ≡ Ok p
 reads_back p v =
     sym
-    (all_right (fen_text p) (texts_of p) p.cells p.turn tt tt p.ep (fields_read p v) (placement_read p v) (turn_read p.turn) refl
+    (all_right (fen_text p) (texts_of p) p.cells p.turn tt tt p.ep (fields_read p v)
+    (placement_read p v) (turn_read p.turn) refl
     (target_read p p.ep (stands p v.target)) refl)
     ∙ checked_same p v

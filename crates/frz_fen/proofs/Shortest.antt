@@ -58,7 +58,8 @@ one_digit zero cells h l = length-with_gap (rank_text cells)
 one_digit (suc n) cells h l =
     let begins : begins_gap (rank_text (replicate (suc n) 0 ++ cells)) ≡ true =
     with_gap-begins (rank_text (replicate n 0 ++ cells)) (few_cells n cells h (omega arith)) in
-    let same : length (with_gap (rank_text (replicate (suc n) 0 ++ cells))) ≡ length (rank_text (replicate (suc n) 0 ++ cells)) =
+    let same : length (with_gap (rank_text (replicate (suc n) 0 ++ cells))) ≡ length
+    (rank_text (replicate (suc n) 0 ++ cells)) =
     length-with_gap_more (rank_text (replicate (suc n) 0 ++ cells)) begins in
     let rest = one_digit n cells h (omega arith) in
     omega arith
@@ -77,32 +78,38 @@ byte_case true b bs h l e =
     let bounds = gap_bounds b h in
     let low = bounds.0 in
     let some : b - 48 ≡ suc (b - 49) = omega arith in
-    let gap : cells_of b ≡ replicate (suc (b - 49)) 0 = gap_cells b h ∙ ap (λ n. replicate n 0) some in
+    let gap : cells_of b ≡ replicate (suc (b - 49)) 0 = gap_cells b h
+    ∙ ap (λ n. replicate n 0) some in
     let size : length (cells_of b ++ rank_cells bs) ≡ suc (b - 49) + length (rank_cells bs) =
     ap (λ xs. length (xs ++ rank_cells bs)) gap ∙ length-empties (suc (b - 49)) (rank_cells bs) in
     let whole : length (cells_of b ++ rank_cells bs) ≤ 8 = l in
     let digit = one_digit (b - 49) (rank_cells bs) (cells_right bs) (omega arith) in
-    let text : length (rank_text (cells_of b ++ rank_cells bs)) ≡ length (rank_text (replicate (suc (b - 49)) 0 ++ rank_cells bs)) =
+    let text : length (rank_text (cells_of b ++ rank_cells bs)) ≡ length
+    (rank_text (replicate (suc (b - 49)) 0 ++ rank_cells bs)) =
     ap (λ xs. length (rank_text (xs ++ rank_cells bs))) gap in
     omega arith
 byte_case false b bs h l e =
     let man : cells_of b ≡ unwrap_or (cell_of_letter b) 1 ∷ [] =
     ap (λ (x : Bool). cond x (replicate (b - 48) 0) (unwrap_or (cell_of_letter b) 1 ∷ [])) h in
-    let text : length (rank_text (cells_of b ++ rank_cells bs)) ≡ suc (length (rank_text (rank_cells bs))) =
+    let text : length (rank_text (cells_of b ++ rank_cells bs)) ≡ suc
+    (length (rank_text (rank_cells bs))) =
     ap (λ xs. length (rank_text (xs ++ rank_cells bs))) man
-    ∙ ap length (man_first (unwrap_or (cell_of_letter b) 1) (rank_cells bs) (letter_stands (man_of_letter b))) in
+    ∙ ap length (man_first (unwrap_or (cell_of_letter b) 1) (rank_cells bs)
+    (letter_stands (man_of_letter b))) in
     omega arith
 
 pub shortest : (part : List ℕ) → length (rank_cells part) ≤ 8 →
     length (rank_text (rank_cells part)) ≤ length part
 shortest [] l = omega arith
 shortest (b ∷ bs) l =
-    let whole : length (cells_of b ++ rank_cells bs) ≡ length (cells_of b) + length (rank_cells bs) = length-append (cells_of b) (rank_cells bs) in
+    let whole : length (cells_of b ++ rank_cells bs) ≡ length (cells_of b) + length
+    (rank_cells bs) = length-append (cells_of b) (rank_cells bs) in
     byte_case (is_gap b) b bs refl l (shortest bs (omega arith))
 
 pub rank_shortest : (part : List ℕ) → is_rank part ≡ true →
     length (rank_text (rank_cells part)) ≤ length part
 unfolding is_rank
 rank_shortest part h =
-    let e = eqb-true (length (rank_cells part)) 8 (and_parts (list_all is_gap_or_man part) (length (rank_cells part) == 8) h).1 in
+    let e = eqb-true (length (rank_cells part)) 8
+    (and_parts (list_all is_gap_or_man part) (length (rank_cells part) == 8) h).1 in
     shortest part (omega arith)

@@ -59,10 +59,12 @@ lacks c text = list_all (λ b. not (b == c)) text
 split_at : (c : ℕ) (word rest : List ℕ) → lacks c word ≡ true →
     split (λ b. b == c) (word ++ c ∷ rest) ≡ word ∷ split (λ b. b == c) rest
 split_at c [] rest h =
-    ap (λ (x : Bool). cond x ([] ∷ split (λ b. b == c) rest) (with_first c (split (λ b. b == c) rest))) (eq-eqb c c refl)
+    ap (λ (x : Bool). cond x ([] ∷ split (λ b. b == c) rest)
+    (with_first c (split (λ b. b == c) rest))) (eq-eqb c c refl)
 split_at c (b ∷ bs) rest h =
     let parts = and_parts (not (b == c)) (lacks c bs) h in
-    ap (λ (x : Bool). cond x ([] ∷ split (λ k. k == c) (bs ++ c ∷ rest)) (with_first b (split (λ k. k == c) (bs ++ c ∷ rest)))) (denied (b == c) parts.0)
+    ap (λ (x : Bool). cond x ([] ∷ split (λ k. k == c) (bs ++ c ∷ rest))
+    (with_first b (split (λ k. k == c) (bs ++ c ∷ rest)))) (denied (b == c) parts.0)
     ∙ ap (with_first b) (split_at c bs rest parts.1)
   where
     denied : (x : Bool) → not x ≡ true → x ≡ false
@@ -73,7 +75,8 @@ split_end : (c : ℕ) (word : List ℕ) → lacks c word ≡ true → split (λ 
 split_end c [] h = refl
 split_end c (b ∷ bs) h =
     let parts = and_parts (not (b == c)) (lacks c bs) h in
-    ap (λ (x : Bool). cond x ([] ∷ split (λ k. k == c) bs) (with_first b (split (λ k. k == c) bs))) (denied (b == c) parts.0)
+    ap (λ (x : Bool). cond x ([] ∷ split (λ k. k == c) bs) (with_first b (split (λ k. k == c) bs)))
+    (denied (b == c) parts.0)
     ∙ ap (with_first b) (split_end c bs parts.1)
   where
     denied : (x : Bool) → not x ≡ true → x ≡ false
@@ -83,7 +86,10 @@ split_end c (b ∷ bs) h =
 -- the text of a rank has none of the bytes that separate
 byte_lacks : (c b : ℕ) → is_gap_or_man c ≡ false → is_gap_or_man b ≡ true → not (b == c) ≡ true
 byte_lacks c b h e =
-    elim (eqb_tells b c) [ inl w ↦ (let k : true ≡ false = sym e ∙ ap is_gap_or_man w.1 ∙ h in absurd cc) | inr w ↦ ap not w.0 ]
+    elim (eqb_tells b c) [
+      | inl w ↦ (let k : true ≡ false = sym e ∙ ap is_gap_or_man w.1 ∙ h in absurd cc)
+      | inr w ↦ ap not w.0
+    ]
 
 right_lacks : (c : ℕ) (text : List ℕ) → is_gap_or_man c ≡ false →
     list_all is_gap_or_man text ≡ true → lacks c text ≡ true
@@ -102,13 +108,15 @@ row-length cells r l m = grind (arith, length-take, length-drop)
 
 row-cells : (cells : List ℕ) (r : ℕ) → AreRows cells → r < 8 → AreCells (row cells r)
 row-cells cells r a m i k =
-    All-get_or (λ c. c < 13) (row cells r) i 0 k (All-take (λ c. c < 13) 8 (drop (8 * r) cells) (All-drop (λ c. c < 13) (8 * r) cells a.fits))
+    All-get_or (λ c. c < 13) (row cells r) i 0 k
+    (All-take (λ c. c < 13) 8 (drop (8 * r) cells) (All-drop (λ c. c < 13) (8 * r) cells a.fits))
 
 rank_lacks : (c : ℕ) (cells : List ℕ) (r : ℕ) → is_gap_or_man c ≡ false → AreRows cells → r < 8 →
     lacks c (rank_text (row cells r)) ≡ true
 rank_lacks c cells r h a m =
     right_lacks c (rank_text (row cells r)) h
-    (rank_reads (row cells r) (let e = row-length cells r a.size m in omega arith) (row-cells cells r a m)).right
+    (rank_reads (row cells r) (let e = row-length cells r a.size m in omega arith)
+    (row-cells cells r a m)).right
 
 -- the texts of the ranks, from this one down
 rows_down : List ℕ → ℕ → List (List ℕ)
@@ -120,7 +128,8 @@ ranks-down : (cells : List ℕ) (r : ℕ) → AreRows cells → r < 8 →
 unfolding ranks_text rows_down
 ranks-down cells zero a m = split_end 47 (rank_text (row cells 0)) (rank_lacks 47 cells 0 refl a m)
 ranks-down cells (suc r) a m =
-    split_at 47 (rank_text (row cells (suc r))) (ranks_text cells r) (rank_lacks 47 cells (suc r) refl a m)
+    split_at 47 (rank_text (row cells (suc r))) (ranks_text cells r)
+    (rank_lacks 47 cells (suc r) refl a m)
     ∙ ap (λ xs. rank_text (row cells (suc r)) ∷ xs) (ranks-down cells r a (omega arith))
 
 rows_right : (cells : List ℕ) (r : ℕ) → AreRows cells → r < 8 →
@@ -129,12 +138,14 @@ unfolding rows_down wrong_rank
 rows_right cells zero a m =
     rw (is_rank-text (row cells 0) (row-length cells 0 a.size m) (row-cells cells 0 a m)) refl
 rows_right cells (suc r) a m =
-    rw (is_rank-text (row cells (suc r)) (row-length cells (suc r) a.size m) (row-cells cells (suc r) a m)) (rows_right cells r a (omega arith))
+    rw (is_rank-text (row cells (suc r)) (row-length cells (suc r) a.size m)
+    (row-cells cells (suc r) a m)) (rows_right cells r a (omega arith))
 
 row_read : (cells : List ℕ) (r : ℕ) → AreRows cells → r < 8 →
     rank_cells (rank_text (row cells r)) ≡ row cells r
 row_read cells r a m =
-    (rank_reads (row cells r) (let e = row-length cells r a.size m in omega arith) (row-cells cells r a m)).cells
+    (rank_reads (row cells r) (let e = row-length cells r a.size m in omega arith)
+    (row-cells cells r a m)).cells
 
 next : (r : ℕ) → 8 * r + 8 ≡ 8 * suc r
 next r = omega arith
@@ -145,7 +156,8 @@ unfolding rows_down
 rows_cells cells zero a m = board_cells-cons (rank_text (row cells 0)) [] ∙ row_read cells 0 a m
 rows_cells cells (suc r) a m =
     board_cells-cons (rank_text (row cells (suc r))) (rows_down cells r)
-    ∙ ap (λ xs. xs ++ rank_cells (rank_text (row cells (suc r)))) (rows_cells cells r a (omega arith))
+    ∙ ap (λ xs. xs ++ rank_cells (rank_text (row cells (suc r))))
+    (rows_cells cells r a (omega arith))
     ∙ ap (λ xs. take (8 * r + 8) cells ++ xs) (row_read cells (suc r) a m)
     ∙ ap (λ n. take n cells ++ row cells (suc r)) (next r)
     ∙ sym (take-add (8 * suc r) 8 cells)
@@ -159,7 +171,8 @@ placement_right cells a =
 pub placement_cells : (cells : List ℕ) → AreRows cells →
     board_cells (ranks (placement_text cells)) ≡ cells
 placement_cells cells a =
-    ap board_cells (ranks-down cells 7 a (lit< tt)) ∙ rows_cells cells 7 a (lit< tt) ∙ take_all 64 cells (let e = a.size in omega arith)
+    ap board_cells (ranks-down cells 7 a (lit< tt)) ∙ rows_cells cells 7 a (lit< tt)
+    ∙ take_all 64 cells (let e = a.size in omega arith)
 
 ranks_lack : (c : ℕ) (cells : List ℕ) (r : ℕ) → is_gap_or_man c ≡ false → not (47 == c) ≡ true →
     AreRows cells → r < 8 → lacks c (ranks_text cells r) ≡ true
@@ -167,8 +180,10 @@ unfolding ranks_text
 ranks_lack c cells zero h k a m = rank_lacks c cells 0 h a m
 ranks_lack c cells (suc r) h k a m =
     list_all-append (λ b. not (b == c)) (rank_text (row cells (suc r))) (47 ∷ ranks_text cells r)
-    ∙ and_from (lacks c (rank_text (row cells (suc r)))) (lacks c (47 ∷ ranks_text cells r)) (rank_lacks c cells (suc r) h a m)
-    (and_from (not (47 == c)) (lacks c (ranks_text cells r)) k (ranks_lack c cells r h k a (omega arith)))
+    ∙ and_from (lacks c (rank_text (row cells (suc r)))) (lacks c (47 ∷ ranks_text cells r))
+    (rank_lacks c cells (suc r) h a m)
+    (and_from (not (47 == c)) (lacks c (ranks_text cells r)) k
+    (ranks_lack c cells r h k a (omega arith)))
 
 some_bytes : (xs ys : List ℕ) (c : ℕ) → has_bytes (xs ++ c ∷ ys) ≡ true
 some_bytes [] ys c = refl
@@ -183,7 +198,8 @@ pub fen_fields : (p : Board) → AreRows p.cells → lacks 32 (turn_text p.turn)
     has_bytes (turn_text p.turn) ≡ true → lacks 32 (target_text p.ep) ≡ true →
     has_bytes (target_text p.ep) ≡ true →
     fields (fen_text p)
-    ≡ placement_text p.cells ∷ turn_text p.turn ∷ (45 ∷ []) ∷ target_text p.ep ∷ (48 ∷ []) ∷ (49 ∷ []) ∷ []
+    ≡ placement_text p.cells ∷ turn_text p.turn ∷ (45 ∷ []) ∷ target_text p.ep ∷ (48 ∷ [])
+    ∷ (49 ∷ []) ∷ []
 unfolding fields fen_text
 fen_fields p a t tb e eb =
     ap (filter has_bytes) cut
@@ -193,12 +209,20 @@ fen_fields p a t tb e eb =
         ≡ target_text p.ep ∷ (48 ∷ []) ∷ (49 ∷ []) ∷ []
     after_target = split_at 32 (target_text p.ep) (48 ∷ 32 ∷ 49 ∷ []) e
 
-    after_turn : split (λ b. b == 32) (turn_text p.turn ++ 32 ∷ 45 ∷ 32 ∷ (target_text p.ep ++ 32 ∷ 48 ∷ 32 ∷ 49 ∷ [])) ≡ turn_text p.turn ∷ (45 ∷ []) ∷ target_text p.ep ∷ (48 ∷ []) ∷ (49 ∷ []) ∷ []
+    after_turn : split (λ b. b == 32)
+        (turn_text p.turn ++ 32 ∷ 45 ∷ 32 ∷ (target_text p.ep ++ 32 ∷ 48 ∷ 32 ∷ 49 ∷ []))
+        ≡ turn_text p.turn ∷ (45 ∷ []) ∷ target_text p.ep ∷ (48 ∷ []) ∷ (49 ∷ []) ∷ []
     after_turn =
         split_at 32 (turn_text p.turn) (45 ∷ 32 ∷ (target_text p.ep ++ 32 ∷ 48 ∷ 32 ∷ 49 ∷ [])) t
         ∙ ap (λ xs. turn_text p.turn ∷ (45 ∷ []) ∷ xs) after_target
 
-    cut : split (λ b. b == 32) (placement_text p.cells ++ 32 ∷ (turn_text p.turn ++ 32 ∷ 45 ∷ 32 ∷ (target_text p.ep ++ 32 ∷ 48 ∷ 32 ∷ 49 ∷ []))) ≡ placement_text p.cells ∷ turn_text p.turn ∷ (45 ∷ []) ∷ target_text p.ep ∷ (48 ∷ []) ∷ (49 ∷ []) ∷ []
+    cut : split (λ b. b == 32)
+        (placement_text p.cells
+        ++ 32 ∷ (turn_text p.turn ++ 32 ∷ 45 ∷ 32 ∷ (target_text p.ep ++ 32 ∷ 48 ∷ 32 ∷ 49 ∷ [])))
+        ≡ placement_text p.cells ∷ turn_text p.turn ∷ (45 ∷ []) ∷ target_text p.ep ∷ (48 ∷ [])
+        ∷ (49 ∷ []) ∷ []
     cut =
-        split_at 32 (placement_text p.cells) (turn_text p.turn ++ 32 ∷ 45 ∷ 32 ∷ (target_text p.ep ++ 32 ∷ 48 ∷ 32 ∷ 49 ∷ [])) (ranks_lack 32 p.cells 7 refl refl a (lit< tt))
+        split_at 32 (placement_text p.cells)
+        (turn_text p.turn ++ 32 ∷ 45 ∷ 32 ∷ (target_text p.ep ++ 32 ∷ 48 ∷ 32 ∷ 49 ∷ []))
+        (ranks_lack 32 p.cells 7 refl refl a (lit< tt))
         ∙ ap (λ xs. placement_text p.cells ∷ xs) after_turn

@@ -12,5 +12,6 @@ pub by_squares : (p : Board) → legal_by_squares p ≡ legal_moves_of p
 unfolding legal_by_squares legal_from legal_between every_step
 by_squares p =
     sym (filter-flat_map (is_legal p) (λ a. flat_map (λ b. steps_between a b) squares) squares
-    ∙ flat_map-same (λ a. filter (is_legal p) (flat_map (λ b. steps_between a b) squares)) (λ a. flat_map (λ b. filter (is_legal p) (steps_between a b)) squares)
+    ∙ flat_map-same (λ a. filter (is_legal p) (flat_map (λ b. steps_between a b) squares))
+    (λ a. flat_map (λ b. filter (is_legal p) (steps_between a b)) squares)
     (λ a. filter-flat_map (is_legal p) (λ b. steps_between a b) squares) squares)

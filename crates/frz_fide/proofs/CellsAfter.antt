@@ -55,16 +55,20 @@ arrives_small man None = cell_small man.colour man.kind
 arrives_small man (Some k) = cell_small man.colour k
 
 pub fit_written : (xs : List ℕ) (a b v e : ℕ) (t : Bool) → v < 13 → CellsFit xs →
-    CellsFit (cond t (slice_set (slice_set (slice_set xs a 0) b v) e 0) (slice_set (slice_set xs a 0) b v))
+    CellsFit (cond t (slice_set (slice_set (slice_set xs a 0) b v) e 0)
+    (slice_set (slice_set xs a 0) b v))
 fit_written xs a b v e false lv fits = record {
   size = rw (length-set, length-set) fits.size;
   men =
-      All-set (λ c. c < 13) (slice_set xs a 0) b v lv (All-set (λ c. c < 13) xs a 0 (omega arith) fits.men);
+      All-set (λ c. c < 13) (slice_set xs a 0) b v lv
+      (All-set (λ c. c < 13) xs a 0 (omega arith) fits.men);
 }
 fit_written xs a b v e true lv fits = record {
   size = rw (length-set, length-set, length-set) fits.size;
   men =
-      All-set (λ c. c < 13) (slice_set (slice_set xs a 0) b v) e 0 (omega arith) (All-set (λ c. c < 13) (slice_set xs a 0) b v lv (All-set (λ c. c < 13) xs a 0 (omega arith) fits.men));
+      All-set (λ c. c < 13) (slice_set (slice_set xs a 0) b v) e 0 (omega arith)
+      (All-set (λ c. c < 13) (slice_set xs a 0) b v lv
+      (All-set (λ c. c < 13) xs a 0 (omega arith) fits.men));
 }
 
 module _ (p : Board) (m : Step) (v : IsValid p) (lt : m.to < 64) (f : Move p m) where
@@ -86,20 +90,26 @@ module _ (p : Board) (m : Step) (v : IsValid p) (lt : m.to < 64) (f : Move p m) 
 
   takes_parts : takes ≡ true → (pawn_reaches f.man.colour m.from m.to) ≡ true
   takes_parts h =
-      (and_parts (pawn_reaches f.man.colour m.from m.to) (is_target p.ep m.to) (and_parts (is_pawn f.man.kind) (takes_in_passing p f.man.colour m.from m.to) h).1).0
+      (and_parts (pawn_reaches f.man.colour m.from m.to) (is_target p.ep m.to)
+      (and_parts (is_pawn f.man.kind) (takes_in_passing p f.man.colour m.from m.to) h).1).0
 
   pub beside_from : takes ≡ true → beside ≡ m.from → ⊥
   beside_from h =
-      beside_other m.from m.to (and_parts (files_apart m.from m.to == 1) (is_forward f.man.colour 1 m.from m.to) (takes_parts h)).0
+      beside_other m.from m.to
+      (and_parts (files_apart m.from m.to == 1) (is_forward f.man.colour 1 m.from m.to)
+      (takes_parts h)).0
 
   pub beside_to : takes ≡ true → beside ≡ m.to → ⊥
   beside_to h e =
-      beside_apart f.man.colour m.from m.to (and_parts (files_apart m.from m.to == 1) (is_forward f.man.colour 1 m.from m.to) (takes_parts h)).1 (sym e)
+      beside_apart f.man.colour m.from m.to
+      (and_parts (files_apart m.from m.to == 1) (is_forward f.man.colour 1 m.from m.to)
+      (takes_parts h)).1 (sym e)
 
   pub enemy : takes ≡ true →
       slice_index p.cells beside ≡ cell_of_man (record { colour = other_of p.turn; kind = Pawn })
   enemy h =
-      taken p m v f.man.colour f.own (and_parts (is_pawn f.man.kind) (takes_in_passing p f.man.colour m.from m.to) h).1
+      taken p m v f.man.colour f.own
+      (and_parts (is_pawn f.man.kind) (takes_in_passing p f.man.colour m.from m.to) h).1
 
   pub mover : slice_index p.cells m.from ≡ cell_of_man f.man
   mover = cell_back (slice_index p.cells m.from) f.man.colour f.man.kind f.on

@@ -57,11 +57,13 @@ means_attacked p s by a =
 pub check_means : (p : Board) (c : Colour) → is_in_check p c ≡ true → Check p c
 check_means p c h =
     let found = some_square (λ s. has p c King s && is_attacked p s (other_of c)) h in
-    let both = and_parts (has p c King found.square) (is_attacked p found.square (other_of c)) found.passes in
+    let both = and_parts (has p c King found.square) (is_attacked p found.square (other_of c))
+    found.passes in
     record {
       square = found.square;
       on_board = found.on_board;
-      king = eqb-true (slice_index p.cells found.square) (cell_of_man (record { colour = c; kind = King })) both.0;
+      king = eqb-true (slice_index p.cells found.square)
+          (cell_of_man (record { colour = c; kind = King })) both.0;
       attacker = attacked_means p found.square (other_of c) both.1;
     }
 
@@ -69,5 +71,6 @@ pub means_check : (p : Board) (c : Colour) → Check p c → is_in_check p c ≡
 means_check p c h =
     any_square (λ s. has p c King s && is_attacked p s (other_of c)) h.square h.on_board
     (and_from (has p c King h.square) (is_attacked p h.square (other_of c))
-    (eq-eqb (slice_index p.cells h.square) (cell_of_man (record { colour = c; kind = King })) h.king)
+    (eq-eqb (slice_index p.cells h.square) (cell_of_man (record { colour = c; kind = King }))
+    h.king)
     (means_attacked p h.square (other_of c) h.attacker))

@@ -26,7 +26,10 @@ one q x = cond (q x) 1 0
 pub count_then : (q : ℕ → Bool) (xs : List ℕ) (a b v e : ℕ) (t : Bool) → q 0 ≡ false →
     a < length xs → b < length xs → e < length xs → a ≢ b → (t ≡ true → e ≢ a) →
     (t ≡ true → e ≢ b) →
-    count_by q (cond t (slice_set (slice_set (slice_set xs a 0) b v) e 0) (slice_set (slice_set xs a 0) b v)) + (one q (slice_index xs a) + (one q (slice_index xs b) + cond t (one q (slice_index xs e)) 0)) ≡ count_by q xs + one q v
+    count_by q (cond t (slice_set (slice_set (slice_set xs a 0) b v) e 0)
+    (slice_set (slice_set xs a 0) b v))
+    + (one q (slice_index xs a) + (one q (slice_index xs b) + cond t (one q (slice_index xs e)) 0))
+    ≡ count_by q xs + one q v
 count_then q xs a b v e false h0 la lb le ab ea eb =
     let zero : one q 0 ≡ 0 = ap (λ x. cond x 1 0) h0 in
     let first = sum_by-set (one q) xs a 0 0 la in
@@ -44,7 +47,9 @@ count_then q xs a b v e true h0 la lb le ab ea eb =
     let third = sum_by-set (one q) (slice_set (slice_set xs a 0) b v) e 0 0 le' in
     let ba : b ≢ a = λ w. ab (sym w) in
     let same = ap (one q) (get_or-set_other xs a b 0 0 ba) in
-    let there = ap (one q) (get_or-set_other (slice_set xs a 0) b e v 0 (eb refl) ∙ get_or-set_other xs a e 0 0 (ea refl)) in
+    let there = ap (one q)
+    (get_or-set_other (slice_set xs a 0) b e v 0 (eb refl) ∙ get_or-set_other xs a e 0 0
+    (ea refl)) in
     omega (arith, zero, first, second, third, same, there)
 
 no_part : (t : Bool) (n : ℕ) → (t ≡ true → n ≡ 0) → cond t n 0 ≡ 0
@@ -53,25 +58,40 @@ no_part false n h = refl
 
 module _ (p : Board) (m : Step) (v : IsValid p) (lt : m.to < 64) (f : Move p m) where
   counted : (q : ℕ → Bool) → q 0 ≡ false →
-      count_by q (cells_after p f.man m) + (one q (slice_index p.cells m.from) + (one q (slice_index p.cells m.to) + cond (takes p m v lt f) (one q (slice_index p.cells (beside p m v lt f))) 0)) ≡ count_by q p.cells + one q (arrival p m v lt f)
+      count_by q (cells_after p f.man m)
+      + (one q (slice_index p.cells m.from)
+      + (one q (slice_index p.cells m.to) + cond (takes p m v lt f)
+      (one q (slice_index p.cells (beside p m v lt f))) 0)) ≡ count_by q p.cells + one q
+      (arrival p m v lt f)
   counted q h0 =
       let size = v.fits.size in
       let from = lf p m v lt f in
-      count_then q p.cells m.from m.to (arrival p m v lt f) (beside p m v lt f) (takes p m v lt f) h0 (omega arith) (omega arith) (omega arith) (apart p m f) (beside_from p m v lt f) (beside_to p m v lt f)
+      count_then q p.cells m.from m.to (arrival p m v lt f) (beside p m v lt f) (takes p m v lt f)
+      h0 (omega arith) (omega arith) (omega arith) (apart p m f) (beside_from p m v lt f)
+      (beside_to p m v lt f)
 
   pub kings_kept : (d : Colour) →
-      count_by (λ x. x == cell_of_man (record { colour = d; kind = King })) (cells_after p f.man m) ≡ count_of p d King
+      count_by (λ x. x == cell_of_man (record { colour = d; kind = King })) (cells_after p f.man m)
+      ≡ count_of p d King
   kings_kept d =
       let q : ℕ → Bool = λ x. x == cell_of_man (record { colour = d; kind = King }) in
       let count = counted q (zero_king d) in
-      let from : q (slice_index p.cells m.from) ≡ (is_king f.man.kind && same_colour f.man.colour d) = ap q (mover p m v lt f) ∙ king_test f.man.colour f.man.kind d in
+      let from : q (slice_index p.cells m.from)
+      ≡ (is_king f.man.kind && same_colour f.man.colour d) = ap q (mover p m v lt f)
+      ∙ king_test f.man.colour f.man.kind d in
       let to : q (arrival p m v lt f) ≡ (is_king f.man.kind && same_colour f.man.colour d) =
       king_test (arrives f.man m.promo).colour (arrives f.man m.promo).kind d
-      ∙ ap (λ x. x && same_colour (arrives f.man m.promo).colour d) (same_king f.man.colour f.man.kind m.to m.promo f.man.colour f.promo)
+      ∙ ap (λ x. x && same_colour (arrives f.man m.promo).colour d)
+      (same_king f.man.colour f.man.kind m.to m.promo f.man.colour f.promo)
       ∙ ap (λ c. is_king f.man.kind && same_colour c d) (arrives_colour f.man m.promo) in
-      let same : one q (slice_index p.cells m.from) ≡ one q (arrival p m v lt f) = ap (λ x. cond x 1 0) (from ∙ sym to) in
-      let none : one q (slice_index p.cells m.to) ≡ 0 = ap (λ x. cond x 1 0) (no_king_there p m v lt f d) in
-      let gone : cond (takes p m v lt f) (one q (slice_index p.cells (beside p m v lt f))) 0 ≡ 0 = no_part (takes p m v lt f) (one q (slice_index p.cells (beside p m v lt f))) (λ h. ap (one q) (enemy p m v lt f h) ∙ ap (λ x. cond x 1 0) (king_test (other_of p.turn) Pawn d)) in
+      let same : one q (slice_index p.cells m.from) ≡ one q (arrival p m v lt f) =
+      ap (λ x. cond x 1 0) (from ∙ sym to) in
+      let none : one q (slice_index p.cells m.to) ≡ 0 = ap (λ x. cond x 1 0)
+      (no_king_there p m v lt f d) in
+      let gone : cond (takes p m v lt f) (one q (slice_index p.cells (beside p m v lt f))) 0 ≡ 0 =
+      no_part (takes p m v lt f) (one q (slice_index p.cells (beside p m v lt f)))
+      (λ h. ap (one q) (enemy p m v lt f h) ∙ ap (λ x. cond x 1 0)
+      (king_test (other_of p.turn) Pawn d)) in
       omega (arith, count, same, none, gone)
 
   men_kept : (d : Colour) →
@@ -80,12 +100,16 @@ module _ (p : Board) (m : Step) (v : IsValid p) (lt : m.to < 64) (f : Move p m) 
   men_kept d =
       let q : ℕ → Bool = λ x. is_man_of d (man_of_cell x) in
       let count = counted q refl in
-      let from : q (slice_index p.cells m.from) ≡ same_colour f.man.colour d = ap (is_man_of d) f.on in
-      let to : q (arrival p m v lt f) ≡ same_colour f.man.colour d = ap (is_man_of d) (arrives_own f.man m.promo) ∙ ap (λ c. same_colour c d) (arrives_colour f.man m.promo) in
-      let same : one q (slice_index p.cells m.from) ≡ one q (arrival p m v lt f) = ap (λ x. cond x 1 0) (from ∙ sym to) in
+      let from : q (slice_index p.cells m.from) ≡ same_colour f.man.colour d = ap (is_man_of d)
+      f.on in
+      let to : q (arrival p m v lt f) ≡ same_colour f.man.colour d = ap (is_man_of d)
+      (arrives_own f.man m.promo) ∙ ap (λ c. same_colour c d) (arrives_colour f.man m.promo) in
+      let same : one q (slice_index p.cells m.from) ≡ one q (arrival p m v lt f) =
+      ap (λ x. cond x 1 0) (from ∙ sym to) in
       omega (arith, count, same)
 
   pub few_kept : (d : Colour) → nat_le (men_of (next p m v lt f) d) 16 ≡ true
   unfolding men_of
   few_kept d =
-      let kept = men_kept d in let few_before = few p d v.men in le-leb (men_of (next p m v lt f) d) 16 (omega arith)
+      let kept = men_kept d in let few_before = few p d v.men in
+      le-leb (men_of (next p m v lt f) d) 16 (omega arith)

@@ -16,7 +16,8 @@ use Rattle.frz_fide.proofs.LegalParts.{Move, facts}
 use Rattle.frz_fide.proofs.Cells.{cell_then}
 use Rattle.frz_fide.proofs.Standing.{after_at, stays, arrived, left, none_comes, arrived_own, arrives_own, holds_from}
 
-module _ (p : Board) (m n : Step) (v : IsValid p) (lm : m.to < 64) (ln : n.to < 64) (f : Move p m) (g : Move p n) (e : after p m ≡ after p n) where
+module _ (p : Board) (m n : Step) (v : IsValid p) (lm : m.to < 64) (ln : n.to < 64) (f : Move p m)
+    (g : Move p n) (e : after p m ≡ after p n) where
   -- the two moves leave the same on each square
   same_cells : (s : ℕ) → cell_then p f.man m s ≡ cell_then p g.man n s
   same_cells s =
@@ -30,7 +31,8 @@ module _ (p : Board) (m n : Step) (v : IsValid p) (lm : m.to < 64) (ln : n.to < 
             let empty = left p m f in
             let kept = stays p n v g m.from (holds_from p m f) w.1 in
             let own = holds_from p m f in
-            let zero : slice_index p.cells m.from ≡ 0 = sym kept ∙ sym (same_cells m.from) ∙ empty in
+            let zero : slice_index p.cells m.from ≡ 0 = sym kept ∙ sym (same_cells m.from)
+            ∙ empty in
             let none = ap (λ x. is_man_of p.turn (man_of_cell x)) zero in
             cc)
       ]
@@ -48,8 +50,10 @@ module _ (p : Board) (m n : Step) (v : IsValid p) (lm : m.to < 64) (ln : n.to < 
 
   same_arrival : arrives f.man m.promo ≡ arrives g.man n.promo
   same_arrival =
-      let cells = sym (arrived p m f) ∙ same_cells m.to ∙ ap (cell_then p g.man n) same_to ∙ arrived p n g in
-      let men = sym (arrives_own f.man m.promo) ∙ ap man_of_cell cells ∙ arrives_own g.man n.promo in
+      let cells = sym (arrived p m f) ∙ same_cells m.to ∙ ap (cell_then p g.man n) same_to
+      ∙ arrived p n g in
+      let men = sym (arrives_own f.man m.promo) ∙ ap man_of_cell cells
+      ∙ arrives_own g.man n.promo in
       cc
 
   same_man : f.man ≡ g.man
@@ -78,7 +82,8 @@ same_promo : (man : Man) (c : Colour) (k : Kind) (b : ℕ) (x y : Option Kind) �
 same_promo man c Pawn b x y k hx hy e =
     promo_by man x y
     (no_pawn c x (and_parts (is_promotion x) (if is_last c b then is_some x else is_none x) hx).0)
-    (no_pawn c y (and_parts (is_promotion y) (if is_last c b then is_some y else is_none y) hy).0) k e
+    (no_pawn c y (and_parts (is_promotion y) (if is_last c b then is_some y else is_none y) hy).0) k
+    e
 same_promo man c King b x y k hx hy e = none_of x y hx hy
 same_promo man c Queen b x y k hx hy e = none_of x y hx hy
 same_promo man c Rook b x y k hx hy e = none_of x y hx hy
@@ -98,8 +103,11 @@ same_by p m n v lm ln f g e =
     let to = same_to p m n v lm ln f g e in
     let man = same_man p m n v lm ln f g e in
     let arrival = same_arrival p m n v lm ln f g e in
-    let second : promotes f.man.colour f.man.kind m.to n.promo ≡ true = ap (λ w. promotes w.colour w.kind m.to n.promo) man ∙ ap (λ b. promotes g.man.colour g.man.kind b n.promo) to ∙ g.promo in
-    let promo : m.promo ≡ n.promo = same_promo f.man f.man.colour f.man.kind m.to m.promo n.promo refl f.promo second (arrival ∙ ap (λ w. arrives w n.promo) (sym man)) in
+    let second : promotes f.man.colour f.man.kind m.to n.promo ≡ true =
+    ap (λ w. promotes w.colour w.kind m.to n.promo) man
+    ∙ ap (λ b. promotes g.man.colour g.man.kind b n.promo) to ∙ g.promo in
+    let promo : m.promo ≡ n.promo = same_promo f.man f.man.colour f.man.kind m.to m.promo n.promo
+    refl f.promo second (arrival ∙ ap (λ w. arrives w n.promo) (sym man)) in
     same_parts m n from to promo
 
 pub same_move : (p : Board) (m n : Step) → IsValid p → IsStep m → IsStep n → is_legal p m ≡ true →

@@ -33,18 +33,30 @@ pub leaves_safely : (p : Board) (man : Man) (m : Step) → man_on p m.from ≡ S
 leaves_safely p man m on can hidden =
     let parts = or_parts (moves_apart p man) (is_bared p m.from) hidden in
     let apart = or_parts (is_king man.kind) (is_pawn man.kind && is_some p.ep) parts.0 in
-    let way = and_parts (holds p p.turn m.from && not (holds p p.turn m.to)) (man_goes p (man_on p m.from) m) can in
-    let own : same_colour man.colour p.turn ≡ true = ap (is_man_of p.turn) (sym on) ∙ (and_parts (holds p p.turn m.from) (not (holds p p.turn m.to)) way.0).0 in
+    let way = and_parts (holds p p.turn m.from && not (holds p p.turn m.to))
+    (man_goes p (man_on p m.from) m) can in
+    let own : same_colour man.colour p.turn ≡ true = ap (is_man_of p.turn) (sym on)
+    ∙ (and_parts (holds p p.turn m.from) (not (holds p p.turn m.to)) way.0).0 in
     let side = same_side man.colour p.turn own in
-    let promo = (and_parts (goes p man.colour man.kind m.from m.to) (promotes man.colour man.kind m.to m.promo) (ap (λ o. man_goes p o m) (sym on) ∙ way.1)).1 in
+    let promo = (and_parts (goes p man.colour man.kind m.from m.to)
+    (promotes man.colour man.kind m.to m.promo)
+    (ap (λ o. man_goes p o m) (sym on) ∙ way.1)).1 in
     let arrival = cell_of_man (arrives man m.promo) in
     let comes : is_man_of p.turn (man_of_cell arrival) ≡ true =
-    ap (is_man_of p.turn) (arrives_own man m.promo) ∙ ap (λ c. same_colour c p.turn) (arrives_colour man m.promo ∙ side) ∙ own_colour p.turn in
+    ap (is_man_of p.turn) (arrives_own man m.promo) ∙ ap (λ c. same_colour c p.turn)
+    (arrives_colour man m.promo ∙ side) ∙ own_colour p.turn in
     let piece : (arrival == cell_of_man (record { colour = p.turn; kind = King })) ≡ false =
     king_test (arrives man m.promo).colour (arrives man m.promo).kind p.turn
-    ∙ ap (λ x. x && same_colour (arrives man m.promo).colour p.turn) (same_king man.colour man.kind m.to m.promo man.colour promo ∙ apart.0) in
-    let bare : Board = record { cells = slice_set p.cells m.from 0; turn = other_of p.turn; ep = target_after p man m } in
+    ∙ ap (λ x. x && same_colour (arrives man m.promo).colour p.turn)
+    (same_king man.colour man.kind m.to m.promo man.colour promo ∙ apart.0) in
+    let bare : Board = record {
+      cells = slice_set p.cells m.from 0;
+      turn = other_of p.turn;
+      ep = target_after p man m;
+    } in
     let moved = slice_set bare.cells m.to arrival in
     ap (λ o. is_in_check (after_man p o m) p.turn) on
-    ∙ ap (λ t. is_in_check (record bare { cells = cond t (slice_set moved (beside_on_file m.from m.to) 0) moved }) p.turn) (no_taking man.kind p.ep (pawn_reaches man.colour m.from m.to) m.to apart.1)
+    ∙ ap (λ t. is_in_check
+    (record bare { cells = cond t (slice_set moved (beside_on_file m.from m.to) 0) moved })
+    p.turn) (no_taking man.kind p.ep (pawn_reaches man.colour m.from m.to) m.to apart.1)
     ∙ no_new_check bare p.turn m.to arrival comes piece parts.1

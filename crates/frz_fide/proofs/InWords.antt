@@ -1,13 +1,12 @@
 -- The tests of legal moves compute the relation of legal moves.
-use Rattle.std.proofs.Common.{◌≡◌, ◌≢◌, ℕ, ◌+◌, ◌/◌, ◌<◌, Bool, true, false, cond, ◌&&◌, ◌||◌, not, refl, ap, sym, ◌∙◌, arith, Option, None, Some, slice_index, slice_set, ◌⊎◌, inl, inr}
+use Rattle.std.proofs.Common.{◌≡◌, ◌≢◌, ℕ, ◌<◌, Bool, true, false, cond, ◌&&◌, ◌||◌, not, refl, ap, sym, ◌∙◌, Option, None, Some, slice_index, slice_set, ◌⊎◌, inl, inr}
 use Rattle.std.specs.Prelude.{◌==◌, is_none, is_some, if◌then◌else◌}
-use Rattle.std.proofs.lemmas.Bool.{eqb-true, eq-eqb, ne_eqb, both_ways, false_from_ne_true, and_left, and_right, and_parts, and_from, or_cases}
+use Rattle.std.proofs.lemmas.Bool.{eqb-true, eq-eqb, both_ways, false_from_ne_true, and_left, and_right, and_parts, and_from, or_cases}
 use Rattle.frz_board.specs.declared.man.Colour.{Colour}
-use Rattle.frz_board.specs.declared.man.Colour.TheVariants.{White, Black}
 use Rattle.frz_board.specs.declared.man.Kind.{Kind}
 use Rattle.frz_board.specs.declared.man.Kind.TheVariants.{King, Queen, Rook, Bishop, Knight, Pawn}
 use Rattle.frz_board.specs.declared.man.Man.{Man}
-use Rattle.frz_board.specs.Squares.{rank_of, files_apart, ranks_apart, is_forward}
+use Rattle.frz_board.specs.Squares.{files_apart, ranks_apart, is_forward}
 use Rattle.frz_board.specs.Men.{man_of_cell, cell_of_man, other_of, same_colour, is_man_of, is_pawn}
 use Rattle.frz_board.specs.Boards.{Board, man_on, is_empty, holds, has}
 use Rattle.frz_board.specs.Moving.{Step, IsStep, is_promotion}
@@ -20,11 +19,12 @@ use Rattle.frz_board.proofs.Lemmas.{test_means, means_test, forward_means, means
 use Rattle.frz_fide.specs.Legal.{is_home, is_last, passed_over, beside_on_file, is_target, captures, takes_in_passing, steps, advances, goes, promotes, can_go, man_goes, arrives, after_man, after, is_legal}
 use Rattle.frz_fide.specs.Checks.{Attacker, Check}
 use Rattle.frz_fide.specs.Valid.{IsValid}
-use Rattle.frz_fide.specs.LegalMoves.{StartsAt, IsHome, IsLast, IsTwoForward, Becomes, HasEnemyBeside, moved, IsSafe, Legal, piece, capture, step, advance, en_passant}
+use Rattle.frz_fide.specs.LegalMoves.{StartsAt, IsLast, Becomes, HasEnemyBeside, moved, IsSafe, Legal, piece, capture, step, advance, en_passant}
 use Rattle.frz_fide.proofs.LegalParts.{facts}
 use Rattle.frz_fide.proofs.Standing.{target_is}
 use Rattle.frz_fide.proofs.Colours.{own_colour}
 use Rattle.frz_fide.proofs.Checking.{stands_on, stands_held, held_stands, check_means, means_check}
+use Rattle.frz_fide.proofs.RankTests.{two_test, two_means, home_test, home_means, last_test, last_means, not_two, advance_inner, passing_inner}
 
 abbrev mine : Board → Kind → Man
 mine p k = record { colour = p.turn; kind = k }
@@ -34,12 +34,15 @@ safe_means : (c : Colour) (q : Board) → is_in_check q c ≡ false → (s a : �
     a < 64 →
     Stands q c King s → Stands q (other_of c) k a → Attack q a s → ⊥
 safe_means c q h s a k ls la king man hit =
-    let attacker : Attacker q (other_of c) s = record { from = a; on_board = la; kind = k; stands = man; attack = hit } in
-    let check : Check q c = record { square = s; on_board = ls; king = king; attacker = attacker } in
+    let attacker : Attacker q (other_of c) s =
+    record { from = a; on_board = la; kind = k; stands = man; attack = hit } in
+    let check : Check q c =
+    record { square = s; on_board = ls; king = king; attacker = attacker } in
     both_ways (is_in_check q c) h (means_check q c check)
 
 means_safe : (c : Colour) (q : Board) →
-    ((s a : ℕ) (k : Kind) → s < 64 → a < 64 → Stands q c King s → Stands q (other_of c) k a → Attack q a s → ⊥) →
+    ((s a : ℕ) (k : Kind) → s < 64 → a < 64 → Stands q c King s → Stands q (other_of c) k a →
+    Attack q a s → ⊥) →
     is_in_check q c ≡ false
 means_safe c q h =
     false_from_ne_true (is_in_check q c) (λ e.
@@ -47,55 +50,21 @@ means_safe c q h =
     let a = w.attacker in
     h w.square a.from a.kind w.on_board a.on_board w.king a.stands a.attack)
 
--- ranks, as tests and as facts
-two_test : (c : Colour) (a b : ℕ) → IsTwoForward c a b → is_forward c 2 a b ≡ true
-two_test White a b h = eq-eqb (rank_of b) (rank_of a + 2) h
-two_test Black a b h = eq-eqb (rank_of a) (rank_of b + 2) h
-
-two_means : (c : Colour) (a b : ℕ) → is_forward c 2 a b ≡ true → IsTwoForward c a b
-two_means White a b h = eqb-true (rank_of b) (rank_of a + 2) h
-two_means Black a b h = eqb-true (rank_of a) (rank_of b + 2) h
-
-home_test : (c : Colour) (s : ℕ) → IsHome c s → is_home c s ≡ true
-home_test White s h = eq-eqb (rank_of s) 1 h
-home_test Black s h = eq-eqb (rank_of s) 6 h
-
-home_means : (c : Colour) (s : ℕ) → is_home c s ≡ true → IsHome c s
-home_means White s h = eqb-true (rank_of s) 1 h
-home_means Black s h = eqb-true (rank_of s) 6 h
-
-last_test : (c : Colour) (s : ℕ) → IsLast c s → is_last c s ≡ true
-last_test White s h = eq-eqb (rank_of s) 7 h
-last_test Black s h = eq-eqb (rank_of s) 0 h
-
-last_means : (c : Colour) (s : ℕ) → is_last c s ≡ true → IsLast c s
-last_means White s h = eqb-true (rank_of s) 7 h
-last_means Black s h = eqb-true (rank_of s) 0 h
-
-not_two : (c : Colour) (a b : ℕ) → IsForward c a b → is_forward c 2 a b ≡ false
-not_two White a b h = ne_eqb (rank_of b) (rank_of a + 2) (λ e. omega arith)
-not_two Black a b h = ne_eqb (rank_of a) (rank_of b + 2) (λ e. omega arith)
-
-advance_inner : (c : Colour) (a b : ℕ) → IsHome c a → IsTwoForward c a b → IsLast c b → ⊥
-advance_inner White a b h i l = omega arith
-advance_inner Black a b h i l = omega arith
-
-passing_inner : (c : Colour) (b : ℕ) → is_passing_rank (other_of c) b ≡ true → IsLast c b → ⊥
-passing_inner White b h l = let five = eqb-true (b / 8) 5 h in omega arith
-passing_inner Black b h l = let two = eqb-true (b / 8) 2 h in omega arith
-
 -- the position after a move, from its parts
 abbrev built : Board → Step → Man → Bool → Option ℕ → Board
 built p m man taken target = record {
   cells =
-      cond taken (slice_set (slice_set (slice_set p.cells m.from 0) m.to (cell_of_man man)) (beside_on_file m.from m.to) 0) (slice_set (slice_set p.cells m.from 0) m.to (cell_of_man man));
+      cond taken (slice_set (slice_set (slice_set p.cells m.from 0) m.to (cell_of_man man))
+      (beside_on_file m.from m.to) 0)
+      (slice_set (slice_set p.cells m.from 0) m.to (cell_of_man man));
   turn = other_of p.turn;
   ep = target;
 }
 
 abbrev leaves : Board → Step → Kind → Option ℕ
 leaves p m k =
-    cond ((is_pawn k && advances p p.turn m.from m.to) && has_pawn_beside p (other_of p.turn) m.to) (Some (passed_over m.from m.to)) None
+    cond ((is_pawn k && advances p p.turn m.from m.to) && has_pawn_beside p (other_of p.turn) m.to)
+    (Some (passed_over m.from m.to)) None
 
 result_is : (p : Board) (m : Step) (j k : Kind) (taken : Bool) (target : Option ℕ) →
     arrives (mine p j) m.promo ≡ mine p k →
@@ -108,7 +77,8 @@ result_is p m j k taken target a b c =
 no_advance : (p : Board) (m : Step) (k : Kind) →
     (is_pawn k && advances p p.turn m.from m.to) ≡ false → leaves p m k ≡ None
 no_advance p m k h =
-    ap (λ x. cond (x && has_pawn_beside p (other_of p.turn) m.to) (Some (passed_over m.from m.to)) None) h
+    ap (λ x. cond (x && has_pawn_beside p (other_of p.turn) m.to) (Some (passed_over m.from m.to))
+    None) h
 
 -- what a legal move of the relation gives the tests
 abbrev IsPlayed : Board → Step → Board → Type 0
@@ -120,12 +90,16 @@ made : (p : Board) (m : Step) (q r : Board) (k : Kind) → StartsAt p m k →
 unfolding is_legal
 made p m q r k b way promo e f s =
     let on : man_on p m.from ≡ Some (mine p k) = stands_on p p.turn k m.from b.stands in
-    let free : holds p p.turn m.to ≡ false = false_from_ne_true (holds p p.turn m.to) (λ h. let w = held_stands p p.turn m.to h in b.free w.0 w.1) in
+    let free : holds p p.turn m.to ≡ false = false_from_ne_true (holds p p.turn m.to)
+    (λ h. let w = held_stands p p.turn m.to h in b.free w.0 w.1) in
     let leads : q ≡ after p m = f ∙ sym e ∙ ap (λ o. after_man p o m) (sym on) in
-    let safe : is_in_check (after p m) p.turn ≡ false = ap (λ (x : Board). is_in_check x p.turn) (sym leads) ∙ means_safe p.turn q s in
+    let safe : is_in_check (after p m) p.turn ≡ false = ap (λ (x : Board). is_in_check x p.turn)
+    (sym leads) ∙ means_safe p.turn q s in
     let go : can_go p m ≡ true =
     ap (λ o. (is_man_of p.turn o && not (holds p p.turn m.to)) && man_goes p o m) on
-    ∙ and_from _ _ (and_from (same_colour p.turn p.turn) (not (holds p p.turn m.to)) (own_colour p.turn) (ap not free)) (and_from (goes p p.turn k m.from m.to) (promotes p.turn k m.to m.promo) way promo) in
+    ∙ and_from _ _ (and_from (same_colour p.turn p.turn) (not (holds p p.turn m.to))
+    (own_colour p.turn) (ap not free))
+    (and_from (goes p p.turn k m.from m.to) (promotes p.turn k m.to m.promo) way promo) in
     (b.step, and_from (can_go p m) (not (is_in_check (after p m) p.turn)) go (ap not safe), leads)
 
 attack_is : (p : Board) (m : Step) (k : Kind) → StartsAt p m k → Attack p m.from m.to →
@@ -137,12 +111,14 @@ attack_is p m k b h =
 attack_from : (p : Board) (m : Step) (k : Kind) → StartsAt p m k →
     reaches p p.turn k m.from m.to ≡ true → Attack p m.from m.to
 attack_from p m k b h =
-    test_means p m.from m.to (ap (λ o. man_reaches p o m.from m.to) (stands_on p p.turn k m.from b.stands) ∙ h)
+    test_means p m.from m.to
+    (ap (λ o. man_reaches p o m.from m.to) (stands_on p p.turn k m.from b.stands) ∙ h)
 
 -- on files one apart no pawn advances, on one file none captures
 not_straight : (c : Colour) (a b : ℕ) → pawn_reaches c a b ≡ true → (files_apart a b == 0) ≡ false
 not_straight c a b h =
-    ap (λ n. n == 0) (eqb-true (files_apart a b) 1 (and_parts (files_apart a b == 1) (is_forward c 1 a b) h).0)
+    ap (λ n. n == 0)
+    (eqb-true (files_apart a b) 1 (and_parts (files_apart a b == 1) (is_forward c 1 a b) h).0)
 
 not_aside : (c : Colour) (a b : ℕ) → files_apart a b ≡ 0 → pawn_reaches c a b ≡ false
 not_aside c a b h = and_left (files_apart a b == 1) (is_forward c 1 a b) (ap (λ n. n == 1) h)
@@ -150,13 +126,17 @@ not_aside c a b h = and_left (files_apart a b == 1) (is_forward c 1 a b) (ap (λ
 aside_no_advance : (p : Board) (c : Colour) (a b : ℕ) → pawn_reaches c a b ≡ true →
     advances p c a b ≡ false
 aside_no_advance p c a b h =
-    and_left (is_home c a && (files_apart a b == 0 && is_forward c 2 a b)) (is_empty p b && is_empty p (passed_over a b))
-    (and_right (is_home c a) (files_apart a b == 0 && is_forward c 2 a b) (and_left (files_apart a b == 0) (is_forward c 2 a b) (not_straight c a b h)))
+    and_left (is_home c a && (files_apart a b == 0 && is_forward c 2 a b))
+    (is_empty p b && is_empty p (passed_over a b))
+    (and_right (is_home c a) (files_apart a b == 0 && is_forward c 2 a b)
+    (and_left (files_apart a b == 0) (is_forward c 2 a b) (not_straight c a b h)))
 
 step_no_advance : (p : Board) (c : Colour) (a b : ℕ) → IsForward c a b → advances p c a b ≡ false
 step_no_advance p c a b h =
-    and_left (is_home c a && (files_apart a b == 0 && is_forward c 2 a b)) (is_empty p b && is_empty p (passed_over a b))
-    (and_right (is_home c a) (files_apart a b == 0 && is_forward c 2 a b) (and_right (files_apart a b == 0) (is_forward c 2 a b) (not_two c a b h)))
+    and_left (is_home c a && (files_apart a b == 0 && is_forward c 2 a b))
+    (is_empty p b && is_empty p (passed_over a b))
+    (and_right (is_home c a) (files_apart a b == 0 && is_forward c 2 a b)
+    (and_right (files_apart a b == 0) (is_forward c 2 a b) (not_two c a b h)))
 
 straight_no_taking : (p : Board) (c : Colour) (a b : ℕ) → files_apart a b ≡ 0 →
     takes_in_passing p c a b ≡ false
@@ -167,14 +147,23 @@ passed_target : (p : Board) (b : ℕ) → IsValid p → p.ep ≡ Some b →
     has_passed p (other_of p.turn) b ≡ true
 unfolding has_target_in_place
 passed_target p b v e =
-    (and_parts (has_passed p (other_of p.turn) b) (has_pawn_beside p (other_of (other_of p.turn)) (ahead (other_of p.turn) b)) (ap (target_stands p) (sym e) ∙ v.target)).0
+    (and_parts (has_passed p (other_of p.turn) b)
+    (has_pawn_beside p (other_of (other_of p.turn)) (ahead (other_of p.turn) b))
+    (ap (target_stands p) (sym e) ∙ v.target)).0
 
 target_ranks : (p : Board) (b : ℕ) → IsValid p → p.ep ≡ Some b →
     (is_passing_rank (other_of p.turn) b ≡ true) × (is_empty p b ≡ true)
 target_ranks p b v e =
-    let parts = and_parts (is_passing_rank (other_of p.turn) b && (is_empty p b && is_empty p (ahead (other_of (other_of p.turn)) b))) (has p (other_of p.turn) Pawn (ahead (other_of p.turn) b)) (passed_target p b v e) in
-    let rank = and_parts (is_passing_rank (other_of p.turn) b) (is_empty p b && is_empty p (ahead (other_of (other_of p.turn)) b)) parts.0 in
-    (rank.0, (and_parts (is_empty p b) (is_empty p (ahead (other_of (other_of p.turn)) b)) rank.1).0)
+    let parts = and_parts
+    (is_passing_rank (other_of p.turn) b
+    && (is_empty p b && is_empty p (ahead (other_of (other_of p.turn)) b)))
+    (has p (other_of p.turn) Pawn (ahead (other_of p.turn) b)) (passed_target p b v e) in
+    let rank = and_parts (is_passing_rank (other_of p.turn) b)
+    (is_empty p b && is_empty p (ahead (other_of (other_of p.turn)) b)) parts.0 in (
+      rank.0,
+      (and_parts (is_empty p b) (is_empty p (ahead (other_of (other_of p.turn)) b))
+          rank.1).0,
+    )
 
 no_target : (p : Board) (c : Colour) (j : Kind) (b : ℕ) → IsValid p → Stands p c j b →
     is_target p.ep b ≡ false
@@ -188,31 +177,43 @@ no_target p c j b v h =
 becomes_test : (p : Board) (m : Step) (k : Kind) → is_promotion m.promo ≡ true → Becomes p m k →
     (promotes p.turn Pawn m.to m.promo ≡ true) × (arrives (mine p Pawn) m.promo ≡ mine p k)
 becomes_test p m k ip (inl h) =
-    let inner : is_last p.turn m.to ≡ false = false_from_ne_true (is_last p.turn m.to) (λ e. h.0 (last_means p.turn m.to e)) in
-    (ap (promotes p.turn Pawn m.to) h.1 ∙ ap (λ x. true && (if x then false else true)) inner, ap (arrives (mine p Pawn)) h.1 ∙ ap (mine p) (sym h.2))
+    let inner : is_last p.turn m.to ≡ false = false_from_ne_true (is_last p.turn m.to)
+    (λ e. h.0 (last_means p.turn m.to e)) in (
+      ap (promotes p.turn Pawn m.to) h.1 ∙ ap (λ x. true && (if x then false else true)) inner,
+      ap (arrives (mine p Pawn)) h.1 ∙ ap (mine p) (sym h.2),
+    )
 becomes_test p m k ip (inr h) = (
-  and_from (is_promotion m.promo) (if is_last p.turn m.to then is_some m.promo else is_none m.promo) ip (ap (λ x. if x then is_some m.promo else is_none m.promo) (last_test p.turn m.to h.0) ∙ ap is_some h.1),
+  and_from (is_promotion m.promo) (if is_last p.turn m.to then is_some m.promo else is_none m.promo)
+      ip (ap (λ x. if x then is_some m.promo else is_none m.promo) (last_test p.turn m.to h.0)
+      ∙ ap is_some h.1),
   ap (arrives (mine p Pawn)) h.1,
 )
 
 beside_test : (p : Board) (b : ℕ) → HasEnemyBeside p b →
     has_pawn_beside p (other_of p.turn) b ≡ true
 beside_test p b (s, l, r, f, h) =
-    any_square (λ s. (ranks_apart s b == 0 && files_apart s b == 1) && has p (other_of p.turn) Pawn s) s l
-    (and_from (ranks_apart s b == 0 && files_apart s b == 1) (has p (other_of p.turn) Pawn s) (and_from (ranks_apart s b == 0) (files_apart s b == 1) (eq-eqb (ranks_apart s b) 0 r) (eq-eqb (files_apart s b) 1 f))
-    (eq-eqb (slice_index p.cells s) (cell_of_man (record { colour = other_of p.turn; kind = Pawn })) h))
+    any_square (λ s. (ranks_apart s b == 0 && files_apart s b == 1) && has p (other_of p.turn) Pawn
+    s) s l
+    (and_from (ranks_apart s b == 0 && files_apart s b == 1) (has p (other_of p.turn) Pawn s)
+    (and_from (ranks_apart s b == 0) (files_apart s b == 1) (eq-eqb (ranks_apart s b) 0 r)
+    (eq-eqb (files_apart s b) 1 f))
+    (eq-eqb (slice_index p.cells s) (cell_of_man (record { colour = other_of p.turn; kind = Pawn }))
+    h))
 
 beside_means : (p : Board) (b : ℕ) → has_pawn_beside p (other_of p.turn) b ≡ true →
     HasEnemyBeside p b
 beside_means p b h =
-    let w = some_square (λ s. (ranks_apart s b == 0 && files_apart s b == 1) && has p (other_of p.turn) Pawn s) h in
-    let parts = and_parts (ranks_apart w.square b == 0 && files_apart w.square b == 1) (has p (other_of p.turn) Pawn w.square) w.passes in
+    let w = some_square (λ s. (ranks_apart s b == 0 && files_apart s b == 1)
+    && has p (other_of p.turn) Pawn s) h in
+    let parts = and_parts (ranks_apart w.square b == 0 && files_apart w.square b == 1)
+    (has p (other_of p.turn) Pawn w.square) w.passes in
     let places = and_parts (ranks_apart w.square b == 0) (files_apart w.square b == 1) parts.0 in (
       w.square,
       w.on_board,
       eqb-true (ranks_apart w.square b) 0 places.0,
       eqb-true (files_apart w.square b) 1 places.1,
-      eqb-true (slice_index p.cells w.square) (cell_of_man (record { colour = other_of p.turn; kind = Pawn })) parts.1,
+      eqb-true (slice_index p.cells w.square)
+          (cell_of_man (record { colour = other_of p.turn; kind = Pawn })) parts.1,
     )
 
 officer_goes : (p : Board) (k : Kind) (a b : ℕ) → k ≢ Pawn → reaches p p.turn k a b ≡ true →
@@ -243,49 +244,81 @@ officer_promotes c Pawn b n = absurd (n refl)
 officer_result : (p : Board) (m : Step) (k : Kind) → k ≢ Pawn → m.promo ≡ None →
     after_man p (Some (mine p k)) m ≡ moved p m k None
 officer_result p m k n e =
-    result_is p m k k false None (ap (arrives (mine p k)) e) (ap (λ x. x && takes_in_passing p p.turn m.from m.to) (officer k n)) (no_advance p m k (ap (λ x. x && advances p p.turn m.from m.to) (officer k n)))
+    result_is p m k k false None (ap (arrives (mine p k)) e)
+    (ap (λ x. x && takes_in_passing p p.turn m.from m.to) (officer k n))
+    (no_advance p m k (ap (λ x. x && advances p p.turn m.from m.to) (officer k n)))
 
 target_by : (p : Board) (m : Step) (target : Option ℕ) → advances p p.turn m.from m.to ≡ true →
-    (HasEnemyBeside p m.to × (target ≡ Some (passed_over m.from m.to))) ⊎ ((HasEnemyBeside p m.to → ⊥) × (target ≡ None)) → leaves p m Pawn ≡ target
+    (HasEnemyBeside p m.to × (target ≡ Some (passed_over m.from m.to)))
+    ⊎ ((HasEnemyBeside p m.to → ⊥) × (target ≡ None)) → leaves p m Pawn ≡ target
 target_by p m target a (inl h) =
-    ap (λ x. cond (x && has_pawn_beside p (other_of p.turn) m.to) (Some (passed_over m.from m.to)) None) a
+    ap (λ x. cond (x && has_pawn_beside p (other_of p.turn) m.to) (Some (passed_over m.from m.to))
+    None) a
     ∙ ap (λ x. cond x (Some (passed_over m.from m.to)) None) (beside_test p m.to h.0) ∙ sym h.1
 target_by p m target a (inr h) =
-    ap (λ x. cond (x && has_pawn_beside p (other_of p.turn) m.to) (Some (passed_over m.from m.to)) None) a
-    ∙ ap (λ x. cond x (Some (passed_over m.from m.to)) None) (false_from_ne_true (has_pawn_beside p (other_of p.turn) m.to) (λ e. h.0 (beside_means p m.to e)))
+    ap (λ x. cond (x && has_pawn_beside p (other_of p.turn) m.to) (Some (passed_over m.from m.to))
+    None) a
+    ∙ ap (λ x. cond x (Some (passed_over m.from m.to)) None)
+    (false_from_ne_true (has_pawn_beside p (other_of p.turn) m.to)
+    (λ e. h.0 (beside_means p m.to e)))
     ∙ sym h.1
 
 pub relation_tests : (p : Board) (m : Step) (q : Board) → IsValid p → Legal p m q → IsPlayed p m q
 relation_tests p m q v (piece k b n hit promo e s) =
-    made p m q (moved p m k None) k b (officer_goes p k m.from m.to n (attack_is p m k b hit)) (ap (promotes p.turn k m.to) promo ∙ officer_promotes p.turn k m.to n) (officer_result p m k n promo) e s
+    made p m q (moved p m k None) k b (officer_goes p k m.from m.to n (attack_is p m k b hit))
+    (ap (promotes p.turn k m.to) promo ∙ officer_promotes p.turn k m.to n)
+    (officer_result p m k n promo) e s
 relation_tests p m q v (capture k j b hit enemy becomes e s) =
     let reach = attack_is p m Pawn b hit in
     let promo = becomes_test p m k b.step.promo becomes in
     made p m q (moved p m k None) Pawn b
-    (either_or _ _ (inl (either_or _ _ (inl (and_from (pawn_reaches p.turn m.from m.to) (holds p (other_of p.turn) m.to) reach (stands_held p (other_of p.turn) j m.to enemy)))))) promo.0
-    (result_is p m Pawn k false None promo.1 (and_right (pawn_reaches p.turn m.from m.to) (is_target p.ep m.to) (no_target p (other_of p.turn) j m.to v enemy)) (no_advance p m Pawn (aside_no_advance p p.turn m.from m.to reach))) e s
+    (either_or _ _ (inl
+    (either_or _ _ (inl
+    (and_from (pawn_reaches p.turn m.from m.to) (holds p (other_of p.turn) m.to) reach
+    (stands_held p (other_of p.turn) j m.to enemy)))))) promo.0
+    (result_is p m Pawn k false None promo.1
+    (and_right (pawn_reaches p.turn m.from m.to) (is_target p.ep m.to)
+    (no_target p (other_of p.turn) j m.to v enemy))
+    (no_advance p m Pawn (aside_no_advance p p.turn m.from m.to reach))) e s
 relation_tests p m q v (step k b file rank empty becomes e s) =
     let promo = becomes_test p m k b.step.promo becomes in
-    let ahead = and_from (files_apart m.from m.to == 0) (is_forward p.turn 1 m.from m.to) (eq-eqb (files_apart m.from m.to) 0 file) (means_forward p.turn m.from m.to rank) in
+    let ahead = and_from (files_apart m.from m.to == 0) (is_forward p.turn 1 m.from m.to)
+    (eq-eqb (files_apart m.from m.to) 0 file) (means_forward p.turn m.from m.to rank) in
     made p m q (moved p m k None) Pawn b
-    (either_or _ _ (inl (either_or _ _ (inr (and_from (files_apart m.from m.to == 0 && is_forward p.turn 1 m.from m.to) (is_empty p m.to) ahead (eq-eqb (slice_index p.cells m.to) 0 empty)))))) promo.0
-    (result_is p m Pawn k false None promo.1 (straight_no_taking p p.turn m.from m.to file) (no_advance p m Pawn (step_no_advance p p.turn m.from m.to rank))) e s
+    (either_or _ _ (inl
+    (either_or _ _ (inr
+    (and_from (files_apart m.from m.to == 0 && is_forward p.turn 1 m.from m.to) (is_empty p m.to)
+    ahead (eq-eqb (slice_index p.cells m.to) 0 empty)))))) promo.0
+    (result_is p m Pawn k false None promo.1 (straight_no_taking p p.turn m.from m.to file)
+    (no_advance p m Pawn (step_no_advance p p.turn m.from m.to rank))) e s
 relation_tests p m q v (advance target b home file ranks empty over none beside e s) =
-    let promo = becomes_test p m Pawn b.step.promo (inl (advance_inner p.turn m.from m.to home ranks, none, refl)) in
-    let line = and_from (is_home p.turn m.from) (files_apart m.from m.to == 0 && is_forward p.turn 2 m.from m.to) (home_test p.turn m.from home)
-    (and_from (files_apart m.from m.to == 0) (is_forward p.turn 2 m.from m.to) (eq-eqb (files_apart m.from m.to) 0 file) (two_test p.turn m.from m.to ranks)) in
-    let free = and_from (is_empty p m.to) (is_empty p (passed_over m.from m.to)) (eq-eqb (slice_index p.cells m.to) 0 empty) (eq-eqb (slice_index p.cells (passed_over m.from m.to)) 0 over) in
+    let promo = becomes_test p m Pawn b.step.promo
+    (inl (advance_inner p.turn m.from m.to home ranks, none, refl)) in
+    let line = and_from (is_home p.turn m.from)
+    (files_apart m.from m.to == 0 && is_forward p.turn 2 m.from m.to)
+    (home_test p.turn m.from home)
+    (and_from (files_apart m.from m.to == 0) (is_forward p.turn 2 m.from m.to)
+    (eq-eqb (files_apart m.from m.to) 0 file) (two_test p.turn m.from m.to ranks)) in
+    let free = and_from (is_empty p m.to) (is_empty p (passed_over m.from m.to))
+    (eq-eqb (slice_index p.cells m.to) 0 empty)
+    (eq-eqb (slice_index p.cells (passed_over m.from m.to)) 0 over) in
     let goes_two : advances p p.turn m.from m.to ≡ true = and_from _ _ line free in
-    made p m q (moved p m Pawn target) Pawn b (either_or _ _ (inr (either_or _ _ (inl goes_two)))) promo.0
-    (result_is p m Pawn Pawn false target promo.1 (straight_no_taking p p.turn m.from m.to file) (target_by p m target goes_two beside)) e s
+    made p m q (moved p m Pawn target) Pawn b (either_or _ _ (inr (either_or _ _ (inl goes_two))))
+    promo.0
+    (result_is p m Pawn Pawn false target promo.1 (straight_no_taking p p.turn m.from m.to file)
+    (target_by p m target goes_two beside)) e s
 relation_tests p m q v (en_passant b hit target none e s) =
     let reach = attack_is p m Pawn b hit in
     let rank = (target_ranks p m.to v target).0 in
-    let promo = becomes_test p m Pawn b.step.promo (inl (passing_inner p.turn m.to rank, none, refl)) in
+    let promo = becomes_test p m Pawn b.step.promo
+    (inl (passing_inner p.turn m.to rank, none, refl)) in
     let taking : takes_in_passing p p.turn m.from m.to ≡ true =
-    and_from (pawn_reaches p.turn m.from m.to) (is_target p.ep m.to) reach (ap (λ o. is_target o m.to) target ∙ eq-eqb m.to m.to refl) in
-    made p m q (built p m (mine p Pawn) true None) Pawn b (either_or _ _ (inr (either_or _ _ (inr taking)))) promo.0
-    (result_is p m Pawn Pawn true None promo.1 taking (no_advance p m Pawn (aside_no_advance p p.turn m.from m.to reach))) e s
+    and_from (pawn_reaches p.turn m.from m.to) (is_target p.ep m.to) reach
+    (ap (λ o. is_target o m.to) target ∙ eq-eqb m.to m.to refl) in
+    made p m q (built p m (mine p Pawn) true None) Pawn b
+    (either_or _ _ (inr (either_or _ _ (inr taking)))) promo.0
+    (result_is p m Pawn Pawn true None promo.1 taking
+    (no_advance p m Pawn (aside_no_advance p p.turn m.from m.to reach))) e s
 
 no_promotion : (c : Colour) (k : Kind) (b : ℕ) (promo : Option Kind) → k ≢ Pawn →
     promotes c k b promo ≡ true → promo ≡ None
@@ -308,10 +341,18 @@ last_then false h = cc
 -- what a pawn becomes
 becomes_by : (p : Board) (m : Step) (x : Option Kind) → m.promo ≡ x →
     promotes p.turn Pawn m.to x ≡ true → (k : Kind) × Becomes p m k
-becomes_by p m None e h =
-    (Pawn, inl ((λ l. both_ways (is_last p.turn m.to) (not_last_then (is_last p.turn m.to) h) (last_test p.turn m.to l)), e, refl))
+becomes_by p m None e h = (
+  Pawn,
+  inl (
+    (λ l. both_ways (is_last p.turn m.to) (not_last_then (is_last p.turn m.to) h)
+        (last_test p.turn m.to l)),
+    e,
+    refl,
+  ),
+)
 becomes_by p m (Some k) e h =
-    let last = last_then (is_last p.turn m.to) (and_parts (is_promotion (Some k)) (if is_last p.turn m.to then true else false) h).1 in
+    let last = last_then (is_last p.turn m.to)
+    (and_parts (is_promotion (Some k)) (if is_last p.turn m.to then true else false) h).1 in
     (k, inr (last_means p.turn m.to last, e))
 
 inner_none : (p : Board) (m : Step) (k : Kind) → (IsLast p.turn m.to → ⊥) → Becomes p m k →
@@ -320,60 +361,88 @@ inner_none p m k n (inl h) = h.1
 inner_none p m k n (inr h) = absurd (n h.0)
 
 -- what a pawn does in one of its four ways
-module _ (p : Board) (m : Step) (q : Board) (v : IsValid p) (b : StartsAt p m Pawn) (k : Kind) (becomes : Becomes p m k) (leads : q ≡ after_man p (Some (mine p Pawn)) m) (safe : IsSafe p q) where
+module _ (p : Board) (m : Step) (q : Board) (v : IsValid p) (b : StartsAt p m Pawn) (k : Kind)
+    (becomes : Becomes p m k) (leads : q ≡ after_man p (Some (mine p Pawn)) m)
+    (safe : IsSafe p q) where
   pawn_captures : captures p p.turn m.from m.to ≡ true → Legal p m q
   pawn_captures h =
       let parts = and_parts (pawn_reaches p.turn m.from m.to) (holds p (other_of p.turn) m.to) h in
       let enemy = held_stands p (other_of p.turn) m.to parts.1 in
       let promo = becomes_test p m k b.step.promo becomes in
       capture k enemy.0 b (attack_from p m Pawn b parts.0) enemy.1 becomes
-      (leads ∙ result_is p m Pawn k false None promo.1 (and_right (pawn_reaches p.turn m.from m.to) (is_target p.ep m.to) (no_target p (other_of p.turn) enemy.0 m.to v enemy.1)) (no_advance p m Pawn (aside_no_advance p p.turn m.from m.to parts.0))) safe
+      (leads ∙ result_is p m Pawn k false None promo.1
+      (and_right (pawn_reaches p.turn m.from m.to) (is_target p.ep m.to)
+      (no_target p (other_of p.turn) enemy.0 m.to v enemy.1))
+      (no_advance p m Pawn (aside_no_advance p p.turn m.from m.to parts.0))) safe
 
   pawn_steps : steps p p.turn m.from m.to ≡ true → Legal p m q
   pawn_steps h =
-      let parts = and_parts (files_apart m.from m.to == 0 && is_forward p.turn 1 m.from m.to) (is_empty p m.to) h in
-      let way = and_parts (files_apart m.from m.to == 0) (is_forward p.turn 1 m.from m.to) parts.0 in
+      let parts = and_parts (files_apart m.from m.to == 0 && is_forward p.turn 1 m.from m.to)
+      (is_empty p m.to) h in
+      let way = and_parts (files_apart m.from m.to == 0) (is_forward p.turn 1 m.from m.to)
+      parts.0 in
       let file = eqb-true (files_apart m.from m.to) 0 way.0 in
       let rank = forward_means p.turn m.from m.to way.1 in
       let promo = becomes_test p m k b.step.promo becomes in
       step k b file rank (eqb-true (slice_index p.cells m.to) 0 parts.1) becomes
-      (leads ∙ result_is p m Pawn k false None promo.1 (straight_no_taking p p.turn m.from m.to file) (no_advance p m Pawn (step_no_advance p p.turn m.from m.to rank))) safe
+      (leads ∙ result_is p m Pawn k false None promo.1
+      (straight_no_taking p p.turn m.from m.to file)
+      (no_advance p m Pawn (step_no_advance p p.turn m.from m.to rank))) safe
 
   target_cases : (x : Bool) → has_pawn_beside p (other_of p.turn) m.to ≡ x →
-      (HasEnemyBeside p m.to × (cond x (Some (passed_over m.from m.to)) None ≡ Some (passed_over m.from m.to))) ⊎ ((HasEnemyBeside p m.to → ⊥) × (cond x (Some (passed_over m.from m.to)) None ≡ None))
+      (HasEnemyBeside p m.to
+      × (cond x (Some (passed_over m.from m.to)) None ≡ Some (passed_over m.from m.to)))
+      ⊎ ((HasEnemyBeside p m.to → ⊥) × (cond x (Some (passed_over m.from m.to)) None ≡ None))
   target_cases true e = inl (beside_means p m.to e, refl)
   target_cases false e =
-      inr ((λ w. both_ways (has_pawn_beside p (other_of p.turn) m.to) e (beside_test p m.to w)), refl)
+      inr (
+        (λ w. both_ways (has_pawn_beside p (other_of p.turn) m.to) e (beside_test p m.to w)),
+        refl,
+      )
 
   pawn_advances : advances p p.turn m.from m.to ≡ true → Legal p m q
   pawn_advances h =
-      let parts = and_parts (is_home p.turn m.from && (files_apart m.from m.to == 0 && is_forward p.turn 2 m.from m.to)) (is_empty p m.to && is_empty p (passed_over m.from m.to)) h in
-      let line = and_parts (is_home p.turn m.from) (files_apart m.from m.to == 0 && is_forward p.turn 2 m.from m.to) parts.0 in
+      let parts = and_parts
+      (is_home p.turn m.from
+      && (files_apart m.from m.to == 0 && is_forward p.turn 2 m.from m.to))
+      (is_empty p m.to && is_empty p (passed_over m.from m.to)) h in
+      let line = and_parts (is_home p.turn m.from)
+      (files_apart m.from m.to == 0 && is_forward p.turn 2 m.from m.to) parts.0 in
       let way = and_parts (files_apart m.from m.to == 0) (is_forward p.turn 2 m.from m.to) line.1 in
       let free = and_parts (is_empty p m.to) (is_empty p (passed_over m.from m.to)) parts.1 in
       let home = home_means p.turn m.from line.0 in
       let file = eqb-true (files_apart m.from m.to) 0 way.0 in
       let ranks = two_means p.turn m.from m.to way.1 in
       let none = inner_none p m k (advance_inner p.turn m.from m.to home ranks) becomes in
-      let target : Option ℕ = cond (has_pawn_beside p (other_of p.turn) m.to) (Some (passed_over m.from m.to)) None in
-      advance target b home file ranks (eqb-true (slice_index p.cells m.to) 0 free.0) (eqb-true (slice_index p.cells (passed_over m.from m.to)) 0 free.1) none
+      let target : Option ℕ = cond (has_pawn_beside p (other_of p.turn) m.to)
+      (Some (passed_over m.from m.to)) None in
+      advance target b home file ranks (eqb-true (slice_index p.cells m.to) 0 free.0)
+      (eqb-true (slice_index p.cells (passed_over m.from m.to)) 0 free.1) none
       (target_cases (has_pawn_beside p (other_of p.turn) m.to) refl)
-      (leads ∙ result_is p m Pawn Pawn false target (ap (arrives (mine p Pawn)) none) (straight_no_taking p p.turn m.from m.to file)
-      (ap (λ x. cond (x && has_pawn_beside p (other_of p.turn) m.to) (Some (passed_over m.from m.to)) None) h)) safe
+      (leads ∙ result_is p m Pawn Pawn false target (ap (arrives (mine p Pawn)) none)
+      (straight_no_taking p p.turn m.from m.to file)
+      (ap (λ x. cond (x && has_pawn_beside p (other_of p.turn) m.to)
+      (Some (passed_over m.from m.to)) None) h)) safe
 
   pawn_takes : takes_in_passing p p.turn m.from m.to ≡ true → Legal p m q
   pawn_takes h =
       let parts = and_parts (pawn_reaches p.turn m.from m.to) (is_target p.ep m.to) h in
       let target = target_is p.ep m.to parts.1 in
-      let none = inner_none p m k (passing_inner p.turn m.to (target_ranks p m.to v target).0) becomes in
+      let none = inner_none p m k (passing_inner p.turn m.to (target_ranks p m.to v target).0)
+      becomes in
       en_passant b (attack_from p m Pawn b parts.0) target none
-      (leads ∙ result_is p m Pawn Pawn true None (ap (arrives (mine p Pawn)) none) h (no_advance p m Pawn (aside_no_advance p p.turn m.from m.to parts.0))) safe
+      (leads ∙ result_is p m Pawn Pawn true None (ap (arrives (mine p Pawn)) none) h
+      (no_advance p m Pawn (aside_no_advance p p.turn m.from m.to parts.0))) safe
 
   pawn_legal : goes p p.turn Pawn m.from m.to ≡ true → Legal p m q
   pawn_legal h =
-      elim (or_cases (captures p p.turn m.from m.to || steps p p.turn m.from m.to) (advances p p.turn m.from m.to || takes_in_passing p p.turn m.from m.to) h) [
-        | inl w ↦ elim (or_cases (captures p p.turn m.from m.to) (steps p p.turn m.from m.to) w) [ inl u ↦ pawn_captures u | inr u ↦ pawn_steps u ]
-        | inr w ↦ elim (or_cases (advances p p.turn m.from m.to) (takes_in_passing p p.turn m.from m.to) w) [ inl u ↦ pawn_advances u | inr u ↦ pawn_takes u ]
+      elim (or_cases (captures p p.turn m.from m.to || steps p p.turn m.from m.to)
+      (advances p p.turn m.from m.to || takes_in_passing p p.turn m.from m.to) h) [
+        | inl w ↦ elim (or_cases (captures p p.turn m.from m.to) (steps p p.turn m.from m.to) w)
+            [ inl u ↦ pawn_captures u | inr u ↦ pawn_steps u ]
+        | inr w ↦ elim (or_cases (advances p p.turn m.from m.to)
+            (takes_in_passing p p.turn m.from m.to) w)
+            [ inl u ↦ pawn_advances u | inr u ↦ pawn_takes u ]
       ]
 
 officer_legal : (p : Board) (m : Step) (q : Board) (k : Kind) → k ≢ Pawn → StartsAt p m k →
@@ -410,5 +479,7 @@ tests_relation p m q v (s, h, e) =
       stands = cell_back (slice_index p.cells m.from) p.turn k on;
       free = λ j w. both_ways (holds p p.turn m.to) f.free (stands_held p p.turn j m.to w);
     } in
-    kind_legal p m q k v b (ap (λ c. goes p c k m.from m.to) (sym f.own) ∙ f.way) (ap (λ c. promotes c k m.to m.promo) (sym f.own) ∙ f.promo)
-    (e ∙ ap (λ o. after_man p o m) on) (safe_means p.turn q (ap (λ (x : Board). is_in_check x p.turn) e ∙ f.safe))
+    kind_legal p m q k v b (ap (λ c. goes p c k m.from m.to) (sym f.own) ∙ f.way)
+    (ap (λ c. promotes c k m.to m.promo) (sym f.own) ∙ f.promo)
+    (e ∙ ap (λ o. after_man p o m) on)
+    (safe_means p.turn q (ap (λ (x : Board). is_in_check x p.turn) e ∙ f.safe))

@@ -11,7 +11,8 @@ use Rattle.frz_board.specs.declared.man.Kind.TheVariants.{King, Queen, Rook, Bis
 
 -- which cells hold a king, and which a pawn
 pub king_test : (c : Colour) (k : Kind) (d : Colour) →
-    (cell_of_man (record { colour = c; kind = k }) == cell_of_man (record { colour = d; kind = King })) ≡ (is_king k && same_colour c d)
+    (cell_of_man (record { colour = c; kind = k }) == cell_of_man
+    (record { colour = d; kind = King })) ≡ (is_king k && same_colour c d)
 king_test White King White = refl
 king_test White King Black = refl
 king_test White Queen White = refl

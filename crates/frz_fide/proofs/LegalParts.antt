@@ -23,9 +23,11 @@ facts_of : (p : Board) (m : Step) (o : Option Man) → man_on p m.from ≡ o →
     is_in_check (after p m) p.turn ≡ false → Move p m
 facts_of p m None e h s = absurd cc
 facts_of p m (Some man) e h s =
-    let parts = and_parts (same_colour man.colour p.turn && not (holds p p.turn m.to)) (goes p man.colour man.kind m.from m.to && promotes man.colour man.kind m.to m.promo) h in
+    let parts = and_parts (same_colour man.colour p.turn && not (holds p p.turn m.to))
+    (goes p man.colour man.kind m.from m.to && promotes man.colour man.kind m.to m.promo) h in
     let sides = and_parts (same_colour man.colour p.turn) (not (holds p p.turn m.to)) parts.0 in
-    let ways = and_parts (goes p man.colour man.kind m.from m.to) (promotes man.colour man.kind m.to m.promo) parts.1 in
+    let ways = and_parts (goes p man.colour man.kind m.from m.to)
+    (promotes man.colour man.kind m.to m.promo) parts.1 in
     record {
       man = man;
       on = e;

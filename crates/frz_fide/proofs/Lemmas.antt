@@ -8,6 +8,18 @@ pub use Rattle.frz_fide.proofs.Listed.{listed, only_legal, sorted}
 pub use Rattle.frz_fide.proofs.NoKingTaken.{no_king_there}
 pub use Rattle.frz_fide.proofs.PawnsKept.{pawn_tests}
 pub use Rattle.frz_fide.proofs.Room.{few}
-pub use Rattle.frz_fide.proofs.Standing.{others_by, after_at, apart, arrived, arrived_own, arrives_own, beside_apart, left, on_board, stays_by, taken}
+pub use Rattle.frz_fide.proofs.Standing.{
+  others_by,
+  after_at,
+  apart,
+  arrived,
+  arrived_own,
+  arrives_own,
+  beside_apart,
+  left,
+  on_board,
+  stays_by,
+  taken,
+}
 pub use Rattle.frz_fide.proofs.StaysValid.{valid_after, valid_then}
 pub use Rattle.frz_fide.proofs.Targets.{goes_somewhere}

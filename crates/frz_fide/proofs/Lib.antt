@@ -24,4 +24,5 @@ mod Listed
 mod Targets
 mod Checking
 mod Choosing
+mod RankTests
 mod InWords

@@ -36,7 +36,9 @@ sorted_append c [] ys s t a = t
 sorted_append c (x ∷ xs) ys s t a =
     (All_append (λ y. c x y ≡ Less) xs ys s.0 a.0, sorted_append c xs ys s.1 t a.1)
 
-module _ {X : Type 0} (c : X → X → Ordering) (f : ℕ → List X) (Q : ℕ → X → Type 0) (pieces : (a : ℕ) → IsStrictlySortedBy c (f a)) (mine : (a : ℕ) → AllByRecursion (Q a) (f a)) (below : (i j : ℕ) (x y : X) → i < j → Q i x → Q j y → c x y ≡ Less) where
+module _ {X : Type 0} (c : X → X → Ordering) (f : ℕ → List X) (Q : ℕ → X → Type 0)
+    (pieces : (a : ℕ) → IsStrictlySortedBy c (f a)) (mine : (a : ℕ) → AllByRecursion (Q a) (f a))
+    (below : (i j : ℕ) (x y : X) → i < j → Q i x → Q j y → c x y ≡ Less) where
   later : (b a n : ℕ) → b < a →
       AllByRecursion (λ y. (j : ℕ) × (b < j) × Q j y) (flat_map f (range_with_len a n))
   later b a zero h = tt
@@ -49,9 +51,13 @@ module _ {X : Type 0} (c : X → X → Ordering) (f : ℕ → List X) (Q : ℕ �
   unfolding IsStrictlySortedBy
   sorted_flat a zero = tt
   sorted_flat a (suc n) =
-      sorted_append c (f a) (flat_map f (range_with_len (a + 1) n)) (pieces a) (sorted_flat (a + 1) n)
-      (All_weaker (Q a) (λ x. AllByRecursion (λ y. c x y ≡ Less) (flat_map f (range_with_len (a + 1) n)))
-      (λ x q. All_weaker (λ y. (j : ℕ) × (a < j) × Q j y) (λ y. c x y ≡ Less) (λ y w. below a w.0 x y w.1 q w.2) (flat_map f (range_with_len (a + 1) n)) (later a (a + 1) n (omega arith)))
+      sorted_append c (f a) (flat_map f (range_with_len (a + 1) n)) (pieces a)
+      (sorted_flat (a + 1) n)
+      (All_weaker (Q a)
+      (λ x. AllByRecursion (λ y. c x y ≡ Less) (flat_map f (range_with_len (a + 1) n)))
+      (λ x q. All_weaker (λ y. (j : ℕ) × (a < j) × Q j y) (λ y. c x y ≡ Less)
+      (λ y w. below a w.0 x y w.1 q w.2) (flat_map f (range_with_len (a + 1) n))
+      (later a (a + 1) n (omega arith)))
       (f a) (mine a))
 
 All_flat : {X : Type 0} (P : X → Type 0) (f : ℕ → List X) → ((a : ℕ) → AllByRecursion P (f a)) →
@@ -69,8 +75,14 @@ less_number m n h = sym (nat_cmp_is m n Less h)
 between_sorted : (a b : ℕ) → IsStrictlySortedBy step_cmp (steps_between a b)
 unfolding IsStrictlySortedBy
 between_sorted a b =
-    let tie = λ (o : Ordering). ap (λ r. ordering_then r (ordering_then (nat_cmp b b) o)) (same_number a) ∙ ap (λ r. ordering_then r o) (same_number b) in
-    ((tie Less, (tie Less, (tie Less, (tie Less, tt)))), ((tie Less, (tie Less, (tie Less, tt))), ((tie Less, (tie Less, tt)), ((tie Less, tt), (tt, tt)))))
+    let tie = λ (o : Ordering). ap (λ r. ordering_then r (ordering_then (nat_cmp b b) o))
+    (same_number a) ∙ ap (λ r. ordering_then r o) (same_number b) in (
+      (tie Less, (tie Less, (tie Less, (tie Less, tt)))),
+      (
+        (tie Less, (tie Less, (tie Less, tt))),
+        ((tie Less, (tie Less, tt)), ((tie Less, tt), (tt, tt))),
+      ),
+    )
 
 from_and_to : (a b : ℕ) → AllByRecursion (λ m. (m.from ≡ a) × (m.to ≡ b)) (steps_between a b)
 from_and_to a b = ((refl, refl), ((refl, refl), ((refl, refl), ((refl, refl), ((refl, refl), tt)))))
@@ -78,21 +90,30 @@ from_and_to a b = ((refl, refl), ((refl, refl), ((refl, refl), ((refl, refl), ((
 to_below : (a i j : ℕ) (x y : Step) → i < j → ((x.from ≡ a) × (x.to ≡ i)) →
     ((y.from ≡ a) × (y.to ≡ j)) → step_cmp x y ≡ Less
 to_below a i j x y h q r =
-    let from : nat_cmp x.from y.from ≡ Equal = ap (λ k. nat_cmp k y.from) (q.0 ∙ sym r.0) ∙ same_number y.from in
+    let from : nat_cmp x.from y.from ≡ Equal = ap (λ k. nat_cmp k y.from) (q.0 ∙ sym r.0)
+    ∙ same_number y.from in
     let to : nat_cmp x.to y.to ≡ Less = less_number x.to y.to (omega arith) in
-    ap (λ o. ordering_then o (ordering_then (nat_cmp x.to y.to) (nat_cmp (promotion_number x.promo) (promotion_number y.promo)))) from
+    ap (λ o. ordering_then o
+    (ordering_then (nat_cmp x.to y.to)
+    (nat_cmp (promotion_number x.promo) (promotion_number y.promo)))) from
     ∙ ap (λ o. ordering_then o (nat_cmp (promotion_number x.promo) (promotion_number y.promo))) to
 
 from_below : (i j : ℕ) (x y : Step) → i < j → x.from ≡ i → y.from ≡ j → step_cmp x y ≡ Less
 from_below i j x y h q r =
-    ap (λ o. ordering_then o (ordering_then (nat_cmp x.to y.to) (nat_cmp (promotion_number x.promo) (promotion_number y.promo)))) (less_number x.from y.from (omega arith))
+    ap (λ o. ordering_then o
+    (ordering_then (nat_cmp x.to y.to)
+    (nat_cmp (promotion_number x.promo) (promotion_number y.promo))))
+    (less_number x.from y.from (omega arith))
 
 pub every_sorted : IsStrictlySortedBy step_cmp every_step
 unfolding every_step squares
 every_sorted =
     sorted_flat step_cmp (λ a. flat_map (λ b. steps_between a b) squares) (λ a m. m.from ≡ a)
-    (λ a. sorted_flat step_cmp (λ b. steps_between a b) (λ b m. (m.from ≡ a) × (m.to ≡ b)) (λ b. between_sorted a b) (λ b. from_and_to a b) (to_below a) 0 64)
-    (λ a. All_flat (λ m. m.from ≡ a) (λ b. steps_between a b) (λ b. All_weaker (λ m. (m.from ≡ a) × (m.to ≡ b)) (λ m. m.from ≡ a) (λ m q. q.0) (steps_between a b) (from_and_to a b)) squares)
+    (λ a. sorted_flat step_cmp (λ b. steps_between a b) (λ b m. (m.from ≡ a) × (m.to ≡ b))
+    (λ b. between_sorted a b) (λ b. from_and_to a b) (to_below a) 0 64)
+    (λ a. All_flat (λ m. m.from ≡ a) (λ b. steps_between a b)
+    (λ b. All_weaker (λ m. (m.from ≡ a) × (m.to ≡ b)) (λ m. m.from ≡ a) (λ m q. q.0)
+    (steps_between a b) (from_and_to a b)) squares)
     from_below 0 64
 
 pub sorted : (p : Board) → IsStrictlySortedBy step_cmp (legal_moves_of p)
@@ -166,7 +187,8 @@ unfolding every_step
 listed p m s h =
     found (legal_moves_of p) m (in_filter (is_legal p) m h every_step
     (in_flat (λ a. flat_map (λ b. steps_between a b) squares) m.from m
-    (in_flat (λ b. steps_between m.from b) m.to m (in_between m.from m.to m.promo s.promo) squares (in_squares m.to s.to)) squares (in_squares m.from s.from)))
+    (in_flat (λ b. steps_between m.from b) m.to m (in_between m.from m.to m.promo s.promo) squares
+    (in_squares m.to s.to)) squares (in_squares m.from s.from)))
 
 filter_head : {X : Type 0} (t : X → Bool) (P : X → Type 0) (x : X) (ys : List X) → P x →
     AllByRecursion (λ y. P y × (t y ≡ true)) ys → (b : Bool) → t x ≡ b →
@@ -199,8 +221,15 @@ unfolding every_step
 every_step_is =
     All_flat_in IsStep (λ k. k < 64) (λ a. flat_map (λ b. steps_between a b) squares)
     (λ a la. All_flat_in IsStep (λ k. k < 64) (λ b. steps_between a b)
-    (λ b lb. let step = λ (k : Option Kind) (w : is_promotion k ≡ true). (let r : IsStep (record { from = a; to = b; promo = k }) = record { from = la; to = lb; promo = w } in r) in
-    (step None refl, (step (Some Queen) refl, (step (Some Rook) refl, (step (Some Bishop) refl, (step (Some Knight) refl, tt))))))
+    (λ b lb. let step = λ (k : Option Kind) (w : is_promotion k ≡ true).
+    (let r : IsStep (record { from = a; to = b; promo = k }) =
+    record { from = la; to = lb; promo = w } in r) in (
+      step None refl,
+      (
+        step (Some Queen) refl,
+        (step (Some Rook) refl, (step (Some Bishop) refl, (step (Some Knight) refl, tt))),
+      ),
+    ))
     squares squares_small)
     squares squares_small
 
@@ -208,4 +237,5 @@ pub only_legal : (p : Board) (m : Step) → Contains (legal_moves_of p) m →
     IsStep m × (is_legal p m ≡ true)
 only_legal p m h =
     All-contains (λ x. IsStep x × (is_legal p x ≡ true)) (legal_moves_of p) m
-    (All-from_recursion (λ x. IsStep x × (is_legal p x ≡ true)) (legal_moves_of p) (All_filter (is_legal p) IsStep every_step every_step_is)) h
+    (All-from_recursion (λ x. IsStep x × (is_legal p x ≡ true)) (legal_moves_of p)
+    (All_filter (is_legal p) IsStep every_step every_step_is)) h

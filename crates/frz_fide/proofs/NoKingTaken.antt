@@ -37,7 +37,10 @@ attacks_there p c Rook a b g e = g
 attacks_there p c Bishop a b g e = g
 attacks_there p c Knight a b g e = g
 attacks_there p c Pawn a b g e =
-    pawn_attacks (pawn_reaches c a b) (holds p (other_of c) b) (files_apart a b == 0 && is_forward c 1 a b) (is_empty p b) (is_home c a && (files_apart a b == 0 && is_forward c 2 a b)) (is_empty p (passed_over a b)) (is_target p.ep b) e g
+    pawn_attacks (pawn_reaches c a b) (holds p (other_of c) b)
+    (files_apart a b == 0 && is_forward c 1 a b) (is_empty p b)
+    (is_home c a && (files_apart a b == 0 && is_forward c 2 a b)) (is_empty p (passed_over a b))
+    (is_target p.ep b) e g
 
 module _ (p : Board) (m : Step) (v : IsValid p) (lt : m.to < 64) (f : Move p m) where
   attack : is_empty p m.to ≡ false → attacks p m.from m.to ≡ true
@@ -55,18 +58,24 @@ module _ (p : Board) (m : Step) (v : IsValid p) (lt : m.to < 64) (f : Move p m) 
       elim (cases_Bool (has p d King m.to)) [
         | inr h ↦ h
         | inl h ↦ absurd (
-            let cell = eqb-true (slice_index p.cells m.to) (cell_of_man (record { colour = d; kind = King })) h in
+            let cell = eqb-true (slice_index p.cells m.to)
+            (cell_of_man (record { colour = d; kind = King })) h in
             elim (side p.turn d) [
               | inl e ↦
-                  let own = ap (λ x. is_man_of p.turn (man_of_cell x)) cell ∙ ap (is_man_of p.turn) (cell_forth d King) ∙ ap (λ c. same_colour c p.turn) e ∙ own_colour p.turn in
+                  let own = ap (λ x. is_man_of p.turn (man_of_cell x)) cell ∙ ap (is_man_of p.turn)
+                  (cell_forth d King) ∙ ap (λ c. same_colour c p.turn) e ∙ own_colour p.turn in
                   let free = f.free in cc
               | inr e ↦
                   let full : is_empty p m.to ≡ false = ap (λ x. x == 0) cell ∙ king_there d in
-                  let king : has p (other_of p.turn) King m.to ≡ true = ap (λ c. has p c King m.to) (sym e) ∙ h in
-                  let hit : is_attacked p m.to (other_of (other_of p.turn)) ≡ true = ap (is_attacked p m.to) (other_other p.turn) ∙ attacked_there full in
+                  let king : has p (other_of p.turn) King m.to ≡ true = ap (λ c. has p c King m.to)
+                  (sym e) ∙ h in
+                  let hit : is_attacked p m.to (other_of (other_of p.turn)) ≡ true =
+                  ap (is_attacked p m.to) (other_other p.turn) ∙ attacked_there full in
                   let check : is_in_check p (other_of p.turn) ≡ true =
-                  any_square (λ s. has p (other_of p.turn) King s && is_attacked p s (other_of (other_of p.turn))) m.to lt
-                  (and_from (has p (other_of p.turn) King m.to) (is_attacked p m.to (other_of (other_of p.turn))) king hit) in
+                  any_square (λ s. has p (other_of p.turn) King s && is_attacked p s
+                  (other_of (other_of p.turn))) m.to lt
+                  (and_from (has p (other_of p.turn) King m.to)
+                  (is_attacked p m.to (other_of (other_of p.turn))) king hit) in
                   let safe = v.safe in cc
             ])
       ]

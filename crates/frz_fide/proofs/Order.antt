@@ -43,7 +43,8 @@ grown-skip start f n (suc j) l h =
 pub grown-jump : {X : Type 0} (start : List X) (f : ℕ → List X) (n s : ℕ) → n ≤ s → s ≤ 64 →
     ((k : ℕ) → n ≤ k → k < s → f k ≡ []) → grown start f s ≡ grown start f n
 grown-jump start f n s l m h =
-    let e : n + (s - n) ≡ s = omega arith in ap (grown start f) (sym e) ∙ grown-skip start f n (s - n) (omega arith) (λ k i j. h k i (omega arith))
+    let e : n + (s - n) ≡ s = omega arith in ap (grown start f) (sym e) ∙ grown-skip start f n
+    (s - n) (omega arith) (λ k i j. h k i (omega arith))
 
 -- those from a to a square below n, after start
 unfoldable pub from_below : List Step → Board → ℕ → ℕ → List Step
@@ -59,7 +60,8 @@ unfolding from_below
 from_below-next start p a n h = grown-next start (λ b. legal_between p a b) n h
 
 pub from_below-room : (start : List Step) (p : Board) (a n : ℕ) → n < 64 →
-    length (from_below start p a n) + length (legal_between p a n) ≤ length start + length (legal_from p a)
+    length (from_below start p a n) + length (legal_between p a n) ≤ length start + length
+    (legal_from p a)
 unfolding from_below legal_from
 from_below-room start p a n h = grown-room start (λ b. legal_between p a b) n h
 
@@ -101,5 +103,13 @@ pub all_below-jump : (p : Board) (n s : ℕ) → n ≤ s → s ≤ 64 →
 unfolding all_below
 all_below-jump p n s l m h = grown-jump [] (λ a. legal_from p a) n s l m h
 
-pub ruleset loops =
-    (from_below-zero, from_below-next, from_below-room, from_below-all, all_below-zero, all_below-next, all_below-room, all_below-all)
+pub ruleset loops = (
+  from_below-zero,
+  from_below-next,
+  from_below-room,
+  from_below-all,
+  all_below-zero,
+  all_below-next,
+  all_below-room,
+  all_below-all,
+)

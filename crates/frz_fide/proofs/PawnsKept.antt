@@ -63,7 +63,9 @@ pawn_test Black k =
 pawn_forward : (p : Board) (c : Colour) (a b : ℕ) → goes p c Pawn a b ≡ true →
     (is_forward c 1 a b || is_forward c 2 a b) ≡ true
 pawn_forward p c a b =
-    forward_only (files_apart a b == 1) (is_forward c 1 a b) (holds p (other_of c) b) (files_apart a b == 0) (is_empty p b) (is_home c a) (is_forward c 2 a b) (is_empty p b && is_empty p (passed_over a b)) (is_target p.ep b)
+    forward_only (files_apart a b == 1) (is_forward c 1 a b) (holds p (other_of c) b)
+    (files_apart a b == 0) (is_empty p b) (is_home c a) (is_forward c 2 a b)
+    (is_empty p b && is_empty p (passed_over a b)) (is_target p.ep b)
 
 not_last : (l : Bool) → (true && (if l then false else true)) ≡ true → l ≡ false
 not_last true h = cc
@@ -100,16 +102,21 @@ no_end_pawn p c Pawn a b (Some Pawn) la g h = cc
 module _ (p : Board) (m : Step) (v : IsValid p) (lt : m.to < 64) (f : Move p m) where
   no_end_arrival : (is_end m.to && is_pawn_cell (arrival p m v lt f)) ≡ false
   no_end_arrival =
-      ap (λ x. is_end m.to && x) (pawn_test (arrives f.man m.promo).colour (arrives f.man m.promo).kind)
+      ap (λ x. is_end m.to && x)
+      (pawn_test (arrives f.man m.promo).colour (arrives f.man m.promo).kind)
       ∙ no_end_pawn p f.man.colour f.man.kind m.from m.to m.promo (lf p m v lt f) f.way f.promo
 
   pawn_inside : (s : ℕ) → not (is_end s && is_pawn_cell (slice_index p.cells s)) ≡ true →
       not (is_end s && is_pawn_cell (slice_index (cells_after p f.man m) s)) ≡ true
   pawn_inside s h =
-      ap not (none_then p m v lt f (λ x. is_end s && is_pawn_cell x) s (and_right (is_end s) false refl) (not-true _ h)
+      ap not (none_then p m v lt f (λ x. is_end s && is_pawn_cell x) s
+      (and_right (is_end s) false refl) (not-true _ h)
       (λ e. ap (λ b. is_end b && is_pawn_cell (arrival p m v lt f)) e ∙ no_end_arrival))
 
-  pub pawns_kept : list_all (λ s. not (is_end s && is_pawn_cell (slice_index (cells_after p f.man m) s))) squares ≡ true
+  pub pawns_kept : list_all
+      (λ s. not (is_end s && is_pawn_cell (slice_index (cells_after p f.man m) s))) squares ≡ true
   unfolding has_pawns_inside
   pawns_kept =
-      all_squares (λ s. not (is_end s && is_pawn_cell (slice_index (cells_after p f.man m) s))) (λ s l. pawn_inside s (each_square (λ k. not (is_end k && is_pawn_cell (slice_index p.cells k))) v.pawns s l))
+      all_squares (λ s. not (is_end s && is_pawn_cell (slice_index (cells_after p f.man m) s)))
+      (λ s l. pawn_inside s
+      (each_square (λ k. not (is_end k && is_pawn_cell (slice_index p.cells k))) v.pawns s l))

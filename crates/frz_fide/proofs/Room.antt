@@ -51,7 +51,8 @@ man_room t (Some man) a b = cond (same_colour man.colour t) (kind_room man.colou
 
 -- a man that is no pawn has one move to a square
 one_way : (s n r : Bool) →
-    count_by (λ (k : Option Kind). (s && n) && (r && is_none k)) (None ∷ Some Queen ∷ Some Rook ∷ Some Bishop ∷ Some Knight ∷ []) ≤ cond s 1 0
+    count_by (λ (k : Option Kind). (s && n) && (r && is_none k))
+    (None ∷ Some Queen ∷ Some Rook ∷ Some Bishop ∷ Some Knight ∷ []) ≤ cond s 1 0
 one_way true true true = omega arith
 one_way true true false = omega arith
 one_way true false r = omega arith
@@ -59,7 +60,9 @@ one_way false n r = omega arith
 
 -- a pawn has one, or four on its last rank
 pawn_ways : (s n g last w : Bool) → (g ≡ true → w ≡ true) →
-    count_by (λ (k : Option Kind). (s && n) && (g && (is_promotion k && (if last then is_some k else is_none k)))) (None ∷ Some Queen ∷ Some Rook ∷ Some Bishop ∷ Some Knight ∷ []) ≤ cond s (cond w 4 0) 0
+    count_by (λ (k : Option Kind). (s && n)
+    && (g && (is_promotion k && (if last then is_some k else is_none k))))
+    (None ∷ Some Queen ∷ Some Rook ∷ Some Bishop ∷ Some Knight ∷ []) ≤ cond s (cond w 4 0) 0
 pawn_ways true true true true true h = omega arith
 pawn_ways true true true false true h = omega arith
 pawn_ways true true true last false h = absurd (cc (h refl))
@@ -86,7 +89,8 @@ abbrev pub promotions : List (Option Kind)
 promotions = None ∷ Some Queen ∷ Some Rook ∷ Some Bishop ∷ Some Knight ∷ []
 
 kind_ways : (p : Board) (c : Colour) (k : Kind) (s n : Bool) (a b : ℕ) →
-    count_by (λ promo. (s && n) && (goes p c k a b && promotes c k b promo)) promotions ≤ cond s (kind_room c k a b) 0
+    count_by (λ promo. (s && n) && (goes p c k a b && promotes c k b promo)) promotions ≤ cond s
+    (kind_room c k a b) 0
 kind_ways p c King s n a b = one_way s n (goes p c King a b)
 kind_ways p c Queen s n a b = one_way s n (goes p c Queen a b)
 kind_ways p c Rook s n a b = one_way s n (goes p c Rook a b)
@@ -94,10 +98,13 @@ kind_ways p c Bishop s n a b = one_way s n (goes p c Bishop a b)
 kind_ways p c Knight s n a b = one_way s n (goes p c Knight a b)
 kind_ways p c Pawn s n a b =
     pawn_ways s n (goes p c Pawn a b) (is_last c b) (is_forward c 1 a b || is_forward c 2 a b)
-    (forward_only (files_apart a b == 1) (is_forward c 1 a b) (holds p (other_of c) b) (files_apart a b == 0) (is_empty p b) (is_home c a) (is_forward c 2 a b) (is_empty p b && is_empty p (passed_over a b)) (is_target p.ep b))
+    (forward_only (files_apart a b == 1) (is_forward c 1 a b) (holds p (other_of c) b)
+    (files_apart a b == 0) (is_empty p b) (is_home c a) (is_forward c 2 a b)
+    (is_empty p b && is_empty p (passed_over a b)) (is_target p.ep b))
 
 man_ways : (p : Board) (t : Colour) (o : Option Man) (n : Bool) (a b : ℕ) →
-    count_by (λ promo. (is_man_of t o && n) && man_goes p o (record { from = a; to = b; promo = promo })) promotions ≤ man_room t o a b
+    count_by (λ promo. (is_man_of t o && n) && man_goes p o
+    (record { from = a; to = b; promo = promo })) promotions ≤ man_room t o a b
 man_ways p t None n a b = omega arith
 man_ways p t (Some man) n a b = kind_ways p man.colour man.kind (same_colour man.colour t) n a b
 
@@ -111,7 +118,8 @@ between_room : (p : Board) (a b : ℕ) →
 unfolding legal_between is_legal
 between_room p a b =
     let legal = length-filter (is_legal p) (steps_between a b) in
-    let fewer = sum_by-le-sum_by (λ m. cond (is_legal p m) 1 0) (λ m. cond (can_go p m) 1 0) (steps_between a b) (λ m. and_fewer (can_go p m) (not (is_in_check (after p m) p.turn))) in
+    let fewer = sum_by-le-sum_by (λ m. cond (is_legal p m) 1 0) (λ m. cond (can_go p m) 1 0)
+    (steps_between a b) (λ m. and_fewer (can_go p m) (not (is_in_check (after p m) p.turn))) in
     let ways = man_ways p p.turn (man_on p a) (not (holds p p.turn b)) a b in
     omega (arith, legal, fewer, ways)
 
@@ -144,7 +152,8 @@ from_room : (p : Board) (a : ℕ) → fits_rank a ≡ true →
 unfolding legal_from
 from_room p a fits =
     let whole = length-flat_map (λ b. legal_between p a b) squares in
-    let fewer = sum_by-le-sum_by (λ b. length (legal_between p a b)) (λ b. man_room p.turn (man_on p a) a b) squares (λ b. between_room p a b) in
+    let fewer = sum_by-le-sum_by (λ b. length (legal_between p a b))
+    (λ b. man_room p.turn (man_on p a) a b) squares (λ b. between_room p a b) in
     omega (arith, whole, fewer, man_room_sum a fits p.turn (man_on p a))
 
 sum_tested : (f g : ℕ → ℕ) (t : ℕ → Bool) → ((x : ℕ) → t x ≡ true → f x ≤ g x) → (xs : List ℕ) →
@@ -161,19 +170,31 @@ sixty_four false = omega arith
 times_count : (q : ℕ → Bool) (xs : List ℕ) → sum_by (λ x. cond (q x) 64 0) xs ≡ 64 * count_by q xs
 times_count q [] = omega arith
 times_count q (x ∷ xs) =
-    omega (arith, sum_by-cons (λ y. cond (q y) 64 0) x xs, sum_by-cons (λ y. cond (q y) 1 0) x xs, times_count q xs, sixty_four (q x))
+    omega (
+      arith,
+      sum_by-cons (λ y. cond (q y) 64 0) x xs,
+      sum_by-cons (λ y. cond (q y) 1 0) x xs,
+      times_count q xs,
+      sixty_four (q x),
+    )
 
 -- the cells, read square by square
 pub reads : (xs : List ℕ) → length xs ≡ 64 → map (λ s. slice_index xs s) squares ≡ xs
 unfolding squares
 reads xs h =
     same_number_lists _ _ (length-map-range_with_len (λ s. slice_index xs s) 0 64 ∙ sym h)
-    (λ i l. get_or-map-range_with_len (λ s. slice_index xs s) 0 64 i i 0 (omega (arith, length-map-range_with_len (λ s. slice_index xs s) 0 64)) (omega arith))
+    (λ i l. get_or-map-range_with_len (λ s. slice_index xs s) 0 64 i i 0
+    (omega (arith, length-map-range_with_len (λ s. slice_index xs s) 0 64)) (omega arith))
 
 sum_by-map : (g : ℕ → ℕ) (f : ℕ → ℕ) (xs : List ℕ) → sum_by g (map f xs) ≡ sum_by (λ x. g (f x)) xs
 sum_by-map g f [] = refl
 sum_by-map g f (x ∷ xs) =
-    omega (arith, sum_by-cons g (f x) (map f xs), sum_by-cons (λ y. g (f y)) x xs, sum_by-map g f xs)
+    omega (
+      arith,
+      sum_by-cons g (f x) (map f xs),
+      sum_by-cons (λ y. g (f y)) x xs,
+      sum_by-map g f xs,
+    )
 
 pub few : (p : Board) (c : Colour) → has_few_men p ≡ true → men_of p c ≤ 16
 unfolding has_few_men
@@ -184,13 +205,15 @@ men_by_squares : (p : Board) (c : Colour) → length p.cells ≡ 64 →
     count_by (λ s. holds p c s) squares ≡ men_of p c
 unfolding men_of
 men_by_squares p c h =
-    sym (sum_by-map (λ x. cond (is_man_of c (man_of_cell x)) 1 0) (λ s. slice_index p.cells s) squares)
+    sym (sum_by-map (λ x. cond (is_man_of c (man_of_cell x)) 1 0) (λ s. slice_index p.cells s)
+    squares)
     ∙ ap (λ xs. count_by (λ x. is_man_of c (man_of_cell x)) xs) (reads p.cells h)
 
 pub legal_room : (p : Board) → IsValid p → length (legal_by_squares p) ≤ 1024
 unfolding legal_by_squares
 legal_room p v =
     let whole = length-flat_map (λ a. legal_from p a) squares in
-    let fewer = sum_tested (λ a. length (legal_from p a)) (λ a. cond (holds p p.turn a) 64 0) fits_rank (from_room p) squares table in
+    let fewer = sum_tested (λ a. length (legal_from p a)) (λ a. cond (holds p p.turn a) 64 0)
+    fits_rank (from_room p) squares table in
     let count = times_count (λ a. holds p p.turn a) squares in
     omega (arith, whole, fewer, count, men_by_squares p p.turn v.fits.size, few p p.turn v.men)

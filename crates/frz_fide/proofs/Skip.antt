@@ -83,7 +83,8 @@ filter_some_none : (t : Step → Bool) (r : Option Kind → Step) →
     filter t (map r (map (λ k. Some k) ks)) ≡ []
 filter_some_none t r h [] = refl
 filter_some_none t r h (k ∷ ks) =
-    ap (λ x. cond x (r (Some k) ∷ filter t (map r (map (λ k. Some k) ks))) (filter t (map r (map (λ k. Some k) ks)))) (h k)
+    ap (λ x. cond x (r (Some k) ∷ filter t (map r (map (λ k. Some k) ks)))
+    (filter t (map r (map (λ k. Some k) ks)))) (h k)
     ∙ filter_some_none t r h ks
 
 module _ (p : Board) (a b : ℕ) (man : Man) (on : man_on p a ≡ Some man) where
@@ -92,17 +93,23 @@ module _ (p : Board) (a b : ℕ) (man : Man) (on : man_on p a ≡ Some man) wher
 
   opened : (k : Option Kind) →
       is_legal p (step k)
-      ≡ (((same_colour man.colour p.turn && not (holds p p.turn b)) && (goes p man.colour man.kind a b && promotes man.colour man.kind b k)) && not (is_in_check (after p (step k)) p.turn))
+      ≡ (((same_colour man.colour p.turn && not (holds p p.turn b))
+      && (goes p man.colour man.kind a b && promotes man.colour man.kind b k))
+      && not (is_in_check (after p (step k)) p.turn))
   unfolding is_legal
   opened k =
-      ap (λ o. ((is_man_of p.turn o && not (holds p p.turn b)) && man_goes p o (step k)) && not (is_in_check (after p (step k)) p.turn)) on
+      ap (λ o. ((is_man_of p.turn o && not (holds p p.turn b)) && man_goes p o (step k))
+      && not (is_in_check (after p (step k)) p.turn)) on
 
   -- where the man does not go
   pub no_way : (not (holds p p.turn b) && goes p man.colour man.kind a b) ≡ false →
       legal_between p a b ≡ []
   unfolding legal_between
   no_way h =
-      filter_none (is_legal p) step (λ k. opened k ∙ four (same_colour man.colour p.turn) (not (holds p p.turn b)) (goes p man.colour man.kind a b) (promotes man.colour man.kind b k) (not (is_in_check (after p (step k)) p.turn)) h) promotions
+      filter_none (is_legal p) step
+      (λ k. opened k ∙ four (same_colour man.colour p.turn) (not (holds p p.turn b))
+      (goes p man.colour man.kind a b) (promotes man.colour man.kind b k)
+      (not (is_in_check (after p (step k)) p.turn)) h) promotions
 
   -- where it becomes nothing else
   pub no_choice : (is_pawn man.kind && is_last man.colour b) ≡ false →
@@ -110,7 +117,12 @@ module _ (p : Board) (a b : ℕ) (man : Man) (on : man_on p a ≡ Some man) wher
   unfolding legal_between
   no_choice h =
       let t = is_legal p in
-      let none : filter t (map step (Some Queen ∷ Some Rook ∷ Some Bishop ∷ Some Knight ∷ [])) ≡ [] = filter_some_none t step (λ j. opened (Some j) ∙ no_promo (same_colour man.colour p.turn) (not (holds p p.turn b)) (goes p man.colour man.kind a b) (promotes man.colour man.kind b (Some j)) (not (is_in_check (after p (step (Some j))) p.turn)) (cannot_choose man.colour man.kind b j h)) (Queen ∷ Rook ∷ Bishop ∷ Knight ∷ []) in
+      let none : filter t (map step (Some Queen ∷ Some Rook ∷ Some Bishop ∷ Some Knight ∷ []))
+      ≡ [] = filter_some_none t step
+      (λ j. opened (Some j) ∙ no_promo (same_colour man.colour p.turn) (not (holds p p.turn b))
+      (goes p man.colour man.kind a b) (promotes man.colour man.kind b (Some j))
+      (not (is_in_check (after p (step (Some j))) p.turn))
+      (cannot_choose man.colour man.kind b j h)) (Queen ∷ Rook ∷ Bishop ∷ Knight ∷ []) in
       ap (λ r. cond (t (step None)) (step None ∷ r) r) none
 
   -- where it must become something else
@@ -119,8 +131,12 @@ module _ (p : Board) (a b : ℕ) (man : Man) (on : man_on p a ≡ Some man) wher
   unfolding legal_between chosen
   choices h =
       let t = is_legal p in
-      let rest = filter t (step (Some Queen) ∷ step (Some Rook) ∷ step (Some Bishop) ∷ step (Some Knight) ∷ []) in
-      ap (λ x. cond x (step None ∷ rest) rest) (opened None ∙ no_promo (same_colour man.colour p.turn) (not (holds p p.turn b)) (goes p man.colour man.kind a b) (promotes man.colour man.kind b None) (not (is_in_check (after p (step None)) p.turn)) (must_choose man.colour man.kind b h))
+      let rest = filter t (step (Some Queen) ∷ step (Some Rook) ∷ step (Some Bishop) ∷ step
+      (Some Knight) ∷ []) in
+      ap (λ x. cond x (step None ∷ rest) rest)
+      (opened None ∙ no_promo (same_colour man.colour p.turn) (not (holds p p.turn b))
+      (goes p man.colour man.kind a b) (promotes man.colour man.kind b None)
+      (not (is_in_check (after p (step None)) p.turn)) (must_choose man.colour man.kind b h))
 
   -- the man may go
   pub may_go : (k : Option Kind) → same_colour man.colour p.turn ≡ true → holds p p.turn b ≡ false →
@@ -128,7 +144,8 @@ module _ (p : Board) (a b : ℕ) (man : Man) (on : man_on p a ≡ Some man) wher
       can_go p (record { from = a; to = b; promo = k }) ≡ true
   may_go k own free way promo =
       ap (λ o. (is_man_of p.turn o && not (holds p p.turn b)) && man_goes p o (step k)) on
-      ∙ all_four (same_colour man.colour p.turn) (holds p p.turn b) (goes p man.colour man.kind a b) (promotes man.colour man.kind b k) own free way promo
+      ∙ all_four (same_colour man.colour p.turn) (holds p p.turn b) (goes p man.colour man.kind a b)
+      (promotes man.colour man.kind b k) own free way promo
 
   -- where it goes
   pub may_choose : (j : Kind) → same_colour man.colour p.turn ≡ true → holds p p.turn b ≡ false →
@@ -152,7 +169,9 @@ none_between : (p : Board) (a b : ℕ) → holds p p.turn a ≡ false → legal_
 unfolding legal_between is_legal
 none_between p a b h =
     filter_none (is_legal p) (λ k. record { from = a; to = b; promo = k })
-    (λ k. no_man (man_on p a) p.turn (not (holds p p.turn b)) (man_goes p (man_on p a) (record { from = a; to = b; promo = k })) (not (is_in_check (after p (record { from = a; to = b; promo = k })) p.turn)) h) promotions
+    (λ k. no_man (man_on p a) p.turn (not (holds p p.turn b))
+    (man_goes p (man_on p a) (record { from = a; to = b; promo = k }))
+    (not (is_in_check (after p (record { from = a; to = b; promo = k })) p.turn)) h) promotions
 
 none_flat : (f : ℕ → List Step) → ((b : ℕ) → f b ≡ []) → (xs : List ℕ) → flat_map f xs ≡ []
 none_flat f h [] = refl

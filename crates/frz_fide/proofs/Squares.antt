@@ -21,7 +21,8 @@ room_next f n h =
     let in_list : n < length squares = omega (arith, length-squares) in
     (let fact = length-flat_map-take f squares n 0 in_list in
     let at_n = get_or-squares n h in
-    subst (λ k. length (flat_map f (take n squares)) + length (f k) ≤ length (flat_map f squares)) at_n fact)
+    subst (λ k. length (flat_map f (take n squares)) + length (f k) ≤ length (flat_map f squares))
+    at_n fact)
 
 pub take-squares : take 64 squares ≡ squares
 take-squares = take_all 64 squares (omega (arith, length-squares))

@@ -28,7 +28,8 @@ pub on_board : (p : Board) (s : ℕ) (man : Man) → length p.cells ≡ 64 → m
 on_board p s man size e =
     elim (cases_lt s 64) [
       | inl h ↦ h
-      | inr h ↦ absurd (let past : slice_index p.cells s ≡ 0 = get_or_past p.cells s 0 (omega arith) in let none = ap man_of_cell past in cc)
+      | inr h ↦ absurd (let past : slice_index p.cells s ≡ 0 = get_or_past p.cells s 0
+          (omega arith) in let none = ap man_of_cell past in cc)
     ]
 
 -- the mover's man stands where the move begins
@@ -50,23 +51,33 @@ target_is (Some t) b h = ap Some (eqb-true t b h)
 -- an enemy pawn stands on the square where a pawn is taken in passing
 pub taken : (p : Board) (m : Step) → IsValid p → (c : Colour) → c ≡ p.turn →
     takes_in_passing p c m.from m.to ≡ true →
-    slice_index p.cells (beside_on_file m.from m.to) ≡ cell_of_man (record { colour = other_of p.turn; kind = Pawn })
+    slice_index p.cells (beside_on_file m.from m.to) ≡ cell_of_man
+    (record { colour = other_of p.turn; kind = Pawn })
 unfolding has_target_in_place
 taken p m v c own h =
     let parts = and_parts (pawn_reaches c m.from m.to) (is_target p.ep m.to) h in
-    let forward = (and_parts (files_apart m.from m.to == 1) (is_forward c 1 m.from m.to) parts.0).1 in
-    let stands : is_passed p (other_of p.turn) m.to ≡ true = ap (target_stands p) (sym (target_is p.ep m.to parts.1)) ∙ v.target in
-    let passer = (and_parts (has_passed p (other_of p.turn) m.to) (has_pawn_beside p (other_of (other_of p.turn)) (ahead (other_of p.turn) m.to)) stands).0 in
-    let pawn = (and_parts (is_passing_rank (other_of p.turn) m.to && (is_empty p m.to && is_empty p (ahead (other_of (other_of p.turn)) m.to))) (has p (other_of p.turn) Pawn (ahead (other_of p.turn) m.to)) passer).1 in
-    ap (slice_index p.cells) (ahead_is_beside c m.from m.to forward ∙ ap (λ d. ahead (other_of d) m.to) own)
-    ∙ eqb-true (slice_index p.cells (ahead (other_of p.turn) m.to)) (cell_of_man (record { colour = other_of p.turn; kind = Pawn })) pawn
+    let forward = (and_parts (files_apart m.from m.to == 1) (is_forward c 1 m.from m.to)
+    parts.0).1 in
+    let stands : is_passed p (other_of p.turn) m.to ≡ true = ap (target_stands p)
+    (sym (target_is p.ep m.to parts.1)) ∙ v.target in
+    let passer = (and_parts (has_passed p (other_of p.turn) m.to)
+    (has_pawn_beside p (other_of (other_of p.turn)) (ahead (other_of p.turn) m.to)) stands).0 in
+    let pawn = (and_parts
+    (is_passing_rank (other_of p.turn) m.to
+    && (is_empty p m.to && is_empty p (ahead (other_of (other_of p.turn)) m.to)))
+    (has p (other_of p.turn) Pawn (ahead (other_of p.turn) m.to)) passer).1 in
+    ap (slice_index p.cells)
+    (ahead_is_beside c m.from m.to forward ∙ ap (λ d. ahead (other_of d) m.to) own)
+    ∙ eqb-true (slice_index p.cells (ahead (other_of p.turn) m.to))
+    (cell_of_man (record { colour = other_of p.turn; kind = Pawn })) pawn
 
 -- an own man stands on no square where a pawn is taken
 pub taken_free : (p : Board) (m : Step) → IsValid p → (f : Move p m) →
     (is_pawn f.man.kind && takes_in_passing p f.man.colour m.from m.to) ≡ true →
     holds p p.turn (beside_on_file m.from m.to) ≡ false
 taken_free p m v f h =
-    let takes = (and_parts (is_pawn f.man.kind) (takes_in_passing p f.man.colour m.from m.to) h).1 in
+    let takes = (and_parts (is_pawn f.man.kind) (takes_in_passing p f.man.colour m.from m.to)
+    h).1 in
     ap (λ x. is_man_of p.turn (man_of_cell x)) (taken p m v f.man.colour f.own takes)
     ∙ ap (is_man_of p.turn) (cell_forth (other_of p.turn) Pawn) ∙ other_colour p.turn
 
@@ -79,7 +90,9 @@ stays_by true e b a v x s h1 h2 h3 = let ne : s ≢ e = h1 refl in grind (arith,
 pub stays : (p : Board) (m : Step) → IsValid p → (f : Move p m) → (s : ℕ) →
     holds p p.turn s ≡ true → s ≢ m.from → cell_then p f.man m s ≡ slice_index p.cells s
 stays p m v f s own ne =
-    stays_by (is_pawn f.man.kind && takes_in_passing p f.man.colour m.from m.to) (beside_on_file m.from m.to) m.to m.from (cell_of_man (arrives f.man m.promo)) (slice_index p.cells s) s
+    stays_by (is_pawn f.man.kind && takes_in_passing p f.man.colour m.from m.to)
+    (beside_on_file m.from m.to) m.to m.from (cell_of_man (arrives f.man m.promo))
+    (slice_index p.cells s) s
     (λ h e. let free = taken_free p m v f h in let same = ap (holds p p.turn) e in cc)
     (λ e. let free = f.free in let same = ap (holds p p.turn) e in cc)
     ne
@@ -111,7 +124,8 @@ others_by q t e b a v x s h0 hx ne =
 pub forward_of : (p : Board) (c : Colour) (a b : ℕ) → takes_in_passing p c a b ≡ true →
     is_forward c 1 a b ≡ true
 forward_of p c a b h =
-    (and_parts (files_apart a b == 1) (is_forward c 1 a b) (and_parts (pawn_reaches c a b) (is_target p.ep b) h).0).1
+    (and_parts (files_apart a b == 1) (is_forward c 1 a b)
+    (and_parts (pawn_reaches c a b) (is_target p.ep b) h).0).1
 
 pub beside_apart : (c : Colour) (a b : ℕ) → is_forward c 1 a b ≡ true → b ≡ beside_on_file a b → ⊥
 beside_apart White a b h e = let r = eqb-true (b / 8) (a / 8 + 1) h in omega arith
@@ -121,8 +135,12 @@ beside_apart Black a b h e = let r = eqb-true (a / 8) (b / 8 + 1) h in omega ari
 pub arrived : (p : Board) (m : Step) → (f : Move p m) →
     cell_then p f.man m m.to ≡ cell_of_man (arrives f.man m.promo)
 arrived p m f =
-    arrived_by (is_pawn f.man.kind && takes_in_passing p f.man.colour m.from m.to) (beside_on_file m.from m.to) m.to m.from (cell_of_man (arrives f.man m.promo)) (slice_index p.cells m.to)
-    (λ h e. beside_apart f.man.colour m.from m.to (forward_of p f.man.colour m.from m.to (and_parts (is_pawn f.man.kind) (takes_in_passing p f.man.colour m.from m.to) h).1) e)
+    arrived_by (is_pawn f.man.kind && takes_in_passing p f.man.colour m.from m.to)
+    (beside_on_file m.from m.to) m.to m.from (cell_of_man (arrives f.man m.promo))
+    (slice_index p.cells m.to)
+    (λ h e. beside_apart f.man.colour m.from m.to
+    (forward_of p f.man.colour m.from m.to
+    (and_parts (is_pawn f.man.kind) (takes_in_passing p f.man.colour m.from m.to) h).1) e)
 
 pub apart : (p : Board) (m : Step) → Move p m → m.from ≡ m.to → ⊥
 apart p m f e =
@@ -131,13 +149,17 @@ apart p m f e =
 -- the square that the man leaves is empty
 pub left : (p : Board) (m : Step) → (f : Move p m) → cell_then p f.man m m.from ≡ 0
 left p m f =
-    left_by (is_pawn f.man.kind && takes_in_passing p f.man.colour m.from m.to) (beside_on_file m.from m.to) m.to m.from (cell_of_man (arrives f.man m.promo)) (slice_index p.cells m.from) (apart p m f)
+    left_by (is_pawn f.man.kind && takes_in_passing p f.man.colour m.from m.to)
+    (beside_on_file m.from m.to) m.to m.from (cell_of_man (arrives f.man m.promo))
+    (slice_index p.cells m.from) (apart p m f)
 
 -- no own man comes to another square
 pub none_comes : (p : Board) (m : Step) → (f : Move p m) → (s : ℕ) → holds p p.turn s ≡ false →
     s ≢ m.to → is_man_of p.turn (man_of_cell (cell_then p f.man m s)) ≡ false
 none_comes p m f s h ne =
-    others_by (λ x. is_man_of p.turn (man_of_cell x)) (is_pawn f.man.kind && takes_in_passing p f.man.colour m.from m.to) (beside_on_file m.from m.to) m.to m.from (cell_of_man (arrives f.man m.promo)) (slice_index p.cells s) s refl h ne
+    others_by (λ x. is_man_of p.turn (man_of_cell x))
+    (is_pawn f.man.kind && takes_in_passing p f.man.colour m.from m.to) (beside_on_file m.from m.to)
+    m.to m.from (cell_of_man (arrives f.man m.promo)) (slice_index p.cells s) s refl h ne
 
 -- the arriving man is the mover's
 pub arrives_own : (man : Man) (promo : Option Kind) →

@@ -22,8 +22,10 @@ module _ (p : Board) (m : Step) (v : IsValid p) (lt : m.to < 64) (f : Move p m) 
   pub valid_then : is_in_check (next p m v lt f) p.turn ≡ false → IsValid (next p m v lt f)
   unfolding has_kings has_few_men men_of has_pawns_inside has_target_in_place
   valid_then safe = record {
-    fits = fit_written p.cells m.from m.to (arrival p m v lt f) (beside p m v lt f) (takes p m v lt f) (arrives_small f.man m.promo) v.fits;
-    kings = ap (λ n. n == 1 && count_of (next p m v lt f) Black King == 1) (kings_kept p m v lt f White)
+    fits = fit_written p.cells m.from m.to (arrival p m v lt f) (beside p m v lt f)
+        (takes p m v lt f) (arrives_small f.man m.promo) v.fits;
+    kings = ap (λ n. n == 1 && count_of (next p m v lt f) Black King == 1)
+        (kings_kept p m v lt f White)
         ∙ ap (λ n. count_of p White King == 1 && n == 1) (kings_kept p m v lt f Black) ∙ v.kings;
     pawns = (pawns_kept p m v lt f);
     men = and_from _ _ (few_kept p m v lt f White) (few_kept p m v lt f Black);
@@ -36,4 +38,5 @@ pub valid_after : (p : Board) (m : Step) → IsValid p → m.to < 64 → is_lega
 valid_after p m v lt h =
     let f = facts p m h in
     let here = ap (λ o. after_man p o m) f.on in
-    subst IsValid (sym here) (valid_then p m v lt f (ap (λ q. is_in_check q p.turn) (sym here) ∙ f.safe))
+    subst IsValid (sym here)
+    (valid_then p m v lt f (ap (λ q. is_in_check q p.turn) (sym here) ∙ f.safe))

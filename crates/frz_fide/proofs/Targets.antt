@@ -24,7 +24,8 @@ use Rattle.frz_fide.proofs.Skip.{no_way, none_here}
 
 -- the ways of a pawn, by files and ranks
 pawn_way : (d1 d0 le f1 x e h f2 y z : Bool) → (d1 ≡ true → le ≡ true) → (d0 ≡ true → le ≡ true) →
-    ((((d1 && f1) && x) || ((d0 && f1) && e)) || (((h && (d0 && f2)) && y) || ((d1 && f1) && z))) ≡ true → ((le && f1) || (d0 && f2)) ≡ true
+    ((((d1 && f1) && x) || ((d0 && f1) && e)) || (((h && (d0 && f2)) && y) || ((d1 && f1) && z)))
+    ≡ true → ((le && f1) || (d0 && f2)) ≡ true
 pawn_way d1 d0 true true x e h f2 y z i j g = refl
 pawn_way true d0 false true x e h f2 y z i j g = let w : false ≡ true = i refl in cc
 pawn_way false true false true x e h f2 y z i j g = let w : false ≡ true = j refl in cc
@@ -50,7 +51,9 @@ goes_somewhere p c Rook a b h = (and_parts (is_rook_line a b) (is_clear p a b) h
 goes_somewhere p c Bishop a b h = (and_parts (is_bishop_line a b) (is_clear p a b) h).0
 goes_somewhere p c Knight a b h = h
 goes_somewhere p c Pawn a b h =
-    pawn_way (files_apart a b == 1) (files_apart a b == 0) (nat_le (files_apart a b) 1) (is_forward c 1 a b) (holds p (other_of c) b) (is_empty p b) (is_home c a) (is_forward c 2 a b) (is_empty p b && is_empty p (passed_over a b)) (is_target p.ep b)
+    pawn_way (files_apart a b == 1) (files_apart a b == 0) (nat_le (files_apart a b) 1)
+    (is_forward c 1 a b) (holds p (other_of c) b) (is_empty p b) (is_home c a) (is_forward c 2 a b)
+    (is_empty p b && is_empty p (passed_over a b)) (is_target p.ep b)
     (λ e. let one = eqb-true (files_apart a b) 1 e in le-leb (files_apart a b) 1 (omega arith))
     (λ e. let none = eqb-true (files_apart a b) 0 e in le-leb (files_apart a b) 1 (omega arith))
     h
@@ -65,13 +68,18 @@ stays_out false false n i h = and_right n false refl
 pub off_target : (p : Board) (man : Man) (a targets moves own : ℕ) (t : Colour) →
     man_on p a ≡ Some man → moves ≡ set_of (λ b. may_go man.colour man.kind a b) →
     own ≡ set_of (λ s. holds p t s) → t ≡ p.turn →
-    ((k : ℕ) → k < 64 → has_square targets k ≡ (has_square moves k && not (has_square own k))) → (k : ℕ) → k < 64 → has_square targets k ≡ false → legal_between p a k ≡ []
+    ((k : ℕ) → k < 64 → has_square targets k ≡ (has_square moves k && not (has_square own k)))
+    → (k : ℕ) → k < 64 → has_square targets k ≡ false → legal_between p a k ≡ []
 off_target p man a targets moves own t on em eo et h k l out =
-    let may : has_square moves k ≡ may_go man.colour man.kind a k = ap (λ w. has_square w k) em ∙ has-set_of (λ b. may_go man.colour man.kind a b) k l in
-    let held : has_square own k ≡ holds p p.turn k = in_side p t own k eo l ∙ ap (λ u. holds p u k) et in
+    let may : has_square moves k ≡ may_go man.colour man.kind a k = ap (λ w. has_square w k) em
+    ∙ has-set_of (λ b. may_go man.colour man.kind a b) k l in
+    let held : has_square own k ≡ holds p p.turn k = in_side p t own k eo l
+    ∙ ap (λ u. holds p u k) et in
     no_way p a k man on
-    (stays_out (may_go man.colour man.kind a k) (goes p man.colour man.kind a k) (not (holds p p.turn k)) (goes_somewhere p man.colour man.kind a k)
-    (ap (λ x. may_go man.colour man.kind a k && not x) (sym held) ∙ ap (λ x. x && not (has_square own k)) (sym may) ∙ sym (h k l) ∙ out))
+    (stays_out (may_go man.colour man.kind a k) (goes p man.colour man.kind a k)
+    (not (holds p p.turn k)) (goes_somewhere p man.colour man.kind a k)
+    (ap (λ x. may_go man.colour man.kind a k && not x) (sym held)
+    ∙ ap (λ x. x && not (has_square own k)) (sym may) ∙ sym (h k l) ∙ out))
 
 -- on no target stands a man of the side to move
 pub on_target : (p : Board) (targets moves own : ℕ) (t : Colour) → own ≡ set_of (λ s. holds p t s) →
@@ -93,11 +101,14 @@ pub on_side : (p : Board) (own : ℕ) (t : Colour) → own ≡ set_of (λ s. hol
 on_side p own t e et k l h = ap (λ u. holds p u k) (sym et) ∙ sym (in_side p t own k e l) ∙ h
 
 -- a walk over the targets of a man collects its moves
-module _ (start : List Step) (p : Board) (a w : ℕ) (out : (k : ℕ) → k < 64 → has_square w k ≡ false → legal_between p a k ≡ []) where
+module _ (start : List Step) (p : Board) (a w : ℕ)
+    (out : (k : ℕ) → k < 64 → has_square w k ≡ false → legal_between p a k ≡ []) where
   pub from_next : (n s : ℕ) (list : List Step) → list ≡ from_below start p a n → IsNext w n s →
       list ≡ from_below start p a s
   from_next n s list e next =
-      let on = next.on_board in e ∙ sym (from_below-jump start p a n s next.from (omega arith) (λ k i m. out k (omega arith) (next.first k i m)))
+      let on = next.on_board in
+      e ∙ sym (from_below-jump start p a n s next.from (omega arith)
+      (λ k i m. out k (omega arith) (next.first k i m)))
 
   pub from_end : (n : ℕ) (list : List Step) → n ≤ 64 → list ≡ from_below start p a n →
       HasNoneFrom w n → list ≡ start ++ legal_from p a
@@ -106,11 +117,14 @@ module _ (start : List Step) (p : Board) (a w : ℕ) (out : (k : ℕ) → k < 64
       ∙ from_below-all start p a 64 (omega arith)
 
 -- a walk over the men of the side to move collects all moves
-module _ (p : Board) (w : ℕ) (out : (k : ℕ) → k < 64 → has_square w k ≡ false → legal_from p k ≡ []) where
+module _ (p : Board) (w : ℕ)
+    (out : (k : ℕ) → k < 64 → has_square w k ≡ false → legal_from p k ≡ []) where
   pub all_next : (n s : ℕ) (list : List Step) → list ≡ all_below p n → IsNext w n s →
       list ≡ all_below p s
   all_next n s list e next =
-      let on = next.on_board in e ∙ sym (all_below-jump p n s next.from (omega arith) (λ k i m. out k (omega arith) (next.first k i m)))
+      let on = next.on_board in
+      e ∙ sym (all_below-jump p n s next.from (omega arith)
+      (λ k i m. out k (omega arith) (next.first k i m)))
 
   pub all_end : (n : ℕ) (list : List Step) → n ≤ 64 → list ≡ all_below p n → HasNoneFrom w n →
       list ≡ legal_by_squares p

@@ -27,20 +27,24 @@ pub exact_table : (rules : RuleLines) (value : Board → Value) (side : Colour) 
     IsExact (graph_by rules value) side (size_of rules.groups) codes →
     IsTableOf rules value side codes
 exact_table rules value =
-    exact_is_table (numbers_by rules.groups) (arena_by rules value) (numbering rules value) (lawful rules value)
+    exact_is_table (numbers_by rules.groups) (arena_by rules value) (numbering rules value)
+    (lawful rules value)
 
 pub table_exact : (rules : RuleLines) (value : Board → Value) (side : Colour) (codes : List ℕ) →
     IsTableOf rules value side codes →
     IsExact (graph_by rules value) side (size_of rules.groups) codes
 table_exact rules value =
-    table_is_exact (numbers_by rules.groups) (arena_by rules value) (numbering rules value) (lawful rules value)
+    table_is_exact (numbers_by rules.groups) (arena_by rules value) (numbering rules value)
+    (lawful rules value)
 
 pub table_there : (rules : RuleLines) (value : Board → Value) → HasSmallLags value →
     (side : Colour) → (codes : List ℕ) × IsTableOf rules value side codes
 table_there rules value small side =
-    table_exists (numbers_by rules.groups) (arena_by rules value) (numbering rules value) (lawful rules value) side 1000 (lags rules value small side)
+    table_exists (numbers_by rules.groups) (arena_by rules value) (numbering rules value)
+    (lawful rules value) side 1000 (lags rules value small side)
 
-pub table_one : (rules : RuleLines) (value : Board → Value) (side : Colour) (codes others : List ℕ) →
+pub table_one : (rules : RuleLines) (value : Board → Value) (side : Colour)
+    (codes others : List ℕ) →
     IsTableOf rules value side codes → IsTableOf rules value side others → codes ≡ others
 table_one rules value side =
     one_table (numbers_by rules.groups) (arena_by rules value) (numbering rules value) side
@@ -49,7 +53,9 @@ pub plies_few : (rules : RuleLines) (value : Board → Value) → HasSmallLags v
     (side : Colour) (codes : List ℕ) → IsTableOf rules value side codes → (i : ℕ) →
     slice_index codes i ≤ 3 + 2 * (size_of rules.groups + 1000)
 plies_few rules value small side codes table =
-    plies_small (numbers_by rules.groups) (arena_by rules value) (numbering rules value) (lawful rules value) side 1000 (lags rules value small side) codes (table_exact rules value side codes table)
+    plies_small (numbers_by rules.groups) (arena_by rules value) (numbering rules value)
+    (lawful rules value) side 1000 (lags rules value small side) codes
+    (table_exact rules value side codes table)
 
 pub stored_bound : (rules : RuleLines) (value : Board → Value) (side : Colour) (codes : List ℕ) →
     IsTableOf rules value side codes → (p : Board) → Member rules.groups p →
@@ -71,10 +77,13 @@ pub hold_safe : (rules : RuleLines) (value : Board → Value) → AreTrueExits r
     (side : Colour) (p : Board) → Member rules.groups p → IsBoundAt rules value side p Holds →
     NeverForcesMate chess (other_of side) p
 hold_safe rules value exits side p m b n f =
-    b.1 n (forced_fails (game_of rules value) (true_exits rules value exits) side n p (of_member rules.groups p m) f)
+    b.1 n (forced_fails (game_of rules value) (true_exits rules value exits) side n p
+    (of_member rules.groups p m) f)
 
 pub win_safe : (rules : RuleLines) (value : Board → Value) → AreTrueExits rules value →
     (side : Colour) (k : ℕ) (p : Board) → Member rules.groups p →
     IsBoundAt rules value side p (Wins k) → NeverForcesMate chess (other_of side) p
 win_safe rules value exits side k p m b n f =
-    never_both (arena_by rules value) side k n p b.0 (forced_fails (game_of rules value) (true_exits rules value exits) side n p (of_member rules.groups p m) f)
+    never_both (arena_by rules value) side k n p b.0
+    (forced_fails (game_of rules value) (true_exits rules value exits) side n p
+    (of_member rules.groups p m) f)

@@ -46,13 +46,15 @@ pub numbering : (rules : RuleLines) (value : Board → Value) →
 numbering rules value = record {
   at_number = λ p i e. (
       let t = number_tells rules.groups p i e in
-      position_of rules.groups i p (record { member = member_of rules.groups p t.0; number = t.1 }));
+      position_of rules.groups i p
+      (record { member = member_of rules.groups p t.0; number = t.1 }));
   number_at = λ p i e. (
       let h = position_tells rules.groups i p e in
       number_there rules.groups p (of_member rules.groups p h.member) ∙ ap Some h.number);
   in_size = λ p i e. (
       let t = number_tells rules.groups p i e in
-      subst (λ n. n < size_of rules.groups) t.1 (Num_below rules.groups p (member_of rules.groups p t.0)));
+      subst (λ n. n < size_of rules.groups) t.1
+      (Num_below rules.groups p (member_of rules.groups p t.0)));
   missing = λ p e. elim (true_or_false (is_member rules.groups p)) [
     | inl t ↦ absurd (let k = number_there rules.groups p t in cc)
     | inr f ↦
@@ -60,7 +62,8 @@ numbering rules value = record {
   ];
   there = λ p i e b. (
       let t = number_tells rules.groups p i e in
-      inside_there (legal_moves_of p) (is_in_check p p.turn) p.turn (is_member rules.groups p) t.0 b);
+      inside_there (legal_moves_of p) (is_in_check p p.turn) p.turn (is_member rules.groups p) t.0
+      b);
 }
 
 pub lawful : (rules : RuleLines) (value : Board → Value) → IsLawful (arena_by rules value)
@@ -96,7 +99,8 @@ pub node_there : (rules : RuleLines) (value : Board → Value) (i : ℕ) (p : Bo
     ≡ games.node_by true (legal_moves_of p) (is_in_check p p.turn) p.turn
 node_there rules value i p e =
     ap (node_at (arena_by rules value)) e
-    ∙ node_same rules value p (is_member rules.groups p) (of_member rules.groups p (position_tells rules.groups i p e).member)
+    ∙ node_same rules value p (is_member rules.groups p)
+    (of_member rules.groups p (position_tells rules.groups i p e).member)
 
 -- its moves
 pub arms_missing : (rules : RuleLines) (value : Board → Value) (i : ℕ) →
@@ -105,11 +109,13 @@ arms_missing rules value i e =
     ap (arms_at (arena_by rules value) (name_in (numbers_by rules.groups))) e
 
 arms_named : (rules : RuleLines) (value : Board → Value) (p : Board) (ms : List Step) →
-    map (named (name_in (numbers_by rules.groups))) (map (games.arm_of (game_of rules value) p) ms) ≡ map (arm_at rules value p) ms
+    map (named (name_in (numbers_by rules.groups))) (map (games.arm_of (game_of rules value) p) ms)
+    ≡ map (arm_at rules value p) ms
 unfolding arm_at
 arms_named rules value p [] = refl
 arms_named rules value p (m ∷ ms) =
-    ap (λ xs. named (name_in (numbers_by rules.groups)) (games.arm_of (game_of rules value) p m) ∷ xs) (arms_named rules value p ms)
+    ap (λ xs. named (name_in (numbers_by rules.groups)) (games.arm_of (game_of rules value) p m)
+    ∷ xs) (arms_named rules value p ms)
 
 pub arms_there : (rules : RuleLines) (value : Board → Value) (i : ℕ) (p : Board) →
     position_at rules.groups i ≡ Some p →
@@ -143,10 +149,12 @@ next_inside groups q v n e =
 -- the value of an exit is that of a valid position
 next_small : (rules : RuleLines) (value : Board → Value) → HasSmallLags value → (q : Board) →
     IsValid q → (v : Value) →
-    named_next (name_in (numbers_by rules.groups)) (games.next_by (is_member rules.groups q) q (value q)) ≡ Outside v → lag_of v ≤ 1000
+    named_next (name_in (numbers_by rules.groups))
+    (games.next_by (is_member rules.groups q) q (value q)) ≡ Outside v → lag_of v ≤ 1000
 next_small rules value small q valid v e =
     elim (true_or_false (is_member rules.groups q)) [
-      | inl t ↦ absurd (let k = next_inside rules.groups q (value q) _ (number_there rules.groups q t) in cc)
+      | inl t ↦ absurd (let k = next_inside rules.groups q (value q) _
+          (number_there rules.groups q t) in cc)
       | inr f ↦ (
           let k = next_outside rules.groups q (value q) (number_missing rules.groups q f) in
           let same : value q ≡ v = cc in
@@ -168,11 +176,15 @@ pub exits_small : (rules : RuleLines) (value : Board → Value) → HasSmallLags
 exits_small rules value small i v a h e =
     elim (at_or (position_at rules.groups i)) [
       | inl none ↦
-          absurd (none_in_empty a (subst (λ (xs : List (Arm Step ℕ Value)). Contains xs a) (arms_missing rules value i none) h))
+          absurd (none_in_empty a
+          (subst (λ (xs : List (Arm Step ℕ Value)). Contains xs a)
+          (arms_missing rules value i none) h))
       | inr there ↦ (
-          let listed = subst (λ (xs : List (Arm Step ℕ Value)). Contains xs a) (arms_there rules value i there.0 there.1) h in
+          let listed = subst (λ (xs : List (Arm Step ℕ Value)). Contains xs a)
+          (arms_there rules value i there.0 there.1) h in
           let from = from_mapped (arm_at rules value there.0) (legal_moves_of there.0) a listed in
-          arm_small rules value small there.0 (position_tells rules.groups i there.0 there.1).member.valid from.0 from.1 v
+          arm_small rules value small there.0
+          (position_tells rules.groups i there.0 there.1).member.valid from.0 from.1 v
           (ap (λ (x : Arm Step ℕ Value). x.next) from.2 ∙ e))
     ]
 

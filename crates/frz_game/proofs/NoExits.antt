@@ -27,4 +27,5 @@ not_good side g = absurd (cc)
 pub numbered : (rules : RuleLines) → rules.exits ≡ [] → (side : Colour) →
     AllNumbered (game_of rules (value_by rules)) side
 numbered rules e side q exit =
-    subst (λ (v : Value). class_of v side ≡ Good → is_numbered v ≡ true) (unknown rules q e) (not_good side)
+    subst (λ (v : Value). class_of v side ≡ Good → is_numbered v ≡ true) (unknown rules q e)
+    (not_good side)

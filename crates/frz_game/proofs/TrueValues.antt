@@ -75,4 +75,5 @@ pub true_exits : (rules : RuleLines) (value : Board → Value) → AreTrueExits 
 true_exits rules value exits q x =
     subst (λ z. IsTrueAt (game_of rules value) (value z) z) x.ends
     (true_value rules value (value (after x.from x.move)) (after x.from x.move)
-    (exits x.from x.move x.begins x.legal (subst (λ z. is_member rules.groups z ≡ false) (sym x.ends) x.outside)))
+    (exits x.from x.move x.begins x.legal
+    (subst (λ z. is_member rules.groups z ≡ false) (sym x.ends) x.outside)))

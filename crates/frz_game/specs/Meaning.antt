@@ -17,13 +17,15 @@ use Rattle.frz_game.specs.Games.{chess, game_of}
 use Rattle.frz_game.specs.Values.{AreTrueExits}
 
 -- a win of the side within n plies
-pub record MeansWin (rules : RuleLines) (value : Board → Value) (side : Colour) (n : ℕ) (p : Board) : Type 0 where
+pub record MeansWin (rules : RuleLines) (value : Board → Value) (side : Colour) (n : ℕ)
+    (p : Board) : Type 0 where
   -- within n plies the side forces mate or an assigned win, against every legal reply
   pub forced : ForcesWin rules value side n p
   -- it forces mate, where the exits are true
   pub mate : AreTrueExits rules value → (k : ℕ) × ForcesMate chess side k p
   -- and within n plies, where each value by which it wins has a number
-  pub within : AreTrueExits rules value → AllNumbered (game_of rules value) side → ForcesMate chess side n p
+  pub within : AreTrueExits rules value → AllNumbered (game_of rules value) side
+      → ForcesMate chess side n p
   -- the opponent forces no mate, where the exits are true
   pub safe : AreTrueExits rules value → NeverForcesMate chess (other_of side) p
 
@@ -42,11 +44,14 @@ abbrev pub WinsAlone : Bound → Bound → Type 0
 WinsAlone (Wins n) other = (m : ℕ) × (m ≤ n) × (other ≡ Fails m)
 WinsAlone bound other = ⊤
 
--- what a table of the side says of chess: at the number of each position of the set what the code there
--- stands for, and 0 at each number of none
-pub record TableMeans (rules : RuleLines) (value : Board → Value) (side : Colour) (codes : List ℕ) : Type 0 where
-  pub win : (p : Board) (n : ℕ) → Member rules.groups p → slice_index codes (Num rules.groups p) ≡ code_of (Wins n) →
+-- what a table of the side says of chess: at the number of each position of the set what the code
+-- there stands for, and 0 at each number of none
+pub record TableMeans (rules : RuleLines) (value : Board → Value) (side : Colour)
+    (codes : List ℕ) : Type 0 where
+  pub win : (p : Board) (n : ℕ) → Member rules.groups p →
+      slice_index codes (Num rules.groups p) ≡ code_of (Wins n) →
       MeansWin rules value side n p
-  pub hold : (p : Board) → Member rules.groups p → slice_index codes (Num rules.groups p) ≡ code_of Holds →
+  pub hold : (p : Board) → Member rules.groups p →
+      slice_index codes (Num rules.groups p) ≡ code_of Holds →
       MeansHold rules value side p
   pub broken : (i : ℕ) → i < size_of rules.groups → Broken rules.groups i → slice_index codes i ≡ 0

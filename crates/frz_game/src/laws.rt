@@ -1,4 +1,5 @@
-//! The laws of the game over numbers, by idea. Each is the contract of a function that does nothing.
+//! The laws of the game over numbers, by idea. Each is the
+//! contract of a function that does nothing.
 
 pub mod exits;
 pub mod meaning;

@@ -16,7 +16,8 @@ impl<B: ExitBook, L: Ledger> NumberedGame<L> for Game<'_, B> {
 
     ghost count = { λ game. size_of game.rules.now.groups };
 
-    ghost sound = { λ game. IsFinite (graph_by game.rules.now (B.value_at game.book.now)) (size_of game.rules.now.groups) };
+    ghost sound = { λ game. IsFinite (graph_by game.rules.now (B.value_at game.book.now))
+        (size_of game.rules.now.groups) };
 
     ghost finite = { λ game sound. sound };
 

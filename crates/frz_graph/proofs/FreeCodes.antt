@@ -22,7 +22,8 @@ free_mapped code (x ∷ xs) =
 free_push : (arms : List (Arm Step ℕ Value)) (cs : List ℕ) (i : ℕ) (a : Arm Step ℕ Value) →
     i < length arms → length arms ≡ length cs →
     free_among (take (suc i) arms) (take (suc i) cs)
-    ≡ free_among (take i arms) (take i cs) ++ (if (get_or arms i a).free then get_or cs i 0 ∷ [] else [])
+    ≡ free_among (take i arms) (take i cs)
+    ++ (if (get_or arms i a).free then get_or cs i 0 ∷ [] else [])
 free_push [] cs i a h e = absurd (omega arith)
 free_push (b ∷ arms) [] i a h e = absurd (omega arith)
 free_push (b ∷ arms) (c ∷ cs) zero a h e = refl
@@ -36,7 +37,8 @@ free_push (b ∷ arms) (c ∷ cs) (suc i) a h e =
 free_next : (arms : List (Arm Step ℕ Value)) (cs : List ℕ) (i : ℕ) (a : Arm Step ℕ Value) →
     i < length arms → length arms ≡ length cs →
     free_among (take (i + 1) arms) (take (i + 1) cs)
-    ≡ free_among (take i arms) (take i cs) ++ (if (get_or arms i a).free then get_or cs i 0 ∷ [] else [])
+    ≡ free_among (take i arms) (take i cs)
+    ++ (if (get_or arms i a).free then get_or cs i 0 ∷ [] else [])
 free_next arms cs i a h e = rw add-one (free_push arms cs i a h e)
 
 append_none : (xs : List ℕ) → xs ++ [] ≡ xs

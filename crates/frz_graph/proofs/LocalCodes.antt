@@ -29,7 +29,8 @@ same_codes : (arena : Arena Step ℕ Value) → arena.class ≡ class_of → are
     map (arm_code side entries) arms ≡ words.codes_of arena side (λ k. slice_index entries k) arms
 same_codes arena class lag side entries [] = refl
 same_codes arena class lag side entries (x ∷ xs) =
-    rw (same_next arena class lag side entries x.next, same_codes arena class lag side entries xs) refl
+    rw (same_next arena class lag side entries x.next, same_codes arena class lag side entries xs)
+    refl
 
 pub filled : (arena : Arena Step ℕ Value) → arena.class ≡ class_of → arena.lag ≡ lag_of →
     (side : Colour) (entries : List ℕ) (i : ℕ) →
@@ -41,20 +42,25 @@ filled arena class lag side entries i =
     let arms = arena.arms i in
     let all = map (arm_code side entries) arms in
     ap (λ (free : List ℕ). words.node_code side (arena.node i) free all)
-    (free_mapped (arm_code side entries) arms ∙ same_codes arena class lag side entries (filter (λ a. a.free) arms))
-    ∙ ap (λ (cs : List ℕ). words.node_code side (arena.node i) (words.free_codes arena side (λ k. slice_index entries k) i) cs)
+    (free_mapped (arm_code side entries) arms ∙ same_codes arena class lag side entries
+    (filter (λ a. a.free) arms))
+    ∙ ap (λ (cs : List ℕ). words.node_code side (arena.node i)
+    (words.free_codes arena side (λ k. slice_index entries k) i) cs)
     (same_codes arena class lag side entries arms)
 
 -- the same with names for what is given
 pub local_code_of : (arena : Arena Step ℕ Value) (size : ℕ) → IsFinite arena size →
-    (side : Colour) (entries : List ℕ) (i : ℕ) (node : Node) (arms : List (Arm Step ℕ Value)) (codes : List ℕ) →
+    (side : Colour) (entries : List ℕ) (i : ℕ) (node : Node) (arms : List (Arm Step ℕ Value))
+    (codes : List ℕ) →
     node ≡ arena.node i → arms ≡ arena.arms i → codes ≡ map (arm_code side entries) arms →
-    words.node_code side node (free_among arms codes) codes ≡ words.local_code arena side (λ k. slice_index entries k) i
+    words.node_code side node (free_among arms codes) codes ≡ words.local_code arena side
+    (λ k. slice_index entries k) i
 local_code_of arena size finite side entries i node arms codes same_node same_arms same =
     let A = arena.arms i in
     ap (λ (z : Node). words.node_code side z (free_among arms codes) codes) same_node
     ∙ (ap (λ (z : List ℕ). words.node_code side (arena.node i) (free_among arms z) z) same
-    ∙ (ap (λ (z : List (Arm Step ℕ Value)). words.node_code side (arena.node i) (free_among z (map (arm_code side entries) z)) (map (arm_code side entries) z)) same_arms
+    ∙ (ap (λ (z : List (Arm Step ℕ Value)). words.node_code side (arena.node i)
+    (free_among z (map (arm_code side entries) z)) (map (arm_code side entries) z)) same_arms
     ∙ filled arena finite.class finite.lag side entries i))
 
 next_within : (size : ℕ) (x : Next ℕ Value) → ((q : ℕ) → x ≡ Inside q → q < size) →
@@ -68,11 +74,13 @@ pub arms_within : (arena : Arena Step ℕ Value) (size : ℕ) → IsFinite arena
 arms_within arena size finite i k d l =
     let a = get_or (arena.arms i) k d in
     let among = All-contains_itself (arena.arms i) k d l in
-    next_within size a.next (λ q e. (finite.inside i q a among e).0) (λ v e. finite.lags i v a among e)
+    next_within size a.next (λ q e. (finite.inside i q a among e).0)
+    (λ v e. finite.lags i v a among e)
 
 pub given_within : (arena : Arena Step ℕ Value) (size many : ℕ) → IsFinite arena size →
     (i : ℕ) (arms : List (Arm Step ℕ Value)) → many ≡ size → arms ≡ arena.arms i →
     All (λ a. IsWithin many a.next) arms
 given_within arena size many finite i arms m e =
     subst (λ (z : List (Arm Step ℕ Value)). All (λ a. IsWithin many a.next) z) (sym e)
-    (subst (λ n. All (λ a. IsWithin n a.next) (arena.arms i)) (sym m) (arms_within arena size finite i))
+    (subst (λ n. All (λ a. IsWithin n a.next) (arena.arms i)) (sym m)
+    (arms_within arena size finite i))

@@ -9,8 +9,8 @@ use Rattle.frz_arena.specs.Arena.{Arena, IsArm, IsLawful}
 use Rattle.frz_arena.specs.Names.{IsNumbered}
 use Rattle.frz_exits.specs.Values.{class_of, lag_of}
 
--- at most 2^27 numbers, and all is broken from there on; only numbers at which the game goes on have
--- moves, which lead to numbers that are not broken or to values of small lags
+-- at most 2^27 numbers, and all is broken from there on; only numbers at which the game goes on
+-- have moves, which lead to numbers that are not broken or to values of small lags
 pub record IsFinite {M : Type 0} (arena : Arena M ℕ Value) (size : ℕ) : Type 0 where
   pub lawful : IsLawful arena
   pub numbered : IsNumbered arena size

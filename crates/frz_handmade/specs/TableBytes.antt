@@ -5,4 +5,5 @@ use Rattle.byteorder.specs.Endian.{little_bytes}
 
 abbrev pub table_bytes : List ℕ → List ℕ → ℕ → List ℕ → List ℕ
 table_bytes magic text size entries =
-    magic ++ little_bytes 4 (length text) ++ text ++ little_bytes 4 size ++ flat_map (little_bytes 4) entries
+    magic ++ little_bytes 4 (length text) ++ text ++ little_bytes 4 size ++ flat_map
+    (little_bytes 4) entries

@@ -19,13 +19,18 @@ at_found gs i q e k p =
 
 pub at_other : (gs : List GroupLine) (i : ℕ) (q : Board) → q ≡ candidate gs i →
     (HasNumber gs i q → ⊥) → (p : Board) → (None ≡ Some p) ↔ HasNumber gs i p
-at_other gs i q e k p =
-    (λ none. absurd cc, λ h. absurd (k (subst (HasNumber gs i) (sym (e ∙ is_candidate gs i p h)) h)))
+at_other gs i q e k p = (
+  λ none. absurd cc,
+  λ h. absurd (k (subst (HasNumber gs i) (sym (e ∙ is_candidate gs i p h)) h)),
+)
 
 -- no answer exactly at broken numbers
 pub none_broken : (gs : List GroupLine) (i : ℕ) (r : Option Board) →
     ((p : Board) → (r ≡ Some p) ↔ HasNumber gs i p) → IsNone r ↔ Broken gs i
-none_broken gs i None h =
-    (λ e p m n. let wrong : None ≡ Some p = (h p).1 (record { member = m; number = n }) in absurd cc, λ b. refl)
+none_broken gs i None h = (
+  λ e p m n. let wrong : None ≡ Some p = (h p).1 (record { member = m; number = n }) in
+      absurd cc,
+  λ b. refl,
+)
 none_broken gs i (Some q) h =
     (λ e. absurd cc, λ b. let k = (h q).0 refl in absurd (b q k.member k.number))

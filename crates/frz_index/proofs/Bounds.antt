@@ -19,13 +19,15 @@ use Rattle.frz_sets.specs.Views.{GroupLine}
 filter_le : (f : ℕ → Bool) (xs : List ℕ) → length (filter f xs) ≤ length xs
 filter_le f [] = omega arith
 filter_le f (x ∷ xs) =
-    elim (f x) as (λ b. length (cond b (x ∷ filter f xs) (filter f xs)) ≤ suc (length xs)) [ true ↦ omega (arith, filter_le f xs) | false ↦ omega (arith, filter_le f xs) ]
+    elim (f x) as (λ b. length (cond b (x ∷ filter f xs) (filter f xs)) ≤ suc (length xs))
+    [ true ↦ omega (arith, filter_le f xs) | false ↦ omega (arith, filter_le f xs) ]
 
 pub targets_few : (gs : List GroupLine) → length (targets gs) ≤ 64
 targets_few gs = omega (arith, filter_le (is_possible gs) squares, length-squares)
 
 pub number_fits : (gs : List GroupLine) (p : Board) → AreNumberable gs → Member gs p →
-    turn_number gs p.turn p.ep * product (map radix_of gs) + value (map radix_of gs) (map (digit_of p) gs) < 134217728
+    turn_number gs p.turn p.ep * product (map radix_of gs) + value (map radix_of gs)
+    (map (digit_of p) gs) < 134217728
 number_fits gs p s m = omega (arith, Num_below gs p m, s.size)
 
 squares_low : (k d : ℕ) → k < length squares → get_or squares k d < 64

@@ -21,7 +21,8 @@ use Rattle.frz_sets.specs.Views.{GroupLine}
 
 pair_is : (s : Kind × ℕ) (k : Kind) (q : ℕ) → s.0 ≡ k → s.1 ≡ q → s ≡ (k, q)
 pair_is s k q e f =
-    let first : s ≡ (k, s.1) = ap (λ (x : Kind). let y : Kind × ℕ = (x, s.1) in y) e in first ∙ ap (λ (x : ℕ). let y : Kind × ℕ = (k, x) in y) f
+    let first : s ≡ (k, s.1) = ap (λ (x : Kind). let y : Kind × ℕ = (x, s.1) in y) e in
+    first ∙ ap (λ (x : ℕ). let y : Kind × ℕ = (k, x) in y) f
 
 pub kind_numbers : (k : Kind) → (1 ≤ number_of_kind k) × (number_of_kind k ≤ 6)
 kind_numbers King = (omega arith, omega arith)
@@ -47,7 +48,8 @@ state_low n (t ∷ states) zero s h e =
     let same : t ≡ s = same_Some t s e in
     subst (λ (x : Kind × ℕ). (n ≤ state_number x) × (x.1 < 64)) same (h.0, h.1)
 state_low n (t ∷ states) (suc i) s h e =
-    let r = state_low (state_number t + 1) states i s h.2 e in (let a = h.0 in let b = r.0 in omega arith, r.1)
+    let r = state_low (state_number t + 1) states i s h.2 e in
+    (let a = h.0 in let b = r.0 in omega arith, r.1)
 
 -- a later state has a greater number
 pub state_order : (n : ℕ) (states : List (Kind × ℕ)) (i j : ℕ) (s t : Kind × ℕ) →
@@ -68,7 +70,11 @@ some_at states k h = (get_or states k (King, 0), slice_get-get_or states k (King
 -- no state is before 0
 pub cut_first : (states : List (Kind × ℕ)) → IsCut states 0 0
 cut_first states =
-    record { within = omega arith; before = λ j s l e. absurd (omega arith); from = λ j s l e. omega arith }
+    record {
+      within = omega arith;
+      before = λ j s l e. absurd (omega arith);
+      from = λ j s l e. omega arith;
+    }
 
 -- the state at the place has the number
 pub cut_here : (states : List (Kind × ℕ)) (x k : ℕ) (s : Kind × ℕ) → AreStates states →
@@ -101,7 +107,11 @@ cut_past states x k a h other = record {
             omega arith
         | inr after ↦
             let found = some_at states k (omega (arith, slice_get_within states j t f)) in
-            omega (arith, h.from k found.0 (omega arith) found.1, state_order 0 states k j found.0 t a.increasing (omega arith) found.1 f)
+            omega (
+              arith,
+              h.from k found.0 (omega arith) found.1,
+              state_order 0 states k j found.0 t a.increasing (omega arith) found.1 f,
+            )
       ];
 }
 
@@ -110,7 +120,11 @@ not_more states x k m h g =
     elim (cases_lt k m) [
       | inl less ↦
           let found = some_at states k (omega (arith, g.within)) in
-          absurd (omega (arith, g.before k found.0 less found.1, h.from k found.0 (omega arith) found.1))
+          absurd (omega (
+            arith,
+            g.before k found.0 less found.1,
+            h.from k found.0 (omega arith) found.1,
+          ))
       | inr more ↦ more
     ]
 
@@ -128,7 +142,12 @@ cut_at states x k j s a h e is =
         | inl here ↦ here
         | inr after ↦
             let found = some_at states k (omega (arith, slice_get_within states j s e)) in
-            absurd (omega (arith, is, h.from k found.0 (omega arith) found.1, state_order 0 states k j found.0 s a.increasing (omega arith) found.1 e))
+            absurd (omega (
+              arith,
+              is,
+              h.from k found.0 (omega arith) found.1,
+              state_order 0 states k j found.0 s a.increasing (omega arith) found.1 e,
+            ))
       ]
     ]
 
@@ -139,7 +158,11 @@ cut_order states x y k m l h g =
     elim (cases_lt m k) [
       | inl less ↦
           let found = some_at states m (omega (arith, h.within)) in
-          absurd (omega (arith, h.before m found.0 less found.1, g.from m found.0 (omega arith) found.1))
+          absurd (omega (
+            arith,
+            h.before m found.0 less found.1,
+            g.from m found.0 (omega arith) found.1,
+          ))
       | inr more ↦ more
     ]
 
@@ -150,7 +173,12 @@ cut_all states k a h =
     elim (cases_lt k (length states)) [
       | inl less ↦
           let found = some_at states k less in
-          absurd (omega (arith, h.from k found.0 (omega arith) found.1, (state_low 0 states k found.0 a.increasing found.1).1, (kind_numbers found.0.0).1))
+          absurd (omega (
+            arith,
+            h.from k found.0 (omega arith) found.1,
+            (state_low 0 states k found.0 a.increasing found.1).1,
+            (kind_numbers found.0.0).1,
+          ))
       | inr more ↦ omega (arith, h.within)
     ]
 
@@ -164,13 +192,18 @@ pub record Words (states : List (Kind × ℕ)) (k : ℕ) (words : List ℕ) : Ty
 
 zeros : (i : ℕ) → slice_index (replicate 6 0) i ≡ 0
 zeros i =
-    elim (cases_lt i 6) [ inl less ↦ get_or-replicate 6 i 0 0 less | inr more ↦ get_or-eq_default (replicate 6 0) 0 more ]
+    elim (cases_lt i 6) [
+      | inl less ↦ get_or-replicate 6 i 0 0 less
+      | inr more ↦ get_or-eq_default (replicate 6 0) 0
+          more
+    ]
 
 pub words_start : (states : List (Kind × ℕ)) → Words states 0 (replicate 6 0)
 words_start states = record {
   size = refl;
   only =
-      λ i s l m h. let wrong : false ≡ true = sym (has-zero s) ∙ ap (λ w. has_square w s) (sym (zeros i)) ∙ h in absurd cc;
+      λ i s l m h. let wrong : false ≡ true =
+      sym (has-zero s) ∙ ap (λ w. has_square w s) (sym (zeros i)) ∙ h in absurd cc;
   all = λ j s l e. absurd (omega arith);
 }
 
@@ -210,16 +243,21 @@ words_step states k words st i q r a h e ei eq put =
       only = λ m s l n t.
           elim (cases_eq m i) [
             | inl same ↦
-                let at : has_square r s ≡ true = ap (λ w. has_square w s) (sym (ap (slice_index (slice_set words i r)) same ∙ here)) ∙ t in
+                let at : has_square r s ≡ true = ap (λ w. has_square w s)
+                (sym (ap (slice_index (slice_set words i r)) same ∙ here)) ∙ t in
                 elim (put_only (slice_index words i) q r s put n at) [
                   | inl new ↦
-                      let number : number_of_kind st.0 ≡ m + 1 = omega (arith, ei, same, kinds.0) in
-                      (k, e ∙ ap Some (pair_is st (kind_of_number (m + 1)) s (sym (kind_back st.0) ∙ ap kind_of_number number) (sym eq ∙ sym new)))
+                      let number : number_of_kind st.0 ≡ m + 1 = omega (arith, ei, same, kinds.0) in (
+                        k,
+                        e ∙ ap Some (pair_is st (kind_of_number (m + 1)) s
+                            (sym (kind_back st.0) ∙ ap kind_of_number number) (sym eq ∙ sym new)),
+                      )
                   | inr old ↦
                       h.only m s l n (ap (λ x. has_square (slice_index words x) s) same ∙ old)
                 ]
             | inr other ↦
-                h.only m s l n (ap (λ w. has_square w s) (sym (get_or-set_other words i m r 0 other)) ∙ t)
+                h.only m s l n (ap (λ w. has_square w s)
+                (sym (get_or-set_other words i m r 0 other)) ∙ t)
           ];
       all = λ j s l f.
           let on = (state_low 0 states j s a.increasing f).1 in
@@ -228,17 +266,23 @@ words_step states k words st i q r a h e ei eq put =
                 let old = h.all j s less f in
                 elim (cases_eq (number_of_kind s.0 - 1) i) [
                   | inl same ↦
-                      ap (λ w. has_square w s.1) (ap (slice_index (slice_set words i r)) same ∙ here)
-                      ∙ put_keeps (slice_index words i) q r s.1 put on (ap (λ x. has_square (slice_index words x) s.1) (sym same) ∙ old)
+                      ap (λ w. has_square w s.1)
+                      (ap (slice_index (slice_set words i r)) same ∙ here)
+                      ∙ put_keeps (slice_index words i) q r s.1 put on
+                      (ap (λ x. has_square (slice_index words x) s.1) (sym same) ∙ old)
                   | inr other ↦
-                      ap (λ w. has_square w s.1) (get_or-set_other words i (number_of_kind s.0 - 1) r 0 other)
+                      ap (λ w. has_square w s.1)
+                      (get_or-set_other words i (number_of_kind s.0 - 1) r 0 other)
                       ∙ old
                 ]
             | inr more ↦
                 let at : j ≡ k = omega arith in
                 let same : st ≡ s = same_Some st s (sym e ∙ ap (slice_get states) (sym at) ∙ f) in
-                subst (λ (x : Kind × ℕ). has_square (slice_index (slice_set words i r) (number_of_kind x.0 - 1)) x.1 ≡ true) same
-                (ap (λ x. has_square (slice_index (slice_set words i r) x) st.1) (sym ei) ∙ ap (λ w. has_square w st.1) here ∙ ap (has_square r) (sym eq) ∙ put_there (slice_index words i) q r put (omega (arith, eq, low)))
+                subst (λ (x : Kind × ℕ). has_square
+                (slice_index (slice_set words i r) (number_of_kind x.0 - 1)) x.1 ≡ true) same
+                (ap (λ x. has_square (slice_index (slice_set words i r) x) st.1) (sym ei)
+                ∙ ap (λ w. has_square w st.1) here ∙ ap (has_square r) (sym eq)
+                ∙ put_there (slice_index words i) q r put (omega (arith, eq, low)))
           ];
     }
 
@@ -259,14 +303,18 @@ words_read states k words a b i r s h l ea eb ei put =
     let at_a = slice_get_read states (length states) k a refl l ea in
     let at_b = slice_get_read states (length states) k b refl l eb in
     let same : a ≡ b = same_Some a b (sym at_a ∙ at_b) in
-    words_step states k words a i (get_or states k b).1 r s h at_a (ei ∙ ap (λ (y : Kind × ℕ). number_of_kind y.0 - 1) (sym ea)) (ap (λ (y : Kind × ℕ). y.1) (sym eb) ∙ ap (λ (y : Kind × ℕ). y.1) (sym same)) put
+    words_step states k words a i (get_or states k b).1 r s h at_a
+    (ei ∙ ap (λ (y : Kind × ℕ). number_of_kind y.0 - 1) (sym ea))
+    (ap (λ (y : Kind × ℕ). y.1) (sym eb) ∙ ap (λ (y : Kind × ℕ). y.1) (sym same)) put
 
 -- a group's states are in order
 pub states_read : (gs : List GroupLine) (i : ℕ) (g : GroupLine) →
     AllByRecursion (λ (g : GroupLine). AreStates g.states) gs → i < length gs → g ≡ get_or gs i g →
     AreStates g.states
 states_read gs i g h l e =
-    let rest : AllByRecursion (λ (g : GroupLine). AreStates g.states) (g ∷ drop (i + 1) gs) = subst (AllByRecursion (λ (g : GroupLine). AreStates g.states)) (drop_read gs i g l e) (all_drop (λ (g : GroupLine). AreStates g.states) gs i h) in
+    let rest : AllByRecursion (λ (g : GroupLine). AreStates g.states) (g ∷ drop (i + 1) gs) = subst
+    (AllByRecursion (λ (g : GroupLine). AreStates g.states)) (drop_read gs i g l e)
+    (all_drop (λ (g : GroupLine). AreStates g.states) gs i h) in
     rest.0
 
 get_before : {X : Type 0} (xs ys : List X) (i : ℕ) → i < length xs →
@@ -288,7 +336,9 @@ pub record Charted (gs : List GroupLine) (n : ℕ) (charts : List Chart) : Type 
 pub charted_start : (gs : List GroupLine) → Charted gs 0 []
 charted_start gs = record { size = refl; each = λ i g chart e f. absurd (none-some chart f) }
 
-pub charted_step : (gs : List GroupLine) (n : ℕ) (charts : List Chart) (g : GroupLine) (chart : Chart) → Charted gs n charts → slice_get gs n ≡ Some g → IsChart g.states chart → Charted gs (n + 1) (charts ++ chart ∷ [])
+pub charted_step : (gs : List GroupLine) (n : ℕ) (charts : List Chart) (g : GroupLine)
+    (chart : Chart) → Charted gs n charts → slice_get gs n ≡ Some g → IsChart g.states chart
+    → Charted gs (n + 1) (charts ++ chart ∷ [])
 charted_step gs n charts g chart h e is = record {
   size = omega (arith, length-append charts (chart ∷ []), h.size);
   each = λ i x y f k.
@@ -297,10 +347,13 @@ charted_step gs n charts g chart h e is = record {
             h.each i x y f (sym (get_before charts (chart ∷ []) i (omega (arith, h.size))) ∙ k)
         | inr more ↦
             let low = slice_get_within (charts ++ chart ∷ []) i y k in
-            let last : i ≡ length charts = omega (arith, h.size, length-append charts (chart ∷ [])) in
+            let last : i ≡ length charts = omega
+            (arith, h.size, length-append charts (chart ∷ [])) in
             let at : i ≡ n = omega (arith, h.size) in
             let group : g ≡ x = same_Some g x (sym e ∙ ap (slice_get gs) (sym at) ∙ f) in
-            let one : chart ≡ y = same_Some chart y (sym (get_last charts chart) ∙ ap (slice_get (charts ++ chart ∷ [])) (sym last) ∙ k) in
+            let one : chart ≡ y = same_Some chart y
+            (sym (get_last charts chart) ∙ ap (slice_get (charts ++ chart ∷ [])) (sym last)
+            ∙ k) in
             subst (λ (z : GroupLine). IsChart z.states y) group (subst (IsChart g.states) one is)
       ];
 }

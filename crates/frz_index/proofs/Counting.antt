@@ -85,14 +85,20 @@ pub past : (p : Board) (g : GroupLine) (chart : Chart) (i men n s : ℕ) → Are
 past p g chart i men n s h l low none =
     let from = cut p g chart i men n h (omega arith) in
     let to = cut p g chart i men s h low in
-    skip (on p g) (slice_index chart.cuts (64 * i + n)) (slice_index chart.cuts (64 * i + s)) (cut_order g.states (64 * i + n) (64 * i + s) _ _ (omega arith) from to)
+    skip (on p g) (slice_index chart.cuts (64 * i + n)) (slice_index chart.cuts (64 * i + s))
+    (cut_order g.states (64 * i + n) (64 * i + s) _ _ (omega arith) from to)
     (λ j a b.
     let found = some_at g.states j (omega (arith, to.within)) in
     let st = found.0 in
     let square = (state_low 0 g.states j st h.charted.in_order.increasing found.1).1 in
-    let here = parts i n s (number_of_kind st.0) st.1 (from.from j st a found.1) (to.before j st b found.1) low square (kind_numbers st.0).0 in
-    let word : has_square (slice_index chart.words i) st.1 ≡ true = ap (λ x. has_square (slice_index chart.words x) st.1) (sym here.0) ∙ h.charted.words_are.all j st found.1 in
-    let empty : has p g.colour (kind_of_number (i + 1)) st.1 ≡ false = and_off (has p g.colour (kind_of_number (i + 1)) st.1) (has_square (slice_index chart.words i) st.1) (sym (h.there st.1 square) ∙ none st.1 here.1 here.2) word in
+    let here = parts i n s (number_of_kind st.0) st.1 (from.from j st a found.1)
+    (to.before j st b found.1) low square (kind_numbers st.0).0 in
+    let word : has_square (slice_index chart.words i) st.1 ≡ true =
+    ap (λ x. has_square (slice_index chart.words x) st.1) (sym here.0)
+    ∙ h.charted.words_are.all j st found.1 in
+    let empty : has p g.colour (kind_of_number (i + 1)) st.1 ≡ false = and_off
+    (has p g.colour (kind_of_number (i + 1)) st.1) (has_square (slice_index chart.words i) st.1)
+    (sym (h.there st.1 square) ∙ none st.1 here.1 here.2) word in
     let number : number_of_kind st.0 ≡ i + 1 = omega (arith, here.0, (kind_numbers st.0).0) in
     let kind : st.0 ≡ kind_of_number (i + 1) = sym (kind_back st.0) ∙ ap kind_of_number number in
     ap (stands p g.colour) found.1 ∙ ap (λ k. has p g.colour k st.1) kind ∙ empty)
@@ -105,9 +111,11 @@ pub record Met (p : Board) (g : GroupLine) (chart : Chart) (i s : ℕ) : Type 0 
 
 both_true : (p : Board) (g : GroupLine) (chart : Chart) (i men s : ℕ) → AreMen p g chart i men →
     s < 64 → has_square men s ≡ true →
-    (has p g.colour (kind_of_number (i + 1)) s ≡ true) × (has_square (slice_index chart.words i) s ≡ true)
+    (has p g.colour (kind_of_number (i + 1)) s ≡ true)
+    × (has_square (slice_index chart.words i) s ≡ true)
 both_true p g chart i men s h l t =
-    and_parts (has p g.colour (kind_of_number (i + 1)) s) (has_square (slice_index chart.words i) s) (sym (h.there s l) ∙ t)
+    and_parts (has p g.colour (kind_of_number (i + 1)) s) (has_square (slice_index chart.words i) s)
+    (sym (h.there s l) ∙ t)
 
 pub met : (p : Board) (g : GroupLine) (chart : Chart) (i men s : ℕ) → AreMen p g chart i men →
     s < 64 → has_square men s ≡ true → Met p g chart i s
@@ -117,12 +125,17 @@ met p g chart i men s h l t =
     let st : Kind × ℕ = (kind_of_number (i + 1), s) in
     let number : state_number st ≡ 64 * i + s = let k = number_back i h.kind in omega arith in
     let here = cut p g chart i men s h (omega arith) in
-    let at = cut_at g.states (64 * i + s) (slice_index chart.cuts (64 * i + s)) found.0 st h.charted.in_order here found.1 number in
-    let state : slice_get g.states (slice_index chart.cuts (64 * i + s)) ≡ Some st = ap (slice_get g.states) (sym at) ∙ found.1 in
+    let at = cut_at g.states (64 * i + s) (slice_index chart.cuts (64 * i + s)) found.0 st
+    h.charted.in_order here found.1 number in
+    let state : slice_get g.states (slice_index chart.cuts (64 * i + s)) ≡ Some st =
+    ap (slice_get g.states) (sym at) ∙ found.1 in
     let sum : 64 * i + s + 1 ≡ 64 * i + (s + 1) = omega arith in
     record {
       state = state;
-      next = cut_once g.states (64 * i + (s + 1)) _ _ (cut p g chart i men (s + 1) h (omega arith)) (subst (λ x. IsCut g.states x (slice_index chart.cuts (64 * i + s) + 1)) sum (cut_here g.states (64 * i + s) (slice_index chart.cuts (64 * i + s)) st h.charted.in_order here state number));
+      next = cut_once g.states (64 * i + (s + 1)) _ _ (cut p g chart i men (s + 1) h (omega arith))
+          (subst (λ x. IsCut g.states x (slice_index chart.cuts (64 * i + s) + 1)) sum
+          (cut_here g.states (64 * i + s) (slice_index chart.cuts (64 * i + s)) st
+          h.charted.in_order here state number));
     }
 
 -- a man is counted
@@ -134,7 +147,8 @@ counts p g chart i men n s h next =
     let m = met p g chart i men s h next.on_board next.there in
     ap (places_among p g.colour g.states) m.next
     ∙ place_on (on p g) (slice_index chart.cuts (64 * i + s)) (ap (stands p g.colour) m.state ∙ is)
-    ∙ ap (λ ks. slice_index chart.cuts (64 * i + s) ∷ ks) (past p g chart i men n s h next.from (omega (arith, next.on_board)) next.first)
+    ∙ ap (λ ks. slice_index chart.cuts (64 * i + s) ∷ ks)
+    (past p g chart i men n s h next.from (omega (arith, next.on_board)) next.first)
 
 -- no man is left
 pub ends : (p : Board) (g : GroupLine) (chart : Chart) (i men n : ℕ) → AreMen p g chart i men →
@@ -154,7 +168,12 @@ too_many p g chart i men n s h next =
     let m = met p g chart i men s h next.on_board next.there in
     let k = slice_index chart.cuts (64 * i + s) in
     let skipped = past p g chart i men n s h next.from (omega (arith, next.on_board)) next.first in
-    omega (arith, ap length skipped, place_counts (on p g) k (length g.states) (slice_get_within g.states k _ m.state) (ap (stands p g.colour) m.state ∙ is))
+    omega (
+      arith,
+      ap length skipped,
+      place_counts (on p g) k (length g.states)
+          (slice_get_within g.states k _ m.state) (ap (stands p g.colour) m.state ∙ is),
+    )
 
 -- the place is in the triangle
 pub place_low : (p : Board) (g : GroupLine) (chart : Chart) (i men s : ℕ) → AreMen p g chart i men →
@@ -193,7 +212,8 @@ counted_on p g place s a b ways x y e at few h ew count rank_on squares =
       count_is = omega (arith, count, h.count_is, ap length e);
       few = omega (arith, count);
       rank_is =
-          let w : ways ≡ capped (choose place (suc (length ks))) = ew ∙ ap (λ n. capped (choose place n)) size in
+          let w : ways ≡ capped (choose place (suc (length ks))) = ew
+          ∙ ap (λ n. capped (choose place n)) size in
           let r = ap rank e in
           omega (arith, w, rank_on, h.rank_is, r);
       squares_are = λ k l.
@@ -207,7 +227,9 @@ counted_on p g place s a b ways x y e at few h ew count rank_on squares =
 pub men_of : (p : Board) (g : GroupLine) (chart : Chart) (i men stand : ℕ) (c : Colour) (k : Kind) →
     IsChart g.states chart → i < 6 → stand ≡ set_of (λ s. has p c k s) → c ≡ g.colour →
     k ≡ kind_of_number (i + 1) →
-    ((s : ℕ) → s < 64 → has_square men s ≡ (has_square stand s && has_square (slice_index chart.words i) s)) → AreMen p g chart i men
+    ((s : ℕ) → s < 64
+    → has_square men s ≡ (has_square stand s && has_square (slice_index chart.words i) s))
+    → AreMen p g chart i men
 men_of p g chart i men stand c k h low e colour kind both = record {
   charted = h;
   kind = low;

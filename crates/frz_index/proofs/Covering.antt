@@ -40,11 +40,15 @@ passing f q (suc n) h =
       | inl e ↦ elim (cases_Bool (q n)) [
         | inl t ↦ record { place = n; low = omega arith; counted = e; passes = t }
         | inr t ↦
-            let all : (q n || list_any q (places_below f n)) ≡ true = sym (ap (λ b. list_any q (cond b (n ∷ places_below f n) (places_below f n))) e) ∙ h in
-            passing_on f q n (passing f q n (sym (ap (λ b. b || list_any q (places_below f n)) t) ∙ all))
+            let all : (q n || list_any q (places_below f n)) ≡ true = sym
+            (ap (λ b. list_any q (cond b (n ∷ places_below f n) (places_below f n))) e) ∙ h in
+            passing_on f q n
+            (passing f q n (sym (ap (λ b. b || list_any q (places_below f n)) t) ∙ all))
       ]
       | inr e ↦
-          passing_on f q n (passing f q n (sym (ap (λ b. list_any q (cond b (n ∷ places_below f n) (places_below f n))) e) ∙ h))
+          passing_on f q n
+          (passing f q n (sym
+          (ap (λ b. list_any q (cond b (n ∷ places_below f n) (places_below f n))) e) ∙ h))
     ]
 
 or_last : (a b : Bool) → b ≡ true → (a || b) ≡ true
@@ -57,7 +61,8 @@ passed f q zero k l e t = absurd (omega (arith, l))
 passed f q (suc n) k l e t =
     elim (cases_eq k n) [
       | inl same ↦
-          ap (λ b. list_any q (cond b (n ∷ places_below f n) (places_below f n))) (ap f (sym same) ∙ e)
+          ap (λ b. list_any q (cond b (n ∷ places_below f n) (places_below f n)))
+          (ap f (sym same) ∙ e)
           ∙ ap (λ b. b || list_any q (places_below f n)) (ap q (sym same) ∙ t)
       | inr other ↦
           let rest = passed f q n k (omega (arith, l, other)) e t in
@@ -72,25 +77,38 @@ passed f q (suc n) k l e t =
 
 -- the squares of the group's places are those on which a man stands as its states say
 pub squares_of_group : (p : Board) (g : GroupLine) (squares : ℕ) →
-    ((s : ℕ) → s < 64 → has_square squares s ≡ list_any (λ k. is_on s (slice_get g.states k)) (places p g)) → AreSquares p g squares
+    ((s : ℕ) → s < 64 → has_square squares s ≡ list_any (λ k. is_on s (slice_get g.states k))
+    (places p g)) → AreSquares p g squares
 squares_of_group p g squares h s low =
     h s low
-    ∙ same_test (list_any (λ k. is_on s (slice_get g.states k)) (places p g)) (is_state (slice_index p.cells s) s g)
+    ∙ same_test (list_any (λ k. is_on s (slice_get g.states k)) (places p g))
+    (is_state (slice_index p.cells s) s g)
     (λ e.
-    let found = passing (λ k. stands p g.colour (slice_get g.states k)) (λ k. is_on s (slice_get g.states k)) (length g.states) e in
+    let found = passing (λ k. stands p g.colour (slice_get g.states k))
+    (λ k. is_on s (slice_get g.states k)) (length g.states) e in
     let at = some_at g.states found.place found.low in
     let state = at.0 in
     let here : state.1 ≡ s = eqb-true state.1 s (sym (ap (is_on s) at.1) ∙ found.passes) in
-    let man : slice_index p.cells state.1 ≡ cell_of_man (record { colour = g.colour; kind = state.0 }) = eqb-true _ _ (sym (ap (stands p g.colour) at.1) ∙ found.counted) in
-    any_at (λ (state : Kind × ℕ). cell_of_man (record { colour = g.colour; kind = state.0 }) == slice_index p.cells s && state.1 == s) g.states found.place state at.1
+    let man : slice_index p.cells state.1 ≡ cell_of_man
+    (record { colour = g.colour; kind = state.0 }) = eqb-true _ _
+    (sym (ap (stands p g.colour) at.1) ∙ found.counted) in
+    any_at (λ (state : Kind × ℕ). cell_of_man (record { colour = g.colour; kind = state.0 })
+    == slice_index p.cells s && state.1 == s) g.states found.place state at.1
     (and_from _ _ (eq-eqb _ _ (sym man ∙ ap (slice_index p.cells) here)) (eq-eqb state.1 s here)))
     (λ e.
-    let found = any_found (λ (state : Kind × ℕ). cell_of_man (record { colour = g.colour; kind = state.0 }) == slice_index p.cells s && state.1 == s) g.states e in
+    let found = any_found
+    (λ (state : Kind × ℕ). cell_of_man (record { colour = g.colour; kind = state.0 })
+    == slice_index p.cells s && state.1 == s) g.states e in
     let state = found.1 in
-    let parts = and_parts (cell_of_man (record { colour = g.colour; kind = state.0 }) == slice_index p.cells s) (state.1 == s) found.3 in
+    let parts = and_parts
+    (cell_of_man (record { colour = g.colour; kind = state.0 }) == slice_index p.cells s)
+    (state.1 == s) found.3 in
     let here : state.1 ≡ s = eqb-true state.1 s parts.1 in
-    let man : slice_index p.cells state.1 ≡ cell_of_man (record { colour = g.colour; kind = state.0 }) = ap (slice_index p.cells) here ∙ sym (eqb-true _ _ parts.0) in
-    passed (λ k. stands p g.colour (slice_get g.states k)) (λ k. is_on s (slice_get g.states k)) (length g.states) found.0 (slice_get_within g.states found.0 state found.2)
+    let man : slice_index p.cells state.1 ≡ cell_of_man
+    (record { colour = g.colour; kind = state.0 }) = ap (slice_index p.cells) here
+    ∙ sym (eqb-true _ _ parts.0) in
+    passed (λ k. stands p g.colour (slice_get g.states k)) (λ k. is_on s (slice_get g.states k))
+    (length g.states) found.0 (slice_get_within g.states found.0 state found.2)
     (ap (stands p g.colour) found.2 ∙ eq-eqb _ _ man)
     (ap (is_on s) found.2 ∙ parts.1))
 
@@ -105,7 +123,8 @@ pub covered_on : (p : Board) (gs : List GroupLine) (i : ℕ) (g : GroupLine) (co
 covered_on p gs i g covered squares l e h one s low =
     has-or covered squares s
     ∙ ap (λ b. b || has_square squares s) (h s low)
-    ∙ ap (λ b. has_state (take i gs) (slice_index p.cells s) s || b) (one s low ∙ ap (is_state (slice_index p.cells s) s) e)
+    ∙ ap (λ b. has_state (take i gs) (slice_index p.cells s) s || b)
+    (one s low ∙ ap (is_state (slice_index p.cells s) s) e)
     ∙ sym (list_any_more (is_state (slice_index p.cells s) s) gs i g l)
 
 pub covered_all : (p : Board) (gs : List GroupLine) (i covered : ℕ) → length gs ≤ i →
@@ -125,7 +144,8 @@ pub left_of : (p : Board) (covered occupied left : ℕ) →
     AreLeft p covered left
 left_of p covered occupied left e h s low =
     h s low
-    ∙ ap (λ b. b && not (has_square covered s)) (ap (λ w. has_square w s) e ∙ has-set_of (λ s. not (is_empty p s)) s low)
+    ∙ ap (λ b. b && not (has_square covered s))
+    (ap (λ w. has_square w s) e ∙ has-set_of (λ s. not (is_empty p s)) s low)
 
 none_left : (a b : Bool) → (not a && not b) ≡ false → a ≡ false → b ≡ true
 none_left a true h e = refl
@@ -140,7 +160,8 @@ member gs p covered left v cover rest none counts =
       valid = v;
       men = λ s low some.
           let man : is_empty p s ≡ false = grind (arith, nat_tests) in
-          let out : (not (is_empty p s) && not (has_square covered s)) ≡ false = sym (rest s low) ∙ ap (λ w. has_square w s) none ∙ has-zero s in
+          let out : (not (is_empty p s) && not (has_square covered s)) ≡ false = sym (rest s low)
+          ∙ ap (λ w. has_square w s) none ∙ has-zero s in
           sym (cover s low) ∙ none_left (is_empty p s) (has_square covered s) out man;
       counts = counts;
     }
@@ -156,4 +177,6 @@ left_none gs p covered left small cover rest m =
     empty_set left small
     (λ s low. rest s low
     ∙ not_left (is_empty p s) (has_square covered s)
-    (λ e. cover s low ∙ m.men s low (λ zero. let test : is_empty p s ≡ true = eq-eqb (slice_index p.cells s) 0 zero in cc)))
+    (λ e. cover s low
+    ∙ m.men s low (λ zero. let test : is_empty p s ≡ true = eq-eqb (slice_index p.cells s) 0 zero in
+    cc)))

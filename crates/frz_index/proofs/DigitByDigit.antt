@@ -38,7 +38,8 @@ pub capped_onto : (x y : ℕ) (bs ds : List ℕ) → capped x ≡ capped y →
     capped (value_onto x bs ds) ≡ capped (value_onto y bs ds)
 capped_onto x y [] ds h = h
 capped_onto x y (b ∷ bs) [] h = h
-capped_onto x y (b ∷ bs) (d ∷ ds) h = capped_onto (x * b + d) (y * b + d) bs ds (same_digit x y b d h)
+capped_onto x y (b ∷ bs) (d ∷ ds) h =
+    capped_onto (x * b + d) (y * b + d) bs ds (same_digit x y b d h)
 
 pub capped-capped : (x : ℕ) → capped (capped x) ≡ capped x
 capped-capped x = omega arith
@@ -51,10 +52,13 @@ pub digit_more : (s l a n start number next r d k : ℕ) (ds : List ℕ) → len
 digit_more s l a n start number next r d k ds len at e er en =
     let so_far = value_onto start (radices_from s l a n) ds in
     let more = map-range_with_len_more (old_radix s l) a n k at in
-    let same : length (radices_from s l a n) ≡ length ds = length-map-range_with_len (old_radix s l) a n ∙ sym len in
+    let same : length (radices_from s l a n) ≡ length ds = length-map-range_with_len (old_radix s l)
+    a n ∙ sym len in
     en ∙ ap (λ x. capped (x * r + d)) e ∙ capped_digit so_far r d
     ∙ ap (λ x. capped (so_far * x + d)) er
-    ∙ sym (ap (λ rs. capped (value_onto start rs (ds ++ d ∷ []))) more ∙ ap capped (value_onto-append start (radices_from s l a n) (old_radix s l k ∷ []) ds (d ∷ []) same))
+    ∙ sym (ap (λ rs. capped (value_onto start rs (ds ++ d ∷ []))) more
+    ∙ ap capped (value_onto-append start (radices_from s l a n) (old_radix s l k ∷ []) ds
+    (d ∷ []) same))
 
 -- the absent men up to the digit at k
 abbrev pub AreAbsent : ℕ → ℕ → ℕ → ℕ → ℕ → ℕ → Type 0
@@ -65,15 +69,19 @@ AreAbsent s l count start k number =
 pub absent_start : (s l count start : ℕ) → start < 2 ^ 64 → AreAbsent s l count start count start
 absent_start s l count start h =
     let none : count - count ≡ 0 = omega arith in
-    sym (ap (λ n. capped (value_onto start (radices_from s l count n) (replicate n s))) none ∙ capped_small start h)
+    sym (ap (λ n. capped (value_onto start (radices_from s l count n) (replicate n s))) none
+    ∙ capped_small start h)
 
 pub absent_more : (s l count start k number next r : ℕ) → count ≤ k →
     AreAbsent s l count start k number → r ≡ old_radix s l k → next ≡ capped (number * r + s) →
     AreAbsent s l count start (k + 1) next
 absent_more s l count start k number next r low e er en =
     let n : k + 1 - count ≡ (k - count) + 1 = omega arith in
-    digit_more s l count (k - count) start number next r s k (replicate (k - count) s) (length-replicate (k - count) s) (omega arith) e er en
-    ∙ sym (ap (λ n. capped (value_onto start (radices_from s l count n) (replicate n s))) n ∙ ap (λ ds. capped (value_onto start (radices_from s l count ((k - count) + 1)) ds)) (replicate_next (k - count) s))
+    digit_more s l count (k - count) start number next r s k (replicate (k - count) s)
+    (length-replicate (k - count) s) (omega arith) e er en
+    ∙ sym (ap (λ n. capped (value_onto start (radices_from s l count n) (replicate n s))) n
+    ∙ ap (λ ds. capped (value_onto start (radices_from s l count ((k - count) + 1)) ds))
+    (replicate_next (k - count) s))
 
 pub absent_end : (s l count start k most number : ℕ) → k ≡ most →
     AreAbsent s l count start k number → AreAbsent s l count start most number
@@ -92,10 +100,12 @@ stand_read p c states k a b h ea eb =
     ∙ ap (λ (x : Kind × ℕ). has p c a.0 x.1) (sym eb ∙ sym same) ∙ sym (ap (stands p c) at_a)
 
 -- a test of the man at the place k
-pub record IsTested (p : Board) (c : Colour) (states : List (Kind × ℕ)) (k : ℕ) (there : Bool) : Type 0 where
+pub record IsTested (p : Board) (c : Colour) (states : List (Kind × ℕ)) (k : ℕ)
+    (there : Bool) : Type 0 where
   pub test : stands p c (slice_get states k) ≡ there
 
-pub tested : (p : Board) (c : Colour) (states : List (Kind × ℕ)) (k : ℕ) (a b : Kind × ℕ) (r there : Bool) →
+pub tested : (p : Board) (c : Colour) (states : List (Kind × ℕ)) (k : ℕ) (a b : Kind × ℕ)
+    (r there : Bool) →
     k < length states → a ≡ get_or states k a → b ≡ get_or states k b →
     r ≡ has p c (get_or states k a).0 (get_or states k b).1 → r ≡ there →
     IsTested p c states k there
@@ -107,43 +117,57 @@ pub placed_start : (p : Board) (c : Colour) (states : List (Kind × ℕ)) (least
 placed_start p c states least most start h =
     record { count_is = refl; few = omega arith; number_is = sym (capped_small start h) }
 
-pub placed_on : (p : Board) (c : Colour) (states : List (Kind × ℕ)) (least most start k count number next r : ℕ) →
+pub placed_on : (p : Board) (c : Colour) (states : List (Kind × ℕ))
+    (least most start k count number next r : ℕ) →
     IsTested p c states k true → (count ≡ most → ⊥) →
     ArePlaced p c states least most start k count number →
     r ≡ old_radix (length states) least count → next ≡ capped (number * r + k) →
     ArePlaced p c states least most start (k + 1) (count + 1) next
 placed_on p c states least most start k count number next r t room h er en =
     let ks = places_among p c states k in
-    let more : places_among p c states (k + 1) ≡ k ∷ ks = place_on (λ j. stands p c (slice_get states j)) k t.test in
+    let more : places_among p c states (k + 1) ≡ k ∷ ks = place_on
+    (λ j. stands p c (slice_get states j)) k t.test in
     let turned : reverse (k ∷ ks) ≡ reverse ks ++ k ∷ [] = reverse_onto ks k [] in
     record {
       count_is = omega (arith, h.count_is, ap length more);
       few = omega (arith, h.few);
       number_is =
-          digit_more (length states) least 0 count start number next r k count (reverse ks) (length-reverse ks ∙ sym h.count_is) (omega arith) h.number_is er en
-          ∙ ap (λ ds. capped (value_onto start (radices_from (length states) least 0 (count + 1)) ds)) (sym (ap reverse more ∙ turned));
+          digit_more (length states) least 0 count start number next r k count (reverse ks)
+          (length-reverse ks ∙ sym h.count_is) (omega arith) h.number_is er en
+          ∙ ap (λ ds. capped
+          (value_onto start (radices_from (length states) least 0 (count + 1)) ds))
+          (sym (ap reverse more ∙ turned));
     }
 
-pub placed_off : (p : Board) (c : Colour) (states : List (Kind × ℕ)) (least most start k count number : ℕ) →
+pub placed_off : (p : Board) (c : Colour) (states : List (Kind × ℕ))
+    (least most start k count number : ℕ) →
     IsTested p c states k false → ArePlaced p c states least most start k count number →
     ArePlaced p c states least most start (k + 1) count number
 placed_off p c states least most start k count number t h =
-    let same : places_among p c states (k + 1) ≡ places_among p c states k = place_off (λ j. stands p c (slice_get states j)) k t.test in
+    let same : places_among p c states (k + 1) ≡ places_among p c states k = place_off
+    (λ j. stands p c (slice_get states j)) k t.test in
     record {
       count_is = h.count_is ∙ sym (ap length same);
       few = h.few;
       number_is =
           h.number_is
-          ∙ ap (λ ks. capped (value_onto start (radices_from (length states) least 0 count) (reverse ks))) (sym same);
+          ∙ ap (λ ks. capped
+          (value_onto start (radices_from (length states) least 0 count) (reverse ks))) (sym same);
     }
 
 -- one man more than the most
-pub one_too_many : (p : Board) (c : Colour) (states : List (Kind × ℕ)) (least most start k count number : ℕ) →
+pub one_too_many : (p : Board) (c : Colour) (states : List (Kind × ℕ))
+    (least most start k count number : ℕ) →
     k < length states → IsTested p c states k true → count ≡ most →
     ArePlaced p c states least most start k count number →
     most < length (places_among p c states (length states))
 one_too_many p c states least most start k count number low t full h =
-    omega (arith, h.count_is, place_counts (λ j. stands p c (slice_get states j)) k (length states) low t.test)
+    omega (
+      arith,
+      h.count_is,
+      place_counts (λ j. stands p c (slice_get states j)) k (length states)
+          low t.test,
+    )
 
 -- the digits of the men and those of absent ones are the group's
 radices_split : (s l a n m : ℕ) →
@@ -156,7 +180,8 @@ radices_split s l a (suc n) m =
     let e : suc n + m ≡ suc (n + m) = omega arith in
     let z : (a + 1) + n ≡ a + suc n = omega arith in
     ap (radices_from s l a) e
-    ∙ ap (λ rs. old_radix s l a ∷ rs) (radices_split s l (a + 1) n m ∙ ap (λ b. radices_from s l (a + 1) n ++ radices_from s l b m) z)
+    ∙ ap (λ rs. old_radix s l a ∷ rs)
+    (radices_split s l (a + 1) n m ∙ ap (λ b. radices_from s l (a + 1) n ++ radices_from s l b m) z)
 
 pub group_digits : (p : Board) (g : GroupLine) (start count number next : ℕ) →
     ArePlaced p g.colour g.states g.least g.most start (length g.states) count number →
@@ -172,24 +197,35 @@ group_digits p g start count number next h e =
     let z : 0 + count ≡ count = omega arith in
     ap (radices_from s g.least 0) m ∙ radices_split s g.least 0 count rest
     ∙ ap (λ b. first ++ radices_from s g.least b rest) z) in
-    let ds : old_digits p g ≡ reverse ks ++ replicate rest s = ap (λ n. reverse ks ++ replicate (g.most - n) s) (sym h.count_is) in
-    let same : length first ≡ length (reverse ks) = length-map-range_with_len (old_radix s g.least) 0 count ∙ h.count_is ∙ sym (length-reverse ks) in
+    let ds : old_digits p g ≡ reverse ks ++ replicate rest s =
+    ap (λ n. reverse ks ++ replicate (g.most - n) s) (sym h.count_is) in
+    let same : length first ≡ length (reverse ks) = length-map-range_with_len (old_radix s g.least)
+    0 count ∙ h.count_is ∙ sym (length-reverse ks) in
     e
-    ∙ capped_onto number (value_onto start first (reverse ks)) (radices_from s g.least count rest) (replicate rest s) (ap capped h.number_is ∙ capped-capped (value_onto start first (reverse ks)))
-    ∙ ap capped (sym (value_onto-append start first (radices_from s g.least count rest) (reverse ks) (replicate rest s) same))
-    ∙ sym (ap (λ rs. capped (value_onto start rs (old_digits p g))) split ∙ ap (λ xs. capped (value_onto start (first ++ radices_from s g.least count rest) xs)) ds)
+    ∙ capped_onto number (value_onto start first (reverse ks)) (radices_from s g.least count rest)
+    (replicate rest s) (ap capped h.number_is ∙ capped-capped (value_onto start first (reverse ks)))
+    ∙ ap capped (sym
+    (value_onto-append start first (radices_from s g.least count rest) (reverse ks)
+    (replicate rest s) same))
+    ∙ sym (ap (λ rs. capped (value_onto start rs (old_digits p g))) split
+    ∙ ap (λ xs. capped (value_onto start (first ++ radices_from s g.least count rest) xs)) ds)
 
 -- the same of a group whose fields were read
-pub group_done : (p : Board) (v g : GroupLine) (slice : List (Kind × ℕ)) (start count number next : ℕ) →
+pub group_done : (p : Board) (v g : GroupLine) (slice : List (Kind × ℕ))
+    (start count number next : ℕ) →
     v ≡ g → slice ≡ v.states → v.least ≤ count →
     ArePlaced p v.colour slice v.least v.most start (length slice) count number →
     AreAbsent (length slice) v.least count number v.most next →
     IsWithinCount p g × (next ≡ capped (value_onto start (old_radices g) (old_digits p g)))
 group_done p v g slice start count number next same read low h e =
-    let Placed : List (Kind × ℕ) → Type 0 = λ states. ArePlaced p v.colour states v.least v.most start (length states) count number in
-    let Absent : List (Kind × ℕ) → Type 0 = λ states. AreAbsent (length states) v.least count number v.most next in
-    let Done : GroupLine → Type 0 = λ x. IsWithinCount p x × (next ≡ capped (value_onto start (old_radices x) (old_digits p x))) in
-    let placed : ArePlaced p v.colour v.states v.least v.most start (length v.states) count number = subst Placed read h in
+    let Placed : List (Kind × ℕ) → Type 0 = λ states. ArePlaced p v.colour states v.least v.most
+    start (length states) count number in
+    let Absent : List (Kind × ℕ) → Type 0 = λ states. AreAbsent (length states) v.least count number
+    v.most next in
+    let Done : GroupLine → Type 0 = λ x. IsWithinCount p x
+    × (next ≡ capped (value_onto start (old_radices x) (old_digits p x))) in
+    let placed : ArePlaced p v.colour v.states v.least v.most start (length v.states) count number =
+    subst Placed read h in
     let within : IsWithinCount p v = record {
       least = (let n = placed.count_is in omega arith);
       most = (let n = placed.count_is in let f = placed.few in omega arith);
@@ -202,13 +238,22 @@ pub length-old_digits : (p : Board) (g : GroupLine) → IsWithinCount p g →
 length-old_digits p g h =
     let m = h.most in
     length-map-range_with_len (old_radix (length g.states) g.least) 0 g.most
-    ∙ sym (length-append (reverse (places p g)) (replicate (g.most - length (places p g)) (length g.states)) ∙ omega (arith, length-reverse (places p g), length-replicate (g.most - length (places p g)) (length g.states)))
+    ∙ sym (length-append (reverse (places p g))
+    (replicate (g.most - length (places p g)) (length g.states))
+    ∙ omega (
+      arith,
+      length-reverse (places p g),
+      length-replicate (g.most - length (places p g))
+          (length g.states),
+    ))
 
 -- the digits of the first i groups make this number
 pub record OldLeft (p : Board) (gs : List GroupLine) (start i number : ℕ) : Type 0 where
   pub counted : AllByRecursion (IsWithinCount p) (drop i gs) → AllByRecursion (IsWithinCount p) gs
   pub fits : number < 2 ^ 64
-  pub number_is : capped (value_onto number (flat_map old_radices (drop i gs)) (flat_map (old_digits p) (drop i gs))) ≡ capped (value_onto start (flat_map old_radices gs) (flat_map (old_digits p) gs))
+  pub number_is : capped
+      (value_onto number (flat_map old_radices (drop i gs)) (flat_map (old_digits p) (drop i gs)))
+      ≡ capped (value_onto start (flat_map old_radices gs) (flat_map (old_digits p) gs))
 
 pub old_start : (p : Board) (gs : List GroupLine) (start : ℕ) → start < 2 ^ 64 →
     OldLeft p gs start 0 start
@@ -229,8 +274,11 @@ old_step p gs start i number next g low e h w en =
       fits = omega arith;
       number_is =
           capped_onto next so_far rs ds (ap capped en ∙ capped-capped so_far)
-          ∙ ap capped (sym (value_onto-append number (old_radices g) rs (old_digits p g) ds (length-old_digits p g w)))
-          ∙ sym (ap (λ xs. capped (value_onto number (flat_map old_radices xs) (flat_map (old_digits p) xs))) is)
+          ∙ ap capped (sym
+          (value_onto-append number (old_radices g) rs (old_digits p g) ds
+          (length-old_digits p g w)))
+          ∙ sym (ap (λ xs. capped
+          (value_onto number (flat_map old_radices xs) (flat_map (old_digits p) xs))) is)
           ∙ h.number_is;
     }
 
@@ -242,6 +290,7 @@ old_end p gs start i number past h =
     let e = drop_end gs i past in (
       h.counted (subst (AllByRecursion (IsWithinCount p)) (sym e) tt),
       sym (capped_small number h.fits)
-          ∙ sym (ap (λ xs. capped (value_onto number (flat_map old_radices xs) (flat_map (old_digits p) xs))) e)
+          ∙ sym (ap (λ xs. capped
+          (value_onto number (flat_map old_radices xs) (flat_map (old_digits p) xs))) e)
           ∙ h.number_is,
     )

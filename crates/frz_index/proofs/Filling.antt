@@ -63,7 +63,8 @@ pub put_right : (p : Board) (c : Colour) (state : Kind × ℕ) (cells : List ℕ
     slice_index (put_man c (Some state) cells) state.1 ≡ slice_index p.cells state.1
 put_right p c state cells h k =
     get_or-set_same cells state.1 _ 0 k
-    ∙ sym (eqb-true (slice_index p.cells state.1) (cell_of_man (record { colour = c; kind = state.0 })) h)
+    ∙ sym (eqb-true (slice_index p.cells state.1)
+    (cell_of_man (record { colour = c; kind = state.0 })) h)
 
 pub put_fills : (p : Board) (c : Colour) (o : Option (Kind × ℕ)) (cells : List ℕ) →
     stands p c o ≡ true → Fill p cells (put_man c o cells)
@@ -74,8 +75,11 @@ put_fills p c (Some state) cells h =
       | inl same ↦
           elim (cases_lt state.1 (length cells)) [
             | inl inside ↦
-                inl (ap (slice_index (put_man c (Some state) cells)) same ∙ put_right p c state cells h inside ∙ ap (slice_index p.cells) (sym same))
-            | inr past ↦ inr (get_or-eq_default (put_man c (Some state) cells) 0 (let l = length-put_man c (Some state) cells in omega arith) ∙ sym (get_or-eq_default cells 0 (omega arith)))
+                inl (ap (slice_index (put_man c (Some state) cells)) same
+                ∙ put_right p c state cells h inside ∙ ap (slice_index p.cells) (sym same))
+            | inr past ↦ inr (get_or-eq_default (put_man c (Some state) cells) 0
+                (let l = length-put_man c (Some state) cells in omega arith)
+                ∙ sym (get_or-eq_default cells 0 (omega arith)))
           ]
       | inr other ↦ inr (get_or-set_other cells state.1 q _ 0 other)
     ]
@@ -88,10 +92,15 @@ pub men_fill : (p : Board) (c : Colour) (states : List (Kind × ℕ)) (n : ℕ) 
     Fill p cells (put_men c states (places_below (at p c states) n) cells)
 men_fill p c states zero cells = λ q. inr refl
 men_fill p c states (suc n) cells =
-    let by : (b : Bool) → at p c states n ≡ b → Fill p cells (put_men c states (cond b (n ∷ places_below (at p c states) n) (places_below (at p c states) n)) cells) =
-    λ b. elim b as (λ b. at p c states n ≡ b → Fill p cells (put_men c states (cond b (n ∷ places_below (at p c states) n) (places_below (at p c states) n)) cells)) [
+    let by : (b : Bool) → at p c states n ≡ b
+    → Fill p cells (put_men c states
+    (cond b (n ∷ places_below (at p c states) n) (places_below (at p c states) n)) cells) =
+    λ b. elim b as (λ b. at p c states n ≡ b
+    → Fill p cells (put_men c states
+    (cond b (n ∷ places_below (at p c states) n) (places_below (at p c states) n)) cells)) [
       | true ↦
-          λ e. fill_trans p cells _ _ (put_fills p c (slice_get states n) cells e) (men_fill p c states n _)
+          λ e. fill_trans p cells _ _ (put_fills p c (slice_get states n) cells e)
+          (men_fill p c states n _)
       | false ↦ λ e. men_fill p c states n cells
     ] in
     by (at p c states n) refl
@@ -104,11 +113,15 @@ pub men_hit : (p : Board) (c : Colour) (states : List (Kind × ℕ)) (k : ℕ) (
     ≡ slice_index p.cells state.1
 men_hit p c states k state is on zero h cells room = absurd (omega arith)
 men_hit p c states k state is on (suc n) h cells room =
-    let Goal : Bool → Type 0 = λ b. slice_index (put_men c states (cond b (n ∷ places_below (at p c states) n) (places_below (at p c states) n)) cells) state.1 ≡ slice_index p.cells state.1 in
+    let Goal : Bool → Type 0 = λ b. slice_index
+    (put_men c states
+    (cond b (n ∷ places_below (at p c states) n) (places_below (at p c states) n)) cells)
+    state.1 ≡ slice_index p.cells state.1 in
     elim (cases_lt k n) [
       | inl less ↦
           elim (at p c states n) as Goal [
-            | true ↦ men_hit p c states k state is on n less (put_man c (slice_get states n) cells) (let l = length-put_man c (slice_get states n) cells in omega arith)
+            | true ↦ men_hit p c states k state is on n less (put_man c (slice_get states n) cells)
+                (let l = length-put_man c (slice_get states n) cells in omega arith)
             | false ↦ men_hit p c states k state is on n less cells room
           ]
       | inr more ↦
@@ -116,7 +129,8 @@ men_hit p c states k state is on (suc n) h cells room =
           let state_at : slice_get states n ≡ Some state = ap (slice_get states) here ∙ is in
           subst Goal (sym (ap (stands p c) state_at ∙ on))
           (fill_keeps p (put_man c (slice_get states n) cells) _ (men_fill p c states n _) state.1
-          (ap (λ o. slice_index (put_man c o cells) state.1) state_at ∙ put_right p c state cells on room))
+          (ap (λ o. slice_index (put_man c o cells) state.1) state_at
+          ∙ put_right p c state cells on room))
     ]
 
 -- a group's digit puts its men
@@ -124,28 +138,40 @@ pub put_group_is : (p : Board) (g : GroupLine) (cells : List ℕ) → IsWithinCo
     put_group g (digit_of p g) cells ≡ put_men g.colour g.states (places p g) cells
 put_group_is p g cells h =
     ap (λ ks. put_men g.colour g.states ks cells)
-    (selection_at-digit (length g.states) g.least g.most (places p g) (places_descend (at p g.colour g.states) (length g.states)) h.least h.most)
+    (selection_at-digit (length g.states) g.least g.most (places p g)
+    (places_descend (at p g.colour g.states) (length g.states)) h.least h.most)
 
 pub groups_fill : (p : Board) (gs : List GroupLine) (cells : List ℕ) →
     AllByRecursion (IsWithinCount p) gs → Fill p cells (put_groups gs (map (digit_of p) gs) cells)
 groups_fill p [] cells h = λ q. inr refl
 groups_fill p (g ∷ gs) cells h =
-    fill_trans p cells _ _ (subst (Fill p cells) (sym (put_group_is p g cells h.0)) (men_fill p g.colour g.states (length g.states) cells)) (groups_fill p gs _ h.1)
+    fill_trans p cells _ _
+    (subst (Fill p cells) (sym (put_group_is p g cells h.0))
+    (men_fill p g.colour g.states (length g.states) cells)) (groups_fill p gs _ h.1)
 
 group_hits : (p : Board) (g : GroupLine) (s : ℕ) (cells : List ℕ) → IsWithinCount p g →
     s < length cells → is_state (slice_index p.cells s) s g ≡ true →
     slice_index (put_group g (digit_of p g) cells) s ≡ slice_index p.cells s
 group_hits p g s cells h room covered =
-    let found = Any-from_list_any (λ state. cell_of_man (record { colour = g.colour; kind = state.0 }) == slice_index p.cells s && state.1 == s) g.states covered in
+    let found = Any-from_list_any
+    (λ state. cell_of_man (record { colour = g.colour; kind = state.0 }) == slice_index p.cells
+    s && state.1 == s) g.states covered in
     let state = found.1 in
-    let tests = and_parts (cell_of_man (record { colour = g.colour; kind = state.0 }) == slice_index p.cells s) (state.1 == s) found.4 in
+    let tests = and_parts
+    (cell_of_man (record { colour = g.colour; kind = state.0 }) == slice_index p.cells s)
+    (state.1 == s) found.4 in
     let square : state.1 ≡ s = eqb-true state.1 s tests.1 in
-    let man = eqb-true (cell_of_man (record { colour = g.colour; kind = state.0 })) (slice_index p.cells s) tests.0 in
-    let is : slice_get g.states found.0 ≡ Some state = slice_get_read g.states (length g.states) found.0 state refl found.2 (sym found.3) in
-    let on : stands p g.colour (Some state) ≡ true = eq-eqb (slice_index p.cells state.1) (cell_of_man (record { colour = g.colour; kind = state.0 })) (ap (slice_index p.cells) square ∙ sym man) in
+    let man = eqb-true (cell_of_man (record { colour = g.colour; kind = state.0 }))
+    (slice_index p.cells s) tests.0 in
+    let is : slice_get g.states found.0 ≡ Some state = slice_get_read g.states (length g.states)
+    found.0 state refl found.2 (sym found.3) in
+    let on : stands p g.colour (Some state) ≡ true = eq-eqb (slice_index p.cells state.1)
+    (cell_of_man (record { colour = g.colour; kind = state.0 }))
+    (ap (slice_index p.cells) square ∙ sym man) in
     ap (λ xs. slice_index xs s) (put_group_is p g cells h)
     ∙ ap (slice_index (put_men g.colour g.states (places p g) cells)) (sym square)
-    ∙ men_hit p g.colour g.states found.0 state is on (length g.states) found.2 cells (subst (λ n. n < length cells) (sym square) room)
+    ∙ men_hit p g.colour g.states found.0 state is on (length g.states) found.2 cells
+    (subst (λ n. n < length cells) (sym square) room)
     ∙ ap (slice_index p.cells) square
 
 pub groups_hit : (p : Board) (gs : List GroupLine) (s : ℕ) (cells : List ℕ) →
@@ -155,11 +181,16 @@ pub groups_hit : (p : Board) (gs : List GroupLine) (s : ℕ) (cells : List ℕ) 
 groups_hit p [] s cells h room covered = absurd cc
 groups_hit p (g ∷ gs) s cells h room covered =
     let next = put_group g (digit_of p g) cells in
-    let by : (b : Bool) → is_state (slice_index p.cells s) s g ≡ b → slice_index (put_groups gs (map (digit_of p) gs) next) s ≡ slice_index p.cells s =
-    λ b. elim b as (λ b. is_state (slice_index p.cells s) s g ≡ b → slice_index (put_groups gs (map (digit_of p) gs) next) s ≡ slice_index p.cells s) [
+    let by : (b : Bool) → is_state (slice_index p.cells s) s g ≡ b
+    → slice_index (put_groups gs (map (digit_of p) gs) next) s ≡ slice_index p.cells s =
+    λ b. elim b as (λ b. is_state (slice_index p.cells s) s g ≡ b
+    → slice_index (put_groups gs (map (digit_of p) gs) next) s ≡ slice_index p.cells s) [
       | true ↦
           λ e. fill_keeps p next _ (groups_fill p gs next h.1) s (group_hits p g s cells h.0 room e)
-      | false ↦ λ e. groups_hit p gs s next h.1 (let l = length-put_men g.colour g.states (selection_at (length g.states) g.least g.most (digit_of p g)) cells in omega arith) (ap (λ b. b || has_state gs (slice_index p.cells s) s) (sym e) ∙ covered)
+      | false ↦ λ e. groups_hit p gs s next h.1
+          (let l = length-put_men g.colour g.states
+          (selection_at (length g.states) g.least g.most (digit_of p g)) cells in omega arith)
+          (ap (λ b. b || has_state gs (slice_index p.cells s) s) (sym e) ∙ covered)
     ] in
     by (is_state (slice_index p.cells s) s g) refl
 
@@ -175,8 +206,10 @@ get_or-empty s h = get_or-replicate 64 s 0 0 h
 pub cells_back : (gs : List GroupLine) (p : Board) → Member gs p →
     put_groups gs (map (digit_of p) gs) no_men ≡ p.cells
 cells_back gs p m =
-    let size : length (put_groups gs (map (digit_of p) gs) no_men) ≡ 64 = length-put_groups gs (map (digit_of p) gs) no_men ∙ length-empty in
-    same_number_lists (put_groups gs (map (digit_of p) gs) no_men) p.cells (size ∙ sym m.valid.fits.size) (λ s h.
+    let size : length (put_groups gs (map (digit_of p) gs) no_men) ≡ 64 = length-put_groups gs
+    (map (digit_of p) gs) no_men ∙ length-empty in
+    same_number_lists (put_groups gs (map (digit_of p) gs) no_men) p.cells
+    (size ∙ sym m.valid.fits.size) (λ s h.
     let low : s < 64 = omega arith in
     elim (cases_eq (slice_index p.cells s) 0) [
       | inl none ↦
@@ -184,5 +217,6 @@ cells_back gs p m =
             | inl e ↦ e
             | inr e ↦ e ∙ get_or-empty s low ∙ sym none
           ]
-      | inr some ↦ groups_hit p gs s no_men m.counts (let l = length-empty in omega arith) (m.men s low some)
+      | inr some ↦ groups_hit p gs s no_men m.counts (let l = length-empty in omega arith)
+          (m.men s low some)
     ])

@@ -29,7 +29,8 @@ use Rattle.frz_index.specs.TurnStates.{place_of, turn_number}
 
 -- each radix has room for the states, and behind the least men for an absent one
 states_fit : (s l k : ℕ) → s ≤ old_radix s l k
-states_fit s l k = elim (nat_lt k l) as (λ b. s ≤ cond b s (s + 1)) [ true ↦ omega arith | false ↦ omega arith ]
+states_fit s l k =
+    elim (nat_lt k l) as (λ b. s ≤ cond b s (s + 1)) [ true ↦ omega arith | false ↦ omega arith ]
 
 absent_fits : (s l k : ℕ) → l ≤ k → s < old_radix s l k
 absent_fits s l k h =
@@ -45,10 +46,12 @@ digits_of_men : (s l a n m : ℕ) (xs : List ℕ) → AllByRecursion (λ x. x < 
     l ≤ a + length xs → AreDigits (radices_from s l a n) (xs ++ replicate m s)
 digits_of_men s l a n m [] h e low =
     let same : m ≡ n = omega arith in
-    subst (λ k. AreDigits (radices_from s l a k) (replicate m s)) same (absent_digits s l a m (omega arith))
+    subst (λ k. AreDigits (radices_from s l a k) (replicate m s)) same
+    (absent_digits s l a m (omega arith))
 digits_of_men s l a zero m (x ∷ xs) h e low = absurd (omega arith)
 digits_of_men s l a (suc n) m (x ∷ xs) h e low =
-    let below : x < old_radix s l a = (let b : x < s = h.0 in let f = states_fit s l a in omega arith) in
+    let below : x < old_radix s l a =
+    (let b : x < s = h.0 in let f = states_fit s l a in omega arith) in
     (below, digits_of_men s l (a + 1) n m xs h.1 (omega arith) (omega arith))
 
 all_push : (s x : ℕ) (xs : List ℕ) → AllByRecursion (λ x. x < s) xs → x < s →
@@ -61,12 +64,14 @@ below_reverse : (s n : ℕ) (cs : List ℕ) → n ≤ s → AreDescending n cs �
 below_reverse s n [] h d = tt
 below_reverse s n (c ∷ cs) h d =
     let less : c < n = d.0 in
-    subst (AllByRecursion (λ x. x < s)) (sym (reverse_onto cs c [])) (all_push s c (reverse cs) (below_reverse s c cs (omega arith) d.1) (omega arith))
+    subst (AllByRecursion (λ x. x < s)) (sym (reverse_onto cs c []))
+    (all_push s c (reverse cs) (below_reverse s c cs (omega arith) d.1) (omega arith))
 
 places_below_states : (p : Board) (g : GroupLine) →
     AllByRecursion (λ x. x < length g.states) (reverse (places p g))
 places_below_states p g =
-    below_reverse (length g.states) (length g.states) (places p g) (omega arith) (places_descend (λ k. stands p g.colour (slice_get g.states k)) (length g.states))
+    below_reverse (length g.states) (length g.states) (places p g) (omega arith)
+    (places_descend (λ k. stands p g.colour (slice_get g.states k)) (length g.states))
 
 -- the digits of a group are digits
 group_fits : (p : Board) (g : GroupLine) → IsWithinCount p g →
@@ -75,13 +80,15 @@ group_fits p g h =
     let least = h.least in
     let most = h.most in
     let same = length-reverse (places p g) in
-    digits_of_men (length g.states) g.least 0 g.most (g.most - length (places p g)) (reverse (places p g)) (places_below_states p g) (omega arith) (omega arith)
+    digits_of_men (length g.states) g.least 0 g.most (g.most - length (places p g))
+    (reverse (places p g)) (places_below_states p g) (omega arith) (omega arith)
 
 groups_fit : (p : Board) (gs : List GroupLine) → AllByRecursion (IsWithinCount p) gs →
     AreDigits (flat_map old_radices gs) (flat_map (old_digits p) gs)
 groups_fit p [] h = refl
 groups_fit p (g ∷ gs) h =
-    AreDigits-append (old_radices g) (flat_map old_radices gs) (old_digits p g) (flat_map (old_digits p) gs) (group_fits p g h.0) (groups_fit p gs h.1)
+    AreDigits-append (old_radices g) (flat_map old_radices gs) (old_digits p g)
+    (flat_map (old_digits p) gs) (group_fits p g h.0) (groups_fit p gs h.1)
 
 -- the turn state and the digits of all groups
 all_radices : List GroupLine → List ℕ
@@ -99,7 +106,8 @@ OldNum-value : (gs : List GroupLine) (p : Board) → Member gs p →
     OldNum gs p ≡ value (all_radices gs) (all_digits gs p)
 unfolding OldNum all_radices all_digits
 OldNum-value gs p m =
-    value_onto-value (turn_number gs p.turn p.ep) (flat_map old_radices gs) (flat_map (old_digits p) gs) (groups_fit p gs m.counts)
+    value_onto-value (turn_number gs p.turn p.ep) (flat_map old_radices gs)
+    (flat_map (old_digits p) gs) (groups_fit p gs m.counts)
 
 size-product : (gs : List GroupLine) → old_size_of gs ≡ product (all_radices gs)
 unfolding old_size_of all_radices
@@ -143,16 +151,22 @@ same_places : (p q : Board) (g : GroupLine) → old_digits p g ≡ old_digits q 
     digit_of p g ≡ digit_of q g
 same_places p q g e =
     let s = length g.states in
-    let turned = same_men s (g.most - length (places p g)) (g.most - length (places q g)) (reverse (places p g)) (reverse (places q g)) (places_below_states p g) (places_below_states q g) e in
-    let same : places p g ≡ places q g = sym (reverse-reverse (places p g)) ∙ ap reverse turned ∙ reverse-reverse (places q g) in
+    let turned = same_men s (g.most - length (places p g)) (g.most - length (places q g))
+    (reverse (places p g)) (reverse (places q g)) (places_below_states p g)
+    (places_below_states q g) e in
+    let same : places p g ≡ places q g = sym (reverse-reverse (places p g)) ∙ ap reverse turned
+    ∙ reverse-reverse (places q g) in
     ap (digit s g.least) same
 
 same_digits : (p q : Board) (gs : List GroupLine) → AllByRecursion (IsWithinCount p) gs →
     AllByRecursion (IsWithinCount q) gs →
-    flat_map (old_digits p) gs ≡ flat_map (old_digits q) gs → map (digit_of p) gs ≡ map (digit_of q) gs
+    flat_map (old_digits p) gs ≡ flat_map (old_digits q) gs
+    → map (digit_of p) gs ≡ map (digit_of q) gs
 same_digits p q [] h k e = refl
 same_digits p q (g ∷ gs) h k e =
-    let parts = split_same (old_digits p g) (old_digits q g) (flat_map (old_digits p) gs) (flat_map (old_digits q) gs) (sym (length-old_digits p g h.0) ∙ length-old_digits q g k.0) e in
+    let parts = split_same (old_digits p g) (old_digits q g) (flat_map (old_digits p) gs)
+    (flat_map (old_digits q) gs) (sym (length-old_digits p g h.0) ∙ length-old_digits q g k.0)
+    e in
     ap (λ d. d ∷ map (digit_of p) gs) (same_places p q g parts.0)
     ∙ ap (λ ds. digit_of q g ∷ ds) (same_digits p q gs h.1 k.1 parts.1)
 
@@ -163,14 +177,20 @@ same_number gs p q m k e =
     let turn : turn_number gs p.turn p.ep ≡ turn_number gs q.turn q.ep = cc in
     let rest : flat_map (old_digits p) gs ≡ flat_map (old_digits q) gs = cc in
     ap (λ t. value (radices gs) (t ∷ map (digit_of p) gs)) turn
-    ∙ ap (λ ds. value (radices gs) (turn_number gs q.turn q.ep ∷ ds)) (same_digits p q gs m.counts k.counts rest)
+    ∙ ap (λ ds. value (radices gs) (turn_number gs q.turn q.ep ∷ ds))
+    (same_digits p q gs m.counts k.counts rest)
 
 pub OldNum_once : (gs : List GroupLine) (p q : Board) → Member gs p → Member gs q →
     OldNum gs p ≡ OldNum gs q → p ≡ q
 OldNum_once gs p q m k e =
-    let values : value (all_radices gs) (all_digits gs p) ≡ value (all_radices gs) (all_digits gs q) = sym (OldNum-value gs p m) ∙ e ∙ OldNum-value gs q k in
-    let same : all_digits gs p ≡ all_digits gs q = sym (digits-value (all_radices gs) (all_digits gs p) (all_fit gs p m)) ∙ ap (digits (all_radices gs)) values ∙ digits-value (all_radices gs) (all_digits gs q) (all_fit gs q k) in
-    sym (candidate-Num gs p m) ∙ ap (candidate gs) (same_number gs p q m k same) ∙ candidate-Num gs q k
+    let values : value (all_radices gs) (all_digits gs p) ≡ value (all_radices gs)
+    (all_digits gs q) = sym (OldNum-value gs p m) ∙ e ∙ OldNum-value gs q k in
+    let same : all_digits gs p ≡ all_digits gs q = sym
+    (digits-value (all_radices gs) (all_digits gs p) (all_fit gs p m))
+    ∙ ap (digits (all_radices gs)) values ∙ digits-value (all_radices gs) (all_digits gs q)
+    (all_fit gs q k) in
+    sym (candidate-Num gs p m) ∙ ap (candidate gs) (same_number gs p q m k same)
+    ∙ candidate-Num gs q k
 
 -- the turn state by the possible targets before the target
 place_at : (t a : ℕ) (ys : List ℕ) (b : Bool) → (t == a) ≡ b →
@@ -195,8 +215,10 @@ place_before f t e (suc n) a low high =
           let test : (t == a) ≡ false = grind (arith, nat_tests) in
           let rest = place_before f t e n (a + 1) (omega arith) (omega arith) in
           let before = filter f (range_with_len (a + 1) k) in
-          let by : (b : Bool) → place_of t (cond b (a ∷ later) later) ≡ length (cond b (a ∷ before) before) =
-          λ b. elim b as (λ b. place_of t (cond b (a ∷ later) later) ≡ length (cond b (a ∷ before) before)) [
+          let by : (b : Bool) → place_of t (cond b (a ∷ later) later) ≡ length
+          (cond b (a ∷ before) before) =
+          λ b. elim b as (λ b. place_of t (cond b (a ∷ later) later) ≡ length
+          (cond b (a ∷ before) before)) [
             | true ↦ place_at t a later false test ∙ ap suc rest
             | false ↦ rest
           ] in
@@ -212,14 +234,16 @@ turn_found gs c (Some t) h =
     let zero_less : t - 0 ≡ t = omega arith in
     let place = place_before (is_possible gs) t at.1 64 0 (omega arith) (omega (arith, at.0)) in
     let count = ap (λ k. length (filter (is_possible gs) (range_with_len 0 k))) zero_less in
-    let e : length (filter (is_possible gs) (range_with_len 0 t)) ≡ place_of t (targets gs) = sym count ∙ sym place in
+    let e : length (filter (is_possible gs) (range_with_len 0 t)) ≡ place_of t (targets gs) =
+    sym count ∙ sym place in
     ap (λ n. suc (suc n)) e
 turn_found gs White None h = refl
 turn_found gs Black None h = refl
 
 pub turn_same : (gs : List GroupLine) (p : Board) → Member gs p →
     turn_before gs p.turn p.ep ≡ turn_number gs p.turn p.ep
-turn_same gs p m = turn_found gs p.turn p.ep (λ t e. (let at = target_place gs p m t e in (at.0, at.1)))
+turn_same gs p m =
+    turn_found gs p.turn p.ep (λ t e. (let at = target_place gs p m t e in (at.0, at.1)))
 
 -- what the code makes is the number
 pub number_made : (gs : List GroupLine) (p : Board) (turn n : ℕ) → Member gs p →
@@ -230,5 +254,8 @@ unfolding OldNum
 number_made gs p turn n m size et en =
     let below = OldNum_below gs p m in
     let same : turn ≡ turn_number gs p.turn p.ep = et ∙ turn_same gs p m in
-    let e : n ≡ capped (value_onto (turn_number gs p.turn p.ep) (flat_map old_radices gs) (flat_map (old_digits p) gs)) = en ∙ ap (λ t. capped (value_onto t (flat_map old_radices gs) (flat_map (old_digits p) gs))) same in
+    let e : n ≡ capped (value_onto (turn_number gs p.turn p.ep) (flat_map old_radices gs)
+    (flat_map (old_digits p) gs)) =
+    en ∙ ap (λ t. capped (value_onto t (flat_map old_radices gs) (flat_map (old_digits p) gs)))
+    same in
     (omega arith, omega arith)

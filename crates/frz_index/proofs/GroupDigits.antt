@@ -24,12 +24,14 @@ pub offset_step : (s i n sum : ℕ) → i < n →
 offset_step s i n sum h =
     let e : n - i ≡ suc (n - (i + 1)) = omega arith in
     let one : i + 1 ≡ suc i = omega arith in
-    let all : choices s i (n - i) ≡ choose s i + choices s (i + 1) (n - (i + 1)) = ap (choices s i) e ∙ ap (λ j. choose s i + choices s j (n - (i + 1))) (sym one) in
+    let all : choices s i (n - i) ≡ choose s i + choices s (i + 1) (n - (i + 1)) = ap (choices s i)
+    e ∙ ap (λ j. choose s i + choices s j (n - (i + 1))) (sym one) in
     omega (arith, all)
 
 pub offset_done : (s i n sum : ℕ) → n ≤ i → capped (sum + choices s i (n - i)) ≡ capped sum
 offset_done s i n sum h =
-    let e : n - i ≡ 0 = omega arith in ap (λ k. capped (sum + choices s i k)) e ∙ ap capped (omega arith)
+    let e : n - i ≡ 0 = omega arith in ap (λ k. capped (sum + choices s i k)) e
+    ∙ ap capped (omega arith)
 
 pub offset_end : (s i n sum : ℕ) → sum ≤ 18446744073709551615 → n ≤ i →
     sum ≡ capped (sum + choices s i (n - i))
@@ -49,13 +51,16 @@ men_step s j m r h k =
     let e : m - j ≡ suc (m - (j + 1)) = omega arith in
     let one : j + 1 ≡ suc j = omega arith in
     let test : nat_lt r (choose s j) ≡ false = grind (arith, nat_tests) in
-    sym (ap (λ n. count_and_rank s j n r) e ∙ ap (λ b. cond b (j, r) (count_and_rank s (suc j) (m - (j + 1)) (r - choose s j))) test ∙ ap (λ i. count_and_rank s i (m - (j + 1)) (r - choose s j)) (sym one))
+    sym (ap (λ n. count_and_rank s j n r) e
+    ∙ ap (λ b. cond b (j, r) (count_and_rank s (suc j) (m - (j + 1)) (r - choose s j))) test
+    ∙ ap (λ i. count_and_rank s i (m - (j + 1)) (r - choose s j)) (sym one))
 
 pub men_stop : (s j m r : ℕ) → j < m → r < choose s j → (j, r) ≡ count_and_rank s j (m - j) r
 men_stop s j m r h k =
     let e : m - j ≡ suc (m - (j + 1)) = omega arith in
     let test : nat_lt r (choose s j) ≡ true = grind (arith, nat_tests) in
-    sym (ap (λ n. count_and_rank s j n r) e ∙ ap (λ b. cond b (j, r) (count_and_rank s (suc j) (m - (j + 1)) (r - choose s j))) test)
+    sym (ap (λ n. count_and_rank s j n r) e
+    ∙ ap (λ b. cond b (j, r) (count_and_rank s (suc j) (m - (j + 1)) (r - choose s j))) test)
 
 pub men_end : (s j m r : ℕ) → m ≤ j → (j, r) ≡ count_and_rank s j (m - j) r
 men_end s j m r h = let e : m - j ≡ 0 = omega arith in sym (ap (λ n. count_and_rank s j n r) e)
@@ -71,9 +76,13 @@ pub uncapped : (w c r : ℕ) → w ≡ capped c → w ≤ r → r < 4294967296 �
 uncapped w c r e h k = omega arith
 
 -- what is written is the man of the state that was read
-pub put_read : (c : Colour) (states : List (Kind × ℕ)) (k : ℕ) (cells : List ℕ) (a b : Kind × ℕ) (s v : ℕ) → k < length states → a ≡ get_or states k a → b ≡ get_or states k b → v ≡ cell_of_man (record { colour = c; kind = (get_or states k a).0 }) → s ≡ (get_or states k b).1 → slice_set cells s v ≡ put_man c (slice_get states k) cells
+pub put_read : (c : Colour) (states : List (Kind × ℕ)) (k : ℕ) (cells : List ℕ) (a b : Kind × ℕ)
+    (s v : ℕ) → k < length states → a ≡ get_or states k a → b ≡ get_or states k b
+    → v ≡ cell_of_man (record { colour = c; kind = (get_or states k a).0 })
+    → s ≡ (get_or states k b).1 → slice_set cells s v ≡ put_man c (slice_get states k) cells
 put_read c states k cells a b s v h ea eb ev' es' =
-    let ev : v ≡ cell_of_man (record { colour = c; kind = a.0 }) = ev' ∙ ap (λ (y : Kind × ℕ). cell_of_man (record { colour = c; kind = y.0 })) (sym ea) in
+    let ev : v ≡ cell_of_man (record { colour = c; kind = a.0 }) = ev'
+    ∙ ap (λ (y : Kind × ℕ). cell_of_man (record { colour = c; kind = y.0 })) (sym ea) in
     let es : s ≡ b.1 = es' ∙ ap (λ (y : Kind × ℕ). y.1) (sym eb) in
     let at_a = slice_get_read states (length states) k a refl h ea in
     let at_b = slice_get_read states (length states) k b refl h eb in
@@ -99,8 +108,10 @@ digit_at : (p : Board) (g : GroupLine) (n a b : ℕ) → radix_of g ≤ 13421772
 digit_at p g n a b size h lo e =
     let least : g.least ≤ length (places p g) = omega (arith, h.0) in
     let most : length (places p g) ≤ g.most = omega (arith, h.0, h.1) in
-    let falling = places_descend (λ k. stands p g.colour (slice_get g.states k)) (length g.states) in
-    let f = digit_exact (length g.states) g.least g.most (places p g) falling least most size a b (e ∙ ap (λ k. capped (choices (length g.states) g.least (k - g.least))) h.0) h.2 in
+    let falling = places_descend (λ k. stands p g.colour (slice_get g.states k))
+    (length g.states) in
+    let f = digit_exact (length g.states) g.least g.most (places p g) falling least most size a b
+    (e ∙ ap (λ k. capped (choices (length g.states) g.least (k - g.least))) h.0) h.2 in
     record { counted = record { least = least; most = most }; sum_is = f.0; small = f.1 }
 
 -- the same of a group whose fields were read

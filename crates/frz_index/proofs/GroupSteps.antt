@@ -63,7 +63,11 @@ le_product' a b h = omega (arith, mul-le 1 b a b h (omega arith))
 
 pub whole_fits : (gs : List GroupLine) → AreNumberable gs → product (map radix_of gs) ≤ 134217728
 whole_fits gs s =
-    omega (arith, le_product' (2 + length (targets gs)) (product (map radix_of gs)) (omega arith), s.size)
+    omega (
+      arith,
+      le_product' (2 + length (targets gs)) (product (map radix_of gs)) (omega arith),
+      s.size,
+    )
 
 -- the digits of the first i groups make this sum
 pub record Left (p : Board) (gs : List GroupLine) (i total : ℕ) : Type 0 where
@@ -77,7 +81,9 @@ left_start p gs = record { counted = λ h. h; bound = omega arith; sum = omega a
 
 pub counted_below : (p : Board) (g : GroupLine) → IsWithinCount p g → digit_of p g < radix_of g
 counted_below p g h =
-    digit_below (length g.states) g.least g.most (places p g) (places_descend (λ k. stands p g.colour (slice_get g.states k)) (length g.states)) h.least h.most
+    digit_below (length g.states) g.least g.most (places p g)
+    (places_descend (λ k. stands p g.colour (slice_get g.states k)) (length g.states)) h.least
+    h.most
 
 -- what the group at i is
 pub record At (gs : List GroupLine) (i : ℕ) (g : GroupLine) (w : ℕ) : Type 0 where
@@ -91,8 +97,10 @@ pub at_read : (gs : List GroupLine) (ws : List ℕ) (i : ℕ) (g : GroupLine) �
     AreWeights gs ws → i < length gs → g ≡ get_or gs i g → At gs i g (slice_index ws i)
 at_read gs ws i g s weights h e =
     let is = drop_read gs i g h e in
-    let w : slice_index ws i ≡ product (map radix_of (drop (i + 1) gs)) = weights.known i h ∙ ap (λ n. product (map radix_of (drop n gs))) (sym (add-one i)) in
-    let part : AllByRecursion IsCounted (g ∷ drop (i + 1) gs) = subst (AllByRecursion IsCounted) is (all_drop IsCounted gs i s.groups) in
+    let w : slice_index ws i ≡ product (map radix_of (drop (i + 1) gs)) = weights.known i h
+    ∙ ap (λ n. product (map radix_of (drop n gs))) (sym (add-one i)) in
+    let part : AllByRecursion IsCounted (g ∷ drop (i + 1) gs) = subst (AllByRecursion IsCounted) is
+    (all_drop IsCounted gs i s.groups) in
     record {
       is = is;
       weight = w;
@@ -111,7 +119,13 @@ pub step_fits : (p : Board) (gs : List GroupLine) (i total : ℕ) (g : GroupLine
     total + d * w + w ≤ product (map radix_of gs)
 step_fits p gs i total g w d s a l h e =
     let below : d + 1 ≤ radix_of g = omega (arith, e, counted_below p g h) in
-    omega (arith, mul-le (d + 1) w (radix_of g) w below (omega arith), add-mul d 1 w, a.part, l.bound)
+    omega (
+      arith,
+      mul-le (d + 1) w (radix_of g) w below (omega arith),
+      add-mul d 1 w,
+      a.part,
+      l.bound,
+    )
 
 pub left_step : (p : Board) (gs : List GroupLine) (i total : ℕ) (g : GroupLine) (w d : ℕ) →
     AreNumberable gs → At gs i g w → Left p gs i total → IsWithinCount p g → d ≡ digit_of p g →
@@ -135,9 +149,12 @@ left_end p gs i total h l =
 -- a group's men are put, and what is left is for the groups after it
 pub put_step : (gs : List GroupLine) (i : ℕ) (g : GroupLine) (w rest : ℕ) (cells : List ℕ) →
     At gs i g w →
-    put_groups (drop (i + 1) gs) (digits (map radix_of (drop (i + 1) gs)) (rest % w)) (put_group g (rest / w) cells) ≡ put_groups (drop i gs) (digits (map radix_of (drop i gs)) rest) cells
+    put_groups (drop (i + 1) gs) (digits (map radix_of (drop (i + 1) gs)) (rest % w))
+    (put_group g (rest / w) cells) ≡ put_groups (drop i gs) (digits (map radix_of (drop i gs)) rest)
+    cells
 put_step gs i g w rest cells a =
-    ap (λ v. put_groups (drop (i + 1) gs) (digits (map radix_of (drop (i + 1) gs)) (rest % v)) (put_group g (rest / v) cells)) a.weight
+    ap (λ v. put_groups (drop (i + 1) gs) (digits (map radix_of (drop (i + 1) gs)) (rest % v))
+    (put_group g (rest / v) cells)) a.weight
     ∙ sym (ap (λ xs. put_groups xs (digits (map radix_of xs) rest) cells) a.is)
 
 pub put_end : (gs : List GroupLine) (i rest : ℕ) (cells : List ℕ) → length gs ≤ i →
@@ -170,14 +187,16 @@ place_end xs i t h = ap (place_of t) (drop_end xs i h)
 pub place_le : (t : ℕ) (xs : List ℕ) → place_of t xs ≤ length xs
 place_le t [] = omega arith
 place_le t (x ∷ xs) =
-    elim (t == x) as (λ b. cond b 0 (suc (place_of t xs)) ≤ suc (length xs)) [ true ↦ omega arith | false ↦ omega (arith, place_le t xs) ]
+    elim (t == x) as (λ b. cond b 0 (suc (place_of t xs)) ≤ suc (length xs))
+    [ true ↦ omega arith | false ↦ omega (arith, place_le t xs) ]
 
 -- the same, before the weights are known
 pub at_plain : (gs : List GroupLine) (i : ℕ) (g : GroupLine) → AreNumberable gs → i < length gs →
     g ≡ get_or gs i g → At gs i g (product_from gs (i + 1))
 at_plain gs i g s h e =
     let is = drop_read gs i g h e in
-    let part : AllByRecursion IsCounted (g ∷ drop (i + 1) gs) = subst (AllByRecursion IsCounted) is (all_drop IsCounted gs i s.groups) in
+    let part : AllByRecursion IsCounted (g ∷ drop (i + 1) gs) = subst (AllByRecursion IsCounted) is
+    (all_drop IsCounted gs i s.groups) in
     record {
       is = is;
       weight = refl;
@@ -191,7 +210,12 @@ product_le : (gs : List GroupLine) → AllByRecursion IsCounted gs → (i : ℕ)
 product_le gs h zero = omega arith
 product_le [] h (suc i) = omega arith
 product_le (g ∷ gs) h (suc i) =
-    omega (arith, product_le gs h.1 i, le_product' (radix_of g) (product (map radix_of gs)) (radix_some g h.0))
+    omega (
+      arith,
+      product_le gs h.1 i,
+      le_product' (radix_of g) (product (map radix_of gs))
+          (radix_some g h.0),
+    )
 
 -- one more factor fits
 pub factor_fits : (gs : List GroupLine) (from i n : ℕ) (g : GroupLine) (r : ℕ) → AreNumberable gs →
@@ -203,9 +227,19 @@ factor_fits gs from i n g r s a e some er =
     let w = product_from gs (i + 1) in
     let whole = whole_fits gs s in
     let top = product_le gs s.groups from in
-    let eq : n * product_from gs i ≡ n * (radix_of g * product_from gs (i + 1)) = ap (λ x. n * x) a.part in
-    let turned : n * (radix_of g * product_from gs (i + 1)) ≡ (n * radix_of g) * product_from gs (i + 1) = sym (mul_assoc n (radix_of g) (product_from gs (i + 1))) in
-    let fits : n * radix_of g ≤ 134217728 = omega (arith, le_product (n * radix_of g) (product_from gs (i + 1)) a.some, e, eq, turned, top, whole) in
+    let eq : n * product_from gs i ≡ n * (radix_of g * product_from gs (i + 1)) =
+    ap (λ x. n * x) a.part in
+    let turned : n * (radix_of g * product_from gs (i + 1)) ≡ (n * radix_of g) * product_from gs
+    (i + 1) = sym (mul_assoc n (radix_of g) (product_from gs (i + 1))) in
+    let fits : n * radix_of g ≤ 134217728 = omega (
+      arith,
+      le_product (n * radix_of g) (product_from gs (i + 1)) a.some,
+      e,
+      eq,
+      turned,
+      top,
+      whole,
+    ) in
     let small : radix_of g ≤ 134217728 = omega (arith, le_product' n (radix_of g) some, fits) in
     let same : r ≡ radix_of g = omega (arith, er, small) in (
       same,

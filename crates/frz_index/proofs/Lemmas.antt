@@ -3,4 +3,17 @@ pub use Rattle.frz_index.proofs.AtNumbers.{is_candidate}
 pub use Rattle.frz_index.proofs.RoomForMen.{room_where}
 pub use Rattle.frz_index.proofs.Turns.{target_possible}
 pub use Rattle.frz_index.proofs.WholeNumbers.{Num_below, candidate-Num}
-pub use Rattle.frz_index.proofs.Membership.{member_of, of_member, number_there, number_missing, number_tells, position_tells, position_of, number_back, number_found, number_answer, position_answer, answer_valid}
+pub use Rattle.frz_index.proofs.Membership.{
+  member_of,
+  of_member,
+  number_there,
+  number_missing,
+  number_tells,
+  position_tells,
+  position_of,
+  number_back,
+  number_found,
+  number_answer,
+  position_answer,
+  answer_valid,
+}

@@ -27,12 +27,15 @@ all_small [] h k d l = absurd (omega (arith, l))
 all_small (x ∷ cells) h zero d l =
     ltb-true x 13 (and_parts (nat_lt x 13) (list_all (λ c. nat_lt c 13) cells) h).0
 all_small (x ∷ cells) h (suc k) d l =
-    all_small cells (and_parts (nat_lt x 13) (list_all (λ c. nat_lt c 13) cells) h).1 k d (omega (arith, l))
+    all_small cells (and_parts (nat_lt x 13) (list_all (λ c. nat_lt c 13) cells) h).1 k d
+    (omega (arith, l))
 
 small_all : (cells : List ℕ) → All (λ c. c < 13) cells → list_all (λ c. nat_lt c 13) cells ≡ true
 small_all [] h = refl
 small_all (x ∷ cells) h =
-    and_from (nat_lt x 13) (list_all (λ c. nat_lt c 13) cells) (lt-ltb x 13 (h zero x (omega arith))) (small_all cells (λ k d l. h (suc k) d (omega (arith, l))))
+    and_from (nat_lt x 13) (list_all (λ c. nat_lt c 13) cells)
+    (lt-ltb x 13 (h zero x (omega arith)))
+    (small_all cells (λ k d l. h (suc k) d (omega (arith, l))))
 
 cells_fit : (cells : List ℕ) → are_cells cells ≡ true → CellsFit cells
 unfolding are_cells
@@ -43,7 +46,8 @@ cells_fit cells h =
 fit_cells : (cells : List ℕ) → CellsFit cells → are_cells cells ≡ true
 unfolding are_cells
 fit_cells cells h =
-    and_from (length cells == 64) (list_all (λ c. nat_lt c 13) cells) (eq-eqb (length cells) 64 h.size) (small_all cells h.men)
+    and_from (length cells == 64) (list_all (λ c. nat_lt c 13) cells)
+    (eq-eqb (length cells) 64 h.size) (small_all cells h.men)
 
 -- a position is valid where no condition false_from_ne_true
 abbrev no_fault : Bool → Bool → Bool → Bool → Bool → Bool
@@ -63,10 +67,17 @@ pub valid_of : (p : Board) → is_valid p ≡ true → IsValid p
 unfolding is_valid
 valid_of p h =
     let parts = and_parts (are_cells p.cells) (is_ok (validity_of p)) h in
-    let tests = validity_tests p (has_kings p) (has_pawns_inside p) (has_few_men p) (has_target_in_place p) (is_in_check p (other_of p.turn)) refl refl refl refl refl in
-    let kings = and_parts (has_kings p) (has_pawns_inside p && (has_few_men p && (has_target_in_place p && not (is_in_check p (other_of p.turn))))) (sym tests ∙ parts.1) in
-    let pawns = and_parts (has_pawns_inside p) (has_few_men p && (has_target_in_place p && not (is_in_check p (other_of p.turn)))) kings.1 in
-    let men = and_parts (has_few_men p) (has_target_in_place p && not (is_in_check p (other_of p.turn))) pawns.1 in
+    let tests = validity_tests p (has_kings p) (has_pawns_inside p) (has_few_men p)
+    (has_target_in_place p) (is_in_check p (other_of p.turn)) refl refl refl refl refl in
+    let kings = and_parts (has_kings p)
+    (has_pawns_inside p
+    && (has_few_men p && (has_target_in_place p && not (is_in_check p (other_of p.turn)))))
+    (sym tests ∙ parts.1) in
+    let pawns = and_parts (has_pawns_inside p)
+    (has_few_men p && (has_target_in_place p && not (is_in_check p (other_of p.turn))))
+    kings.1 in
+    let men = and_parts (has_few_men p)
+    (has_target_in_place p && not (is_in_check p (other_of p.turn))) pawns.1 in
     let target = and_parts (has_target_in_place p) (not (is_in_check p (other_of p.turn))) men.1 in
     record {
       fits = cells_fit p.cells parts.0;
@@ -91,7 +102,8 @@ pub men_of : (gs : List GroupLine) (p : Board) → are_men_covered gs p ≡ true
     slice_index p.cells s ≢ 0 → has_state gs (slice_index p.cells s) s ≡ true
 unfolding are_men_covered
 men_of gs p h s l some =
-    elim (or_cases (is_empty p s) (has_state gs (slice_index p.cells s) s) (each_square (λ s. is_empty p s || has_state gs (slice_index p.cells s) s) h s l)) [
+    elim (or_cases (is_empty p s) (has_state gs (slice_index p.cells s) s)
+    (each_square (λ s. is_empty p s || has_state gs (slice_index p.cells s) s) h s l)) [
       | inl e ↦ absurd (some (eqb-true (slice_index p.cells s) 0 e))
       | inr c ↦ c
     ]
@@ -105,19 +117,25 @@ of_men gs p h =
     (λ s l. elim (true_or_false (is_empty p s)) [
       | inl t ↦ either_or (is_empty p s) (has_state gs (slice_index p.cells s) s) (inl t)
       | inr f ↦ either_or (is_empty p s) (has_state gs (slice_index p.cells s) s)
-          (inr (h s l (λ e. (let t : is_empty p s ≡ true = eq-eqb (slice_index p.cells s) 0 e in cc))))
+          (inr (h s l (λ e.
+          (let t : is_empty p s ≡ true = eq-eqb (slice_index p.cells s) 0 e in cc))))
     ])
 
 count_of : (p : Board) (g : GroupLine) → is_counted p g ≡ true → IsWithinCount p g
 unfolding is_counted
 count_of p g h =
-    let parts = and_parts (nat_le g.least (length (places p g))) (nat_le (length (places p g)) g.most) h in
-    record { least = leb-true g.least (length (places p g)) parts.0; most = leb-true (length (places p g)) g.most parts.1 }
+    let parts = and_parts (nat_le g.least (length (places p g)))
+    (nat_le (length (places p g)) g.most) h in
+    record {
+      least = leb-true g.least (length (places p g)) parts.0;
+      most = leb-true (length (places p g)) g.most parts.1;
+    }
 
 of_count : (p : Board) (g : GroupLine) → IsWithinCount p g → is_counted p g ≡ true
 unfolding is_counted
 of_count p g h =
-    and_from (nat_le g.least (length (places p g))) (nat_le (length (places p g)) g.most) (le-leb g.least (length (places p g)) h.least) (le-leb (length (places p g)) g.most h.most)
+    and_from (nat_le g.least (length (places p g))) (nat_le (length (places p g)) g.most)
+    (le-leb g.least (length (places p g)) h.least) (le-leb (length (places p g)) g.most h.most)
 
 counts_of : (p : Board) (gs : List GroupLine) → list_all (is_counted p) gs ≡ true →
     AllByRecursion (IsWithinCount p) gs
@@ -143,7 +161,8 @@ pub of_member : (gs : List GroupLine) (p : Board) → Member gs p → is_member 
 unfolding is_member
 of_member gs p m =
     and_from (is_valid p) (are_men_covered gs p && list_all (is_counted p) gs) (of_valid p m.valid)
-    (and_from (are_men_covered gs p) (list_all (is_counted p) gs) (of_men gs p m.men) (of_counts p gs m.counts))
+    (and_from (are_men_covered gs p) (list_all (is_counted p) gs) (of_men gs p m.men)
+    (of_counts p gs m.counts))
 
 -- numbers
 pub number_there : (gs : List GroupLine) (p : Board) → is_member gs p ≡ true →
@@ -179,7 +198,9 @@ position_there : (gs : List GroupLine) (i : ℕ) → is_member gs (candidate gs 
     Num gs (candidate gs i) ≡ i → position_at gs i ≡ Some (candidate gs i)
 unfolding position_at
 position_there gs i m e =
-    let both : (is_member gs (candidate gs i) && (Num gs (candidate gs i) == i)) ≡ true = and_from (is_member gs (candidate gs i)) (Num gs (candidate gs i) == i) m (eq-eqb (Num gs (candidate gs i)) i e) in
+    let both : (is_member gs (candidate gs i) && (Num gs (candidate gs i) == i)) ≡ true = and_from
+    (is_member gs (candidate gs i)) (Num gs (candidate gs i) == i) m
+    (eq-eqb (Num gs (candidate gs i)) i e) in
     rw both refl
 
 position_missing : (gs : List GroupLine) (i : ℕ) →
@@ -198,15 +219,18 @@ position_tells gs i p e =
           let n = eqb-true (Num gs (candidate gs i)) i parts.1 in
           let k = position_there gs i parts.0 n in
           let same : candidate gs i ≡ p = cc in
-          subst (λ q. HasNumber gs i q) same (record { member = member_of gs (candidate gs i) parts.0; number = n }))
+          subst (λ q. HasNumber gs i q) same
+          (record { member = member_of gs (candidate gs i) parts.0; number = n }))
       | inr f ↦ absurd (let k = position_missing gs i f in cc)
     ]
 
 pub position_of : (gs : List GroupLine) (i : ℕ) (p : Board) → HasNumber gs i p →
     position_at gs i ≡ Some p
 position_of gs i p h =
-    let same : candidate gs i ≡ p = ap (candidate gs) (sym h.number) ∙ candidate-Num gs p h.member in
-    let m : is_member gs (candidate gs i) ≡ true = subst (λ q. is_member gs q ≡ true) (sym same) (of_member gs p h.member) in
+    let same : candidate gs i ≡ p = ap (candidate gs) (sym h.number)
+    ∙ candidate-Num gs p h.member in
+    let m : is_member gs (candidate gs i) ≡ true = subst (λ q. is_member gs q ≡ true) (sym same)
+    (of_member gs p h.member) in
     let n : Num gs (candidate gs i) ≡ i = ap (Num gs) same ∙ h.number in
     position_there gs i m n ∙ ap Some same
 
@@ -214,7 +238,8 @@ position_of gs i p h =
 pub number_answer : (gs : List GroupLine) (q : Board) (o : Option ℕ) → IsSome o ↔ Member gs q →
     IfSome o (λ n. n ≡ Num gs q) → o ≡ number_of gs q
 number_answer gs q None h n =
-    sym (number_missing gs q (false_from_ne_true (is_member gs q) (λ t. (let k = h.1 (member_of gs q t) in cc))))
+    sym (number_missing gs q
+    (false_from_ne_true (is_member gs q) (λ t. (let k = h.1 (member_of gs q t) in cc))))
 number_answer gs q (Some i) h n = ap Some n ∙ sym (number_there gs q (of_member gs q (h.0 refl)))
 
 none_or_some : (o : Option Board) → (o ≡ None) ⊎ ((p : Board) × (o ≡ Some p))

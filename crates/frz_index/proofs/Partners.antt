@@ -33,14 +33,17 @@ same_below f h e (suc n) =
 
 same_places : (p : Board) (g : GroupLine) → places (with_black p) g ≡ places p g
 same_places p g =
-    same_below (λ k. stands (with_black p) g.colour (slice_get g.states k)) (λ k. stands p g.colour (slice_get g.states k)) (λ k. same_stands p g.colour (slice_get g.states k))
+    same_below (λ k. stands (with_black p) g.colour (slice_get g.states k))
+    (λ k. stands p g.colour (slice_get g.states k))
+    (λ k. same_stands p g.colour (slice_get g.states k))
     (length g.states)
 
 same_digits : (p : Board) (gs : List GroupLine) →
     map (digit_of (with_black p)) gs ≡ map (digit_of p) gs
 same_digits p [] = refl
 same_digits p (g ∷ gs) =
-    ap (λ d. d ∷ map (digit_of (with_black p)) gs) (ap (digit (length g.states) g.least) (same_places p g))
+    ap (λ d. d ∷ map (digit_of (with_black p)) gs)
+    (ap (digit (length g.states) g.least) (same_places p g))
     ∙ ap (λ ds. digit_of p g ∷ ds) (same_digits p gs)
 
 same_counts : (p : Board) (gs : List GroupLine) → AllByRecursion (IsWithinCount p) gs →
@@ -48,7 +51,10 @@ same_counts : (p : Board) (gs : List GroupLine) → AllByRecursion (IsWithinCoun
 same_counts p [] h = tt
 same_counts p (g ∷ gs) h =
     let same = sym (ap length (same_places p g)) in (
-      record { least = subst (λ n. g.least ≤ n) same h.0.least; most = subst (λ n. n ≤ g.most) same h.0.most },
+      record {
+        least = subst (λ n. g.least ≤ n) same h.0.least;
+        most = subst (λ n. n ≤ g.most) same h.0.most;
+      },
       same_counts p gs h.1,
     )
 
@@ -62,7 +68,8 @@ Member-with_black gs p m v =
 Num-with_black : (gs : List GroupLine) (p : Board) → p.turn ≡ White → p.ep ≡ None →
     Num gs (with_black p) ≡ Num gs p + product (map radix_of gs)
 Num-with_black gs p white none =
-    let first : turn_number gs p.turn p.ep ≡ 0 = ap (λ c. turn_number gs c p.ep) white ∙ ap (turn_number gs White) none in
+    let first : turn_number gs p.turn p.ep ≡ 0 = ap (λ c. turn_number gs c p.ep) white
+    ∙ ap (turn_number gs White) none in
     let turn = ap (λ t. t * product (map radix_of gs)) first in
     omega (arith, turn, ap (value (map radix_of gs)) (same_digits p gs))
 
@@ -71,7 +78,8 @@ Num-with_black_below : (gs : List GroupLine) (p : Board) → Member gs p →
     Num gs (with_black p) < size_of gs
 Num-with_black_below gs p m =
     let low : 1 < 2 + length (targets gs) = omega arith in
-    let below = value_below (radices gs) (1 ∷ map (digit_of p) gs) (low, digits_are p gs m.counts) in
+    let below = value_below (radices gs) (1 ∷ map (digit_of p) gs)
+    (low, digits_are p gs m.counts) in
     subst (λ ds. value (radices gs) (1 ∷ ds) < size_of gs) (sym (same_digits p gs)) below
 
 -- the number of a position with White to move and no target
@@ -83,10 +91,12 @@ pub second_is : (gs : List GroupLine) (i whole : ℕ) → IsFirst gs i →
     Num gs (with_black p) ≡ i + whole
 second_is gs i whole first e p h =
     let same : first.0 ≡ p = sym (is_candidate gs i first.0 first.1) ∙ is_candidate gs i p h in
-    Num-with_black gs p (ap (λ (b : Board). b.turn) (sym same) ∙ first.2) (ap (λ (b : Board). b.ep) (sym same) ∙ first.3)
+    Num-with_black gs p (ap (λ (b : Board). b.turn) (sym same) ∙ first.2)
+    (ap (λ (b : Board). b.ep) (sym same) ∙ first.3)
     ∙ ap (λ n. n + product (map radix_of gs)) h.number ∙ ap (λ w. i + w) (sym e)
 
 pub second_below : (gs : List GroupLine) (i whole : ℕ) → IsFirst gs i →
     whole ≡ product (map radix_of gs) → i + whole < size_of gs
 second_below gs i whole first e =
-    subst (λ n. n < size_of gs) (second_is gs i whole first e first.0 first.1) (Num-with_black_below gs first.0 first.1.member)
+    subst (λ n. n < size_of gs) (second_is gs i whole first e first.0 first.1)
+    (Num-with_black_below gs first.0 first.1.member)

@@ -22,7 +22,9 @@ product_more s l k so_far r next e er en =
     let one : product first * (radix * 1) ≡ product first * radix = omega arith in
     en ∙ ap (λ x. capped (x * r)) e ∙ capped_times (product first) r
     ∙ ap (λ x. capped (product first * x)) er
-    ∙ sym (ap (λ rs. capped (product rs)) (map-range_with_len_more (old_radix s l) 0 k k (omega arith)) ∙ ap capped (product-append first (radix ∷ []) ∙ one))
+    ∙ sym (ap (λ rs. capped (product rs))
+    (map-range_with_len_more (old_radix s l) 0 k k (omega arith))
+    ∙ ap capped (product-append first (radix ∷ []) ∙ one))
 
 pub product_end : (g : GroupLine) (s k so_far : ℕ) → s ≡ length g.states → k ≡ g.most →
     so_far ≡ capped (product (radices_from s g.least 0 k)) →
@@ -53,7 +55,10 @@ pub times_start : (gs : List GroupLine) (n : ℕ) → n ≡ length (targets gs) 
     OldTimes gs 0 (2 + n)
 unfolding old_size_of
 times_start gs n e h =
-    record { fits = omega arith; same = ap (λ n. capped ((2 + n) * product (flat_map old_radices gs))) e }
+    record {
+      fits = omega arith;
+      same = ap (λ n. capped ((2 + n) * product (flat_map old_radices gs))) e;
+    }
 
 pub times_more : (gs : List GroupLine) (i total r next : ℕ) (g : GroupLine) → i < length gs →
     g ≡ get_or gs i g → OldTimes gs i total → r ≡ capped (product (old_radices g)) →
@@ -65,7 +70,8 @@ times_more gs i total r next g low e h er en =
       same =
           times_step total r next (product (old_radices g)) (product rest) er en
           ∙ ap (λ x. capped (total * x)) (sym (product-append (old_radices g) rest))
-          ∙ sym (ap (λ xs. capped (total * product (flat_map old_radices xs))) (drop_read gs i g low e))
+          ∙ sym (ap (λ xs. capped (total * product (flat_map old_radices xs)))
+          (drop_read gs i g low e))
           ∙ h.same;
     }
 
@@ -73,4 +79,5 @@ pub times_end : (gs : List GroupLine) (i total : ℕ) → length gs ≤ i → Ol
     total ≡ capped (old_size_of gs)
 times_end gs i total past h =
     let one : total ≡ capped (total * 1) = (let f = h.fits in omega arith) in
-    one ∙ sym (ap (λ xs. capped (total * product (flat_map old_radices xs))) (drop_end gs i past)) ∙ h.same
+    one ∙ sym (ap (λ xs. capped (total * product (flat_map old_radices xs))) (drop_end gs i past))
+    ∙ h.same

@@ -1,4 +1,5 @@
--- A man that stands in a position of the set has room where it stands, once it is taken off the board.
+-- A man that stands in a position of the set has room where it
+-- stands, once it is taken off the board.
 use Rattle.std.proofs.Common.{◌≡◌, ◌≢◌, ℕ, zero, suc, ◌+◌, ◌-◌, ◌<◌, ◌≤◌, Bool, true, false, ◌&&◌, ◌||◌, List, [], ◌∷◌, length, slice_index, Option, None, Some, refl, ap, sym, ◌∙◌, subst, arith, inl, inr}
 use Rattle.std.specs.Prelude.{◌==◌, nat_lt}
 use Rattle.std.specs.List.{AllByRecursion, list_any, slice_get}
@@ -29,7 +30,8 @@ use Rattle.frz_index.proofs.Charting.{kind_back, kind_numbers}
 pub any_at : {X : Type 0} (test : X → Bool) (xs : List X) (i : ℕ) (x : X) →
     slice_get xs i ≡ Some x → test x ≡ true → list_any test xs ≡ true
 any_at test xs i x e h =
-    list_any_at test xs i x (slice_get_within xs i x e) (ap test (get_or_from_slice_get xs i x x e) ∙ h)
+    list_any_at test xs i x (slice_get_within xs i x e)
+    (ap test (get_or_from_slice_get xs i x x e) ∙ h)
 
 pub any_found : {X : Type 0} (test : X → Bool) (xs : List X) → list_any test xs ≡ true →
     (i : ℕ) × (x : X) × (slice_get xs i ≡ Some x) × (test x ≡ true)
@@ -64,19 +66,25 @@ is_at c man s state =
 at_parts : (c : Colour) (man : Man) (s : ℕ) (state : Kind × ℕ) → is_at c man s state ≡ true →
     (c ≡ man.colour) × (state.0 ≡ man.kind) × (state.1 ≡ s)
 at_parts c man s state h =
-    let parts = and_parts (cell_of_man (record { colour = c; kind = state.0 }) == cell_of_man man) (state.1 == s) h in
-    let same = same_man (record { colour = c; kind = state.0 }) man (eqb-true (cell_of_man (record { colour = c; kind = state.0 })) (cell_of_man man) parts.0) in
+    let parts = and_parts (cell_of_man (record { colour = c; kind = state.0 }) == cell_of_man man)
+    (state.1 == s) h in
+    let same = same_man (record { colour = c; kind = state.0 }) man
+    (eqb-true (cell_of_man (record { colour = c; kind = state.0 })) (cell_of_man man)
+    parts.0) in
     (ap (λ (m : Man). m.colour) same, ap (λ (m : Man). m.kind) same, eqb-true state.1 s parts.1)
 
 at_itself : (man : Man) (s : ℕ) (kind : Kind) → kind ≡ man.kind →
     is_at man.colour man s (kind, s) ≡ true
 at_itself man s kind e =
-    and_from _ _ (eq-eqb (cell_of_man (record { colour = man.colour; kind = kind })) (cell_of_man man) (ap (λ k. cell_of_man (record { colour = man.colour; kind = k })) e)) (eq-eqb s s refl)
+    and_from _ _ (eq-eqb (cell_of_man (record { colour = man.colour; kind = kind }))
+    (cell_of_man man) (ap (λ k. cell_of_man (record { colour = man.colour; kind = k })) e))
+    (eq-eqb s s refl)
 
 -- the chart's word of a kind has the squares of the states
 pub state_word : (states : List (Kind × ℕ)) (chart : Chart) → IsChart states chart →
     (man : Man) (s : ℕ) → s < 64 →
-    list_any (is_at man.colour man s) states ≡ has_square (slice_index chart.words (number_of_kind man.kind - 1)) s
+    list_any (is_at man.colour man s) states ≡ has_square
+    (slice_index chart.words (number_of_kind man.kind - 1)) s
 state_word states chart h man s low =
     let word = has_square (slice_index chart.words (number_of_kind man.kind - 1)) s in
     let numbers = kind_numbers man.kind in
@@ -88,21 +96,27 @@ state_word states chart h man s low =
     ∙ ap (has_square (slice_index chart.words (number_of_kind found.1.0 - 1))) (sym parts.2)
     ∙ h.words_are.all found.0 found.1 found.2)
     (λ e.
-    let only = h.words_are.only (number_of_kind man.kind - 1) s (omega (arith, numbers.0, numbers.1)) low e in
-    let number : number_of_kind man.kind - 1 + 1 ≡ number_of_kind man.kind = omega (arith, numbers.0) in
-    any_at (is_at man.colour man s) states only.0 (kind_of_number (number_of_kind man.kind - 1 + 1), s) only.1
-    (at_itself man s (kind_of_number (number_of_kind man.kind - 1 + 1)) (ap kind_of_number number ∙ kind_back man.kind)))
+    let only = h.words_are.only (number_of_kind man.kind - 1) s
+    (omega (arith, numbers.0, numbers.1)) low e in
+    let number : number_of_kind man.kind - 1 + 1 ≡ number_of_kind man.kind = omega
+    (arith, numbers.0) in
+    any_at (is_at man.colour man s) states only.0
+    (kind_of_number (number_of_kind man.kind - 1 + 1), s) only.1
+    (at_itself man s (kind_of_number (number_of_kind man.kind - 1 + 1))
+    (ap kind_of_number number ∙ kind_back man.kind)))
 
 -- a group of the other side has no state of the man
 pub no_state : (g : GroupLine) (man : Man) (s : ℕ) → (g.colour ≡ man.colour → ⊥) →
     is_state (cell_of_man man) s g ≡ false
 no_state g man s other =
     not_passed (is_state (cell_of_man man) s g)
-    (λ e. let found = any_found (is_at g.colour man s) g.states e in other (at_parts g.colour man s found.1 found.3).0)
+    (λ e. let found = any_found (is_at g.colour man s) g.states e in
+    other (at_parts g.colour man s found.1 found.3).0)
 
 pub own_state : (g : GroupLine) (chart : Chart) → IsChart g.states chart → (man : Man) (s : ℕ) →
     s < 64 → g.colour ≡ man.colour →
-    is_state (cell_of_man man) s g ≡ has_square (slice_index chart.words (number_of_kind man.kind - 1)) s
+    is_state (cell_of_man man) s g ≡ has_square
+    (slice_index chart.words (number_of_kind man.kind - 1)) s
 own_state g chart h man s low own =
     ap (λ c. list_any (is_at c man s) g.states) own ∙ state_word g.states chart h man s low
 
@@ -131,7 +145,8 @@ places_lt f h (suc n) j more l off on =
           let here : h n ≡ true = ap h (sym same) ∙ on in
           rw (gone, here) (omega (arith, rest))
       | inr other ↦
-          let rest = places_lt f h n j (λ k l. more k (omega arith)) (omega (arith, l, other)) off on in
+          let rest = places_lt f h n j (λ k l. more k (omega arith)) (omega (arith, l, other)) off
+          on in
           elim (cases_Bool (f n)) [
             | inl e ↦ rw (e, more n (omega arith) e) (omega (arith, rest))
             | inr e ↦ elim (cases_Bool (h n)) [
@@ -157,7 +172,8 @@ pub record LeavesOut (p r : Board) (man : Man) (s : ℕ) : Type 0 where
   pub others : (k : Kind) (x : ℕ) → x ≢ s → has r man.colour k x ≡ true →
       has p man.colour k x ≡ true
 
-module _ (p r : Board) (man : Man) (s : ℕ) (h : LeavesOut p r man s) (g : GroupLine) (own : g.colour ≡ man.colour) where
+module _ (p r : Board) (man : Man) (s : ℕ) (h : LeavesOut p r man s) (g : GroupLine)
+    (own : g.colour ≡ man.colour) where
   gone_of : (k : Kind) (x : ℕ) → x ≡ s → has r g.colour k x ≡ false
   gone_of k x e = ap (λ c. has r c k x) own ∙ ap (has r man.colour k) e ∙ h.gone k
 
@@ -174,20 +190,25 @@ module _ (p r : Board) (man : Man) (s : ℕ) (h : LeavesOut p r man s) (g : Grou
   pub fewer : (j : ℕ) (state : Kind × ℕ) → slice_get g.states j ≡ Some state → state.0 ≡ man.kind →
       state.1 ≡ s → length (places r g) < length (places p g)
   fewer j state e kind at =
-      places_lt (λ k. stands r g.colour (slice_get g.states k)) (λ k. stands p g.colour (slice_get g.states k)) (length g.states) j
+      places_lt (λ k. stands r g.colour (slice_get g.states k))
+      (λ k. stands p g.colour (slice_get g.states k)) (length g.states) j
       (λ k l f. stands_of (slice_get g.states k) f)
       (slice_get_within g.states j state e)
       (ap (stands r g.colour) e ∙ gone_of state.0 state.1 at)
       (ap (stands p g.colour) e
-      ∙ eq-eqb (slice_index p.cells state.1) (cell_of_man (record { colour = g.colour; kind = state.0 }))
-      (ap (slice_index p.cells) at ∙ h.stood ∙ ap (λ c. cell_of_man (record { colour = c; kind = man.kind })) (sym own) ∙ ap (λ k. cell_of_man (record { colour = g.colour; kind = k })) (sym kind)))
+      ∙ eq-eqb (slice_index p.cells state.1)
+      (cell_of_man (record { colour = g.colour; kind = state.0 }))
+      (ap (slice_index p.cells) at ∙ h.stood
+      ∙ ap (λ c. cell_of_man (record { colour = c; kind = man.kind })) (sym own)
+      ∙ ap (λ k. cell_of_man (record { colour = g.colour; kind = k })) (sym kind)))
 
 -- where a man of a position of the set stands there is room for it once it is left out
 pub room_where : (gs : List GroupLine) (p r : Board) (man : Man) (s : ℕ) → Member gs p → s < 64 →
     LeavesOut p r man s → has_room gs r man s ≡ true
 room_where gs p r man s m low h =
     let some : slice_index p.cells s ≢ 0 = λ e. some_cell man.colour man.kind (sym h.stood ∙ e) in
-    let covered : has_state gs (cell_of_man man) s ≡ true = ap (λ x. has_state gs x s) (sym h.stood) ∙ m.men s low some in
+    let covered : has_state gs (cell_of_man man) s ≡ true = ap (λ x. has_state gs x s) (sym h.stood)
+    ∙ m.men s low some in
     let group = any_found (is_state (cell_of_man man) s) gs covered in
     let g = group.1 in
     let state = any_found (is_at g.colour man s) g.states group.3 in
@@ -195,8 +216,11 @@ room_where gs p r man s m low h =
     let less = fewer p r man s h g parts.0 state.0 state.1 state.2 parts.1 parts.2 in
     let counted = counted_at (IsWithinCount p) gs group.0 g m.counts group.2 in
     let most = counted.most in
-    let room : nat_lt (length (places r g)) g.most ≡ true = (let below : length (places r g) < g.most = omega (arith, less, most) in lt-ltb (length (places r g)) g.most below) in
-    any_at (takes_one_more r man s) gs group.0 g group.2 (and_from (is_state (cell_of_man man) s g) (nat_lt (length (places r g)) g.most) group.3 room)
+    let room : nat_lt (length (places r g)) g.most ≡ true =
+    (let below : length (places r g) < g.most = omega (arith, less, most) in
+    lt-ltb (length (places r g)) g.most below) in
+    any_at (takes_one_more r man s) gs group.0 g group.2
+    (and_from (is_state (cell_of_man man) s g) (nat_lt (length (places r g)) g.most) group.3 room)
 
 -- no room where the set does not know the man
 pub room_unknown : (gs : List GroupLine) (r : Board) (man : Man) (s : ℕ) →
@@ -205,7 +229,8 @@ room_unknown gs r man s h =
     not_passed (has_room gs r man s)
     (λ e.
     let found = any_found (takes_one_more r man s) gs e in
-    let state = (and_parts (is_state (cell_of_man man) s found.1) (nat_lt (length (places r found.1)) found.1.most) found.3).0 in
+    let state = (and_parts (is_state (cell_of_man man) s found.1)
+    (nat_lt (length (places r found.1)) found.1.most) found.3).0 in
     let covered = any_at (is_state (cell_of_man man) s) gs found.0 found.1 found.2 state in
     let known = either_or (cell_of_man man == 0) (has_state gs (cell_of_man man) s) (inr covered) in
     cc)

@@ -42,7 +42,8 @@ place_found x (y ∷ ys) h =
 
 -- the turn state is found again
 pub turn_back : (gs : List GroupLine) (c : Colour) (o : Option ℕ) →
-    ((t : ℕ) → o ≡ Some t → (list_any (λ y. t == y) (targets gs) ≡ true) × (mover_at_target t ≡ c)) → turn_in (targets gs) (turn_number gs c o) ≡ (c, o)
+    ((t : ℕ) → o ≡ Some t → (list_any (λ y. t == y) (targets gs) ≡ true) × (mover_at_target t ≡ c))
+    → turn_in (targets gs) (turn_number gs c o) ≡ (c, o)
 turn_back gs c (Some t) h =
     let f = h t refl in
     ap target_state (place_found t (targets gs) f.0) ∙ ap (λ d. (d, Some t)) f.1
@@ -68,7 +69,8 @@ among_filter f x xs e h =
 
 square_among : (s : ℕ) → s < 64 → list_any (λ y. s == y) squares ≡ true
 square_among s h =
-    list_any_at (λ y. s == y) squares s 0 (omega (arith, length-squares)) (eq-eqb s (get_or squares s 0) (sym (get_or-squares s h)))
+    list_any_at (λ y. s == y) squares s 0 (omega (arith, length-squares))
+    (eq-eqb s (get_or squares s 0) (sym (get_or-squares s h)))
 
 pub is_target_in : (gs : List GroupLine) (t : ℕ) → t < 64 → is_possible gs t ≡ true →
     list_any (λ y. t == y) (targets gs) ≡ true
@@ -90,14 +92,16 @@ cell_some Black Knight = lit< tt
 cell_some Black Pawn = lit< tt
 
 -- a man of the board has a state
-pub covered_from : (gs : List GroupLine) (p : Board) → Member gs p → (c : Colour) (k : Kind) (s : ℕ) → has p c k s ≡ true → has_state gs (cell_of_man (record { colour = c; kind = k })) s ≡ true
+pub covered_from : (gs : List GroupLine) (p : Board) → Member gs p → (c : Colour) (k : Kind) (s : ℕ)
+    → has p c k s ≡ true → has_state gs (cell_of_man (record { colour = c; kind = k })) s ≡ true
 covered_from gs p m c k s h =
     let e = eqb-true (slice_index p.cells s) (cell_of_man (record { colour = c; kind = k })) h in
     let some = cell_some c k in
     let low : s < 64 =
     elim (cases_lt s 64) [
       | inl l ↦ l
-      | inr past ↦ absurd (let none = get_or_past p.cells s 0 (omega (arith, m.valid.fits.size)) in omega arith)
+      | inr past ↦ absurd (let none = get_or_past p.cells s 0 (omega (arith, m.valid.fits.size)) in
+          omega arith)
     ] in
     let there : slice_index p.cells s ≢ 0 = λ none. omega arith in
     ap (λ cell. has_state gs cell s) (sym e) ∙ m.men s low there
@@ -136,23 +140,34 @@ mover_is Black t h =
 
 beside_possible : (gs : List GroupLine) (p : Board) → Member gs p → (c : Colour) (b : ℕ) →
     has_pawn_beside p c b ≡ true →
-    list_any (λ s. (ranks_apart s b == 0 && files_apart s b == 1) && has_state gs (pawn c) s) squares ≡ true
+    list_any (λ s. (ranks_apart s b == 0 && files_apart s b == 1) && has_state gs (pawn c) s)
+    squares ≡ true
 beside_possible gs p m c b h =
-    any_more (λ s. (ranks_apart s b == 0 && files_apart s b == 1) && has p c Pawn s) (λ s. (ranks_apart s b == 0 && files_apart s b == 1) && has_state gs (pawn c) s)
-    (λ s k. let parts = and_parts (ranks_apart s b == 0 && files_apart s b == 1) (has p c Pawn s) k in
-    both (ranks_apart s b == 0 && files_apart s b == 1) (has_state gs (pawn c) s) parts.0 (covered_from gs p m c Pawn s parts.1))
+    any_more (λ s. (ranks_apart s b == 0 && files_apart s b == 1) && has p c Pawn s)
+    (λ s. (ranks_apart s b == 0 && files_apart s b == 1) && has_state gs (pawn c) s)
+    (λ s k. let parts = and_parts (ranks_apart s b == 0 && files_apart s b == 1) (has p c Pawn s)
+    k in
+    both (ranks_apart s b == 0 && files_apart s b == 1) (has_state gs (pawn c) s) parts.0
+    (covered_from gs p m c Pawn s parts.1))
     squares h
 
 passed_possible : (gs : List GroupLine) (p : Board) → Member gs p → (c : Colour) (t : ℕ) →
     is_passed p c t ≡ true → (is_passing_rank c t ≡ true) × (is_possible_for gs c t ≡ true)
 passed_possible gs p m c t h =
     let parts = and_parts (has_passed p c t) (has_pawn_beside p (other_of c) (ahead c t)) h in
-    let pawns = and_parts (is_passing_rank c t && (is_empty p t && is_empty p (ahead (other_of c) t))) (has p c Pawn (ahead c t)) parts.0 in
-    let place = and_parts (is_passing_rank c t) (is_empty p t && is_empty p (ahead (other_of c) t)) pawns.0 in
-    let beside = list_any (λ s. (ranks_apart s (ahead c t) == 0 && files_apart s (ahead c t) == 1) && has_state gs (pawn (other_of c)) s) squares in (
+    let pawns = and_parts
+    (is_passing_rank c t && (is_empty p t && is_empty p (ahead (other_of c) t)))
+    (has p c Pawn (ahead c t)) parts.0 in
+    let place = and_parts (is_passing_rank c t) (is_empty p t && is_empty p (ahead (other_of c) t))
+    pawns.0 in
+    let beside = list_any
+    (λ s. (ranks_apart s (ahead c t) == 0 && files_apart s (ahead c t) == 1) && has_state gs
+    (pawn (other_of c)) s) squares in (
       place.0,
       both (is_passing_rank c t) (has_state gs (pawn c) (ahead c t) && beside) place.0
-          (both (has_state gs (pawn c) (ahead c t)) beside (covered_from gs p m c Pawn (ahead c t) pawns.1) (beside_possible gs p m (other_of c) (ahead c t) parts.1)),
+          (both (has_state gs (pawn c) (ahead c t)) beside
+          (covered_from gs p m c Pawn (ahead c t) pawns.1)
+          (beside_possible gs p m (other_of c) (ahead c t) parts.1)),
     )
 
 -- the target of a position of the set is possible
@@ -160,7 +175,8 @@ pub target_place : (gs : List GroupLine) (p : Board) → Member gs p → (t : �
     (t < 64) × (is_possible gs t ≡ true) × (mover_at_target t ≡ p.turn)
 unfolding has_target_in_place
 target_place gs p m t e =
-    let stands : is_passed p (other_of p.turn) t ≡ true = ap (target_stands p) (sym e) ∙ m.valid.target in
+    let stands : is_passed p (other_of p.turn) t ≡ true = ap (target_stands p) (sym e)
+    ∙ m.valid.target in
     let f = passed_possible gs p m (other_of p.turn) t stands in
     let mover = mover_is p.turn t f.0 in
     (mover.1, possible_from gs (other_of p.turn) t f.1, mover.0)

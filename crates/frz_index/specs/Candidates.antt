@@ -42,4 +42,8 @@ abbrev pub candidate : List GroupLine → ℕ → Board
 candidate gs i =
     let rest = i % product (map radix_of gs) in
     let turn = turn_in (targets gs) (i / product (map radix_of gs)) in
-    record { cells = put_groups gs (digits (map radix_of gs) rest) no_men; turn = turn.0; ep = turn.1 }
+    record {
+      cells = put_groups gs (digits (map radix_of gs) rest) no_men;
+      turn = turn.0;
+      ep = turn.1;
+    }

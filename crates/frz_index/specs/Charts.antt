@@ -1,4 +1,5 @@
--- The chart of a group: where its states stand among all 384 states, which are in order by kind, then square.
+-- The chart of a group: where its states stand among all 384
+-- states, which are in order by kind, then square.
 use Rattle.std.specs.Prelude.{ℕ, ◌+◌, ◌-◌, ◌*◌, ◌<◌, ◌≤◌, ◌≡◌, ◌==◌, Bool, false, true, List, length, slice_index, Option, None, Some}
 use Rattle.std.specs.List.{list_any, slice_get}
 use Rattle.frz_board.specs.declared.man.Kind.{Kind}
@@ -58,7 +59,8 @@ abbrev pub is_on : ℕ → Option (Kind × ℕ) → Bool
 is_on s None = false
 is_on s (Some state) = state.1 == s
 
--- how many of the group's men stand at its first n places, the rank of their places, and their squares
+-- how many of the group's men stand at its first n places, the
+-- rank of their places, and their squares
 pub record IsCounted (p : Board) (g : GroupLine) (n : ℕ) (x : Counted) : Type 0 where
   pub count_is : x.count ≡ length (places_among p g.colour g.states n)
   pub few : x.count ≤ g.most

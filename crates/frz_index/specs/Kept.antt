@@ -31,10 +31,11 @@ is_known gs cell s = cell == 0 || has_state gs cell s
 -- of each cell on each square, whether it is known
 pub record AreKnown (gs : List GroupLine) (known_cells : List Bool) : Type 0 where
   pub size : length known_cells ≡ CELLS
-  pub known : (i : ℕ) → i < CELLS → slice_index_or known_cells i false ≡ is_known gs (i / 64) (i % 64)
+  pub known : (i : ℕ) → i < CELLS → slice_index_or known_cells i false ≡ is_known gs (i / 64)
+      (i % 64)
 
--- what is kept is right: the weights, the numbers of all groups, the targets, the known cells, the charts, and
--- the rows of binomials up to 384
+-- what is kept is right: the weights, the numbers of all groups, the targets, the known cells, the
+-- charts, and the rows of binomials up to 384
 pub record IsPlan (plan : Plan) : Type 0 where
   pub numberable : AreNumberable plan.groups.items
   pub weights_are : AreWeights plan.groups.items plan.weights.items

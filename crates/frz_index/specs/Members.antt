@@ -9,8 +9,8 @@ use Rattle.frz_sets.specs.Sets.{has_state, radices}
 use Rattle.frz_index.specs.Places.{IsWithinCount, digit_of}
 use Rattle.frz_index.specs.TurnStates.{turn_number}
 
--- a position of the set: it is valid, each man has a state of a group of its colour, and each group has neither
--- too few men nor too many
+-- a position of the set: it is valid, each man has a state of a group of its colour, and each group
+-- has neither too few men nor too many
 pub record Member (gs : List GroupLine) (p : Board) : Type 0 where
   pub valid : IsValid p
   pub men : (s : ℕ) → s < 64 → slice_index p.cells s ≢ 0 →

@@ -22,7 +22,8 @@ pub record ArePlaced (p : Board) (c : Colour) (states : List (Kind × ℕ))
   pub count_is : count ≡ length (places_among p c states n)
   pub few : count ≤ most
   pub number_is : number
-      ≡ capped (value_onto start (radices_from (length states) least 0 count) (reverse (places_among p c states n)))
+      ≡ capped (value_onto start (radices_from (length states) least 0 count)
+      (reverse (places_among p c states n)))
 
 -- the turn state: a target's is that of the possible targets before it, behind White and Black
 abbrev pub turn_before : List GroupLine → Colour → Option ℕ → ℕ

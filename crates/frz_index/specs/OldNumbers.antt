@@ -8,7 +8,8 @@ use Rattle.frz_sets.specs.Sets.{targets}
 use Rattle.frz_index.specs.Places.{places}
 use Rattle.frz_index.specs.TurnStates.{turn_number}
 
--- the radix of digit k, from 0: the states; and for a man above the least one value more, which means absent
+-- the radix of digit k, from 0: the states; and for a man above
+-- the least one value more, which means absent
 abbrev pub old_radix : ℕ → ℕ → ℕ → ℕ
 old_radix states least k = if nat_lt k least then states else states + 1
 
@@ -21,8 +22,8 @@ abbrev pub old_digits : Board → GroupLine → List ℕ
 old_digits p g =
     reverse (places p g) ++ replicate (g.most - length (places p g)) (length g.states)
 
--- a position's number: the turn state, and for each digit of each group the number so far times the digit's
--- radix, plus the digit
+-- a position's number: the turn state, and for each digit of each group the number so far times the
+-- digit's radix, plus the digit
 unfoldable pub OldNum : List GroupLine → Board → ℕ
 OldNum gs p =
     value_onto (turn_number gs p.turn p.ep) (flat_map old_radices gs) (flat_map (old_digits p) gs)

@@ -58,7 +58,10 @@ pub(crate) fn put_all(
     requires weights { AreWeights groups.now weights.now }
     requires rows { triangle.now ≡ MOST_STATES + 1 }
     ensures { p.new ≡
-        record p.old { cells = put_groups groups.now (digits (map radix_of groups.now) number) p.old.cells } }
+        record p.old {
+          cells = put_groups groups.now (digits (map radix_of groups.now) number)
+              p.old.cells;
+        } }
 {
     let mut rest = number;
     for i in 0..groups.len() {

@@ -11,8 +11,9 @@ ghost use Rattle.frz_index.specs.Membership.{is_member, number_of, position_at};
 ghost use Rattle.frz_index.specs.Candidates.{candidate};
 ghost use Rattle.frz_index.specs.OldNumbers.{OldNum, old_size_of};
 
-/// The number of a position of a set is below the size, and no other position has it. It starts with
-/// the turn state, is multiplied by each group's radix in order, and the group's digit is added.
+/// The number of a position of a set is below the size, and no other position has it. It starts
+/// with the turn state, is multiplied by each group's radix in
+/// order, and the group's digit is added.
 pub fn numbers()
     ensures below { (gs : List GroupLine) (p : Board) → Member gs p → Num gs p < size_of gs }
     ensures found_again { (gs : List GroupLine) (p : Board) → Member gs p →

@@ -75,7 +75,10 @@ fn put_ranked(
     requires short { length states.now ≤ MOST_STATES }
     requires rows { length states.now < triangle.now }
     ensures { p.new ≡
-        record p.old { cells = put_men colour states.now (unrank (length states.now) count rank) p.old.cells } }
+        record p.old {
+          cells = put_men colour states.now (unrank (length states.now) count rank)
+              p.old.cells;
+        } }
 {
     let mut end = states.len() as u32;
     let mut left = count;

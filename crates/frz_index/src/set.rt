@@ -194,7 +194,8 @@ impl Set {
     /// move and no target.
     pub fn with_black_to_move(&self, i: u32) -> u32
         requires first { (p : Board) × HasNumber self.now i p × (p.turn ≡ White) × (p.ep ≡ None) }
-        ensures number { (p : Board) → HasNumber self.now i p → Num self.now (with_black p) ≡ result }
+        ensures number { (p : Board) → HasNumber self.now i p
+            → Num self.now (with_black p) ≡ result }
         ensures member { (p : Board) → HasNumber self.now i p → IsValid (with_black p) →
             Member self.now (with_black p) }
         ensures inside { result < size_of self.now }

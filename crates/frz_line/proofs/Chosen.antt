@@ -25,47 +25,77 @@ use Rattle.frz_line.specs.Sights.{choices_by}
 use Rattle.frz_line.proofs.Choices.{found_at}
 use Rattle.frz_line.proofs.Goings.{seen_by_codes}
 
-pub at_in : (arms : List (Arm Step ℕ Value)) (i : ℕ) (a : Arm Step ℕ Value) → slice_get arms i ≡ Some a → Contains arms a
+pub at_in : (arms : List (Arm Step ℕ Value)) (i : ℕ) (a : Arm Step ℕ Value)
+    → slice_get arms i ≡ Some a → Contains arms a
 at_in arms i a e =
-    subst (λ (z : Arm Step ℕ Value). Contains arms z) (get_or_from_slice_get arms i a a e) (All-contains_itself arms i a (slice_get_within arms i a e))
+    subst (λ (z : Arm Step ℕ Value). Contains arms z) (get_or_from_slice_get arms i a a e)
+    (All-contains_itself arms i a (slice_get_within arms i a e))
 
 -- that the code asks for one move alone
 abbrev pub AsksForOne : Type 0
-AsksForOne = (arena : Arena Step ℕ Value) (side : Colour) (entry : ℕ → ℕ) (mover : Colour) (p : ℕ) (i j : ℕ) (a b : Arm Step ℕ Value) → IsChosen arena side entry mover p i a → IsChosen arena side entry mover p j b → (i ≡ j) × (a ≡ b)
+AsksForOne = (arena : Arena Step ℕ Value) (side : Colour) (entry : ℕ → ℕ) (mover : Colour) (p : ℕ)
+    (i j : ℕ) (a b : Arm Step ℕ Value) → IsChosen arena side entry mover p i a
+    → IsChosen arena side entry mover p j b → (i ≡ j) × (a ≡ b)
 
 -- that the moves of a number and their codes give its local code
 abbrev pub FillsLocal : Type 0
-FillsLocal = (arena : Arena Step ℕ Value) → arena.class ≡ class_of → arena.lag ≡ lag_of → (side : Colour) (kept : List ℕ) (i : ℕ) → node_code side (arena.node i) (free_among (arena.arms i) (map (arm_code side kept) (arena.arms i))) (map (arm_code side kept) (arena.arms i)) ≡ local_code arena side (λ k. slice_index kept k) i
+FillsLocal = (arena : Arena Step ℕ Value) → arena.class ≡ class_of → arena.lag ≡ lag_of
+    → (side : Colour) (kept : List ℕ) (i : ℕ)
+    → node_code side (arena.node i)
+    (free_among (arena.arms i) (map (arm_code side kept) (arena.arms i)))
+    (map (arm_code side kept) (arena.arms i)) ≡ local_code arena side (λ k. slice_index kept k) i
 
-pub local_code_of : FillsLocal → (arena : Arena Step ℕ Value) (size : ℕ) → IsFinite arena size → (side : Colour) (kept : List ℕ) (i : ℕ) (arms : List (Arm Step ℕ Value)) (cs : List ℕ) → arms ≡ arena.arms i → cs ≡ map (arm_code side kept) arms → node_code side (arena.node i) (free_among arms cs) cs ≡ local_code arena side (λ k. slice_index kept k) i
+pub local_code_of : FillsLocal → (arena : Arena Step ℕ Value) (size : ℕ) → IsFinite arena size
+    → (side : Colour) (kept : List ℕ) (i : ℕ) (arms : List (Arm Step ℕ Value)) (cs : List ℕ)
+    → arms ≡ arena.arms i → cs ≡ map (arm_code side kept) arms
+    → node_code side (arena.node i) (free_among arms cs) cs ≡ local_code arena side
+    (λ k. slice_index kept k) i
 local_code_of fills arena size finite side kept i arms cs are same =
     ap (λ (z : List ℕ). node_code side (arena.node i) (free_among arms z) z) same
-    ∙ (ap (λ (z : List (Arm Step ℕ Value)). node_code side (arena.node i) (free_among z (map (arm_code side kept) z)) (map (arm_code side kept) z)) are
+    ∙ (ap (λ (z : List (Arm Step ℕ Value)). node_code side (arena.node i)
+    (free_among z (map (arm_code side kept) z)) (map (arm_code side kept) z)) are
     ∙ fills arena finite.class finite.lag side kept i)
 
--- the move that was found is the arm that the player's code asks for, and its code is the one of the file
-pub record IsArmOf (arena : Arena Step ℕ Value) (side mover : Colour) (kept : List ℕ) (number place : ℕ) (a : Arm Step ℕ Value) (code : ℕ) : Type 0 where
+-- the move that was found is the arm that the player's code
+-- asks for, and its code is the one of the file
+pub record IsArmOf (arena : Arena Step ℕ Value) (side mover : Colour) (kept : List ℕ)
+    (number place : ℕ) (a : Arm Step ℕ Value) (code : ℕ) : Type 0 where
   pub chosen : IsChosen arena side (λ i. slice_index kept i) mover number place a
   pub is : words.arm_code arena side (λ i. slice_index kept i) a ≡ code
 
-pub arm_found : (arena : Arena Step ℕ Value) (size : ℕ) → IsFinite arena size → (side mover : Colour) (kept : List ℕ) (number code : ℕ) (arms : List (Arm Step ℕ Value)) (cs : List ℕ) → arms ≡ arena.arms number → cs ≡ map (arm_code side kept) arms → slice_index kept number ≡ code → (place : ℕ) (x : Choice) (a : Arm Step ℕ Value) → IsFound has_code (is_win code) code (choices_by (same_colour mover side) arms cs) place x → slice_get arms place ≡ Some a → IsArmOf arena side mover kept number place a x.code
-arm_found arena size finite side mover kept number code arms cs are same agrees place x a found there =
+pub arm_found : (arena : Arena Step ℕ Value) (size : ℕ) → IsFinite arena size
+    → (side mover : Colour) (kept : List ℕ) (number code : ℕ) (arms : List (Arm Step ℕ Value))
+    (cs : List ℕ) → arms ≡ arena.arms number → cs ≡ map (arm_code side kept) arms
+    → slice_index kept number ≡ code → (place : ℕ) (x : Choice) (a : Arm Step ℕ Value)
+    → IsFound has_code (is_win code) code (choices_by (same_colour mover side) arms cs) place x
+    → slice_get arms place ≡ Some a → IsArmOf arena side mover kept number place a x.code
+arm_found arena size finite side mover kept number code arms cs are same agrees place x a found
+    there =
     let entry : ℕ → ℕ = λ i. slice_index kept i in
     let seen = choice_of arena side entry mover in
     let choices : choices_by (same_colour mover side) arms cs ≡ map seen (arena.arms number) = (
     ap (choices_by (same_colour mover side) arms) same
-    ∙ (seen_by_codes arena finite.class finite.lag side mover kept arms ∙ ap (λ (z : List (Arm Step ℕ Value)). map seen z) are)) in
-    let mapped : IsFound has_code (is_win code) code (map seen (arena.arms number)) place x = subst (λ (z : List Choice). IsFound has_code (is_win code) code z place x) choices found in
-    let own : IsFound has_code (is_win (entry number)) (entry number) (map seen (arena.arms number)) place x = subst (λ (c : ℕ). IsFound has_code (is_win c) c (map seen (arena.arms number)) place x) (sym agrees) mapped in
+    ∙ (seen_by_codes arena finite.class finite.lag side mover kept arms
+    ∙ ap (λ (z : List (Arm Step ℕ Value)). map seen z) are)) in
+    let mapped : IsFound has_code (is_win code) code (map seen (arena.arms number)) place x = subst
+    (λ (z : List Choice). IsFound has_code (is_win code) code z place x) choices found in
+    let own : IsFound has_code (is_win (entry number)) (entry number) (map seen (arena.arms number))
+    place x = subst (λ (c : ℕ). IsFound has_code (is_win c) c (map seen (arena.arms number))
+    place x) (sym agrees) mapped in
     let r = choice_is_arm arena side entry mover number place x own in
-    let r_there = found_at (is_candidate arena side entry mover) (is_win (entry number)) (entry number) (arena.arms number) place r.0 r.1 in
-    let a_there : slice_get (arena.arms number) place ≡ Some a = subst (λ (z : List (Arm Step ℕ Value)). slice_get z place ≡ Some a) are there in
+    let r_there = found_at (is_candidate arena side entry mover) (is_win (entry number))
+    (entry number) (arena.arms number) place r.0 r.1 in
+    let a_there : slice_get (arena.arms number) place ≡ Some a = subst
+    (λ (z : List (Arm Step ℕ Value)). slice_get z place ≡ Some a) are there in
     let arm : r.0 ≡ a = cc in
-    let x_there = found_at has_code (is_win code) code (map seen (arena.arms number)) place x mapped in
+    let x_there = found_at has_code (is_win code) code (map seen (arena.arms number)) place x
+    mapped in
     let m = slice_get-map seen (arena.arms number) place in
-    let image : slice_get (map seen (arena.arms number)) place ≡ Some (seen a) = rw (m, a_there) refl in
+    let image : slice_get (map seen (arena.arms number)) place ≡ Some (seen a) =
+    rw (m, a_there) refl in
     let choice : x ≡ seen a = cc in
     record {
-      chosen = subst (λ (z : Arm Step ℕ Value). IsChosen arena side entry mover number place z) arm r.1;
+      chosen =
+          subst (λ (z : Arm Step ℕ Value). IsChosen arena side entry mover number place z) arm r.1;
       is = sym (ap (λ (z : Choice). z.code) choice);
     }

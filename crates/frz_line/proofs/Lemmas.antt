@@ -1,11 +1,27 @@
 -- The lemmas that the crates above use.
 pub use Rattle.frz_line.proofs.Choices.{found_at, found_code}
 pub use Rattle.frz_line.proofs.Chosen.{AsksForOne, FillsLocal, arm_found, at_in, local_code_of}
-pub use Rattle.frz_line.proofs.Goings.{GoesTo, moves_on, over_here, seen_by_codes, stage_due, stage_told}
+pub use Rattle.frz_line.proofs.Goings.{
+  GoesTo,
+  moves_on,
+  over_here,
+  seen_by_codes,
+  stage_due,
+  stage_told,
+}
 pub use Rattle.frz_line.proofs.Options.{both, every, some_of}
 pub use Rattle.frz_line.proofs.Played.{fine_behind, quiet_behind}
 pub use Rattle.frz_line.proofs.Seen.{move_there, next_code_is}
-pub use Rattle.frz_line.proofs.Spending.{at_one, came_on, code_read, nothing_spent, read_alone, read_first, spends_last, spends_on}
+pub use Rattle.frz_line.proofs.Spending.{
+  at_one,
+  came_on,
+  code_read,
+  nothing_spent,
+  read_alone,
+  read_first,
+  spends_last,
+  spends_on,
+}
 pub use Rattle.frz_line.proofs.Starting.{code_kept}
 pub use Rattle.frz_line.proofs.TextLines.{as_lines, ends_arm, ends_behind, lines_behind}
 pub use Rattle.frz_line.proofs.Turned.{unfinished}

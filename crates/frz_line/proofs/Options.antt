@@ -5,10 +5,12 @@ pub every : {A : Type 0} (o : Option A) (P : A → Type 0) → ((x : A) → P x)
 every None P f = tt
 every (Some x) P f = f x
 
-pub both : {A : Type 0} (o : Option A) (P Q R : A → Type 0) → ((x : A) → P x → Q x → R x) → IfSome o P → IfSome o Q → IfSome o R
+pub both : {A : Type 0} (o : Option A) (P Q R : A → Type 0) → ((x : A) → P x → Q x → R x)
+    → IfSome o P → IfSome o Q → IfSome o R
 both None P Q R f p q = tt
 both (Some x) P Q R f p q = f x p q
 
-pub some_of : {A : Type 0} (o : Option A) (P Q : A → Type 0) → ((x : A) → P x → Q x) → IfSome o P → IfSome o Q
+pub some_of : {A : Type 0} (o : Option A) (P Q : A → Type 0) → ((x : A) → P x → Q x) → IfSome o P
+    → IfSome o Q
 some_of None P Q f h = tt
 some_of (Some x) P Q f h = f x h

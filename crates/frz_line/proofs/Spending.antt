@@ -13,22 +13,32 @@ use Rattle.frz_arena.specs.Ways.{Ply}
 use Rattle.frz_line.specs.Costs.{arms_reads, reads_at, way_numbers, Spends, SpendsAt}
 
 -- at one number more, and at some more
-reads_more : (arena : Arena Step ℕ Value) (xs ys : List ℕ) → reads_at arena (xs ++ ys) ≡ reads_at arena xs + reads_at arena ys
+reads_more : (arena : Arena Step ℕ Value) (xs ys : List ℕ)
+    → reads_at arena (xs ++ ys) ≡ reads_at arena xs + reads_at arena ys
 reads_more arena xs ys = sum_by-append (λ n. arms_reads (arena.arms n)) xs ys
 
-reads_one : (arena : Arena Step ℕ Value) (number : ℕ) → reads_at arena (number ∷ []) ≡ arms_reads (arena.arms number) + 0
+reads_one : (arena : Arena Step ℕ Value) (number : ℕ)
+    → reads_at arena (number ∷ []) ≡ arms_reads (arena.arms number) + 0
 reads_one arena number = sum_by-cons (λ n. arms_reads (arena.arms n)) number []
 
 pub nothing_spent : (arena : Arena Step ℕ Value) (at : Spent) → SpendsAt arena 0 [] at at
 nothing_spent arena at = record { stepped = omega arith; called = omega arith; asked = omega arith }
 
-pub at_one : (arena : Arena Step ℕ Value) (number : ℕ) (before now : Spent) → now.asked ≤ before.asked + 4 * arms_reads (arena.arms number) → now.calls ≤ before.calls + arms_reads (arena.arms number)
+pub at_one : (arena : Arena Step ℕ Value) (number : ℕ) (before now : Spent)
+    → now.asked ≤ before.asked + 4 * arms_reads (arena.arms number)
+    → now.calls ≤ before.calls + arms_reads (arena.arms number)
     → now.steps ≤ before.steps + 1 → SpendsAt arena 0 (number ∷ []) before now
 at_one arena number before now asked calls step =
     let one = reads_one arena number in
-    record { stepped = omega (arith, step); called = omega (arith, calls, one); asked = omega (arith, asked, one) }
+    record {
+      stepped = omega (arith, step);
+      called = omega (arith, calls, one);
+      asked = omega (arith, asked, one);
+    }
 
-pub spends_on : (arena : Arena Step ℕ Value) (xs ys : List ℕ) (before mid now : Spent) → SpendsAt arena 0 xs before mid → SpendsAt arena 0 ys mid now → SpendsAt arena 0 (xs ++ ys) before now
+pub spends_on : (arena : Arena Step ℕ Value) (xs ys : List ℕ) (before mid now : Spent)
+    → SpendsAt arena 0 xs before mid → SpendsAt arena 0 ys mid now
+    → SpendsAt arena 0 (xs ++ ys) before now
 spends_on arena xs ys before mid now first next =
     let reads = reads_more arena xs ys in
     let long = length-append xs ys in
@@ -39,7 +49,8 @@ spends_on arena xs ys before mid now first next =
     }
 
 -- no more than at more numbers
-spends_less : (arena : Arena Step ℕ Value) (xs ys : List ℕ) (before now : Spent) → SpendsAt arena 0 xs before now → SpendsAt arena 0 (xs ++ ys) before now
+spends_less : (arena : Arena Step ℕ Value) (xs ys : List ℕ) (before now : Spent)
+    → SpendsAt arena 0 xs before now → SpendsAt arena 0 (xs ++ ys) before now
 spends_less arena xs ys before now spent =
     let reads = reads_more arena xs ys in
     let long = length-append xs ys in
@@ -50,41 +61,60 @@ spends_less arena xs ys before now spent =
     }
 
 -- a way that is at a number comes to it
-comes_here : (number : ℕ) (plies : List (Ply Step ℕ Value)) → (others : List ℕ) × (way_numbers (Inside number) plies ≡ number ∷ others)
+comes_here : (number : ℕ) (plies : List (Ply Step ℕ Value)) → (others : List ℕ)
+    × (way_numbers (Inside number) plies ≡ number ∷ others)
 comes_here number [] = ([], refl)
 comes_here number (x ∷ plies) = (way_numbers x.arm.next plies, refl)
 
 -- a way that went by some numbers, and was at one when it stopped
-pub spends_last : (arena : Arena Step ℕ Value) (xs : List ℕ) (number : ℕ) (plies : List (Ply Step ℕ Value)) (whole : List ℕ) (before mid now : Spent) → xs ++ way_numbers (Inside number) plies ≡ whole
-    → SpendsAt arena 0 xs before mid → SpendsAt arena 0 (number ∷ []) mid now → SpendsAt arena 0 whole before now
+pub spends_last : (arena : Arena Step ℕ Value) (xs : List ℕ) (number : ℕ)
+    (plies : List (Ply Step ℕ Value)) (whole : List ℕ) (before mid now : Spent)
+    → xs ++ way_numbers (Inside number) plies ≡ whole
+    → SpendsAt arena 0 xs before mid → SpendsAt arena 0 (number ∷ []) mid now
+    → SpendsAt arena 0 whole before now
 spends_last arena xs number plies whole before mid now are first last =
     let here = comes_here number plies in
-    let all : (xs ++ number ∷ []) ++ here.0 ≡ whole = append_assoc xs (number ∷ []) here.0 ∙ (ap (λ (l : List ℕ). xs ++ l) (sym here.1) ∙ are) in
+    let all : (xs ++ number ∷ []) ++ here.0 ≡ whole = append_assoc xs (number ∷ []) here.0
+    ∙ (ap (λ (l : List ℕ). xs ++ l) (sym here.1) ∙ are) in
     subst (λ (l : List ℕ). SpendsAt arena 0 l before now) all
-    (spends_less arena (xs ++ number ∷ []) here.0 before now (spends_on arena xs (number ∷ []) before mid now first last))
+    (spends_less arena (xs ++ number ∷ []) here.0 before now
+    (spends_on arena xs (number ∷ []) before mid now first last))
 
 -- a way that went by some numbers goes on behind this one, by its first ply
-pub came_on : (xs : List ℕ) (number next : ℕ) (plies others : List (Ply Step ℕ Value)) (first : Ply Step ℕ Value) (whole : List ℕ) → xs ++ way_numbers (Inside number) plies ≡ whole
-    → plies ≡ first ∷ others → first.arm.next ≡ Inside next → (xs ++ number ∷ []) ++ way_numbers (Inside next) others ≡ whole
+pub came_on : (xs : List ℕ) (number next : ℕ) (plies others : List (Ply Step ℕ Value))
+    (first : Ply Step ℕ Value) (whole : List ℕ) → xs ++ way_numbers (Inside number) plies ≡ whole
+    → plies ≡ first ∷ others → first.arm.next ≡ Inside next
+    → (xs ++ number ∷ []) ++ way_numbers (Inside next) others ≡ whole
 came_on xs number next plies others first whole came are to =
-    let on : way_numbers (Inside number) plies ≡ number ∷ way_numbers (Inside next) others = ap (way_numbers (Inside number)) are ∙ ap (λ (z : Next ℕ Value). number ∷ way_numbers z others) to in
-    append_assoc xs (number ∷ []) (way_numbers (Inside next) others) ∙ (ap (λ (l : List ℕ). xs ++ l) (sym on) ∙ came)
+    let on : way_numbers (Inside number) plies ≡ number ∷ way_numbers (Inside next) others =
+    ap (way_numbers (Inside number)) are
+    ∙ ap (λ (z : Next ℕ Value). number ∷ way_numbers z others) to in
+    append_assoc xs (number ∷ []) (way_numbers (Inside next) others)
+    ∙ (ap (λ (l : List ℕ). xs ++ l) (sym on) ∙ came)
 
 one_more : (old new : ℕ) → IsNext old new → new ≤ old + 1
 one_more old new next = (let n = next.next in omega (arith, n))
 
 -- the code of one number was read
-pub code_read : (old new : StoreTold) (steps : ℕ) → new.asked ≤ old.asked + 4 → IsNext old.calls new.calls → Spends 1 0 (spent_by old steps) (spent_by new steps)
-code_read old new steps few next = record { stepped = omega arith; called = one_more old.calls new.calls next; asked = omega (arith, few) }
+pub code_read : (old new : StoreTold) (steps : ℕ) → new.asked ≤ old.asked + 4
+    → IsNext old.calls new.calls → Spends 1 0 (spent_by old steps) (spent_by new steps)
+code_read old new steps few next =
+    record {
+      stepped = omega arith;
+      called = one_more old.calls new.calls next;
+      asked = omega (arith, few);
+    }
 
-pub read_alone : (arena : Arena Step ℕ Value) (numbers : List ℕ) (before now : Spent) → Spends 1 0 before now → SpendsAt arena 1 numbers before now
+pub read_alone : (arena : Arena Step ℕ Value) (numbers : List ℕ) (before now : Spent)
+    → Spends 1 0 before now → SpendsAt arena 1 numbers before now
 read_alone arena numbers before now read = record {
   stepped = (let a = read.stepped in omega (arith, a));
   called = (let a = read.called in omega (arith, a));
   asked = (let a = read.asked in omega (arith, a));
 }
 
-pub read_first : (arena : Arena Step ℕ Value) (numbers : List ℕ) (before mid now : Spent) → Spends 1 0 before mid → SpendsAt arena 0 numbers mid now → SpendsAt arena 1 numbers before now
+pub read_first : (arena : Arena Step ℕ Value) (numbers : List ℕ) (before mid now : Spent)
+    → Spends 1 0 before mid → SpendsAt arena 0 numbers mid now → SpendsAt arena 1 numbers before now
 read_first arena numbers before mid now read then = record {
   stepped = (let a = read.stepped in let b = then.stepped in omega (arith, a, b));
   called = (let a = read.called in let b = then.called in omega (arith, a, b));

@@ -12,7 +12,8 @@ use Rattle.frz_line.specs.Texts.{arm_text, exit_line, move_line, next_line, valu
 
 -- one text behind the other
 pub lines_behind : (a b : List ℕ) → IsLines a → IsLines b → IsLines (a ++ b)
-lines_behind a b la (inl none) = subst (λ (z : List ℕ). IsLines (a ++ z)) (sym none) (subst IsLines (sym (append-nil a)) la)
+lines_behind a b la (inl none) =
+    subst (λ (z : List ℕ). IsLines (a ++ z)) (sym none) (subst IsLines (sym (append-nil a)) la)
 lines_behind a b la (inr l) =
     inr (a ++ l.0, ap (λ (z : List ℕ). a ++ z) l.1 ∙ sym (append_assoc a l.0 (10 ∷ [])))
 
@@ -23,10 +24,15 @@ pub record EndsLine (text : List ℕ) : Type 0 where
 
 pub ends_behind : (a b : List ℕ) → EndsLine b → EndsLine (a ++ b)
 ends_behind a b e =
-    record { front = a ++ e.front; is = ap (λ (z : List ℕ). a ++ z) e.is ∙ sym (append_assoc a e.front (10 ∷ [])) }
+    record {
+      front = a ++ e.front;
+      is = ap (λ (z : List ℕ). a ++ z) e.is
+          ∙ sym (append_assoc a e.front (10 ∷ []));
+    }
 
 pub ends_exit : (v : Value) → EndsLine (exit_line v)
-ends_exit v = ends_behind (codes "exit ") (value_text v ++ codes "\n") (record { front = value_text v; is = refl })
+ends_exit v = ends_behind (codes "exit ") (value_text v ++ codes "\n")
+    (record { front = value_text v; is = refl })
 
 ends_move : (m : Step) (next : Next ℕ Value) → EndsLine (move_line m ++ next_line next)
 ends_move m (Inside n) = record { front = text_of m; is = append-nil (move_line m) }

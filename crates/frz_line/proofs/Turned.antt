@@ -65,183 +65,359 @@ not_empty [] e = cc
 not_empty (x ∷ front) e = cc
 
 -- what ends with the line of the end is not empty
-pub unfinished : (first : List ℕ) (plies : List LinePly) (answer : Result LineEnd LineFault) → IsUnfinished answer (first ++ (plies_text plies ++ last_line answer))
+pub unfinished : (first : List ℕ) (plies : List LinePly) (answer : Result LineEnd LineFault)
+    → IsUnfinished answer (first ++ (plies_text plies ++ last_line answer))
 unfinished first plies (Ok end) = λ e.
-    let ends = ends_behind first (plies_text plies ++ end_line end) (ends_behind (plies_text plies) (end_line end) (ends_end end)) in
+    let ends = ends_behind first (plies_text plies ++ end_line end)
+    (ends_behind (plies_text plies) (end_line end) (ends_end end)) in
     not_empty ends.front (sym ends.is ∙ e)
 unfinished first plies (Err fault) = tt
 
 -- the store stopped the line before its end
-rest_unfinished : (side : Colour) (spot : Spot) (plies : List LinePly) (answer : Result LineEnd LineFault) → IsUnfinished answer (rest_text side spot plies answer)
+rest_unfinished : (side : Colour) (spot : Spot) (plies : List LinePly)
+    (answer : Result LineEnd LineFault) → IsUnfinished answer (rest_text side spot plies answer)
 rest_unfinished side spot plies answer =
-    unfinished (if spot.played == 0 then start_line side spot.code plies answer else []) plies answer
+    unfinished (if spot.played == 0 then start_line side spot.code plies answer else []) plies
+    answer
 
-by_answers : (turn : Turn) (text : List ℕ) (result : Result Turn LineFault) (old new : SinkTold) → Answers turn text result old new → WroteBy result text old new
+by_answers : (turn : Turn) (text : List ℕ) (result : Result Turn LineFault) (old new : SinkTold)
+    → Answers turn text result old new → WroteBy result text old new
 by_answers turn text result old new (inl a) =
     subst (λ (z : Result Turn LineFault). WroteBy z text old new) (sym a.0) a.1
 by_answers turn text result old new (inr a) =
     subst (λ (z : Result Turn LineFault). WroteBy z text old new) (sym a.0) a.1
 
-by_stop : (fault : LineFault) (result : Result Turn LineFault) (old new : SinkTold) → WroteBy {T = Turn} (Err fault) [] old new → result ≡ Err fault → WroteBy result [] old new
-by_stop fault result old new w e = subst (λ (z : Result Turn LineFault). WroteBy z [] old new) (sym e) w
+by_stop : (fault : LineFault) (result : Result Turn LineFault) (old new : SinkTold)
+    → WroteBy {T = Turn} (Err fault) [] old new → result ≡ Err fault → WroteBy result [] old new
+by_stop fault result old new w e =
+    subst (λ (z : Result Turn LineFault). WroteBy z [] old new) (sym e) w
 
 -- where a turn leads
-to_next : (size : ℕ) (spot : Spot) (next : Next ℕ Value) (code : ℕ) → ((n : ℕ) → next ≡ Inside n → n < size) → IsNextCode spot.code code → (spot.code ≡ 1 → spot.played < MOST_PLIES) → TurnsTo size spot (turn_of next code)
+to_next : (size : ℕ) (spot : Spot) (next : Next ℕ Value) (code : ℕ)
+    → ((n : ℕ) → next ≡ Inside n → n < size) → IsNextCode spot.code code
+    → (spot.code ≡ 1 → spot.played < MOST_PLIES) → TurnsTo size spot (turn_of next code)
 to_next size spot (Inside n) code inside is early = (inside n refl, is, early)
 to_next size spot (Outside v) code inside is early = tt
 
-if_answers : (P : Turn → Type 0) (turn : Turn) (text : List ℕ) (result : Result Turn LineFault) (old new : SinkTold) → P turn → Answers turn text result old new → IfOk result P
-if_answers P turn text result old new p (inl a) = subst (λ (z : Result Turn LineFault). IfOk z P) (sym a.0) p
-if_answers P turn text result old new p (inr a) = subst (λ (z : Result Turn LineFault). IfOk z P) (sym a.0) tt
+if_answers : (P : Turn → Type 0) (turn : Turn) (text : List ℕ) (result : Result Turn LineFault)
+    (old new : SinkTold) → P turn → Answers turn text result old new → IfOk result P
+if_answers P turn text result old new p (inl a) =
+    subst (λ (z : Result Turn LineFault). IfOk z P) (sym a.0) p
+if_answers P turn text result old new p (inr a) =
+    subst (λ (z : Result Turn LineFault). IfOk z P) (sym a.0) tt
 
-pub turn_next : (arena : Arena Step ℕ Value) (size : ℕ) → IsFinite arena size → (side : Colour) (spot : Spot) (arms : List (Arm Step ℕ Value)) (cs : List ℕ) → arms ≡ arena.arms spot.number → length cs ≡ length arms → (spot.played ≡ 0) ⊎ (is_failure spot.code ≡ false) → (due : Due) → due ≡ due_by (spot.played == 0) (nat_le MOST_PLIES spot.played) spot.code (node_code side (arena.node spot.number) (free_among arms cs) cs) (arena.node spot.number) → (result : Result Turn LineFault) (old new : SinkTold) → IsPlayed side spot due arms cs result old new → IfOk result (TurnsTo size spot)
-turn_next arena size finite side spot arms cs are many stands (dues.Wrong given) e result old new h =
+pub turn_next : (arena : Arena Step ℕ Value) (size : ℕ) → IsFinite arena size
+    → (side : Colour) (spot : Spot) (arms : List (Arm Step ℕ Value)) (cs : List ℕ)
+    → arms ≡ arena.arms spot.number → length cs ≡ length arms → (spot.played ≡ 0)
+    ⊎ (is_failure spot.code ≡ false) → (due : Due)
+    → due ≡ due_by (spot.played == 0) (nat_le MOST_PLIES spot.played) spot.code
+    (node_code side (arena.node spot.number) (free_among arms cs) cs) (arena.node spot.number)
+    → (result : Result Turn LineFault) (old new : SinkTold)
+    → IsPlayed side spot due arms cs result old new → IfOk result (TurnsTo size spot)
+turn_next arena size finite side spot arms cs are many stands (dues.Wrong given) e result old new
+    h =
     subst (λ (z : Result Turn LineFault). IfOk z (TurnsTo size spot)) (sym h.0) tt
 turn_next arena size finite side spot arms cs are many stands dues.NoBound e result old new h =
     subst (λ (z : Result Turn LineFault). IfOk z (TurnsTo size spot)) (sym h.0) tt
 turn_next arena size finite side spot arms cs are many stands (dues.Mate m) e result old new h =
-    if_answers (TurnsTo size spot) (Over ends.Mate) (over_text side spot ends.Mate) result old new tt h
-turn_next arena size finite side spot arms cs are many stands (dues.Stalemate m) e result old new h =
-    if_answers (TurnsTo size spot) (Over ends.Stalemate) (over_text side spot ends.Stalemate) result old new tt h
+    if_answers (TurnsTo size spot) (Over ends.Mate) (over_text side spot ends.Mate) result old new
+    tt h
+turn_next arena size finite side spot arms cs are many stands (dues.Stalemate m) e result old new
+    h =
+    if_answers (TurnsTo size spot) (Over ends.Stalemate) (over_text side spot ends.Stalemate) result
+    old new tt h
 turn_next arena size finite side spot arms cs are many stands dues.Cut e result old new h =
-    if_answers (TurnsTo size spot) (Over ends.Cut) (over_text side spot ends.Cut) result old new tt h
+    if_answers (TurnsTo size spot) (Over ends.Cut) (over_text side spot ends.Cut) result old new tt
+    h
 turn_next arena size finite side spot arms cs are many stands (dues.Ply m) e result old new h =
     let place = h.0 in
     let x = h.1 in
     let a = h.2 in
-    let d = ply_due (spot.played == 0) (nat_le MOST_PLIES spot.played) spot.code (node_code side (arena.node spot.number) (free_among arms cs) cs) (arena.node spot.number) m (sym e) in
-    let agrees = subst (λ (z : Node). spot.code ≡ node_code side z (free_among arms cs) cs) d.goes d.agrees in
-    let next = next_code_is side m spot.code arms cs many agrees (never_failing spot.played spot.code stands d.starts) place x h.3 in
-    let among : IsArm arena spot.number a = subst (λ (z : List (Arm Step ℕ Value)). Contains z a) are (at_in arms place a h.4) in
-    let inside : (n : ℕ) → a.next ≡ Inside n → n < size = λ n i. (finite.inside spot.number n a among i).0 in
-    if_answers (TurnsTo size spot) (turn_of a.next x.code) (moved_text side spot a) result old new (to_next size spot a.next x.code inside next (still_early spot.code spot.played MOST_PLIES d.early)) h.5
+    let d = ply_due (spot.played == 0) (nat_le MOST_PLIES spot.played) spot.code
+    (node_code side (arena.node spot.number) (free_among arms cs) cs) (arena.node spot.number) m
+    (sym e) in
+    let agrees = subst (λ (z : Node). spot.code ≡ node_code side z (free_among arms cs) cs) d.goes
+    d.agrees in
+    let next = next_code_is side m spot.code arms cs many agrees
+    (never_failing spot.played spot.code stands d.starts) place x h.3 in
+    let among : IsArm arena spot.number a = subst (λ (z : List (Arm Step ℕ Value)). Contains z a)
+    are (at_in arms place a h.4) in
+    let inside : (n : ℕ) → a.next ≡ Inside n
+    → n < size = λ n i. (finite.inside spot.number n a among i).0 in
+    if_answers (TurnsTo size spot) (turn_of a.next x.code) (moved_text side spot a) result old new
+    (to_next size spot a.next x.code inside next
+    (still_early spot.code spot.played MOST_PLIES d.early)) h.5
 
 -- a line that is over here
-over_goes : (arena : Arena Step ℕ Value) (side : Colour) (kept : List ℕ) (spot : Spot) (text : List ℕ) (result : Result Turn LineFault) (f : EndOfLine) → (slice_index kept spot.number ≡ spot.code → stage (line_player arena side kept) spot.played spot.number ≡ OverWay f) → text ≡ rest_text side spot [] (told side f) → Leaves arena side kept spot [] f [] result → GoesBy arena side kept spot text result
+over_goes : (arena : Arena Step ℕ Value) (side : Colour) (kept : List ℕ) (spot : Spot)
+    (text : List ℕ) (result : Result Turn LineFault) (f : EndOfLine)
+    → (slice_index kept spot.number ≡ spot.code
+    → stage (line_player arena side kept) spot.played spot.number ≡ OverWay f)
+    → text ≡ rest_text side spot [] (told side f) → Leaves arena side kept spot [] f [] result
+    → GoesBy arena side kept spot text result
 over_goes arena side kept spot text result f stops is leaves = λ agrees plies end w.
-    let o = over_here (line_player arena side kept) MOST_PLIES spot.played refl tt tt spot.number plies end f w (stops agrees) in
-    subst (λ (e : EndOfLine). (rest : List ℕ) × (text ++ rest ≡ rest_text side spot plies (told side e)) × Leaves arena side kept spot plies e rest result) (sym o.1)
-    (subst (λ (ys : List LinePly). (rest : List ℕ) × (text ++ rest ≡ rest_text side spot ys (told side f)) × Leaves arena side kept spot ys f rest result) (sym o.0)
+    let o = over_here (line_player arena side kept) MOST_PLIES spot.played refl tt tt spot.number
+    plies end f w (stops agrees) in
+    subst (λ (e : EndOfLine). (rest : List ℕ)
+    × (text ++ rest ≡ rest_text side spot plies (told side e))
+    × Leaves arena side kept spot plies e rest result) (sym o.1)
+    (subst (λ (ys : List LinePly). (rest : List ℕ)
+    × (text ++ rest ≡ rest_text side spot ys (told side f))
+    × Leaves arena side kept spot ys f rest result) (sym o.0)
     ([], append-nil text ∙ is, leaves))
 
-leaves_by : (arena : Arena Step ℕ Value) (side : Colour) (kept : List ℕ) (spot : Spot) (plies : List LinePly) (e : EndOfLine) (rest : List ℕ) (turn : Turn) (text : List ℕ) (result : Result Turn LineFault) (old new : SinkTold) → Leaves arena side kept spot plies e rest (Ok turn) → Answers turn text result old new → Leaves arena side kept spot plies e rest result
+leaves_by : (arena : Arena Step ℕ Value) (side : Colour) (kept : List ℕ) (spot : Spot)
+    (plies : List LinePly) (e : EndOfLine) (rest : List ℕ) (turn : Turn) (text : List ℕ)
+    (result : Result Turn LineFault) (old new : SinkTold)
+    → Leaves arena side kept spot plies e rest (Ok turn) → Answers turn text result old new
+    → Leaves arena side kept spot plies e rest result
 leaves_by arena side kept spot plies e rest turn text result old new l (inl a) =
     subst (λ (z : Result Turn LineFault). Leaves arena side kept spot plies e rest z) (sym a.0) l
 leaves_by arena side kept spot plies e rest turn text result old new l (inr a) =
     subst (λ (z : Result Turn LineFault). Leaves arena side kept spot plies e rest z) (sym a.0) tt
 
-none_text : (b : Bool) → let none : List ℕ = [] in none ≡ (if b then none else none) ++ (none ++ none)
+none_text : (b : Bool) → let none : List ℕ =
+    [] in none ≡ (if b then none else none) ++ (none ++ none)
 none_text true = refl
 none_text false = refl
 
-joined : (first move plies last : List ℕ) → (first ++ (move ++ [])) ++ (plies ++ last) ≡ first ++ ((move ++ plies) ++ last)
+joined : (first move plies last : List ℕ) → (first ++ (move ++ [])) ++ (plies ++ last) ≡ first
+    ++ ((move ++ plies) ++ last)
 joined first move plies last = simp (append_assoc, append-nil)
 
-joined_exit : (first move exit : List ℕ) → (first ++ (move ++ exit)) ++ [] ≡ first ++ ((move ++ []) ++ exit)
+joined_exit : (first move exit : List ℕ) → (first ++ (move ++ exit)) ++ [] ≡ first
+    ++ ((move ++ []) ++ exit)
 joined_exit first move exit = simp (append_assoc, append-nil)
 
 -- a ply that was played
-ply_leaves : (arena : Arena Step ℕ Value) (side : Colour) (kept : List ℕ) (spot : Spot) (a : Arm Step ℕ Value) (next : Next ℕ Value) (code : ℕ) (first : LinePly) (others : List LinePly) (end : EndOfLine) (result : Result Turn LineFault) (old new : SinkTold) → ((n : ℕ) → next ≡ Inside n → slice_index kept n ≡ code) → first.arm.mv ≡ a.mv → first.arm.next ≡ next → LeadsTo (λ p. IsWay (line_player arena side kept) (suc spot.played) tt p others end tt) (λ v. (others ≡ []) × (end ≡ Exit v) × (tt {0} ≡ tt)) next → Answers (turn_of next code) (first_line side spot ++ (move_line a.mv ++ next_line next)) result old new → (rest : List ℕ) × ((first_line side spot ++ (move_line a.mv ++ next_line next)) ++ rest ≡ rest_text side spot (first ∷ others) (told side end)) × Leaves arena side kept spot (first ∷ others) end rest result
-ply_leaves arena side kept spot a (Inside n) code first others end result old new is same to leads answers =
+ply_leaves : (arena : Arena Step ℕ Value) (side : Colour) (kept : List ℕ) (spot : Spot)
+    (a : Arm Step ℕ Value) (next : Next ℕ Value) (code : ℕ) (first : LinePly)
+    (others : List LinePly) (end : EndOfLine) (result : Result Turn LineFault) (old new : SinkTold)
+    → ((n : ℕ) → next ≡ Inside n → slice_index kept n ≡ code) → first.arm.mv ≡ a.mv
+    → first.arm.next ≡ next
+    → LeadsTo (λ p. IsWay (line_player arena side kept) (suc spot.played) tt p others end tt)
+    (λ v. (others ≡ []) × (end ≡ Exit v) × (tt {0} ≡ tt)) next
+    → Answers (turn_of next code) (first_line side spot ++ (move_line a.mv ++ next_line next))
+    result old new → (rest : List ℕ)
+    × ((first_line side spot ++ (move_line a.mv ++ next_line next)) ++ rest ≡ rest_text side spot
+    (first ∷ others) (told side end)) × Leaves arena side kept spot (first ∷ others) end rest result
+ply_leaves arena side kept spot a (Inside n) code first others end result old new is same to leads
+    answers =
     let rest = plies_text others ++ last_line (told side end) in
     let text = first_line side spot ++ (move_line a.mv ++ []) in
-    let whole : text ++ rest ≡ first_line side spot ++ ((move_line first.arm.mv ++ plies_text others) ++ last_line (told side end)) = (
+    let whole : text ++ rest ≡ first_line side spot
+    ++ ((move_line first.arm.mv ++ plies_text others) ++ last_line (told side end)) = (
     joined (first_line side spot) (move_line a.mv) (plies_text others) (last_line (told side end))
-    ∙ ap (λ (m : Step). first_line side spot ++ ((move_line m ++ plies_text others) ++ last_line (told side end))) (sym same)) in
-    (rest, whole, leaves_by arena side kept spot (first ∷ others) end rest (On n code) text result old new (is n refl, (first, others, refl, to, leads, refl)) answers)
-ply_leaves arena side kept spot a (Outside v) code first others end result old new is same to leads answers =
+    ∙ ap (λ (m : Step). first_line side spot
+    ++ ((move_line m ++ plies_text others) ++ last_line (told side end))) (sym same)) in (
+      rest,
+      whole,
+      leaves_by arena side kept spot (first ∷ others) end rest (On n code) text result
+          old new (is n refl, (first, others, refl, to, leads, refl)) answers,
+    )
+ply_leaves arena side kept spot a (Outside v) code first others end result old new is same to leads
+    answers =
     let text = first_line side spot ++ (move_line a.mv ++ exit_line v) in
     let out : EndOfLine = Exit v in
-    let whole : text ++ [] ≡ first_line side spot ++ ((move_line first.arm.mv ++ []) ++ exit_line v) = (
+    let whole : text ++ [] ≡ first_line side spot
+    ++ ((move_line first.arm.mv ++ []) ++ exit_line v) = (
     joined_exit (first_line side spot) (move_line a.mv) (exit_line v)
     ∙ ap (λ (m : Step). first_line side spot ++ ((move_line m ++ []) ++ exit_line v)) (sym same)) in
-    subst (λ (e : EndOfLine). (rest : List ℕ) × (text ++ rest ≡ rest_text side spot (first ∷ others) (told side e)) × Leaves arena side kept spot (first ∷ others) e rest result) (sym leads.1)
-    (subst (λ (ys : List LinePly). (rest : List ℕ) × (text ++ rest ≡ rest_text side spot (first ∷ ys) (told side out)) × Leaves arena side kept spot (first ∷ ys) out rest result) (sym leads.0)
-    ([], whole, leaves_by arena side kept spot (first ∷ []) out [] (Over (ends.Exit v)) text result old new (refl, refl) answers))
+    subst (λ (e : EndOfLine). (rest : List ℕ)
+    × (text ++ rest ≡ rest_text side spot (first ∷ others) (told side e))
+    × Leaves arena side kept spot (first ∷ others) e rest result) (sym leads.1)
+    (subst (λ (ys : List LinePly). (rest : List ℕ)
+    × (text ++ rest ≡ rest_text side spot (first ∷ ys) (told side out))
+    × Leaves arena side kept spot (first ∷ ys) out rest result) (sym leads.0) (
+      [],
+      whole,
+      leaves_by arena side kept spot (first ∷ []) out [] (Over (ends.Exit v)) text result
+          old new (refl, refl) answers,
+    ))
 
 -- by what is due, the stage of the line's player
-line_stage : FillsLocal → (arena : Arena Step ℕ Value) (size : ℕ) → IsFinite arena size → (side : Colour) (spot : Spot) (arms : List (Arm Step ℕ Value)) (cs kept : List ℕ) → arms ≡ arena.arms spot.number → cs ≡ map (arm_code side kept) arms → slice_index kept spot.number ≡ spot.code → (due : Due) → due ≡ due_by (spot.played == 0) (nat_le MOST_PLIES spot.played) spot.code (node_code side (arena.node spot.number) (free_among arms cs) cs) (arena.node spot.number) → stage (line_player arena side kept) spot.played spot.number ≡ stage_told spot.number spot.code due
+line_stage : FillsLocal → (arena : Arena Step ℕ Value) (size : ℕ) → IsFinite arena size
+    → (side : Colour) (spot : Spot) (arms : List (Arm Step ℕ Value)) (cs kept : List ℕ)
+    → arms ≡ arena.arms spot.number → cs ≡ map (arm_code side kept) arms
+    → slice_index kept spot.number ≡ spot.code → (due : Due)
+    → due ≡ due_by (spot.played == 0) (nat_le MOST_PLIES spot.played) spot.code
+    (node_code side (arena.node spot.number) (free_among arms cs) cs) (arena.node spot.number)
+    → stage (line_player arena side kept) spot.played spot.number ≡ stage_told spot.number spot.code
+    due
 line_stage fills arena size finite side spot arms cs kept are same agrees due e =
     let local = local_code_of fills arena size finite side kept spot.number arms cs are same in
     let cut = ap (λ (c : ℕ). (c == 1) && nat_le MOST_PLIES spot.played) agrees in
-    stage_due (line_player arena side kept) spot.played spot.number spot.code (node_code side (arena.node spot.number) (free_among arms cs) cs) (spot.played == 0) (nat_le MOST_PLIES spot.played) agrees (sym local) refl cut
+    stage_due (line_player arena side kept) spot.played spot.number spot.code
+    (node_code side (arena.node spot.number) (free_among arms cs) cs) (spot.played == 0)
+    (nat_le MOST_PLIES spot.played) agrees (sym local) refl cut
     ∙ ap (stage_told spot.number spot.code) (sym e)
 
-inside_code : (arena : Arena Step ℕ Value) (side : Colour) (kept : List ℕ) (next : Next ℕ Value) (code : ℕ) → words.next_code arena side (λ i. slice_index kept i) next ≡ code → (n : ℕ) → next ≡ Inside n → slice_index kept n ≡ code
+inside_code : (arena : Arena Step ℕ Value) (side : Colour) (kept : List ℕ) (next : Next ℕ Value)
+    (code : ℕ) → words.next_code arena side (λ i. slice_index kept i) next ≡ code → (n : ℕ)
+    → next ≡ Inside n → slice_index kept n ≡ code
 inside_code arena side kept next code is n e =
     ap (λ (z : Next ℕ Value). words.next_code arena side (λ i. slice_index kept i) z) (sym e) ∙ is
 
-ply_goes : AsksForOne → (arena : Arena Step ℕ Value) (size : ℕ) → IsFinite arena size → (side mover : Colour) (spot : Spot) (arms : List (Arm Step ℕ Value)) (cs kept : List ℕ) → arms ≡ arena.arms spot.number → cs ≡ map (arm_code side kept) arms → (slice_index kept spot.number ≡ spot.code → stage (line_player arena side kept) spot.played spot.number ≡ Moves mover) → (place : ℕ) (x : Choice) (a : Arm Step ℕ Value) → IsFound has_code (is_win spot.code) spot.code (choices_by (same_colour mover side) arms cs) place x → slice_get arms place ≡ Some a → (result : Result Turn LineFault) (old new : SinkTold) → Answers (turn_of a.next x.code) (moved_text side spot a) result old new → GoesBy arena side kept spot (moved_text side spot a) result
-ply_goes one arena size finite side mover spot arms cs kept are same due place x a found there result old new answers = λ agrees plies end w.
-    let g = moves_on (line_player arena side kept) MOST_PLIES spot.played refl tt tt spot.number plies end mover w (due agrees) in
-    let f = arm_found arena size finite side mover kept spot.number spot.code arms cs are same agrees place x a found there in
-    let arm : g.first.arm ≡ a = (one arena side (λ i. slice_index kept i) mover spot.number g.first.place place g.first.arm a g.chosen f.chosen).1 in
-    let leads = subst (λ (z : Arm Step ℕ Value). LeadsTo (λ p. IsWay (line_player arena side kept) (suc spot.played) tt p g.others end tt) (λ v. (g.others ≡ []) × (end ≡ Exit v) × (tt {0} ≡ tt)) z.next) arm g.leads in
-    subst (λ (ys : List LinePly). (rest : List ℕ) × (moved_text side spot a ++ rest ≡ rest_text side spot ys (told side end)) × Leaves arena side kept spot ys end rest result) (sym g.are)
-    (ply_leaves arena side kept spot a a.next x.code g.first g.others end result old new (inside_code arena side kept a.next x.code f.is) (ap (λ (z : Arm Step ℕ Value). z.mv) arm) (ap (λ (z : Arm Step ℕ Value). z.next) arm) leads answers)
+ply_goes : AsksForOne → (arena : Arena Step ℕ Value) (size : ℕ) → IsFinite arena size
+    → (side mover : Colour) (spot : Spot) (arms : List (Arm Step ℕ Value)) (cs kept : List ℕ)
+    → arms ≡ arena.arms spot.number → cs ≡ map (arm_code side kept) arms
+    → (slice_index kept spot.number ≡ spot.code
+    → stage (line_player arena side kept) spot.played spot.number ≡ Moves mover)
+    → (place : ℕ) (x : Choice) (a : Arm Step ℕ Value)
+    → IsFound has_code (is_win spot.code) spot.code (choices_by (same_colour mover side) arms cs)
+    place x → slice_get arms place ≡ Some a → (result : Result Turn LineFault) (old new : SinkTold)
+    → Answers (turn_of a.next x.code) (moved_text side spot a) result old new
+    → GoesBy arena side kept spot (moved_text side spot a) result
+ply_goes one arena size finite side mover spot arms cs kept are same due place x a found there
+    result old new answers = λ agrees plies end w.
+    let g = moves_on (line_player arena side kept) MOST_PLIES spot.played refl tt tt spot.number
+    plies end mover w (due agrees) in
+    let f = arm_found arena size finite side mover kept spot.number spot.code arms cs are same
+    agrees place x a found there in
+    let arm : g.first.arm ≡ a =
+    (one arena side (λ i. slice_index kept i) mover spot.number g.first.place place g.first.arm
+    a g.chosen f.chosen).1 in
+    let leads = subst (λ (z : Arm Step ℕ Value). LeadsTo
+    (λ p. IsWay (line_player arena side kept) (suc spot.played) tt p g.others end tt)
+    (λ v. (g.others ≡ []) × (end ≡ Exit v) × (tt {0} ≡ tt)) z.next) arm g.leads in
+    subst (λ (ys : List LinePly). (rest : List ℕ)
+    × (moved_text side spot a ++ rest ≡ rest_text side spot ys (told side end))
+    × Leaves arena side kept spot ys end rest result) (sym g.are)
+    (ply_leaves arena side kept spot a a.next x.code g.first g.others end result old new
+    (inside_code arena side kept a.next x.code f.is) (ap (λ (z : Arm Step ℕ Value). z.mv) arm)
+    (ap (λ (z : Arm Step ℕ Value). z.next) arm) leads answers)
 
 -- nothing but a fault was answered
-stop_wrote : (known : Option (List ℕ)) (arena : Arena Step ℕ Value) (side : Colour) (spot : Spot) (result : Result Turn LineFault) (old new : SinkTold) (fault : LineFault) → WroteBy {T = Turn} (Err fault) [] old new → result ≡ Err fault → IfSome known (λ kept. GoesBy arena side kept spot [] result) → (text : List ℕ) × IsLines text × WroteBy result text old new × IfSome known (λ kept. GoesBy arena side kept spot text result)
+stop_wrote : (known : Option (List ℕ)) (arena : Arena Step ℕ Value) (side : Colour) (spot : Spot)
+    (result : Result Turn LineFault) (old new : SinkTold) (fault : LineFault)
+    → WroteBy {T = Turn} (Err fault) [] old new → result ≡ Err fault
+    → IfSome known (λ kept. GoesBy arena side kept spot [] result) → (text : List ℕ) × IsLines text
+    × WroteBy result text old new × IfSome known (λ kept. GoesBy arena side kept spot text result)
 stop_wrote known arena side spot result old new fault w e goes =
     ([], inl refl, by_stop fault result old new w e, goes)
 
-over_wrote : FillsLocal → (known : Option (List ℕ)) (arena : Arena Step ℕ Value) (size : ℕ) → IsFinite arena size → (side : Colour) (spot : Spot) (arms : List (Arm Step ℕ Value)) (cs : List ℕ) → arms ≡ arena.arms spot.number → (due : Due) → due ≡ due_by (spot.played == 0) (nat_le MOST_PLIES spot.played) spot.code (node_code side (arena.node spot.number) (free_among arms cs) cs) (arena.node spot.number) → IfSome known (λ kept. cs ≡ map (arm_code side kept) arms) → (f : EndOfLine) (last : LineEnd) → stage_told spot.number spot.code due ≡ OverWay f → told side f ≡ Ok last → (result : Result Turn LineFault) (old new : SinkTold) → Answers (Over last) (over_text side spot last) result old new → (text : List ℕ) × IsLines text × WroteBy result text old new × IfSome known (λ kept. GoesBy arena side kept spot text result)
-over_wrote fills known arena size finite side spot arms cs are due e codes_told f last stops is result old new h =
+over_wrote : FillsLocal → (known : Option (List ℕ)) (arena : Arena Step ℕ Value) (size : ℕ)
+    → IsFinite arena size → (side : Colour) (spot : Spot) (arms : List (Arm Step ℕ Value))
+    (cs : List ℕ) → arms ≡ arena.arms spot.number → (due : Due)
+    → due ≡ due_by (spot.played == 0) (nat_le MOST_PLIES spot.played) spot.code
+    (node_code side (arena.node spot.number) (free_among arms cs) cs) (arena.node spot.number)
+    → IfSome known (λ kept. cs ≡ map (arm_code side kept) arms) → (f : EndOfLine) (last : LineEnd)
+    → stage_told spot.number spot.code due ≡ OverWay f → told side f ≡ Ok last
+    → (result : Result Turn LineFault) (old new : SinkTold)
+    → Answers (Over last) (over_text side spot last) result old new → (text : List ℕ) × IsLines text
+    × WroteBy result text old new × IfSome known (λ kept. GoesBy arena side kept spot text result)
+over_wrote fills known arena size finite side spot arms cs are due e codes_told f last stops is
+    result old new h =
     let text = over_text side spot last in
-    let whole : text ≡ rest_text side spot [] (told side f) = ap (λ (z : Result LineEnd LineFault). rest_text side spot [] z) (sym is) in
+    let whole : text ≡ rest_text side spot [] (told side f) =
+    ap (λ (z : Result LineEnd LineFault). rest_text side spot [] z) (sym is) in
     let leaves : (kept : List ℕ) → Leaves arena side kept spot [] f [] result = λ kept.
-    leaves_by arena side kept spot [] f [] (Over last) text result old new (subst (λ (z : Result LineEnd LineFault). Finishes (Ok last) z []) (sym is) (refl, refl)) h in (
+    leaves_by arena side kept spot [] f [] (Over last) text result old new
+    (subst (λ (z : Result LineEnd LineFault). Finishes (Ok last) z []) (sym is) (refl, refl))
+    h in (
       text,
       as_lines text (ends_behind (first_line side spot) (end_line last) (ends_end last)),
       by_answers (Over last) text result old new h,
-      some_of known (λ kept. cs ≡ map (arm_code side kept) arms) (λ kept. GoesBy arena side kept spot text result) (λ kept same.
-          over_goes arena side kept spot text result f (λ agrees. line_stage fills arena size finite side spot arms cs kept are same agrees due e ∙ stops) whole (leaves kept)) codes_told,
+      some_of known (λ kept. cs ≡ map (arm_code side kept) arms)
+          (λ kept. GoesBy arena side kept spot text result) (λ kept same.
+          over_goes arena side kept spot text result f
+          (λ agrees. line_stage fills arena size finite side spot arms cs kept are same agrees due e
+          ∙ stops) whole (leaves kept)) codes_told,
     )
 
-pub turn_wrote : AsksForOne → FillsLocal → (known : Option (List ℕ)) (arena : Arena Step ℕ Value) (size : ℕ) → IsFinite arena size → (side : Colour) (spot : Spot) (arms : List (Arm Step ℕ Value)) (cs : List ℕ) → arms ≡ arena.arms spot.number → (due : Due) → due ≡ due_by (spot.played == 0) (nat_le MOST_PLIES spot.played) spot.code (node_code side (arena.node spot.number) (free_among arms cs) cs) (arena.node spot.number) → IfSome known (λ kept. cs ≡ map (arm_code side kept) arms) → (result : Result Turn LineFault) (old new : SinkTold) → IsPlayed side spot due arms cs result old new → (text : List ℕ) × IsLines text × WroteBy result text old new × IfSome known (λ kept. GoesBy arena side kept spot text result)
-turn_wrote one fills known arena size finite side spot arms cs are (dues.Wrong given) e codes_told result old new h =
-    let w : WrongEntry = record { side = side; number = spot.number; kept = spot.code; given = given } in
+pub turn_wrote : AsksForOne → FillsLocal → (known : Option (List ℕ)) (arena : Arena Step ℕ Value)
+    (size : ℕ) → IsFinite arena size
+    → (side : Colour) (spot : Spot) (arms : List (Arm Step ℕ Value)) (cs : List ℕ)
+    → arms ≡ arena.arms spot.number → (due : Due)
+    → due ≡ due_by (spot.played == 0) (nat_le MOST_PLIES spot.played) spot.code
+    (node_code side (arena.node spot.number) (free_among arms cs) cs) (arena.node spot.number)
+    → IfSome known (λ kept. cs ≡ map (arm_code side kept) arms)
+    → (result : Result Turn LineFault) (old new : SinkTold)
+    → IsPlayed side spot due arms cs result old new → (text : List ℕ) × IsLines text
+    × WroteBy result text old new × IfSome known (λ kept. GoesBy arena side kept spot text result)
+turn_wrote one fills known arena size finite side spot arms cs are (dues.Wrong given) e codes_told
+    result old new h =
+    let w : WrongEntry =
+    record { side = side; number = spot.number; kept = spot.code; given = given } in
     let f : EndOfLine = Wrong spot.number spot.code given in
     stop_wrote known arena side spot result old new (faults.Wrong w) h.1 h.0
-    (some_of known (λ kept. cs ≡ map (arm_code side kept) arms) (λ kept. GoesBy arena side kept spot [] result) (λ kept same.
-    over_goes arena side kept spot [] result f (λ agrees. line_stage fills arena size finite side spot arms cs kept are same agrees (dues.Wrong given) e) (none_text (spot.played == 0))
-    (subst (λ (z : Result Turn LineFault). Leaves arena side kept spot [] f [] z) (sym h.0) (refl, refl))) codes_told)
-turn_wrote one fills known arena size finite side spot arms cs are dues.NoBound e codes_told result old new h =
+    (some_of known (λ kept. cs ≡ map (arm_code side kept) arms)
+    (λ kept. GoesBy arena side kept spot [] result) (λ kept same.
+    over_goes arena side kept spot [] result f
+    (λ agrees. line_stage fills arena size finite side spot arms cs kept are same agrees
+    (dues.Wrong given) e) (none_text (spot.played == 0))
+    (subst (λ (z : Result Turn LineFault). Leaves arena side kept spot [] f [] z) (sym h.0)
+    (refl, refl))) codes_told)
+turn_wrote one fills known arena size finite side spot arms cs are dues.NoBound e codes_told result
+    old new h =
     let f : EndOfLine = NoBound in
     stop_wrote known arena side spot result old new faults.NoBound h.1 h.0
-    (some_of known (λ kept. cs ≡ map (arm_code side kept) arms) (λ kept. GoesBy arena side kept spot [] result) (λ kept same.
-    over_goes arena side kept spot [] result f (λ agrees. line_stage fills arena size finite side spot arms cs kept are same agrees dues.NoBound e) (none_text (spot.played == 0))
-    (subst (λ (z : Result Turn LineFault). Leaves arena side kept spot [] f [] z) (sym h.0) (refl, refl))) codes_told)
-turn_wrote one fills known arena size finite side spot arms cs are (dues.Mate m) e codes_told result old new h =
-    over_wrote fills known arena size finite side spot arms cs are (dues.Mate m) e codes_told (Mated m) ends.Mate refl refl result old new h
-turn_wrote one fills known arena size finite side spot arms cs are (dues.Stalemate m) e codes_told result old new h =
-    over_wrote fills known arena size finite side spot arms cs are (dues.Stalemate m) e codes_told (Stalemated m) ends.Stalemate refl refl result old new h
-turn_wrote one fills known arena size finite side spot arms cs are dues.Cut e codes_told result old new h =
-    over_wrote fills known arena size finite side spot arms cs are dues.Cut e codes_told Cut ends.Cut refl refl result old new h
-turn_wrote one fills known arena size finite side spot arms cs are (dues.Ply m) e codes_told result old new h =
+    (some_of known (λ kept. cs ≡ map (arm_code side kept) arms)
+    (λ kept. GoesBy arena side kept spot [] result) (λ kept same.
+    over_goes arena side kept spot [] result f
+    (λ agrees. line_stage fills arena size finite side spot arms cs kept are same agrees
+    dues.NoBound e) (none_text (spot.played == 0))
+    (subst (λ (z : Result Turn LineFault). Leaves arena side kept spot [] f [] z) (sym h.0)
+    (refl, refl))) codes_told)
+turn_wrote one fills known arena size finite side spot arms cs are (dues.Mate m) e codes_told result
+    old new h =
+    over_wrote fills known arena size finite side spot arms cs are (dues.Mate m) e codes_told
+    (Mated m) ends.Mate refl refl result old new h
+turn_wrote one fills known arena size finite side spot arms cs are (dues.Stalemate m) e codes_told
+    result old new h =
+    over_wrote fills known arena size finite side spot arms cs are (dues.Stalemate m) e codes_told
+    (Stalemated m) ends.Stalemate refl refl result old new h
+turn_wrote one fills known arena size finite side spot arms cs are dues.Cut e codes_told result old
+    new h =
+    over_wrote fills known arena size finite side spot arms cs are dues.Cut e codes_told Cut
+    ends.Cut refl refl result old new h
+turn_wrote one fills known arena size finite side spot arms cs are (dues.Ply m) e codes_told result
+    old new h =
     let a = h.2 in
     let text = moved_text side spot a in (
       text,
       as_lines text (ends_behind (first_line side spot) (arm_text a) (ends_arm a)),
       by_answers (turn_of a.next h.1.code) text result old new h.5,
-      some_of known (λ kept. cs ≡ map (arm_code side kept) arms) (λ kept. GoesBy arena side kept spot text result) (λ kept same.
-          ply_goes one arena size finite side m spot arms cs kept are same (λ agrees. line_stage fills arena size finite side spot arms cs kept are same agrees (dues.Ply m) e) h.0 h.1 a h.3 h.4 result old new h.5) codes_told,
+      some_of known (λ kept. cs ≡ map (arm_code side kept) arms)
+          (λ kept. GoesBy arena side kept spot text result) (λ kept same.
+          ply_goes one arena size finite side m spot arms cs kept are same
+          (λ agrees. line_stage fills arena size finite side spot arms cs kept are same agrees
+          (dues.Ply m) e) h.0 h.1 a h.3 h.4 result old new h.5) codes_told,
     )
 
 -- the store stopped a turn before anything was written
-stopped_before : (known : Option (List ℕ)) (arena : Arena Step ℕ Value) (side : Colour) (spot : Spot) (fault : LineFault) (result : Result Turn LineFault) (out : SinkTold) → (fault ≡ faults.Store) ⊎ (fault ≡ faults.NoMemory) → result ≡ Err fault → (text : List ℕ) × IsLines text × WroteBy result text out out × IfSome known (λ kept. GoesBy arena side kept spot text result)
+stopped_before : (known : Option (List ℕ)) (arena : Arena Step ℕ Value) (side : Colour)
+    (spot : Spot) (fault : LineFault) (result : Result Turn LineFault) (out : SinkTold)
+    → (fault ≡ faults.Store) ⊎ (fault ≡ faults.NoMemory) → result ≡ Err fault → (text : List ℕ)
+    × IsLines text × WroteBy result text out out
+    × IfSome known (λ kept. GoesBy arena side kept spot text result)
 stopped_before known arena side spot fault result out (inl s) e =
     let r : result ≡ Err faults.Store = e ∙ ap Err s in
     stop_wrote known arena side spot result out out faults.Store (took_nothing out) r
-    (every known (λ kept. GoesBy arena side kept spot [] result) (λ kept agrees plies end w.
-    (rest_text side spot plies (told side end), refl, subst (λ (z : Result Turn LineFault). Leaves arena side kept spot plies end (rest_text side spot plies (told side end)) z) (sym r) (rest_unfinished side spot plies (told side end)))))
+    (every known (λ kept. GoesBy arena side kept spot [] result) (λ kept agrees plies end w. (
+      rest_text side spot plies (told side end),
+      refl,
+      subst (λ (z : Result Turn LineFault). Leaves arena side kept spot plies end
+          (rest_text side spot plies (told side end)) z) (sym r)
+          (rest_unfinished side spot plies (told side end)),
+    )))
 stopped_before known arena side spot fault result out (inr s) e =
     let r : result ≡ Err faults.NoMemory = e ∙ ap Err s in
     stop_wrote known arena side spot result out out faults.NoMemory (took_nothing out) r
-    (every known (λ kept. GoesBy arena side kept spot [] result) (λ kept agrees plies end w.
-    (rest_text side spot plies (told side end), refl, subst (λ (z : Result Turn LineFault). Leaves arena side kept spot plies end (rest_text side spot plies (told side end)) z) (sym r) (rest_unfinished side spot plies (told side end)))))
+    (every known (λ kept. GoesBy arena side kept spot [] result) (λ kept agrees plies end w. (
+      rest_text side spot plies (told side end),
+      refl,
+      subst (λ (z : Result Turn LineFault). Leaves arena side kept spot plies end
+          (rest_text side spot plies (told side end)) z) (sym r)
+          (rest_unfinished side spot plies (told side end)),
+    )))
 
-pub stopped_by : (known : Option (List ℕ)) (arena : Arena Step ℕ Value) (side : Colour) (spot : Spot) (fault : StoreFault) (result : Result Turn LineFault) (out : SinkTold) → IsErrAnd result (λ e. e ≡ fault_of fault) → (text : List ℕ) × IsLines text × WroteBy result text out out × IfSome known (λ kept. GoesBy arena side kept spot text result)
+pub stopped_by : (known : Option (List ℕ)) (arena : Arena Step ℕ Value) (side : Colour)
+    (spot : Spot) (fault : StoreFault) (result : Result Turn LineFault) (out : SinkTold)
+    → IsErrAnd result (λ e. e ≡ fault_of fault) → (text : List ℕ) × IsLines text
+    × WroteBy result text out out × IfSome known (λ kept. GoesBy arena side kept spot text result)
 stopped_by known arena side spot fault (Ok turn) out h = absurd h
-stopped_by known arena side spot Failed (Err e) out h = stopped_before known arena side spot e (Err e) out (inl h) refl
-stopped_by known arena side spot NoMemory (Err e) out h = stopped_before known arena side spot e (Err e) out (inr h) refl
+stopped_by known arena side spot Failed (Err e) out h =
+    stopped_before known arena side spot e (Err e) out (inl h) refl
+stopped_by known arena side spot NoMemory (Err e) out h =
+    stopped_before known arena side spot e (Err e) out (inr h) refl

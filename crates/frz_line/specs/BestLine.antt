@@ -15,10 +15,11 @@ use Rattle.frz_line.specs.Ends.{told, Finishes}
 use Rattle.frz_line.specs.Lines.{LinePly, EndOfLine, IsLine}
 use Rattle.frz_line.specs.Texts.{line_text}
 
--- the text begins the text of the line from the position's number, and is all of it where the line's end is
--- answered; the code of the start is read once, and at each number that the line comes to the moves are made once, and
--- the code is read once of each that stays inside
-abbrev pub TellsLine : RuleLines → Colour → List ℕ → Board → (text : List ℕ) → Result LineEnd LineFault →
+-- the text begins the text of the line from the position's number, and is all of it where the
+-- line's end is answered; the code of the start is read once, and at each number that the line
+-- comes to the moves are made once, and the code is read once of each that stays inside
+abbrev pub TellsLine : RuleLines → Colour → List ℕ → Board → (text : List ℕ) →
+    Result LineEnd LineFault →
     (before now : Spent) → Type 0
 TellsLine rules side codes p text result before now =
     Member rules.groups p →
@@ -27,4 +28,5 @@ TellsLine rules side codes p text result before now =
     (rest : List ℕ)
     × (text ++ rest ≡ line_text side (slice_index codes (Num rules.groups p)) plies (told side end))
     × Finishes result (told side end) rest
-    × SpendsAt (graph_by rules (value_by rules)) 1 (way_numbers (Inside (Num rules.groups p)) plies) before now
+    × SpendsAt (graph_by rules (value_by rules)) 1 (way_numbers (Inside (Num rules.groups p)) plies)
+    before now

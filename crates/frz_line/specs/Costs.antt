@@ -35,5 +35,7 @@ pub record Spends (reads steps : ℕ) (before now : Spent) : Type 0 where
   pub asked : now.asked ≤ before.asked + 4 * reads
 
 -- beside so many codes, those of the moves of these numbers, and a step at each
-abbrev pub SpendsAt : Arena Step ℕ Value → (more : ℕ) → (numbers : List ℕ) → (before now : Spent) → Type 0
-SpendsAt arena more numbers before now = Spends (more + reads_at arena numbers) (length numbers) before now
+abbrev pub SpendsAt : Arena Step ℕ Value → (more : ℕ) → (numbers : List ℕ) → (before now : Spent)
+    → Type 0
+SpendsAt arena more numbers before now =
+    Spends (more + reads_at arena numbers) (length numbers) before now

@@ -23,8 +23,8 @@ abbrev pub IsUnfinished : (answer : Result LineEnd LineFault) → (rest : List �
 IsUnfinished (Ok end) rest = rest ≢ []
 IsUnfinished (Err fault) rest = ⊤
 
--- a line answers what its end tells, with all of its text written; with a fault of the store it is unfinished, and
--- with one of the sink nothing is said
+-- a line answers what its end tells, with all of its text written; with a fault of the store it is
+-- unfinished, and with one of the sink nothing is said
 abbrev pub Finishes : (result answer : Result LineEnd LineFault) → (rest : List ℕ) → Type 0
 Finishes (Err faults.Store) answer rest = IsUnfinished answer rest
 Finishes (Err faults.NoMemory) answer rest = IsUnfinished answer rest

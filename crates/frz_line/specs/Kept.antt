@@ -9,4 +9,5 @@ use Rattle.frz_table.specs.Tables.{Table, table_size}
 -- in order of number, where the store tells and the name is there
 abbrev pub told_codes : Table → Colour → Option Files → Option (List ℕ)
 told_codes table side files =
-    option_and_then (λ m. option_map (codes_at side table.text (table_size table)) (m table.name)) files
+    option_and_then (λ m. option_map (codes_at side table.text (table_size table)) (m table.name))
+    files

@@ -20,7 +20,8 @@ abbrev pub EndOfLine : Type 0
 EndOfLine = End ℕ Value Infallible
 
 -- both sides go by the codes, and a hold is cut after the most plies
-abbrev pub line_player : Arena Step ℕ Value → Colour → List ℕ → Player Step ℕ Value (Unit {0}) Infallible
+abbrev pub line_player : Arena Step ℕ Value → Colour → List ℕ
+    → Player Step ℕ Value (Unit {0}) Infallible
 line_player arena side codes = record {
   arena = arena;
   side = side;
@@ -29,11 +30,13 @@ line_player arena side codes = record {
 }
 
 -- after so many plies the line goes on from the number with these plies to this end
-abbrev pub GoesOn : Arena Step ℕ Value → Colour → List ℕ → (played number : ℕ) → List LinePly → EndOfLine → Type 0
+abbrev pub GoesOn : Arena Step ℕ Value → Colour → List ℕ → (played number : ℕ) → List LinePly
+    → EndOfLine → Type 0
 GoesOn arena side codes played number plies end =
     IsWay (line_player arena side codes) played tt number plies end tt
 
 -- the line of the side from the number, in the game of the rules with these values outside its set
-abbrev pub IsLine : RuleLines → (Board → Value) → Colour → List ℕ → (start : ℕ) → List LinePly → EndOfLine → Type 0
+abbrev pub IsLine : RuleLines → (Board → Value) → Colour → List ℕ → (start : ℕ) → List LinePly
+    → EndOfLine → Type 0
 IsLine rules value side codes start plies end =
     GoesOn (graph_by rules value) side codes 0 start plies end

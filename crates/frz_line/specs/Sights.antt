@@ -13,7 +13,8 @@ choices_by own (a ∷ arms) [] = []
 choices_by own (a ∷ arms) (c ∷ cs) =
     record { allowed = not own || a.free; code = c } ∷ choices_by own arms cs
 
--- the code behind the move that a kept code asks for: a win with a ply less, or from a hold a hold, or 0
+-- the code behind the move that a kept code asks for: a win
+-- with a ply less, or from a hold a hold, or 0
 abbrev pub IsNextCode : (kept code : ℕ) → Type 0
 IsNextCode kept code =
     ((is_win kept ≡ true) × (is_win code ≡ true) × (code + 2 ≡ kept)) ⊎ ((kept ≡ 1) × (code ≤ 1))

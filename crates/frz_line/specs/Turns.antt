@@ -58,10 +58,16 @@ abbrev pub Stops : LineFault → Result Turn LineFault → SinkTold → SinkTold
 Stops fault result old new = (result ≡ Err fault) × TookText [] old new
 
 -- what is due was done, with these moves and their codes
-abbrev pub IsPlayed : Colour → Spot → Due → List (Arm Step ℕ Value) → List ℕ → Result Turn LineFault → SinkTold →
+abbrev pub IsPlayed : Colour → Spot → Due → List (Arm Step ℕ Value) → List ℕ →
+    Result Turn LineFault → SinkTold →
     SinkTold → Type 0
 IsPlayed side spot (dues.Wrong given) arms cs result old new =
-    Stops (faults.Wrong (record { side = side; number = spot.number; kept = spot.code; given = given })) result old new
+    Stops (faults.Wrong (record {
+      side = side;
+      number = spot.number;
+      kept = spot.code;
+      given = given;
+    })) result old new
 IsPlayed side spot dues.NoBound arms cs result old new = Stops faults.NoBound result old new
 IsPlayed side spot (dues.Mate mover) arms cs result old new =
     Answers (Over ends.Mate) (over_text side spot ends.Mate) result old new
@@ -71,7 +77,8 @@ IsPlayed side spot dues.Cut arms cs result old new =
     Answers (Over ends.Cut) (over_text side spot ends.Cut) result old new
 IsPlayed side spot (dues.Ply mover) arms cs result old new =
     (place : ℕ) × (x : Choice) × (a : Arm Step ℕ Value)
-    × IsFound has_code (is_win spot.code) spot.code (choices_by (same_colour mover side) arms cs) place x
+    × IsFound has_code (is_win spot.code) spot.code (choices_by (same_colour mover side) arms cs)
+    place x
     × (slice_get arms place ≡ Some a)
     × Answers (turn_of a.next x.code) (moved_text side spot a) result old new
 
@@ -79,10 +86,12 @@ IsPlayed side spot (dues.Ply mover) arms cs result old new =
 abbrev pub HasMove : Colour → Spot → Due → List (Arm Step ℕ Value) → List ℕ → Type 0
 HasMove side spot (dues.Ply mover) arms cs =
     (i : ℕ) × (x : Choice)
-    × IsFound has_code (is_win spot.code) spot.code (choices_by (same_colour mover side) arms cs) i x
+    × IsFound has_code (is_win spot.code) spot.code (choices_by (same_colour mover side) arms cs) i
+    x
 HasMove side spot due arms cs = ⊤
 
--- a ply leads to a number of the set, whose code is as the kept one asks; a hold is not played past its plies
+-- a ply leads to a number of the set, whose code is as the kept
+-- one asks; a hold is not played past its plies
 abbrev pub TurnsTo : (size : ℕ) → Spot → Turn → Type 0
 TurnsTo size spot (Over end) = ⊤
 TurnsTo size spot (On number code) =
@@ -94,12 +103,15 @@ rest_text side spot plies answer =
     (if spot.played == 0 then start_line side spot.code plies answer else [])
     ++ (plies_text plies ++ last_line answer)
 
--- how a turn leaves a line: it goes on behind its first ply, which leads to this number, or it finished
-abbrev pub Leaves : Arena Step ℕ Value → Colour → List ℕ → Spot → List LinePly → EndOfLine → (rest : List ℕ) →
+-- how a turn leaves a line: it goes on behind its first ply,
+-- which leads to this number, or it finished
+abbrev pub Leaves : Arena Step ℕ Value → Colour → List ℕ → Spot → List LinePly → EndOfLine →
+    (rest : List ℕ) →
     Result Turn LineFault → Type 0
 Leaves arena side codes spot plies end rest (Ok (On number code)) =
     (slice_index codes number ≡ code)
-    × ((first : LinePly) × (others : List LinePly) × (plies ≡ first ∷ others) × (first.arm.next ≡ Inside number)
+    × ((first : LinePly) × (others : List LinePly) × (plies ≡ first ∷ others)
+    × (first.arm.next ≡ Inside number)
     × GoesOn arena side codes (suc spot.played) number others end
     × (rest ≡ plies_text others ++ last_line (told side end)))
 Leaves arena side codes spot plies end rest (Ok (Over last)) =
@@ -108,15 +120,17 @@ Leaves arena side codes spot plies end rest (Err fault) =
     Finishes (Err fault) (told side end) rest
 
 -- the text is what the turn adds to each line that goes on from here
-abbrev pub GoesBy : Arena Step ℕ Value → Colour → List ℕ → Spot → (text : List ℕ) → Result Turn LineFault → Type 0
+abbrev pub GoesBy : Arena Step ℕ Value → Colour → List ℕ → Spot → (text : List ℕ)
+    → Result Turn LineFault → Type 0
 GoesBy arena side codes spot text result =
     slice_index codes spot.number ≡ spot.code →
-    (plies : List LinePly) (end : EndOfLine) → GoesOn arena side codes spot.played spot.number plies end →
+    (plies : List LinePly) (end : EndOfLine) →
+    GoesOn arena side codes spot.played spot.number plies end →
     (rest : List ℕ) × (text ++ rest ≡ rest_text side spot plies (told side end))
     × Leaves arena side codes spot plies end rest result
 
--- the text begins the text of each line from the start, and is all of it at the line's end; at each number that it
--- comes to the moves were made once, and their codes read
+-- the text begins the text of each line from the start, and is all of it at the line's end; at each
+-- number that it comes to the moves were made once, and their codes read
 abbrev pub Plays : Arena Step ℕ Value → Colour → List ℕ → (start code : ℕ) → (text : List ℕ) →
     Result LineEnd LineFault → (before now : Spent) → Type 0
 Plays arena side codes start code text result before now =

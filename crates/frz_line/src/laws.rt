@@ -36,8 +36,8 @@ pub fn one_line()
     numbered();
 }
 
-/// From the kept code of a win of n plies a line is won: by a mate after n plies, or at an exit that
-/// wins, after n plies with its lag counted. Only a wrong code on its way ends it otherwise.
+/// From the kept code of a win of n plies a line is won: by a mate after n plies, or at an exit
+/// that wins, after n plies with its lag counted. Only a wrong code on its way ends it otherwise.
 pub fn least_plies()
     ensures won { (rules : RuleLines) (value : Board → Value)
         (side : Colour) (codes : List ℕ) (start n : ℕ)

@@ -14,16 +14,19 @@ use Rattle.frz_words.specs.Words.{words}
 use Rattle.frz_play.specs.declared.end.TheConstants.{MOST_LENGTH}
 use Rattle.frz_play.specs.Reading.{Input, Halt, line_length, first_line, behind_line, only_of, place_by, place_said, refuse_one, reply_or, reads}
 
-there_at : (arms : List (Arm Step ℕ Value)) (place : ℕ) → place < length arms → (a : Arm Step ℕ Value) × (slice_get arms place ≡ Some a)
+there_at : (arms : List (Arm Step ℕ Value)) (place : ℕ) → place < length arms
+    → (a : Arm Step ℕ Value) × (slice_get arms place ≡ Some a)
 there_at [] place l = absurd (omega arith)
 there_at (a ∷ arms) zero l = (a, refl)
 there_at (a ∷ arms) (suc place) l = there_at arms place (omega arith)
 
-place_there : (arms : List (Arm Step ℕ Value)) (word : Option (List ℕ)) (place : ℕ) → place_by arms word ≡ Some place → (a : Arm Step ℕ Value) × (slice_get arms place ≡ Some a)
+place_there : (arms : List (Arm Step ℕ Value)) (word : Option (List ℕ)) (place : ℕ)
+    → place_by arms word ≡ Some place → (a : Arm Step ℕ Value) × (slice_get arms place ≡ Some a)
 place_there arms None place e = absurd (cc)
 place_there [] (Some word) place e = absurd (cc)
 place_there (a ∷ arms) (Some word) place e =
-    there_at (a ∷ arms) place (position-Some (λ z. bytes_eq word (text_of z.mv)) (a ∷ arms) place a e).0
+    there_at (a ∷ arms) place
+    (position-Some (λ z. bytes_eq word (text_of z.mv)) (a ∷ arms) place a e).0
 
 -- what an answer's reply is
 abbrev IsReply : (arms : List (Arm Step ℕ Value)) → (more : ℕ) → Answer Input Halt → Type 0
@@ -31,7 +34,8 @@ IsReply arms more answer =
     (refused place : ℕ) (left : Input) → answer ≡ Reply refused place left →
     ((a : Arm Step ℕ Value) × (slice_get arms place ≡ Some a)) × (left.more < more)
 
-of_next : (arms : List (Arm Step ℕ Value)) (more : ℕ) (next : Answer Input Halt) → IsReply arms more next → IsReply arms (suc more) (refuse_one next)
+of_next : (arms : List (Arm Step ℕ Value)) (more : ℕ) (next : Answer Input Halt)
+    → IsReply arms more next → IsReply arms (suc more) (refuse_one next)
 of_next arms more (Reply n p l) h = λ refused place left e.
     let at_it : p ≡ place = cc in
     let same : l ≡ left = cc in
@@ -39,7 +43,10 @@ of_next arms more (Reply n p l) h = λ refused place left e.
     (r.0, (let k = r.1 in omega (arith, k)))
 of_next arms more (Stop halt l) h = λ refused place left e. absurd (cc)
 
-of_line : (arms : List (Arm Step ℕ Value)) (more : ℕ) (said : Option ℕ) → ((place : ℕ) → said ≡ Some place → (a : Arm Step ℕ Value) × (slice_get arms place ≡ Some a)) → (rest : List ℕ) (next : Answer Input Halt) → IsReply arms more next → IsReply arms (suc more) (reply_or said (record { left = rest; more = more }) next)
+of_line : (arms : List (Arm Step ℕ Value)) (more : ℕ) (said : Option ℕ)
+    → ((place : ℕ) → said ≡ Some place → (a : Arm Step ℕ Value) × (slice_get arms place ≡ Some a))
+    → (rest : List ℕ) (next : Answer Input Halt) → IsReply arms more next
+    → IsReply arms (suc more) (reply_or said (record { left = rest; more = more }) next)
 of_line arms more (Some p) there rest next h = λ refused place left e.
     let at_it : p ≡ place = cc in
     let same : record { left = rest; more = more } ≡ left = cc in
@@ -47,17 +54,23 @@ of_line arms more (Some p) there rest next h = λ refused place left e.
     (there place (ap Some at_it), omega (arith, few))
 of_line arms more None there rest next h = of_next arms more next h
 
-replies : (arms : List (Arm Step ℕ Value)) (more : ℕ) (left : List ℕ) → IsReply arms more (reads arms more left)
+replies : (arms : List (Arm Step ℕ Value)) (more : ℕ) (left : List ℕ)
+    → IsReply arms more (reads arms more left)
 replies arms zero left = λ refused place rest e. absurd (cc)
 replies arms (suc more) [] = λ refused place rest e. absurd (cc)
 replies arms (suc more) (b ∷ bs) =
     elim (true_or_false (nat_lt MOST_LENGTH (line_length (b ∷ bs)))) [
       | inl t ↦ rw t (λ refused place rest e. absurd (cc))
-      | inr f ↦ rw f (of_line arms more (place_said arms (first_line (b ∷ bs))) (λ place e. place_there arms (only_of (words (first_line (b ∷ bs)))) place e) (behind_line (b ∷ bs)) (reads arms more (behind_line (b ∷ bs))) (replies arms more (behind_line (b ∷ bs))))
+      | inr f ↦ rw f (of_line arms more (place_said arms (first_line (b ∷ bs)))
+          (λ place e. place_there arms (only_of (words (first_line (b ∷ bs)))) place e)
+          (behind_line (b ∷ bs)) (reads arms more (behind_line (b ∷ bs)))
+          (replies arms more (behind_line (b ∷ bs))))
     ]
 
-pub reads_input : (arena : Arena Step ℕ Value) → IsInput arena (λ (s : Input). s.more) (λ i (s : Input). reads (arena.arms i) s.more s.left)
+pub reads_input : (arena : Arena Step ℕ Value)
+    → IsInput arena (λ (s : Input). s.more) (λ i (s : Input). reads (arena.arms i) s.more s.left)
 reads_input arena = record {
-  there = λ p mover s t refused place going e. (replies (arena.arms p) s.more s.left refused place t e).0;
+  there = λ p mover s t refused place going e.
+      (replies (arena.arms p) s.more s.left refused place t e).0;
   less = λ p s t refused place e. (replies (arena.arms p) s.more s.left refused place t e).1;
 }

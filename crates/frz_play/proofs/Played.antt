@@ -33,8 +33,11 @@ use Rattle.frz_play.proofs.Taking.{took_none, took_on, held_whole, some_rest}
 use Rattle.frz_play.proofs.Turned.{turn_over}
 use Rattle.frz_play.proofs.Written.{wrote_after, same_wrote}
 
--- what is left of a session from the start, behind the text that was written and the numbers that it came to
-pub record IsLeft (arena : Arena Step ℕ Value) (side : Colour) (kept : List ℕ) (start code : ℕ) (spot : Spot) (input : Input) (played : ℕ) (numbers text : List ℕ) (plies : List SessionPly) (end : EndOfSession) (last : Input) : Type 0 where
+-- what is left of a session from the start, behind the text
+-- that was written and the numbers that it came to
+pub record IsLeft (arena : Arena Step ℕ Value) (side : Colour) (kept : List ℕ) (start code : ℕ)
+    (spot : Spot) (input : Input) (played : ℕ) (numbers text : List ℕ) (plies : List SessionPly)
+    (end : EndOfSession) (last : Input) : Type 0 where
   pub agrees : slice_index kept spot.number ≡ spot.code
   pub others : List SessionPly
   pub way : GoesOn arena side kept played input spot.number others end last
@@ -42,14 +45,18 @@ pub record IsLeft (arena : Arena Step ℕ Value) (side : Colour) (kept : List �
   pub came : numbers ++ way_numbers (Inside spot.number) others ≡ way_numbers (Inside start) plies
 
 -- each session from the start against these bytes comes by here
-abbrev pub ComeBy : Arena Step ℕ Value → Colour → List ℕ → (start code : ℕ) → Spot → Reader → (played : ℕ) → (numbers bytes text : List ℕ) → Type 0
+abbrev pub ComeBy : Arena Step ℕ Value → Colour → List ℕ → (start code : ℕ) → Spot → Reader
+    → (played : ℕ) → (numbers bytes text : List ℕ) → Type 0
 ComeBy arena side kept start code spot reader played numbers bytes text =
     slice_index kept start ≡ code → (left : List ℕ) → MayFollow reader left →
     (plies : List SessionPly) (end : EndOfSession) (last : Input) →
     GoesOn arena side kept 0 (opened (bytes ++ left)) start plies end last →
-    IsLeft arena side kept start code spot (record { left = left; more = reader.more }) played numbers text plies end last
+    IsLeft arena side kept start code spot (record { left = left; more = reader.more }) played
+    numbers text plies end last
 
-pub record SoFar (told : Option (List ℕ)) (arena : Arena Step ℕ Value) (side : Colour) (start code : ℕ) (spot : Spot) (reader : Reader) (source left : SourceTold) (out taken : SinkTold) (before now : Spent) : Type 0 where
+pub record SoFar (told : Option (List ℕ)) (arena : Arena Step ℕ Value) (side : Colour)
+    (start code : ℕ) (spot : Spot) (reader : Reader) (source left : SourceTold)
+    (out taken : SinkTold) (before now : Spent) : Type 0 where
   pub text : List ℕ
   pub bytes : List ℕ
   pub lines : IsLines text
@@ -59,9 +66,13 @@ pub record SoFar (told : Option (List ℕ)) (arena : Arena Step ℕ Value) (side
   pub count : (played == 0) ≡ spot.is_start
   pub numbers : List ℕ
   pub spent : SpendsAt arena 0 numbers before now
-  pub comes : IfSome told (λ kept. ComeBy arena side kept start code spot reader played numbers bytes text)
+  pub comes : IfSome told
+      (λ kept. ComeBy arena side kept start code spot reader played numbers bytes text)
 
-pub at_start : (told : Option (List ℕ)) (arena : Arena Step ℕ Value) (side : Colour) (start code : ℕ) (source : SourceTold) (out : SinkTold) (now : Spent) → SoFar told arena side start code (record { number = start; code = code; is_start = true }) (record { more = MOST_LINES; ended = false }) source source out out now now
+pub at_start : (told : Option (List ℕ)) (arena : Arena Step ℕ Value) (side : Colour)
+    (start code : ℕ) (source : SourceTold) (out : SinkTold) (now : Spent)
+    → SoFar told arena side start code (record { number = start; code = code; is_start = true })
+    (record { more = MOST_LINES; ended = false }) source source out out now now
 at_start told arena side start code source out now = record {
   text = [];
   bytes = [];
@@ -72,63 +83,111 @@ at_start told arena side start code source out now = record {
   count = refl;
   numbers = [];
   spent = nothing_spent arena now;
-  comes = every told (λ kept. ComeBy arena side kept start code (record { number = start; code = code; is_start = true }) (record { more = MOST_LINES; ended = false }) 0 [] [] []) (λ kept agrees left may plies end last w.
+  comes = every told (λ kept. ComeBy arena side kept start code
+      (record { number = start; code = code; is_start = true })
+      (record { more = MOST_LINES; ended = false }) 0 [] [] [])
+      (λ kept agrees left may plies end last w.
       record { agrees = agrees; others = plies; way = w; is = refl; came = refl });
 }
 
 later_count : (k : ℕ) → (suc k == 0) ≡ false
 later_count k = grind (arith, nat_tests)
 
-follows_both : (old new : Reader) (bytes left : List ℕ) → StaysEnded old new bytes → MayFollow new left → MayFollow old (bytes ++ left)
+follows_both : (old new : Reader) (bytes left : List ℕ) → StaysEnded old new bytes
+    → MayFollow new left → MayFollow old (bytes ++ left)
 follows_both old new bytes left stays may = λ e.
     let s = stays e in ap (λ (l : List ℕ). l ++ left) s.0 ∙ may s.1
 
 -- a ply was played
-after_ply : (arena : Arena Step ℕ Value) (side : Colour) (kept : List ℕ) (start code : ℕ) (spot : Spot) (old new : Reader) (played number read : ℕ) (numbers bytes more text next : List ℕ) → (played == 0) ≡ spot.is_start → StaysEnded old new more → ComeBy arena side kept start code spot old played numbers bytes text → GoesBy arena side kept spot old new more next (Ok (On number read)) → ComeBy arena side kept start code (record { number = number; code = read; is_start = false }) new (suc played) (numbers ++ spot.number ∷ []) (bytes ++ more) (text ++ next)
-after_ply arena side kept start code spot old new played number read numbers bytes more text next count stays comes goes = λ agrees left may plies end last w.
-    let v = subst (λ (l : List ℕ). GoesOn arena side kept 0 (opened l) start plies end last) (append_assoc bytes more left) w in
-    let l = comes agrees (more ++ left) (follows_both old new more left stays may) plies end last v in
+after_ply : (arena : Arena Step ℕ Value) (side : Colour) (kept : List ℕ) (start code : ℕ)
+    (spot : Spot) (old new : Reader) (played number read : ℕ)
+    (numbers bytes more text next : List ℕ) → (played == 0) ≡ spot.is_start
+    → StaysEnded old new more → ComeBy arena side kept start code spot old played numbers bytes text
+    → GoesBy arena side kept spot old new more next (Ok (On number read))
+    → ComeBy arena side kept start code (record { number = number; code = read; is_start = false })
+    new (suc played) (numbers ++ spot.number ∷ []) (bytes ++ more) (text ++ next)
+after_ply arena side kept start code spot old new played number read numbers bytes more text next
+    count stays comes goes = λ agrees left may plies end last w.
+    let v = subst (λ (l : List ℕ). GoesOn arena side kept 0 (opened l) start plies end last)
+    (append_assoc bytes more left) w in
+    let l = comes agrees (more ++ left) (follows_both old new more left stays may) plies end last
+    v in
     let g = goes l.agrees played count left may l.others end last l.way in
     record {
       agrees = g.2.0;
       others = g.2.1.1;
       way = g.2.1.4;
-      is = ap (λ (z : List ℕ). (text ++ next) ++ z) (sym g.2.1.5) ∙ (append_assoc text next g.0 ∙ (ap (λ (z : List ℕ). text ++ z) g.1 ∙ l.is));
-      came = came_on numbers spot.number number l.others g.2.1.1 g.2.1.0 (way_numbers (Inside start) plies) l.came g.2.1.2 g.2.1.3;
+      is = ap (λ (z : List ℕ). (text ++ next) ++ z) (sym g.2.1.5)
+          ∙ (append_assoc text next g.0 ∙ (ap (λ (z : List ℕ). text ++ z) g.1 ∙ l.is));
+      came = came_on numbers spot.number number l.others g.2.1.1 g.2.1.0
+          (way_numbers (Inside start) plies) l.came g.2.1.2 g.2.1.3;
     }
 
-pub next_far : (told : Option (List ℕ)) (arena : Arena Step ℕ Value) (side : Colour) (start code : ℕ) (spot : Spot) (old new : Reader) (number read : ℕ) (source mid left : SourceTold) (out between taken : SinkTold) (before now after : Spent) → SoFar told arena side start code spot old source mid out between before now → SpendsAt arena 0 (spot.number ∷ []) now after → (next more : List ℕ) → IsLines next → TookText next between taken → TookBytes more mid left → StaysEnded old new more → IfSome told (λ kept. GoesBy arena side kept spot old new more next (Ok (On number read))) → SoFar told arena side start code (record { number = number; code = read; is_start = false }) new source left out taken before after
-next_far told arena side start code spot old new number read source mid left out between taken before now after far few next more lines wrote took stays goes = record {
-  text = far.text ++ next;
-  bytes = far.bytes ++ more;
-  lines = lines_behind far.text next far.lines lines;
-  wrote = took_behind far.text next (far.text ++ next) out between taken far.wrote refl wrote;
-  took = took_on far.bytes more source mid left far.took took;
-  played = suc far.played;
-  count = later_count far.played;
-  numbers = far.numbers ++ spot.number ∷ [];
-  spent = spends_on arena far.numbers (spot.number ∷ []) before now after far.spent few;
-  comes = both told (λ kept. ComeBy arena side kept start code spot old far.played far.numbers far.bytes far.text) (λ kept. GoesBy arena side kept spot old new more next (Ok (On number read))) (λ kept. ComeBy arena side kept start code (record { number = number; code = read; is_start = false }) new (suc far.played) (far.numbers ++ spot.number ∷ []) (far.bytes ++ more) (far.text ++ next)) (λ kept c g.
-      after_ply arena side kept start code spot old new far.played number read far.numbers far.bytes more far.text next far.count stays c g) far.comes goes;
-}
+pub next_far : (told : Option (List ℕ)) (arena : Arena Step ℕ Value) (side : Colour)
+    (start code : ℕ) (spot : Spot) (old new : Reader) (number read : ℕ)
+    (source mid left : SourceTold) (out between taken : SinkTold) (before now after : Spent)
+    → SoFar told arena side start code spot old source mid out between before now
+    → SpendsAt arena 0 (spot.number ∷ []) now after → (next more : List ℕ) → IsLines next
+    → TookText next between taken → TookBytes more mid left → StaysEnded old new more
+    → IfSome told (λ kept. GoesBy arena side kept spot old new more next (Ok (On number read)))
+    → SoFar told arena side start code (record { number = number; code = read; is_start = false })
+    new source left out taken before after
+next_far told arena side start code spot old new number read source mid left out between taken
+    before now after far few next more lines wrote took stays goes = record {
+      text = far.text ++ next;
+      bytes = far.bytes ++ more;
+      lines = lines_behind far.text next far.lines lines;
+      wrote = took_behind far.text next (far.text ++ next) out between taken far.wrote refl wrote;
+      took = took_on far.bytes more source mid left far.took took;
+      played = suc far.played;
+      count = later_count far.played;
+      numbers = far.numbers ++ spot.number ∷ [];
+      spent = spends_on arena far.numbers (spot.number ∷ []) before now after far.spent few;
+      comes = both told (λ kept. ComeBy arena side kept start code spot old far.played far.numbers
+          far.bytes far.text)
+          (λ kept. GoesBy arena side kept spot old new more next (Ok (On number read)))
+          (λ kept. ComeBy arena side kept start code
+          (record { number = number; code = read; is_start = false }) new (suc far.played)
+          (far.numbers ++ spot.number ∷ []) (far.bytes ++ more) (far.text ++ next)) (λ kept c g.
+          after_ply arena side kept start code spot old new far.played number read far.numbers
+          far.bytes
+          more far.text next far.count stays c g) far.comes goes;
+    }
 
-left_over : (arena : Arena Step ℕ Value) (side : Colour) (kept : List ℕ) (played : ℕ) (left : Input) (plies : List SessionPly) (end : EndOfSession) (last : Input) (rest : List ℕ) (answer : Result SessionEnd PlayFault) → Leaves arena side kept played left plies end last rest (turn_over answer) → (unread : List ℕ) × (unread ++ last.left ≡ left.left) × Finishes answer side end rest unread
+left_over : (arena : Arena Step ℕ Value) (side : Colour) (kept : List ℕ) (played : ℕ) (left : Input)
+    (plies : List SessionPly) (end : EndOfSession) (last : Input) (rest : List ℕ)
+    (answer : Result SessionEnd PlayFault) → Leaves arena side kept played left plies end last rest
+    (turn_over answer) → (unread : List ℕ) × (unread ++ last.left ≡ left.left)
+    × Finishes answer side end rest unread
 left_over arena side kept played left plies end last rest (Ok answer) h = h
 left_over arena side kept played left plies end last rest (Err fault) h = h
 
 -- the last turn
-played_out : (arena : Arena Step ℕ Value) (side : Colour) (kept : List ℕ) (start code : ℕ) (spot : Spot) (old new : Reader) (played : ℕ) (numbers bytes more text next : List ℕ) (answer : Result SessionEnd PlayFault) (before now after : Spent) (source left : SourceTold) → (played == 0) ≡ spot.is_start → SpendsAt arena 0 numbers before now → SpendsAt arena 0 (spot.number ∷ []) now after → StaysEnded old new more → TookBytes (bytes ++ more) source left → (new.ended ≡ true → HasEnded left) → ComeBy arena side kept start code spot old played numbers bytes text → GoesBy arena side kept spot old new more next (turn_over answer) → Plays arena side kept start code source (bytes ++ more) (text ++ next) answer before after
-played_out arena side kept start code spot old new played numbers bytes more text next answer before now after source left count b n stays took has comes goes =
+played_out : (arena : Arena Step ℕ Value) (side : Colour) (kept : List ℕ) (start code : ℕ)
+    (spot : Spot) (old new : Reader) (played : ℕ) (numbers bytes more text next : List ℕ)
+    (answer : Result SessionEnd PlayFault) (before now after : Spent) (source left : SourceTold)
+    → (played == 0) ≡ spot.is_start → SpendsAt arena 0 numbers before now
+    → SpendsAt arena 0 (spot.number ∷ []) now after → StaysEnded old new more
+    → TookBytes (bytes ++ more) source left → (new.ended ≡ true → HasEnded left)
+    → ComeBy arena side kept start code spot old played numbers bytes text
+    → GoesBy arena side kept spot old new more next (turn_over answer)
+    → Plays arena side kept start code source (bytes ++ more) (text ++ next) answer before after
+played_out arena side kept start code spot old new played numbers bytes more text next answer before
+    now after source left count b n stays took has comes goes =
     let r = some_rest left (new.ended ≡ true) has in
     let rest = r.0 in (
       (bytes ++ more) ++ rest,
       held_whole (bytes ++ more) source left took rest r.1,
       λ agrees plies end last w.
-          let v = subst (λ (l : List ℕ). GoesOn arena side kept 0 (opened l) start plies end last) (append_assoc bytes more rest) w in
-          let l = comes agrees (more ++ rest) (follows_both old new more rest stays r.2) plies end last v in
+          let v = subst (λ (l : List ℕ). GoesOn arena side kept 0 (opened l) start plies end last)
+          (append_assoc bytes more rest) w in
+          let l = comes agrees (more ++ rest) (follows_both old new more rest stays r.2) plies end
+          last v in
           let g = goes l.agrees played count rest r.2 l.others end last l.way in
-          let o = left_over arena side kept played (record { left = rest; more = new.more }) l.others end last g.0 answer g.2 in
-          let spent = spends_last arena numbers spot.number l.others (way_numbers (Inside start) plies) before now after l.came b n in (
+          let o = left_over arena side kept played (record { left = rest; more = new.more })
+          l.others end last g.0 answer g.2 in
+          let spent = spends_last arena numbers spot.number l.others
+          (way_numbers (Inside start) plies) before now after l.came b n in (
             record {
               rest = g.0;
               unread = o.0;
@@ -141,28 +200,55 @@ played_out arena side kept start code spot old new played numbers bytes more tex
     )
 
 -- what a session wrote and took
-abbrev pub SessionWrote : Option (List ℕ) → Arena Step ℕ Value → Colour → (start code : ℕ) → Result SessionEnd PlayFault → (source left : SourceTold) → (out taken : SinkTold) → (before now : Spent) → Type 0
+abbrev pub SessionWrote : Option (List ℕ) → Arena Step ℕ Value → Colour → (start code : ℕ)
+    → Result SessionEnd PlayFault → (source left : SourceTold) → (out taken : SinkTold)
+    → (before now : Spent) → Type 0
 SessionWrote told arena side start code result source left out taken before now =
-    (text bytes : List ℕ) × IsLines text × WroteBy result text out taken × TookBytes bytes source left
+    (text bytes : List ℕ) × IsLines text × WroteBy result text out taken
+    × TookBytes bytes source left
     × IfSome told (λ kept. Plays arena side kept start code source bytes text result before now)
 
-over_wrote : (answer : Result SessionEnd PlayFault) (text : List ℕ) (old new : SinkTold) → WroteBy (turn_over answer) text old new → WroteBy answer text old new
+over_wrote : (answer : Result SessionEnd PlayFault) (text : List ℕ) (old new : SinkTold)
+    → WroteBy (turn_over answer) text old new → WroteBy answer text old new
 over_wrote (Ok answer) text old new w = w
 over_wrote (Err fault) text old new w = same_wrote Turn SessionEnd fault text old new w
 
-pub last_far : (told : Option (List ℕ)) (arena : Arena Step ℕ Value) (side : Colour) (start code : ℕ) (spot : Spot) (old new : Reader) (source mid left : SourceTold) (out between taken : SinkTold) (before now after : Spent) → SoFar told arena side start code spot old source mid out between before now → SpendsAt arena 0 (spot.number ∷ []) now after → (new.ended ≡ true → HasEnded left) → (answer : Result SessionEnd PlayFault) (next more : List ℕ) → IsLines next → WroteBy (turn_over answer) next between taken → TookBytes more mid left → StaysEnded old new more → IfSome told (λ kept. GoesBy arena side kept spot old new more next (turn_over answer)) → SessionWrote told arena side start code answer source left out taken before after
-last_far told arena side start code spot old new source mid left out between taken before now after far few has answer next more lines wrote took stays goes =
+pub last_far : (told : Option (List ℕ)) (arena : Arena Step ℕ Value) (side : Colour)
+    (start code : ℕ) (spot : Spot) (old new : Reader) (source mid left : SourceTold)
+    (out between taken : SinkTold) (before now after : Spent)
+    → SoFar told arena side start code spot old source mid out between before now
+    → SpendsAt arena 0 (spot.number ∷ []) now after → (new.ended ≡ true → HasEnded left)
+    → (answer : Result SessionEnd PlayFault) (next more : List ℕ) → IsLines next
+    → WroteBy (turn_over answer) next between taken → TookBytes more mid left
+    → StaysEnded old new more
+    → IfSome told (λ kept. GoesBy arena side kept spot old new more next (turn_over answer))
+    → SessionWrote told arena side start code answer source left out taken before after
+last_far told arena side start code spot old new source mid left out between taken before now after
+    far few has answer next more lines wrote took stays goes =
     let all = took_on far.bytes more source mid left far.took took in (
       far.text ++ next,
       far.bytes ++ more,
       lines_behind far.text next far.lines lines,
-      wrote_after far.text next answer out between taken far.wrote (over_wrote answer next between taken wrote),
+      wrote_after far.text next answer out between taken far.wrote
+          (over_wrote answer next between taken wrote),
       all,
-      both told (λ kept. ComeBy arena side kept start code spot old far.played far.numbers far.bytes far.text) (λ kept. GoesBy arena side kept spot old new more next (turn_over answer)) (λ kept. Plays arena side kept start code source (far.bytes ++ more) (far.text ++ next) answer before after) (λ kept c g.
-          played_out arena side kept start code spot old new far.played far.numbers far.bytes more far.text next answer before now after source left far.count far.spent few stays all has c g) far.comes goes,
+      both told (λ kept. ComeBy arena side kept start code spot old far.played far.numbers far.bytes
+          far.text) (λ kept. GoesBy arena side kept spot old new more next (turn_over answer))
+          (λ kept. Plays arena side kept start code source (far.bytes ++ more) (far.text ++ next)
+          answer
+          before after) (λ kept c g.
+          played_out arena side kept start code spot old new far.played far.numbers far.bytes more
+          far.text next answer before now after source left far.count far.spent few stays all has c
+          g) far.comes goes,
     )
 
-pub fault_wrote : (told : Option (List ℕ)) (arena : Arena Step ℕ Value) (side : Colour) (start code : ℕ) (source left : SourceTold) (out taken : SinkTold) (before now : Spent) (fault : PlayFault) (result : Result SessionEnd PlayFault) → IsErrAnd result (λ e. e ≡ fault) → SessionWrote told arena side start code (Err fault) source left out taken before now → SessionWrote told arena side start code result source left out taken before now
-fault_wrote told arena side start code source left out taken before now fault (Ok end) h w = absurd h
+pub fault_wrote : (told : Option (List ℕ)) (arena : Arena Step ℕ Value) (side : Colour)
+    (start code : ℕ) (source left : SourceTold) (out taken : SinkTold) (before now : Spent)
+    (fault : PlayFault) (result : Result SessionEnd PlayFault) → IsErrAnd result (λ e. e ≡ fault)
+    → SessionWrote told arena side start code (Err fault) source left out taken before now
+    → SessionWrote told arena side start code result source left out taken before now
+fault_wrote told arena side start code source left out taken before now fault (Ok end) h w =
+    absurd h
 fault_wrote told arena side start code source left out taken before now fault (Err e) h w =
-    subst (λ (f : PlayFault). SessionWrote told arena side start code (Err f) source left out taken before now) (sym h) w
+    subst (λ (f : PlayFault). SessionWrote told arena side start code (Err f) source left out taken
+    before now) (sym h) w

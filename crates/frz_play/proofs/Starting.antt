@@ -34,13 +34,19 @@ use Rattle.frz_play.proofs.Taking.{took_none, some_rest}
 use Rattle.frz_play.proofs.Written.{store_fault}
 
 -- what was written and taken of the session
-abbrev pub WroteSession : Option (List ℕ) → RuleLines → Colour → Board → Result SessionEnd PlayFault → (source left : SourceTold) → (out taken : SinkTold) → (before now : Spent) → Type 0
+abbrev pub WroteSession : Option (List ℕ) → RuleLines → Colour → Board → Result SessionEnd PlayFault
+    → (source left : SourceTold) → (out taken : SinkTold) → (before now : Spent) → Type 0
 WroteSession told rules side p result source left out taken before now =
-    (text bytes : List ℕ) × IsLines text × WroteBy result text out taken × TookBytes bytes source left
-    × IfSome told (λ codes. (whole : List ℕ) × MayHold source whole × TellsSession rules side codes p whole bytes text result before now)
+    (text bytes : List ℕ) × IsLines text × WroteBy result text out taken
+    × TookBytes bytes source left
+    × IfSome told (λ codes. (whole : List ℕ) × MayHold source whole
+    × TellsSession rules side codes p whole bytes text result before now)
 
 -- a position that is not in the set
-pub nothing_told : (told : Option (List ℕ)) (rules : RuleLines) (side : Colour) (p : Board) (source : SourceTold) (out : SinkTold) (before : Spent) → (Member rules.groups p → ⊥) → WroteSession told rules side p (Err (plays.Line faults.Outside)) source source out out before before
+pub nothing_told : (told : Option (List ℕ)) (rules : RuleLines) (side : Colour) (p : Board)
+    (source : SourceTold) (out : SinkTold) (before : Spent) → (Member rules.groups p → ⊥)
+    → WroteSession told rules side p (Err (plays.Line faults.Outside)) source source out out before
+    before
 nothing_told told rules side p source out before none =
     let r = some_rest source ⊥ (λ e. absurd e) in (
       [],
@@ -48,10 +54,15 @@ nothing_told told rules side p source out before none =
       inl refl,
       took_nothing out,
       took_none source source refl,
-      every told (λ codes. (whole : List ℕ) × MayHold source whole × TellsSession rules side codes p whole [] [] (Err (plays.Line faults.Outside)) before before) (λ codes. (r.0, r.1, λ member plies end last w. absurd (none member))),
+      every told (λ codes. (whole : List ℕ) × MayHold source whole
+          × TellsSession rules side codes p whole [] [] (Err (plays.Line faults.Outside)) before
+          before) (λ codes. (r.0, r.1, λ member plies end last w. absurd (none member))),
     )
 
-unread : (told : Option (List ℕ)) (rules : RuleLines) (side : Colour) (p : Board) (source : SourceTold) (out : SinkTold) (before now : Spent) → Spends 1 0 before now → (fault : PlayFault) → IsStoreFault fault → WroteBy {T = SessionEnd} (Err fault) [] out out → WroteSession told rules side p (Err fault) source source out out before now
+unread : (told : Option (List ℕ)) (rules : RuleLines) (side : Colour) (p : Board)
+    (source : SourceTold) (out : SinkTold) (before now : Spent) → Spends 1 0 before now
+    → (fault : PlayFault) → IsStoreFault fault → WroteBy {T = SessionEnd} (Err fault) [] out out
+    → WroteSession told rules side p (Err fault) source source out out before now
 unread told rules side p source out before now few fault is wrote =
     let r = some_rest source ⊥ (λ e. absurd e) in (
       [],
@@ -59,54 +70,91 @@ unread told rules side p source out before now few fault is wrote =
       inl refl,
       wrote,
       took_none source source refl,
-      every told (λ codes. (whole : List ℕ) × MayHold source whole × TellsSession rules side codes p whole [] [] (Err fault) before now) (λ codes. (
-        r.0,
-        r.1,
-        λ member plies end last w.
-            let front = way_front (graph_by rules (value_by rules)) side codes 0 (opened r.0) last (Num rules.groups p) plies end w in
-            let code = slice_index codes (Num rules.groups p) in (
-              record {
-                rest = session_text side code plies end;
-                unread = front.0;
-                begins = refl;
-                takes = front.1;
-                finishes = short_of fault side end (session_text side code plies end) front.0 is (short_text side end (start_line side code plies end) (plies_text side plies));
-              },
-              read_alone (graph_by rules (value_by rules)) (way_numbers (Inside (Num rules.groups p)) plies) before now few,
-            ),
-      )),
+      every told (λ codes. (whole : List ℕ) × MayHold source whole
+          × TellsSession rules side codes p whole [] [] (Err fault) before now) (λ codes. (
+            r.0,
+            r.1,
+            λ member plies end last w.
+                let front = way_front (graph_by rules (value_by rules)) side codes 0
+                (opened r.0) last
+                (Num rules.groups p) plies end w in
+                let code = slice_index codes (Num rules.groups p) in (
+                  record {
+                    rest = session_text side code plies end;
+                    unread = front.0;
+                    begins = refl;
+                    takes = front.1;
+                    finishes = short_of fault side end (session_text side code plies end) front.0 is
+                        (short_text side end (start_line side code plies end)
+                        (plies_text side plies));
+                  },
+                  read_alone (graph_by rules (value_by rules))
+                      (way_numbers (Inside (Num rules.groups p)) plies) before now few,
+                ),
+          )),
     )
 
-store_wrote : (fault : StoreFault) (out : SinkTold) → WroteBy {T = SessionEnd} (Err (plays.Line (fault_of fault))) [] out out
+store_wrote : (fault : StoreFault) (out : SinkTold)
+    → WroteBy {T = SessionEnd} (Err (plays.Line (fault_of fault))) [] out out
 store_wrote Failed out = took_nothing out
 store_wrote NoMemory out = took_nothing out
 
 -- the code of the start was not read
-pub start_unread : (told : Option (List ℕ)) (rules : RuleLines) (side : Colour) (p : Board) (source : SourceTold) (out : SinkTold) (before now : Spent) → Spends 1 0 before now → (fault : StoreFault) (result : Result SessionEnd PlayFault) → IsErrAnd result (λ e. e ≡ plays.Line (fault_of fault)) → WroteSession told rules side p result source source out out before now
+pub start_unread : (told : Option (List ℕ)) (rules : RuleLines) (side : Colour) (p : Board)
+    (source : SourceTold) (out : SinkTold) (before now : Spent) → Spends 1 0 before now
+    → (fault : StoreFault) (result : Result SessionEnd PlayFault)
+    → IsErrAnd result (λ e. e ≡ plays.Line (fault_of fault))
+    → WroteSession told rules side p result source source out out before now
 start_unread told rules side p source out before now few fault (Ok end) h = absurd h
 start_unread told rules side p source out before now few fault (Err f) h =
-    subst (λ (z : PlayFault). WroteSession told rules side p (Err z) source source out out before now) (sym h)
-    (unread told rules side p source out before now few (plays.Line (fault_of fault)) (store_fault fault) (store_wrote fault out))
+    subst (λ (z : PlayFault). WroteSession told rules side p (Err z) source source out out before
+    now) (sym h)
+    (unread told rules side p source out before now few (plays.Line (fault_of fault))
+    (store_fault fault) (store_wrote fault out))
 
-tells : (rules : RuleLines) (side : Colour) (codes : List ℕ) (p : Board) (source : SourceTold) (bytes text : List ℕ) (result : Result SessionEnd PlayFault) (before mid now : Spent) (start code : ℕ) → start ≡ Num rules.groups p → Spends 1 0 before mid → slice_index codes start ≡ code → Plays (graph_by rules (value_by rules)) side codes start code source bytes text result mid now → (whole : List ℕ) × MayHold source whole × TellsSession rules side codes p whole bytes text result before now
+tells : (rules : RuleLines) (side : Colour) (codes : List ℕ) (p : Board) (source : SourceTold)
+    (bytes text : List ℕ) (result : Result SessionEnd PlayFault) (before mid now : Spent)
+    (start code : ℕ) → start ≡ Num rules.groups p → Spends 1 0 before mid
+    → slice_index codes start ≡ code → Plays (graph_by rules (value_by rules)) side codes start code
+    source bytes text result mid now → (whole : List ℕ) × MayHold source whole
+    × TellsSession rules side codes p whole bytes text result before now
 tells rules side codes p source bytes text result before mid now start code is few agrees plays = (
   plays.0,
   plays.1,
   λ member plies end last w.
-      let h = plays.2 agrees plies end last (subst (λ i. GoesOn (graph_by rules (value_by rules)) side codes 0 (opened plays.0) i plies end last) (sym is) w) in
-      let same : code ≡ slice_index codes (Num rules.groups p) = sym agrees ∙ ap (slice_index codes) is in
-      let at_it = subst (λ i. SpendsAt (graph_by rules (value_by rules)) 0 (way_numbers (Inside i) plies) mid now) is h.1 in (
+      let h = plays.2 agrees plies end last
+      (subst (λ i. GoesOn (graph_by rules (value_by rules)) side codes 0 (opened plays.0) i
+      plies end last) (sym is) w) in
+      let same : code ≡ slice_index codes (Num rules.groups p) = sym agrees
+      ∙ ap (slice_index codes) is in
+      let at_it = subst (λ i. SpendsAt (graph_by rules (value_by rules)) 0
+      (way_numbers (Inside i) plies) mid now) is h.1 in (
         subst (λ c. PlayedOf side c plays.0 bytes text result plies end last) same h.0,
-        read_first (graph_by rules (value_by rules)) (way_numbers (Inside (Num rules.groups p)) plies) before mid now few at_it,
+        read_first (graph_by rules (value_by rules))
+            (way_numbers (Inside (Num rules.groups p)) plies) before mid now few at_it,
       ),
 )
 
-pub session_told : (told : Option (List ℕ)) (rules : RuleLines) (side : Colour) (p : Board) (result : Result SessionEnd PlayFault) (source left : SourceTold) (out taken : SinkTold) (before mid now : Spent) (start code : ℕ) → start ≡ Num rules.groups p → Spends 1 0 before mid → IfSome told (λ codes. slice_index codes start ≡ code) → (text bytes : List ℕ) → IsLines text → WroteBy result text out taken → TookBytes bytes source left → IfSome told (λ codes. Plays (graph_by rules (value_by rules)) side codes start code source bytes text result mid now) → WroteSession told rules side p result source left out taken before now
-session_told told rules side p result source left out taken before mid now start code is few agrees text bytes lines wrote took plays = (
-  text,
-  bytes,
-  lines,
-  wrote,
-  took,
-  both told (λ codes. slice_index codes start ≡ code) (λ codes. Plays (graph_by rules (value_by rules)) side codes start code source bytes text result mid now) (λ codes. (whole : List ℕ) × MayHold source whole × TellsSession rules side codes p whole bytes text result before now) (λ codes. tells rules side codes p source bytes text result before mid now start code is few) agrees plays,
-)
+pub session_told : (told : Option (List ℕ)) (rules : RuleLines) (side : Colour) (p : Board)
+    (result : Result SessionEnd PlayFault) (source left : SourceTold) (out taken : SinkTold)
+    (before mid now : Spent) (start code : ℕ) → start ≡ Num rules.groups p → Spends 1 0 before mid
+    → IfSome told (λ codes. slice_index codes start ≡ code) → (text bytes : List ℕ) → IsLines text
+    → WroteBy result text out taken → TookBytes bytes source left
+    → IfSome told (λ codes. Plays (graph_by rules (value_by rules)) side codes start code source
+    bytes text result mid now) → WroteSession told rules side p result source left out taken before
+    now
+session_told told rules side p result source left out taken before mid now start code is few agrees
+    text bytes lines wrote took plays = (
+      text,
+      bytes,
+      lines,
+      wrote,
+      took,
+      both told (λ codes. slice_index codes start ≡ code)
+          (λ codes. Plays (graph_by rules (value_by rules)) side codes start code source bytes text
+          result mid now) (λ codes. (whole : List ℕ) × MayHold source whole
+          × TellsSession rules side codes p whole bytes text result before now)
+          (λ codes. tells rules side codes p source bytes text result before mid now start code is
+          few)
+          agrees plays,
+    )

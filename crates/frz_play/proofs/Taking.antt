@@ -17,7 +17,8 @@ drop_none : (o : Option (List ℕ)) → o ≡ option_map (drop 0) o
 drop_none None = refl
 drop_none (Some left) = refl
 
-drop_twice : (o : Option (List ℕ)) (i j : ℕ) → option_map (drop j) (option_map (drop i) o) ≡ option_map (drop (i + j)) o
+drop_twice : (o : Option (List ℕ)) (i j : ℕ)
+    → option_map (drop j) (option_map (drop i) o) ≡ option_map (drop (i + j)) o
 drop_twice None i j = refl
 drop_twice (Some left) i j = ap Some (drop-drop j i left)
 
@@ -25,52 +26,77 @@ drop_twice (Some left) i j = ap Some (drop-drop j i left)
 pub took_none : (old new : SourceTold) → new.left ≡ old.left → TookBytes [] old new
 took_none old new e = record { front = front_none old.left; behind = e ∙ drop_none old.left }
 
-front_twice : (first next : List ℕ) (old mid : Option (List ℕ)) → mid ≡ option_map (drop (length first)) old → IfSome old (λ left. take (length first) left ≡ first)
-    → IfSome mid (λ left. take (length next) left ≡ next) → IfSome old (λ left. take (length (first ++ next)) left ≡ first ++ next)
+front_twice : (first next : List ℕ) (old mid : Option (List ℕ))
+    → mid ≡ option_map (drop (length first)) old
+    → IfSome old (λ left. take (length first) left ≡ first)
+    → IfSome mid (λ left. take (length next) left ≡ next)
+    → IfSome old (λ left. take (length (first ++ next)) left ≡ first ++ next)
 front_twice first next None mid e h k = tt
 front_twice first next (Some left) mid e h k =
-    let then : take (length next) (drop (length first) left) ≡ next = subst (λ (o : Option (List ℕ)). IfSome o (λ left. take (length next) left ≡ next)) e k in
+    let then : take (length next) (drop (length first) left) ≡ next = subst
+    (λ (o : Option (List ℕ)). IfSome o (λ left. take (length next) left ≡ next)) e k in
     ap (λ n. take n left) (length-append first next) ∙ take-add (length first) (length next) left
-    ∙ ap (λ (l : List ℕ). l ++ take (length next) (drop (length first) left)) h ∙ ap (λ (l : List ℕ). first ++ l) then
+    ∙ ap (λ (l : List ℕ). l ++ take (length next) (drop (length first) left)) h
+    ∙ ap (λ (l : List ℕ). first ++ l) then
 
 -- one part behind the other
-pub took_on : (first next : List ℕ) (old mid new : SourceTold) → TookBytes first old mid → TookBytes next mid new → TookBytes (first ++ next) old new
+pub took_on : (first next : List ℕ) (old mid new : SourceTold) → TookBytes first old mid
+    → TookBytes next mid new → TookBytes (first ++ next) old new
 took_on first next old mid new h k = record {
   front = front_twice first next old.left mid.left h.behind h.front k.front;
-  behind = k.behind ∙ ap (option_map (drop (length next))) h.behind ∙ drop_twice old.left (length first) (length next)
+  behind = k.behind ∙ ap (option_map (drop (length next))) h.behind ∙ drop_twice old.left
+      (length first) (length next)
       ∙ ap (λ n. option_map (drop n) old.left) (sym (length-append first next));
 }
 
 -- where the input has ended nothing is left of what is told
-pub held_whole : (bytes : List ℕ) (old new : SourceTold) → TookBytes bytes old new → (rest : List ℕ) → IfSome new.left (λ left. left ≡ rest) → MayHold old (bytes ++ rest)
-held_whole bytes old new took rest left = whole_of old.left took.front (subst (λ (o : Option (List ℕ)). IfSome o (λ left. left ≡ rest)) took.behind left) where
-  whole_of : (o : Option (List ℕ)) → IfSome o (λ left. take (length bytes) left ≡ bytes) → IfSome (option_map (drop (length bytes)) o) (λ left. left ≡ rest) → IfSome o (λ told. told ≡ bytes ++ rest)
-  whole_of None front behind = tt
-  whole_of (Some told) front behind =
-      sym (take-append-drop (length bytes) told) ∙ ap (λ (l : List ℕ). l ++ drop (length bytes) told) front ∙ ap (λ (l : List ℕ). bytes ++ l) behind
+pub held_whole : (bytes : List ℕ) (old new : SourceTold) → TookBytes bytes old new → (rest : List ℕ)
+    → IfSome new.left (λ left. left ≡ rest) → MayHold old (bytes ++ rest)
+held_whole bytes old new took rest left =
+    whole_of old.left took.front
+    (subst (λ (o : Option (List ℕ)). IfSome o (λ left. left ≡ rest)) took.behind left) where
+      whole_of : (o : Option (List ℕ)) → IfSome o (λ left. take (length bytes) left ≡ bytes)
+          → IfSome (option_map (drop (length bytes)) o) (λ left. left ≡ rest)
+          → IfSome o (λ told. told ≡ bytes ++ rest)
+      whole_of None front behind = tt
+      whole_of (Some told) front behind =
+          sym (take-append-drop (length bytes) told)
+          ∙ ap (λ (l : List ℕ). l ++ drop (length bytes) told) front
+          ∙ ap (λ (l : List ℕ). bytes ++ l) behind
 
 -- some rest of the input, which is the told one, and nothing behind its end
-pub some_rest : (new : SourceTold) → (ended : Type 0) → (ended → HasEnded new) → (rest : List ℕ) × IfSome new.left (λ left. left ≡ rest) × (ended → rest ≡ [])
+pub some_rest : (new : SourceTold) → (ended : Type 0) → (ended → HasEnded new) → (rest : List ℕ)
+    × IfSome new.left (λ left. left ≡ rest) × (ended → rest ≡ [])
 some_rest new ended has = rest_of new.left has where
-  rest_of : (o : Option (List ℕ)) → (ended → IfSome o (λ left. left ≡ [])) → (rest : List ℕ) × IfSome o (λ left. left ≡ rest) × (ended → rest ≡ [])
+  rest_of : (o : Option (List ℕ)) → (ended → IfSome o (λ left. left ≡ [])) → (rest : List ℕ)
+      × IfSome o (λ left. left ≡ rest) × (ended → rest ≡ [])
   rest_of None has = ([], tt, λ e. refl)
   rest_of (Some left) has = (left, refl, has)
 
 -- what a read of one byte takes
-pub took_byte : (byte : ℕ) (n : ℕ) (old new : SourceTold) → n ≡ 1 → IfSome old.left (Took (byte ∷ []) n) → new.left ≡ option_map (drop n) old.left → TookBytes (byte ∷ []) old new
+pub took_byte : (byte : ℕ) (n : ℕ) (old new : SourceTold) → n ≡ 1
+    → IfSome old.left (Took (byte ∷ []) n) → new.left ≡ option_map (drop n) old.left
+    → TookBytes (byte ∷ []) old new
 took_byte byte n old new one took rest = record {
   front = byte_front old.left (subst (λ k. IfSome old.left (Took (byte ∷ []) k)) one took);
   behind = rest ∙ ap (λ k. option_map (drop k) old.left) one;
 } where
-  byte_front : (o : Option (List ℕ)) → IfSome o (Took (byte ∷ []) 1) → IfSome o (λ left. take (length {A = ℕ} (byte ∷ [])) left ≡ byte ∷ [])
+  byte_front : (o : Option (List ℕ)) → IfSome o (Took (byte ∷ []) 1)
+      → IfSome o (λ left. take (length {A = ℕ} (byte ∷ [])) left ≡ byte ∷ [])
   byte_front None h = tt
   byte_front (Some left) h = sym h.front
 
 -- where a read takes nothing, the input has ended
-pub nothing_left : (buffer : List ℕ) (n : ℕ) (old new : SourceTold) → n ≡ 0 → IfSome old.left (Took buffer n) → new.left ≡ option_map (drop n) old.left → TookBytes [] old new × HasEnded new
+pub nothing_left : (buffer : List ℕ) (n : ℕ) (old new : SourceTold) → n ≡ 0
+    → IfSome old.left (Took buffer n) → new.left ≡ option_map (drop n) old.left
+    → TookBytes [] old new × HasEnded new
 nothing_left buffer n old new none took rest =
-    let same : new.left ≡ old.left = rest ∙ (ap (λ k. option_map (drop k) old.left) none ∙ sym (drop_none old.left)) in
-    (took_none old new same, subst (λ (o : Option (List ℕ)). IfSome o (λ left. left ≡ [])) (sym same) (all_gone old.left took)) where
+    let same : new.left ≡ old.left = rest
+    ∙ (ap (λ k. option_map (drop k) old.left) none ∙ sym (drop_none old.left)) in (
+      took_none old new same,
+      subst (λ (o : Option (List ℕ)). IfSome o (λ left. left ≡ []))
+          (sym same) (all_gone old.left took),
+    ) where
       all_gone : (o : Option (List ℕ)) → IfSome o (Took buffer n) → IfSome o (λ left. left ≡ [])
       all_gone None h = tt
       all_gone (Some left) h = h.end none
@@ -82,5 +108,8 @@ pub ends_dropped : (n : ℕ) (bytes : List ℕ) → EndsWith (drop n bytes) byte
 ends_dropped n bytes = (take n bytes, take-append-drop n bytes)
 
 pub ends_on : (a b c : List ℕ) → EndsWith a b → EndsWith b c → EndsWith a c
-ends_on a b c first next =
-    (next.0 ++ first.0, append_assoc next.0 first.0 a ∙ (ap (λ (l : List ℕ). next.0 ++ l) first.1 ∙ next.1))
+ends_on a b c first next = (
+  next.0 ++ first.0,
+  append_assoc next.0 first.0 a
+      ∙ (ap (λ (l : List ℕ). next.0 ++ l) first.1 ∙ next.1),
+)

@@ -57,84 +57,152 @@ never_late : (b : Bool) → false ≡ (b && false)
 never_late true = refl
 never_late false = refl
 
-pub session_stage : FillsLocal → (arena : Arena Step ℕ Value) (size : ℕ) → IsFinite arena size → (side : Colour) (spot : Spot) (arms : List (Arm Step ℕ Value)) (cs kept : List ℕ) → arms ≡ arena.arms spot.number → cs ≡ map (arm_code side kept) arms → (due : Due) → due ≡ due_by spot.is_start false spot.code (node_code side (arena.node spot.number) (free_among arms cs) cs) (arena.node spot.number) → Stands arena side kept spot (stage_told spot.number spot.code due)
+pub session_stage : FillsLocal → (arena : Arena Step ℕ Value) (size : ℕ) → IsFinite arena size
+    → (side : Colour) (spot : Spot) (arms : List (Arm Step ℕ Value)) (cs kept : List ℕ)
+    → arms ≡ arena.arms spot.number → cs ≡ map (arm_code side kept) arms → (due : Due)
+    → due ≡ due_by spot.is_start false spot.code
+    (node_code side (arena.node spot.number) (free_among arms cs) cs) (arena.node spot.number)
+    → Stands arena side kept spot (stage_told spot.number spot.code due)
 session_stage fills arena size finite side spot arms cs kept are same due e = λ agrees played start.
     let local = local_code_of fills arena size finite side kept spot.number arms cs are same in
-    stage_due (session_player arena side kept) played spot.number spot.code (node_code side (arena.node spot.number) (free_among arms cs) cs) spot.is_start false agrees (sym local) start (never_late (spot.code == 1))
+    stage_due (session_player arena side kept) played spot.number spot.code
+    (node_code side (arena.node spot.number) (free_among arms cs) cs) spot.is_start false agrees
+    (sym local) start (never_late (spot.code == 1))
     ∙ ap (stage_told spot.number spot.code) (sym e)
 
--- the text and the bytes are what the turn adds to each session from here, but for the line of the start
-abbrev pub TailBy : Arena Step ℕ Value → Colour → List ℕ → Spot → (old new : Reader) → (bytes text : List ℕ) → Result Turn PlayFault → Type 0
+-- the text and the bytes are what the turn adds to each session
+-- from here, but for the line of the start
+abbrev pub TailBy : Arena Step ℕ Value → Colour → List ℕ → Spot → (old new : Reader)
+    → (bytes text : List ℕ) → Result Turn PlayFault → Type 0
 TailBy arena side kept spot old new bytes text result =
     slice_index kept spot.number ≡ spot.code →
     (played : ℕ) → (played == 0) ≡ spot.is_start →
     (left : List ℕ) → MayFollow new left →
     (plies : List SessionPly) (end : EndOfSession) (last : Input) →
-    GoesOn arena side kept played (record { left = bytes ++ left; more = old.more }) spot.number plies end last →
+    GoesOn arena side kept played (record { left = bytes ++ left; more = old.more }) spot.number
+    plies end last →
     (rest : List ℕ) × (text ++ rest ≡ plies_text side plies ++ end_text end)
-    × Leaves arena side kept played (record { left = left; more = new.more }) plies end last rest result
+    × Leaves arena side kept played (record { left = left; more = new.more }) plies end last rest
+    result
 
 -- the turn of a session that is over
 abbrev pub turn_over : Result SessionEnd PlayFault → Result Turn PlayFault
 turn_over (Ok answer) = Ok (Over answer)
 turn_over (Err fault) = Err fault
 
-pub leaves_over : (arena : Arena Step ℕ Value) (side : Colour) (kept : List ℕ) (played : ℕ) (left : Input) (plies : List SessionPly) (end : EndOfSession) (last : Input) (rest : List ℕ) (answer : Result SessionEnd PlayFault) (unread : List ℕ) → unread ++ last.left ≡ left.left → Finishes answer side end rest unread → Leaves arena side kept played left plies end last rest (turn_over answer)
+pub leaves_over : (arena : Arena Step ℕ Value) (side : Colour) (kept : List ℕ) (played : ℕ)
+    (left : Input) (plies : List SessionPly) (end : EndOfSession) (last : Input) (rest : List ℕ)
+    (answer : Result SessionEnd PlayFault) (unread : List ℕ) → unread ++ last.left ≡ left.left
+    → Finishes answer side end rest unread → Leaves arena side kept played left plies end last rest
+    (turn_over answer)
 leaves_over arena side kept played left plies end last rest (Ok answer) unread e f = (unread, e, f)
 leaves_over arena side kept played left plies end last rest (Err fault) unread e f = (unread, e, f)
 
 -- a session that is over here
-pub over_tail : (arena : Arena Step ℕ Value) (side : Colour) (kept : List ℕ) (spot : Spot) (reader : Reader) (text : List ℕ) (f : EndOfSession) (answer : Result SessionEnd PlayFault) → Stands arena side kept spot (OverWay f) → text ≡ end_text f → Finishes answer side f [] [] → TailBy arena side kept spot reader reader [] text (turn_over answer)
-over_tail arena side kept spot reader text f answer stands is finishes = λ agrees played start left may plies end last w.
+pub over_tail : (arena : Arena Step ℕ Value) (side : Colour) (kept : List ℕ) (spot : Spot)
+    (reader : Reader) (text : List ℕ) (f : EndOfSession) (answer : Result SessionEnd PlayFault)
+    → Stands arena side kept spot (OverWay f) → text ≡ end_text f → Finishes answer side f [] []
+    → TailBy arena side kept spot reader reader [] text (turn_over answer)
+over_tail arena side kept spot reader text f answer stands is finishes =
+    λ agrees played start left may plies end last w.
     let here : Input = record { left = left; more = reader.more } in
-    let o = over_here arena side kept played here last spot.number plies end f w (stands agrees played start) in (
+    let o = over_here arena side kept played here last spot.number plies end f w
+    (stands agrees played start) in (
       [],
-      append-nil text ∙ (is ∙ (ap end_text (sym o.1) ∙ ap (λ (ys : List SessionPly). plies_text side ys ++ end_text end) (sym o.0))),
-      leaves_over arena side kept played here plies end last [] answer [] (ap (λ (z : Input). z.left) o.2)
+      append-nil text ∙ (is
+          ∙ (ap end_text (sym o.1)
+          ∙ ap (λ (ys : List SessionPly). plies_text side ys ++ end_text end) (sym o.0))),
+      leaves_over arena side kept played here plies end last [] answer []
+          (ap (λ (z : Input). z.left) o.2)
           (subst (λ (z : EndOfSession). Finishes answer side z [] []) (sym o.1) finishes),
     )
 
-joined : (first move plies last : List ℕ) → (first ++ (move ++ [])) ++ (plies ++ last) ≡ ((first ++ move) ++ plies) ++ last
+joined : (first move plies last : List ℕ)
+    → (first ++ (move ++ [])) ++ (plies ++ last) ≡ ((first ++ move) ++ plies) ++ last
 joined first move plies last = simp (append_assoc, append-nil)
 
-joined_exit : (first move exit : List ℕ) → (first ++ (move ++ exit)) ++ [] ≡ ((first ++ move) ++ []) ++ exit
+joined_exit : (first move exit : List ℕ) → (first ++ (move ++ exit)) ++ [] ≡ ((first ++ move) ++ [])
+    ++ exit
 joined_exit first move exit = simp (append_assoc, append-nil)
 
 -- a ply that was played, behind this front
-pub ply_leaves : (arena : Arena Step ℕ Value) (side : Colour) (kept : List ℕ) (played : ℕ) (u last : Input) (front : List ℕ) (move : Step) (next : Next ℕ Value) (code : ℕ) (first : SessionPly) (others : List SessionPly) (end : EndOfSession) → ((n : ℕ) → next ≡ Inside n → slice_index kept n ≡ code) → ply_text side first ≡ front ++ move_line move → first.arm.next ≡ next → LeadsTo (λ p. GoesOn arena side kept (suc played) u p others end last) (λ v. (others ≡ []) × (end ≡ Exit v) × (last ≡ u)) next → (rest : List ℕ) × ((front ++ (move_line move ++ next_line next)) ++ rest ≡ plies_text side (first ∷ others) ++ end_text end) × Leaves arena side kept played u (first ∷ others) end last rest (Ok (turn_of next code))
-ply_leaves arena side kept played u last front move (Inside n) code first others end is same to leads =
+pub ply_leaves : (arena : Arena Step ℕ Value) (side : Colour) (kept : List ℕ) (played : ℕ)
+    (u last : Input) (front : List ℕ) (move : Step) (next : Next ℕ Value) (code : ℕ)
+    (first : SessionPly) (others : List SessionPly) (end : EndOfSession)
+    → ((n : ℕ) → next ≡ Inside n → slice_index kept n ≡ code)
+    → ply_text side first ≡ front ++ move_line move → first.arm.next ≡ next
+    → LeadsTo (λ p. GoesOn arena side kept (suc played) u p others end last)
+    (λ v. (others ≡ []) × (end ≡ Exit v) × (last ≡ u)) next → (rest : List ℕ)
+    × ((front ++ (move_line move ++ next_line next)) ++ rest ≡ plies_text side (first ∷ others)
+    ++ end_text end) × Leaves arena side kept played u (first ∷ others) end last rest
+    (Ok (turn_of next code))
+ply_leaves arena side kept played u last front move (Inside n) code first others end is same to
+    leads =
     let rest = plies_text side others ++ end_text end in (
       rest,
       joined front (move_line move) (plies_text side others) (end_text end)
           ∙ ap (λ (l : List ℕ). (l ++ plies_text side others) ++ end_text end) (sym same),
       (is n refl, (first, others, refl, to, leads, refl)),
     )
-ply_leaves arena side kept played u last front move (Outside v) code first others end is same to leads =
+ply_leaves arena side kept played u last front move (Outside v) code first others end is same to
+    leads =
     let none : List SessionPly = [] in
     let out : EndOfSession = Exit v in
-    let whole : (front ++ (move_line move ++ exit_line v)) ++ [] ≡ (ply_text side first ++ []) ++ exit_line v = (
-    joined_exit front (move_line move) (exit_line v) ∙ ap (λ (l : List ℕ). (l ++ []) ++ exit_line v) (sym same)) in
-    subst (λ (e : EndOfSession). (rest : List ℕ) × ((front ++ (move_line move ++ exit_line v)) ++ rest ≡ plies_text side (first ∷ others) ++ end_text e) × Leaves arena side kept played u (first ∷ others) e last rest (Ok (Over (ends.Exit v)))) (sym leads.1)
-    (subst (λ (ys : List SessionPly). (rest : List ℕ) × ((front ++ (move_line move ++ exit_line v)) ++ rest ≡ plies_text side (first ∷ ys) ++ end_text out) × Leaves arena side kept played u (first ∷ ys) out last rest (Ok (Over (ends.Exit v)))) (sym leads.0)
+    let whole : (front ++ (move_line move ++ exit_line v)) ++ [] ≡ (ply_text side first ++ [])
+    ++ exit_line v = (
+    joined_exit front (move_line move) (exit_line v) ∙ ap (λ (l : List ℕ). (l ++ []) ++ exit_line v)
+    (sym same)) in
+    subst (λ (e : EndOfSession). (rest : List ℕ)
+    × ((front ++ (move_line move ++ exit_line v)) ++ rest ≡ plies_text side (first ∷ others)
+    ++ end_text e) × Leaves arena side kept played u (first ∷ others) e last rest
+    (Ok (Over (ends.Exit v)))) (sym leads.1)
+    (subst (λ (ys : List SessionPly). (rest : List ℕ)
+    × ((front ++ (move_line move ++ exit_line v)) ++ rest ≡ plies_text side (first ∷ ys)
+    ++ end_text out) × Leaves arena side kept played u (first ∷ ys) out last rest
+    (Ok (Over (ends.Exit v)))) (sym leads.0)
     ([], whole, ([], ap (λ (z : Input). z.left) leads.2, (refl, refl, refl))))
 
 -- the same where the sink failed, with the same text
-pub failed_leaves : (arena : Arena Step ℕ Value) (side : Colour) (kept : List ℕ) (played : ℕ) (u last : Input) (plies : List SessionPly) (end : EndOfSession) (text : List ℕ) (turn : Turn) → EndsWith last.left u.left → (rest : List ℕ) × (text ++ rest ≡ plies_text side plies ++ end_text end) × Leaves arena side kept played u plies end last rest (Ok turn) → (rest : List ℕ) × (text ++ rest ≡ plies_text side plies ++ end_text end) × Leaves arena side kept played u plies end last rest (Err (plays.Line faults.Output))
-failed_leaves arena side kept played u last plies end text turn front h = (h.0, h.1, (front.0, front.1, tt))
+pub failed_leaves : (arena : Arena Step ℕ Value) (side : Colour) (kept : List ℕ) (played : ℕ)
+    (u last : Input) (plies : List SessionPly) (end : EndOfSession) (text : List ℕ) (turn : Turn)
+    → EndsWith last.left u.left → (rest : List ℕ)
+    × (text ++ rest ≡ plies_text side plies ++ end_text end)
+    × Leaves arena side kept played u plies end last rest (Ok turn) → (rest : List ℕ)
+    × (text ++ rest ≡ plies_text side plies ++ end_text end)
+    × Leaves arena side kept played u plies end last rest (Err (plays.Line faults.Output))
+failed_leaves arena side kept played u last plies end text turn front h =
+    (h.0, h.1, (front.0, front.1, tt))
 
-answered_leaves : (arena : Arena Step ℕ Value) (side : Colour) (kept : List ℕ) (played : ℕ) (u last : Input) (plies : List SessionPly) (end : EndOfSession) (text written : List ℕ) (turn : Turn) (result : Result Turn PlayFault) (old new : SinkTold) → EndsWith last.left u.left → (rest : List ℕ) × (text ++ rest ≡ plies_text side plies ++ end_text end) × Leaves arena side kept played u plies end last rest (Ok turn) → Answers turn written result old new → (rest : List ℕ) × (text ++ rest ≡ plies_text side plies ++ end_text end) × Leaves arena side kept played u plies end last rest result
-answered_leaves arena side kept played u last plies end text written turn result old new front h (inl a) =
-    subst (λ (z : Result Turn PlayFault). (rest : List ℕ) × (text ++ rest ≡ plies_text side plies ++ end_text end) × Leaves arena side kept played u plies end last rest z) (sym a.0) h
-answered_leaves arena side kept played u last plies end text written turn result old new front h (inr a) =
-    subst (λ (z : Result Turn PlayFault). (rest : List ℕ) × (text ++ rest ≡ plies_text side plies ++ end_text end) × Leaves arena side kept played u plies end last rest z) (sym a.0)
+answered_leaves : (arena : Arena Step ℕ Value) (side : Colour) (kept : List ℕ) (played : ℕ)
+    (u last : Input) (plies : List SessionPly) (end : EndOfSession) (text written : List ℕ)
+    (turn : Turn) (result : Result Turn PlayFault) (old new : SinkTold) → EndsWith last.left u.left
+    → (rest : List ℕ) × (text ++ rest ≡ plies_text side plies ++ end_text end)
+    × Leaves arena side kept played u plies end last rest (Ok turn)
+    → Answers turn written result old new → (rest : List ℕ)
+    × (text ++ rest ≡ plies_text side plies ++ end_text end)
+    × Leaves arena side kept played u plies end last rest result
+answered_leaves arena side kept played u last plies end text written turn result old new front h
+    (inl a) =
+    subst (λ (z : Result Turn PlayFault). (rest : List ℕ)
+    × (text ++ rest ≡ plies_text side plies ++ end_text end)
+    × Leaves arena side kept played u plies end last rest z) (sym a.0) h
+answered_leaves arena side kept played u last plies end text written turn result old new front h
+    (inr a) =
+    subst (λ (z : Result Turn PlayFault). (rest : List ℕ)
+    × (text ++ rest ≡ plies_text side plies ++ end_text end)
+    × Leaves arena side kept played u plies end last rest z) (sym a.0)
     (failed_leaves arena side kept played u last plies end text turn front h)
 
-own_text : (side mover : Colour) (x : SessionPly) (move : Step) → x.mover ≡ mover → same_colour mover side ≡ true → x.arm.mv ≡ move → ply_text side x ≡ codes "move " ++ move_line move
+own_text : (side mover : Colour) (x : SessionPly) (move : Step) → x.mover ≡ mover
+    → same_colour mover side ≡ true → x.arm.mv ≡ move
+    → ply_text side x ≡ codes "move " ++ move_line move
 own_text side mover x move m own is =
     let c : same_colour x.mover side ≡ true = ap (λ z. same_colour z side) m ∙ own in
     rw c (ap (λ (z : Step). codes "move " ++ move_line z) is)
 
-pub reply_text : (side mover : Colour) (x : SessionPly) (move : Step) (n : ℕ) → x.mover ≡ mover → same_colour mover side ≡ false → x.refused ≡ n → x.arm.mv ≡ move → ply_text side x ≡ (refused_text n ++ codes "reply ") ++ move_line move
+pub reply_text : (side mover : Colour) (x : SessionPly) (move : Step) (n : ℕ) → x.mover ≡ mover
+    → same_colour mover side ≡ false → x.refused ≡ n → x.arm.mv ≡ move
+    → ply_text side x ≡ (refused_text n ++ codes "reply ") ++ move_line move
 reply_text side mover x move n m own refused is =
     let c : same_colour x.mover side ≡ false = ap (λ z. same_colour z side) m ∙ own in
     rw c (ap (λ (z : Step). refused_text x.refused ++ (codes "reply " ++ move_line z)) is
@@ -142,48 +210,116 @@ reply_text side mover x move n m own refused is =
     ∙ sym (append_assoc (refused_text n) (codes "reply ") (move_line move))))
 
 -- the own ply
-pub own_tail : AsksForOne → (arena : Arena Step ℕ Value) (size : ℕ) → IsFinite arena size → (side mover : Colour) (spot : Spot) (reader : Reader) (arms : List (Arm Step ℕ Value)) (cs kept : List ℕ) → same_colour mover side ≡ true → arms ≡ arena.arms spot.number → cs ≡ map (arm_code side kept) arms → Stands arena side kept spot (Moves mover) → (place : ℕ) (x : Choice) (a : Arm Step ℕ Value) → IsFound has_code (is_win spot.code) spot.code (choices_by true arms cs) place x → slice_get arms place ≡ Some a → (result : Result Turn PlayFault) (old new : SinkTold) → Answers (turn_of a.next (get_or cs place 0)) (moved_text (codes "move ") a) result old new → TailBy arena side kept spot reader reader [] (moved_text (codes "move ") a) result
-own_tail one arena size finite side mover spot reader arms cs kept own are same stands place x a found there result old new answers = λ agrees played start left may plies end last w.
+pub own_tail : AsksForOne → (arena : Arena Step ℕ Value) (size : ℕ) → IsFinite arena size
+    → (side mover : Colour) (spot : Spot) (reader : Reader) (arms : List (Arm Step ℕ Value))
+    (cs kept : List ℕ) → same_colour mover side ≡ true → arms ≡ arena.arms spot.number
+    → cs ≡ map (arm_code side kept) arms → Stands arena side kept spot (Moves mover)
+    → (place : ℕ) (x : Choice) (a : Arm Step ℕ Value)
+    → IsFound has_code (is_win spot.code) spot.code (choices_by true arms cs) place x
+    → slice_get arms place ≡ Some a → (result : Result Turn PlayFault) (old new : SinkTold)
+    → Answers (turn_of a.next (get_or cs place 0)) (moved_text (codes "move ") a) result old new
+    → TailBy arena side kept spot reader reader [] (moved_text (codes "move ") a) result
+own_tail one arena size finite side mover spot reader arms cs kept own are same stands place x a
+    found there result old new answers = λ agrees played start left may plies end last w.
     let here : Input = record { left = left; more = reader.more } in
-    let g = moves_own arena side kept played here last spot.number plies end mover own w (stands agrees played start) in
-    let chosen = (arm_found arena size finite side mover kept spot.number spot.code arms cs are same agrees place x a (subst (λ b. IsFound has_code (is_win spot.code) spot.code (choices_by b arms cs) place x) (sym own) found) there).chosen in
-    let arm : g.0.first.arm ≡ a = (one arena side (λ i. slice_index kept i) mover spot.number g.0.first.place place g.0.first.arm a g.1 chosen).1 in
-    let leads = subst (λ (z : Arm Step ℕ Value). LeadsTo (λ p. GoesOn arena side kept (suc played) here p g.0.others end last) (λ v. (g.0.others ≡ []) × (end ≡ Exit v) × (last ≡ here)) z.next) arm g.0.leads in
-    let text = own_text side mover g.0.first a.mv g.0.moves own (ap (λ (z : Arm Step ℕ Value). z.mv) arm) in
-    subst (λ (ys : List SessionPly). (rest : List ℕ) × (moved_text (codes "move ") a ++ rest ≡ plies_text side ys ++ end_text end) × Leaves arena side kept played here ys end last rest result) (sym g.0.are)
-    (answered_leaves arena side kept played here last (g.0.first ∷ g.0.others) end (moved_text (codes "move ") a) (moved_text (codes "move ") a) (turn_of a.next (get_or cs place 0)) result old new (way_front arena side kept played here last spot.number plies end w)
-    (ply_leaves arena side kept played here last (codes "move ") a.mv a.next (get_or cs place 0) g.0.first g.0.others end (code_inside side kept arms cs same place a there) text (ap (λ (z : Arm Step ℕ Value). z.next) arm) leads) answers)
+    let g = moves_own arena side kept played here last spot.number plies end mover own w
+    (stands agrees played start) in
+    let chosen = (arm_found arena size finite side mover kept spot.number spot.code arms cs are same
+    agrees place x a
+    (subst (λ b. IsFound has_code (is_win spot.code) spot.code (choices_by b arms cs) place x)
+    (sym own) found) there).chosen in
+    let arm : g.0.first.arm ≡ a =
+    (one arena side (λ i. slice_index kept i) mover spot.number g.0.first.place place
+    g.0.first.arm a g.1 chosen).1 in
+    let leads = subst (λ (z : Arm Step ℕ Value). LeadsTo
+    (λ p. GoesOn arena side kept (suc played) here p g.0.others end last)
+    (λ v. (g.0.others ≡ []) × (end ≡ Exit v) × (last ≡ here)) z.next) arm g.0.leads in
+    let text = own_text side mover g.0.first a.mv g.0.moves own
+    (ap (λ (z : Arm Step ℕ Value). z.mv) arm) in
+    subst (λ (ys : List SessionPly). (rest : List ℕ)
+    × (moved_text (codes "move ") a ++ rest ≡ plies_text side ys ++ end_text end)
+    × Leaves arena side kept played here ys end last rest result) (sym g.0.are)
+    (answered_leaves arena side kept played here last (g.0.first ∷ g.0.others) end
+    (moved_text (codes "move ") a) (moved_text (codes "move ") a)
+    (turn_of a.next (get_or cs place 0)) result old new
+    (way_front arena side kept played here last spot.number plies end w)
+    (ply_leaves arena side kept played here last (codes "move ") a.mv a.next (get_or cs place 0)
+    g.0.first g.0.others end (code_inside side kept arms cs same place a there) text
+    (ap (λ (z : Arm Step ℕ Value). z.next) arm) leads) answers)
 
-module _ (arena : Arena Step ℕ Value) (side mover : Colour) (kept : List ℕ) (spot : Spot) (old new : Reader) (own : same_colour mover side ≡ false) (stands : Stands arena side kept spot (Moves mover)) where
+module _ (arena : Arena Step ℕ Value) (side mover : Colour) (kept : List ℕ) (spot : Spot)
+    (old new : Reader) (own : same_colour mover side ≡ false)
+    (stands : Stands arena side kept spot (Moves mover)) where
   -- the reply, behind the refused lines
-  pub reply_tail : (arms : List (Arm Step ℕ Value)) (cs : List ℕ) → arms ≡ arena.arms spot.number → cs ≡ map (arm_code side kept) arms → (source left : SourceTold) (out between taken : SinkTold) (place : ℕ) → (hears : Hears arms old new (Ok (heard.Reply place)) source left out between) → (a : Arm Step ℕ Value) → slice_get arms place ≡ Some a → (result : Result Turn PlayFault) → Answers (turn_of a.next (get_or cs place 0)) (moved_text (codes "reply ") a) result between taken → TailBy arena side kept spot old new hears.bytes (refused_text hears.refused ++ moved_text (codes "reply ") a) result
-  reply_tail arms cs are same source left out between taken place hears a there result answers = λ agrees played start rest_in may plies end last w.
+  pub reply_tail : (arms : List (Arm Step ℕ Value)) (cs : List ℕ) → arms ≡ arena.arms spot.number
+      → cs ≡ map (arm_code side kept) arms
+      → (source left : SourceTold) (out between taken : SinkTold) (place : ℕ)
+      → (hears : Hears arms old new (Ok (heard.Reply place)) source left out between)
+      → (a : Arm Step ℕ Value) → slice_get arms place ≡ Some a → (result : Result Turn PlayFault)
+      → Answers (turn_of a.next (get_or cs place 0)) (moved_text (codes "reply ") a) result between
+      taken → TailBy arena side kept spot old new hears.bytes
+      (refused_text hears.refused ++ moved_text (codes "reply ") a) result
+  reply_tail arms cs are same source left out between taken place hears a there result answers =
+      λ agrees played start rest_in may plies end last w.
       let u : Input = record { left = rest_in; more = new.more } in
       let n = hears.refused in
-      let gives : reads (arena.arms spot.number) old.more (hears.bytes ++ rest_in) ≡ Reply n place u = subst (λ (z : List (Arm Step ℕ Value)). reads z old.more (hears.bytes ++ rest_in) ≡ Reply n place u) are (hears.heard rest_in may) in
-      let r = replies_here arena side kept played (record { left = hears.bytes ++ rest_in; more = old.more }) last u spot.number plies end mover n place own w (stands agrees played start) gives in
+      let gives : reads (arena.arms spot.number) old.more (hears.bytes ++ rest_in) ≡ Reply n place
+      u = subst (λ (z : List (Arm Step ℕ Value)). reads z old.more (hears.bytes ++ rest_in)
+      ≡ Reply n place u) are (hears.heard rest_in may) in
+      let r = replies_here arena side kept played
+      (record { left = hears.bytes ++ rest_in; more = old.more }) last u spot.number plies end
+      mover n place own w (stands agrees played start) gives in
       let r_there = r.there in
-      let a_there : slice_get (arena.arms spot.number) place ≡ Some a = subst (λ (z : List (Arm Step ℕ Value)). slice_get z place ≡ Some a) are there in
+      let a_there : slice_get (arena.arms spot.number) place ≡ Some a = subst
+      (λ (z : List (Arm Step ℕ Value)). slice_get z place ≡ Some a) are there in
       let arm : r.on.first.arm ≡ a = cc in
-      let leads = subst (λ (z : Arm Step ℕ Value). LeadsTo (λ p. GoesOn arena side kept (suc played) u p r.on.others end last) (λ v. (r.on.others ≡ []) × (end ≡ Exit v) × (last ≡ u)) z.next) arm r.on.leads in
+      let leads = subst (λ (z : Arm Step ℕ Value). LeadsTo
+      (λ p. GoesOn arena side kept (suc played) u p r.on.others end last)
+      (λ v. (r.on.others ≡ []) × (end ≡ Exit v) × (last ≡ u)) z.next) arm r.on.leads in
       let front = refused_text n ++ codes "reply " in
-      let text = reply_text side mover r.on.first a.mv n r.on.moves own r.refused_is (ap (λ (z : Arm Step ℕ Value). z.mv) arm) in
-      let ends = leads_front arena side kept played u last r.on.others end (λ p h. way_front arena side kept (suc played) u last p r.on.others end h) a.next leads in
-      let behind : front ++ (move_line a.mv ++ next_line a.next) ≡ refused_text n ++ moved_text (codes "reply ") a = append_assoc (refused_text n) (codes "reply ") (move_line a.mv ++ next_line a.next) in
-      subst (λ (ys : List SessionPly). (rest : List ℕ) × ((refused_text n ++ moved_text (codes "reply ") a) ++ rest ≡ plies_text side ys ++ end_text end) × Leaves arena side kept played u ys end last rest result) (sym r.on.are)
-      (subst (λ (t : List ℕ). (rest : List ℕ) × (t ++ rest ≡ plies_text side (r.on.first ∷ r.on.others) ++ end_text end) × Leaves arena side kept played u (r.on.first ∷ r.on.others) end last rest result) behind
-      (answered_leaves arena side kept played u last (r.on.first ∷ r.on.others) end (front ++ (move_line a.mv ++ next_line a.next)) (moved_text (codes "reply ") a) (turn_of a.next (get_or cs place 0)) result between taken ends
-      (ply_leaves arena side kept played u last front a.mv a.next (get_or cs place 0) r.on.first r.on.others end (code_inside side kept arms cs same place a there) text (ap (λ (z : Arm Step ℕ Value). z.next) arm) leads) answers))
+      let text = reply_text side mover r.on.first a.mv n r.on.moves own r.refused_is
+      (ap (λ (z : Arm Step ℕ Value). z.mv) arm) in
+      let ends = leads_front arena side kept played u last r.on.others end
+      (λ p h. way_front arena side kept (suc played) u last p r.on.others end h) a.next leads in
+      let behind : front ++ (move_line a.mv ++ next_line a.next) ≡ refused_text n ++ moved_text
+      (codes "reply ") a = append_assoc (refused_text n) (codes "reply ")
+      (move_line a.mv ++ next_line a.next) in
+      subst (λ (ys : List SessionPly). (rest : List ℕ)
+      × ((refused_text n ++ moved_text (codes "reply ") a) ++ rest ≡ plies_text side ys
+      ++ end_text end) × Leaves arena side kept played u ys end last rest result) (sym r.on.are)
+      (subst (λ (t : List ℕ). (rest : List ℕ)
+      × (t ++ rest ≡ plies_text side (r.on.first ∷ r.on.others) ++ end_text end)
+      × Leaves arena side kept played u (r.on.first ∷ r.on.others) end last rest result) behind
+      (answered_leaves arena side kept played u last (r.on.first ∷ r.on.others) end
+      (front ++ (move_line a.mv ++ next_line a.next)) (moved_text (codes "reply ") a)
+      (turn_of a.next (get_or cs place 0)) result between taken ends
+      (ply_leaves arena side kept played u last front a.mv a.next (get_or cs place 0) r.on.first
+      r.on.others end (code_inside side kept arms cs same place a there) text
+      (ap (λ (z : Arm Step ℕ Value). z.next) arm) leads) answers))
 
   -- the input stops, behind them
-  pub stop_tail : (arms : List (Arm Step ℕ Value)) → arms ≡ arena.arms spot.number → (source left : SourceTold) (out between : SinkTold) (why : Why) → (hears : Hears arms old new (Ok (heard.Stop why)) source left out between) → (answer : Result SessionEnd PlayFault) → Finishes answer side (Stopped (record { refused = hears.refused; why = why })) [] [] → TailBy arena side kept spot old new hears.bytes (refused_text hears.refused ++ why_line why) (turn_over answer)
-  stop_tail arms are source left out between why hears answer finishes = λ agrees played start rest_in may plies end last w.
+  pub stop_tail : (arms : List (Arm Step ℕ Value)) → arms ≡ arena.arms spot.number
+      → (source left : SourceTold) (out between : SinkTold) (why : Why)
+      → (hears : Hears arms old new (Ok (heard.Stop why)) source left out between)
+      → (answer : Result SessionEnd PlayFault)
+      → Finishes answer side (Stopped (record { refused = hears.refused; why = why })) [] []
+      → TailBy arena side kept spot old new hears.bytes (refused_text hears.refused ++ why_line why)
+      (turn_over answer)
+  stop_tail arms are source left out between why hears answer finishes =
+      λ agrees played start rest_in may plies end last w.
       let u : Input = record { left = rest_in; more = new.more } in
       let halt : Halt = record { refused = hears.refused; why = why } in
-      let gives : reads (arena.arms spot.number) old.more (hears.bytes ++ rest_in) ≡ Stop halt u = subst (λ (z : List (Arm Step ℕ Value)). reads z old.more (hears.bytes ++ rest_in) ≡ Stop halt u) are (hears.heard rest_in may) in
-      let o = stops_here arena side kept played (record { left = hears.bytes ++ rest_in; more = old.more }) last u spot.number plies end mover halt own w (stands agrees played start) gives in (
+      let gives : reads (arena.arms spot.number) old.more (hears.bytes ++ rest_in) ≡ Stop halt u =
+      subst (λ (z : List (Arm Step ℕ Value)). reads z old.more (hears.bytes ++ rest_in)
+      ≡ Stop halt u) are (hears.heard rest_in may) in
+      let o = stops_here arena side kept played
+      (record { left = hears.bytes ++ rest_in; more = old.more }) last u spot.number plies end
+      mover halt own w (stands agrees played start) gives in (
         [],
-        append-nil (refused_text hears.refused ++ why_line why) ∙ (ap end_text (sym o.1) ∙ ap (λ (ys : List SessionPly). plies_text side ys ++ end_text end) (sym o.0)),
-        leaves_over arena side kept played u plies end last [] answer [] (ap (λ (z : Input). z.left) o.2)
+        append-nil (refused_text hears.refused ++ why_line why)
+            ∙ (ap end_text (sym o.1)
+            ∙ ap (λ (ys : List SessionPly). plies_text side ys ++ end_text end) (sym o.0)),
+        leaves_over arena side kept played u plies end last [] answer []
+            (ap (λ (z : Input). z.left) o.2)
             (subst (λ (z : EndOfSession). Finishes answer side z [] []) (sym o.1) finishes),
       )

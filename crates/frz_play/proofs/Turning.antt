@@ -48,7 +48,8 @@ second true b t f = f
 second false b t f = absurd (cc)
 
 -- a spot where a ply is due has no failing code
-pub never_fails : (is_start : Bool) (code : ℕ) → (is_start ≡ true) ⊎ (is_failure code ≡ false) → (is_start && is_failure code) ≡ false → is_failure code ≡ false
+pub never_fails : (is_start : Bool) (code : ℕ) → (is_start ≡ true) ⊎ (is_failure code ≡ false)
+    → (is_start && is_failure code) ≡ false → is_failure code ≡ false
 never_fails is_start code (inl s) f = second is_start (is_failure code) s f
 never_fails is_start code (inr s) f = s
 
@@ -65,27 +66,42 @@ on_cut code nodes.Broken h = absurd (cc)
 on_cut code (nodes.Mate m) h = absurd (cc)
 on_cut code (nodes.Stalemate m) h = absurd (cc)
 on_cut code (nodes.Going m) h =
-    let e : (if false then dues.Cut else dues.Ply m) ≡ dues.Cut = subst (λ b. (if b then dues.Cut else dues.Ply m) ≡ dues.Cut) (late_not (code == 1)) h in
+    let e : (if false then dues.Cut else dues.Ply m) ≡ dues.Cut = subst
+    (λ b. (if b then dues.Cut else dues.Ply m) ≡ dues.Cut) (late_not (code == 1)) h in
     absurd (cc)
 
 -- no session is cut
-pub never_cut : (is_start : Bool) (code given : ℕ) (node : Node) (due : Due) → due ≡ due_by is_start false code given node → due ≡ dues.Cut → ⊥
+pub never_cut : (is_start : Bool) (code given : ℕ) (node : Node) (due : Due)
+    → due ≡ due_by is_start false code given node → due ≡ dues.Cut → ⊥
 never_cut is_start code given node due e cut =
-    elim (if_is (code == given) (if is_start && is_failure code then dues.NoBound else due_on false code node) (dues.Wrong given) dues.Cut (sym e ∙ cut)) [
-      | inl h ↦ elim (if_is (is_start && is_failure code) dues.NoBound (due_on false code node) dues.Cut h) [ inl n ↦ absurd (cc) | inr d ↦ on_cut code node d ]
+    elim (if_is (code == given)
+    (if is_start && is_failure code then dues.NoBound else due_on false code node)
+    (dues.Wrong given) dues.Cut (sym e ∙ cut)) [
+      | inl h ↦ elim (if_is (is_start && is_failure code) dues.NoBound (due_on false code node)
+          dues.Cut h) [ inl n ↦ absurd (cc) | inr d ↦ on_cut code node d ]
       | inr h ↦ absurd (cc)
     ]
 
-module _ (arena : Arena Step ℕ Value) (size : ℕ) (finite : IsFinite arena size) (side : Colour) (spot : Spot) (arms : List (Arm Step ℕ Value)) (cs : List ℕ) (are : arms ≡ arena.arms spot.number) (many : length cs ≡ length arms) (stands : (spot.is_start ≡ true) ⊎ (is_failure spot.code ≡ false)) where
+module _ (arena : Arena Step ℕ Value) (size : ℕ) (finite : IsFinite arena size) (side : Colour)
+    (spot : Spot) (arms : List (Arm Step ℕ Value)) (cs : List ℕ)
+    (are : arms ≡ arena.arms spot.number) (many : length cs ≡ length arms)
+    (stands : (spot.is_start ≡ true) ⊎ (is_failure spot.code ≡ false)) where
   abbrev IsDue : Due → Type 0
   IsDue due =
-      due ≡ due_by spot.is_start false spot.code (node_code side (arena.node spot.number) (free_among arms cs) cs) (arena.node spot.number)
+      due ≡ due_by spot.is_start false spot.code
+      (node_code side (arena.node spot.number) (free_among arms cs) cs) (arena.node spot.number)
 
-  facts : (m : Colour) → IsDue (dues.Ply m) → PlyDue spot.is_start false spot.code (node_code side (arena.node spot.number) (free_among arms cs) cs) (arena.node spot.number) m
-  facts m e = ply_due spot.is_start false spot.code (node_code side (arena.node spot.number) (free_among arms cs) cs) (arena.node spot.number) m (sym e)
+  facts : (m : Colour) → IsDue (dues.Ply m)
+      → PlyDue spot.is_start false spot.code
+      (node_code side (arena.node spot.number) (free_among arms cs) cs) (arena.node spot.number) m
+  facts m e = ply_due spot.is_start false spot.code
+      (node_code side (arena.node spot.number) (free_among arms cs) cs) (arena.node spot.number) m
+      (sym e)
 
-  agreed : (m : Colour) → IsDue (dues.Ply m) → spot.code ≡ node_code side (nodes.Going m) (free_among arms cs) cs
-  agreed m e = subst (λ (z : Node). spot.code ≡ node_code side z (free_among arms cs) cs) (facts m e).goes (facts m e).agrees
+  agreed : (m : Colour) → IsDue (dues.Ply m)
+      → spot.code ≡ node_code side (nodes.Going m) (free_among arms cs) cs
+  agreed m e = subst (λ (z : Node). spot.code ≡ node_code side z (free_among arms cs) cs)
+      (facts m e).goes (facts m e).agrees
 
   -- where a ply is due the code asks for a move
   pub has_move : (due : Due) → IsDue due → HasMove side spot due arms cs
@@ -97,33 +113,47 @@ module _ (arena : Arena Step ℕ Value) (size : ℕ) (finite : IsFinite arena si
   has_move (dues.Ply m) e =
       let d = facts m e in
       let some : arms ≢ [] = λ none. finite.lawful.goes_on spot.number m d.goes (sym are ∙ none) in
-      move_there side m spot.code arms cs many some (agreed m e) (never_fails spot.is_start spot.code stands d.starts)
+      move_there side m spot.code arms cs many some (agreed m e)
+      (never_fails spot.is_start spot.code stands d.starts)
 
-  inside_size : (place : ℕ) (a : Arm Step ℕ Value) → slice_get arms place ≡ Some a → (n : ℕ) → a.next ≡ Inside n → n < size
+  inside_size : (place : ℕ) (a : Arm Step ℕ Value) → slice_get arms place ≡ Some a → (n : ℕ)
+      → a.next ≡ Inside n → n < size
   inside_size place a there n leads =
-      let among : IsArm arena spot.number a = subst (λ (z : List (Arm Step ℕ Value)). Contains z a) are (at_in arms place a there) in
+      let among : IsArm arena spot.number a = subst (λ (z : List (Arm Step ℕ Value)). Contains z a)
+      are (at_in arms place a there) in
       (finite.inside spot.number n a among leads).0
 
   no_failure : (code next : ℕ) → IsNextCode code next → is_failure next ≡ false
-  no_failure code next (inl h) = elim (true_or_false (is_failure next)) [ inl f ↦ absurd (win_and_failure next h.1 f) | inr f ↦ f ]
+  no_failure code next (inl h) =
+      elim (true_or_false (is_failure next))
+      [ inl f ↦ absurd (win_and_failure next h.1 f) | inr f ↦ f ]
   no_failure code next (inr h) = (let l = h.1 in grind (arith, nat_tests))
 
   -- the code behind the own ply
-  own_code_stands : (m : Colour) → IsDue (dues.Ply m) → same_colour m side ≡ true → (place : ℕ) (x : Choice) → IsFound has_code (is_win spot.code) spot.code (choices_by true arms cs) place x → is_failure (get_or cs place 0) ≡ false
+  own_code_stands : (m : Colour) → IsDue (dues.Ply m) → same_colour m side ≡ true
+      → (place : ℕ) (x : Choice) → IsFound has_code (is_win spot.code) spot.code
+      (choices_by true arms cs) place x → is_failure (get_or cs place 0) ≡ false
   own_code_stands m e own place x found =
       let d = facts m e in
-      let by_mover = subst (λ b. IsFound has_code (is_win spot.code) spot.code (choices_by b arms cs) place x) (sym own) found in
-      let next = next_code_is side m spot.code arms cs many (agreed m e) (never_fails spot.is_start spot.code stands d.starts) place x by_mover in
+      let by_mover = subst
+      (λ b. IsFound has_code (is_win spot.code) spot.code (choices_by b arms cs) place x)
+      (sym own) found in
+      let next = next_code_is side m spot.code arms cs many (agreed m e)
+      (never_fails spot.is_start spot.code stands d.starts) place x by_mover in
       let code = (found_code true arms cs (is_win spot.code) spot.code place x many found).1 in
       subst (λ c. is_failure c ≡ false) code (no_failure spot.code x.code next)
 
   -- and behind any reply
-  reply_code_stands : (m : Colour) → IsDue (dues.Ply m) → same_colour m side ≡ false → (place : ℕ) (a : Arm Step ℕ Value) → slice_get arms place ≡ Some a → is_failure (get_or cs place 0) ≡ false
+  reply_code_stands : (m : Colour) → IsDue (dues.Ply m) → same_colour m side ≡ false
+      → (place : ℕ) (a : Arm Step ℕ Value) → slice_get arms place ≡ Some a
+      → is_failure (get_or cs place 0) ≡ false
   reply_code_stands m e own place a there =
       let d = facts m e in
       let within = slice_get_within arms place a there in
-      let other : node_code side (nodes.Going m) (free_among arms cs) cs ≡ other_code cs = rw own refl in
-      let whole : is_failure (other_code cs) ≡ false = subst (λ c. is_failure c ≡ false) (agreed m e ∙ other) (never_fails spot.is_start spot.code stands d.starts) in
+      let other : node_code side (nodes.Going m) (free_among arms cs) cs ≡ other_code cs =
+      rw own refl in
+      let whole : is_failure (other_code cs) ≡ false = subst (λ c. is_failure c ≡ false)
+      (agreed m e ∙ other) (never_fails spot.is_start spot.code stands d.starts) in
       other_stands cs place whole (omega (arith, within, many))
 
   same_other : (m : Colour) → same_colour m side ≡ true → same_colour (other_of m) side ≡ false
@@ -136,10 +166,12 @@ module _ (arena : Arena Step ℕ Value) (size : ℕ) (finite : IsFinite arena si
     others_differ White h = absurd (cc)
     others_differ Black h = refl
 
-  own_one : (m : Colour) (node : Node) → node ≡ nodes.Going m → same_colour m side ≡ true → own_turn side node ≡ 1
+  own_one : (m : Colour) (node : Node) → node ≡ nodes.Going m → same_colour m side ≡ true
+      → own_turn side node ≡ 1
   own_one m node e own = rw e (rw own refl)
 
-  own_none : (node : Node) → ((c : Colour) → node ≡ nodes.Going c → same_colour c side ≡ false) → own_turn side node ≡ 0
+  own_none : (node : Node) → ((c : Colour) → node ≡ nodes.Going c → same_colour c side ≡ false)
+      → own_turn side node ≡ 0
   own_none nodes.Broken h = refl
   own_none (nodes.Mate m) h = refl
   own_none (nodes.Stalemate m) h = refl
@@ -149,42 +181,74 @@ module _ (arena : Arena Step ℕ Value) (size : ℕ) (finite : IsFinite arena si
   own_most nodes.Broken = omega arith
   own_most (nodes.Mate m) = omega arith
   own_most (nodes.Stalemate m) = omega arith
-  own_most (nodes.Going m) = elim (true_or_false (same_colour m side)) [ inl t ↦ rw t (omega arith) | inr f ↦ rw f (omega arith) ]
+  own_most (nodes.Going m) =
+      elim (true_or_false (same_colour m side))
+      [ inl t ↦ rw t (omega arith) | inr f ↦ rw f (omega arith) ]
 
-  left_own : Alternates arena → (m : Colour) → IsDue (dues.Ply m) → same_colour m side ≡ true → (more place : ℕ) (a : Arm Step ℕ Value) → slice_get arms place ≡ Some a → (n : ℕ) → a.next ≡ Inside n → session_left arena side more n < session_left arena side more spot.number
+  left_own : Alternates arena → (m : Colour) → IsDue (dues.Ply m) → same_colour m side ≡ true
+      → (more place : ℕ) (a : Arm Step ℕ Value) → slice_get arms place ≡ Some a → (n : ℕ)
+      → a.next ≡ Inside n → session_left arena side more n < session_left arena side more
+      spot.number
   left_own alternates m e own more place a there n leads =
       let d = facts m e in
-      let among : Contains (arena.arms spot.number) a = subst (λ (z : List (Arm Step ℕ Value)). Contains z a) are (at_in arms place a there) in
+      let among : Contains (arena.arms spot.number) a = subst
+      (λ (z : List (Arm Step ℕ Value)). Contains z a) are (at_in arms place a there) in
       let here = own_one m (arena.node spot.number) d.goes own in
-      let next = own_none (arena.node n) (λ c g. subst (λ z. same_colour z side ≡ false) (sym (alternates.turns spot.number a m c n among leads d.goes g)) (same_other m own)) in
+      let next = own_none (arena.node n)
+      (λ c g. subst (λ z. same_colour z side ≡ false)
+      (sym (alternates.turns spot.number a m c n among leads d.goes g)) (same_other m own)) in
       omega (arith, here, next)
 
-  left_reply : (more now : ℕ) → now < more → (n : ℕ) → session_left arena side now n < session_left arena side more spot.number
+  left_reply : (more now : ℕ) → now < more → (n : ℕ)
+      → session_left arena side now n < session_left arena side more spot.number
   left_reply more now l n = (let h = own_most (arena.node n) in omega (arith, l, h))
 
-  to_next : (old new : Reader) (next : Next ℕ Value) (code : ℕ) → ((n : ℕ) → next ≡ Inside n → (n < size) × (is_failure code ≡ false) × (session_left arena side new.more n < session_left arena side old.more spot.number)) → TurnsTo arena size side spot old new (turn_of next code)
+  to_next : (old new : Reader) (next : Next ℕ Value) (code : ℕ)
+      → ((n : ℕ) → next ≡ Inside n → (n < size) × (is_failure code ≡ false)
+      × (session_left arena side new.more n < session_left arena side old.more spot.number))
+      → TurnsTo arena size side spot old new (turn_of next code)
   to_next old new (Inside n) code h = h n refl
   to_next old new (Outside v) code h = tt
 
-  if_answers : (P : Turn → Type 0) (turn : Turn) (text : List ℕ) (result : Result Turn PlayFault) (out taken : SinkTold) → P turn → Answers turn text result out taken → IfOk result P
-  if_answers P turn text result out taken p (inl a) = subst (λ (z : Result Turn PlayFault). IfOk z P) (sym a.0) p
-  if_answers P turn text result out taken p (inr a) = subst (λ (z : Result Turn PlayFault). IfOk z P) (sym a.0) tt
+  if_answers : (P : Turn → Type 0) (turn : Turn) (text : List ℕ) (result : Result Turn PlayFault)
+      (out taken : SinkTold) → P turn → Answers turn text result out taken → IfOk result P
+  if_answers P turn text result out taken p (inl a) =
+      subst (λ (z : Result Turn PlayFault). IfOk z P) (sym a.0) p
+  if_answers P turn text result out taken p (inr a) =
+      subst (λ (z : Result Turn PlayFault). IfOk z P) (sym a.0) tt
 
-  if_failed : (P : Turn → Type 0) (fault : PlayFault) (result : Result Turn PlayFault) → result ≡ Err fault → IfOk result P
+  if_failed : (P : Turn → Type 0) (fault : PlayFault) (result : Result Turn PlayFault)
+      → result ≡ Err fault → IfOk result P
   if_failed P fault result e = subst (λ (z : Result Turn PlayFault). IfOk z P) (sym e) tt
 
-  after_next : (m : Colour) → IsDue (dues.Ply m) → same_colour m side ≡ false → (old new : Reader) (heard_is : Result Heard PlayFault) (source left : SourceTold) (out between taken : SinkTold) → Hears arms old new heard_is source left out between → (result : Result Turn PlayFault) → AfterHeard arms cs heard_is result between taken → IfOk result (TurnsTo arena size side spot old new)
+  after_next : (m : Colour) → IsDue (dues.Ply m) → same_colour m side ≡ false
+      → (old new : Reader) (heard_is : Result Heard PlayFault) (source left : SourceTold)
+      (out between taken : SinkTold) → Hears arms old new heard_is source left out between
+      → (result : Result Turn PlayFault) → AfterHeard arms cs heard_is result between taken
+      → IfOk result (TurnsTo arena size side spot old new)
   after_next m e own old new (Ok (heard.Reply place)) source left out between taken hears result h =
-      if_answers (TurnsTo arena size side spot old new) (turn_of h.0.next (get_or cs place 0)) _ result between taken
-      (to_next old new h.0.next (get_or cs place 0) (λ n leads. (inside_size place h.0 h.1 n leads, reply_code_stands m e own place h.0 h.1, left_reply old.more new.more hears.fewer n))) h.2
+      if_answers (TurnsTo arena size side spot old new) (turn_of h.0.next (get_or cs place 0)) _
+      result between taken
+      (to_next old new h.0.next (get_or cs place 0)
+      (λ n leads. (
+        inside_size place h.0 h.1 n leads,
+        reply_code_stands m e own place h.0 h.1,
+        left_reply old.more new.more hears.fewer n,
+      ))) h.2
   after_next m e own old new (Ok (heard.Stop Ended)) source left out between taken hears result h =
-      if_answers (TurnsTo arena size side spot old new) (Over ends.InputEnded) _ result between taken tt h
-  after_next m e own old new (Ok (heard.Stop (Limit limit))) source left out between taken hears result h =
+      if_answers (TurnsTo arena size side spot old new) (Over ends.InputEnded) _ result between
+      taken tt h
+  after_next m e own old new (Ok (heard.Stop (Limit limit))) source left out between taken hears
+      result h =
       if_failed (TurnsTo arena size side spot old new) _ result h.0
   after_next m e own old new (Err fault) source left out between taken hears result h =
       if_failed (TurnsTo arena size side spot old new) fault result h.0
 
-  ply_next : Alternates arena → (m : Colour) → IsDue (dues.Ply m) → (own : Bool) → same_colour m side ≡ own → (old new : Reader) (result : Result Turn PlayFault) (source left : SourceTold) (out taken : SinkTold) → PlaysPly own spot arms cs old new result source left out taken → IfOk result (TurnsTo arena size side spot old new)
+  ply_next : Alternates arena → (m : Colour) → IsDue (dues.Ply m) → (own : Bool)
+      → same_colour m side ≡ own → (old new : Reader) (result : Result Turn PlayFault)
+      (source left : SourceTold) (out taken : SinkTold)
+      → PlaysPly own spot arms cs old new result source left out taken
+      → IfOk result (TurnsTo arena size side spot old new)
   ply_next alternates m e true own old new result source left out taken h =
       let plays = h.1 in
       let place = plays.0 in
@@ -192,20 +256,31 @@ module _ (arena : Arena Step ℕ Value) (size : ℕ) (finite : IsFinite arena si
       let a = plays.3.0 in
       let there = plays.3.1 in
       let same : new.more ≡ old.more = ap (λ (r : Reader). r.more) h.0.0 in
-      if_answers (TurnsTo arena size side spot old new) (turn_of a.next (get_or cs place 0)) _ result out taken
+      if_answers (TurnsTo arena size side spot old new) (turn_of a.next (get_or cs place 0)) _
+      result out taken
       (to_next old new a.next (get_or cs place 0) (λ n leads. (
         inside_size place a there n leads,
         own_code_stands m e own place x plays.2,
-        subst (λ k. session_left arena side k n < session_left arena side old.more spot.number) (sym same) (left_own alternates m e own old.more place a there n leads),
+        subst (λ k. session_left arena side k n < session_left arena side old.more spot.number)
+            (sym same) (left_own alternates m e own old.more place a there n leads),
       ))) plays.3.2
   ply_next alternates m e false own old new result source left out taken h =
       after_next m e own old new h.heard source left out h.between taken h.hears result h.after
 
   -- where a turn leads
-  pub turn_next : Alternates arena → (due : Due) → IsDue due → (old new : Reader) (result : Result Turn PlayFault) (source left : SourceTold) (out taken : SinkTold) → IsPlayed side spot due arms cs old new result source left out taken → IfOk result (TurnsTo arena size side spot old new)
-  turn_next alternates (dues.Wrong given) e old new result source left out taken h = if_failed (TurnsTo arena size side spot old new) _ result h.1.0
-  turn_next alternates dues.NoBound e old new result source left out taken h = if_failed (TurnsTo arena size side spot old new) _ result h.1.0
-  turn_next alternates (dues.Mate m) e old new result source left out taken h = if_answers (TurnsTo arena size side spot old new) (Over ends.Mate) _ result out taken tt h.1
-  turn_next alternates (dues.Stalemate m) e old new result source left out taken h = if_answers (TurnsTo arena size side spot old new) (Over ends.Stalemate) _ result out taken tt h.1
+  pub turn_next : Alternates arena → (due : Due) → IsDue due
+      → (old new : Reader) (result : Result Turn PlayFault) (source left : SourceTold)
+      (out taken : SinkTold) → IsPlayed side spot due arms cs old new result source left out taken
+      → IfOk result (TurnsTo arena size side spot old new)
+  turn_next alternates (dues.Wrong given) e old new result source left out taken h =
+      if_failed (TurnsTo arena size side spot old new) _ result h.1.0
+  turn_next alternates dues.NoBound e old new result source left out taken h =
+      if_failed (TurnsTo arena size side spot old new) _ result h.1.0
+  turn_next alternates (dues.Mate m) e old new result source left out taken h =
+      if_answers (TurnsTo arena size side spot old new) (Over ends.Mate) _ result out taken tt h.1
+  turn_next alternates (dues.Stalemate m) e old new result source left out taken h =
+      if_answers (TurnsTo arena size side spot old new) (Over ends.Stalemate) _ result out taken tt
+      h.1
   turn_next alternates dues.Cut e old new result source left out taken h = absurd h
-  turn_next alternates (dues.Ply m) e old new result source left out taken h = ply_next alternates m e (same_colour m side) refl old new result source left out taken h
+  turn_next alternates (dues.Ply m) e old new result source left out taken h =
+      ply_next alternates m e (same_colour m side) refl old new result source left out taken h

@@ -54,7 +54,8 @@ moved_lines word a = as_lines (moved_text word a) (ends_behind word (arm_text a)
 
 refused_lines : (n : ℕ) → IsLines (refused_text n)
 refused_lines zero = inl refl
-refused_lines (suc n) = lines_behind (codes "illegal\n") (refused_text n) (inr (codes "illegal", refl)) (refused_lines n)
+refused_lines (suc n) = lines_behind (codes "illegal\n") (refused_text n)
+    (inr (codes "illegal", refl)) (refused_lines n)
 
 kept_lines : (side : Colour) (code : ℕ) → IsLines (kept_line side code)
 kept_lines side code = inr (side_name side ++ kept_words code, refl)
@@ -66,25 +67,41 @@ lines_if false text l = inl refl
 opening_lines : (side : Colour) (spot : Spot) (due : Due) → IsLines (opening side spot due)
 opening_lines side spot (dues.Wrong given) = inl refl
 opening_lines side spot dues.NoBound = inl refl
-opening_lines side spot (dues.Mate m) = lines_if spot.is_start (kept_line side spot.code) (kept_lines side spot.code)
-opening_lines side spot (dues.Stalemate m) = lines_if spot.is_start (kept_line side spot.code) (kept_lines side spot.code)
-opening_lines side spot dues.Cut = lines_if spot.is_start (kept_line side spot.code) (kept_lines side spot.code)
-opening_lines side spot (dues.Ply m) = lines_if spot.is_start (kept_line side spot.code) (kept_lines side spot.code)
+opening_lines side spot (dues.Mate m) =
+    lines_if spot.is_start (kept_line side spot.code) (kept_lines side spot.code)
+opening_lines side spot (dues.Stalemate m) =
+    lines_if spot.is_start (kept_line side spot.code) (kept_lines side spot.code)
+opening_lines side spot dues.Cut =
+    lines_if spot.is_start (kept_line side spot.code) (kept_lines side spot.code)
+opening_lines side spot (dues.Ply m) =
+    lines_if spot.is_start (kept_line side spot.code) (kept_lines side spot.code)
 
 -- a text behind one that was taken
-pub wrote_after : {T : Type 0} (text more : List ℕ) (result : Result T PlayFault) (old mid new : SinkTold) → TookText text old mid → WroteBy result more mid new → WroteBy result (text ++ more) old new
-wrote_after text more (Ok x) old mid new t w = took_behind text more (text ++ more) old mid new t refl w
-wrote_after text more (Err plays.Input) old mid new t w = took_behind text more (text ++ more) old mid new t refl w
-wrote_after text more (Err (plays.Limit l)) old mid new t w = took_behind text more (text ++ more) old mid new t refl w
-wrote_after text more (Err (plays.Line faults.Outside)) old mid new t w = took_behind text more (text ++ more) old mid new t refl w
-wrote_after text more (Err (plays.Line faults.NoBound)) old mid new t w = took_behind text more (text ++ more) old mid new t refl w
-wrote_after text more (Err (plays.Line (faults.Wrong x))) old mid new t w = took_behind text more (text ++ more) old mid new t refl w
-wrote_after text more (Err (plays.Line faults.Store)) old mid new t w = took_behind text more (text ++ more) old mid new t refl w
-wrote_after text more (Err (plays.Line faults.Output)) old mid new t w = failed_behind text more (text ++ more) old mid new t refl w
-wrote_after text more (Err (plays.Line faults.NoMemory)) old mid new t w = took_behind text more (text ++ more) old mid new t refl w
+pub wrote_after : {T : Type 0} (text more : List ℕ) (result : Result T PlayFault)
+    (old mid new : SinkTold) → TookText text old mid → WroteBy result more mid new
+    → WroteBy result (text ++ more) old new
+wrote_after text more (Ok x) old mid new t w =
+    took_behind text more (text ++ more) old mid new t refl w
+wrote_after text more (Err plays.Input) old mid new t w =
+    took_behind text more (text ++ more) old mid new t refl w
+wrote_after text more (Err (plays.Limit l)) old mid new t w =
+    took_behind text more (text ++ more) old mid new t refl w
+wrote_after text more (Err (plays.Line faults.Outside)) old mid new t w =
+    took_behind text more (text ++ more) old mid new t refl w
+wrote_after text more (Err (plays.Line faults.NoBound)) old mid new t w =
+    took_behind text more (text ++ more) old mid new t refl w
+wrote_after text more (Err (plays.Line (faults.Wrong x))) old mid new t w =
+    took_behind text more (text ++ more) old mid new t refl w
+wrote_after text more (Err (plays.Line faults.Store)) old mid new t w =
+    took_behind text more (text ++ more) old mid new t refl w
+wrote_after text more (Err (plays.Line faults.Output)) old mid new t w =
+    failed_behind text more (text ++ more) old mid new t refl w
+wrote_after text more (Err (plays.Line faults.NoMemory)) old mid new t w =
+    took_behind text more (text ++ more) old mid new t refl w
 
 -- the same fault, whatever was to be answered
-pub same_wrote : (A B : Type 0) (fault : PlayFault) (text : List ℕ) (old new : SinkTold) → WroteBy {T = A} (Err fault) text old new → WroteBy {T = B} (Err fault) text old new
+pub same_wrote : (A B : Type 0) (fault : PlayFault) (text : List ℕ) (old new : SinkTold)
+    → WroteBy {T = A} (Err fault) text old new → WroteBy {T = B} (Err fault) text old new
 same_wrote A B plays.Input text old new w = w
 same_wrote A B (plays.Limit l) text old new w = w
 same_wrote A B (plays.Line faults.Outside) text old new w = w
@@ -94,20 +111,26 @@ same_wrote A B (plays.Line faults.Store) text old new w = w
 same_wrote A B (plays.Line faults.Output) text old new w = w
 same_wrote A B (plays.Line faults.NoMemory) text old new w = w
 
-by_answers : (turn : Turn) (text : List ℕ) (result : Result Turn PlayFault) (old new : SinkTold) → Answers turn text result old new → WroteBy result text old new
+by_answers : (turn : Turn) (text : List ℕ) (result : Result Turn PlayFault) (old new : SinkTold)
+    → Answers turn text result old new → WroteBy result text old new
 by_answers turn text result old new (inl a) =
     subst (λ (z : Result Turn PlayFault). WroteBy z text old new) (sym a.0) a.1
 by_answers turn text result old new (inr a) =
     subst (λ (z : Result Turn PlayFault). WroteBy z text old new) (sym a.0) a.1
 
 -- what a turn wrote and took
-abbrev pub TurnWrote : Option (List ℕ) → Arena Step ℕ Value → Colour → Spot → (old new : Reader) → Result Turn PlayFault → (source left : SourceTold) → (out taken : SinkTold) → Type 0
+abbrev pub TurnWrote : Option (List ℕ) → Arena Step ℕ Value → Colour → Spot → (old new : Reader)
+    → Result Turn PlayFault → (source left : SourceTold) → (out taken : SinkTold) → Type 0
 TurnWrote told arena side spot old new result source left out taken =
-    (text bytes : List ℕ) × IsLines text × WroteBy result text out taken × TookBytes bytes source left
-    × StaysEnded old new bytes × IfSome told (λ kept. GoesBy arena side kept spot old new bytes text result)
+    (text bytes : List ℕ) × IsLines text × WroteBy result text out taken
+    × TookBytes bytes source left
+    × StaysEnded old new bytes
+    × IfSome told (λ kept. GoesBy arena side kept spot old new bytes text result)
 
 -- the same behind the opening
-record Tail (told : Option (List ℕ)) (arena : Arena Step ℕ Value) (side : Colour) (spot : Spot) (old new : Reader) (result : Result Turn PlayFault) (source left : SourceTold) (out taken : SinkTold) : Type 0 where
+record Tail (told : Option (List ℕ)) (arena : Arena Step ℕ Value) (side : Colour) (spot : Spot)
+    (old new : Reader) (result : Result Turn PlayFault) (source left : SourceTold)
+    (out taken : SinkTold) : Type 0 where
   pub text : List ℕ
   pub bytes : List ℕ
   pub lines : IsLines text
@@ -120,108 +143,208 @@ pub store_fault : (fault : StoreFault) → IsStoreFault (plays.Line (fault_of fa
 store_fault Failed = record { is = inl refl }
 store_fault NoMemory = record { is = inr refl }
 
-store_wrote : (fault : StoreFault) (out : SinkTold) → WroteBy {T = Turn} (Err (plays.Line (fault_of fault))) [] out out
+store_wrote : (fault : StoreFault) (out : SinkTold)
+    → WroteBy {T = Turn} (Err (plays.Line (fault_of fault))) [] out out
 store_wrote Failed out = took_nothing out
 store_wrote NoMemory out = took_nothing out
 
 -- the store failed before anything was written
-pub stopped_by : (told : Option (List ℕ)) (arena : Arena Step ℕ Value) (side : Colour) (spot : Spot) (reader : Reader) (fault : StoreFault) (result : Result Turn PlayFault) (source : SourceTold) (out : SinkTold) → IsErrAnd result (λ e. e ≡ plays.Line (fault_of fault)) → TurnWrote told arena side spot reader reader result source source out out
+pub stopped_by : (told : Option (List ℕ)) (arena : Arena Step ℕ Value) (side : Colour) (spot : Spot)
+    (reader : Reader) (fault : StoreFault) (result : Result Turn PlayFault) (source : SourceTold)
+    (out : SinkTold) → IsErrAnd result (λ e. e ≡ plays.Line (fault_of fault))
+    → TurnWrote told arena side spot reader reader result source source out out
 stopped_by told arena side spot reader fault (Ok turn) source out h = absurd h
 stopped_by told arena side spot reader fault (Err e) source out h =
-    subst (λ (f : PlayFault). TurnWrote told arena side spot reader reader (Err f) source source out out) (sym h)
-    ([], [], inl refl, store_wrote fault out, took_none source source refl, λ e. (refl, e), every told (λ kept. GoesBy arena side kept spot reader reader [] [] (Err (plays.Line (fault_of fault)))) (λ kept. store_goes arena side kept spot reader (plays.Line (fault_of fault)) (store_fault fault)))
+    subst (λ (f : PlayFault). TurnWrote told arena side spot reader reader (Err f) source source out
+    out) (sym h) (
+      [],
+      [],
+      inl refl,
+      store_wrote fault out,
+      took_none source source refl,
+      λ e. (refl, e),
+      every told (λ kept. GoesBy arena side kept spot reader reader [] []
+          (Err (plays.Line (fault_of fault))))
+          (λ kept. store_goes arena side kept spot reader (plays.Line (fault_of fault))
+          (store_fault fault)),
+    )
 
-module _ (one : AsksForOne) (fills : FillsLocal) (told : Option (List ℕ)) (arena : Arena Step ℕ Value) (size : ℕ) (finite : IsFinite arena size) (side : Colour) (spot : Spot) (arms : List (Arm Step ℕ Value)) (cs : List ℕ) (are : arms ≡ arena.arms spot.number) (codes_told : IfSome told (λ kept. cs ≡ map (arm_code side kept) arms)) where
+module _ (one : AsksForOne) (fills : FillsLocal) (told : Option (List ℕ))
+    (arena : Arena Step ℕ Value) (size : ℕ) (finite : IsFinite arena size) (side : Colour)
+    (spot : Spot) (arms : List (Arm Step ℕ Value)) (cs : List ℕ)
+    (are : arms ≡ arena.arms spot.number)
+    (codes_told : IfSome told (λ kept. cs ≡ map (arm_code side kept) arms)) where
   abbrev IsDue : Due → Type 0
   IsDue due =
-      due ≡ due_by spot.is_start false spot.code (node_code side (arena.node spot.number) (free_among arms cs) cs) (arena.node spot.number)
+      due ≡ due_by spot.is_start false spot.code
+      (node_code side (arena.node spot.number) (free_among arms cs) cs) (arena.node spot.number)
 
-  standing : (due : Due) → IsDue due → (kept : List ℕ) → cs ≡ map (arm_code side kept) arms → Stands arena side kept spot (stage_told spot.number spot.code due)
-  standing due e kept same = session_stage fills arena size finite side spot arms cs kept are same due e
+  standing : (due : Due) → IsDue due → (kept : List ℕ) → cs ≡ map (arm_code side kept) arms
+      → Stands arena side kept spot (stage_told spot.number spot.code due)
+  standing due e kept same =
+      session_stage fills arena size finite side spot arms cs kept are same due e
 
   -- the sink failed within the opening
-  pub opening_wrote : (due : Due) → IsDue due → (reader : Reader) (result : Result Turn PlayFault) (source : SourceTold) (out taken : SinkTold) → IsErrAnd result (λ e. e ≡ plays.Line faults.Output) → FailedWithin (opening side spot due) out taken → TurnWrote told arena side spot reader reader result source source out taken
+  pub opening_wrote : (due : Due) → IsDue due → (reader : Reader) (result : Result Turn PlayFault)
+      (source : SourceTold) (out taken : SinkTold)
+      → IsErrAnd result (λ e. e ≡ plays.Line faults.Output)
+      → FailedWithin (opening side spot due) out taken
+      → TurnWrote told arena side spot reader reader result source source out taken
   opening_wrote due e reader (Ok turn) source out taken h failed = absurd h
   opening_wrote due e reader (Err f) source out taken h failed =
-      subst (λ (z : PlayFault). TurnWrote told arena side spot reader reader (Err z) source source out taken) (sym h)
-      (opening side spot due, [], opening_lines side spot due, failed, took_none source source refl, λ x. (refl, x), some_of told (λ kept. cs ≡ map (arm_code side kept) arms) (λ kept. GoesBy arena side kept spot reader reader [] (opening side spot due) (Err (plays.Line faults.Output))) (λ kept same. opening_failed arena side kept spot due reader (standing due e kept same)) codes_told)
+      subst (λ (z : PlayFault). TurnWrote told arena side spot reader reader (Err z) source source
+      out taken) (sym h) (
+        opening side spot due,
+        [],
+        opening_lines side spot due,
+        failed,
+        took_none source source refl,
+        λ x. (refl, x),
+        some_of told (λ kept. cs ≡ map (arm_code side kept) arms)
+            (λ kept. GoesBy arena side kept spot reader reader [] (opening side spot due)
+            (Err (plays.Line faults.Output)))
+            (λ kept same. opening_failed arena side kept spot due reader (standing due e kept same))
+            codes_told,
+      )
 
   -- a session that is over here: its text is that of its end
-  over_wrote : (due : Due) → IsDue due → (f : EndOfSession) → stage_told spot.number spot.code due ≡ OverWay f → (old new : Reader) (answer : Result SessionEnd PlayFault) (result : Result Turn PlayFault) (source left : SourceTold) (out taken : SinkTold) → Unread old new source left → result ≡ turn_over answer → IsLines (end_text f) → WroteBy result (end_text f) out taken → Finishes answer side f [] [] → Tail told arena side spot old new result source left out taken
-  over_wrote due e f stops old new answer result source left out taken unread is lines wrote finishes = record {
-    text = end_text f;
-    bytes = [];
-    lines = lines;
-    wrote = wrote;
-    took = took_none source left (ap (λ (z : SourceTold). z.left) unread.1);
-    stays = λ x. (refl, ap (λ (z : Reader). z.ended) unread.0 ∙ x);
-    goes = some_of told (λ kept. cs ≡ map (arm_code side kept) arms) (λ kept. TailBy arena side kept spot old new [] (end_text f) result) (λ kept same.
-        subst (λ (z : Reader). TailBy arena side kept spot old z [] (end_text f) result) (sym unread.0)
-        (subst (λ (z : Result Turn PlayFault). TailBy arena side kept spot old old [] (end_text f) z) (sym is)
-        (over_tail arena side kept spot old (end_text f) f answer (λ agrees played start. standing due e kept same agrees played start ∙ stops) refl finishes))) codes_told;
-  }
+  over_wrote : (due : Due) → IsDue due → (f : EndOfSession)
+      → stage_told spot.number spot.code due ≡ OverWay f
+      → (old new : Reader) (answer : Result SessionEnd PlayFault) (result : Result Turn PlayFault)
+      (source left : SourceTold) (out taken : SinkTold) → Unread old new source left
+      → result ≡ turn_over answer → IsLines (end_text f) → WroteBy result (end_text f) out taken
+      → Finishes answer side f [] []
+      → Tail told arena side spot old new result source left out taken
+  over_wrote due e f stops old new answer result source left out taken unread is lines wrote
+      finishes = record {
+        text = end_text f;
+        bytes = [];
+        lines = lines;
+        wrote = wrote;
+        took = took_none source left (ap (λ (z : SourceTold). z.left) unread.1);
+        stays = λ x. (refl, ap (λ (z : Reader). z.ended) unread.0 ∙ x);
+        goes = some_of told (λ kept. cs ≡ map (arm_code side kept) arms)
+            (λ kept. TailBy arena side kept spot old new [] (end_text f) result) (λ kept same.
+            subst (λ (z : Reader). TailBy arena side kept spot old z [] (end_text f) result)
+            (sym unread.0)
+            (subst (λ (z : Result Turn PlayFault). TailBy arena side kept spot old old []
+            (end_text f) z) (sym is)
+            (over_tail arena side kept spot old (end_text f) f answer
+            (λ agrees played start. standing due e kept same agrees played start ∙ stops) refl
+            finishes))) codes_told;
+      }
 
-  ends_wrote : (due : Due) → IsDue due → (f : EndOfSession) → stage_told spot.number spot.code due ≡ OverWay f → (old new : Reader) (last : SessionEnd) (result : Result Turn PlayFault) (source left : SourceTold) (out taken : SinkTold) → Unread old new source left → IsLines (end_text f) → Tells side f (Ok last) → Answers (Over last) (end_text f) result out taken → Tail told arena side spot old new result source left out taken
+  ends_wrote : (due : Due) → IsDue due → (f : EndOfSession)
+      → stage_told spot.number spot.code due ≡ OverWay f
+      → (old new : Reader) (last : SessionEnd) (result : Result Turn PlayFault)
+      (source left : SourceTold) (out taken : SinkTold) → Unread old new source left
+      → IsLines (end_text f) → Tells side f (Ok last)
+      → Answers (Over last) (end_text f) result out taken
+      → Tail told arena side spot old new result source left out taken
   ends_wrote due e f stops old new last result source left out taken unread lines tells (inl a) =
-      over_wrote due e f stops old new (Ok last) result source left out taken unread a.0 lines (by_answers (Over last) (end_text f) result out taken (inl a)) (tells, refl, refl)
+      over_wrote due e f stops old new (Ok last) result source left out taken unread a.0 lines
+      (by_answers (Over last) (end_text f) result out taken (inl a)) (tells, refl, refl)
   ends_wrote due e f stops old new last result source left out taken unread lines tells (inr a) =
-      over_wrote due e f stops old new (Err (plays.Line faults.Output)) result source left out taken unread a.0 lines (by_answers (Over last) (end_text f) result out taken (inr a)) tt
+      over_wrote due e f stops old new (Err (plays.Line faults.Output)) result source left out taken
+      unread a.0 lines (by_answers (Over last) (end_text f) result out taken (inr a)) tt
 
-  untouched : (fault : PlayFault) (result : Result Turn PlayFault) (out taken : SinkTold) → WroteBy {T = Turn} (Err fault) [] out out → result ≡ Err fault → taken ≡ out → WroteBy result [] out taken
+  untouched : (fault : PlayFault) (result : Result Turn PlayFault) (out taken : SinkTold)
+      → WroteBy {T = Turn} (Err fault) [] out out → result ≡ Err fault → taken ≡ out
+      → WroteBy result [] out taken
   untouched fault result out taken w e same =
-      subst (λ (z : Result Turn PlayFault). WroteBy z [] out taken) (sym e) (subst (λ (z : SinkTold). WroteBy {T = Turn} (Err fault) [] out z) (sym same) w)
+      subst (λ (z : Result Turn PlayFault). WroteBy z [] out taken) (sym e)
+      (subst (λ (z : SinkTold). WroteBy {T = Turn} (Err fault) [] out z) (sym same) w)
 
   -- the input has ended
-  ended_by : (m : Colour) → IsDue (dues.Ply m) → same_colour m side ≡ false → (old new : Reader) (answer : Result SessionEnd PlayFault) (result : Result Turn PlayFault) (source left : SourceTold) (out between taken : SinkTold) → (hears : Hears arms old new (Ok (heard.Stop Ended)) source left out between) → result ≡ turn_over answer → WroteBy result (codes "input ended\n") between taken → Finishes answer side (Stopped (record { refused = hears.refused; why = Ended })) [] [] → Tail told arena side spot old new result source left out taken
+  ended_by : (m : Colour) → IsDue (dues.Ply m) → same_colour m side ≡ false
+      → (old new : Reader) (answer : Result SessionEnd PlayFault) (result : Result Turn PlayFault)
+      (source left : SourceTold) (out between taken : SinkTold)
+      → (hears : Hears arms old new (Ok (heard.Stop Ended)) source left out between)
+      → result ≡ turn_over answer → WroteBy result (codes "input ended\n") between taken
+      → Finishes answer side (Stopped (record { refused = hears.refused; why = Ended })) [] []
+      → Tail told arena side spot old new result source left out taken
   ended_by m e own old new answer result source left out between taken hears is wrote finishes =
       let text = refused_text hears.refused ++ codes "input ended\n" in
       record {
         text = text;
         bytes = hears.bytes;
-        lines = lines_behind (refused_text hears.refused) (codes "input ended\n") (refused_lines hears.refused) (inr (codes "input ended", refl));
-        wrote = wrote_after (refused_text hears.refused) (codes "input ended\n") result out between taken hears.wrote wrote;
+        lines = lines_behind (refused_text hears.refused) (codes "input ended\n")
+            (refused_lines hears.refused) (inr (codes "input ended", refl));
+        wrote = wrote_after (refused_text hears.refused) (codes "input ended\n") result out between
+            taken hears.wrote wrote;
         took = hears.took;
         stays = hears.stays;
-        goes = some_of told (λ kept. cs ≡ map (arm_code side kept) arms) (λ kept. TailBy arena side kept spot old new hears.bytes text result) (λ kept same.
-            subst (λ (z : Result Turn PlayFault). TailBy arena side kept spot old new hears.bytes text z) (sym is)
-            (stop_tail arena side m kept spot old new own (standing (dues.Ply m) e kept same) arms are source left out between Ended hears answer finishes)) codes_told;
+        goes = some_of told (λ kept. cs ≡ map (arm_code side kept) arms)
+            (λ kept. TailBy arena side kept spot old new hears.bytes text result) (λ kept same.
+            subst (λ (z : Result Turn PlayFault). TailBy arena side kept spot old new hears.bytes
+            text z) (sym is)
+            (stop_tail arena side m kept spot old new own (standing (dues.Ply m) e kept same) arms
+            are source left out between Ended hears answer finishes)) codes_told;
       }
 
-  ended_wrote : (m : Colour) → IsDue (dues.Ply m) → same_colour m side ≡ false → (old new : Reader) (result : Result Turn PlayFault) (source left : SourceTold) (out between taken : SinkTold) → (hears : Hears arms old new (Ok (heard.Stop Ended)) source left out between) → Answers (Over ends.InputEnded) (codes "input ended\n") result between taken → Tail told arena side spot old new result source left out taken
+  ended_wrote : (m : Colour) → IsDue (dues.Ply m) → same_colour m side ≡ false
+      → (old new : Reader) (result : Result Turn PlayFault) (source left : SourceTold)
+      (out between taken : SinkTold)
+      → (hears : Hears arms old new (Ok (heard.Stop Ended)) source left out between)
+      → Answers (Over ends.InputEnded) (codes "input ended\n") result between taken
+      → Tail told arena side spot old new result source left out taken
   ended_wrote m e own old new result source left out between taken hears (inl a) =
-      ended_by m e own old new (Ok ends.InputEnded) result source left out between taken hears a.0 (by_answers (Over ends.InputEnded) (codes "input ended\n") result between taken (inl a)) (refl, refl, refl)
+      ended_by m e own old new (Ok ends.InputEnded) result source left out between taken hears a.0
+      (by_answers (Over ends.InputEnded) (codes "input ended\n") result between taken (inl a))
+      (refl, refl, refl)
   ended_wrote m e own old new result source left out between taken hears (inr a) =
-      ended_by m e own old new (Err (plays.Line faults.Output)) result source left out between taken hears a.0 (by_answers (Over ends.InputEnded) (codes "input ended\n") result between taken (inr a)) tt
+      ended_by m e own old new (Err (plays.Line faults.Output)) result source left out between taken
+      hears a.0 (by_answers (Over ends.InputEnded) (codes "input ended\n") result between taken
+      (inr a)) tt
 
   -- the reply, by what was heard
-  reply_wrote : (m : Colour) → IsDue (dues.Ply m) → same_colour m side ≡ false → (old new : Reader) (heard_is : Result Heard PlayFault) (result : Result Turn PlayFault) (source left : SourceTold) (out between taken : SinkTold) → Hears arms old new heard_is source left out between → AfterHeard arms cs heard_is result between taken → Tail told arena side spot old new result source left out taken
-  reply_wrote m e own old new (Ok (heard.Reply place)) result source left out between taken hears h =
+  reply_wrote : (m : Colour) → IsDue (dues.Ply m) → same_colour m side ≡ false
+      → (old new : Reader) (heard_is : Result Heard PlayFault) (result : Result Turn PlayFault)
+      (source left : SourceTold) (out between taken : SinkTold)
+      → Hears arms old new heard_is source left out between
+      → AfterHeard arms cs heard_is result between taken
+      → Tail told arena side spot old new result source left out taken
+  reply_wrote m e own old new (Ok (heard.Reply place)) result source left out between taken
+      hears h =
       let text = refused_text hears.refused ++ moved_text (codes "reply ") h.0 in
       record {
         text = text;
         bytes = hears.bytes;
-        lines = lines_behind (refused_text hears.refused) (moved_text (codes "reply ") h.0) (refused_lines hears.refused) (moved_lines (codes "reply ") h.0);
-        wrote = wrote_after (refused_text hears.refused) (moved_text (codes "reply ") h.0) result out between taken hears.wrote (by_answers (turn_of h.0.next (get_or cs place 0)) (moved_text (codes "reply ") h.0) result between taken h.2);
+        lines = lines_behind (refused_text hears.refused) (moved_text (codes "reply ") h.0)
+            (refused_lines hears.refused) (moved_lines (codes "reply ") h.0);
+        wrote = wrote_after (refused_text hears.refused) (moved_text (codes "reply ") h.0) result
+            out between taken hears.wrote
+            (by_answers (turn_of h.0.next (get_or cs place 0)) (moved_text (codes "reply ") h.0)
+            result between taken h.2);
         took = hears.took;
         stays = hears.stays;
-        goes = some_of told (λ kept. cs ≡ map (arm_code side kept) arms) (λ kept. TailBy arena side kept spot old new hears.bytes text result) (λ kept same.
-            reply_tail arena side m kept spot old new own (standing (dues.Ply m) e kept same) arms cs are same source left out between taken place hears h.0 h.1 result h.2) codes_told;
+        goes = some_of told (λ kept. cs ≡ map (arm_code side kept) arms)
+            (λ kept. TailBy arena side kept spot old new hears.bytes text result) (λ kept same.
+            reply_tail arena side m kept spot old new own (standing (dues.Ply m) e kept same) arms
+            cs are same source left out between taken place hears h.0 h.1 result h.2) codes_told;
       }
   reply_wrote m e own old new (Ok (heard.Stop Ended)) result source left out between taken hears h =
       ended_wrote m e own old new result source left out between taken hears h
-  reply_wrote m e own old new (Ok (heard.Stop (Limit limit))) result source left out between taken hears h =
+  reply_wrote m e own old new (Ok (heard.Stop (Limit limit))) result source left out between taken
+      hears h =
       let text = refused_text hears.refused in
       record {
         text = text;
         bytes = hears.bytes;
         lines = refused_lines hears.refused;
-        wrote = subst (λ (z : Result Turn PlayFault). WroteBy z text out taken) (sym h.0) (subst (λ (z : SinkTold). TookText text out z) (sym h.1) hears.wrote);
+        wrote = subst (λ (z : Result Turn PlayFault). WroteBy z text out taken) (sym h.0)
+            (subst (λ (z : SinkTold). TookText text out z) (sym h.1) hears.wrote);
         took = hears.took;
         stays = hears.stays;
-        goes = some_of told (λ kept. cs ≡ map (arm_code side kept) arms) (λ kept. TailBy arena side kept spot old new hears.bytes text result) (λ kept same.
-            subst (λ (z : Result Turn PlayFault). TailBy arena side kept spot old new hears.bytes text z) (sym h.0)
-            (subst (λ (t : List ℕ). TailBy arena side kept spot old new hears.bytes t (Err (plays.Limit limit))) (append-nil text)
-            (stop_tail arena side m kept spot old new own (standing (dues.Ply m) e kept same) arms are source left out between (Limit limit) hears (Err (plays.Limit limit)) (refl, refl, refl)))) codes_told;
+        goes = some_of told (λ kept. cs ≡ map (arm_code side kept) arms)
+            (λ kept. TailBy arena side kept spot old new hears.bytes text result) (λ kept same.
+            subst (λ (z : Result Turn PlayFault). TailBy arena side kept spot old new hears.bytes
+            text z) (sym h.0)
+            (subst (λ (t : List ℕ). TailBy arena side kept spot old new hears.bytes t
+            (Err (plays.Limit limit))) (append-nil text)
+            (stop_tail arena side m kept spot old new own (standing (dues.Ply m) e kept same) arms
+            are source left out between (Limit limit) hears (Err (plays.Limit limit))
+            (refl, refl, refl)))) codes_told;
       }
   reply_wrote m e own old new (Err fault) result source left out between taken hears h =
       let text = refused_text hears.refused in
@@ -229,15 +352,23 @@ module _ (one : AsksForOne) (fills : FillsLocal) (told : Option (List ℕ)) (are
         text = text;
         bytes = hears.bytes;
         lines = refused_lines hears.refused;
-        wrote = subst (λ (z : Result Turn PlayFault). WroteBy z text out taken) (sym h.0) (subst (λ (z : SinkTold). WroteBy {T = Turn} (Err fault) text out z) (sym h.1) (same_wrote Heard Turn fault text out between hears.wrote));
+        wrote = subst (λ (z : Result Turn PlayFault). WroteBy z text out taken) (sym h.0)
+            (subst (λ (z : SinkTold). WroteBy {T = Turn} (Err fault) text out z) (sym h.1)
+            (same_wrote Heard Turn fault text out between hears.wrote));
         took = hears.took;
         stays = hears.stays;
-        goes = some_of told (λ kept. cs ≡ map (arm_code side kept) arms) (λ kept. TailBy arena side kept spot old new hears.bytes text result) (λ kept same.
-            subst (λ (z : Result Turn PlayFault). TailBy arena side kept spot old new hears.bytes text z) (sym h.0)
-            (fault_tail arena side m kept spot own (standing (dues.Ply m) e kept same) fault (hears.fails fault refl) old new arms are source left out between hears)) codes_told;
+        goes = some_of told (λ kept. cs ≡ map (arm_code side kept) arms)
+            (λ kept. TailBy arena side kept spot old new hears.bytes text result) (λ kept same.
+            subst (λ (z : Result Turn PlayFault). TailBy arena side kept spot old new hears.bytes
+            text z) (sym h.0)
+            (fault_tail arena side m kept spot own (standing (dues.Ply m) e kept same) fault
+            (hears.fails fault refl) old new arms are source left out between hears)) codes_told;
       }
 
-  own_wrote : (m : Colour) → IsDue (dues.Ply m) → same_colour m side ≡ true → (old new : Reader) (result : Result Turn PlayFault) (source left : SourceTold) (out taken : SinkTold) → Unread old new source left → PlaysOwn spot arms cs result out taken → Tail told arena side spot old new result source left out taken
+  own_wrote : (m : Colour) → IsDue (dues.Ply m) → same_colour m side ≡ true
+      → (old new : Reader) (result : Result Turn PlayFault) (source left : SourceTold)
+      (out taken : SinkTold) → Unread old new source left → PlaysOwn spot arms cs result out taken
+      → Tail told arena side spot old new result source left out taken
   own_wrote m e own old new result source left out taken unread h =
       let place = h.0 in
       let a = h.3.0 in
@@ -249,32 +380,59 @@ module _ (one : AsksForOne) (fills : FillsLocal) (told : Option (List ℕ)) (are
         wrote = by_answers (turn_of a.next (get_or cs place 0)) text result out taken h.3.2;
         took = took_none source left (ap (λ (z : SourceTold). z.left) unread.1);
         stays = λ x. (refl, ap (λ (z : Reader). z.ended) unread.0 ∙ x);
-        goes = some_of told (λ kept. cs ≡ map (arm_code side kept) arms) (λ kept. TailBy arena side kept spot old new [] text result) (λ kept same.
+        goes = some_of told (λ kept. cs ≡ map (arm_code side kept) arms)
+            (λ kept. TailBy arena side kept spot old new [] text result) (λ kept same.
             subst (λ (z : Reader). TailBy arena side kept spot old z [] text result) (sym unread.0)
-            (own_tail one arena size finite side m spot old arms cs kept own are same (standing (dues.Ply m) e kept same) place h.1 a h.2 h.3.1 result out taken h.3.2)) codes_told;
+            (own_tail one arena size finite side m spot old arms cs kept own are same
+            (standing (dues.Ply m) e kept same) place h.1 a h.2 h.3.1 result out taken h.3.2))
+            codes_told;
       }
 
-  ply_wrote : (m : Colour) → IsDue (dues.Ply m) → (own : Bool) → same_colour m side ≡ own → (old new : Reader) (result : Result Turn PlayFault) (source left : SourceTold) (out taken : SinkTold) → PlaysPly own spot arms cs old new result source left out taken → Tail told arena side spot old new result source left out taken
-  ply_wrote m e true own old new result source left out taken h = own_wrote m e own old new result source left out taken h.0 h.1
+  ply_wrote : (m : Colour) → IsDue (dues.Ply m) → (own : Bool) → same_colour m side ≡ own
+      → (old new : Reader) (result : Result Turn PlayFault) (source left : SourceTold)
+      (out taken : SinkTold) → PlaysPly own spot arms cs old new result source left out taken
+      → Tail told arena side spot old new result source left out taken
+  ply_wrote m e true own old new result source left out taken h =
+      own_wrote m e own old new result source left out taken h.0 h.1
   ply_wrote m e false own old new result source left out taken h =
       reply_wrote m e own old new h.heard result source left out h.between taken h.hears h.after
 
-  tail_wrote : (due : Due) → IsDue due → (old new : Reader) (result : Result Turn PlayFault) (source left : SourceTold) (out taken : SinkTold) → IsPlayed side spot due arms cs old new result source left out taken → Tail told arena side spot old new result source left out taken
+  tail_wrote : (due : Due) → IsDue due → (old new : Reader) (result : Result Turn PlayFault)
+      (source left : SourceTold) (out taken : SinkTold)
+      → IsPlayed side spot due arms cs old new result source left out taken
+      → Tail told arena side spot old new result source left out taken
   tail_wrote (dues.Wrong given) e old new result source left out taken h =
-      let fault : PlayFault = plays.Line (faults.Wrong (record { side = side; number = spot.number; kept = spot.code; given = given })) in
-      over_wrote (dues.Wrong given) e (Wrong spot.number spot.code given) refl old new (Err fault) result source left out taken h.0 h.1.0 (inl refl) (untouched fault result out taken (took_nothing out) h.1.0 h.1.1) (refl, refl, refl)
+      let fault : PlayFault = plays.Line
+      (faults.Wrong (record {
+        side = side;
+        number = spot.number;
+        kept = spot.code;
+        given = given;
+      })) in
+      over_wrote (dues.Wrong given) e (Wrong spot.number spot.code given) refl old new
+      (Err fault) result source left out taken h.0 h.1.0 (inl refl)
+      (untouched fault result out taken (took_nothing out) h.1.0 h.1.1) (refl, refl, refl)
   tail_wrote dues.NoBound e old new result source left out taken h =
-      over_wrote dues.NoBound e NoBound refl old new (Err (plays.Line faults.NoBound)) result source left out taken h.0 h.1.0 (inl refl) (untouched (plays.Line faults.NoBound) result out taken (took_nothing out) h.1.0 h.1.1) (refl, refl, refl)
+      over_wrote dues.NoBound e NoBound refl old new (Err (plays.Line faults.NoBound)) result source
+      left out taken h.0 h.1.0 (inl refl)
+      (untouched (plays.Line faults.NoBound) result out taken (took_nothing out) h.1.0 h.1.1)
+      (refl, refl, refl)
   tail_wrote (dues.Mate m) e old new result source left out taken h =
-      ends_wrote (dues.Mate m) e (Mated m) refl old new ends.Mate result source left out taken h.0 (inr (codes "mate", refl)) refl h.1
+      ends_wrote (dues.Mate m) e (Mated m) refl old new ends.Mate result source left out taken h.0
+      (inr (codes "mate", refl)) refl h.1
   tail_wrote (dues.Stalemate m) e old new result source left out taken h =
-      ends_wrote (dues.Stalemate m) e (Stalemated m) refl old new ends.Stalemate result source left out taken h.0 (inr (codes "stalemate", refl)) refl h.1
+      ends_wrote (dues.Stalemate m) e (Stalemated m) refl old new ends.Stalemate result source left
+      out taken h.0 (inr (codes "stalemate", refl)) refl h.1
   tail_wrote dues.Cut e old new result source left out taken h = absurd h
   tail_wrote (dues.Ply m) e old new result source left out taken h =
       ply_wrote m e (same_colour m side) refl old new result source left out taken h
 
   -- what a turn wrote and took
-  pub turn_wrote : (due : Due) → IsDue due → (old new : Reader) (result : Result Turn PlayFault) (source left : SourceTold) (out mid taken : SinkTold) → TookText (opening side spot due) out mid → IsPlayed side spot due arms cs old new result source left mid taken → TurnWrote told arena side spot old new result source left out taken
+  pub turn_wrote : (due : Due) → IsDue due → (old new : Reader) (result : Result Turn PlayFault)
+      (source left : SourceTold) (out mid taken : SinkTold)
+      → TookText (opening side spot due) out mid
+      → IsPlayed side spot due arms cs old new result source left mid taken
+      → TurnWrote told arena side spot old new result source left out taken
   turn_wrote due e old new result source left out mid taken opened h =
       let t = tail_wrote due e old new result source left mid taken h in (
         opening side spot due ++ t.text,
@@ -283,6 +441,10 @@ module _ (one : AsksForOne) (fills : FillsLocal) (told : Option (List ℕ)) (are
         wrote_after (opening side spot due) t.text result out mid taken opened t.wrote,
         t.took,
         t.stays,
-        both told (λ kept. cs ≡ map (arm_code side kept) arms) (λ kept. TailBy arena side kept spot old new t.bytes t.text result) (λ kept. GoesBy arena side kept spot old new t.bytes (opening side spot due ++ t.text) result) (λ kept same tail.
-            opened_tail arena side kept spot due old new t.bytes t.text result (standing due e kept same) tail) codes_told t.goes,
+        both told (λ kept. cs ≡ map (arm_code side kept) arms)
+            (λ kept. TailBy arena side kept spot old new t.bytes t.text result)
+            (λ kept. GoesBy arena side kept spot old new t.bytes (opening side spot due ++ t.text)
+            result) (λ kept same tail.
+            opened_tail arena side kept spot due old new t.bytes t.text result
+            (standing due e kept same) tail) codes_told t.goes,
       )

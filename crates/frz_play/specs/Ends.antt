@@ -18,7 +18,8 @@ why_told (Limit limit) = Err (plays.Limit limit)
 -- this is answered at the end. No session is cut
 abbrev pub Tells : Colour → EndOfSession → Result SessionEnd PlayFault → Type 0
 Tells side (Wrong number kept given) answer =
-    answer ≡ Err (plays.Line (faults.Wrong (record { side = side; number = number; kept = kept; given = given })))
+    answer ≡ Err (plays.Line
+    (faults.Wrong (record { side = side; number = number; kept = kept; given = given })))
 Tells side NoBound answer = answer ≡ Err (plays.Line faults.NoBound)
 Tells side (Mated mover) answer = answer ≡ Ok ends.Mate
 Tells side (Stalemated mover) answer = answer ≡ Ok ends.Stalemate
@@ -30,9 +31,10 @@ Tells side (Stopped halt) answer = answer ≡ why_told halt.why
 abbrev pub StopsShort : Colour → EndOfSession → (rest : List ℕ) → Type 0
 StopsShort side end rest = (last : SessionEnd) → Tells side end (Ok last) → rest ≢ []
 
--- a session answers what its end tells, with all of its text written and all that it takes of the input taken; but for
--- a fault of the store, of the sink or of the input
-abbrev pub Finishes : Result SessionEnd PlayFault → Colour → EndOfSession → (rest unread : List ℕ) → Type 0
+-- a session answers what its end tells, with all of its text written and all that it takes of the
+-- input taken; but for a fault of the store, of the sink or of the input
+abbrev pub Finishes : Result SessionEnd PlayFault → Colour → EndOfSession → (rest unread : List ℕ)
+    → Type 0
 Finishes (Err (plays.Line faults.Store)) side end rest unread = StopsShort side end rest
 Finishes (Err (plays.Line faults.NoMemory)) side end rest unread = StopsShort side end rest
 Finishes (Err (plays.Line faults.Output)) side end rest unread = ⊤

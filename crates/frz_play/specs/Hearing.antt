@@ -45,7 +45,8 @@ TookTooLong old new =
 abbrev pub GaveLine : Result NextLine Failed → (line : List ℕ) → SourceTold → SourceTold → Type 0
 GaveLine (Ok Nothing) line old new = TookBytes [] old new × HasEnded new
 GaveLine (Ok Whole) line old new = IsOneLine line × TookBytes (line ++ 10 ∷ []) old new
-GaveLine (Ok Last) line old new = IsOneLine line × (line ≢ []) × TookBytes line old new × HasEnded new
+GaveLine (Ok Last) line old new =
+    IsOneLine line × (line ≢ []) × TookBytes line old new × HasEnded new
 GaveLine (Ok TooLong) line old new = TookTooLong old new
 GaveLine (Err fault) line old new = IsOneLine line × TookBytes line old new
 
@@ -79,12 +80,14 @@ left_by (Stop halt left) = left.left
 abbrev pub EndsWith : (end bytes : List ℕ) → Type 0
 EndsWith end bytes = (unread : List ℕ) × (unread ++ end ≡ bytes)
 
--- what the input gives to an opponent with these moves: a line, or why there is none; at a fault the rest of what it
--- takes is not taken yet
-abbrev pub IsLineHeard : List (Arm Step ℕ Value) → Answer Input Halt → (line rest : List ℕ) → (more : ℕ) →
+-- what the input gives to an opponent with these moves: a line, or why there is none; at a fault
+-- the rest of what it takes is not taken yet
+abbrev pub IsLineHeard : List (Arm Step ℕ Value) → Answer Input Halt → (line rest : List ℕ) →
+    (more : ℕ) →
     Result (Option Why) Failed → Type 0
 IsLineHeard arms answer line rest more (Ok None) =
-    answer ≡ reply_or (place_said arms line) (record { left = rest; more = more }) (reads arms more rest)
+    answer ≡ reply_or (place_said arms line) (record { left = rest; more = more })
+    (reads arms more rest)
 IsLineHeard arms answer line rest more (Ok (Some why)) =
     answer ≡ Stop (halted why) (record { left = rest; more = more })
 IsLineHeard arms answer line rest more (Err fault) = EndsWith (left_by answer) rest
@@ -96,7 +99,8 @@ AreFewer result old new = new ≡ old
 
 -- the next line was taken, whatever follows it
 pub record HearsLine
-    (old new : Reader) (result : Result (Option Why) Failed) (line : List ℕ) (source left : SourceTold) : Type 0 where
+    (old new : Reader) (result : Result (Option Why) Failed) (line : List ℕ)
+    (source left : SourceTold) : Type 0 where
   pub bytes : List ℕ
   pub took : TookBytes bytes source left
   pub ended : new.ended ≡ true → HasEnded left
@@ -110,7 +114,8 @@ abbrev pub refuse : ℕ → Answer Input Halt → Answer Input Halt
 refuse zero answer = answer
 refuse (suc n) answer = refuse_one (refuse n answer)
 
--- after so many refused lines the input gave what was heard; or it still gives something, of what is left
+-- after so many refused lines the input gave what was heard; or
+-- it still gives something, of what is left
 abbrev pub IsHeard : Answer Input Halt → (n : ℕ) → Result Heard PlayFault → Input → Type 0
 IsHeard answer n (Ok (heard.Reply place)) left = answer ≡ Reply n place left
 IsHeard answer n (Ok (heard.Stop why)) left = answer ≡ Stop (record { refused = n; why = why }) left
@@ -133,7 +138,8 @@ MayFail fault = (fault ≡ plays.Input) ⊎ (fault ≡ plays.Line faults.Output)
 
 -- so many lines were refused and these bytes taken, whatever follows them
 pub record Hears
-    (arms : List (Arm Step ℕ Value)) (old new : Reader) (result : Result Heard PlayFault) (source left : SourceTold)
+    (arms : List (Arm Step ℕ Value)) (old new : Reader) (result : Result Heard PlayFault)
+    (source left : SourceTold)
     (out taken : SinkTold) : Type 0 where
   pub refused : ℕ
   pub bytes : List ℕ
@@ -144,4 +150,5 @@ pub record Hears
   pub fewer : LeavesFewer result old.more new.more
   pub fails : (fault : PlayFault) → result ≡ Err fault → MayFail fault
   pub heard : (rest : List ℕ) → MayFollow new rest →
-      IsHeard (reads arms old.more (bytes ++ rest)) refused result (record { left = rest; more = new.more })
+      IsHeard (reads arms old.more (bytes ++ rest)) refused result
+      (record { left = rest; more = new.more })

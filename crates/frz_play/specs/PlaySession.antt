@@ -16,8 +16,8 @@ use Rattle.frz_play.specs.Reading.{Input}
 use Rattle.frz_play.specs.Sessions.{SessionPly, EndOfSession, IsSession}
 use Rattle.frz_play.specs.Texts.{session_text}
 
--- how much of a session was played: its text begins with what was written, what it takes of the input begins with
--- what was taken, and both are all of it at an end of its own
+-- how much of a session was played: its text begins with what was written, what it takes of the
+-- input begins with what was taken, and both are all of it at an end of its own
 pub record PlayedOf
     (side : Colour) (code : ℕ) (input bytes text : List ℕ) (result : Result SessionEnd PlayFault)
     (plies : List SessionPly) (end : EndOfSession) (left : Input) : Type 0 where
@@ -27,9 +27,9 @@ pub record PlayedOf
   pub takes : bytes ++ (unread ++ left.left) ≡ input
   pub finishes : Finishes result side end rest unread
 
--- the text and the bytes are those of the session from the position's number against the input; the code of the start
--- is read once, and at each number that the session comes to the moves are made once, and the code is read once of each
--- that stays inside
+-- the text and the bytes are those of the session from the position's number against the input; the
+-- code of the start is read once, and at each number that the session comes to the moves are made
+-- once, and the code is read once of each that stays inside
 abbrev pub TellsSession : RuleLines → Colour → List ℕ → Board → (input bytes text : List ℕ) →
     Result SessionEnd PlayFault → (before now : Spent) → Type 0
 TellsSession rules side codes p input bytes text result before now =
@@ -37,4 +37,5 @@ TellsSession rules side codes p input bytes text result before now =
     (plies : List SessionPly) (end : EndOfSession) (left : Input) →
     IsSession rules (value_by rules) side codes (Num rules.groups p) input plies end left →
     PlayedOf side (slice_index codes (Num rules.groups p)) input bytes text result plies end left
-    × SpendsAt (graph_by rules (value_by rules)) 1 (way_numbers (Inside (Num rules.groups p)) plies) before now
+    × SpendsAt (graph_by rules (value_by rules)) 1 (way_numbers (Inside (Num rules.groups p)) plies)
+    before now

@@ -67,14 +67,15 @@ abbrev pub reply_or : Option ℕ → Input → (next : Answer Input Halt) → An
 reply_or (Some place) left next = Reply 0 place left
 reply_or None left next = refuse_one next
 
--- what the input gives to an opponent with these moves: first the limit of lines is tried, then the end, then the
--- length of the line
+-- what the input gives to an opponent with these moves: first the limit of lines is tried, then the
+-- end, then the length of the line
 abbrev pub reads : List (Arm Step ℕ Value) → (more : ℕ) → (left : List ℕ) → Answer Input Halt
 reads arms zero left = Stop (halted (Limit Lines)) (record { left = left; more = 0 })
 reads arms (suc more) [] = Stop (halted Ended) (record { left = []; more = suc more })
 reads arms (suc more) (b ∷ bs) =
     if nat_lt MOST_LENGTH (line_length (b ∷ bs))
-    then Stop (halted (Limit LineLength)) (record { left = drop (MOST_LENGTH + 1) (b ∷ bs); more = suc more })
+    then Stop (halted (Limit LineLength))
+    (record { left = drop (MOST_LENGTH + 1) (b ∷ bs); more = suc more })
     else reply_or (place_said arms (first_line (b ∷ bs)))
     (record { left = behind_line (b ∷ bs); more = more })
     (reads arms more (behind_line (b ∷ bs)))

@@ -1,4 +1,5 @@
--- The session of a side over its kept codes against an input: its plies, its end, and what is left of the input.
+-- The session of a side over its kept codes against an input:
+-- its plies, its end, and what is left of the input.
 use Rattle.std.specs.Prelude.{ℕ, List, slice_index}
 use Rattle.frz_board.specs.declared.man.Colour.{Colour}
 use Rattle.frz_board.specs.Boards.{Board}
@@ -26,14 +27,18 @@ session_player arena side codes = record {
   opponent = ByInput (λ i input. reads (arena.arms i) input.more input.left);
 }
 
--- after so many plies the session goes on from the number and this input with these plies to this end, and leaves this
-abbrev pub GoesOn : Arena Step ℕ Value → Colour → List ℕ → (played : ℕ) → Input → (number : ℕ) → List SessionPly →
+-- after so many plies the session goes on from the number and
+-- this input with these plies to this end, and leaves this
+abbrev pub GoesOn : Arena Step ℕ Value → Colour → List ℕ → (played : ℕ) → Input → (number : ℕ) →
+    List SessionPly →
     EndOfSession → Input → Type 0
 GoesOn arena side codes played input number plies end left =
     IsWay (session_player arena side codes) played input number plies end left
 
--- the session of the side from the number, in the game of the rules with these values outside its set
-abbrev pub IsSession : RuleLines → (Board → Value) → Colour → List ℕ → (start : ℕ) → (input : List ℕ) →
+-- the session of the side from the number, in the game of the
+-- rules with these values outside its set
+abbrev pub IsSession : RuleLines → (Board → Value) → Colour → List ℕ → (start : ℕ) →
+    (input : List ℕ) →
     List SessionPly → EndOfSession → Input → Type 0
 IsSession rules value side codes start input plies end left =
     GoesOn (graph_by rules value) side codes 0 (opened input) start plies end left

@@ -1,4 +1,5 @@
--- The text of a session: the bound of its start, its plies and the lines that were refused, and its end.
+-- The text of a session: the bound of its start, its plies and
+-- the lines that were refused, and its end.
 use Rattle.std.specs.Prelude.{ℕ, zero, suc, List, [], ◌∷◌, ◌++◌, codes, if◌then◌else◌}
 use Rattle.frz_board.specs.declared.man.Colour.{Colour}
 use Rattle.frz_board.specs.Men.{same_colour}
@@ -47,4 +48,5 @@ start_line side code plies end = kept_line side code
 
 -- of a session from a start with this kept code
 abbrev pub session_text : Colour → ℕ → List SessionPly → EndOfSession → List ℕ
-session_text side code plies end = start_line side code plies end ++ (plies_text side plies ++ end_text end)
+session_text side code plies end =
+    start_line side code plies end ++ (plies_text side plies ++ end_text end)

@@ -64,21 +64,24 @@ Answers turn text result old new =
     ⊎ ((result ≡ Err (plays.Line faults.Output)) × FailedWithin text old new)
 
 -- the move at this place was played, and written behind this word
-abbrev pub PlaysAt : (word : List ℕ) → (place : ℕ) → List (Arm Step ℕ Value) → List ℕ → Result Turn PlayFault →
+abbrev pub PlaysAt : (word : List ℕ) → (place : ℕ) → List (Arm Step ℕ Value) → List ℕ →
+    Result Turn PlayFault →
     SinkTold → SinkTold → Type 0
 PlaysAt word place arms cs result old new =
     (a : Arm Step ℕ Value) × (slice_get arms place ≡ Some a)
     × Answers (turn_of a.next (get_or cs place 0)) (moved_text word a) result old new
 
 -- the move that the kept code asks for
-abbrev pub PlaysOwn : Spot → List (Arm Step ℕ Value) → List ℕ → Result Turn PlayFault → SinkTold → SinkTold → Type 0
+abbrev pub PlaysOwn : Spot → List (Arm Step ℕ Value) → List ℕ → Result Turn PlayFault → SinkTold
+    → SinkTold → Type 0
 PlaysOwn spot arms cs result old new =
     (place : ℕ) × (x : Choice)
     × IsFound has_code (is_win spot.code) spot.code (choices_by true arms cs) place x
     × PlaysAt (codes "move ") place arms cs result old new
 
 -- what was heard is done
-abbrev pub AfterHeard : List (Arm Step ℕ Value) → List ℕ → Result Heard PlayFault → Result Turn PlayFault → SinkTold →
+abbrev pub AfterHeard : List (Arm Step ℕ Value) → List ℕ → Result Heard PlayFault →
+    Result Turn PlayFault → SinkTold →
     SinkTold → Type 0
 AfterHeard arms cs (Ok (heard.Reply place)) result old new =
     PlaysAt (codes "reply ") place arms cs result old new
@@ -90,7 +93,8 @@ AfterHeard arms cs (Err fault) result old new = (result ≡ Err fault) × (new �
 
 -- the reply of the opponent
 pub record PlaysReply
-    (arms : List (Arm Step ℕ Value)) (cs : List ℕ) (old new : Reader) (result : Result Turn PlayFault)
+    (arms : List (Arm Step ℕ Value)) (cs : List ℕ) (old new : Reader)
+    (result : Result Turn PlayFault)
     (source left : SourceTold) (out taken : SinkTold) : Type 0 where
   pub heard : Result Heard PlayFault
   pub between : SinkTold
@@ -116,7 +120,8 @@ Stops fault result old new = (result ≡ Err fault) × (new ≡ old)
 -- the kept code of the spot is not the local one, which is this
 abbrev pub wrong_at : Colour → Spot → (given : ℕ) → PlayFault
 wrong_at side spot given =
-    plays.Line (faults.Wrong (record { side = side; number = spot.number; kept = spot.code; given = given }))
+    plays.Line (faults.Wrong
+    (record { side = side; number = spot.number; kept = spot.code; given = given }))
 
 -- what is due was done, with these moves and their codes. No session is cut
 abbrev pub IsPlayed : Colour → Spot → Due → List (Arm Step ℕ Value) → List ℕ → Reader → Reader →
@@ -129,7 +134,8 @@ IsPlayed side spot dues.NoBound arms cs old new result source left out taken =
 IsPlayed side spot (dues.Mate mover) arms cs old new result source left out taken =
     Unread old new source left × Answers (Over ends.Mate) (codes "mate\n") result out taken
 IsPlayed side spot (dues.Stalemate mover) arms cs old new result source left out taken =
-    Unread old new source left × Answers (Over ends.Stalemate) (codes "stalemate\n") result out taken
+    Unread old new source left × Answers (Over ends.Stalemate) (codes "stalemate\n") result out
+    taken
 IsPlayed side spot dues.Cut arms cs old new result source left out taken = ⊥
 IsPlayed side spot (dues.Ply mover) arms cs old new result source left out taken =
     PlaysPly (same_colour mover side) spot arms cs old new result source left out taken
@@ -138,7 +144,8 @@ IsPlayed side spot (dues.Ply mover) arms cs old new result source left out taken
 abbrev pub HasMove : Colour → Spot → Due → List (Arm Step ℕ Value) → List ℕ → Type 0
 HasMove side spot (dues.Ply mover) arms cs =
     (i : ℕ) × (x : Choice)
-    × IsFound has_code (is_win spot.code) spot.code (choices_by (same_colour mover side) arms cs) i x
+    × IsFound has_code (is_win spot.code) spot.code (choices_by (same_colour mover side) arms cs) i
+    x
 HasMove side spot due arms cs = ⊤
 
 -- one where the side is to move
@@ -151,7 +158,8 @@ abbrev pub session_left : Arena Step ℕ Value → Colour → (more number : ℕ
 session_left arena side more number = 2 * more + own_turn side (arena.node number)
 
 -- a ply leads to a number of the set, whose code is no failure, and leaves less to do
-abbrev pub TurnsTo : Arena Step ℕ Value → (size : ℕ) → Colour → Spot → Reader → Reader → Turn → Type 0
+abbrev pub TurnsTo : Arena Step ℕ Value → (size : ℕ) → Colour → Spot → Reader → Reader → Turn
+    → Type 0
 TurnsTo arena size side spot old new (Over end) = ⊤
 TurnsTo arena size side spot old new (On number code) =
     (number < size) × (is_failure code ≡ false)
@@ -163,33 +171,42 @@ rest_text side spot plies end =
     (if spot.is_start then start_line side spot.code plies end else [])
     ++ (plies_text side plies ++ end_text end)
 
--- how a turn leaves a session: it goes on behind its first ply, which leads to this number, or it finished
-abbrev pub Leaves : Arena Step ℕ Value → Colour → List ℕ → (played : ℕ) → Input → List SessionPly → EndOfSession →
+-- how a turn leaves a session: it goes on behind its first ply,
+-- which leads to this number, or it finished
+abbrev pub Leaves : Arena Step ℕ Value → Colour → List ℕ → (played : ℕ) → Input → List SessionPly →
+    EndOfSession →
     (last : Input) → (rest : List ℕ) → Result Turn PlayFault → Type 0
 Leaves arena side kept played left plies end last rest (Ok (On number code)) =
     (slice_index kept number ≡ code)
-    × ((first : SessionPly) × (others : List SessionPly) × (plies ≡ first ∷ others) × (first.arm.next ≡ Inside number)
+    × ((first : SessionPly) × (others : List SessionPly) × (plies ≡ first ∷ others)
+    × (first.arm.next ≡ Inside number)
     × GoesOn arena side kept (suc played) left number others end last
     × (rest ≡ plies_text side others ++ end_text end))
 Leaves arena side kept played left plies end last rest (Ok (Over answer)) =
-    (unread : List ℕ) × (unread ++ last.left ≡ left.left) × Finishes (Ok answer) side end rest unread
+    (unread : List ℕ) × (unread ++ last.left ≡ left.left)
+    × Finishes (Ok answer) side end rest unread
 Leaves arena side kept played left plies end last rest (Err fault) =
-    (unread : List ℕ) × (unread ++ last.left ≡ left.left) × Finishes (Err fault) side end rest unread
+    (unread : List ℕ) × (unread ++ last.left ≡ left.left)
+    × Finishes (Err fault) side end rest unread
 
 -- the text and the bytes are what the turn adds to each session that goes on from here
-abbrev pub GoesBy : Arena Step ℕ Value → Colour → List ℕ → Spot → (old new : Reader) → (bytes text : List ℕ) →
+abbrev pub GoesBy : Arena Step ℕ Value → Colour → List ℕ → Spot → (old new : Reader) →
+    (bytes text : List ℕ) →
     Result Turn PlayFault → Type 0
 GoesBy arena side kept spot old new bytes text result =
     slice_index kept spot.number ≡ spot.code →
     (played : ℕ) → (played == 0) ≡ spot.is_start →
     (left : List ℕ) → MayFollow new left →
     (plies : List SessionPly) (end : EndOfSession) (last : Input) →
-    GoesOn arena side kept played (record { left = bytes ++ left; more = old.more }) spot.number plies end last →
+    GoesOn arena side kept played (record { left = bytes ++ left; more = old.more }) spot.number
+    plies end last →
     (rest : List ℕ) × (text ++ rest ≡ rest_text side spot plies end)
-    × Leaves arena side kept played (record { left = left; more = new.more }) plies end last rest result
+    × Leaves arena side kept played (record { left = left; more = new.more }) plies end last rest
+    result
 
 -- the same of all turns from the start, against some input that may be the one that is told
-abbrev pub Plays : Arena Step ℕ Value → Colour → List ℕ → (start code : ℕ) → SourceTold → (bytes text : List ℕ) →
+abbrev pub Plays : Arena Step ℕ Value → Colour → List ℕ → (start code : ℕ) → SourceTold →
+    (bytes text : List ℕ) →
     Result SessionEnd PlayFault → (before now : Spent) → Type 0
 Plays arena side kept start code source bytes text result before now =
     (input : List ℕ) × MayHold source input

@@ -28,9 +28,9 @@ use frz_table::TableFile;
 use std::sync::ledger::Ledger;
 
 /// Plays the side from the position against the input, and writes the session as it is played: the
-/// bound of its kept code, the moves of the side, which goes by its kept codes, the replies, and the
-/// end. The input is taken byte by byte, and nothing behind the last line of the session. With a
-/// fault the lines before it were written, and the line that names it is the caller's.
+/// bound of its kept code, the moves of the side, which goes by its kept codes, the replies, and
+/// the end. The input is taken byte by byte, and nothing behind the last line of the session. With
+/// a fault the lines before it were written, and the line that names it is the caller's.
 pub fn play_session<S: Store, I: Source, O: Sink, L: Ledger>(
     table: &TableFile,
     store: &mut S,

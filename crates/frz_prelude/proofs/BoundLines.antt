@@ -10,11 +10,13 @@ use Rattle.frz_prelude.specs.BoundLines.{bound_text, kept_words}
 -- the words by the tests of the code
 words_by : Bool → Bool → ℕ → List ℕ
 words_by one win plies =
-    if one then codes " holds" else (if win then codes " wins within " ++ decimal plies else codes " none")
+    if one then codes " holds"
+    else (if win then codes " wins within " ++ decimal plies else codes " none")
 
 by_tests : (one win : Bool) (plies : ℕ) (a b : Bool) (n : ℕ) → one ≡ a → win ≡ b → plies ≡ n →
     words_by one win plies ≡ words_by a b n
-by_tests one win plies a b n e f g = ap (λ t. words_by t win plies) e ∙ ap (λ t. words_by a t plies) f ∙ ap (words_by a b) g
+by_tests one win plies a b n e f g =
+    ap (λ t. words_by t win plies) e ∙ ap (λ t. words_by a t plies) f ∙ ap (words_by a b) g
 
 words_are : (c : ℕ) → kept_words c ≡ words_by (c == 1) (is_win c) ((c - 2) / 2)
 unfolding words_by
@@ -45,7 +47,8 @@ no_win_code m = grind (arith, nat_tests)
 
 pub kept_bound : (b : Bound) → kept_words (code_of b) ≡ bound_text b
 kept_bound (Wins n) =
-    words_are (2 + 2 * n) ∙ by_tests _ _ _ false true n (more_than_one n) (win_code n) (win_plies n) ∙ wins_said n
+    words_are (2 + 2 * n) ∙ by_tests _ _ _ false true n (more_than_one n) (win_code n) (win_plies n)
+    ∙ wins_said n
 kept_bound Holds = refl
 kept_bound (Fails m) =
     words_are (3 + 2 * m) ∙ by_tests _ _ _ false false _ (far_from_one m) (no_win_code m) refl

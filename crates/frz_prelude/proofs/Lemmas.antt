@@ -1,6 +1,19 @@
 -- The lemmas that the crates above cite.
 pub use Rattle.frz_prelude.proofs.BoundLines.{kept_bound}
 pub use Rattle.frz_prelude.proofs.Held.{Holding, holding, of_rules}
-pub use Rattle.frz_prelude.proofs.OpenedTables.{IsOfBytes, of_bytes, opened_missing, table_cause, table_own}
+pub use Rattle.frz_prelude.proofs.OpenedTables.{
+  IsOfBytes,
+  of_bytes,
+  opened_missing,
+  table_cause,
+  table_own,
+}
 pub use Rattle.frz_prelude.proofs.Positions.{as_read, fen_lawful}
-pub use Rattle.frz_prelude.proofs.Stopping.{MayStop, StopsWith, ended, found_where, may_stop, refusal_said}
+pub use Rattle.frz_prelude.proofs.Stopping.{
+  MayStop,
+  StopsWith,
+  ended,
+  found_where,
+  may_stop,
+  refusal_said,
+}

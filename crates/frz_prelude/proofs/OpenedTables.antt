@@ -28,11 +28,13 @@ abbrev OfBytes : Result Contents TableFault → Type 0
 OfBytes (Ok contents) = ⊤
 OfBytes (Err fault) = IsOfBytes fault
 
-either : (b : Bool) (x y : Result Contents TableFault) → OfBytes x → OfBytes y → OfBytes (if b then x else y)
+either : (b : Bool) (x y : Result Contents TableFault) → OfBytes x → OfBytes y
+    → OfBytes (if b then x else y)
 either true x y h k = h
 either false x y h k = k
 
-by_length : (bytes : List ℕ) (contents : Contents) (due : ℕ) → OfBytes (of_length bytes contents due)
+by_length : (bytes : List ℕ) (contents : Contents) (due : ℕ)
+    → OfBytes (of_length bytes contents due)
 by_length bytes contents due =
     either (nat_lt (length bytes) due) (Err (Truncated (length bytes) due))
     (if nat_lt due (length bytes) then Err (Extra (length bytes) due) else Ok contents) tt
@@ -40,29 +42,37 @@ by_length bytes contents due =
 
 by_size : (bytes : List ℕ) (contents : Contents) (size : ℕ) → OfBytes (of_size bytes contents size)
 by_size bytes contents size =
-    either (kept_size bytes == size) (of_length bytes contents (due_length contents.text size)) (Err (Size (kept_size bytes) size))
+    either (kept_size bytes == size) (of_length bytes contents (due_length contents.text size))
+    (Err (Size (kept_size bytes) size))
     (by_length bytes contents (due_length contents.text size)) tt
 
-by_rules : (format : Format) (bytes : List ℕ) (read : Result RuleLines RulesFault) → OfBytes (with_rules format bytes read)
-by_rules format bytes (Ok rules) = by_size bytes (record { text = kept_text bytes; rules = rules }) (format.size rules)
+by_rules : (format : Format) (bytes : List ℕ) (read : Result RuleLines RulesFault)
+    → OfBytes (with_rules format bytes read)
+by_rules format bytes (Ok rules) =
+    by_size bytes (record { text = kept_text bytes; rules = rules }) (format.size rules)
 by_rules format bytes (Err fault) = tt
 
 by_text : (format : Format) (bytes : List ℕ) → OfBytes (with_text format bytes)
 by_text format bytes =
-    either (nat_lt (length bytes) (16 + kept_length bytes)) (Err (Truncated (length bytes) (16 + kept_length bytes)))
-    (with_rules format bytes (format.read (kept_text bytes))) tt (by_rules format bytes (format.read (kept_text bytes)))
+    either (nat_lt (length bytes) (16 + kept_length bytes))
+    (Err (Truncated (length bytes) (16 + kept_length bytes)))
+    (with_rules format bytes (format.read (kept_text bytes))) tt
+    (by_rules format bytes (format.read (kept_text bytes)))
 
 by_magic : (format : Format) (bytes : List ℕ) → OfBytes (with_magic format bytes)
 by_magic format bytes =
     either (bytes_eq (take 8 bytes) format.magic) (with_length format bytes) (Err Magic)
-    (either (nat_lt 65536 (kept_length bytes)) (Err (Rules (record { line = 0; cause = TooLong }))) (with_text format bytes) tt (by_text format bytes)) tt
+    (either (nat_lt 65536 (kept_length bytes)) (Err (Rules (record { line = 0; cause = TooLong })))
+    (with_text format bytes) tt (by_text format bytes)) tt
 
 by_bytes : (format : Format) (bytes : List ℕ) → OfBytes (opened format (Some bytes))
 unfolding opened
 by_bytes format bytes =
-    either (nat_lt (length bytes) 16) (Err (Truncated (length bytes) 16)) (with_magic format bytes) tt (by_magic format bytes)
+    either (nat_lt (length bytes) 16) (Err (Truncated (length bytes) 16)) (with_magic format bytes)
+    tt (by_magic format bytes)
 
-pub of_bytes : (format : Format) (bytes : List ℕ) (fault : TableFault) → opened format (Some bytes) ≡ Err fault → IsOfBytes fault
+pub of_bytes : (format : Format) (bytes : List ℕ) (fault : TableFault)
+    → opened format (Some bytes) ≡ Err fault → IsOfBytes fault
 of_bytes format bytes fault e = subst OfBytes e (by_bytes format bytes)
 
 pub opened_missing : (format : Format) → opened format None ≡ Err Missing
@@ -71,18 +81,22 @@ opened_missing format = refl
 
 -- a table that was not opened stops a job with the cause of its fault
 pub table_cause : (T A : Type 0) (fault : TableFault) (old new : StoreTold)
-    → TableCauses {T = T} old.faults new.faults old.wants new.wants (Err fault) → HasItsCause {A = A} (Err (stop_of_table fault)) old new
+    → TableCauses {T = T} old.faults new.faults old.wants new.wants (Err fault)
+    → HasItsCause {A = A} (Err (stop_of_table fault)) old new
 table_cause T A Missing old new h = record { faults = h.refused; wants = h.wants_refused }
 table_cause T A Magic old new h = record { faults = h.refused; wants = h.wants_refused }
-table_cause T A (Truncated length due) old new h = record { faults = h.refused; wants = h.wants_refused }
-table_cause T A (Extra length due) old new h = record { faults = h.refused; wants = h.wants_refused }
+table_cause T A (Truncated length due) old new h =
+    record { faults = h.refused; wants = h.wants_refused }
+table_cause T A (Extra length due) old new h =
+    record { faults = h.refused; wants = h.wants_refused }
 table_cause T A (Rules fault) old new h = record { faults = h.refused; wants = h.wants_refused }
 table_cause T A (Size kept due) old new h = record { faults = h.refused; wants = h.wants_refused }
 table_cause T A Failed old new h = h.failed refl
 table_cause T A NoMemory old new h = tt
 
 -- the status is one of these two
-pub table_own : (fault : TableFault) (own : List Status) → OneOf statuses.Missing own → OneOf statuses.Table own → OneOf (table_status fault) own
+pub table_own : (fault : TableFault) (own : List Status) → OneOf statuses.Missing own
+    → OneOf statuses.Table own → OneOf (table_status fault) own
 table_own Missing own missing table = missing
 table_own Magic own missing table = table
 table_own (Truncated length due) own missing table = table

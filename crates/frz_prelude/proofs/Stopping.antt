@@ -76,10 +76,12 @@ refusal_said refusals.Outside e = cc
 pub as_said : (s t : Status) (x y : List ℕ) (end : End) (old new : SinkTold) → s ≡ t → x ≡ y
     → Said s x end old new → Said t y end old new
 as_said s t x y end old new e f h =
-    subst (λ (status : Status). Said status y end old new) e (subst (λ (text : List ℕ). Said s text end old new) f h)
+    subst (λ (status : Status). Said status y end old new) e
+    (subst (λ (text : List ℕ). Said s text end old new) f h)
 
 -- the files over which a job answers that reads them
-abbrev pub found_where : (job : Job) (m files : Files) (input : List ℕ) (old : World) → (job.needs.reads ≡ Never → ⊥)
+abbrev pub found_where : (job : Job) (m files : Files) (input : List ℕ) (old : World)
+    → (job.needs.reads ≡ Never → ⊥)
     → IfSome old.store.files (λ told. told ≡ m) → Agrees old files input → Found job files input old
 found_where job m files input old reads there agrees = record {
   files = m;
@@ -96,30 +98,40 @@ MayStop job (Fault fault) old new = MayMeet job fault old new
 
 -- the refusal is an answer, or there is some answer, where a fault stopped the job
 abbrev pub StopsWith : Job → Stop → Files → List ℕ → World → World → Type 0
-StopsWith job (Refused why) files input old new = SaysAll job (status_of why) (refusal_line why) files input old new
+StopsWith job (Refused why) files input old new =
+    SaysAll job (status_of why) (refusal_line why) files input old new
 StopsWith job (Fault fault) files input old new = Begun job files input old new
 
-pub ended : (job : Job) (stop : Stop) (end : End) (old mid : World) (out : SinkTold) → Quiet old mid → MayStop job stop old mid → EndsBy stop end mid.out out
-    → (Sees job.needs.reads old → (files : Files) (input : List ℕ) → Agrees old files input → StopsWith job stop files input old mid)
+pub ended : (job : Job) (stop : Stop) (end : End) (old mid : World) (out : SinkTold) → Quiet old mid
+    → MayStop job stop old mid → EndsBy stop end mid.out out
+    → (Sees job.needs.reads old → (files : Files) (input : List ℕ) → Agrees old files input
+    → StopsWith job stop files input old mid)
     → Ran job end old (record mid { out = out })
 ended job (Refused why) end old mid out quiet may ends answers =
     said job (status_of why) (refusal_line why) end old mid out quiet may.1 may.0 ends answers
 ended job (Fault fault) end old mid out quiet may ends answers =
     subst (λ (o : SinkTold). Ran job end old (record mid { out = o })) (sym ends.1)
-    (subst (λ (e : End). Ran job e old mid) (sym ends.0) (stopped job fault old mid quiet may answers))
+    (subst (λ (e : End). Ran job e old mid) (sym ends.0)
+    (stopped job fault old mid quiet may answers))
 
 -- where only memory was wanted, and the store had not failed
-pub own_cause : {A : Type 0} (result : Result A Stop) (old new : StoreTold) → WantsMemoryAlone result → StoreFine old new → HasItsCause result old new
+pub own_cause : {A : Type 0} (result : Result A Stop) (old new : StoreTold)
+    → WantsMemoryAlone result → StoreFine old new → HasItsCause result old new
 own_cause {A} (Ok x) old new wants fine = fine
 own_cause {A} (Err (Refused why)) old new wants fine = fine
 own_cause {A} (Err (Fault fault)) old new wants fine =
     subst (λ (f : Faults). HasItsCause {A = A} (Err (Fault f)) old new) (sym wants) tt
 
 -- a call of the store that was stopped may stop a job that uses the store and memory
-pub may_stop : (A : Type 0) (job : Job) (stop : Stop) (old new : StoreTold) (input : SourceTold) (out : SinkTold) (before now : ℕ)
-    → IsTrue job.needs.store → IsTrue job.needs.memory → ((why : Refusal) → stop ≡ Refused why → OneOf (status_of why) job.statuses)
-    → HasItsCause {A = A} (Err stop) old new → MayStop job stop (world old input out before) (world new input out now)
-may_stop A job (Refused why) old new input out before now asks wants own cause = (own why refl, fine_store old new input out before now cause)
-may_stop A job (Fault faults.Store) old new input out before now asks wants own cause = (asks, cause)
+pub may_stop : (A : Type 0) (job : Job) (stop : Stop) (old new : StoreTold) (input : SourceTold)
+    (out : SinkTold) (before now : ℕ)
+    → IsTrue job.needs.store → IsTrue job.needs.memory
+    → ((why : Refusal) → stop ≡ Refused why → OneOf (status_of why) job.statuses)
+    → HasItsCause {A = A} (Err stop) old new → MayStop job stop (world old input out before)
+    (world new input out now)
+may_stop A job (Refused why) old new input out before now asks wants own cause =
+    (own why refl, fine_store old new input out before now cause)
+may_stop A job (Fault faults.Store) old new input out before now asks wants own cause =
+    (asks, cause)
 may_stop A job (Fault faults.Input) old new input out before now asks wants own cause = absurd cause
 may_stop A job (Fault faults.NoMemory) old new input out before now asks wants own cause = wants

@@ -46,4 +46,5 @@ rules_cause rules.TooManyLines = codes "too many lines"
 rules_cause (rules.SetTooBig numbers) = codes "set too big " ++ decimal numbers
 
 abbrev pub rules_line : RulesFault → List ℕ
-rules_line fault = codes "rules " ++ decimal fault.line ++ codes ": " ++ rules_cause fault.cause ++ codes "\n"
+rules_line fault =
+    codes "rules " ++ decimal fault.line ++ codes ": " ++ rules_cause fault.cause ++ codes "\n"

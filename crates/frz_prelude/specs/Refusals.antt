@@ -37,4 +37,5 @@ refusal_line Outside = codes "outside\n"
 
 -- to refuse what the words name
 abbrev pub refusing_named : Refused → Job
-refusing_named why = plain (status_of why ∷ []) (λ files input a. a ≡ says (status_of why) (refusal_line why) files)
+refusing_named why =
+    plain (status_of why ∷ []) (λ files input a. a ≡ says (status_of why) (refusal_line why) files)

@@ -1,5 +1,5 @@
--- What a store's name holds as a rules file, how many bytes are asked of it in how many calls, and the
--- rules that it gives.
+-- What a store's name holds as a rules file, how many bytes are
+-- asked of it in how many calls, and the rules that it gives.
 use Rattle.std.specs.Prelude.{◌≡◌, ℕ, ◌<◌, ◌≤◌, ◌+◌, List, length, Option, Some, None, IsSomeAnd, IfSome, Result, Ok, Err, nat_lt, ⊤, if◌then◌else◌}
 use Rattle.frz_rules.specs.declared.fault.TheConstants.{LONGEST_TEXT}
 use Rattle.frz_rules.specs.declared.fault.RulesFault.{RulesFault}
@@ -51,25 +51,28 @@ abbrev pub rules_held : Option (List ℕ) → Result RuleLines Refusal
 rules_held None = Err MissingRules
 rules_held (Some text) = or_fault (rules_of text)
 
--- the text is what the name holds, with its rules; or it holds none, for this reason. Nothing is said where a fault
--- stopped the call
+-- the text is what the name holds, with its rules; or it holds none, for this reason. Nothing is
+-- said where a fault stopped the call
 abbrev pub GivesText : Option (List ℕ) → Result RulesText Stop → Type 0
-GivesText held (Ok read) = (held ≡ Some read.text.items) × (rules_of read.text.items ≡ Ok read.rules)
+GivesText held (Ok read) =
+    (held ≡ Some read.text.items) × (rules_of read.text.items ≡ Ok read.rules)
 GivesText held (Err (Refused why)) = rules_held held ≡ Err why
 GivesText held (Err (Fault fault)) = ⊤
 
--- the text and the rules are those of the name in some files, which are those that the store tells where it does, and
--- no more was asked of the store than they need
-pub record IsTextRead (name : List ℕ) (result : Result RulesText Stop) (old new : StoreTold) : Type 0 where
+-- the text and the rules are those of the name in some files, which are those that the store tells
+-- where it does, and no more was asked of the store than they need
+pub record IsTextRead (name : List ℕ) (result : Result RulesText Stop)
+    (old new : StoreTold) : Type 0 where
   pub files : Files
   pub agrees : IfSome old.files (λ told. told ≡ files)
   pub due : GivesText (files name) result
   pub asked : new.asked ≤ old.asked + asked_of (files name)
   pub calls : new.calls ≤ old.calls + (1 + reads_of (files name))
 
--- the answer is that of the name in some files, which are those that the store tells where it does, and no more was
--- asked of the store than they need
-pub record IsRead (name : List ℕ) (result : Result RuleLines Stop) (old new : StoreTold) : Type 0 where
+-- the answer is that of the name in some files, which are those that the store tells where it does,
+-- and no more was asked of the store than they need
+pub record IsRead (name : List ℕ) (result : Result RuleLines Stop)
+    (old new : StoreTold) : Type 0 where
   pub files : Files
   pub agrees : IfSome old.files (λ told. told ≡ files)
   pub due : Answers result (rules_held (files name))

@@ -10,12 +10,13 @@ use Rattle.frz_prelude.specs.Causes.{rules_line}
 abbrev pub due_text : ℕ → List ℕ
 due_text due = codes " due " ++ decimal due ++ codes "\n"
 
--- the word names the file: `table`, or `back` for a table that another leans on. A fault of the store and want of
--- memory refuse no file: they have their own lines
+-- the word names the file: `table`, or `back` for a table that another leans on. A fault of the
+-- store and want of memory refuse no file: they have their own lines
 abbrev pub file_line : List ℕ → TableFault → List ℕ
 file_line word Missing = codes "missing " ++ word ++ codes "\n"
 file_line word Magic = word ++ codes ": magic\n"
-file_line word (Truncated length due) = word ++ (codes ": truncated " ++ decimal length) ++ due_text due
+file_line word (Truncated length due) =
+    word ++ (codes ": truncated " ++ decimal length) ++ due_text due
 file_line word (Extra length due) = word ++ (codes ": extra " ++ decimal length) ++ due_text due
 file_line word (Rules fault) = word ++ codes ": " ++ rules_line fault
 file_line word (Size kept due) = word ++ (codes ": size " ++ decimal kept) ++ due_text due

@@ -9,7 +9,8 @@ use Rattle.frz_prelude.specs.TableCauses.{table_line}
 
 -- the name holds these bytes, and they open as a table of this kind
 pub record OpensAsKind
-    (kind : FileKind) (table : List ℕ) (files : Files) (bytes : List ℕ) (contents : Contents) : Type 0 where
+    (kind : FileKind) (table : List ℕ) (files : Files) (bytes : List ℕ)
+    (contents : Contents) : Type 0 where
   pub there : files table ≡ Some bytes
   pub opens : opened (table_format kind) (Some bytes) ≡ Ok contents
 
@@ -17,7 +18,8 @@ abbrev pub OpensAs : List ℕ → Files → List ℕ → Contents → Type 0
 OpensAs table files bytes contents = OpensAsKind Plain table files bytes contents
 
 -- the file is there, and the text names the first thing that is wrong with its bytes
-pub record TellsFaultOfKind (kind : FileKind) (table : List ℕ) (files : Files) (text : List ℕ) : Type 0 where
+pub record TellsFaultOfKind (kind : FileKind) (table : List ℕ) (files : Files)
+    (text : List ℕ) : Type 0 where
   pub bytes : List ℕ
   pub there : files table ≡ Some bytes
   pub fault : TableFault

@@ -9,7 +9,8 @@ place_text wrong = codes "wrong " ++ side_name wrong.side ++ (codes " " ++ decim
 
 -- the code that is kept there, and the local code
 abbrev pub codes_text : Wrong → List ℕ
-codes_text wrong = codes " kept " ++ decimal wrong.kept ++ (codes " given " ++ decimal wrong.given) ++ codes "\n"
+codes_text wrong =
+    codes " kept " ++ decimal wrong.kept ++ (codes " given " ++ decimal wrong.given) ++ codes "\n"
 
 abbrev pub wrong_line : Wrong → List ℕ
 wrong_line wrong = place_text wrong ++ codes_text wrong

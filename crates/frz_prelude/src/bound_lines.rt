@@ -19,7 +19,8 @@ pub fn write_side_name<O: Sink>(side: Colour, out: &mut O) -> Result<(), Failed>
 }
 
 fn write_bound_text<O: Sink>(bound: Bound, out: &mut O) -> Result<(), Failed>
-    ensures { WroteText (bound_text bound) result (sink_of O.Sink out.old) (sink_of O.Sink out.new) }
+    ensures { WroteText (bound_text bound) result (sink_of O.Sink out.old)
+        (sink_of O.Sink out.new) }
 {
     match bound {
         Bound::Wins(plies) => write_numbered(b" wins within ", u64::from(plies), out),

@@ -59,7 +59,8 @@ fn write_fen_fault<O: Sink>(fault: FenFault, out: &mut O) -> Result<(), Failed>
 }
 
 fn write_rules_cause<O: Sink>(cause: RulesCause, out: &mut O) -> Result<(), Failed>
-    ensures { WroteText (rules_cause cause) result (sink_of O.Sink out.old) (sink_of O.Sink out.new) }
+    ensures { WroteText (rules_cause cause) result (sink_of O.Sink out.old)
+        (sink_of O.Sink out.new) }
 {
     match cause {
         RulesCause::TooLong => write_piece(b"too long", out),
@@ -78,7 +79,8 @@ fn write_rules_cause<O: Sink>(cause: RulesCause, out: &mut O) -> Result<(), Fail
 
 /// Writes the line that refuses a rules text.
 pub(crate) fn write_rules_fault<O: Sink>(fault: RulesFault, out: &mut O) -> Result<(), Failed>
-    ensures { WroteText (rules_line fault) result (sink_of O.Sink out.old) (sink_of O.Sink out.new) }
+    ensures { WroteText (rules_line fault) result (sink_of O.Sink out.old)
+        (sink_of O.Sink out.new) }
 {
     write_numbered(b"rules ", fault.line as u64, out)?;
     write_piece(b": ", out)?;

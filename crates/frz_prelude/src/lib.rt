@@ -1,5 +1,6 @@
-//! What the words RULES, TABLE and FEN of a command need: the rules file is read, a position has its
-//! number in a set, a line refuses what serves for none, and lines tell bounds, kept codes and wrong entries.
+//! What the words RULES, TABLE and FEN of a command need: the rules file is read, a position has
+//! its number in a set, a line refuses what serves for none,
+//! and lines tell bounds, kept codes and wrong entries.
 #![tactic(auto)]
 
 mod bound_lines;

@@ -22,14 +22,15 @@ pub enum RulesFile {
     Text(Vec<u8>),
 }
 
-/// Reads the rules file of this name: one `size`, and one `read` of the whole file where it is there
-/// and not too long.
+/// Reads the rules file of this name: one `size`, and one
+/// `read` of the whole file where it is there and not too long.
 pub fn read_rules_file<S: Store>(
     alloc: Global,
     name: &str,
     store: &mut S,
 ) -> Result<RulesFile, StoreFault>
-    ensures held { IfOk result (λ file. IfSome (S.files store.old) (λ m. IsHeld (m name.now) file)) }
+    ensures held { IfOk result
+        (λ file. IfSome (S.files store.old) (λ m. IsHeld (m name.now) file)) }
     ensures quiet { StoreQuiet (store_of S.Store store.old) (store_of S.Store store.new) }
     ensures causes { FreeCauses (S.faults store.old) (S.faults store.new)
         (S.wants store.old) (S.wants store.new) result }

@@ -35,8 +35,8 @@ fn write_magic<O: Sink>(word: &[u8], out: &mut O) -> Result<(), Failed>
     write_piece(b": magic\n", out)
 }
 
-/// Writes the word of the file, what is wrong with it, the number that is there, and the one that is
-/// due.
+/// Writes the word of the file, what is wrong with it, the
+/// number that is there, and the one that is due.
 fn write_numbers<O: Sink>(
     word: &[u8],
     what: &[u8],

@@ -10,7 +10,8 @@ use frz_store::{Failed, Sink};
 
 /// Writes which entry is wrong.
 fn write_place<O: Sink>(wrong: Wrong, out: &mut O) -> Result<(), Failed>
-    ensures { WroteText (place_text wrong) result (sink_of O.Sink out.old) (sink_of O.Sink out.new) }
+    ensures { WroteText (place_text wrong) result (sink_of O.Sink out.old)
+        (sink_of O.Sink out.new) }
 {
     write_piece(b"wrong ", out)?;
     write_side_name(wrong.side, out)?;
@@ -19,7 +20,8 @@ fn write_place<O: Sink>(wrong: Wrong, out: &mut O) -> Result<(), Failed>
 
 /// Writes the code that is kept and the one that is given.
 fn write_codes<O: Sink>(wrong: Wrong, out: &mut O) -> Result<(), Failed>
-    ensures { WroteText (codes_text wrong) result (sink_of O.Sink out.old) (sink_of O.Sink out.new) }
+    ensures { WroteText (codes_text wrong) result (sink_of O.Sink out.old)
+        (sink_of O.Sink out.new) }
 {
     write_numbered(b" kept ", wrong.kept as u64, out)?;
     write_numbered(b" given ", wrong.given, out)?;
@@ -28,7 +30,8 @@ fn write_codes<O: Sink>(wrong: Wrong, out: &mut O) -> Result<(), Failed>
 
 /// Writes the line of an entry that is wrong.
 pub fn write_wrong<O: Sink>(wrong: Wrong, out: &mut O) -> Result<(), Failed>
-    ensures { WroteText (wrong_line wrong) result (sink_of O.Sink out.old) (sink_of O.Sink out.new) }
+    ensures { WroteText (wrong_line wrong) result (sink_of O.Sink out.old)
+        (sink_of O.Sink out.new) }
 {
     write_place(wrong, out)?;
     write_codes(wrong, out)
@@ -36,7 +39,8 @@ pub fn write_wrong<O: Sink>(wrong: Wrong, out: &mut O) -> Result<(), Failed>
 
 /// Writes the line of an entry of the back table that is wrong.
 pub(crate) fn write_back_wrong<O: Sink>(wrong: Wrong, out: &mut O) -> Result<(), Failed>
-    ensures { WroteText (back_wrong_line wrong) result (sink_of O.Sink out.old) (sink_of O.Sink out.new) }
+    ensures { WroteText (back_wrong_line wrong) result (sink_of O.Sink out.old)
+        (sink_of O.Sink out.new) }
 {
     write_piece(b"back ", out)?;
     write_wrong(wrong, out)

@@ -24,32 +24,46 @@ turned c d false e = other (bytes_eq d c) refl
   where
     other : (b : Bool) → bytes_eq d c ≡ b → bytes_eq d c ≡ false
     other false h = h
-    other true h = let no : false ≡ true = sym e ∙ ap (bytes_eq c) (same_class d c h) ∙ class_itself c in cc
+    other true h =
+        let no : false ≡ true = sym e ∙ ap (bytes_eq c) (same_class d c h) ∙ class_itself c in cc
 
 abbrev pub others : Class → Class → Bool
 others c d = not (bytes_eq c d)
 
 -- a class that is not c is looked for in vain, or found, alike where those equal to c are left out
-any_others : (x c : Class) (ks : List Class) → bytes_eq x c ≡ false → list_any (bytes_eq x) (filter (others c) ks) ≡ list_any (bytes_eq x) ks
+any_others : (x c : Class) (ks : List Class) → bytes_eq x c ≡ false
+    → list_any (bytes_eq x) (filter (others c) ks) ≡ list_any (bytes_eq x) ks
 any_others x c [] apart = refl
 any_others x c (d ∷ ks) apart = by (bytes_eq c d) refl (any_others x c ks apart)
   where
-    by : (b : Bool) → bytes_eq c d ≡ b → list_any (bytes_eq x) (filter (others c) ks) ≡ list_any (bytes_eq x) ks
-        → list_any (bytes_eq x) (cond (not (bytes_eq c d)) (d ∷ filter (others c) ks) (filter (others c) ks)) ≡ (bytes_eq x d || list_any (bytes_eq x) ks)
+    by : (b : Bool) → bytes_eq c d ≡ b → list_any (bytes_eq x) (filter (others c) ks) ≡ list_any
+        (bytes_eq x) ks
+        → list_any (bytes_eq x)
+        (cond (not (bytes_eq c d)) (d ∷ filter (others c) ks) (filter (others c) ks))
+        ≡ (bytes_eq x d || list_any (bytes_eq x) ks)
     by true e rest =
-        let off : bytes_eq x d ≡ false = subst (λ (z : Class). bytes_eq x z ≡ false) (same_class c d e) apart in
-        ap (λ (b : Bool). list_any (bytes_eq x) (cond (not b) (d ∷ filter (others c) ks) (filter (others c) ks))) e ∙ rest ∙ sym (ap (λ (b : Bool). b || list_any (bytes_eq x) ks) off)
+        let off : bytes_eq x d ≡ false = subst (λ (z : Class). bytes_eq x z ≡ false)
+        (same_class c d e) apart in
+        ap (λ (b : Bool). list_any (bytes_eq x)
+        (cond (not b) (d ∷ filter (others c) ks) (filter (others c) ks))) e ∙ rest
+        ∙ sym (ap (λ (b : Bool). b || list_any (bytes_eq x) ks) off)
     by false e rest =
-        ap (λ (b : Bool). list_any (bytes_eq x) (cond (not b) (d ∷ filter (others c) ks) (filter (others c) ks))) e ∙ ap (λ (b : Bool). bytes_eq x d || b) rest
+        ap (λ (b : Bool). list_any (bytes_eq x)
+        (cond (not b) (d ∷ filter (others c) ks) (filter (others c) ks))) e
+        ∙ ap (λ (b : Bool). bytes_eq x d || b) rest
 
 -- a class is among the first ones exactly where it is met
-pub any_firsts : (x : Class) (cs : List Class) → list_any (bytes_eq x) (firsts cs) ≡ list_any (bytes_eq x) cs
+pub any_firsts : (x : Class) (cs : List Class) → list_any (bytes_eq x) (firsts cs) ≡ list_any
+    (bytes_eq x) cs
 any_firsts x [] = refl
 any_firsts x (c ∷ cs) = by (bytes_eq x c) refl (any_firsts x cs)
   where
-    by : (b : Bool) → bytes_eq x c ≡ b → list_any (bytes_eq x) (firsts cs) ≡ list_any (bytes_eq x) cs
-        → (bytes_eq x c || list_any (bytes_eq x) (filter (others c) (firsts cs))) ≡ (bytes_eq x c || list_any (bytes_eq x) cs)
-    by true e rest = ap (λ (b : Bool). b || list_any (bytes_eq x) (filter (others c) (firsts cs))) e ∙ sym (ap (λ (b : Bool). b || list_any (bytes_eq x) cs) e)
+    by : (b : Bool) → bytes_eq x c ≡ b → list_any (bytes_eq x) (firsts cs) ≡ list_any
+        (bytes_eq x) cs
+        → (bytes_eq x c || list_any (bytes_eq x) (filter (others c) (firsts cs)))
+        ≡ (bytes_eq x c || list_any (bytes_eq x) cs)
+    by true e rest = ap (λ (b : Bool). b || list_any (bytes_eq x) (filter (others c) (firsts cs))) e
+        ∙ sym (ap (λ (b : Bool). b || list_any (bytes_eq x) cs) e)
     by false e rest = ap (λ (b : Bool). bytes_eq x c || b) (any_others x c (firsts cs) e ∙ rest)
 
 abbrev pub Differs : Class → List Class → Type 0
@@ -60,11 +74,17 @@ differs_others : (c : Class) (ks : List Class) → Differs c (filter (others c) 
 differs_others c [] = tt
 differs_others c (d ∷ ks) = by (bytes_eq c d) refl (differs_others c ks)
   where
-    by : (b : Bool) → bytes_eq c d ≡ b → Differs c (filter (others c) ks) → Differs c (cond (not (bytes_eq c d)) (d ∷ filter (others c) ks) (filter (others c) ks))
-    by true e rest = subst (λ (b : Bool). Differs c (cond (not b) (d ∷ filter (others c) ks) (filter (others c) ks))) (sym e) rest
-    by false e rest = subst (λ (b : Bool). Differs c (cond (not b) (d ∷ filter (others c) ks) (filter (others c) ks))) (sym e) (e, rest)
+    by : (b : Bool) → bytes_eq c d ≡ b → Differs c (filter (others c) ks)
+        → Differs c (cond (not (bytes_eq c d)) (d ∷ filter (others c) ks) (filter (others c) ks))
+    by true e rest = subst
+        (λ (b : Bool). Differs c (cond (not b) (d ∷ filter (others c) ks) (filter (others c) ks)))
+        (sym e) rest
+    by false e rest = subst
+        (λ (b : Bool). Differs c (cond (not b) (d ∷ filter (others c) ks) (filter (others c) ks)))
+        (sym e) (e, rest)
 
-still_differs : (p : Class → Bool) (c : Class) (ks : List Class) → Differs c ks → Differs c (filter p ks)
+still_differs : (p : Class → Bool) (c : Class) (ks : List Class) → Differs c ks
+    → Differs c (filter p ks)
 still_differs p c [] h = tt
 still_differs p c (d ∷ ks) h = by (p d) (still_differs p c ks h.1)
   where
@@ -72,12 +92,14 @@ still_differs p c (d ∷ ks) h = by (p d) (still_differs p c ks h.1)
     by true rest = (h.0, rest)
     by false rest = rest
 
-still_distinct : (p : Class → Bool) (ks : List Class) → IsDistinct bytes_eq ks → IsDistinct bytes_eq (filter p ks)
+still_distinct : (p : Class → Bool) (ks : List Class) → IsDistinct bytes_eq ks
+    → IsDistinct bytes_eq (filter p ks)
 unfolding IsDistinct
 still_distinct p [] h = tt
 still_distinct p (d ∷ ks) h = by (p d) (still_distinct p ks h.1)
   where
-    by : (b : Bool) → IsDistinct bytes_eq (filter p ks) → IsDistinct bytes_eq (cond b (d ∷ filter p ks) (filter p ks))
+    by : (b : Bool) → IsDistinct bytes_eq (filter p ks)
+        → IsDistinct bytes_eq (cond b (d ∷ filter p ks) (filter p ks))
     by true rest = (still_differs p d ks h.0, rest)
     by false rest = rest
 
@@ -85,56 +107,73 @@ still_distinct p (d ∷ ks) h = by (p d) (still_distinct p ks h.1)
 pub firsts_distinct : (cs : List Class) → IsDistinct bytes_eq (firsts cs)
 unfolding IsDistinct
 firsts_distinct [] = tt
-firsts_distinct (c ∷ cs) = (differs_others c (firsts cs), still_distinct (others c) (firsts cs) (firsts_distinct cs))
+firsts_distinct (c ∷ cs) =
+    (differs_others c (firsts cs), still_distinct (others c) (firsts cs) (firsts_distinct cs))
 
 -- a class that was met leaves the first ones, and another goes last
-pub firsts_more : (cs : List Class) (x : Class) → firsts (cs ++ x ∷ []) ≡ cond (list_any (bytes_eq x) cs) (firsts cs) (firsts cs ++ x ∷ [])
+pub firsts_more : (cs : List Class) (x : Class)
+    → firsts (cs ++ x ∷ []) ≡ cond (list_any (bytes_eq x) cs) (firsts cs) (firsts cs ++ x ∷ [])
 firsts_more [] x = refl
 firsts_more (c ∷ cs) x = by_met (list_any (bytes_eq x) cs) refl (firsts_more cs x)
   where
     goes : Bool → Type 0
-    goes met = (c ∷ filter (others c) (firsts (cs ++ x ∷ []))) ≡ cond met (c ∷ filter (others c) (firsts cs)) ((c ∷ filter (others c) (firsts cs)) ++ x ∷ [])
+    goes met = (c ∷ filter (others c) (firsts (cs ++ x ∷ []))) ≡ cond met
+        (c ∷ filter (others c) (firsts cs)) ((c ∷ filter (others c) (firsts cs)) ++ x ∷ [])
 
     whole : Class → List Class → List Class
     whole c ks = c ∷ filter (others c) ks
 
-    by_first : (b : Bool) → bytes_eq x c ≡ b → firsts (cs ++ x ∷ []) ≡ firsts cs ++ x ∷ [] → goes (b || false)
+    by_first : (b : Bool) → bytes_eq x c ≡ b → firsts (cs ++ x ∷ []) ≡ firsts cs ++ x ∷ []
+        → goes (b || false)
     by_first true e h =
         let same : bytes_eq c x ≡ true = turned x c true e in
         ap (whole c) h
-        ∙ ap (λ (l : List Class). c ∷ l) (filter-append (others c) (firsts cs) (x ∷ []) ∙ ap (λ (b : Bool). filter (others c) (firsts cs) ++ cond (not b) (x ∷ []) []) same ∙ append-nil (filter (others c) (firsts cs)))
+        ∙ ap (λ (l : List Class). c ∷ l)
+        (filter-append (others c) (firsts cs) (x ∷ [])
+        ∙ ap (λ (b : Bool). filter (others c) (firsts cs) ++ cond (not b) (x ∷ []) []) same
+        ∙ append-nil (filter (others c) (firsts cs)))
     by_first false e h =
         let apart : bytes_eq c x ≡ false = turned x c false e in
         ap (whole c) h
-        ∙ ap (λ (l : List Class). c ∷ l) (filter-append (others c) (firsts cs) (x ∷ []) ∙ ap (λ (b : Bool). filter (others c) (firsts cs) ++ cond (not b) (x ∷ []) []) apart)
+        ∙ ap (λ (l : List Class). c ∷ l)
+        (filter-append (others c) (firsts cs) (x ∷ [])
+        ∙ ap (λ (b : Bool). filter (others c) (firsts cs) ++ cond (not b) (x ∷ []) []) apart)
 
     or_true : (b : Bool) → (b || true) ≡ true
     or_true true = refl
     or_true false = refl
 
-    by_met : (met : Bool) → list_any (bytes_eq x) cs ≡ met → firsts (cs ++ x ∷ []) ≡ cond (list_any (bytes_eq x) cs) (firsts cs) (firsts cs ++ x ∷ [])
+    by_met : (met : Bool) → list_any (bytes_eq x) cs ≡ met
+        → firsts (cs ++ x ∷ []) ≡ cond (list_any (bytes_eq x) cs) (firsts cs) (firsts cs ++ x ∷ [])
         → goes (bytes_eq x c || list_any (bytes_eq x) cs)
     by_met true e h =
-        let same : firsts (cs ++ x ∷ []) ≡ firsts cs = h ∙ ap (λ (b : Bool). cond b (firsts cs) (firsts cs ++ x ∷ [])) e in
-        let met : (bytes_eq x c || list_any (bytes_eq x) cs) ≡ true = ap (λ (b : Bool). bytes_eq x c || b) e ∙ or_true (bytes_eq x c) in
+        let same : firsts (cs ++ x ∷ []) ≡ firsts cs = h
+        ∙ ap (λ (b : Bool). cond b (firsts cs) (firsts cs ++ x ∷ [])) e in
+        let met : (bytes_eq x c || list_any (bytes_eq x) cs) ≡ true =
+        ap (λ (b : Bool). bytes_eq x c || b) e ∙ or_true (bytes_eq x c) in
         subst goes (sym met) (ap (whole c) same)
     by_met false e h =
-        let more : firsts (cs ++ x ∷ []) ≡ firsts cs ++ x ∷ [] = h ∙ ap (λ (b : Bool). cond b (firsts cs) (firsts cs ++ x ∷ [])) e in
-        let met : (bytes_eq x c || list_any (bytes_eq x) cs) ≡ (bytes_eq x c || false) = ap (λ (b : Bool). bytes_eq x c || b) e in
+        let more : firsts (cs ++ x ∷ []) ≡ firsts cs ++ x ∷ [] = h
+        ∙ ap (λ (b : Bool). cond b (firsts cs) (firsts cs ++ x ∷ [])) e in
+        let met : (bytes_eq x c || list_any (bytes_eq x) cs) ≡ (bytes_eq x c || false) =
+        ap (λ (b : Bool). bytes_eq x c || b) e in
         subst goes (sym met) (by_first (bytes_eq x c) refl more)
 
 abbrev pub once : Bool → ℕ
 once b = cond b 1 0
 
 -- the class occurs once more than before
-pub times_more : (cs : List Class) (x c : Class) → times (cs ++ x ∷ []) c ≡ times cs c + once (bytes_eq c x)
+pub times_more : (cs : List Class) (x c : Class)
+    → times (cs ++ x ∷ []) c ≡ times cs c + once (bytes_eq c x)
 times_more cs x c = sum_by_push (λ (d : Class). cond (bytes_eq c d) 1 0) cs x
 
 -- a class that is not met occurs no time
 pub times_none : (cs : List Class) (c : Class) → list_any (bytes_eq c) cs ≡ false → times cs c ≡ 0
 times_none [] c h = refl
-times_none (d ∷ cs) c h = sum_by-cons (λ (e : Class). cond (bytes_eq c e) 1 0) d cs ∙ by (bytes_eq c d) h (times_none cs c)
+times_none (d ∷ cs) c h = sum_by-cons (λ (e : Class). cond (bytes_eq c e) 1 0) d cs
+    ∙ by (bytes_eq c d) h (times_none cs c)
   where
-    by : (b : Bool) → (b || list_any (bytes_eq c) cs) ≡ false → (list_any (bytes_eq c) cs ≡ false → times cs c ≡ 0) → cond b 1 0 + times cs c ≡ 0
+    by : (b : Bool) → (b || list_any (bytes_eq c) cs) ≡ false
+        → (list_any (bytes_eq c) cs ≡ false → times cs c ≡ 0) → cond b 1 0 + times cs c ≡ 0
     by true h rest = cc
     by false h rest = let none : times cs c ≡ 0 = rest h in omega (arith, none)

@@ -16,24 +16,32 @@ abbrev pub tally : (Class → ℕ) → List Class → List (Class × ℕ)
 tally f ks = map (λ c. (c, f c)) ks
 
 -- the number of a class that stands there, and 0 for another
-pub looked_up : (f : Class → ℕ) (x : Class) (ks : List Class) → unwrap_or (lookup (bytes_eq x) (tally f ks)) 0 ≡ cond (list_any (bytes_eq x) ks) (f x) 0
+pub looked_up : (f : Class → ℕ) (x : Class) (ks : List Class)
+    → unwrap_or (lookup (bytes_eq x) (tally f ks)) 0 ≡ cond (list_any (bytes_eq x) ks) (f x) 0
 looked_up f x [] = refl
 looked_up f x (c ∷ ks) = by (bytes_eq x c) refl (looked_up f x ks)
   where
-    by : (b : Bool) → bytes_eq x c ≡ b → unwrap_or (lookup (bytes_eq x) (tally f ks)) 0 ≡ cond (list_any (bytes_eq x) ks) (f x) 0
-        → unwrap_or (cond (bytes_eq x c) (Some (f c)) (lookup (bytes_eq x) (tally f ks))) 0 ≡ cond (bytes_eq x c || list_any (bytes_eq x) ks) (f x) 0
+    by : (b : Bool) → bytes_eq x c ≡ b → unwrap_or (lookup (bytes_eq x) (tally f ks)) 0 ≡ cond
+        (list_any (bytes_eq x) ks) (f x) 0
+        → unwrap_or (cond (bytes_eq x c) (Some (f c)) (lookup (bytes_eq x) (tally f ks))) 0 ≡ cond
+        (bytes_eq x c || list_any (bytes_eq x) ks) (f x) 0
     by true e rest =
-        ap (λ (b : Bool). unwrap_or (cond b (Some (f c)) (lookup (bytes_eq x) (tally f ks))) 0) e ∙ ap f (sym (same_class x c e))
+        ap (λ (b : Bool). unwrap_or (cond b (Some (f c)) (lookup (bytes_eq x) (tally f ks))) 0) e
+        ∙ ap f (sym (same_class x c e))
         ∙ sym (ap (λ (b : Bool). cond (b || list_any (bytes_eq x) ks) (f x) 0) e)
     by false e rest =
-        ap (λ (b : Bool). unwrap_or (cond b (Some (f c)) (lookup (bytes_eq x) (tally f ks))) 0) e ∙ rest
+        ap (λ (b : Bool). unwrap_or (cond b (Some (f c)) (lookup (bytes_eq x) (tally f ks))) 0) e
+        ∙ rest
         ∙ sym (ap (λ (b : Bool). cond (b || list_any (bytes_eq x) ks) (f x) 0) e)
 
 -- how often a class was met, by its entry
-pub times_looked_up : (cs : List Class) (x : Class) → unwrap_or (lookup (bytes_eq x) (census cs)) 0 ≡ times cs x
-times_looked_up cs x = looked_up (times cs) x (firsts cs) ∙ ap (λ (b : Bool). cond b (times cs x) 0) (any_firsts x cs) ∙ by (list_any (bytes_eq x) cs) refl
+pub times_looked_up : (cs : List Class) (x : Class) → unwrap_or (lookup (bytes_eq x) (census cs)) 0
+    ≡ times cs x
+times_looked_up cs x = looked_up (times cs) x (firsts cs) ∙ ap (λ (b : Bool). cond b (times cs x) 0)
+    (any_firsts x cs) ∙ by (list_any (bytes_eq x) cs) refl
   where
-    by : (b : Bool) → list_any (bytes_eq x) cs ≡ b → cond (list_any (bytes_eq x) cs) (times cs x) 0 ≡ times cs x
+    by : (b : Bool) → list_any (bytes_eq x) cs ≡ b → cond (list_any (bytes_eq x) cs) (times cs x) 0
+        ≡ times cs x
     by true e = ap (λ (b : Bool). cond b (times cs x) 0) e
     by false e = ap (λ (b : Bool). cond b (times cs x) 0) e ∙ sym (times_none cs x e)
 
@@ -42,17 +50,21 @@ module _ (f g : Class → ℕ) (x : Class) (more : (c : Class) → g c ≡ f c +
   kept c apart = more c ∙ ap (λ (b : Bool). f c + once b) (turned x c false apart) ∙ omega arith
 
   risen : (c : Class) → bytes_eq x c ≡ true → g c ≡ f x + 1
-  risen c same = more c ∙ ap (λ (b : Bool). f c + once b) (turned x c true same) ∙ ap (λ (d : Class). f d + 1) (sym (same_class x c same))
+  risen c same = more c ∙ ap (λ (b : Bool). f c + once b) (turned x c true same)
+      ∙ ap (λ (d : Class). f d + 1) (sym (same_class x c same))
 
   others_kept : (ks : List Class) → Differs x ks → tally f ks ≡ tally g ks
   others_kept [] h = refl
-  others_kept (c ∷ ks) h = ap (λ (n : ℕ). (c, n) ∷ tally f ks) (sym (kept c h.0)) ∙ ap (λ (l : List (Class × ℕ)). (c, g c) ∷ l) (others_kept ks h.1)
+  others_kept (c ∷ ks) h = ap (λ (n : ℕ). (c, n) ∷ tally f ks) (sym (kept c h.0))
+      ∙ ap (λ (l : List (Class × ℕ)). (c, g c) ∷ l) (others_kept ks h.1)
 
   -- a new class goes last
-  new_entry : (ks : List Class) → Differs x ks → insert_entry bytes_eq (tally f ks) x (f x + 1) ≡ tally g (ks ++ x ∷ [])
+  new_entry : (ks : List Class) → Differs x ks → insert_entry bytes_eq (tally f ks) x (f x + 1)
+      ≡ tally g (ks ++ x ∷ [])
   new_entry [] h = ap (λ (n : ℕ). (x, n) ∷ []) (sym (risen x (class_itself x)))
   new_entry (c ∷ ks) h =
-      ap (λ (b : Bool). if b then (c, f x + 1) ∷ tally f ks else (c, f c) ∷ insert_entry bytes_eq (tally f ks) x (f x + 1)) h.0
+      ap (λ (b : Bool). if b then (c, f x + 1) ∷ tally f ks else (c, f c) ∷ insert_entry bytes_eq
+      (tally f ks) x (f x + 1)) h.0
       ∙ ap (λ (n : ℕ). (c, n) ∷ insert_entry bytes_eq (tally f ks) x (f x + 1)) (sym (kept c h.0))
       ∙ ap (λ (l : List (Class × ℕ)). (c, g c) ∷ l) (new_entry ks h.1)
 
@@ -61,19 +73,26 @@ module _ (f g : Class → ℕ) (x : Class) (more : (c : Class) → g c ≡ f c +
   differs_too c ks e h = subst (λ (d : Class). Differs d ks) (sym (same_class x c e)) h
 
   -- one that is there keeps its place
-  old_entry : (ks : List Class) → IsDistinct bytes_eq ks → list_any (bytes_eq x) ks ≡ true → insert_entry bytes_eq (tally f ks) x (f x + 1) ≡ tally g ks
+  old_entry : (ks : List Class) → IsDistinct bytes_eq ks → list_any (bytes_eq x) ks ≡ true
+      → insert_entry bytes_eq (tally f ks) x (f x + 1) ≡ tally g ks
   unfolding IsDistinct
   old_entry [] apart there = cc
   old_entry (c ∷ ks) apart there = by (bytes_eq x c) refl there (old_entry ks apart.1)
     where
       by : (b : Bool) → bytes_eq x c ≡ b → (b || list_any (bytes_eq x) ks) ≡ true
-          → (list_any (bytes_eq x) ks ≡ true → insert_entry bytes_eq (tally f ks) x (f x + 1) ≡ tally g ks)
-          → (if bytes_eq x c then (c, f x + 1) ∷ tally f ks else (c, f c) ∷ insert_entry bytes_eq (tally f ks) x (f x + 1)) ≡ (c, g c) ∷ tally g ks
+          → (list_any (bytes_eq x) ks ≡ true → insert_entry bytes_eq (tally f ks) x (f x + 1)
+          ≡ tally g ks)
+          → (if bytes_eq x c then (c, f x + 1) ∷ tally f ks else (c, f c) ∷ insert_entry bytes_eq
+          (tally f ks) x (f x + 1)) ≡ (c, g c) ∷ tally g ks
       by true e here rest =
-          ap (λ (b : Bool). if b then (c, f x + 1) ∷ tally f ks else (c, f c) ∷ insert_entry bytes_eq (tally f ks) x (f x + 1)) e
-          ∙ ap (λ (n : ℕ). (c, n) ∷ tally f ks) (sym (risen c e)) ∙ ap (λ (l : List (Class × ℕ)). (c, g c) ∷ l) (others_kept ks (differs_too c ks e apart.0))
+          ap (λ (b : Bool). if b then (c, f x + 1) ∷ tally f ks
+          else (c, f c) ∷ insert_entry bytes_eq (tally f ks) x (f x + 1)) e
+          ∙ ap (λ (n : ℕ). (c, n) ∷ tally f ks) (sym (risen c e))
+          ∙ ap (λ (l : List (Class × ℕ)). (c, g c) ∷ l)
+          (others_kept ks (differs_too c ks e apart.0))
       by false e later rest =
-          ap (λ (b : Bool). if b then (c, f x + 1) ∷ tally f ks else (c, f c) ∷ insert_entry bytes_eq (tally f ks) x (f x + 1)) e
+          ap (λ (b : Bool). if b then (c, f x + 1) ∷ tally f ks
+          else (c, f c) ∷ insert_entry bytes_eq (tally f ks) x (f x + 1)) e
           ∙ ap (λ (n : ℕ). (c, n) ∷ insert_entry bytes_eq (tally f ks) x (f x + 1)) (sym (kept c e))
           ∙ ap (λ (l : List (Class × ℕ)). (c, g c) ∷ l) (rest later)
 
@@ -82,51 +101,67 @@ none_there : (x : Class) (ks : List Class) → list_any (bytes_eq x) ks ≡ fals
 none_there x [] h = tt
 none_there x (c ∷ ks) h = by (bytes_eq x c) refl h (none_there x ks)
   where
-    by : (b : Bool) → bytes_eq x c ≡ b → (b || list_any (bytes_eq x) ks) ≡ false → (list_any (bytes_eq x) ks ≡ false → Differs x ks) → Differs x (c ∷ ks)
+    by : (b : Bool) → bytes_eq x c ≡ b → (b || list_any (bytes_eq x) ks) ≡ false
+        → (list_any (bytes_eq x) ks ≡ false → Differs x ks) → Differs x (c ∷ ks)
     by true e h rest = cc
     by false e h rest = (e, rest h)
 
 -- one more class in a census
-pub census_more : (cs : List Class) (x : Class) → insert_entry bytes_eq (census cs) x (times cs x + 1) ≡ census (cs ++ x ∷ [])
+pub census_more : (cs : List Class) (x : Class)
+    → insert_entry bytes_eq (census cs) x (times cs x + 1) ≡ census (cs ++ x ∷ [])
 census_more cs x = by (list_any (bytes_eq x) cs) refl
   where
     more : (c : Class) → times (cs ++ x ∷ []) c ≡ times cs c + once (bytes_eq c x)
     more c = times_more cs x c
 
-    by : (b : Bool) → list_any (bytes_eq x) cs ≡ b → insert_entry bytes_eq (census cs) x (times cs x + 1) ≡ census (cs ++ x ∷ [])
+    by : (b : Bool) → list_any (bytes_eq x) cs ≡ b
+        → insert_entry bytes_eq (census cs) x (times cs x + 1) ≡ census (cs ++ x ∷ [])
     by true e =
-        let same : firsts (cs ++ x ∷ []) ≡ firsts cs = firsts_more cs x ∙ ap (λ (b : Bool). cond b (firsts cs) (firsts cs ++ x ∷ [])) e in
-        old_entry (times cs) (times (cs ++ x ∷ [])) x more (firsts cs) (firsts_distinct cs) (any_firsts x cs ∙ e) ∙ sym (ap (tally (times (cs ++ x ∷ []))) same)
+        let same : firsts (cs ++ x ∷ []) ≡ firsts cs = firsts_more cs x
+        ∙ ap (λ (b : Bool). cond b (firsts cs) (firsts cs ++ x ∷ [])) e in
+        old_entry (times cs) (times (cs ++ x ∷ [])) x more (firsts cs) (firsts_distinct cs)
+        (any_firsts x cs ∙ e) ∙ sym (ap (tally (times (cs ++ x ∷ []))) same)
     by false e =
-        let last : firsts (cs ++ x ∷ []) ≡ firsts cs ++ x ∷ [] = firsts_more cs x ∙ ap (λ (b : Bool). cond b (firsts cs) (firsts cs ++ x ∷ [])) e in
-        new_entry (times cs) (times (cs ++ x ∷ [])) x more (firsts cs) (none_there x (firsts cs) (any_firsts x cs ∙ e)) ∙ sym (ap (tally (times (cs ++ x ∷ []))) last)
+        let last : firsts (cs ++ x ∷ []) ≡ firsts cs ++ x ∷ [] = firsts_more cs x
+        ∙ ap (λ (b : Bool). cond b (firsts cs) (firsts cs ++ x ∷ [])) e in
+        new_entry (times cs) (times (cs ++ x ∷ [])) x more (firsts cs)
+        (none_there x (firsts cs) (any_firsts x cs ∙ e))
+        ∙ sym (ap (tally (times (cs ++ x ∷ []))) last)
 
 -- keys are equal where their letters are
 abbrev pub eq_letters : ArrayString → ArrayString → Bool
 eq_letters k e = bytes_eq k.bytes e.bytes
 
-pub lettered_lookup : (k : ArrayString) (es : List (ArrayString × ℕ)) → lookup (eq_letters k) es ≡ lookup (bytes_eq k.bytes) (lettered es)
+pub lettered_lookup : (k : ArrayString) (es : List (ArrayString × ℕ))
+    → lookup (eq_letters k) es ≡ lookup (bytes_eq k.bytes) (lettered es)
 lettered_lookup k [] = refl
-lettered_lookup k (e ∷ es) = ap (λ (o : Option ℕ). cond (bytes_eq k.bytes e.0.bytes) (Some e.1) o) (lettered_lookup k es)
+lettered_lookup k (e ∷ es) =
+    ap (λ (o : Option ℕ). cond (bytes_eq k.bytes e.0.bytes) (Some e.1) o) (lettered_lookup k es)
 
-pub lettered_insert : (k : ArrayString) (v : ℕ) (es : List (ArrayString × ℕ)) → lettered (insert_entry eq_letters es k v) ≡ insert_entry bytes_eq (lettered es) k.bytes v
+pub lettered_insert : (k : ArrayString) (v : ℕ) (es : List (ArrayString × ℕ))
+    → lettered (insert_entry eq_letters es k v) ≡ insert_entry bytes_eq (lettered es) k.bytes v
 lettered_insert k v [] = refl
 lettered_insert k v (e ∷ es) = by (bytes_eq k.bytes e.0.bytes) (lettered_insert k v es)
   where
-    by : (b : Bool) → lettered (insert_entry eq_letters es k v) ≡ insert_entry bytes_eq (lettered es) k.bytes v
+    by : (b : Bool) → lettered (insert_entry eq_letters es k v) ≡ insert_entry bytes_eq
+        (lettered es) k.bytes v
         → lettered (if b then (e.0, v) ∷ es else e ∷ insert_entry eq_letters es k v)
-        ≡ (if b then (e.0.bytes, v) ∷ lettered es else (e.0.bytes, e.1) ∷ insert_entry bytes_eq (lettered es) k.bytes v)
+        ≡ (if b then (e.0.bytes, v) ∷ lettered es else (e.0.bytes, e.1) ∷ insert_entry bytes_eq
+        (lettered es) k.bytes v)
     by true rest = refl
     by false rest = ap (λ (l : List (Class × ℕ)). (e.0.bytes, e.1) ∷ l) rest
 
 -- the entry that was found for a class says how often it was met
-pub found_times : (exits : List Class) (k : ArrayString) (es : List (ArrayString × ℕ)) → Counts es exits → unwrap_or (lookup (eq_letters k) es) 0 ≡ times exits k.bytes
+pub found_times : (exits : List Class) (k : ArrayString) (es : List (ArrayString × ℕ))
+    → Counts es exits → unwrap_or (lookup (eq_letters k) es) 0 ≡ times exits k.bytes
 found_times exits k es counts =
-    ap (λ (o : Option ℕ). unwrap_or o 0) (lettered_lookup k es) ∙ ap (λ (l : List (Class × ℕ)). unwrap_or (lookup (bytes_eq k.bytes) l) 0) counts
+    ap (λ (o : Option ℕ). unwrap_or o 0) (lettered_lookup k es)
+    ∙ ap (λ (l : List (Class × ℕ)). unwrap_or (lookup (bytes_eq k.bytes) l) 0) counts
     ∙ times_looked_up exits k.bytes
 
 -- with one more, the entries count one exit more
-pub counts_more : (exits : List Class) (k : ArrayString) (v : ℕ) (es : List (ArrayString × ℕ)) → Counts es exits → v ≡ times exits k.bytes + 1
+pub counts_more : (exits : List Class) (k : ArrayString) (v : ℕ) (es : List (ArrayString × ℕ))
+    → Counts es exits → v ≡ times exits k.bytes + 1
     → Counts (insert_entry eq_letters es k v) (exits ++ k.bytes ∷ [])
 counts_more exits k v es counts is =
     lettered_insert k v es ∙ ap (λ (l : List (Class × ℕ)). insert_entry bytes_eq l k.bytes v) counts

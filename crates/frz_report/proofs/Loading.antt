@@ -19,33 +19,44 @@ use Rattle.frz_report.specs.declared.fault.Totals.{Totals}
 use Rattle.frz_report.specs.Reports.{StoreCause, WritesOfFile, WritesOfTable, WritesReport, unloaded}
 
 module _ (files : Option Files) (tab : Table) (old new : SinkTold) where
-  by_file : (result : Result Totals ReportFault) → (result ≡ Err Store → ⊥) → WritesOfFile files tab result old new → WritesOfTable files tab result old new
+  by_file : (result : Result Totals ReportFault) → (result ≡ Err Store → ⊥)
+      → WritesOfFile files tab result old new → WritesOfTable files tab result old new
   by_file (Ok totals) never h = h
   by_file (Err Store) never h = absurd (never refl)
   by_file (Err Output) never h = h
   by_file (Err NoMemory) never h = inr h
 
   -- the codes that were loaded are those of a file that the name may hold
-  pub loaded_writes : (result : Result Totals ReportFault) (white black white_slice black_slice : List ℕ) → MayKeep files tab white black → white_slice ≡ white → black_slice ≡ black
-      → (result ≡ Err Store → ⊥) → WritesReport tab.rules (value_by tab.rules) (λ side. of_side side white_slice black_slice) result old new
+  pub loaded_writes : (result : Result Totals ReportFault)
+      (white black white_slice black_slice : List ℕ) → MayKeep files tab white black
+      → white_slice ≡ white → black_slice ≡ black
+      → (result ≡ Err Store → ⊥)
+      → WritesReport tab.rules (value_by tab.rules) (λ side. of_side side white_slice black_slice)
+      result old new
       → WritesOfTable files tab result old new
   loaded_writes result white black white_slice black_slice kept white_is black_is never h =
       by_file result never (record {
         bytes = kept.bytes;
         may = kept.may;
         file = kept.file;
-        wrote = subst (λ (c : Colour → List ℕ). WritesReport tab.rules (value_by tab.rules) c result old new) (λ j side. same side j) h;
+        wrote = subst (λ (c : Colour → List ℕ). WritesReport tab.rules (value_by tab.rules) c result
+            old new) (λ j side. same side j) h;
       })
     where
-      same : (side : Colour) → of_side side white_slice black_slice ≡ kept_codes (contents_of tab) kept.bytes side
+      same : (side : Colour) → of_side side white_slice black_slice ≡ kept_codes (contents_of tab)
+          kept.bytes side
       same White = white_is ∙ sym kept.white_is
       same Black = black_is ∙ sym kept.black_is
 
 -- nothing is written where the codes were not loaded
-pub unloaded_writes : (files : Option Files) (tab : Table) (out : SinkTold) (fault : TableFault) (result : ReportFault) → result ≡ unloaded fault → IsOutside fault → WritesOfTable files tab (Err result) out out
-unloaded_writes files tab out fault result is outside = subst (λ (f : ReportFault). WritesOfTable files tab (Err f) out out) (sym is) (by fault outside)
+pub unloaded_writes : (files : Option Files) (tab : Table) (out : SinkTold) (fault : TableFault)
+    (result : ReportFault) → result ≡ unloaded fault → IsOutside fault
+    → WritesOfTable files tab (Err result) out out
+unloaded_writes files tab out fault result is outside =
+    subst (λ (f : ReportFault). WritesOfTable files tab (Err f) out out) (sym is) (by fault outside)
   where
-    by : (fault : TableFault) → IsOutside fault → WritesOfTable files tab (Err (unloaded fault)) out out
+    by : (fault : TableFault) → IsOutside fault
+        → WritesOfTable files tab (Err (unloaded fault)) out out
     by table.Missing h = absurd h
     by table.Magic h = absurd h
     by (table.Truncated length due) h = absurd h
@@ -55,11 +66,16 @@ unloaded_writes files tab out fault result is outside = subst (λ (f : ReportFau
     by table.Failed h = refl
     by table.NoMemory h = inl refl
 
-pub unloaded_cause : {T : Type 0} (old new : StoreTold) (fault : TableFault) (result : ReportFault) → result ≡ unloaded fault → IsOutside fault
-    → TableCauses {T = T} old.faults new.faults old.wants new.wants (Err fault) → StoreCause (Err result) old new
-unloaded_cause {T} old new fault result is outside causes = subst (λ (f : ReportFault). StoreCause (Err f) old new) (sym is) (by fault outside causes)
+pub unloaded_cause : {T : Type 0} (old new : StoreTold) (fault : TableFault) (result : ReportFault)
+    → result ≡ unloaded fault → IsOutside fault
+    → TableCauses {T = T} old.faults new.faults old.wants new.wants (Err fault)
+    → StoreCause (Err result) old new
+unloaded_cause {T} old new fault result is outside causes =
+    subst (λ (f : ReportFault). StoreCause (Err f) old new) (sym is) (by fault outside causes)
   where
-    by : (fault : TableFault) → IsOutside fault → TableCauses {T = T} old.faults new.faults old.wants new.wants (Err fault) → StoreCause (Err (unloaded fault)) old new
+    by : (fault : TableFault) → IsOutside fault
+        → TableCauses {T = T} old.faults new.faults old.wants new.wants (Err fault)
+        → StoreCause (Err (unloaded fault)) old new
     by table.Missing h k = absurd h
     by table.Magic h k = absurd h
     by (table.Truncated length due) h k = absurd h
@@ -69,7 +85,8 @@ unloaded_cause {T} old new fault result is outside causes = subst (λ (f : Repor
     by table.Failed h k = k.failed refl
     by table.NoMemory h k = tt
 
-pub loaded_cause : (old new : StoreTold) (result : Result Totals ReportFault) → StoreFine old new → (result ≡ Err Store → ⊥) → StoreCause result old new
+pub loaded_cause : (old new : StoreTold) (result : Result Totals ReportFault) → StoreFine old new
+    → (result ≡ Err Store → ⊥) → StoreCause result old new
 loaded_cause old new (Ok totals) fine never = fine
 loaded_cause old new (Err Store) fine never = absurd (never refl)
 loaded_cause old new (Err Output) fine never = fine

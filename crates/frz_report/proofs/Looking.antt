@@ -22,7 +22,8 @@ use Rattle.frz_report.specs.Walks.{Counts, WritesSome, line_of, one_of}
 use Rattle.frz_report.proofs.Walking.{exits_more, exits_there, few_classes, front_nothing, no_exits_there, no_squeeze_there, squeeze_there}
 
 -- what holds of a fault holds of the result that passes it on
-pub as_fault : {T : Type 0} (P : Result T ReportFault → Type 0) (fault : ReportFault) (result : Result T ReportFault) → IsErrAnd result (λ e. e ≡ fault) → P (Err fault) → P result
+pub as_fault : {T : Type 0} (P : Result T ReportFault → Type 0) (fault : ReportFault)
+    (result : Result T ReportFault) → IsErrAnd result (λ e. e ≡ fault) → P (Err fault) → P result
 as_fault P fault (Ok x) h p = absurd h
 as_fault P fault (Err e) h p = subst (λ (f : ReportFault). P (Err f)) (sym h) p
 
@@ -31,35 +32,47 @@ on_ok P Q (Ok x) f h = f h
 on_ok P Q (Err e) f h = tt
 
 -- the position of a number, by a set of the rules' groups
-pub position_here : (set groups : List GroupLine) (i : ℕ) (o : Option Board) → set ≡ groups → o ≡ position_at set i → position_at groups i ≡ o
-position_here set groups i o fits e = ap (λ (g : List GroupLine). position_at g i) (sym fits) ∙ sym e
+pub position_here : (set groups : List GroupLine) (i : ℕ) (o : Option Board) → set ≡ groups
+    → o ≡ position_at set i → position_at groups i ≡ o
+position_here set groups i o fits e =
+    ap (λ (g : List GroupLine). position_at g i) (sym fits) ∙ sym e
 
 module _ (rules : RuleLines) (value : Board → Value) (n : ℕ) where
   abbrev exits : ℕ → List (List ℕ)
   exits k = exits_below rules value k
 
-  module _ (p : Board) (arms : List (Arm Step ℕ Value)) (there : position_at rules.groups n ≡ Some p) (are : arms ≡ (graph_by rules value).arms n) where
+  module _ (p : Board) (arms : List (Arm Step ℕ Value))
+      (there : position_at rules.groups n ≡ Some p)
+      (are : arms ≡ (graph_by rules value).arms n) where
     more_is : exits n ++ classes_after p arms ≡ exits (n + 1)
     more_is =
-        ap (λ (l : List (Arm Step ℕ Value)). exits n ++ classes_after p l) are ∙ ap (λ (l : List (List ℕ)). exits n ++ l) (sym (exits_there rules value n p there))
+        ap (λ (l : List (Arm Step ℕ Value)). exits n ++ classes_after p l) are
+        ∙ ap (λ (l : List (List ℕ)). exits n ++ l) (sym (exits_there rules value n p there))
         ∙ sym (exits_more rules value n)
 
-    pub counted_more : (entries more : List (ArrayString × ℕ)) → ((exits : List (List ℕ)) → Counts entries exits → Counts more (exits ++ classes_after p arms))
+    pub counted_more : (entries more : List (ArrayString × ℕ))
+        → ((exits : List (List ℕ)) → Counts entries exits
+        → Counts more (exits ++ classes_after p arms))
         → Counts entries (exits n) → Counts more (exits (n + 1))
     counted_more entries more counts before = subst (Counts more) more_is (counts (exits n) before)
 
-    pub total_more : (before now : ℕ) → before ≡ length (exits n) → now ≡ before + length (classes_after p arms) → now ≡ length (exits (n + 1))
+    pub total_more : (before now : ℕ) → before ≡ length (exits n)
+        → now ≡ before + length (classes_after p arms) → now ≡ length (exits (n + 1))
     total_more before now e h =
-        h ∙ ap (λ (k : ℕ). k + length (classes_after p arms)) e ∙ sym (length-append (exits n) (classes_after p arms)) ∙ ap length more_is
+        h ∙ ap (λ (k : ℕ). k + length (classes_after p arms)) e
+        ∙ sym (length-append (exits n) (classes_after p arms)) ∙ ap length more_is
 
-  pub few_more : (p : Board) (arms : List (Arm Step ℕ Value)) (before now : ℕ) → length arms ≤ 1024 → before ≤ 1024 * n → now ≡ before + length (classes_after p arms) → now ≤ 1024 * (n + 1)
+  pub few_more : (p : Board) (arms : List (Arm Step ℕ Value)) (before now : ℕ) → length arms ≤ 1024
+      → before ≤ 1024 * n → now ≡ before + length (classes_after p arms) → now ≤ 1024 * (n + 1)
   few_more p arms before now few low h = let some = few_classes p arms in omega arith
 
   module _ (none : position_at rules.groups n ≡ None) where
     same_exits : exits n ≡ exits (n + 1)
-    same_exits = sym (append-nil (exits n)) ∙ ap (λ (l : List (List ℕ)). exits n ++ l) (sym (no_exits_there rules value n none)) ∙ sym (exits_more rules value n)
+    same_exits = sym (append-nil (exits n)) ∙ ap (λ (l : List (List ℕ)). exits n ++ l)
+        (sym (no_exits_there rules value n none)) ∙ sym (exits_more rules value n)
 
-    pub counts_same : (entries : List (ArrayString × ℕ)) → Counts entries (exits n) → Counts entries (exits (n + 1))
+    pub counts_same : (entries : List (ArrayString × ℕ)) → Counts entries (exits n)
+        → Counts entries (exits (n + 1))
     counts_same entries h = subst (Counts entries) same_exits h
 
     pub total_same : (total : ℕ) → total ≡ length (exits n) → total ≡ length (exits (n + 1))
@@ -67,21 +80,31 @@ module _ (rules : RuleLines) (value : Board → Value) (n : ℕ) where
 
 module _ (groups : List GroupLine) (codes : Colour → List ℕ) (n : ℕ) where
   -- a broken number has no squeeze
-  pub nothing_here : (out : SinkTold) → position_at groups n ≡ None → WritesSome (Ok 0) (line_of (squeeze_at groups codes n)) (one_of (squeeze_at groups codes n)) out out
+  pub nothing_here : (out : SinkTold) → position_at groups n ≡ None
+      → WritesSome (Ok 0) (line_of (squeeze_at groups codes n)) (one_of (squeeze_at groups codes n))
+      out out
   nothing_here out none =
-      subst (λ o. WritesSome (Ok 0) (line_of o) (one_of o) out out) (sym (no_squeeze_there groups codes n none)) (refl, took_nothing out)
+      subst (λ o. WritesSome (Ok 0) (line_of o) (one_of o) out out)
+      (sym (no_squeeze_there groups codes n none)) (refl, took_nothing out)
 
   module _ (p : Board) (there : position_at groups n ≡ Some p) (old new : SinkTold) where
     -- its squeeze was written, or the sink failed within its line
-    pub written_here : (many : ℕ) → many ≡ one_of (squeeze_on groups codes n p) → TookText (line_of (squeeze_on groups codes n p)) old new
-        → WritesSome (Ok many) (line_of (squeeze_at groups codes n)) (one_of (squeeze_at groups codes n)) old new
+    pub written_here : (many : ℕ) → many ≡ one_of (squeeze_on groups codes n p)
+        → TookText (line_of (squeeze_on groups codes n p)) old new
+        → WritesSome (Ok many) (line_of (squeeze_at groups codes n))
+        (one_of (squeeze_at groups codes n)) old new
     written_here many is took =
-        subst (λ o. WritesSome (Ok many) (line_of o) (one_of o) old new) (sym (squeeze_there groups codes n p there)) (is, took)
+        subst (λ o. WritesSome (Ok many) (line_of o) (one_of o) old new)
+        (sym (squeeze_there groups codes n p there)) (is, took)
 
     pub failed_here : FailedWithin (line_of (squeeze_on groups codes n p)) old new
-        → WritesSome (Err Output) (line_of (squeeze_at groups codes n)) (one_of (squeeze_at groups codes n)) old new
+        → WritesSome (Err Output) (line_of (squeeze_at groups codes n))
+        (one_of (squeeze_at groups codes n)) old new
     failed_here failed =
-        subst (λ o. WritesSome (Err Output) (line_of o) (one_of o) old new) (sym (squeeze_there groups codes n p there)) failed
+        subst (λ o. WritesSome (Err Output) (line_of o) (one_of o) old new)
+        (sym (squeeze_there groups codes n p there)) failed
 
-  pub wanted_here : (out : SinkTold) → WritesSome (Err NoMemory) (line_of (squeeze_at groups codes n)) (one_of (squeeze_at groups codes n)) out out
+  pub wanted_here : (out : SinkTold)
+      → WritesSome (Err NoMemory) (line_of (squeeze_at groups codes n))
+      (one_of (squeeze_at groups codes n)) out out
   wanted_here out = front_nothing (line_of (squeeze_at groups codes n)) out

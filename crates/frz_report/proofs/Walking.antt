@@ -39,44 +39,58 @@ use Rattle.frz_report.specs.Walks.{TookFront, WritesSome, lettered, line_of, lin
 pub range_more : (a n : ℕ) → range_with_len a (suc n) ≡ range_with_len a n ++ (a + n) ∷ []
 range_more a zero = ap (λ (k : ℕ). k ∷ []) (omega arith)
 range_more a (suc n) =
-    ap (λ (l : List ℕ). a ∷ l) (range_more (a + 1) n) ∙ ap (λ (k : ℕ). a ∷ (range_with_len (a + 1) n ++ k ∷ [])) (omega arith)
+    ap (λ (l : List ℕ). a ∷ l) (range_more (a + 1) n)
+    ∙ ap (λ (k : ℕ). a ∷ (range_with_len (a + 1) n ++ k ∷ [])) (omega arith)
 
 -- the numbers below one more
 pub numbers_more : (n : ℕ) → range_with_len 0 (n + 1) ≡ range_with_len 0 n ++ n ∷ []
-numbers_more n = ap (range_with_len 0) (add-one n) ∙ range_more 0 n ∙ ap (λ (k : ℕ). range_with_len 0 n ++ k ∷ []) (omega arith)
+numbers_more n = ap (range_with_len 0) (add-one n) ∙ range_more 0 n
+    ∙ ap (λ (k : ℕ). range_with_len 0 n ++ k ∷ []) (omega arith)
 
 -- the exits of one more number
-pub exits_more : (rules : RuleLines) (value : Board → Value) (n : ℕ) → exits_below rules value (n + 1) ≡ exits_below rules value n ++ exits_at rules value n
+pub exits_more : (rules : RuleLines) (value : Board → Value) (n : ℕ)
+    → exits_below rules value (n + 1) ≡ exits_below rules value n ++ exits_at rules value n
 exits_more rules value n =
-    ap (flat_map (exits_at rules value)) (numbers_more n) ∙ flat_map-append (exits_at rules value) (range_with_len 0 n) (n ∷ [])
-    ∙ ap (λ (l : List (List ℕ)). exits_below rules value n ++ l) (append-nil (exits_at rules value n))
+    ap (flat_map (exits_at rules value)) (numbers_more n) ∙ flat_map-append (exits_at rules value)
+    (range_with_len 0 n) (n ∷ [])
+    ∙ ap (λ (l : List (List ℕ)). exits_below rules value n ++ l)
+    (append-nil (exits_at rules value n))
 
 -- where a number has this position, its exits are those after its moves
-pub exits_there : (rules : RuleLines) (value : Board → Value) (i : ℕ) (p : Board) → position_at rules.groups i ≡ Some p
+pub exits_there : (rules : RuleLines) (value : Board → Value) (i : ℕ) (p : Board)
+    → position_at rules.groups i ≡ Some p
     → exits_at rules value i ≡ classes_after p ((graph_by rules value).arms i)
 exits_there rules value i p at = ap (classes_on ((graph_by rules value).arms i)) at
 
-pub no_exits_there : (rules : RuleLines) (value : Board → Value) (i : ℕ) → position_at rules.groups i ≡ None → exits_at rules value i ≡ []
+pub no_exits_there : (rules : RuleLines) (value : Board → Value) (i : ℕ)
+    → position_at rules.groups i ≡ None → exits_at rules value i ≡ []
 no_exits_there rules value i at = ap (classes_on ((graph_by rules value).arms i)) at
 
 all_legal : (p : Board) → All (λ m. is_legal p m ≡ true) (legal_moves_of p)
-all_legal p = λ k d within. (only_legal p (get_or (legal_moves_of p) k d) (Contains-get_or (legal_moves_of p) k d within)).1
+all_legal p = λ k d within.
+    (only_legal p (get_or (legal_moves_of p) k d) (Contains-get_or (legal_moves_of p) k d within)).1
 
 -- the moves of a number are legal at its position
-pub arms_legal : (rules : RuleLines) (value : Board → Value) (i : ℕ) (p : Board) → position_at rules.groups i ≡ Some p
+pub arms_legal : (rules : RuleLines) (value : Board → Value) (i : ℕ) (p : Board)
+    → position_at rules.groups i ≡ Some p
     → All (λ a. is_legal p a.mv ≡ true) ((graph_by rules value).arms i)
 arms_legal rules value i p at =
     let name = name_in (numbers_by rules.groups) in
-    subst (λ (o : Option Board). All (λ a. is_legal p a.mv ≡ true) (arms_at (arena_by rules value) name o)) (sym at)
-    (All-map (λ (a : Arm Step ℕ Value). is_legal p a.mv ≡ true) (named name) (map (arm_of (game_of rules value) p) (legal_moves_of p))
-    (All-map (λ (a : Arm Step Board Value). is_legal p a.mv ≡ true) (arm_of (game_of rules value) p) (legal_moves_of p) (all_legal p)))
+    subst (λ (o : Option Board). All (λ a. is_legal p a.mv ≡ true)
+    (arms_at (arena_by rules value) name o)) (sym at)
+    (All-map (λ (a : Arm Step ℕ Value). is_legal p a.mv ≡ true) (named name)
+    (map (arm_of (game_of rules value) p) (legal_moves_of p))
+    (All-map (λ (a : Arm Step Board Value). is_legal p a.mv ≡ true) (arm_of (game_of rules value) p)
+    (legal_moves_of p) (all_legal p)))
 
 -- the squeeze of a number that has this position
-pub squeeze_there : (groups : List GroupLine) (codes : Colour → List ℕ) (i : ℕ) (p : Board) → position_at groups i ≡ Some p
+pub squeeze_there : (groups : List GroupLine) (codes : Colour → List ℕ) (i : ℕ) (p : Board)
+    → position_at groups i ≡ Some p
     → squeeze_at groups codes i ≡ squeeze_on groups codes i p
 squeeze_there groups codes i p at = ap (option_and_then (squeeze_on groups codes i)) at
 
-pub no_squeeze_there : (groups : List GroupLine) (codes : Colour → List ℕ) (i : ℕ) → position_at groups i ≡ None → squeeze_at groups codes i ≡ None
+pub no_squeeze_there : (groups : List GroupLine) (codes : Colour → List ℕ) (i : ℕ)
+    → position_at groups i ≡ None → squeeze_at groups codes i ≡ None
 no_squeeze_there groups codes i at = ap (option_and_then (squeeze_on groups codes i)) at
 
 module _ (rules : RuleLines) (kept : Colour → List ℕ) where
@@ -86,9 +100,11 @@ module _ (rules : RuleLines) (kept : Colour → List ℕ) where
   abbrev one : ℕ → Option Squeeze
   one n = squeeze_at rules.groups kept n
 
-  more_squeezes : (n : ℕ) → squeezes_below rules.groups kept (n + 1) ≡ squeezes_below rules.groups kept n ++ cons_option (one n) []
+  more_squeezes : (n : ℕ) → squeezes_below rules.groups kept (n + 1) ≡ squeezes_below rules.groups
+      kept n ++ cons_option (one n) []
   more_squeezes n =
-      ap (filter_map (squeeze_at rules.groups kept)) (numbers_more n) ∙ filter_map-append (squeeze_at rules.groups kept) (range_with_len 0 n) (n ∷ [])
+      ap (filter_map (squeeze_at rules.groups kept)) (numbers_more n)
+      ∙ filter_map-append (squeeze_at rules.groups kept) (range_with_len 0 n) (n ∷ [])
 
   line_here : (o : Option Squeeze) → flat_map squeeze_line (cons_option o []) ≡ line_of o
   line_here None = refl
@@ -101,12 +117,15 @@ module _ (rules : RuleLines) (kept : Colour → List ℕ) where
   -- the lines and the number of the squeezes of one more number
   pub lines_more : (n : ℕ) → lines (n + 1) ≡ lines n ++ line_of (one n)
   lines_more n =
-      ap (flat_map squeeze_line) (more_squeezes n) ∙ flat_map-append squeeze_line (squeezes_below rules.groups kept n) (cons_option (one n) [])
+      ap (flat_map squeeze_line) (more_squeezes n) ∙ flat_map-append squeeze_line
+      (squeezes_below rules.groups kept n) (cons_option (one n) [])
       ∙ ap (λ (l : List ℕ). lines n ++ l) (line_here (one n))
 
-  pub many_more : (n : ℕ) → length (squeezes_below rules.groups kept (n + 1)) ≡ length (squeezes_below rules.groups kept n) + one_of (one n)
+  pub many_more : (n : ℕ) → length (squeezes_below rules.groups kept (n + 1)) ≡ length
+      (squeezes_below rules.groups kept n) + one_of (one n)
   many_more n =
-      ap length (more_squeezes n) ∙ length-append (squeezes_below rules.groups kept n) (cons_option (one n) [])
+      ap length (more_squeezes n) ∙ length-append (squeezes_below rules.groups kept n)
+      (cons_option (one n) [])
       ∙ ap (λ (k : ℕ). length (squeezes_below rules.groups kept n) + k) (many_here (one n))
 
   pub one_at_most : (o : Option Squeeze) → one_of o ≤ 1
@@ -120,7 +139,8 @@ module _ (rules : RuleLines) (kept : Colour → List ℕ) where
       let before = lines_on n k in
       let at : n + k + 1 ≡ n + suc k = omega arith in (
         before.0 ++ line_of (one (n + k)),
-        sym (append_assoc (lines n) before.0 (line_of (one (n + k)))) ∙ ap (λ (l : List ℕ). l ++ line_of (one (n + k))) before.1
+        sym (append_assoc (lines n) before.0 (line_of (one (n + k))))
+            ∙ ap (λ (l : List ℕ). l ++ line_of (one (n + k))) before.1
             ∙ sym (lines_more (n + k)) ∙ ap lines at,
       )
 
@@ -130,8 +150,10 @@ module _ (rules : RuleLines) (kept : Colour → List ℕ) where
       let at : n + (m - n) ≡ m = omega arith in (on.0, on.1 ∙ ap lines at)
 
   both_lines : (xs ys : List ℕ) → IsLines xs → IsLines ys → IsLines (xs ++ ys)
-  both_lines xs ys h (inl e) = subst IsLines (sym (ap (λ (l : List ℕ). xs ++ l) e ∙ append-nil xs)) h
-  both_lines xs ys h (inr k) = inr (xs ++ k.0, ap (λ (l : List ℕ). xs ++ l) k.1 ∙ sym (append_assoc xs k.0 (10 ∷ [])))
+  both_lines xs ys h (inl e) =
+      subst IsLines (sym (ap (λ (l : List ℕ). xs ++ l) e ∙ append-nil xs)) h
+  both_lines xs ys h (inr k) =
+      inr (xs ++ k.0, ap (λ (l : List ℕ). xs ++ l) k.1 ∙ sym (append_assoc xs k.0 (10 ∷ [])))
 
   pair_is_line : (w b : ℕ) (p : Board) → IsLines (pair_line w b p)
   pair_is_line w b p =
@@ -140,8 +162,10 @@ module _ (rules : RuleLines) (kept : Colour → List ℕ) where
       let f : List ℕ = codes " " ++ fen_text p in
       inr (
         a ++ (m ++ f),
-        ap (λ (l : List ℕ). a ++ (m ++ l)) (sym (append_assoc (codes " ") (fen_text p) (codes "\n")))
-            ∙ ap (λ (l : List ℕ). a ++ l) (sym (append_assoc m f (codes "\n"))) ∙ sym (append_assoc a (m ++ f) (codes "\n")),
+        ap (λ (l : List ℕ). a ++ (m ++ l))
+            (sym (append_assoc (codes " ") (fen_text p) (codes "\n")))
+            ∙ ap (λ (l : List ℕ). a ++ l) (sym (append_assoc m f (codes "\n")))
+            ∙ sym (append_assoc a (m ++ f) (codes "\n")),
       )
 
   some_line : (o : Option Squeeze) → IsLines (line_of o)
@@ -152,21 +176,25 @@ module _ (rules : RuleLines) (kept : Colour → List ℕ) where
   pub are_lines : (n : ℕ) → IsLines (lines n)
   are_lines zero = inl refl
   are_lines (suc n) =
-      subst IsLines (sym (ap lines (sym (add-one n)) ∙ lines_more n)) (both_lines (lines n) (line_of (one n)) (are_lines n) (some_line (one n)))
+      subst IsLines (sym (ap lines (sym (add-one n)) ∙ lines_more n))
+      (both_lines (lines n) (line_of (one n)) (are_lines n) (some_line (one n)))
 
-  module _ (n size : ℕ) (old mid new : SinkTold) (low : n < size) (took : TookText (lines n) old mid) where
+  module _ (n size : ℕ) (old mid new : SinkTold) (low : n < size)
+      (took : TookText (lines n) old mid) where
     abbrev left : (rest : List ℕ) × (lines (n + 1) ++ rest ≡ lines size)
     left = lines_front (n + 1) size (omega arith)
 
     -- one more number was looked at
     pub took_more : TookText (line_of (one n)) mid new → TookText (lines (n + 1)) old new
-    took_more more = took_behind (lines n) (line_of (one n)) (lines (n + 1)) old mid new took (sym (lines_more n)) more
+    took_more more = took_behind (lines n) (line_of (one n)) (lines (n + 1)) old mid new took
+        (sym (lines_more n)) more
 
     -- the sink failed within its line
     pub failed_more : FailedWithin (line_of (one n)) mid new → FailedWithin (lines size) old new
     failed_more failed =
         failed_before (lines (n + 1)) left.0 (lines size) old new
-        (failed_behind (lines n) (line_of (one n)) (lines (n + 1)) old mid new took (sym (lines_more n)) failed) left.1
+        (failed_behind (lines n) (line_of (one n)) (lines (n + 1)) old mid new took
+        (sym (lines_more n)) failed) left.1
 
     -- there was no memory behind a line of it
     pub front_more : TookFront (line_of (one n)) mid new → TookFront (lines size) old new
@@ -174,20 +202,27 @@ module _ (rules : RuleLines) (kept : Colour → List ℕ) where
       text = lines n ++ front.text;
       rest = front.rest ++ left.0;
       lines = both_lines (lines n) front.text (are_lines n) front.lines;
-      took = took_behind (lines n) front.text (lines n ++ front.text) old mid new took refl front.took;
+      took = took_behind (lines n) front.text (lines n ++ front.text) old mid new took refl
+          front.took;
       begins = append_assoc (lines n) front.text (front.rest ++ left.0)
-          ∙ ap (λ (l : List ℕ). lines n ++ l) (sym (append_assoc front.text front.rest left.0) ∙ ap (λ (l : List ℕ). l ++ left.0) front.begins)
-          ∙ sym (append_assoc (lines n) (line_of (one n)) left.0) ∙ ap (λ (l : List ℕ). l ++ left.0) (sym (lines_more n)) ∙ left.1;
+          ∙ ap (λ (l : List ℕ). lines n ++ l)
+          (sym (append_assoc front.text front.rest left.0) ∙ ap (λ (l : List ℕ). l ++ left.0)
+          front.begins)
+          ∙ sym (append_assoc (lines n) (line_of (one n)) left.0) ∙ ap (λ (l : List ℕ). l ++ left.0)
+          (sym (lines_more n)) ∙ left.1;
     }
 
-    pub stopped_more : (fault : ReportFault) (many : ℕ) → WritesSome (Err fault) (line_of (one n)) many mid new → (all : ℕ) → WritesSome (Err fault) (lines size) all old new
+    pub stopped_more : (fault : ReportFault) (many : ℕ)
+        → WritesSome (Err fault) (line_of (one n)) many mid new → (all : ℕ)
+        → WritesSome (Err fault) (lines size) all old new
     stopped_more Store many h all = front_more h
     stopped_more Output many h all = failed_more h
     stopped_more NoMemory many h all = front_more h
 
 -- nothing was written of a text
 pub front_nothing : (whole : List ℕ) (out : SinkTold) → TookFront whole out out
-front_nothing whole out = record { text = []; rest = whole; lines = inl refl; took = took_nothing out; begins = refl }
+front_nothing whole out =
+    record { text = []; rest = whole; lines = inl refl; took = took_nothing out; begins = refl }
 
 -- what is written of the lines of the classes, and those that are left
 pub record HasWritten (all left : List (ArrayString × ℕ)) (old now : SinkTold) : Type 0 where
@@ -198,14 +233,17 @@ pub record HasWritten (all left : List (ArrayString × ℕ)) (old now : SinkTold
 pub none_written : (all : List (ArrayString × ℕ)) (out : SinkTold) → HasWritten all all out out
 none_written all out = record { text = []; took = took_nothing out; rest = refl }
 
-module _ (all left next : List (ArrayString × ℕ)) (e : ArrayString × ℕ) (old mid new : SinkTold) (is : left ≡ e ∷ next) (so_far : HasWritten all left old mid) where
+module _ (all left next : List (ArrayString × ℕ)) (e : ArrayString × ℕ) (old mid new : SinkTold)
+    (is : left ≡ e ∷ next) (so_far : HasWritten all left old mid) where
   abbrev this : List ℕ
   this = class_line (e.0.bytes, e.1)
 
-  behind_this : (so_far.text ++ this) ++ flat_map class_line (lettered next) ≡ flat_map class_line (lettered all)
+  behind_this : (so_far.text ++ this) ++ flat_map class_line (lettered next) ≡ flat_map class_line
+      (lettered all)
   behind_this =
       append_assoc so_far.text this (flat_map class_line (lettered next))
-      ∙ ap (λ (l : List (ArrayString × ℕ)). so_far.text ++ flat_map class_line (lettered l)) (sym is) ∙ so_far.rest
+      ∙ ap (λ (l : List (ArrayString × ℕ)). so_far.text ++ flat_map class_line (lettered l))
+      (sym is) ∙ so_far.rest
 
   pub more_written : TookText this mid new → HasWritten all next old new
   more_written took = record {
@@ -214,52 +252,81 @@ module _ (all left next : List (ArrayString × ℕ)) (e : ArrayString × ℕ) (o
     rest = behind_this;
   }
 
-  pub cut_written : FailedWithin this mid new → FailedWithin (flat_map class_line (lettered all)) old new
+  pub cut_written : FailedWithin this mid new
+      → FailedWithin (flat_map class_line (lettered all)) old new
   cut_written failed =
-      failed_before (so_far.text ++ this) (flat_map class_line (lettered next)) (flat_map class_line (lettered all)) old new
-      (failed_behind so_far.text this (so_far.text ++ this) old mid new so_far.took refl failed) behind_this
+      failed_before (so_far.text ++ this) (flat_map class_line (lettered next))
+      (flat_map class_line (lettered all)) old new
+      (failed_behind so_far.text this (so_far.text ++ this) old mid new so_far.took refl failed)
+      behind_this
 
-pub all_classes : (all over : List (ArrayString × ℕ)) (old now : SinkTold) → over ≡ [] → HasWritten all over old now → TookText (flat_map class_line (lettered all)) old now
+pub all_classes : (all over : List (ArrayString × ℕ)) (old now : SinkTold) → over ≡ []
+    → HasWritten all over old now → TookText (flat_map class_line (lettered all)) old now
 all_classes all over old now none so_far =
     subst (λ (l : List ℕ). TookText l old now)
-    (sym (append-nil so_far.text) ∙ ap (λ (l : List (ArrayString × ℕ)). so_far.text ++ flat_map class_line (lettered l)) (sym none) ∙ so_far.rest) so_far.took
+    (sym (append-nil so_far.text)
+    ∙ ap (λ (l : List (ArrayString × ℕ)). so_far.text ++ flat_map class_line (lettered l))
+    (sym none) ∙ so_far.rest) so_far.took
 
 -- the classes after some moves, and after more of them
-classes_append : (p : Board) (arms more : List (Arm Step ℕ Value)) → classes_after p (arms ++ more) ≡ classes_after p arms ++ classes_after p more
+classes_append : (p : Board) (arms more : List (Arm Step ℕ Value))
+    → classes_after p (arms ++ more) ≡ classes_after p arms ++ classes_after p more
 classes_append p arms more =
-    ap (map (λ (a : Arm Step ℕ Value). class_of (after p a.mv))) (filter-append (λ (a : Arm Step ℕ Value). is_open a.next) arms more)
-    ∙ map-append (λ (a : Arm Step ℕ Value). class_of (after p a.mv)) (filter (λ (a : Arm Step ℕ Value). is_open a.next) arms) (filter (λ (a : Arm Step ℕ Value). is_open a.next) more)
+    ap (map (λ (a : Arm Step ℕ Value). class_of (after p a.mv)))
+    (filter-append (λ (a : Arm Step ℕ Value). is_open a.next) arms more)
+    ∙ map-append (λ (a : Arm Step ℕ Value). class_of (after p a.mv))
+    (filter (λ (a : Arm Step ℕ Value). is_open a.next) arms)
+    (filter (λ (a : Arm Step ℕ Value). is_open a.next) more)
 
-pub classes_more : (p : Board) (arms : List (Arm Step ℕ Value)) (i : ℕ) (d : Arm Step ℕ Value) → i < length arms
-    → classes_after p (take (i + 1) arms) ≡ classes_after p (take i arms) ++ classes_after p (get_or arms i d ∷ [])
-classes_more p arms i d within = ap (classes_after p) (take_more arms i d within) ∙ classes_append p (take i arms) (get_or arms i d ∷ [])
+pub classes_more : (p : Board) (arms : List (Arm Step ℕ Value)) (i : ℕ) (d : Arm Step ℕ Value)
+    → i < length arms
+    → classes_after p (take (i + 1) arms) ≡ classes_after p (take i arms) ++ classes_after p
+    (get_or arms i d ∷ [])
+classes_more p arms i d within = ap (classes_after p) (take_more arms i d within)
+    ∙ classes_append p (take i arms) (get_or arms i d ∷ [])
 
 many_mapped : {A B : Type 0} (f : A → B) (xs : List A) → length (map f xs) ≡ length xs
 many_mapped f [] = refl
 many_mapped f (x ∷ xs) = ap suc (many_mapped f xs)
 
-pub few_classes : (p : Board) (arms : List (Arm Step ℕ Value)) → length (classes_after p arms) ≤ length arms
+pub few_classes : (p : Board) (arms : List (Arm Step ℕ Value))
+    → length (classes_after p arms) ≤ length arms
 few_classes p arms =
-    let mapped : length (classes_after p arms) ≡ length (filter (λ (a : Arm Step ℕ Value). is_open a.next) arms) = many_mapped (λ (a : Arm Step ℕ Value). class_of (after p a.mv)) (filter (λ (a : Arm Step ℕ Value). is_open a.next) arms) in
-    let kept : length (filter (λ (a : Arm Step ℕ Value). is_open a.next) arms) ≡ count_by (λ (a : Arm Step ℕ Value). is_open a.next) arms = length-filter (λ (a : Arm Step ℕ Value). is_open a.next) arms in
-    let few : count_by (λ (a : Arm Step ℕ Value). is_open a.next) arms ≤ length arms = count_by-le-length (λ (a : Arm Step ℕ Value). is_open a.next) arms in
+    let mapped : length (classes_after p arms) ≡ length
+    (filter (λ (a : Arm Step ℕ Value). is_open a.next) arms) =
+    many_mapped (λ (a : Arm Step ℕ Value). class_of (after p a.mv))
+    (filter (λ (a : Arm Step ℕ Value). is_open a.next) arms) in
+    let kept : length (filter (λ (a : Arm Step ℕ Value). is_open a.next) arms) ≡ count_by
+    (λ (a : Arm Step ℕ Value). is_open a.next) arms =
+    length-filter (λ (a : Arm Step ℕ Value). is_open a.next) arms in
+    let few : count_by (λ (a : Arm Step ℕ Value). is_open a.next) arms ≤ length arms =
+    count_by-le-length (λ (a : Arm Step ℕ Value). is_open a.next) arms in
     omega arith
 
 -- of the first moves there are at most as many
-pub few_front : (p : Board) (arms : List (Arm Step ℕ Value)) (i : ℕ) → i ≤ length arms → length (classes_after p (take i arms)) ≤ length arms
+pub few_front : (p : Board) (arms : List (Arm Step ℕ Value)) (i : ℕ) → i ≤ length arms
+    → length (classes_after p (take i arms)) ≤ length arms
 few_front p arms i within =
     let few = few_classes p (take i arms) in
     let front : length (take i arms) ≡ i = length-take-le i arms within in
     omega arith
 
-pub classes_step : (p : Board) (arms : List (Arm Step ℕ Value)) (i : ℕ) (a : Arm Step ℕ Value) → i < length arms → a ≡ get_or arms i a
-    → classes_after p (take (i + 1) arms) ≡ classes_after p (take i arms) ++ classes_after p (a ∷ [])
+pub classes_step : (p : Board) (arms : List (Arm Step ℕ Value)) (i : ℕ) (a : Arm Step ℕ Value)
+    → i < length arms → a ≡ get_or arms i a
+    → classes_after p (take (i + 1) arms) ≡ classes_after p (take i arms) ++ classes_after p
+    (a ∷ [])
 classes_step p arms i a within is =
-    classes_more p arms i a within ∙ ap (λ (x : Arm Step ℕ Value). classes_after p (take i arms) ++ classes_after p (x ∷ [])) (sym is)
+    classes_more p arms i a within
+    ∙ ap (λ (x : Arm Step ℕ Value). classes_after p (take i arms) ++ classes_after p (x ∷ []))
+    (sym is)
 
 -- a move that is no open exit, and one that is
-pub closed_none : (p : Board) (a : Arm Step ℕ Value) → is_open a.next ≡ false → classes_after p (a ∷ []) ≡ []
-closed_none p a e = ap (λ (b : Bool). map (λ (a : Arm Step ℕ Value). class_of (after p a.mv)) (cond b (a ∷ []) [])) e
+pub closed_none : (p : Board) (a : Arm Step ℕ Value) → is_open a.next ≡ false
+    → classes_after p (a ∷ []) ≡ []
+closed_none p a e = ap
+    (λ (b : Bool). map (λ (a : Arm Step ℕ Value). class_of (after p a.mv)) (cond b (a ∷ []) [])) e
 
-pub open_one : (p : Board) (a : Arm Step ℕ Value) → is_open a.next ≡ true → classes_after p (a ∷ []) ≡ class_of (after p a.mv) ∷ []
-open_one p a e = ap (λ (b : Bool). map (λ (a : Arm Step ℕ Value). class_of (after p a.mv)) (cond b (a ∷ []) [])) e
+pub open_one : (p : Board) (a : Arm Step ℕ Value) → is_open a.next ≡ true
+    → classes_after p (a ∷ []) ≡ class_of (after p a.mv) ∷ []
+open_one p a e = ap (λ (b : Bool). map (λ (a : Arm Step ℕ Value). class_of (after p a.mv))
+    (cond b (a ∷ []) [])) e

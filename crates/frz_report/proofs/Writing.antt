@@ -42,37 +42,48 @@ module _ (rules : RuleLines) (value : Board → Value) (kept : Colour → List �
   whole = report_text rules value kept
 
   behind_said : classes ++ last ≡ [] → ⊥
-  behind_said = never_empty classes last (last_said (length (squeezes rules.groups kept)) (length (exits_of rules value)))
+  behind_said = never_empty classes last
+      (last_said (length (squeezes rules.groups kept)) (length (exits_of rules value)))
 
   -- a report is never empty
   pub report_said : whole ≡ [] → ⊥
   report_said = never_empty first (classes ++ last) behind_said
 
   last_is_line : (many exits : ℕ) → (front : List ℕ) × (last_line many exits ≡ front ++ 10 ∷ [])
-  last_is_line many exits = ((codes "squeezes " ++ decimal many) ++ (codes " unassigned " ++ decimal exits), simp append_assoc)
+  last_is_line many exits = (
+    (codes "squeezes " ++ decimal many) ++ (codes " unassigned " ++ decimal exits),
+    simp append_assoc,
+  )
 
   whole_lines : IsLines whole
   whole_lines =
-      let line = last_is_line (length (squeezes rules.groups kept)) (length (exits_of rules value)) in
+      let line = last_is_line (length (squeezes rules.groups kept))
+      (length (exits_of rules value)) in
       inr (
         first ++ (classes ++ line.0),
-        ap (λ (l : List ℕ). first ++ (classes ++ l)) line.1 ∙ ap (λ (l : List ℕ). first ++ l) (sym (append_assoc classes line.0 (10 ∷ [])))
+        ap (λ (l : List ℕ). first ++ (classes ++ l)) line.1 ∙ ap (λ (l : List ℕ). first ++ l)
+            (sym (append_assoc classes line.0 (10 ∷ [])))
             ∙ sym (append_assoc first (classes ++ line.0) (10 ∷ [])),
       )
 
   both : (first ++ classes) ++ last ≡ whole
   both = append_assoc first classes last
 
-  front_written : (fault : ReportFault) (old new : SinkTold) → TookFront first old new → (result : Result Totals ReportFault) → result ≡ Err fault
-      → ((text rest : List ℕ) → IsLines text → TookText text old new → text ++ rest ≡ whole → (rest ≡ [] → ⊥) → WritesReport rules value kept result old new)
+  front_written : (fault : ReportFault) (old new : SinkTold) → TookFront first old new
+      → (result : Result Totals ReportFault) → result ≡ Err fault
+      → ((text rest : List ℕ) → IsLines text → TookText text old new → text ++ rest ≡ whole
+      → (rest ≡ [] → ⊥) → WritesReport rules value kept result old new)
       → WritesReport rules value kept result old new
   front_written fault old new front result is made =
       made front.text (front.rest ++ (classes ++ last)) front.lines front.took
-      (sym (append_assoc front.text front.rest (classes ++ last)) ∙ ap (λ (l : List ℕ). l ++ (classes ++ last)) front.begins)
+      (sym (append_assoc front.text front.rest (classes ++ last))
+      ∙ ap (λ (l : List ℕ). l ++ (classes ++ last)) front.begins)
       (never_empty front.rest (classes ++ last) behind_said)
 
   -- something stopped the walk
-  pub stopped_early : (fault : ReportFault) (many : ℕ) (old new : SinkTold) → WritesSome (Err fault) first many old new → WritesReport rules value kept (Err fault) old new
+  pub stopped_early : (fault : ReportFault) (many : ℕ) (old new : SinkTold)
+      → WritesSome (Err fault) first many old new
+      → WritesReport rules value kept (Err fault) old new
   stopped_early Output many old new failed = record {
     text = first;
     rest = classes ++ last;
@@ -83,12 +94,29 @@ module _ (rules : RuleLines) (value : Board → Value) (kept : Colour → List �
   }
   stopped_early Store many old new front =
       front_written Store old new front (Err Store) refl
-      (λ text rest lines took begins more. record { text = text; rest = rest; lines = lines; wrote = took; begins = begins; finishes = more })
+      (λ text rest lines took begins more.
+      record {
+        text = text;
+        rest = rest;
+        lines = lines;
+        wrote = took;
+        begins = begins;
+        finishes = more;
+      })
   stopped_early NoMemory many old new front =
       front_written NoMemory old new front (Err NoMemory) refl
-      (λ text rest lines took begins more. record { text = text; rest = rest; lines = lines; wrote = took; begins = begins; finishes = more })
+      (λ text rest lines took begins more.
+      record {
+        text = text;
+        rest = rest;
+        lines = lines;
+        wrote = took;
+        begins = begins;
+        finishes = more;
+      })
 
-  failed_whole : (old new : SinkTold) → FailedWithin whole old new → WritesReport rules value kept (Err Output) old new
+  failed_whole : (old new : SinkTold) → FailedWithin whole old new
+      → WritesReport rules value kept (Err Output) old new
   failed_whole old new failed = record {
     text = whole;
     rest = [];
@@ -100,21 +128,27 @@ module _ (rules : RuleLines) (value : Board → Value) (kept : Colour → List �
 
   module _ (old mid : SinkTold) (took : TookText first old mid) where
     -- the sink failed within the lines of the classes
-    pub classes_failed : (new : SinkTold) → FailedWithin classes mid new → WritesReport rules value kept (Err Output) old new
+    pub classes_failed : (new : SinkTold) → FailedWithin classes mid new
+        → WritesReport rules value kept (Err Output) old new
     classes_failed new failed =
         failed_whole old new
-        (failed_before (first ++ classes) last whole old new (failed_behind first classes (first ++ classes) old mid new took refl failed) both)
+        (failed_before (first ++ classes) last whole old new
+        (failed_behind first classes (first ++ classes) old mid new took refl failed) both)
 
     module _ (then : SinkTold) (more : TookText classes mid then) where
       took_both : TookText (first ++ classes) old then
       took_both = took_behind first classes (first ++ classes) old mid then took refl more
 
       -- within the last line
-      pub last_failed : (new : SinkTold) → FailedWithin last then new → WritesReport rules value kept (Err Output) old new
-      last_failed new failed = failed_whole old new (failed_behind (first ++ classes) last whole old then new took_both both failed)
+      pub last_failed : (new : SinkTold) → FailedWithin last then new
+          → WritesReport rules value kept (Err Output) old new
+      last_failed new failed =
+          failed_whole old new
+          (failed_behind (first ++ classes) last whole old then new took_both both failed)
 
       -- all of it was written
-      pub all_written : (new : SinkTold) (totals : Totals) → totals ≡ totals_of rules value kept → TookText last then new
+      pub all_written : (new : SinkTold) (totals : Totals) → totals ≡ totals_of rules value kept
+          → TookText last then new
           → WritesReport rules value kept (Ok totals) old new
       all_written new totals is end = record {
         text = whole;

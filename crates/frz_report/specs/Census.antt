@@ -1,4 +1,5 @@
--- Classes counted: each that occurs once, in the order in which they are first met, and how often it occurs.
+-- Classes counted: each that occurs once, in the order in which
+-- they are first met, and how often it occurs.
 use Rattle.std.specs.Prelude.{ℕ, not, List, [], ◌∷◌, map, filter, count_by}
 use Rattle.std.specs.Str.{bytes_eq}
 

@@ -6,7 +6,8 @@ use Rattle.frz_report.specs.Squeezes.{Squeeze}
 
 -- two numbers and the position at the first
 abbrev pub pair_line : ℕ → ℕ → Board → List ℕ
-pair_line w b p = codes "squeeze " ++ decimal w ++ (codes " " ++ decimal b ++ (codes " " ++ (fen_text p ++ codes "\n")))
+pair_line w b p = codes "squeeze " ++ decimal w
+    ++ (codes " " ++ decimal b ++ (codes " " ++ (fen_text p ++ codes "\n")))
 
 abbrev pub squeeze_line : Squeeze → List ℕ
 squeeze_line s = pair_line s.white_to_move s.black_to_move s.position
@@ -18,4 +19,5 @@ class_line e = codes "exits " ++ decimal e.1 ++ (codes " " ++ (e.0 ++ codes "\n"
 -- how many squeezes and how many open exits there are
 abbrev pub last_line : (squeezes unassigned : ℕ) → List ℕ
 last_line squeezes unassigned =
-    codes "squeezes " ++ decimal squeezes ++ (codes " unassigned " ++ decimal unassigned ++ codes "\n")
+    codes "squeezes " ++ decimal squeezes
+    ++ (codes " unassigned " ++ decimal unassigned ++ codes "\n")

@@ -48,7 +48,8 @@ abbrev pub WroteBy : {T : Type 0} → Result T ReportFault → List ℕ → Sink
 WroteBy (Err Output) text old new = FailedWithin text old new
 WroteBy result text old new = TookText text old new
 
--- nothing is left to be written and the totals are answered, or a fault of the outside left something
+-- nothing is left to be written and the totals are answered, or
+-- a fault of the outside left something
 abbrev pub Finishes : Result Totals ReportFault → Totals → (rest : List ℕ) → Type 0
 Finishes (Ok totals) answer rest = (totals ≡ answer) × (rest ≡ [])
 Finishes (Err Output) answer rest = ⊤
@@ -56,7 +57,8 @@ Finishes (Err fault) answer rest = rest ≢ []
 
 -- whole lines that begin the report were written, and all of it where the totals are answered
 pub record WritesReport
-    (rules : RuleLines) (value : Board → Value) (codes : Colour → List ℕ) (result : Result Totals ReportFault)
+    (rules : RuleLines) (value : Board → Value) (codes : Colour → List ℕ)
+    (result : Result Totals ReportFault)
     (old new : SinkTold) : Type 0 where
   pub text : List ℕ
   pub rest : List ℕ
@@ -67,19 +69,24 @@ pub record WritesReport
 
 -- so much was written of the report of a file that the table's name may hold
 pub record WritesOfFile
-    (files : Option Files) (table : Table) (result : Result Totals ReportFault) (old new : SinkTold) : Type 0 where
+    (files : Option Files) (table : Table) (result : Result Totals ReportFault)
+    (old new : SinkTold) : Type 0 where
   pub bytes : List ℕ
   pub may : MayHold files table.name (Some bytes)
   pub file : IsFileOf table bytes
-  pub wrote : WritesReport table.rules (value_by table.rules) (kept_codes (contents_of table) bytes) result old new
+  pub wrote : WritesReport table.rules (value_by table.rules) (kept_codes (contents_of table) bytes)
+      result old new
 
 -- where a fault came before the codes were read, nothing was written
-abbrev pub WritesOfTable : Option Files → Table → Result Totals ReportFault → SinkTold → SinkTold → Type 0
+abbrev pub WritesOfTable : Option Files → Table → Result Totals ReportFault → SinkTold → SinkTold
+    → Type 0
 WritesOfTable files table (Err Store) old new = new ≡ old
-WritesOfTable files table (Err NoMemory) old new = (new ≡ old) ⊎ WritesOfFile files table (Err NoMemory) old new
+WritesOfTable files table (Err NoMemory) old new =
+    (new ≡ old) ⊎ WritesOfFile files table (Err NoMemory) old new
 WritesOfTable files table result old new = WritesOfFile files table result old new
 
--- a fault of the store has raised its count, want of memory is free, and otherwise the store has not failed
+-- a fault of the store has raised its count, want of memory is
+-- free, and otherwise the store has not failed
 abbrev pub StoreCause : Result Totals ReportFault → StoreTold → StoreTold → Type 0
 StoreCause (Err Store) old new = Rose old.faults new.faults
 StoreCause (Err NoMemory) old new = ⊤

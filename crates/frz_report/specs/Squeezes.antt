@@ -1,4 +1,5 @@
--- Squeezes, the mutual zugzwangs of the field: the same men, and each side is worse off where it is to move.
+-- Squeezes, the mutual zugzwangs of the field: the same men,
+-- and each side is worse off where it is to move.
 use Rattle.std.specs.Prelude.{◌≡◌, ◌<◌, ◌==◌, ◌&&◌, ℕ, Bool, nat_lt, List, slice_index, Option, Some, None, filter_map, is_none, if◌then◌else◌}
 use Rattle.std.specs.List.{range_with_len}
 use Rattle.std.specs.Option.{option_and_then, option_map}
@@ -27,9 +28,11 @@ pub record Squeeze : Type 0 where
   pub black_to_move : ℕ
   pub position : Board
 
--- the same men with the other side to move: two positions of the set without a target, White to move at the first and
--- Black at the second, where White's rank is lower at the first, and Black's at the second
-pub record IsSqueeze (groups : List GroupLine) (codes : Colour → List ℕ) (s : Squeeze) : Type 0 where
+-- the same men with the other side to move: two positions of the set without a target, White to
+-- move at the first and Black at the second, where White's rank
+-- is lower at the first, and Black's at the second
+pub record IsSqueeze (groups : List GroupLine) (codes : Colour → List ℕ)
+    (s : Squeeze) : Type 0 where
   pub other : Board
   pub first_is : HasNumber groups s.white_to_move s.position
   pub second_is : HasNumber groups s.black_to_move other
@@ -52,7 +55,8 @@ partner_of groups p = if is_first p then number_of groups (with_black p) else No
 -- each side's rank is lower where it is to move
 abbrev pub is_worse_to_move : (Colour → List ℕ) → (w b : ℕ) → Bool
 is_worse_to_move codes w b =
-    nat_lt (rank_at codes White w) (rank_at codes White b) && nat_lt (rank_at codes Black b) (rank_at codes Black w)
+    nat_lt (rank_at codes White w) (rank_at codes White b) && nat_lt (rank_at codes Black b)
+    (rank_at codes Black w)
 
 abbrev pub squeeze_with : (Colour → List ℕ) → ℕ → Board → Option ℕ → Option Squeeze
 squeeze_with codes w p None = None
@@ -70,7 +74,8 @@ squeeze_at groups codes w = option_and_then (squeeze_on groups codes w) (positio
 
 -- the squeeze of a position with this number and a second number, where there is one
 abbrev pub squeezed_by : ℕ → Board → Option ℕ → Option Squeeze
-squeezed_by w p second = option_map (λ b. record { white_to_move = w; black_to_move = b; position = p }) second
+squeezed_by w p second =
+    option_map (λ b. record { white_to_move = w; black_to_move = b; position = p }) second
 
 -- those of the numbers below n, by increasing number with White to move
 abbrev pub squeezes_below : List GroupLine → (Colour → List ℕ) → ℕ → List Squeeze

@@ -47,8 +47,10 @@ pub record TookFront (whole : List ℕ) (old new : SinkTold) : Type 0 where
   pub took : TookText text old new
   pub begins : text ++ rest ≡ whole
 
--- the text with so many squeezes was written, or the sink failed within it, or there was no memory behind a line of it
-abbrev pub WritesSome : Result ℕ ReportFault → (whole : List ℕ) → (many : ℕ) → SinkTold → SinkTold → Type 0
+-- the text with so many squeezes was written, or the sink
+-- failed within it, or there was no memory behind a line of it
+abbrev pub WritesSome : Result ℕ ReportFault → (whole : List ℕ) → (many : ℕ) → SinkTold → SinkTold
+    → Type 0
 WritesSome (Ok n) whole many old new = (n ≡ many) × TookText whole old new
 WritesSome (Err Output) whole many old new = FailedWithin whole old new
 WritesSome (Err fault) whole many old new = TookFront whole old new

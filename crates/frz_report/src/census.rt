@@ -48,7 +48,8 @@ impl Census {
         requires { (exits : List (List ℕ)) × Counts self.old.classes.entries exits
             × (self.old.total ≡ length exits) × (length exits < MOST_EXITS) }
         ensures total { OnOk result (self.new.total ≡ self.old.total + 1) }
-        ensures counts { OnOk result ((exits : List (List ℕ)) → Counts self.old.classes.entries exits →
+        ensures counts { OnOk result
+            ((exits : List (List ℕ)) → Counts self.old.classes.entries exits →
             Counts self.new.classes.entries (exits ++ class.bytes ∷ [])) }
     {
         let before = self.classes.get(&class).copied().unwrap_or(0);
@@ -69,7 +70,8 @@ impl Census {
             × (self.old.total ≡ length exits) × (length exits < MOST_EXITS) }
         ensures total { OnOk result (self.new.total
             ≡ self.old.total + length (classes_after p.now (arm ∷ []))) }
-        ensures counts { OnOk result ((exits : List (List ℕ)) → Counts self.old.classes.entries exits →
+        ensures counts { OnOk result
+            ((exits : List (List ℕ)) → Counts self.old.classes.entries exits →
             Counts self.new.classes.entries (exits ++ classes_after p.now (arm ∷ []))) }
     {
         if is_open(arm.next) {
@@ -86,8 +88,10 @@ impl Census {
         requires legal { All (λ a. is_legal p.now a.mv ≡ true) arms.now }
         requires counts { (exits : List (List ℕ)) × Counts self.old.classes.entries exits
             × (self.old.total ≡ length exits) × (length exits + length arms.now < MOST_EXITS) }
-        ensures total { OnOk result (self.new.total ≡ self.old.total + length (classes_after p.now arms.now)) }
-        ensures counts { OnOk result ((exits : List (List ℕ)) → Counts self.old.classes.entries exits →
+        ensures total { OnOk result
+            (self.new.total ≡ self.old.total + length (classes_after p.now arms.now)) }
+        ensures counts { OnOk result
+            ((exits : List (List ℕ)) → Counts self.old.classes.entries exits →
             Counts self.new.classes.entries (exits ++ classes_after p.now arms.now)) }
     {
         for arm in arms {

@@ -38,9 +38,11 @@ fn write_if_squeeze<E: Entries, O: Sink>(
     requires position { HasNumber set.now number p.now }
     requires inside { number < size_of set.now }
     requires many { length (E.codes entries.now White) ≡ size_of set.now }
-    ensures wrote { WroteText (line_of (squeeze_on set.now (E.codes entries.now) number p.now)) result
+    ensures wrote { WroteText (line_of (squeeze_on set.now (E.codes entries.now) number p.now))
+        result
         (sink_of O.Sink out.old) (sink_of O.Sink out.new) }
-    ensures many { IfOk result (λ n. n ≡ one_of (squeeze_on set.now (E.codes entries.now) number p.now)) }
+    ensures many { IfOk result
+        (λ n. n ≡ one_of (squeeze_on set.now (E.codes entries.now) number p.now)) }
 {
     match squeezed_with(set, entries, number, p) {
         Some(second) => {

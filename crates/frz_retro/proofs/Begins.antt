@@ -19,7 +19,10 @@ queue_breaks k mid E Q tail i u m one =
     let in_list = within E i (omega (arith, one)) in
     let fewer = ones_set E i 0 one (λ e. omega (arith, e)) in
     let at : get_or F i 0 ≡ 0 = get_or-set_same E i 0 0 in_list in
-    let stays : (q : ℕ) → 2 ≤ get_or E q 0 → get_or F q 0 ≡ get_or E q 0 = λ q h. get_or-set_other E i q 0 0 (λ e. let y = ap (λ (x : ℕ). get_or E x 0) e in omega (arith, y, one, h)) in
+    let stays : (q : ℕ) → 2 ≤ get_or E q 0
+    → get_or F q 0 ≡ get_or E q 0 =
+    λ q h. get_or-set_other E i q 0 0
+    (λ e. let y = ap (λ (x : ℕ). get_or E x 0) e in omega (arith, y, one, h)) in
     let room = u.room in
     record {
       room = omega (arith, fewer, room);
@@ -41,7 +44,8 @@ queue_breaks k mid E Q tail i u m one =
       once = u.once;
     }
 
-module _ {B : Shape} {side : Colour} {E C L Q : List ℕ} {tail : ℕ} (n : ℕ) (b : Begun B side n E C L Q tail) (l : n < B.size) where
+module _ {B : Shape} {side : Colour} {E C L Q : List ℕ} {tail : ℕ} (n : ℕ)
+    (b : Begun B side n E C L Q tail) (l : n < B.size) where
   pub is_one : get_or E n 0 ≡ 1
   is_one = (b.rest n (omega arith) l).0
 
@@ -58,11 +62,15 @@ module _ {B : Shape} {side : Colour} {E C L Q : List ℕ} {tail : ℕ} (n : ℕ)
   begins F D M R end f d m here few ended queue sized = record {
     begun = λ i h. elim (cases_eq i n) [
       | inl e ↦
-          subst (λ j. IsBegun side (B.arena.node j) (B.arena.arms j) (get_or F j 0) (get_or D j 0) (get_or M j 0)) (sym e) here
+          subst (λ j. IsBegun side (B.arena.node j) (B.arena.arms j) (get_or F j 0) (get_or D j 0)
+          (get_or M j 0)) (sym e) here
       | inr x ↦
-          subst (λ (a : ℕ). IsBegun side (B.arena.node i) (B.arena.arms i) a (get_or D i 0) (get_or M i 0)) (sym (f i x))
-          (subst (λ (a : ℕ). IsBegun side (B.arena.node i) (B.arena.arms i) (get_or E i 0) a (get_or M i 0)) (sym (d i x))
-          (subst (λ (a : ℕ). IsBegun side (B.arena.node i) (B.arena.arms i) (get_or E i 0) (get_or C i 0) a) (sym (m i x)) (b.begun i (omega (arith, h, x)))))
+          subst (λ (a : ℕ). IsBegun side (B.arena.node i) (B.arena.arms i) a (get_or D i 0)
+          (get_or M i 0)) (sym (f i x))
+          (subst (λ (a : ℕ). IsBegun side (B.arena.node i) (B.arena.arms i) (get_or E i 0) a
+          (get_or M i 0)) (sym (d i x))
+          (subst (λ (a : ℕ). IsBegun side (B.arena.node i) (B.arena.arms i) (get_or E i 0)
+          (get_or C i 0) a) (sym (m i x)) (b.begun i (omega (arith, h, x)))))
     ];
     rest = λ i h k.
         let x : i ≢ n = omega (arith, h) in
@@ -72,7 +80,10 @@ module _ {B : Shape} {side : Colour} {E C L Q : List ℕ} {tail : ℕ} (n : ℕ)
       | inl e ↦ ap (λ j. get_or M j 0) e ∙ ended (λ c y. g c (ap B.arena.node e ∙ y))
       | inr x ↦ m i x ∙ b.ended i (omega (arith, h, x)) g
     ];
-    few = λ q. elim (cases_eq q n) [ inl e ↦ let y = ap (λ j. get_or F j 0) e in omega (arith, y, few) | inr x ↦ let y = f q x in let z = b.few q in omega (arith, y, z) ];
+    few = λ q. elim (cases_eq q n) [
+      | inl e ↦ let y = ap (λ j. get_or F j 0) e in omega (arith, y, few)
+      | inr x ↦ let y = f q x in let z = b.few q in omega (arith, y, z)
+    ];
     queue = queue;
     sized = sized;
   }
@@ -88,13 +99,22 @@ module _ {B : Shape} {side : Colour} {E C L Q : List ℕ} {tail : ℕ} (n : ℕ)
 
   pub begins_broken : B.arena.node n ≡ Broken → Begun B side (n + 1) (set E n 0) C L Q tail
   begins_broken e = begins (set E n 0) C L Q tail (other E 0) (λ _ _. refl) (λ _ _. refl)
-      (subst (λ x. IsBegun side x (B.arena.arms n) (get_or (set E n 0) n 0) (get_or C n 0) (get_or L n 0)) (sym e) (at_code 0))
-      (let y = at_code 0 in omega (arith, y)) (λ _. none_later) (queue_breaks 0 0 E Q tail n b.queue (omega arith) is_one)
-      (let s = b.sized in record { codes = length-set E n 0 ∙ s.codes; counts = s.counts; later = s.later; queue = s.queue })
+      (subst (λ x. IsBegun side x (B.arena.arms n) (get_or (set E n 0) n 0) (get_or C n 0)
+      (get_or L n 0)) (sym e) (at_code 0))
+      (let y = at_code 0 in omega (arith, y)) (λ _. none_later)
+      (queue_breaks 0 0 E Q tail n b.queue (omega arith) is_one)
+      (let s = b.sized in
+      record {
+        codes = length-set E n 0 ∙ s.codes;
+        counts = s.counts;
+        later = s.later;
+        queue = s.queue;
+      })
 
   pub begins_stale : (c : Colour) → B.arena.node n ≡ Stalemate c → Begun B side (n + 1) E C L Q tail
   begins_stale c e = begins E C L Q tail (λ _ _. refl) (λ _ _. refl) (λ _ _. refl)
-      (subst (λ x. IsBegun side x (B.arena.arms n) (get_or E n 0) (get_or C n 0) (get_or L n 0)) (sym e) is_one)
+      (subst (λ x. IsBegun side x (B.arena.arms n) (get_or E n 0) (get_or C n 0) (get_or L n 0))
+      (sym e) is_one)
       (let y = is_one in omega (arith, y)) (λ _. none_later) b.queue b.sized
 
   begins_code : (code : ℕ) → 2 ≤ code → code < 4 →
@@ -102,14 +122,24 @@ module _ {B : Shape} {side : Colour} {E C L Q : List ℕ} {tail : ℕ} (n : ℕ)
       Begun B side (n + 1) (set E n code) C L (set Q tail n) (tail + 1)
   begins_code code low few here =
       begins (set E n code) C L (set Q tail n) (tail + 1) (other E code) (λ _ _. refl) (λ _ _. refl)
-      (subst (λ (x : ℕ). IsBegun side (B.arena.node n) (B.arena.arms n) x (get_or C n 0) (get_or L n 0)) (sym (at_code code)) here)
-      (let y = at_code code in omega (arith, y, few)) (λ _. none_later) (queue_keeps 0 0 E Q tail n code b.queue (omega arith) is_one (omega (arith, low)))
-      (let s = b.sized in record { codes = length-set E n code ∙ s.codes; counts = s.counts; later = s.later; queue = length-set Q tail n ∙ s.queue })
+      (subst (λ (x : ℕ). IsBegun side (B.arena.node n) (B.arena.arms n) x (get_or C n 0)
+      (get_or L n 0)) (sym (at_code code)) here)
+      (let y = at_code code in omega (arith, y, few)) (λ _. none_later)
+      (queue_keeps 0 0 E Q tail n code b.queue (omega arith) is_one (omega (arith, low)))
+      (let s = b.sized in
+      record {
+        codes = length-set E n code ∙ s.codes;
+        counts = s.counts;
+        later = s.later;
+        queue = length-set Q tail n ∙ s.queue;
+      })
 
   pub begins_mate : (c : Colour) → B.arena.node n ≡ Mate c →
       Begun B side (n + 1) (set E n (cond (same_colour c side) 3 2)) C L (set Q tail n) (tail + 1)
   begins_mate c e = let x = cond_two (same_colour c side) in
-      begins_code (cond (same_colour c side) 3 2) x.0 x.1 (subst (λ y. IsBegun side y (B.arena.arms n) (cond (same_colour c side) 3 2) (get_or C n 0) (get_or L n 0)) (sym e) refl)
+      begins_code (cond (same_colour c side) 3 2) x.0 x.1
+      (subst (λ y. IsBegun side y (B.arena.arms n) (cond (same_colour c side) 3 2) (get_or C n 0)
+      (get_or L n 0)) (sym e) refl)
     where
       cond_two : (t : Bool) → (2 ≤ cond t 3 2) × (cond t 3 2 < 4)
       cond_two true = (omega arith, omega arith)
@@ -119,30 +149,51 @@ module _ {B : Shape} {side : Colour} {E C L Q : List ℕ} {tail : ℕ} (n : ℕ)
       own ≡ same_colour c side → (start_of own side (B.arena.arms n)).any ≡ false →
       Begun B side (n + 1) (set E n 3) C L (set Q tail n) (tail + 1)
   begins_failed c own e w none = begins_code 3 (omega arith) (omega arith)
-      (subst (λ y. IsBegun side y (B.arena.arms n) 3 (get_or C n 0) (get_or L n 0)) (sym e) (inr (fails_from (same_colour c side) side (B.arena.arms n) 3 refl (subst (λ x. (start_of x side (B.arena.arms n)).any ≡ false) w none))))
+      (subst (λ y. IsBegun side y (B.arena.arms n) 3 (get_or C n 0) (get_or L n 0)) (sym e)
+      (inr (fails_from (same_colour c side) side (B.arena.arms n) 3 refl
+      (subst (λ x. (start_of x side (B.arena.arms n)).any ≡ false) w none))))
 
   pub begins_open : (c : Colour) (own : Bool) → B.arena.node n ≡ Going c →
       own ≡ same_colour c side → (start_of own side (B.arena.arms n)).any ≡ true →
-      Begun B side (n + 1) E (set C n (start_of own side (B.arena.arms n)).count) (set L n (later_of (start_of own side (B.arena.arms n)))) Q tail
+      Begun B side (n + 1) E (set C n (start_of own side (B.arena.arms n)).count)
+      (set L n (later_of (start_of own side (B.arena.arms n)))) Q tail
   begins_open c own e w any =
       let s = b.sized in
       let D = set C n (start_of own side (B.arena.arms n)).count in
       let M = set L n (later_of (start_of own side (B.arena.arms n))) in
       let sc = s.counts in let sl = s.later in
-      let dn : get_or D n 0 ≡ (start_of own side (B.arena.arms n)).count = get_or-set_same C n (start_of own side (B.arena.arms n)).count 0 (omega (arith, sc, l)) in
-      let mn : get_or M n 0 ≡ later_of (start_of own side (B.arena.arms n)) = get_or-set_same L n (later_of (start_of own side (B.arena.arms n))) 0 (omega (arith, sl, l)) in
+      let dn : get_or D n 0 ≡ (start_of own side (B.arena.arms n)).count = get_or-set_same C n
+      (start_of own side (B.arena.arms n)).count 0 (omega (arith, sc, l)) in
+      let mn : get_or M n 0 ≡ later_of (start_of own side (B.arena.arms n)) = get_or-set_same L n
+      (later_of (start_of own side (B.arena.arms n))) 0 (omega (arith, sl, l)) in
       let o = opens_from own side (B.arena.arms n) (get_or E n 0) is_one any in
-      let o2 : Opens own side (B.arena.arms n) (get_or E n 0) (get_or D n 0) (get_or M n 0) = subst (λ (x : ℕ). Opens own side (B.arena.arms n) (get_or E n 0) x (get_or M n 0)) (sym dn) (subst (λ (x : ℕ). Opens own side (B.arena.arms n) (get_or E n 0) (start_of own side (B.arena.arms n)).count x) (sym mn) o) in
-      begins E D M Q tail (λ _ _. refl) (other C (start_of own side (B.arena.arms n)).count) (other L (later_of (start_of own side (B.arena.arms n))))
-      (subst (λ y. IsBegun side y (B.arena.arms n) (get_or E n 0) (get_or D n 0) (get_or M n 0)) (sym e) (inl (subst (λ x. Opens x side (B.arena.arms n) (get_or E n 0) (get_or D n 0) (get_or M n 0)) w o2)))
+      let o2 : Opens own side (B.arena.arms n) (get_or E n 0) (get_or D n 0) (get_or M n 0) = subst
+      (λ (x : ℕ). Opens own side (B.arena.arms n) (get_or E n 0) x (get_or M n 0)) (sym dn)
+      (subst (λ (x : ℕ). Opens own side (B.arena.arms n) (get_or E n 0)
+      (start_of own side (B.arena.arms n)).count x) (sym mn) o) in
+      begins E D M Q tail (λ _ _. refl) (other C (start_of own side (B.arena.arms n)).count)
+      (other L (later_of (start_of own side (B.arena.arms n))))
+      (subst (λ y. IsBegun side y (B.arena.arms n) (get_or E n 0) (get_or D n 0) (get_or M n 0))
+      (sym e) (inl (subst
+      (λ x. Opens x side (B.arena.arms n) (get_or E n 0) (get_or D n 0) (get_or M n 0)) w o2)))
       (let y = is_one in omega (arith, y)) (λ g. absurd (g c e)) b.queue
-      (record { codes = s.codes; counts = length-set C n (start_of own side (B.arena.arms n)).count ∙ s.counts; later = length-set L n (later_of (start_of own side (B.arena.arms n))) ∙ s.later; queue = s.queue })
+      (record {
+        codes = s.codes;
+        counts = length-set C n (start_of own side (B.arena.arms n)).count
+            ∙ s.counts;
+        later = length-set L n (later_of (start_of own side (B.arena.arms n))) ∙ s.later;
+        queue = s.queue;
+      })
 
 -- the lists as a call leaves them
 pub begun_as : (B : Shape) (side : Colour) (n : ℕ) (E F C D L M Q R : List ℕ) (t u : ℕ) → F ≡ E →
     D ≡ C → M ≡ L → R ≡ Q → u ≡ t → Begun B side n E C L Q t → Begun B side n F D M R u
 begun_as B side n E F C D L M Q R t u e f g h i w =
-    subst (λ x. Begun B side n x D M R u) (sym e) (subst (λ x. Begun B side n E x M R u) (sym f) (subst (λ x. Begun B side n E C x R u) (sym g) (subst (λ x. Begun B side n E C L x u) (sym h) (subst (λ x. Begun B side n E C L Q x) (sym i) w))))
+    subst (λ x. Begun B side n x D M R u) (sym e)
+    (subst (λ x. Begun B side n E x M R u) (sym f)
+    (subst (λ x. Begun B side n E C x R u) (sym g)
+    (subst (λ x. Begun B side n E C L x u) (sym h)
+    (subst (λ x. Begun B side n E C L Q x) (sym i) w))))
 
 ones_le : (E : List ℕ) → ones E ≤ length E
 ones_le [] = omega arith

@@ -39,7 +39,8 @@ waits_exit : (own : Bool) (d : ℕ → Bool) (side : Colour) (E : List ℕ) (a :
     counts_for own a ≡ true → a.next ≡ Outside v → is_of own (value_code side v) ≡ true →
     waits own d side E a ≡ true
 waits_exit own d side E a v c n k =
-    and_from (counts_for own a) (not (is_off own d side E a.next)) c (ap not (ap (is_off own d side E) n ∙ of_not own (value_code side v) k))
+    and_from (counts_for own a) (not (is_off own d side E a.next)) c
+    (ap not (ap (is_off own d side E) n ∙ of_not own (value_code side v) k))
 
 -- with nothing to wait for, no exit decides
 pub no_deciding : (own : Bool) (d : ℕ → Bool) (side : Colour) (E : List ℕ) (arms : List Arm)
@@ -47,13 +48,15 @@ pub no_deciding : (own : Bool) (d : ℕ → Bool) (side : Colour) (E : List ℕ)
     is_of own later ≡ true → ⊥
 no_deciding own d side E arms later l z h =
     let m = later_kind own own side arms later l h in
-    true≢false (sym (waits_exit own d side E m.0 m.1 m.3 m.4 m.5) ∙ count_zero (waits own d side E) arms m.0 z m.2)
+    true≢false (sym (waits_exit own d side E m.0 m.1 m.3 m.4 m.5) ∙ count_zero (waits own d side E)
+    arms m.0 z m.2)
 
 -- a counted arm that doesn't wait is off
 pub off_from : (own : Bool) (d : ℕ → Bool) (side : Colour) (E : List ℕ) (a : Arm) →
     counts_for own a ≡ true → waits own d side E a ≡ false → is_off own d side E a.next ≡ true
 off_from own d side E a c w =
-    elim (and_cases (counts_for own a) (not (is_off own d side E a.next)) w) [ inl e ↦ absurd (true≢false (sym c ∙ e)) | inr e ↦ not-false (is_off own d side E a.next) e ]
+    elim (and_cases (counts_for own a) (not (is_off own d side E a.next)) w)
+    [ inl e ↦ absurd (true≢false (sym c ∙ e)) | inr e ↦ not-false (is_off own d side E a.next) e ]
 
 -- where no arm waits: each is of the settling kind, inside ones done, exits within what the exits
 -- give
@@ -64,9 +67,12 @@ pub all_off : (own : Bool) (side : Colour) (arms : List Arm) (d : ℕ → Bool) 
     (is_of (not own) (arm_code side E b) ≡ true) × (arm_code side E b ≤ m)
 all_off own side arms d E later m k l z low high kind short b i c =
     let off = off_from own d side E b c (count_zero (waits own d side E) arms b z i) in
-    let P : Next → Type 0 = λ n. (is_of (not own) (next_code side E n) ≡ true) × (next_code side E n ≤ m) in
+    let P : Next → Type 0 = λ n. (is_of (not own) (next_code side E n) ≡ true)
+    × (next_code side E n ≤ m) in
     elim (next_cases b.next) [
-      | inl q ↦ subst P (sym q.1) (let parts = and_parts (d q.0) (is_of (not own) (get_or E q.0 0)) (sym (ap (is_off own d side E) q.1) ∙ off) in
+      | inl q ↦ subst P (sym q.1)
+          (let parts = and_parts (d q.0) (is_of (not own) (get_or E q.0 0))
+          (sym (ap (is_off own d side E) q.1) ∙ off) in
           (parts.1, of_order (not own) k (get_or E q.0 0) m parts.1 kind (low q.0 parts.0) high))
       | inr v ↦ subst P (sym v.1) (let kind_v = sym (ap (is_off own d side E) v.1) ∙ off in (
         kind_v,
@@ -87,12 +93,16 @@ pub least_of_all : (own : Bool) (side : Colour) (arms : List Arm) (d : ℕ → B
 least_of_all own side arms d bar E count later m k o high above kind short b i c e =
     let P : Next → Type 0 = λ n. m ≤ next_code side E n in
     elim (next_cases b.next) [
-      | inl q ↦ subst P (sym q.1) (let e' = sym (ap (λ n. is_of own (next_code side E n)) q.1) ∙ e in elim (cases_Bool (d q.0)) [
-        | inl t ↦ absurd (true≢false (sym e' ∙ o.undecided b i c q.0 q.1 t))
-        | inr f ↦
-            of_order own k m (get_or E q.0 0) kind e' short (high q.0 f (of_low own (get_or E q.0 0) e'))
-      ])
-      | inr v ↦ subst P (sym v.1) (let e' = sym (ap (λ n. is_of own (next_code side E n)) v.1) ∙ e in
+      | inl q ↦ subst P (sym q.1)
+          (let e' = sym (ap (λ n. is_of own (next_code side E n)) q.1) ∙ e in
+          elim (cases_Bool (d q.0)) [
+            | inl t ↦ absurd (true≢false (sym e' ∙ o.undecided b i c q.0 q.1 t))
+            | inr f ↦
+                of_order own k m (get_or E q.0 0) kind e' short
+                (high q.0 f (of_low own (get_or E q.0 0) e'))
+          ])
+      | inr v ↦ subst P (sym v.1)
+          (let e' = sym (ap (λ n. is_of own (next_code side E n)) v.1) ∙ e in
           let x = o.exits.deciding b i c v.0 v.1 e' in let y = o.due x.0 in
           of_order own k m (value_code side v.0) kind e' short (omega (arith, x.1, y, above)))
     ]
@@ -111,7 +121,8 @@ decided_by own side arms d bar E count later k a q o high above i c n kind short
       counted = c;
       kind = sym (ap (is_of own) same) ∙ kind;
       least = λ b j cb e.
-          let l = least_of_all own side arms d bar E count later (get_or E q 0) k o high above kind short b j cb e in
+          let l = least_of_all own side arms d bar E count later (get_or E q 0) k o high above kind
+          short b j cb e in
           omega (arith, l, same);
       code = ap (λ (x : ℕ). x + 2) same;
     }
@@ -131,7 +142,8 @@ due_decided own side arms d bar E count later k o high above kind short =
       counted = m.3;
       kind = sym (ap (is_of own) same) ∙ m.5;
       least = λ b j cb e.
-          let l = least_of_all own side arms d bar E count later (value_code side m.1) k o high above m.5 (omega (arith, code, short)) b j cb e in
+          let l = least_of_all own side arms d bar E count later (value_code side m.1) k o high
+          above m.5 (omega (arith, code, short)) b j cb e in
           omega (arith, l, same);
       code = m.6 ∙ ap (λ (x : ℕ). x + 2) same;
     }
@@ -145,7 +157,8 @@ due_exhausted own side arms d bar E count later k o low zero kind long =
     let code = m.6 in
     record {
       most = value_code side m.1;
-      each = all_off own side arms d E later (value_code side m.1) k o.exits (sym o.counter ∙ zero) low (omega (arith, code, long)) m.5 (omega (arith, code));
+      each = all_off own side arms d E later (value_code side m.1) k o.exits (sym o.counter ∙ zero)
+          low (omega (arith, code, long)) m.5 (omega (arith, code));
       reached = inr (m.0, m.2, m.3, ap (next_code side E) m.4);
       code = m.6;
     }

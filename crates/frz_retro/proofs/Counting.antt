@@ -24,7 +24,11 @@ pub count_zero : (p : Arm → Bool) (arms : List Arm) (a : Arm) → how_many p a
     p a ≡ false
 count_zero p [] a z h = absurd h
 count_zero p (b ∷ arms) a z (inl s) =
-    elim (cases_Bool (p b)) [ inl e ↦ absurd (omega (arith, z, ap one e)) | inr e ↦ sym (ap p s) ∙ e ]
+    elim (cases_Bool (p b)) [
+      | inl e ↦ absurd (omega (arith, z, ap one e))
+      | inr e ↦ sym (ap p s)
+          ∙ e
+    ]
 count_zero p (b ∷ arms) a z (inr t) = count_zero p arms a (omega (arith, z)) t
 
 -- where something is counted, some arm passes
@@ -33,7 +37,8 @@ pub count_some : (p : Arm → Bool) (arms : List Arm) →
 count_some p [] = inl refl
 count_some p (b ∷ arms) = elim (cases_Bool (p b)) [
   | inl e ↦ inr (b, inl refl, e)
-  | inr e ↦ elim (count_some p arms) [ inl z ↦ inl (omega (arith, z, ap one e)) | inr w ↦ inr (w.0, inr w.1, w.2) ]
+  | inr e ↦ elim (count_some p arms)
+      [ inl z ↦ inl (omega (arith, z, ap one e)) | inr w ↦ inr (w.0, inr w.1, w.2) ]
 ]
 
 -- the arm that leads to q is one
@@ -53,7 +58,8 @@ pub count_change : (q : ℕ) (p r : Arm → Bool) (arms : List Arm) (a : Arm) �
     how_many p arms + cond (r a) 1 0 ≡ how_many r arms + cond (p a) 1 0
 count_change q p r [] a d i x h = absurd i
 count_change q p r (c ∷ arms) a d (inl s) x h =
-    let rest = count_same p r arms (λ b j. h b (λ y. d.0 b j q (ap (λ (z : Arm). z.next) s ∙ x) y)) in
+    let rest = count_same p r arms
+    (λ b j. h b (λ y. d.0 b j q (ap (λ (z : Arm). z.next) s ∙ x) y)) in
     let was = ap (λ (z : Arm). one (p z)) s in
     let now = ap (λ (z : Arm). one (r z)) s in
     omega (arith, rest, was, now)

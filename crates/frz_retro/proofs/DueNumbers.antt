@@ -12,7 +12,8 @@ use Rattle.frz_retro.proofs.WorkFacts.{room_for}
 use Rattle.frz_retro.proofs.PassToPass.{node_cases}
 use Rattle.frz_retro.proofs.DueSteps.{due_skips, due_settles}
 
-module _ {B : Shape} {side : Colour} {k mid : ℕ} {done : ℕ → ℕ → Bool} {E C L Q : List ℕ} {tail : ℕ} (i : ℕ) (w : Work B side k mid (bar_at k i) done E C L Q tail) where
+module _ {B : Shape} {side : Colour} {k mid : ℕ} {done : ℕ → ℕ → Bool} {E C L Q : List ℕ} {tail : ℕ}
+    (i : ℕ) (w : Work B side k mid (bar_at k i) done E C L Q tail) where
   pub due_settled : get_or E i 0 ≢ 1 → Work B side k mid (bar_at k (i + 1)) done E C L Q tail
   due_settled isnt = due_skips B side k mid i done E C L Q tail w (λ c n one. absurd (isnt one))
 
@@ -25,7 +26,8 @@ module _ {B : Shape} {side : Colour} {k mid : ℕ} {done : ℕ → ℕ → Bool}
 
   pub due_going : i < B.size → 2 * k + 2 ≤ get_or L i 0 → (c : Colour) × (B.arena.node i ≡ Going c)
   due_going l b =
-      elim (node_cases (B.arena.node i)) [ inl g ↦ g | inr h ↦ let z = w.ended i l h in absurd (omega (arith, z, b)) ]
+      elim (node_cases (B.arena.node i))
+      [ inl g ↦ g | inr h ↦ let z = w.ended i l h in absurd (omega (arith, z, b)) ]
 
   pub due_whole : i < B.size → 2 * k + 2 ≤ get_or L i 0 → B.arena.node i ≢ Broken
   due_whole l b e = let g = due_going l b in cc (g.1)
@@ -33,11 +35,15 @@ module _ {B : Shape} {side : Colour} {k mid : ℕ} {done : ℕ → ℕ → Bool}
   pub due_room : get_or E i 0 ≡ 1 → tail < length Q
   due_room one = room_for k mid E Q tail i w.queue one
 
-  module _ (own : Bool) (own_is : (c : Colour) → B.arena.node i ≡ Going c → own ≡ same_colour c side) (l : i < B.size) (one : get_or E i 0 ≡ 1) (b : 2 * k + 2 ≤ get_or L i 0) (h : get_or L i 0 < 2 * k + 4) where
+  module _ (own : Bool)
+      (own_is : (c : Colour) → B.arena.node i ≡ Going c → own ≡ same_colour c side) (l : i < B.size)
+      (one : get_or E i 0 ≡ 1) (b : 2 * k + 2 ≤ get_or L i 0) (h : get_or L i 0 < 2 * k + 4) where
     pub due_kind : is_of own (get_or L i 0) ≡ true →
-        Work B side k mid (bar_at k (i + 1)) done (set E i (get_or L i 0)) C L (set Q tail i) (tail + 1)
+        Work B side k mid (bar_at k (i + 1)) done (set E i (get_or L i 0)) C L (set Q tail i)
+        (tail + 1)
     due_kind kind = let g = due_going l b in
-        due_settles B side k mid i done E C L Q tail g.0 w l g.1 one (omega (arith, b)) (omega (arith, h)) (inl (ap (λ x. is_of x (get_or L i 0)) (sym (own_is g.0 g.1)) ∙ kind))
+        due_settles B side k mid i done E C L Q tail g.0 w l g.1 one (omega (arith, b))
+        (omega (arith, h)) (inl (ap (λ x. is_of x (get_or L i 0)) (sym (own_is g.0 g.1)) ∙ kind))
 
     pub due_waits : is_of own (get_or L i 0) ≡ false → 0 < get_or C i 0 →
         Work B side k mid (bar_at k (i + 1)) done E C L Q tail
@@ -48,7 +54,15 @@ module _ {B : Shape} {side : Colour} {k mid : ℕ} {done : ℕ → ℕ → Bool}
     ])
 
     pub due_last : is_of own (get_or L i 0) ≡ false → get_or C i 0 ≤ 0 →
-        Work B side k mid (bar_at k (i + 1)) done (set E i (get_or L i 0)) C L (set Q tail i) (tail + 1)
+        Work B side k mid (bar_at k (i + 1)) done (set E i (get_or L i 0)) C L (set Q tail i)
+        (tail + 1)
     due_last kind zero = let g = due_going l b in
-        let other : is_of (not own) (get_or L i 0) ≡ true = elim (of_some own (get_or L i 0) (omega (arith, b))) [ inl t ↦ absurd (true≢false (sym t ∙ kind)) | inr t ↦ t ] in
-        due_settles B side k mid i done E C L Q tail g.0 w l g.1 one (omega (arith, b)) (omega (arith, h)) (inr (ap (λ x. is_of (not x) (get_or L i 0)) (sym (own_is g.0 g.1)) ∙ other, omega (arith, zero)))
+        let other : is_of (not own) (get_or L i 0) ≡ true =
+        elim (of_some own (get_or L i 0) (omega (arith, b)))
+        [ inl t ↦ absurd (true≢false (sym t ∙ kind)) | inr t ↦ t ] in
+        due_settles B side k mid i done E C L Q tail g.0 w l g.1 one (omega (arith, b))
+        (omega (arith, h))
+        (inr (
+          ap (λ x. is_of (not x) (get_or L i 0)) (sym (own_is g.0 g.1)) ∙ other,
+          omega (arith, zero),
+        ))

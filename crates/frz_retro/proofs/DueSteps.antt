@@ -26,14 +26,23 @@ bar_more k i j n = elim (cases_lt j i) [
 -- a number that is not due in this pass
 pub due_skips : (B : Shape) (side : Colour) (k mid i : ℕ) (done : ℕ → ℕ → Bool) (E C L Q : List ℕ)
     (tail : ℕ) → Work B side k mid (bar_at k i) done E C L Q tail →
-    ((c : Colour) → B.arena.node i ≡ Going c → get_or E i 0 ≡ 1 → (is_of (same_colour c side) (get_or L i 0) ≡ true) ⊎ (get_or C i 0 ≡ 0) → 2 + 2 * k ≤ get_or L i 0 → 4 + 2 * k ≤ get_or L i 0) → Work B side k mid (bar_at k (i + 1)) done E C L Q tail
+    ((c : Colour) → B.arena.node i ≡ Going c → get_or E i 0 ≡ 1
+    → (is_of (same_colour c side) (get_or L i 0) ≡ true) ⊎ (get_or C i 0 ≡ 0)
+    → 2 + 2 * k ≤ get_or L i 0 → 4 + 2 * k ≤ get_or L i 0)
+    → Work B side k mid (bar_at k (i + 1)) done E C L Q tail
 due_skips B side k mid i done E C L Q tail w h = record {
   state =
-      bar_keeps B side k (bar_at k i) (bar_at k (i + 1)) done E C L w.state (λ j c l n one kind b. elim (cases_eq j i) [
+      bar_keeps B side k (bar_at k i) (bar_at k (i + 1)) done E C L w.state
+      (λ j c l n one kind b. elim (cases_eq j i) [
         | inr d ↦ let e = bar_more k i j d in omega (arith, e, b)
         | inl e ↦ let high = bar_high k i j in let low = bar_low k (i + 1) j in
-            let y : 4 + 2 * k ≤ get_or L j 0 = subst (λ (x : ℕ). 4 + 2 * k ≤ get_or L x 0) (sym e) (h c (sym (ap B.arena.node e) ∙ n) (ap (λ (x : ℕ). get_or E x 0) (sym e) ∙ one)
-            (elim kind [ inl y ↦ inl (ap (λ (x : ℕ). is_of (same_colour c side) (get_or L x 0)) (sym e) ∙ y) | inr y ↦ inr (ap (λ (x : ℕ). get_or C x 0) (sym e) ∙ y) ])
+            let y : 4 + 2 * k ≤ get_or L j 0 = subst (λ (x : ℕ). 4 + 2 * k ≤ get_or L x 0) (sym e)
+            (h c (sym (ap B.arena.node e) ∙ n) (ap (λ (x : ℕ). get_or E x 0) (sym e) ∙ one)
+            (elim kind [
+              | inl y ↦ inl
+                  (ap (λ (x : ℕ). is_of (same_colour c side) (get_or L x 0)) (sym e) ∙ y)
+              | inr y ↦ inr (ap (λ (x : ℕ). get_or C x 0) (sym e) ∙ y)
+            ])
             (subst (λ (x : ℕ). 2 + 2 * k ≤ get_or L x 0) e (omega (arith, high, b)))) in
             omega (arith, low, y)
       ]);
@@ -49,19 +58,27 @@ pub due_settles : (B : Shape) (side : Colour) (k mid i : ℕ) (done : ℕ → �
     (tail : ℕ) (c : Colour) → Work B side k mid (bar_at k i) done E C L Q tail → i < B.size →
     B.arena.node i ≡ Going c → get_or E i 0 ≡ 1 → 2 + 2 * k ≤ get_or L i 0 →
     get_or L i 0 < 4 + 2 * k →
-    (is_of (same_colour c side) (get_or L i 0) ≡ true) ⊎ ((is_of (not (same_colour c side)) (get_or L i 0) ≡ true) × (get_or C i 0 ≡ 0)) → Work B side k mid (bar_at k (i + 1)) done (set E i (get_or L i 0)) C L (set Q tail i) (tail + 1)
+    (is_of (same_colour c side) (get_or L i 0) ≡ true)
+    ⊎ ((is_of (not (same_colour c side)) (get_or L i 0) ≡ true) × (get_or C i 0 ≡ 0))
+    → Work B side k mid (bar_at k (i + 1)) done (set E i (get_or L i 0)) C L (set Q tail i)
+    (tail + 1)
 due_settles B side k mid i done E C L Q tail c w l n one least most kind =
     let code = get_or L i 0 in
     let o = w.state.going i c l n one in
-    let settled : IsSettled (same_colour c side) (arm_code side E) (B.arena.arms i) code = elim kind [
+    let settled : IsSettled (same_colour c side) (arm_code side E) (B.arena.arms i) code =
+    elim kind [
       | inl y ↦
-          inl (due_decided (same_colour c side) side (B.arena.arms i) (done i) (bar_at k i i) E (get_or C i 0) code k o (w.state.high i) (bar_high k i i) y most)
+          inl (due_decided (same_colour c side) side (B.arena.arms i) (done i) (bar_at k i i) E
+          (get_or C i 0) code k o (w.state.high i) (bar_high k i i) y most)
       | inr y ↦
-          inr (due_exhausted (same_colour c side) side (B.arena.arms i) (done i) (bar_at k i i) E (get_or C i 0) code k o (λ q t. (w.state.low i q t).1) y.1 y.0 least)
+          inr (due_exhausted (same_colour c side) side (B.arena.arms i) (done i) (bar_at k i i) E
+          (get_or C i 0) code k o (λ q t. (w.state.low i q t).1) y.1 y.0 least)
     ] in
-    let v = work_settles B side k mid (bar_at k i) done E C L Q tail i c code w l n one least most settled in
+    let v = work_settles B side k mid (bar_at k i) done E C L Q tail i c code w l n one least most
+    settled in
     due_skips B side k mid i done (set E i code) C L (set Q tail i) (tail + 1) v
-    (λ d m e. let in_list = within E i (omega (arith, one)) in let y = get_or-set_same E i code 0 in_list in absurd (omega (arith, y, e, least)))
+    (λ d m e. let in_list = within E i (omega (arith, one)) in
+    let y = get_or-set_same E i code 0 in_list in absurd (omega (arith, y, e, least)))
 
 -- a pass after the last due one
 pub due_over : {B : Shape} {side : Colour} {k mid : ℕ} {done : ℕ → ℕ → Bool} {E C L Q : List ℕ}
@@ -70,7 +87,9 @@ pub due_over : {B : Shape} {side : Colour} {k mid : ℕ} {done : ℕ → ℕ →
     Work B side k mid (bar_at k s) done E C L Q tail
 due_over {B} {side} {k} {mid} {done} {E} {C} {L} {Q} {tail} s w h = record {
   state =
-      bar_keeps B side k (bar_at k 0) (bar_at k s) done E C L w.state (λ i c l _ _ _ b. let y = bar_high k 0 i in let z = h i l in absurd (omega (arith, b, y, z)));
+      bar_keeps B side k (bar_at k 0) (bar_at k s) done E C L w.state
+      (λ i c l _ _ _ b. let y = bar_high k 0 i in let z = h i l in
+      absurd (omega (arith, b, y, z)));
   queue = w.queue;
   sized = w.sized;
   passes = w.passes;

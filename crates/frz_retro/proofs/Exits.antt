@@ -29,7 +29,9 @@ told_from B side p own counted mover moves own_is counted_is = record {
   counted_is = counted_is;
 }
 
-module _ {B : Shape} {side : Colour} {k mid : ℕ} {done : ℕ → ℕ → Bool} {E C L Q : List ℕ} {tail q : ℕ} {p : Pred} (g : IsGraph B) (m : Meeting B side k mid done E C L Q tail q p) (own counted : Bool) (told : Told B side p own counted) where
+module _ {B : Shape} {side : Colour} {k mid : ℕ} {done : ℕ → ℕ → Bool} {E C L Q : List ℕ}
+    {tail q : ℕ} {p : Pred} (g : IsGraph B) (m : Meeting B side k mid done E C L Q tail q p)
+    (own counted : Bool) (told : Told B side p own counted) where
   going : (c : Colour) × (B.arena.node p.number ≡ Going c)
   going = going_at B side k mid done E C L Q tail q p g m
 
@@ -47,37 +49,45 @@ module _ {B : Shape} {side : Colour} {k mid : ℕ} {done : ℕ → ℕ → Bool}
   other_as : is_of own (get_or E q 0) ≡ false →
       is_of (not (same_colour going.0 side)) (get_or E q 0) ≡ true
   other_as e =
-      ap (λ w. is_of (not w) (get_or E q 0)) own_as ∙ elim (of_some own (get_or E q 0) m.settled) [ inl t ↦ absurd (true≢false (sym t ∙ e)) | inr t ↦ t ]
+      ap (λ w. is_of (not w) (get_or E q 0)) own_as ∙ elim (of_some own (get_or E q 0) m.settled)
+      [ inl t ↦ absurd (true≢false (sym t ∙ e)) | inr t ↦ t ]
 
   pub exit_uncounted : {more : ℕ → ℕ → Bool} → Meets done more p.number q → counted ≡ false →
       Work B side k mid (bar_at k B.size) more E C L Q tail
   exit_uncounted {more} t e =
-      meet_uncounted B side k mid done more E C L Q tail q p g m t going.0 going.1 (counts_as false e)
+      meet_uncounted B side k mid done more E C L Q tail q p g m t going.0 going.1
+      (counts_as false e)
 
   pub exit_decides : {more : ℕ → ℕ → Bool} → Meets done more p.number q → counted ≡ true →
       get_or E p.number 0 ≡ 1 → is_of own (get_or E q 0) ≡ true →
-      Work B side k mid (bar_at k B.size) more (set E p.number (get_or E q 0 + 2)) C L (set Q tail p.number) (tail + 1)
+      Work B side k mid (bar_at k B.size) more (set E p.number (get_or E q 0 + 2)) C L
+      (set Q tail p.number) (tail + 1)
   exit_decides {more} t e one kind =
-      meet_decides B side k mid done more E C L Q tail q p m t going.0 going.1 one (counts_as true e) (kind_as kind)
+      meet_decides B side k mid done more E C L Q tail q p m t going.0 going.1 one
+      (counts_as true e) (kind_as kind)
 
   pub exit_waits : counted ≡ true → get_or E p.number 0 ≡ 1 → is_of own (get_or E q 0) ≡ false →
       0 < get_or C p.number 0
   exit_waits e one kind =
-      meet_waits B side k mid done E C L Q tail q p g m going.0 going.1 one (counts_as true e) (other_as kind)
+      meet_waits B side k mid done E C L Q tail q p g m going.0 going.1 one (counts_as true e)
+      (other_as kind)
 
   pub exit_less : {more : ℕ → ℕ → Bool} → Meets done more p.number q → counted ≡ true →
       get_or E p.number 0 ≡ 1 → is_of own (get_or E q 0) ≡ false →
       (get_or C p.number 0 - 1 ≡ 0 → get_or E q 0 + 2 < get_or L p.number 0) →
       Work B side k mid (bar_at k B.size) more E (set C p.number (get_or C p.number 0 - 1)) L Q tail
   exit_less {more} t e one kind late = let pos = exit_waits e one kind in
-      meet_less B side k mid done more E C L Q tail q p g m t going.0 going.1 one (counts_as true e) (other_as kind) (get_or C p.number 0 - 1) (omega (arith, pos)) late
+      meet_less B side k mid done more E C L Q tail q p g m t going.0 going.1 one (counts_as true e)
+      (other_as kind) (get_or C p.number 0 - 1) (omega (arith, pos)) late
 
   pub exit_last : {more : ℕ → ℕ → Bool} → Meets done more p.number q → counted ≡ true →
       get_or E p.number 0 ≡ 1 → is_of own (get_or E q 0) ≡ false → get_or C p.number 0 - 1 ≡ 0 →
       get_or L p.number 0 ≤ get_or E q 0 + 2 →
-      Work B side k mid (bar_at k B.size) more (set E p.number (get_or E q 0 + 2)) (set C p.number (get_or C p.number 0 - 1)) L (set Q tail p.number) (tail + 1)
+      Work B side k mid (bar_at k B.size) more (set E p.number (get_or E q 0 + 2))
+      (set C p.number (get_or C p.number 0 - 1)) L (set Q tail p.number) (tail + 1)
   exit_last {more} t e one kind zero short = let pos = exit_waits e one kind in
-      meet_last B side k mid done more E C L Q tail q p g m t going.0 going.1 one (counts_as true e) (other_as kind) (omega (arith, pos, zero)) short (get_or C p.number 0 - 1)
+      meet_last B side k mid done more E C L Q tail q p g m t going.0 going.1 one (counts_as true e)
+      (other_as kind) (omega (arith, pos, zero)) short (get_or C p.number 0 - 1)
 
   pub exit_room : get_or E p.number 0 ≡ 1 → tail < length Q
   exit_room one = room_for k mid E Q tail p.number m.work.queue one

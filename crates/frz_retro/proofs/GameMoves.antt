@@ -85,11 +85,15 @@ module _ (known : Known) (rules : RuleLines) (value : Board → Value) where
       let among = in_contains ((graph_by rules value).arms i) a h in
       elim (there_or (position_at rules.groups i)) [
         | inl none ↦
-            absurd (subst (λ o. In a (arms_at (arena_by rules value) (name_in (numbers_by rules.groups)) o)) none among)
+            absurd (subst (λ o. In a
+            (arms_at (arena_by rules value) (name_in (numbers_by rules.groups)) o)) none among)
         | inr p ↦
-            let here = subst (λ o. In a (arms_at (arena_by rules value) (name_in (numbers_by rules.groups)) o)) p.1 among in
-            let arm = from_map (named (name_in (numbers_by rules.groups))) ((arena_by rules value).arms p.0) a here in
-            let move = from_map (games.arm_of (game_of rules value) p.0) (legal_moves_of p.0) arm.0 arm.1 in (
+            let here = subst (λ o. In a
+            (arms_at (arena_by rules value) (name_in (numbers_by rules.groups)) o)) p.1 among in
+            let arm = from_map (named (name_in (numbers_by rules.groups)))
+            ((arena_by rules value).arms p.0) a here in
+            let move = from_map (games.arm_of (game_of rules value) p.0) (legal_moves_of p.0) arm.0
+            arm.1 in (
               p.0,
               move.0,
               (known.position rules.groups i p.0).0 p.1,
@@ -101,17 +105,23 @@ module _ (known : Known) (rules : RuleLines) (value : Board → Value) where
   -- and each is one
   pub to_arm : (i : ℕ) (p : Board) (m : Step) → HasNumber rules.groups i p →
       Contains (legal_moves_of p) m →
-      IsArm (graph_by rules value) i (named (name_in (numbers_by rules.groups)) (games.arm_of (game_of rules value) p m))
+      IsArm (graph_by rules value) i
+      (named (name_in (numbers_by rules.groups)) (games.arm_of (game_of rules value) p m))
   to_arm i p m h legal =
       let e = (known.position rules.groups i p).1 h in
-      let arm = named (name_in (numbers_by rules.groups)) (games.arm_of (game_of rules value) p m) in
+      let arm = named (name_in (numbers_by rules.groups))
+      (games.arm_of (game_of rules value) p m) in
       contains_in ((graph_by rules value).arms i) arm
-      (subst (λ o. In arm (arms_at (arena_by rules value) (name_in (numbers_by rules.groups)) o)) (sym e)
-      (in_map (named (name_in (numbers_by rules.groups))) ((arena_by rules value).arms p) (games.arm_of (game_of rules value) p m)
-      (in_map (games.arm_of (game_of rules value) p) (legal_moves_of p) m (in_contains (legal_moves_of p) m legal))))
+      (subst (λ o. In arm (arms_at (arena_by rules value) (name_in (numbers_by rules.groups)) o))
+      (sym e)
+      (in_map (named (name_in (numbers_by rules.groups))) ((arena_by rules value).arms p)
+      (games.arm_of (game_of rules value) p m)
+      (in_map (games.arm_of (game_of rules value) p) (legal_moves_of p) m
+      (in_contains (legal_moves_of p) m legal))))
 
   pub there : (i : ℕ) → (graph_by rules value).node i ≢ Broken →
-      (p : Board) × HasNumber rules.groups i p × (mover_of ((graph_by rules value).node i) ≡ Some p.turn)
+      (p : Board) × HasNumber rules.groups i p
+      × (mover_of ((graph_by rules value).node i) ≡ Some p.turn)
   there i whole = elim (there_or (position_at rules.groups i)) [
     | inl none ↦ absurd (whole (ap (node_at (arena_by rules value)) none))
     | inr p ↦
@@ -119,7 +129,9 @@ module _ (known : Known) (rules : RuleLines) (value : Board → Value) where
           p.0,
           h,
           ap (λ o. mover_of (node_at (arena_by rules value) o)) p.1
-              ∙ mover_by (is_member rules.groups p.0) (legal_moves_of p.0) ((game_of rules value).chess.in_check p.0) p.0.turn ((known.member rules.groups p.0).1 h.member),
+              ∙ mover_by (is_member rules.groups p.0) (legal_moves_of p.0)
+              ((game_of rules value).chess.in_check p.0) p.0.turn
+              ((known.member rules.groups p.0).1 h.member),
         )
   ]
 
@@ -131,7 +143,8 @@ module _ (known : Known) (rules : RuleLines) (value : Board → Value) where
         named (name_in (numbers_by rules.groups)) (games.arm_of (game_of rules value) p m),
         to_arm i p m l.number ((known.listed p m).1 (l.step, l.legal)),
         refl,
-        to_inside (name_in (numbers_by rules.groups)) (is_member rules.groups r) r (value r) ((known.member rules.groups r).1 l.arrives.member)
+        to_inside (name_in (numbers_by rules.groups)) (is_member rules.groups r) r (value r)
+            ((known.member rules.groups r).1 l.arrives.member)
             ∙ ap Inside (named_by r l.arrives.member ∙ l.arrives.number),
       )
 
@@ -142,7 +155,8 @@ module _ (known : Known) (rules : RuleLines) (value : Board → Value) where
       let p = arm.0 in
       let same : arm.1 ≡ m = ap (λ (a : Arm). a.mv) arm.4 ∙ w.2 in
       let r = after p arm.1 in
-      let inside = from_inside (name_in (numbers_by rules.groups)) (is_member rules.groups r) r (value r) q (ap (λ (a : Arm). a.next) arm.4 ∙ w.3) in
+      let inside = from_inside (name_in (numbers_by rules.groups)) (is_member rules.groups r) r
+      (value r) q (ap (λ (a : Arm). a.next) arm.4 ∙ w.3) in
       let member = (known.member rules.groups r).0 inside.0 in
       let legal = (known.listed p arm.1).0 arm.3 in
       subst (λ n. LeadsTo rules.groups i n q) same (record {

@@ -63,11 +63,13 @@ is_graph {arena} {size} f d = record {
   others = λ i a h. f.going i a (contains_in (arena.arms i) a h);
   apart = λ i. differ (arena.arms i) (λ q k l a b e g x y. d i k l q (a, e, x) (b, g, y));
   lags =
-      λ i a h. short (λ _. Unit {0}) a.next (λ v e. f.lags i v a (contains_in (arena.arms i) a h) e);
+      λ i a h. short (λ _. Unit {0}) a.next
+      (λ v e. f.lags i v a (contains_in (arena.arms i) a h) e);
 }
   where
     differ : (xs : List Arm) →
-        ((q k l : ℕ) (a b : Arm) → slice_get xs k ≡ Some a → slice_get xs l ≡ Some b → a.next ≡ Inside q → b.next ≡ Inside q → k ≡ l) → Apart Differ xs
+        ((q k l : ℕ) (a b : Arm) → slice_get xs k ≡ Some a → slice_get xs l ≡ Some b
+        → a.next ≡ Inside q → b.next ≡ Inside q → k ≡ l) → Apart Differ xs
     differ [] h = tt
     differ (x ∷ xs) h = (
       λ y i q e g. let p = place_in xs y i in let s = h q zero (suc p.0) x y refl p.1 e g in cc,
@@ -81,10 +83,16 @@ pub are_preds : {arena : Arena Step ℕ Value} {size q : ℕ} {pairs : List Pred
 are_preds {arena} {size} {q} {pairs} f all once = record {
   sound = λ p h. let a = (all p.number p.mv).0 (contains_in pairs p h) in (
     below p.number a.0 a.1,
-    record { arm = a.0; there = in_contains (arena.arms p.number) a.0 a.1; move = a.2; inside = a.3 },
+    record {
+      arm = a.0;
+      there = in_contains (arena.arms p.number) a.0 a.1;
+      move = a.2;
+      inside = a.3;
+    },
   );
   whole =
-      λ i a h e. in_contains pairs (record { number = i; mv = a.mv }) ((all i a.mv).1 (a, contains_in (arena.arms i) a h, refl, e));
+      λ i a h e. in_contains pairs (record { number = i; mv = a.mv })
+      ((all i a.mv).1 (a, contains_in (arena.arms i) a h, refl, e));
   once = apart_places (λ x y. x.number ≡ y.number) pairs once;
 }
   where

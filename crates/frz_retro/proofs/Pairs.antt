@@ -30,7 +30,8 @@ or_false false b e = e
 mid_other : (done : ℕ → ℕ → Bool) (q : ℕ) (rest : List Pred) (i r : ℕ) → r ≢ q →
     done_mid done q rest i r ≡ done i r
 mid_other done q rest i r n =
-    or_false (done i r) ((q == r) && not (list_any (λ p. p.number == i) rest)) (and_left (q == r) (not (list_any (λ p. p.number == i) rest)) (ne_eqb q r (λ e. n (sym e))))
+    or_false (done i r) ((q == r) && not (list_any (λ p. p.number == i) rest))
+    (and_left (q == r) (not (list_any (λ p. p.number == i) rest)) (ne_eqb q r (λ e. n (sym e))))
 
 -- before the first pair
 pub through_begins : (B : Shape) (side : Colour) (k mid : ℕ) (done : ℕ → ℕ → Bool)
@@ -42,18 +43,23 @@ through_begins B side k mid done E C L Q tail q pairs m =
       state = done_same B side k (bar_at k B.size) done (done_mid done q pairs) E C L w.state
           (λ i a r l j n. elim (cases_eq r q) [
             | inl e ↦
-                let any = any_pred (λ p. p.number == i) pairs (record { number = i; mv = a.mv }) (m.preds.whole i a j (n ∙ ap Inside e)) (eq-eqb i i refl) in
-                or_false (done i r) ((q == r) && not (list_any (λ p. p.number == i) pairs)) (and_right (q == r) (not (list_any (λ p. p.number == i) pairs)) (ap not any))
+                let any = any_pred (λ p. p.number == i) pairs (record { number = i; mv = a.mv })
+                (m.preds.whole i a j (n ∙ ap Inside e)) (eq-eqb i i refl) in
+                or_false (done i r) ((q == r) && not (list_any (λ p. p.number == i) pairs))
+                (and_right (q == r) (not (list_any (λ p. p.number == i) pairs)) (ap not any))
             | inr e ↦ mid_other done q pairs i r e
           ])
-          (λ i r t. elim (or_cases (done i r) ((q == r) && not (list_any (λ p. p.number == i) pairs)) t) [
+          (λ i r t. elim (or_cases (done i r)
+          ((q == r) && not (list_any (λ p. p.number == i) pairs)) t) [
             | inl e ↦ w.state.low i r e
             | inr e ↦
-                let s = eqb-true q r (and_parts (q == r) (not (list_any (λ p. p.number == i) pairs)) e).0 in
+                let s = eqb-true q r
+                (and_parts (q == r) (not (list_any (λ p. p.number == i) pairs)) e).0 in
                 let y = ap (λ (x : ℕ). get_or E x 0) s in
                 (omega (arith, y, settled), omega (arith, y, old))
           ])
-          (λ i r t. w.state.high i r (or_parts (done i r) ((q == r) && not (list_any (λ p. p.number == i) pairs)) t).0);
+          (λ i r t. w.state.high i r
+          (or_parts (done i r) ((q == r) && not (list_any (λ p. p.number == i) pairs)) t).0);
       queue = w.queue;
       sized = w.sized;
       passes = w.passes;
@@ -65,7 +71,8 @@ through_begins B side k mid done E C L Q tail q pairs m =
         list_any test xs ≡ true
     any_pred test [] p h e = absurd h
     any_pred test (x ∷ xs) p (inl s) e = or_left (test x) (list_any test xs) (ap test s ∙ e)
-    any_pred test (x ∷ xs) p (inr t) e = or_right (test x) (list_any test xs) (any_pred test xs p t e)
+    any_pred test (x ∷ xs) p (inr t) e =
+        or_right (test x) (list_any test xs) (any_pred test xs p t e)
 
 -- at a pair: what it finds, and what it adds
 pub through_meets : (B : Shape) (side : Colour) (k mid : ℕ) (done : ℕ → ℕ → Bool) (E C L Q : List ℕ)
@@ -74,11 +81,15 @@ pub through_meets : (B : Shape) (side : Colour) (k mid : ℕ) (done : ℕ → �
     Meets (done_mid done q (p ∷ rest)) (done_mid done q rest) p.number q
 through_meets B side k mid done E C L Q tail q pairs p rest apart before = record {
   others =
-      λ j r n. ap (λ (b : Bool). done j r || ((q == r) && not b)) (sym (or_fore (p.number == j) (list_any (λ x. x.number == j) rest) (ne_eqb p.number j (λ e. n (sym e)))));
+      λ j r n. ap (λ (b : Bool). done j r || ((q == r) && not b))
+      (sym (or_fore (p.number == j) (list_any (λ x. x.number == j) rest)
+      (ne_eqb p.number j (λ e. n (sym e)))));
   same = λ r n. mid_other done q rest p.number r n ∙ sym (mid_other done q (p ∷ rest) p.number r n);
   now =
-      or_right (done p.number q) ((q == q) && not (list_any (λ x. x.number == p.number) rest)) (and_from (q == q) (not (list_any (λ x. x.number == p.number) rest)) (eq-eqb q q refl)
-      (ap not (no_pred (λ x. x.number == p.number) rest (λ r i. ne_eqb r.number p.number (λ e. apart.0 r i (sym e))))));
+      or_right (done p.number q) ((q == q) && not (list_any (λ x. x.number == p.number) rest))
+      (and_from (q == q) (not (list_any (λ x. x.number == p.number) rest)) (eq-eqb q q refl)
+      (ap not (no_pred (λ x. x.number == p.number) rest
+      (λ r i. ne_eqb r.number p.number (λ e. apart.0 r i (sym e))))));
 }
   where
     or_fore : (a b : Bool) → a ≡ false → (a || b) ≡ b
@@ -87,7 +98,8 @@ through_meets B side k mid done E C L Q tail q pairs p rest apart before = recor
     no_pred : (test : Pred → Bool) (xs : List Pred) → ((x : Pred) → In x xs → test x ≡ false) →
         list_any test xs ≡ false
     no_pred test [] f = refl
-    no_pred test (x ∷ xs) f = or_from (test x) (list_any test xs) (f x (inl refl)) (no_pred test xs (λ y i. f y (inr i)))
+    no_pred test (x ∷ xs) f =
+        or_from (test x) (list_any test xs) (f x (inl refl)) (no_pred test xs (λ y i. f y (inr i)))
 
 pub through_meeting : (B : Shape) (side : Colour) (k mid : ℕ) (done : ℕ → ℕ → Bool)
     (E C L Q : List ℕ) (tail q : ℕ) (pairs : List Pred) (p : Pred) (rest : List Pred) →
@@ -99,8 +111,13 @@ through_meeting B side k mid done E C L Q tail q pairs p rest h among before set
     let s = h.sound p (among p (inl refl)) in
     record {
       work = w;
-      before = or_from (done p.number q) ((q == q) && not ((p.number == p.number) || list_any (λ x. x.number == p.number) rest)) (before p.number)
-          (and_right (q == q) (not ((p.number == p.number) || list_any (λ x. x.number == p.number) rest)) (ap not (or_left (p.number == p.number) (list_any (λ x. x.number == p.number) rest) (eq-eqb p.number p.number refl))));
+      before = or_from (done p.number q)
+          ((q == q) && not ((p.number == p.number) || list_any (λ x. x.number == p.number) rest))
+          (before p.number)
+          (and_right (q == q)
+          (not ((p.number == p.number) || list_any (λ x. x.number == p.number) rest))
+          (ap not (or_left (p.number == p.number) (list_any (λ x. x.number == p.number) rest)
+          (eq-eqb p.number p.number refl))));
       settled = settled;
       old = old;
       inside = s.0;
@@ -112,7 +129,8 @@ pub through_ends : (B : Shape) (side : Colour) (k mid : ℕ) (bar : ℕ → ℕ)
     (E C L Q : List ℕ) (tail q : ℕ) → Work B side k mid bar (done_mid done q []) E C L Q tail →
     ((i r : ℕ) → more i r ≡ (done i r || (q == r))) → Work B side k mid bar more E C L Q tail
 through_ends B side k mid bar done more E C L Q tail q w h =
-    work_done B side k mid bar (done_mid done q []) more E C L Q tail w (λ i r. h i r ∙ ap (λ (b : Bool). done i r || b) (sym (and_true (q == r))))
+    work_done B side k mid bar (done_mid done q []) more E C L Q tail w
+    (λ i r. h i r ∙ ap (λ (b : Bool). done i r || b) (sym (and_true (q == r))))
   where
     and_true : (b : Bool) → (b && true) ≡ b
     and_true true = refl
@@ -124,12 +142,17 @@ pub through_at : {B : Shape} {side : Colour} {k mid : ℕ} {done : ℕ → ℕ �
     Coming B side k mid done E C L Q tail q pairs → j < length pairs → get_or F q 0 ≡ get_or E q 0 →
     Work B side k mid (bar_at k B.size) (done_mid done q (drop j pairs)) F D M R end →
     Meeting B side k mid (done_mid done q (drop j pairs)) F D M R end q (get_or pairs j d)
-through_at {B} {side} {k} {mid} {done} {E} {C} {L} {Q} {tail} {q} {pairs} {F} {D} {M} {R} {end} j d m l same w =
+through_at {B} {side} {k} {mid} {done} {E} {C} {L} {Q} {tail} {q} {pairs} {F} {D} {M} {R} {end} j d
+    m l same w =
     let e = drop_more pairs j d l in
-    let P : List Pred → Type 0 = λ xs. Meeting B side k mid (done_mid done q xs) F D M R end q (get_or pairs j d) in
-    let W : List Pred → Type 0 = λ xs. Work B side k mid (bar_at k B.size) (done_mid done q xs) F D M R end in
+    let P : List Pred → Type 0 = λ xs. Meeting B side k mid (done_mid done q xs) F D M R end q
+    (get_or pairs j d) in
+    let W : List Pred → Type 0 = λ xs. Work B side k mid (bar_at k B.size) (done_mid done q xs) F D
+    M R end in
     let settled = m.settled in let old = m.old in
-    subst P (sym e) (through_meeting B side k mid done F D M R end q pairs (get_or pairs j d) (drop (j + 1) pairs) m.preds (λ r i. in_drop j pairs r (subst (λ xs. In r xs) (sym e) i)) m.before (omega (arith, same, settled)) (omega (arith, same, old)) (subst W e w))
+    subst P (sym e) (through_meeting B side k mid done F D M R end q pairs (get_or pairs j d)
+    (drop (j + 1) pairs) m.preds (λ r i. in_drop j pairs r (subst (λ xs. In r xs) (sym e) i))
+    m.before (omega (arith, same, settled)) (omega (arith, same, old)) (subst W e w))
 
 pub through_more : {B : Shape} {side : Colour} {k mid : ℕ} {done : ℕ → ℕ → Bool} {E C L Q : List ℕ}
     {tail q : ℕ} {pairs : List Pred} (j : ℕ) (d : Pred) →
@@ -138,5 +161,9 @@ pub through_more : {B : Shape} {side : Colour} {k mid : ℕ} {done : ℕ → ℕ
     (get_or pairs j d).number q
 through_more {B} {side} {k} {mid} {done} {E} {C} {L} {Q} {tail} {q} {pairs} j d m l =
     let e = drop_more pairs j d l in
-    let P : List Pred → Type 0 = λ xs. Meets (done_mid done q xs) (done_mid done q (drop (j + 1) pairs)) (get_or pairs j d).number q in
-    subst P (sym e) (through_meets B side k mid done E C L Q tail q pairs (get_or pairs j d) (drop (j + 1) pairs) (subst (λ xs. Apart (λ p r. p.number ≢ r.number) xs) e (apart_drop j pairs m.preds.once)) m.before)
+    let P : List Pred → Type 0 = λ xs. Meets (done_mid done q xs)
+    (done_mid done q (drop (j + 1) pairs)) (get_or pairs j d).number q in
+    subst P (sym e) (through_meets B side k mid done E C L Q tail q pairs (get_or pairs j d)
+    (drop (j + 1) pairs)
+    (subst (λ xs. Apart (λ p r. p.number ≢ r.number) xs) e (apart_drop j pairs m.preds.once))
+    m.before)

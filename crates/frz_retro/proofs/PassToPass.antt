@@ -21,7 +21,8 @@ pub first_work : (B : Shape) (side : Colour) (E C L Q : List ℕ) (tail : ℕ) �
     Work B side 0 0 (bar_at 0 B.size) (λ _ q. done_by Q 0 q) E C L Q tail
 first_work B side E C L Q tail b = record {
   state =
-      bar_keeps B side 0 (λ _. 4) (bar_at 0 B.size) (λ _ q. done_by Q 0 q) E C L (begun_state B side E C L b.begun b.few)
+      bar_keeps B side 0 (λ _. 4) (bar_at 0 B.size) (λ _ q. done_by Q 0 q) E C L
+      (begun_state B side E C L b.begun b.few)
       (λ i c l n one kind y. let e = bar_of 0 B.size i l in omega (arith, e, y));
   queue = b.queue;
   sized = b.sized;
@@ -52,7 +53,8 @@ pass_begins B side k head E C L Q tail w few = record {
             let z = ap (λ (x : ℕ). get_or E x 0) t.2 in
             omega (arith, y, z)
       ]))
-      (λ i c l _ _ _ b. let e = bar_of k B.size i l in let f = cond-false (nat_lt i 0) (4 + 2 * (k + 1)) (2 + 2 * (k + 1)) (le-ltb i 0 (omega arith)) in omega (arith, e, b, f));
+      (λ i c l _ _ _ b. let e = bar_of k B.size i l in let f = cond-false (nat_lt i 0)
+      (4 + 2 * (k + 1)) (2 + 2 * (k + 1)) (le-ltb i 0 (omega arith)) in omega (arith, e, b, f));
   queue = record {
     room = w.queue.room;
     each = w.queue.each;
@@ -91,12 +93,16 @@ all_local B side k mid head E C L Q tail gives w all none i l =
     elim (node_cases (B.arena.node i)) [
       | inr h ↦
           s.ends i l h
-          ∙ end_local side (B.arena.node i) (free_codes B.arena side (λ k. slice_index E k) i) (all_codes B.arena side (λ k. slice_index E k) i) h
+          ∙ end_local side (B.arena.node i) (free_codes B.arena side (λ k. slice_index E k) i)
+          (all_codes B.arena side (λ k. slice_index E k) i) h
       | inl g ↦ elim (cases_eq (get_or E i 0) 1) [
         | inr h ↦ sym (gives.settled i g.0 (get_or E i 0) g.1 (s.settled i g.0 l g.1 h))
         | inl h ↦
-            h ∙ sym (gives.held i g.0 g.1 (open_holds (same_colour g.0 side) side (B.arena.arms i) (done_by Q head) (bar_at k B.size i) E (get_or C i 0) (get_or L i 0) (s.going i g.0 l g.1 h)
-            (λ q y. let t = w.queue.found q y in let x = t.1 in done_from Q head t.0 q (omega (arith, x, all)) t.2)
+            h ∙ sym (gives.held i g.0 g.1
+            (open_holds (same_colour g.0 side) side (B.arena.arms i) (done_by Q head)
+            (bar_at k B.size i) E (get_or C i 0) (get_or L i 0) (s.going i g.0 l g.1 h)
+            (λ q y. let t = w.queue.found q y in let x = t.1 in
+            done_from Q head t.0 q (omega (arith, x, all)) t.2)
             (let b = bar_of k B.size i l in let y = none i l in omega (arith, b, y))))
       ]
     ]

@@ -19,7 +19,8 @@ pub done_from : (Q : List ℕ) (h t q : ℕ) → t < h → get_or Q t 0 ≡ q �
 done_from Q zero t q l e = absurd (omega (arith, l))
 done_from Q (suc h) t q l e = elim (cases_eq t h) [
   | inl s ↦
-      or_left (get_or Q h 0 == q) (done_by Q h q) (eq-eqb (get_or Q h 0) q (ap (λ (x : ℕ). get_or Q x 0) (sym s) ∙ e))
+      or_left (get_or Q h 0 == q) (done_by Q h q)
+      (eq-eqb (get_or Q h 0) q (ap (λ (x : ℕ). get_or Q x 0) (sym s) ∙ e))
   | inr n ↦ or_right (get_or Q h 0 == q) (done_by Q h q) (done_from Q h t q (omega (arith, l, n)) e)
 ]
 
@@ -27,7 +28,8 @@ pub done_by_same : (Q R : List ℕ) (h q : ℕ) → ((t : ℕ) → t < h → get
     done_by R h q ≡ done_by Q h q
 done_by_same Q R zero q e = refl
 done_by_same Q R (suc h) q e =
-    ap₂ (λ (x : ℕ) (b : Bool). (x == q) || b) (e h (omega arith)) (done_by_same Q R h q (λ t l. e t (omega (arith, l))))
+    ap₂ (λ (x : ℕ) (b : Bool). (x == q) || b) (e h (omega arith))
+    (done_by_same Q R h q (λ t l. e t (omega (arith, l))))
 
 -- the number at this place of the queue is next
 pub coming_from : (B : Shape) (side : Colour) (k mid h : ℕ) (E C L Q : List ℕ) (tail : ℕ)
@@ -38,7 +40,10 @@ coming_from B side k mid h E C L Q tail pairs w l p =
     let m = w.within in
     record {
       work = w;
-      before = λ i. false_from_ne_true (done_by Q h (get_or Q h 0)) (λ e. let d = done_at Q h (get_or Q h 0) e in let s = w.queue.once d.0 h (let x = d.1 in omega (arith, x, l, m)) (omega (arith, l, m)) d.2 in let x = d.1 in omega (arith, s, x));
+      before = λ i. false_from_ne_true (done_by Q h (get_or Q h 0))
+          (λ e. let d = done_at Q h (get_or Q h 0) e in
+          let s = w.queue.once d.0 h (let x = d.1 in omega (arith, x, l, m)) (omega (arith, l, m))
+          d.2 in let x = d.1 in omega (arith, s, x));
       settled = w.queue.each h (omega (arith, l, m));
       old = w.queue.old h l;
       preds = p;
@@ -50,9 +55,11 @@ pub came : (B : Shape) (side : Colour) (k mid h : ℕ) (bar : ℕ → ℕ) (E C 
     ((t : ℕ) → t < h + 1 → get_or R t 0 ≡ get_or Q t 0) →
     Work B side k mid bar (λ _ r. done_by R (h + 1) r) E C L R tail
 came B side k mid h bar E C L Q R tail w same =
-    work_done B side k mid bar (λ _ r. done_by Q h r || (get_or Q h 0 == r)) (λ _ r. done_by R (h + 1) r) E C L R tail w (λ i r.
+    work_done B side k mid bar (λ _ r. done_by Q h r || (get_or Q h 0 == r))
+    (λ _ r. done_by R (h + 1) r) E C L R tail w (λ i r.
     ap (λ (x : ℕ). done_by R x r) (add-one h)
-    ∙ (done_by_same Q R (suc h) r (λ t l. same t (omega (arith, l))) ∙ or_comm (get_or Q h 0 == r) (done_by Q h r)))
+    ∙ (done_by_same Q R (suc h) r (λ t l. same t (omega (arith, l))) ∙ or_comm (get_or Q h 0 == r)
+    (done_by Q h r)))
   where
     or_comm : (a b : Bool) → (a || b) ≡ (b || a)
     or_comm true true = refl

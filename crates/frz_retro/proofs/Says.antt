@@ -21,14 +21,18 @@ pub record Says (own : Bool) (side : Colour) (arms : List Arm) (s : Start) : Typ
   pub any : s.any ≡ true → (a : Arm) × In a arms × (counts_for own a ≡ true)
   pub none : s.any ≡ false → (a : Arm) → In a arms → counts_for own a ≡ false
   pub counter : s.count ≡ how_many (waits own (λ _. false) side []) arms
-  pub least_below : (a : Arm) → In a arms → counts_for own a ≡ true → (v : Value) → a.next ≡ Outside v →
+  pub least_below : (a : Arm) → In a arms → counts_for own a ≡ true → (v : Value) →
+      a.next ≡ Outside v →
       is_of own (value_code side v) ≡ true → (0 < s.least) × (s.least ≤ value_code side v)
   pub least_met : (s.least ≡ 0)
-      ⊎ ((a : Arm) × (v : Value) × In a arms × (counts_for own a ≡ true) × (a.next ≡ Outside v) × (is_of own (value_code side v) ≡ true) × (s.least ≡ value_code side v))
-  pub most_above : (a : Arm) → In a arms → counts_for own a ≡ true → (v : Value) → a.next ≡ Outside v →
+      ⊎ ((a : Arm) × (v : Value) × In a arms × (counts_for own a ≡ true) × (a.next ≡ Outside v)
+      × (is_of own (value_code side v) ≡ true) × (s.least ≡ value_code side v))
+  pub most_above : (a : Arm) → In a arms → counts_for own a ≡ true → (v : Value) →
+      a.next ≡ Outside v →
       is_of (not own) (value_code side v) ≡ true → value_code side v ≤ s.most
   pub most_met : (s.most ≡ 0)
-      ⊎ ((a : Arm) × (v : Value) × In a arms × (counts_for own a ≡ true) × (a.next ≡ Outside v) × (is_of (not own) (value_code side v) ≡ true) × (s.most ≡ value_code side v))
+      ⊎ ((a : Arm) × (v : Value) × In a arms × (counts_for own a ≡ true) × (a.next ≡ Outside v)
+      × (is_of (not own) (value_code side v) ≡ true) × (s.most ≡ value_code side v))
 
 abbrev undone : ℕ → Bool
 undone _ = false
@@ -56,11 +60,17 @@ says_more own side arms a s t h (Skips f e) =
           let o = ap one (and_left (counts_for own a) (not (is_off own undone side [] a.next)) f) in
           omega (arith, c, o);
       least_below =
-          λ b i c v x k. elim i [ inl z ↦ absurd (true≢false (sym c ∙ (sym (ap (counts_for own) z) ∙ f))) | inr j ↦ h.least_below b j c v x k ];
+          λ b i c v x k. elim i [
+            | inl z ↦ absurd (true≢false (sym c ∙ (sym (ap (counts_for own) z) ∙ f)))
+            | inr j ↦ h.least_below b j c v x k
+          ];
       least_met =
           elim h.least_met [ inl z ↦ inl z | inr m ↦ inr (m.0, m.1, inr m.2, m.3, m.4, m.5, m.6) ];
       most_above =
-          λ b i c v x k. elim i [ inl z ↦ absurd (true≢false (sym c ∙ (sym (ap (counts_for own) z) ∙ f))) | inr j ↦ h.most_above b j c v x k ];
+          λ b i c v x k. elim i [
+            | inl z ↦ absurd (true≢false (sym c ∙ (sym (ap (counts_for own) z) ∙ f)))
+            | inr j ↦ h.most_above b j c v x k
+          ];
       most_met =
           elim h.most_met [ inl z ↦ inl z | inr m ↦ inr (m.0, m.1, inr m.2, m.3, m.4, m.5, m.6) ];
     })
@@ -72,20 +82,33 @@ says_more own side arms a s t h (Enters q c n any count least most) = record {
       let o = ap one (waits_is own side a false c (ap (is_off own undone side []) n)) in
       omega (arith, x, o, count);
   least_below =
-      λ b i cb v x k. elim i [ inl z ↦ absurd (not_inside a b q v z x n) | inr j ↦ let l = h.least_below b j cb v x k in (omega (arith, l.0, least), omega (arith, l.1, least)) ];
+      λ b i cb v x k. elim i [
+        | inl z ↦ absurd (not_inside a b q v z x n)
+        | inr j ↦ let l = h.least_below b j cb v x
+            k in (omega (arith, l.0, least), omega (arith, l.1, least))
+      ];
   least_met =
-      elim h.least_met [ inl z ↦ inl (least ∙ z) | inr m ↦ inr (m.0, m.1, inr m.2, m.3, m.4, m.5, least ∙ m.6) ];
+      elim h.least_met
+      [ inl z ↦ inl (least ∙ z) | inr m ↦ inr (m.0, m.1, inr m.2, m.3, m.4, m.5, least ∙ m.6) ];
   most_above =
-      λ b i cb v x k. elim i [ inl z ↦ absurd (not_inside a b q v z x n) | inr j ↦ let l = h.most_above b j cb v x k in omega (arith, l, most) ];
+      λ b i cb v x k. elim i [
+        | inl z ↦ absurd (not_inside a b q v z x n)
+        | inr j ↦ let l = h.most_above b j cb v x k in
+            omega (arith, l, most)
+      ];
   most_met =
-      elim h.most_met [ inl z ↦ inl (most ∙ z) | inr m ↦ inr (m.0, m.1, inr m.2, m.3, m.4, m.5, most ∙ m.6) ];
+      elim h.most_met [
+        | inl z ↦ inl (most ∙ z)
+        | inr m ↦ inr (m.0, m.1, inr m.2, m.3, m.4, m.5, most ∙ m.6)
+      ];
 }
 says_more own side arms a s t h (Decides u c n kind any count least most) = record {
   any = λ _. (a, inl refl, c);
   none = λ y. absurd (true≢false (sym any ∙ y));
   counter =
       let x = h.counter in
-      let o = ap one (waits_is own side a false c (ap (is_off own undone side []) n ∙ of_not own (value_code side u) kind)) in
+      let o = ap one (waits_is own side a false c
+      (ap (is_off own undone side []) n ∙ of_not own (value_code side u) kind)) in
       omega (arith, x, o, count);
   least_below = λ b i cb v x k.
       let low = of_low own (value_code side u) kind in
@@ -104,7 +127,10 @@ says_more own side arms a s t h (Decides u c n kind any count least most) = reco
       );
   least_met = elim (lesser_cases (value_code side u) s.least) [
     | inl e ↦ inr (a, u, inl refl, c, n, kind, least ∙ e)
-    | inr e ↦ elim h.least_met [ inl z ↦ let p = e.1 in absurd (omega (arith, z, p)) | inr m ↦ inr (m.0, m.1, inr m.2, m.3, m.4, m.5, least ∙ (e.0 ∙ m.6)) ]
+    | inr e ↦ elim h.least_met [
+      | inl z ↦ let p = e.1 in absurd (omega (arith, z, p))
+      | inr m ↦ inr (m.0, m.1, inr m.2, m.3, m.4, m.5, least ∙ (e.0 ∙ m.6))
+    ]
   ];
   most_above = λ b i cb v x k. elim i [
     | inl z ↦
@@ -113,7 +139,10 @@ says_more own side arms a s t h (Decides u c n kind any count least most) = reco
     | inr j ↦ let l = h.most_above b j cb v x k in omega (arith, l, most)
   ];
   most_met =
-      elim h.most_met [ inl z ↦ inl (most ∙ z) | inr m ↦ inr (m.0, m.1, inr m.2, m.3, m.4, m.5, most ∙ m.6) ];
+      elim h.most_met [
+        | inl z ↦ inl (most ∙ z)
+        | inr m ↦ inr (m.0, m.1, inr m.2, m.3, m.4, m.5, most ∙ m.6)
+      ];
 }
 says_more own side arms a s t h (Settles u c n kind any count least most) = record {
   any = λ _. (a, inl refl, c);
@@ -131,7 +160,8 @@ says_more own side arms a s t h (Settles u c n kind any count least most) = reco
         (omega (arith, l.0, least), omega (arith, l.1, least))
   ];
   least_met =
-      elim h.least_met [ inl z ↦ inl (least ∙ z) | inr m ↦ inr (m.0, m.1, inr m.2, m.3, m.4, m.5, least ∙ m.6) ];
+      elim h.least_met
+      [ inl z ↦ inl (least ∙ z) | inr m ↦ inr (m.0, m.1, inr m.2, m.3, m.4, m.5, least ∙ m.6) ];
   most_above = λ b i cb v x k. elim i [
     | inl z ↦
         let e = ap (value_code side) (outside_one a b a.next u v z x n) in
@@ -141,7 +171,10 @@ says_more own side arms a s t h (Settles u c n kind any count least most) = reco
   most_met = elim (cases_lt (value_code side u) s.most) [
     | inl l ↦
         let e : t.most ≡ s.most = omega (arith, most) in
-        elim h.most_met [ inl z ↦ absurd (omega (arith, z, l)) | inr m ↦ inr (m.0, m.1, inr m.2, m.3, m.4, m.5, e ∙ m.6) ]
+        elim h.most_met [
+          | inl z ↦ absurd (omega (arith, z, l))
+          | inr m ↦ inr (m.0, m.1, inr m.2, m.3, m.4, m.5, e ∙ m.6)
+        ]
     | inr l ↦ inr (a, u, inl refl, c, n, kind, omega (arith, most))
   ];
 }
@@ -161,7 +194,8 @@ says_more own side arms a s t h (Holds u c n k1 k2 any count least most) = recor
         (omega (arith, l.0, least), omega (arith, l.1, least))
   ];
   least_met =
-      elim h.least_met [ inl z ↦ inl (least ∙ z) | inr m ↦ inr (m.0, m.1, inr m.2, m.3, m.4, m.5, least ∙ m.6) ];
+      elim h.least_met
+      [ inl z ↦ inl (least ∙ z) | inr m ↦ inr (m.0, m.1, inr m.2, m.3, m.4, m.5, least ∙ m.6) ];
   most_above = λ b i cb v x k. elim i [
     | inl z ↦
         let e = ap (value_code side) (outside_one a b a.next u v z x n) in
@@ -169,10 +203,14 @@ says_more own side arms a s t h (Holds u c n k1 k2 any count least most) = recor
     | inr j ↦ let l = h.most_above b j cb v x k in omega (arith, l, most)
   ];
   most_met =
-      elim h.most_met [ inl z ↦ inl (most ∙ z) | inr m ↦ inr (m.0, m.1, inr m.2, m.3, m.4, m.5, most ∙ m.6) ];
+      elim h.most_met [
+        | inl z ↦ inl (most ∙ z)
+        | inr m ↦ inr (m.0, m.1, inr m.2, m.3, m.4, m.5, most ∙ m.6)
+      ];
 }
 
-pub says : (own : Bool) (side : Colour) (arms : List Arm) → Says own side arms (start_of own side arms)
+pub says : (own : Bool) (side : Colour) (arms : List Arm)
+    → Says own side arms (start_of own side arms)
 says own side [] = record {
   any = λ y. absurd (false≢true y);
   none = λ y b i. absurd i;
@@ -183,4 +221,6 @@ says own side [] = record {
   most_met = inl refl;
 }
 says own side (a ∷ arms) =
-    says_more own side arms a (start_of own side arms) (after_arm own side (start_of own side arms) a) (says own side arms) (way own side a (start_of own side arms))
+    says_more own side arms a (start_of own side arms)
+    (after_arm own side (start_of own side arms) a) (says own side arms)
+    (way own side a (start_of own side arms))

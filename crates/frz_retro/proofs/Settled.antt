@@ -21,9 +21,11 @@ use Rattle.frz_retro.proofs.CodeFacts.{of_low}
 -- the rules of the local code at a number
 pub record Rules (own : Bool) (f : Arm → ℕ) (arms : List Arm) (code : ℕ) : Type 0 where
   pub decided : (a : Arm) → In a arms → counts_for own a ≡ true → is_of own (f a) ≡ true →
-      ((b : Arm) → In b arms → counts_for own b ≡ true → is_of own (f b) ≡ true → f a ≤ f b) → code ≡ f a + 2
+      ((b : Arm) → In b arms → counts_for own b ≡ true → is_of own (f b) ≡ true → f a ≤ f b)
+      → code ≡ f a + 2
   pub exhausted : (a : Arm) → In a arms → counts_for own a ≡ true →
-      ((b : Arm) → In b arms → counts_for own b ≡ true → (is_of (not own) (f b) ≡ true) × (f b ≤ f a)) → code ≡ f a + 2
+      ((b : Arm) → In b arms → counts_for own b ≡ true → (is_of (not own) (f b) ≡ true)
+      × (f b ≤ f a)) → code ≡ f a + 2
   pub held : (a : Arm) → In a arms → counts_for own a ≡ true → is_of (not own) (f a) ≡ false →
       ((b : Arm) → In b arms → counts_for own b ≡ true → is_of own (f b) ≡ false) → code ≡ 1
   pub none : ((a : Arm) → In a arms → counts_for own a ≡ false) → code ≡ 3
@@ -34,7 +36,8 @@ settled_by {own} {f} {arms} {code} {c} r (inl d) =
     r.decided d.arm d.there d.counted d.kind d.least ∙ sym d.code
 settled_by {own} {f} {arms} {code} {c} r (inr e) = elim e.reached [
   | inl one ↦
-      let uncounted : (a : Arm) → In a arms → counts_for own a ≡ false = λ a i. elim (cases_Bool (counts_for own a)) [
+      let uncounted : (a : Arm) → In a arms
+      → counts_for own a ≡ false = λ a i. elim (cases_Bool (counts_for own a)) [
         | inr n ↦ n
         | inl t ↦
             let x = e.each a i t in
@@ -71,4 +74,5 @@ pub same_code : (arena : Arena Step ℕ Value) → arena.class ≡ class_of → 
     local.next_code arena side (λ k. slice_index E k) n ≡ next_code side E n
 same_code arena class lag side E (Inside q) = refl
 same_code arena class lag side E (Outside v) =
-    ap₂ exit_code (ap (λ (f : Value → Colour → _). f v side) class) (ap (λ (f : Value → ℕ). f v) lag)
+    ap₂ exit_code (ap (λ (f : Value → Colour → _). f v side) class)
+    (ap (λ (f : Value → ℕ). f v) lag)

@@ -14,5 +14,8 @@ pub none_forbidden : (lines : List Forbid) (side : Colour) (p : Board) (m : Step
     is_forbidden lines side p m ≡ false
 none_forbidden [] side p m e = refl
 none_forbidden (line ∷ lines) side p m e =
-    let both = or_parts (same_colour line.colour side) (list_any (λ x. same_colour x.colour side) lines) e in
-    or_from (same_colour line.colour side && covers line p m) (is_forbidden lines side p m) (and_left (same_colour line.colour side) (covers line p m) both.0) (none_forbidden lines side p m both.1)
+    let both = or_parts (same_colour line.colour side)
+    (list_any (λ x. same_colour x.colour side) lines) e in
+    or_from (same_colour line.colour side && covers line p m) (is_forbidden lines side p m)
+    (and_left (same_colour line.colour side) (covers line p m) both.0)
+    (none_forbidden lines side p m both.1)

@@ -41,11 +41,13 @@ held_more s = record { any = true; count = s.count + 1; least = s.least; most = 
 abbrev pub others : Bool → Start → ℕ → Start
 others own s c = cond (is_of (not own) c) (settled_more s c) (held_more s)
 
-pub way : (own : Bool) (side : Colour) (a : Arm) (s : Start) → Way own side a s (after_arm own side s a)
+pub way : (own : Bool) (side : Colour) (a : Arm) (s : Start)
+    → Way own side a s (after_arm own side s a)
 way own side a s = elim (cases_Bool (counts_for own a)) [
   | inr f ↦ Skips f (cond-false (counts_for own a) (after_next own side s a.next) s f)
   | inl t ↦ let P : Start → Type 0 = λ x. Way own side a s x in
-      subst P (sym (cond-true (counts_for own a) (after_next own side s a.next) s t)) (elim (next_cases a.next) [
+      subst P (sym (cond-true (counts_for own a) (after_next own side s a.next) s t))
+      (elim (next_cases a.next) [
         | inl q ↦
             let e = ap (after_next own side s) q.1 in
             subst P (sym e) (Enters q.0 t q.1 refl refl refl refl)
@@ -53,13 +55,22 @@ way own side a s = elim (cases_Bool (counts_for own a)) [
             let e = ap (after_next own side s) v.1 in
             subst P (sym e) (elim (cases_Bool (is_of own (value_code side v.0))) [
               | inl k ↦
-                  subst P (sym (cond-true (is_of own (value_code side v.0)) (one_more own s (value_code side v.0)) (others own s (value_code side v.0)) k)) (Decides v.0 t v.1 k refl refl refl refl)
-              | inr k ↦ subst P (sym (cond-false (is_of own (value_code side v.0)) (one_more own s (value_code side v.0)) (others own s (value_code side v.0)) k)) (elim (cases_Bool (is_of (not own) (value_code side v.0))) [
-                | inl j ↦
-                    subst P (sym (cond-true (is_of (not own) (value_code side v.0)) (settled_more s (value_code side v.0)) (held_more s) j)) (Settles v.0 t v.1 j refl refl refl refl)
-                | inr j ↦
-                    subst P (sym (cond-false (is_of (not own) (value_code side v.0)) (settled_more s (value_code side v.0)) (held_more s) j)) (Holds v.0 t v.1 k j refl refl refl refl)
-              ])
+                  subst P (sym (cond-true (is_of own (value_code side v.0))
+                  (one_more own s (value_code side v.0)) (others own s (value_code side v.0)) k))
+                  (Decides v.0 t v.1 k refl refl refl refl)
+              | inr k ↦ subst P
+                  (sym (cond-false (is_of own (value_code side v.0))
+                  (one_more own s (value_code side v.0)) (others own s (value_code side v.0)) k))
+                  (elim (cases_Bool (is_of (not own) (value_code side v.0))) [
+                    | inl j ↦
+                        subst P (sym (cond-true (is_of (not own) (value_code side v.0))
+                        (settled_more s (value_code side v.0)) (held_more s) j))
+                        (Settles v.0 t v.1 j refl refl refl refl)
+                    | inr j ↦
+                        subst P (sym (cond-false (is_of (not own) (value_code side v.0))
+                        (settled_more s (value_code side v.0)) (held_more s) j))
+                        (Holds v.0 t v.1 k j refl refl refl refl)
+                  ])
             ])
       ])
 ]

@@ -24,7 +24,8 @@ ones_set (x ∷ E) (suc i) c e n = let h = ones_set E i c e n in omega (arith, h
 -- an entry above 0 is within the list
 pub within : (E : List ℕ) (i : ℕ) → 0 < get_or E i 0 → i < length E
 within E i h =
-    elim (cases_lt i (length E)) [ inl l ↦ l | inr l ↦ let z = get_or_past E i 0 l in absurd (omega (arith, z, h)) ]
+    elim (cases_lt i (length E))
+    [ inl l ↦ l | inr l ↦ let z = get_or_past E i 0 l in absurd (omega (arith, z, h)) ]
 
 -- one open number settles
 pub queue_keeps : (k mid : ℕ) (E Q : List ℕ) (tail i c : ℕ) → Queue k mid E Q tail → mid ≤ tail →
@@ -37,12 +38,19 @@ queue_keeps k mid E Q tail i c u m one long =
     let here : tail < length Q = omega (arith, fewer, room) in
     let in_list = within E i (omega (arith, one)) in
     let at : get_or F i 0 ≡ c = get_or-set_same E i c 0 in_list in
-    let front : (t : ℕ) → t < tail → get_or R t 0 ≡ get_or Q t 0 = λ t l. get_or-set_other Q tail t i 0 (λ e. omega (arith, e, l)) in
+    let front : (t : ℕ) → t < tail → get_or R t 0 ≡ get_or Q t 0 = λ t l. get_or-set_other Q tail t
+    i 0 (λ e. omega (arith, e, l)) in
     let back : get_or R tail 0 ≡ i = get_or-set_same Q tail i 0 here in
-    let stays : (q : ℕ) → 2 ≤ get_or E q 0 → get_or F q 0 ≡ get_or E q 0 = λ q h. get_or-set_other E i q c 0 (λ e. let y = ap (λ (x : ℕ). get_or E x 0) e in omega (arith, y, one, h)) in
-    let value : (t : ℕ) → t < tail → get_or F (get_or R t 0) 0 ≡ get_or E (get_or Q t 0) 0 = λ t l. ap (λ (x : ℕ). get_or F x 0) (front t l) ∙ stays (get_or Q t 0) (u.each t l) in
+    let stays : (q : ℕ) → 2 ≤ get_or E q 0
+    → get_or F q 0 ≡ get_or E q 0 =
+    λ q h. get_or-set_other E i q c 0
+    (λ e. let y = ap (λ (x : ℕ). get_or E x 0) e in omega (arith, y, one, h)) in
+    let value : (t : ℕ) → t < tail → get_or F (get_or R t 0) 0 ≡ get_or E (get_or Q t 0) 0 = λ t l.
+    ap (λ (x : ℕ). get_or F x 0) (front t l) ∙ stays (get_or Q t 0) (u.each t l) in
     let last : get_or F (get_or R tail 0) 0 ≡ c = ap (λ (x : ℕ). get_or F x 0) back ∙ at in
-    let cases : (t : ℕ) → t < tail + 1 → (t < tail) ⊎ (t ≡ tail) = λ t l. elim (cases_lt t tail) [ inl y ↦ inl y | inr y ↦ inr (omega (arith, y, l)) ] in
+    let cases : (t : ℕ) → t < tail + 1
+    → (t < tail) ⊎ (t ≡ tail) =
+    λ t l. elim (cases_lt t tail) [ inl y ↦ inl y | inr y ↦ inr (omega (arith, y, l)) ] in
     record {
       room = let y = length-set Q tail i in omega (arith, y, fewer, room);
       each = λ t l. elim (cases t l) [
@@ -93,7 +101,12 @@ queue_keeps k mid E Q tail i c u m one long =
 pub sized_keeps : (n : ℕ) (E C L Q : List ℕ) (i c t : ℕ) → Sized n E C L Q →
     Sized n (set E i c) C L (set Q t i)
 sized_keeps n E C L Q i c t s =
-    record { codes = length-set E i c ∙ s.codes; counts = s.counts; later = s.later; queue = length-set Q t i ∙ s.queue }
+    record {
+      codes = length-set E i c ∙ s.codes;
+      counts = s.counts;
+      later = s.later;
+      queue = length-set Q t i ∙ s.queue;
+    }
 
 -- a number of the graph settles
 pub work_settles : (B : Shape) (side : Colour) (k mid : ℕ) (bar : ℕ → ℕ) (done : ℕ → ℕ → Bool)
@@ -104,7 +117,8 @@ pub work_settles : (B : Shape) (side : Colour) (k mid : ℕ) (bar : ℕ → ℕ)
     Work B side k mid bar done (set E i code) C L (set Q tail i) (tail + 1)
 work_settles B side k mid bar done E C L Q tail i c code w in_size node one least most h = record {
   state =
-      settle_keeps B side k bar done E C L i c code w.state in_size (within E i (omega (arith, one))) node one least most h;
+      settle_keeps B side k bar done E C L i c code w.state in_size
+      (within E i (omega (arith, one))) node one least most h;
   queue = queue_keeps k mid E Q tail i code w.queue w.within one least;
   sized = sized_keeps B.size E C L Q i code tail w.sized;
   passes = w.passes;
@@ -118,7 +132,8 @@ pub work_done : (B : Shape) (side : Colour) (k mid : ℕ) (bar : ℕ → ℕ) (d
     ((i q : ℕ) → more i q ≡ done i q) → Work B side k mid bar more E C L Q tail
 work_done B side k mid bar done more E C L Q tail w h = record {
   state =
-      done_same B side k bar done more E C L w.state (λ i a q _ _ _. h i q) (λ i q t. w.state.low i q (sym (h i q) ∙ t)) (λ i q t. w.state.high i q (sym (h i q) ∙ t));
+      done_same B side k bar done more E C L w.state (λ i a q _ _ _. h i q)
+      (λ i q t. w.state.low i q (sym (h i q) ∙ t)) (λ i q t. w.state.high i q (sym (h i q) ∙ t));
   queue = w.queue;
   sized = w.sized;
   passes = w.passes;

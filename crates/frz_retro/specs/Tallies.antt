@@ -74,7 +74,8 @@ InPass arena size side k n mid done t =
 
 -- the same, whatever stood in the queue and was met
 abbrev pub IsInPass : Arena Step ℕ Value → ℕ → Colour → ℕ → ℕ → Tally → Type 0
-IsInPass arena size side k n t = (mid : ℕ) × (done : ℕ → ℕ → Bool) × InPass arena size side k n mid done t
+IsInPass arena size side k n t =
+    (mid : ℕ) × (done : ℕ → ℕ → Bool) × InPass arena size side k n mid done t
 
 -- the exits of n numbers had been looked at, and now those of m
 abbrev pub LooksAt : Arena Step ℕ Value → ℕ → Colour → ℕ → ℕ → ℕ → Tally → Tally → Type 0

@@ -49,7 +49,8 @@ impl<'a, B: ExitBook> GameGraph<'a, B> {
 }
 
 impl<B: ExitBook, L: Ledger> NumberedGame<L> for GameGraph<'_, B> {
-    ghost arena = { λ graph. graph_by graph.game.now.rules.now (B.value_at graph.game.now.book.now) };
+    ghost arena = { λ graph.
+        graph_by graph.game.now.rules.now (B.value_at graph.game.now.book.now) };
 
     ghost count = { λ graph. size_of graph.game.now.rules.now.groups };
 

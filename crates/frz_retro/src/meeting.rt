@@ -37,7 +37,8 @@ pub fn meet<G: Graph<L>, L: Ledger>(graph: &G, side: Colour, q: u32, pred: &Pred
     ensures kept { (k mid : ℕ) (done more : ℕ → ℕ → Bool) →
         IsMeeting (G.arena graph.now) (G.count graph.now) side k mid done tally.old q pred.now →
         Meets done more pred.now.number q →
-        InPass (G.arena graph.now) (G.count graph.now) side k (G.count graph.now) mid more tally.new }
+        InPass (G.arena graph.now) (G.count graph.now) side k (G.count graph.now) mid more
+        tally.new }
     ensures settled { (r : ℕ) → 2 ≤ slice_index tally.old.codes r →
         slice_index tally.new.codes r ≡ slice_index tally.old.codes r }
     ensures queue { Grows tally.old tally.new }
@@ -80,7 +81,8 @@ pub fn go_through<G: Graph<L>, L: Ledger>(
     ensures kept { (k mid : ℕ) (done more : ℕ → ℕ → Bool) →
         AreComing (G.arena graph.now) (G.count graph.now) side k mid done tally.old q preds.now →
         ((i r : ℕ) → more i r ≡ (done i r || (q == r))) →
-        InPass (G.arena graph.now) (G.count graph.now) side k (G.count graph.now) mid more tally.new }
+        InPass (G.arena graph.now) (G.count graph.now) side k (G.count graph.now) mid more
+        tally.new }
     ensures queue { Grows tally.old tally.new }
 {
     for pred in preds {

@@ -36,7 +36,8 @@ first_is_known all lines rest n ws (inr h) f k = h
 
 -- where a text is short, its header right, and the first line behind it known, memory may be wanted
 pub wants : (text : List ℕ) (n : ℕ) (ws : List (List ℕ)) (behind : List (ℕ × List (List ℕ))) →
-    length text ≤ 65536 → significant (numbered 1 (lines text)) ≡ (n, ws) ∷ behind → is_header ws ≡ true →
+    length text ≤ 65536 → significant (numbered 1 (lines text)) ≡ (n, ws) ∷ behind →
+    is_header ws ≡ true →
     first_known behind ≡ true → may_want_memory text ≡ true
 unfolding may_want_memory
 wants text n ws behind short e h k =

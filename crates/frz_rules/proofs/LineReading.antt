@@ -13,14 +13,20 @@ use Rattle.frz_rules.proofs.Agreeing.{Agrees, equal_words, group_agrees, forbid_
 use Rattle.frz_rules.proofs.Saying.{ok_of, group_said, forbid_said, exit_said}
 
 -- a line is read to what it says, or to its place, where its first word begins lines of the form
-reads : {A B : Type 0} (h : A → B) (add : RuleLines → B → Result RuleLines RulesCause) (f : Form) (text : List ℕ) (a : Result A (List (List ℕ))) (said : Option B) (r : RuleLines) (line : List (List ℕ)) (w : List ℕ) (ws : List (List ℕ)) → line ≡ w ∷ ws → is text w ≡ true → reach line_form (text ∷ ws) ≡ 1 + reach f ws → Agrees f ws a → said ≡ option_map h (ok_of a) → line_of r (w ∷ ws) ≡ with_line add r (w ∷ ws) said → read_to (λ r x. add r (h x)) r (length line) a ≡ line_of r line
+reads : {A B : Type 0} (h : A → B) (add : RuleLines → B → Result RuleLines RulesCause) (f : Form)
+    (text : List ℕ) (a : Result A (List (List ℕ))) (said : Option B) (r : RuleLines)
+    (line : List (List ℕ)) (w : List ℕ) (ws : List (List ℕ)) → line ≡ w ∷ ws → is text w ≡ true
+    → reach line_form (text ∷ ws) ≡ 1 + reach f ws → Agrees f ws a → said ≡ option_map h (ok_of a)
+    → line_of r (w ∷ ws) ≡ with_line add r (w ∷ ws) said
+    → read_to (λ r x. add r (h x)) r (length line) a ≡ line_of r line
 reads h add f text (Ok x) said r line w ws s e behind agrees says gives =
     sym (ap (line_of r) s ∙ gives ∙ ap (with_line add r (w ∷ ws)) says)
 reads h add f text (Err rest) said r line w ws s e behind agrees says gives =
     let l = agrees.1 in
     let n = ap length s in
     let front = ap (λ v. reach line_form (v ∷ ws)) (equal_words w text e) ∙ behind in
-    let same : length line - length rest + 1 ≡ reach line_form (w ∷ ws) + 1 = omega (arith, n, front) in
+    let same : length line - length rest + 1 ≡ reach line_form (w ∷ ws) + 1 = omega
+    (arith, n, front) in
     ap (λ n. let failed : Result RuleLines RulesCause = Err (causes.Word n) in failed) same
     ∙ sym (ap (line_of r) s ∙ gives ∙ ap (with_line add r (w ∷ ws)) says)
 
@@ -36,14 +42,16 @@ pub group_reads : (r : RuleLines) (line : List (List ℕ)) (w : List ℕ) (ws : 
     read_to (λ r g. add_group r (read_group g)) r (length line) (group_words ws) ≡ line_of r line
 unfolding line_of line_form
 group_reads r line w ws s e =
-    reads read_group add_group group_form (codes "group") (group_words ws) (group_of ws) r line w ws s e (omega arith) (group_agrees ws) (group_said ws) (rw e refl)
+    reads read_group add_group group_form (codes "group") (group_words ws) (group_of ws) r line w ws
+    s e (omega arith) (group_agrees ws) (group_said ws) (rw e refl)
 
 pub forbid_reads : (r : RuleLines) (line : List (List ℕ)) (w : List ℕ) (ws : List (List ℕ)) →
     line ≡ w ∷ ws → is (codes "group") w ≡ false → is (codes "forbid") w ≡ true →
     read_to add_forbid r (length line) (forbid_words ws) ≡ line_of r line
 unfolding line_of line_form
 forbid_reads r line w ws s g e =
-    reads (λ f. f) add_forbid forbid_form (codes "forbid") (forbid_words ws) (forbid_of ws) r line w ws s e (omega arith) (forbid_agrees ws) (forbid_says ws) (rw (g, e) refl)
+    reads (λ f. f) add_forbid forbid_form (codes "forbid") (forbid_words ws) (forbid_of ws) r line w
+    ws s e (omega arith) (forbid_agrees ws) (forbid_says ws) (rw (g, e) refl)
 
 pub exit_reads : (r : RuleLines) (line : List (List ℕ)) (w : List ℕ) (ws : List (List ℕ)) →
     line ≡ w ∷ ws → is (codes "group") w ≡ false → is (codes "forbid") w ≡ false →
@@ -51,7 +59,8 @@ pub exit_reads : (r : RuleLines) (line : List (List ℕ)) (w : List ℕ) (ws : L
     read_to (λ r e. add_exit r (read_exit e)) r (length line) (exit_words ws) ≡ line_of r line
 unfolding line_of line_form
 exit_reads r line w ws s g f e =
-    reads read_exit add_exit exit_form (codes "exit") (exit_words ws) (exit_of ws) r line w ws s e (omega arith) (exit_agrees ws) (exit_said ws) (rw (g, f, e) refl)
+    reads read_exit add_exit exit_form (codes "exit") (exit_words ws) (exit_of ws) r line w ws s e
+    (omega arith) (exit_agrees ws) (exit_said ws) (rw (g, f, e) refl)
 
 pub unknown_reads : (r : RuleLines) (line : List (List ℕ)) (w : List ℕ) (ws : List (List ℕ)) →
     line ≡ w ∷ ws → is (codes "group") w ≡ false → is (codes "forbid") w ≡ false →
@@ -64,7 +73,8 @@ unfolding line_of
 nothing_reads r line s = ap (line_of r) s
 
 -- a line has its form exactly where it says something
-form_case : {A B : Type 0} (h : A → B) (f : Form) (ws : List (List ℕ)) (a : Result A (List (List ℕ))) → Agrees f ws a → fits f ws ≡ is_some (option_map h (ok_of a))
+form_case : {A B : Type 0} (h : A → B) (f : Form) (ws : List (List ℕ))
+    (a : Result A (List (List ℕ))) → Agrees f ws a → fits f ws ≡ is_some (option_map h (ok_of a))
 form_case h f ws (Ok x) agrees = agrees
 form_case h f ws (Err rest) agrees = agrees.0
 

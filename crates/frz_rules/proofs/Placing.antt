@@ -23,14 +23,16 @@ pub states_yes : (places : List (Kind × ℕ)) (n : ℕ) → is_placed places (s
 unfolding states_below
 states_yes places n e =
     filter_of_map_range_with_len_more (is_placed places) state_at 0 n n (omega arith)
-    ∙ ap (λ b. filter (is_placed places) (map state_at (range_with_len 0 n)) ++ cond b (state_at n ∷ []) []) e
+    ∙ ap (λ b. filter (is_placed places) (map state_at (range_with_len 0 n)) ++ cond b
+    (state_at n ∷ []) []) e
 
 pub states_no : (places : List (Kind × ℕ)) (n : ℕ) → is_placed places (state_at n) ≡ false →
     states_below places (n + 1) ≡ states_below places n
 unfolding states_below
 states_no places n e =
     filter_of_map_range_with_len_more (is_placed places) state_at 0 n n (omega arith)
-    ∙ ap (λ b. filter (is_placed places) (map state_at (range_with_len 0 n)) ++ cond b (state_at n ∷ []) []) e
+    ∙ ap (λ b. filter (is_placed places) (map state_at (range_with_len 0 n)) ++ cond b
+    (state_at n ∷ []) []) e
     ∙ append-nil (filter (is_placed places) (map state_at (range_with_len 0 n)))
 
 pub states_end : (places : List (Kind × ℕ)) (n : ℕ) → n ≡ 384 →

@@ -80,7 +80,8 @@ then_begins : (p : List ℕ → Bool) (f : Form) (b : Bool) (w : List ℕ) (ws :
 then_begins p f true w ws n e h k = let l : n ≤ reach f ws = omega arith in ((k l).0, rw e (k l).1)
 then_begins p f false w ws n e h k = absurd (omega arith)
 
-begins : (f : Form) → IsPossible f → (ws : List (List ℕ)) (n : ℕ) → n ≤ reach f ws → FrontFits f ws n
+begins : (f : Form) → IsPossible f → (ws : List (List ℕ)) (n : ℕ) → n ≤ reach f ws
+    → FrontFits f ws n
 begins Ends i ws zero h = ([], refl)
 begins Ends i ws (suc n) h = absurd (omega arith)
 begins (Then p f) i ws zero h =
@@ -94,7 +95,8 @@ begins (Many p) i (w ∷ ws) (suc n) h = ([], all_begin p (w ∷ ws) (suc n) h)
 begins (Or f g) i ws n h =
     elim (leb_tells n (reach f ws)) [
       | inl l ↦ (let r = begins f i.0 ws n l.1 in (r.0, rw r.1 refl))
-      | inr l ↦ (let r = begins g i.1 ws n (let k = l.1 in omega arith) in (r.0, right_true (fits f (take n ws ++ r.0)) (fits g (take n ws ++ r.0)) r.1))
+      | inr l ↦ (let r = begins g i.1 ws n (let k = l.1 in omega arith) in
+          (r.0, right_true (fits f (take n ws ++ r.0)) (fits g (take n ws ++ r.0)) r.1))
     ]
 
 reach_within : (f : Form) (ws : List (List ℕ)) → reach f ws ≤ length ws
@@ -125,15 +127,45 @@ group_possible = ((codes "white", refl), ((codes "1", refl), (codes "K:a1", refl
 
 forbid_possible : IsPossible forbid_form
 unfolding number_of squares_of set_of
-forbid_possible =
-    ((codes "white", refl), ((codes "K", refl), ((codes "from", refl), ((codes "a1", refl), ((codes "to", refl), ((codes "a1", refl), (tt, (((codes "capture", refl), tt), ((codes "promotion", refl), tt)))))))))
+forbid_possible = (
+  (codes "white", refl),
+  (
+    (codes "K", refl),
+    (
+      (codes "from", refl),
+      (
+        (codes "a1", refl),
+        (
+          (codes "to", refl),
+          (
+            (codes "a1", refl),
+            (tt, (((codes "capture", refl), tt), ((codes "promotion", refl), tt))),
+          ),
+        ),
+      ),
+    ),
+  ),
+)
 
 exit_possible : IsPossible exit_form
 unfolding number_of squares_of set_of
-exit_possible =
-    (((codes "draw", refl), conds_possible), (((codes "unknown", refl), conds_possible), ((codes "white", refl), (((codes "holds", refl), conds_possible), ((codes "wins", refl), (conds_possible, ((codes "1", refl), conds_possible)))))))
+exit_possible = (
+  ((codes "draw", refl), conds_possible),
+  (
+    ((codes "unknown", refl), conds_possible),
+    (
+      (codes "white", refl),
+      (
+        ((codes "holds", refl), conds_possible),
+        ((codes "wins", refl), (conds_possible, ((codes "1", refl), conds_possible))),
+      ),
+    ),
+  ),
+)
 
 pub line_possible : IsPossible line_form
 unfolding line_form
-line_possible =
-    (((codes "group", refl), group_possible), (((codes "forbid", refl), forbid_possible), ((codes "exit", refl), exit_possible)))
+line_possible = (
+  ((codes "group", refl), group_possible),
+  (((codes "forbid", refl), forbid_possible), ((codes "exit", refl), exit_possible)),
+)

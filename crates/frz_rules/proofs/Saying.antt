@@ -24,7 +24,8 @@ ok_of (Ok x) = Some x
 ok_of (Err rest) = None
 
 -- words of a class
-more_said : {A : Type 0} (o : Option A) (w : List ℕ) (ws : List (List ℕ)) (r : Result (List A) (List (List ℕ))) → with_first o (ok_of r) ≡ ok_of (more_of o w ws r)
+more_said : {A : Type 0} (o : Option A) (w : List ℕ) (ws : List (List ℕ))
+    (r : Result (List A) (List (List ℕ))) → with_first o (ok_of r) ≡ ok_of (more_of o w ws r)
 more_said None w ws r = refl
 more_said (Some x) w ws (Ok xs) = refl
 more_said (Some x) w ws (Err rest) = refl
@@ -35,7 +36,9 @@ all_said class [] = refl
 all_said class (w ∷ ws) =
     ap (with_first (class w)) (all_said class ws) ∙ more_said (class w) w ws (each_of class ws)
 
-not_empty : {A : Type 0} (o : Option A) (w : List ℕ) (ws : List (List ℕ)) (r : Result (List A) (List (List ℕ))) → ok_of (more_of o w ws r) ≡ ok_of (more_of o w ws r >>= at_least_one)
+not_empty : {A : Type 0} (o : Option A) (w : List ℕ) (ws : List (List ℕ))
+    (r : Result (List A) (List (List ℕ)))
+    → ok_of (more_of o w ws r) ≡ ok_of (more_of o w ws r >>= at_least_one)
 not_empty None w ws r = refl
 not_empty (Some x) w ws (Ok xs) = refl
 not_empty (Some x) w ws (Err rest) = refl
@@ -46,21 +49,31 @@ some_said class [] = refl
 some_said class (w ∷ ws) = all_said class (w ∷ ws) ∙ not_empty (class w) w ws (each_of class ws)
 
 -- groups
-group_places : (c : Colour) (n : ℕ × ℕ) (r : Result (List (Kind × ℕ)) (List (List ℕ))) → group_from (Some c) (Some n) (ok_of r) ≡ option_map read_group (ok_of (r >>= λ ps. Ok (c, n, ps)))
+group_places : (c : Colour) (n : ℕ × ℕ) (r : Result (List (Kind × ℕ)) (List (List ℕ)))
+    → group_from (Some c) (Some n) (ok_of r) ≡ option_map read_group
+    (ok_of (r >>= λ ps. Ok (c, n, ps)))
 group_places c n (Ok ps) = refl
 group_places c n (Err rest) = refl
 
-group_count : (c : Colour) (o : Option (ℕ × ℕ)) (w : List ℕ) (ws : List (List ℕ)) → group_from (Some c) o (some_of place_of ws) ≡ option_map read_group (ok_of (taken o w ws >>= λ n. one_or_more place_of n.1 >>= λ ps. Ok (c, n.0, ps)))
+group_count : (c : Colour) (o : Option (ℕ × ℕ)) (w : List ℕ) (ws : List (List ℕ))
+    → group_from (Some c) o (some_of place_of ws) ≡ option_map read_group
+    (ok_of (taken o w ws >>= λ n. one_or_more place_of n.1 >>= λ ps. Ok (c, n.0, ps)))
 group_count c None w ws = refl
 group_count c (Some n) w ws =
     ap (group_from (Some c) (Some n)) (some_said place_of ws)
     ∙ group_places c n (one_or_more place_of ws)
 
-group_colour : (o : Option Colour) (c w : List ℕ) (ws : List (List ℕ)) → group_from o (count_of w) (some_of place_of ws) ≡ option_map read_group (ok_of (taken o c (w ∷ ws) >>= λ c. slot count_of c.1 >>= λ n. one_or_more place_of n.1 >>= λ ps. Ok (c.0, n.0, ps)))
+group_colour : (o : Option Colour) (c w : List ℕ) (ws : List (List ℕ))
+    → group_from o (count_of w) (some_of place_of ws) ≡ option_map read_group
+    (ok_of (taken o c (w ∷ ws) >>= λ c. slot count_of c.1 >>= λ n. one_or_more place_of n.1
+    >>= λ ps. Ok (c.0, n.0, ps)))
 group_colour None c w ws = refl
 group_colour (Some x) c w ws = group_count x (count_of w) w ws
 
-colour_alone : (o : Option Colour) (c : List ℕ) → None ≡ option_map read_group (ok_of (taken o c [] >>= λ c. slot count_of c.1 >>= λ n. one_or_more place_of n.1 >>= λ ps. Ok (c.0, n.0, ps)))
+colour_alone : (o : Option Colour) (c : List ℕ)
+    → None ≡ option_map read_group
+    (ok_of (taken o c [] >>= λ c. slot count_of c.1 >>= λ n. one_or_more place_of n.1 >>= λ ps. Ok
+    (c.0, n.0, ps)))
 colour_alone None c = refl
 colour_alone (Some x) c = refl
 
@@ -78,7 +91,9 @@ one_word true b w = refl
 one_word false true w = refl
 one_word false false w = refl
 
-two_words : (a b : Bool) (w v : List ℕ) (vs : List (List ℕ)) → (let none : Option Only = None in none) ≡ ok_of (cond a (Err (v ∷ vs)) (cond b (Err (v ∷ vs)) (Err (w ∷ v ∷ vs))))
+two_words : (a b : Bool) (w v : List ℕ) (vs : List (List ℕ))
+    → (let none : Option Only = None in none) ≡ ok_of
+    (cond a (Err (v ∷ vs)) (cond b (Err (v ∷ vs)) (Err (w ∷ v ∷ vs))))
 two_words true b w v vs = refl
 two_words false true w v vs = refl
 two_words false false w v vs = refl
@@ -96,33 +111,58 @@ cond_none : {A : Type 0} (b : Bool) (o : Option A) → o ≡ None → cond b o N
 cond_none true o e = e
 cond_none false o e = refl
 
-forbid_end : (c : Colour) (k : Kind) (a b : ℕ) (r : Result Only (List (List ℕ))) → forbid_from (Some c) (Some k) (Some a) (Some b) (ok_of r) ≡ ok_of (r >>= λ o. Ok (made c k a b o))
+forbid_end : (c : Colour) (k : Kind) (a b : ℕ) (r : Result Only (List (List ℕ)))
+    → forbid_from (Some c) (Some k) (Some a) (Some b) (ok_of r) ≡ ok_of
+    (r >>= λ o. Ok (made c k a b o))
 forbid_end c k a b (Ok o) = refl
 forbid_end c k a b (Err rest) = refl
 
-forbid_to : (c : Colour) (k : Kind) (a : ℕ) (o : Option ℕ) (u : List ℕ) (end : List (List ℕ)) → forbid_from (Some c) (Some k) (Some a) o (only_of end) ≡ ok_of (taken o u end >>= λ b. only_words b.1 >>= λ o. Ok (made c k a b.0 o))
+forbid_to : (c : Colour) (k : Kind) (a : ℕ) (o : Option ℕ) (u : List ℕ) (end : List (List ℕ))
+    → forbid_from (Some c) (Some k) (Some a) o (only_of end) ≡ ok_of
+    (taken o u end >>= λ b. only_words b.1 >>= λ o. Ok (made c k a b.0 o))
 forbid_to c k a None u end = refl
 forbid_to c k a (Some b) u end =
     ap (forbid_from (Some c) (Some k) (Some a) (Some b)) (only_said end)
     ∙ forbid_end c k a b (only_words end)
 
-forbid_to_word : (c : Colour) (k : Kind) (a : ℕ) (x : Bool) (t u : List ℕ) (end : List (List ℕ)) → cond x (forbid_from (Some c) (Some k) (Some a) (squares_of u) (only_of end)) None ≡ ok_of (cond x (Ok (u ∷ end)) (Err (t ∷ u ∷ end)) >>= λ t. slot squares_of t >>= λ b. only_words b.1 >>= λ o. Ok (made c k a b.0 o))
+forbid_to_word : (c : Colour) (k : Kind) (a : ℕ) (x : Bool) (t u : List ℕ) (end : List (List ℕ))
+    → cond x (forbid_from (Some c) (Some k) (Some a) (squares_of u) (only_of end)) None ≡ ok_of
+    (cond x (Ok (u ∷ end)) (Err (t ∷ u ∷ end)) >>= λ t. slot squares_of t >>= λ b. only_words b.1
+    >>= λ o. Ok (made c k a b.0 o))
 forbid_to_word c k a true t u end = forbid_to c k a (squares_of u) u end
 forbid_to_word c k a false t u end = refl
 
-forbid_squares : (c : Colour) (k : Kind) (o : Option ℕ) (s t u : List ℕ) (end : List (List ℕ)) → cond (is (codes "to") t) (forbid_from (Some c) (Some k) o (squares_of u) (only_of end)) None ≡ ok_of (taken o s (t ∷ u ∷ end) >>= λ a. literal (codes "to") a.1 >>= λ t. slot squares_of t >>= λ b. only_words b.1 >>= λ o. Ok (made c k a.0 b.0 o))
+forbid_squares : (c : Colour) (k : Kind) (o : Option ℕ) (s t u : List ℕ) (end : List (List ℕ))
+    → cond (is (codes "to") t) (forbid_from (Some c) (Some k) o (squares_of u) (only_of end)) None
+    ≡ ok_of (taken o s (t ∷ u ∷ end) >>= λ a. literal (codes "to") a.1 >>= λ t. slot squares_of t
+    >>= λ b. only_words b.1 >>= λ o. Ok (made c k a.0 b.0 o))
 forbid_squares c k None s t u end = cond_none (is (codes "to") t) None refl
 forbid_squares c k (Some a) s t u end = forbid_to_word c k a (is (codes "to") t) t u end
 
-forbid_from_word : (c : Colour) (k : Kind) (x : Bool) (f s t u : List ℕ) (end : List (List ℕ)) → cond (x && is (codes "to") t) (forbid_from (Some c) (Some k) (squares_of s) (squares_of u) (only_of end)) None ≡ ok_of (cond x (Ok (s ∷ t ∷ u ∷ end)) (Err (f ∷ s ∷ t ∷ u ∷ end)) >>= λ r. slot squares_of r >>= λ a. literal (codes "to") a.1 >>= λ t. slot squares_of t >>= λ b. only_words b.1 >>= λ o. Ok (made c k a.0 b.0 o))
+forbid_from_word : (c : Colour) (k : Kind) (x : Bool) (f s t u : List ℕ) (end : List (List ℕ))
+    → cond (x && is (codes "to") t)
+    (forbid_from (Some c) (Some k) (squares_of s) (squares_of u) (only_of end)) None ≡ ok_of
+    (cond x (Ok (s ∷ t ∷ u ∷ end)) (Err (f ∷ s ∷ t ∷ u ∷ end)) >>= λ r. slot squares_of r
+    >>= λ a. literal (codes "to") a.1 >>= λ t. slot squares_of t >>= λ b. only_words b.1 >>= λ o. Ok
+    (made c k a.0 b.0 o))
 forbid_from_word c k true f s t u end = forbid_squares c k (squares_of s) s t u end
 forbid_from_word c k false f s t u end = refl
 
-forbid_kind : (c : Colour) (o : Option Kind) (k f s t u : List ℕ) (end : List (List ℕ)) → cond (is (codes "from") f && is (codes "to") t) (forbid_from (Some c) o (squares_of s) (squares_of u) (only_of end)) None ≡ ok_of (taken o k (f ∷ s ∷ t ∷ u ∷ end) >>= λ k. literal (codes "from") k.1 >>= λ r. slot squares_of r >>= λ a. literal (codes "to") a.1 >>= λ t. slot squares_of t >>= λ b. only_words b.1 >>= λ o. Ok (made c k.0 a.0 b.0 o))
+forbid_kind : (c : Colour) (o : Option Kind) (k f s t u : List ℕ) (end : List (List ℕ))
+    → cond (is (codes "from") f && is (codes "to") t)
+    (forbid_from (Some c) o (squares_of s) (squares_of u) (only_of end)) None ≡ ok_of
+    (taken o k (f ∷ s ∷ t ∷ u ∷ end) >>= λ k. literal (codes "from") k.1 >>= λ r. slot squares_of r
+    >>= λ a. literal (codes "to") a.1 >>= λ t. slot squares_of t >>= λ b. only_words b.1 >>= λ o. Ok
+    (made c k.0 a.0 b.0 o))
 forbid_kind c None k f s t u end = cond_none (is (codes "from") f && is (codes "to") t) None refl
 forbid_kind c (Some x) k f s t u end = forbid_from_word c x (is (codes "from") f) f s t u end
 
-forbid_colour : (o : Option Colour) (c k f s t u : List ℕ) (end : List (List ℕ)) → cond (is (codes "from") f && is (codes "to") t) (forbid_from o (kind_of k) (squares_of s) (squares_of u) (only_of end)) None ≡ ok_of (taken o c (k ∷ f ∷ s ∷ t ∷ u ∷ end) >>= λ c. slot kind_of c.1 >>= λ k. literal (codes "from") k.1 >>= λ r. slot squares_of r >>= λ a. literal (codes "to") a.1 >>= λ t. slot squares_of t >>= λ b. only_words b.1 >>= λ o. Ok (made c.0 k.0 a.0 b.0 o))
+forbid_colour : (o : Option Colour) (c k f s t u : List ℕ) (end : List (List ℕ))
+    → cond (is (codes "from") f && is (codes "to") t)
+    (forbid_from o (kind_of k) (squares_of s) (squares_of u) (only_of end)) None ≡ ok_of
+    (taken o c (k ∷ f ∷ s ∷ t ∷ u ∷ end) >>= λ c. slot kind_of c.1 >>= λ k. literal (codes "from")
+    k.1 >>= λ r. slot squares_of r >>= λ a. literal (codes "to") a.1 >>= λ t. slot squares_of t
+    >>= λ b. only_words b.1 >>= λ o. Ok (made c.0 k.0 a.0 b.0 o))
 forbid_colour None c k f s t u end = cond_none (is (codes "from") f && is (codes "to") t) None refl
 forbid_colour (Some x) c k f s t u end = forbid_kind x (kind_of k) k f s t u end
 
@@ -162,12 +202,14 @@ after_yes w ws e = rw e refl
 before_no : (w : List ℕ) (ws : List (List ℕ)) → is_if w ≡ false →
     before_first is_if (w ∷ ws) ≡ w ∷ before_first is_if ws
 before_no w ws e =
-    let more : 1 + position_or_len is_if ws ≡ suc (position_or_len is_if ws) = omega arith in rw (e, more) refl
+    let more : 1 + position_or_len is_if ws ≡ suc (position_or_len is_if ws) = omega arith in
+    rw (e, more) refl
 
 after_no : (w : List ℕ) (ws : List (List ℕ)) → is_if w ≡ false →
     after_first is_if (w ∷ ws) ≡ after_first is_if ws
 after_no w ws e =
-    let more : 1 + position_or_len is_if ws + 1 ≡ suc (position_or_len is_if ws + 1) = omega arith in rw (e, more) refl
+    let more : 1 + position_or_len is_if ws + 1 ≡ suc (position_or_len is_if ws + 1) =
+    omega arith in rw (e, more) refl
 
 -- what an exit line says, by the words before and after `if`
 abbrev exit_by : List (List ℕ) → List (List ℕ) → Option ExitLine
@@ -179,7 +221,8 @@ conds_then v = one_or_more cond_of v.1 >>= λ conds. Ok (v.0, conds)
 abbrev said : Result (Value × List (List ℕ)) (List (List ℕ)) → Option ExitLine
 said r = option_map read_exit (ok_of (r >>= conds_then))
 
-conds_read : (v : Value) (r : Result (List Condition) (List (List ℕ))) → exit_from (Some v) (ok_of r) ≡ option_map read_exit (ok_of (r >>= λ conds. Ok (v, conds)))
+conds_read : (v : Value) (r : Result (List Condition) (List (List ℕ)))
+    → exit_from (Some v) (ok_of r) ≡ option_map read_exit (ok_of (r >>= λ conds. Ok (v, conds)))
 conds_read v (Ok conds) = refl
 conds_read v (Err rest) = refl
 
@@ -203,14 +246,16 @@ not_side : (w : List ℕ) (others : List (List ℕ)) → is (codes "draw") w ≡
 not_side w [] d u e = rw (d, u) refl
 not_side w (v ∷ []) d u e = ap (λ o. won_or_held o v) e
 not_side w (v ∷ n ∷ []) d u e =
-    cond_none (is (codes "wins") v) (won_in (colour_of w) (lag_of n)) (ap (λ o. won_in o (lag_of n)) e)
+    cond_none (is (codes "wins") v) (won_in (colour_of w) (lag_of n))
+    (ap (λ o. won_in o (lag_of n)) e)
 not_side w (v ∷ n ∷ x ∷ xs) d u e = refl
 
 not_plain : (w v : List ℕ) (others : List (List ℕ)) → colour_of w ≡ None →
     value_of (w ∷ v ∷ others) ≡ None
 not_plain w v [] e = ap (λ o. won_or_held o v) e
 not_plain w v (n ∷ []) e =
-    cond_none (is (codes "wins") v) (won_in (colour_of w) (lag_of n)) (ap (λ o. won_in o (lag_of n)) e)
+    cond_none (is (codes "wins") v) (won_in (colour_of w) (lag_of n))
+    (ap (λ o. won_in o (lag_of n)) e)
 not_plain w v (n ∷ x ∷ xs) e = refl
 
 -- the value and the conditions of a line, of which k takes the words of the value
@@ -237,12 +282,16 @@ nothing_by : (o : Option Value) (cs : Option (List Condition)) → o ≡ None �
 nothing_by o cs e = ap (λ p. exit_from p cs) e ∙ no_value cs
 
 -- a whole value, and then `if`
-if_case : (k : List (List ℕ) → Option Value) (v : Value) (b : Bool) (w : List ℕ) (ws : List (List ℕ)) → is_if w ≡ b → k [] ≡ Some v → ((x : List ℕ) (xs : List (List ℕ)) → k (x ∷ xs) ≡ None) → said_by k (w ∷ ws) ≡ said (cond b (Ok ws) (Err (w ∷ ws)) >>= λ rest. Ok (v, rest))
+if_case : (k : List (List ℕ) → Option Value) (v : Value) (b : Bool) (w : List ℕ)
+    (ws : List (List ℕ)) → is_if w ≡ b → k [] ≡ Some v
+    → ((x : List ℕ) (xs : List (List ℕ)) → k (x ∷ xs) ≡ None)
+    → said_by k (w ∷ ws) ≡ said (cond b (Ok ws) (Err (w ∷ ws)) >>= λ rest. Ok (v, rest))
 if_case k v true w ws e some none =
     at_if k w ws e ∙ ap (λ o. exit_from o (some_of cond_of ws)) some ∙ conds_said v ws
 if_case k v false w ws e some none =
     past k w ws e
-    ∙ nothing_by (k (w ∷ before_first is_if ws)) (some_of cond_of (after_first is_if ws)) (none w (before_first is_if ws))
+    ∙ nothing_by (k (w ∷ before_first is_if ws)) (some_of cond_of (after_first is_if ws))
+    (none w (before_first is_if ws))
 
 if_said : (k : List (List ℕ) → Option Value) (v : Value) → k [] ≡ Some v →
     ((x : List ℕ) (xs : List (List ℕ)) → k (x ∷ xs) ≡ None) → (ws : List (List ℕ)) →
@@ -254,7 +303,8 @@ if_said k v some none (w ∷ ws) = if_case k v (is_if w) w ws refl some none
 won_lag : (c : Colour) (w v n : List ℕ) (others : List (List ℕ)) → lag_of n ≡ None →
     value_of (w ∷ v ∷ n ∷ others) ≡ None
 won_lag c w v n [] e =
-    cond_none (is (codes "wins") v) (won_in (colour_of w) (lag_of n)) (ap (won_in (colour_of w)) e ∙ no_lag (colour_of w))
+    cond_none (is (codes "wins") v) (won_in (colour_of w) (lag_of n))
+    (ap (won_in (colour_of w)) e ∙ no_lag (colour_of w))
   where
     no_lag : (o : Option Colour) → won_in o None ≡ None
     no_lag None = refl
@@ -265,10 +315,12 @@ lag_case : (c : Colour) (w v n : List ℕ) (ws : List (List ℕ)) (o : Option �
     colour_of w ≡ Some c → is (codes "wins") v ≡ true →
     said_by (λ others. value_of (w ∷ v ∷ n ∷ others)) ws ≡ said (lagged c o n ws)
 lag_case c w v n ws None e s t =
-    nothing_by (value_of (w ∷ v ∷ n ∷ before_first is_if ws)) (some_of cond_of (after_first is_if ws)) (won_lag c w v n (before_first is_if ws) e)
+    nothing_by (value_of (w ∷ v ∷ n ∷ before_first is_if ws))
+    (some_of cond_of (after_first is_if ws)) (won_lag c w v n (before_first is_if ws) e)
 lag_case c w v n ws (Some m) e s t =
     if_said (λ others. value_of (w ∷ v ∷ n ∷ others)) (wins_in c m)
-    (ap (λ b. cond b (won_in (colour_of w) (lag_of n)) None) t ∙ ap (λ o. won_in o (lag_of n)) s ∙ ap (won_in (Some c)) e)
+    (ap (λ b. cond b (won_in (colour_of w) (lag_of n)) None) t ∙ ap (λ o. won_in o (lag_of n)) s
+    ∙ ap (won_in (Some c)) e)
     (λ x xs. refl) ws
 
 won_if : (c : Colour) (w v : List ℕ) → colour_of w ≡ Some c → is (codes "wins") v ≡ true →
@@ -329,7 +381,8 @@ stray c w v true vs e s d u t h =
     ∙ nothing_by (value_of (w ∷ [])) (some_of cond_of vs) (plain_none w d u)
 stray c w v false vs e s d u t h =
     past (λ others. value_of (w ∷ others)) v vs e
-    ∙ nothing_by (value_of (w ∷ v ∷ before_first is_if vs)) (some_of cond_of (after_first is_if vs)) (no_verb c w v s t h (before_first is_if vs))
+    ∙ nothing_by (value_of (w ∷ v ∷ before_first is_if vs)) (some_of cond_of (after_first is_if vs))
+    (no_verb c w v s t h (before_first is_if vs))
 
 verb_case : (c : Colour) (w v : List ℕ) (a b : Bool) (vs : List (List ℕ)) →
     is (codes "wins") v ≡ a → is (codes "holds") v ≡ b → colour_of w ≡ Some c →
@@ -341,7 +394,8 @@ verb_case c w v true b vs t h s d u =
     ∙ wins_said c w v s t vs
 verb_case c w v false true vs t h s d u =
     past (λ others. value_of (w ∷ others)) v vs (ap is_if (equal_words v (codes "holds") h))
-    ∙ if_said (λ others. value_of (w ∷ v ∷ others)) (holds c) (held c w v s t h) (held_more w v t) vs
+    ∙ if_said (λ others. value_of (w ∷ v ∷ others)) (holds c) (held c w v s t h) (held_more w v t)
+    vs
 verb_case c w v false false vs t h s d u = stray c w v (is_if v) vs refl s d u t h
 
 verb_said : (c : Colour) (w : List ℕ) → colour_of w ≡ Some c → is (codes "draw") w ≡ false →
@@ -357,7 +411,8 @@ no_side : (w : List ℕ) (b : Bool) (ws : List (List ℕ)) → is_if w ≡ b →
 no_side w true ws e d u s = at_if value_of w ws e ∙ no_value (some_of cond_of ws)
 no_side w false ws e d u s =
     past value_of w ws e
-    ∙ nothing_by (value_of (w ∷ before_first is_if ws)) (some_of cond_of (after_first is_if ws)) (not_side w (before_first is_if ws) d u s)
+    ∙ nothing_by (value_of (w ∷ before_first is_if ws)) (some_of cond_of (after_first is_if ws))
+    (not_side w (before_first is_if ws) d u s)
 
 colour_not_if : (w : List ℕ) (c : Colour) (b : Bool) → is_if w ≡ b → colour_of w ≡ Some c →
     b ≡ false
@@ -365,7 +420,9 @@ colour_not_if w c true e s =
     absurd (let none : colour_of w ≡ None = ap colour_of (equal_words w (codes "if") e) in cc)
 colour_not_if w c false e s = refl
 
-side_case : (w : List ℕ) (ws : List (List ℕ)) (o : Option Colour) → colour_of w ≡ o → is (codes "draw") w ≡ false → is (codes "unknown") w ≡ false → said_by value_of (w ∷ ws) ≡ said (taken o w ws >>= λ c. after_colour c.0 c.1)
+side_case : (w : List ℕ) (ws : List (List ℕ)) (o : Option Colour) → colour_of w ≡ o
+    → is (codes "draw") w ≡ false → is (codes "unknown") w ≡ false
+    → said_by value_of (w ∷ ws) ≡ said (taken o w ws >>= λ c. after_colour c.0 c.1)
 side_case w ws None s d u = no_side w (is_if w) ws refl d u s
 side_case w ws (Some c) s d u =
     past value_of w ws (colour_not_if w c (is_if w) refl s) ∙ verb_said c w s d u ws
@@ -378,7 +435,11 @@ plain_said v w ws e some none =
     past value_of w ws e
     ∙ if_said (λ others. value_of (w ∷ others)) v some (λ x xs. not_plain w x xs none) ws
 
-first_case : (w : List ℕ) (ws : List (List ℕ)) (a b : Bool) → is (codes "draw") w ≡ a → is (codes "unknown") w ≡ b → said_by value_of (w ∷ ws) ≡ said (cond a (then_if Draw ws) (cond b (then_if Unknown ws) (slot colour_of (w ∷ ws) >>= λ c. after_colour c.0 c.1)))
+first_case : (w : List ℕ) (ws : List (List ℕ)) (a b : Bool) → is (codes "draw") w ≡ a
+    → is (codes "unknown") w ≡ b
+    → said_by value_of (w ∷ ws) ≡ said
+    (cond a (then_if Draw ws)
+    (cond b (then_if Unknown ws) (slot colour_of (w ∷ ws) >>= λ c. after_colour c.0 c.1)))
 first_case w ws true b d u =
     let same = equal_words w (codes "draw") d in
     plain_said Draw w ws (ap is_if same) (ap (λ x. value_of (x ∷ [])) same) (ap colour_of same)

@@ -61,7 +61,8 @@ increasing_from : (p : Kind × ℕ → Bool) (a n : ℕ) → a + n ≤ 384 →
     AreIncreasingFrom a (filter p (map state_at (range_with_len a n)))
 increasing_from p a zero l = tt
 increasing_from p a (suc n) l =
-    one_more (p (state_at a)) a (filter p (map state_at (range_with_len (a + 1) n))) (omega arith) (increasing_from p (a + 1) n (omega arith))
+    one_more (p (state_at a)) a (filter p (map state_at (range_with_len (a + 1) n))) (omega arith)
+    (increasing_from p (a + 1) n (omega arith))
 
 kind_small : (k : Kind) → number_of_kind k ≤ 6
 kind_small King = omega arith
@@ -85,12 +86,19 @@ pub states_in_order : (places : List (Kind × ℕ)) → AreStates (states_of pla
 unfolding states_of
 states_in_order places =
     let i = increasing_from (is_placed places) 0 384 (omega arith) in
-    record { increasing = i; few = (let f = few_from 0 (filter (is_placed places) (map state_at (range_with_len 0 384))) (omega arith) i in omega arith) }
+    record {
+      increasing = i;
+      few = (let f = few_from 0 (filter (is_placed places) (map state_at (range_with_len 0 384)))
+          (omega arith) i in omega arith);
+    }
 
 -- a group line has states in order
-group_states : (c : Option Colour) (n : Option (ℕ × ℕ)) (ps : Option (List (Kind × ℕ))) (g : GroupLine) → group_from c n ps ≡ Some g → AreStates g.states
+group_states : (c : Option Colour) (n : Option (ℕ × ℕ)) (ps : Option (List (Kind × ℕ)))
+    (g : GroupLine) → group_from c n ps ≡ Some g → AreStates g.states
 group_states (Some c) (Some n) (Some ps) g e =
-    subst (λ (o : GroupLine). AreStates o.states) (some_is (record { colour = c; least = n.0; most = n.1; states = states_of ps }) g e) (states_in_order ps)
+    subst (λ (o : GroupLine). AreStates o.states)
+    (some_is (record { colour = c; least = n.0; most = n.1; states = states_of ps }) g e)
+    (states_in_order ps)
   where
     some_is : (x y : GroupLine) → Some x ≡ Some y → x ≡ y
     some_is x y e = cc
@@ -140,7 +148,9 @@ plain_small true b = tt
 plain_small false true = tt
 plain_small false false = tt
 
-side_small : (o : Option Colour) (a b : Bool) → HasLag (elim o [ None ↦ None | Some c ↦ cond a (Some (wins c)) (cond b (Some (holds c)) None) ])
+side_small : (o : Option Colour) (a b : Bool)
+    → HasLag (elim o
+    [ None ↦ None | Some c ↦ cond a (Some (wins c)) (cond b (Some (holds c)) None) ])
 side_small None a b = tt
 side_small (Some c) true b = wins_small c
 side_small (Some c) false true = holds_small c
@@ -170,7 +180,8 @@ value_small (c ∷ verb ∷ n ∷ x ∷ xs) = tt
 exit_case : (o : Option Value) (cs : Option (List Condition)) (x : ExitLine) → HasLag o →
     exit_from o cs ≡ Some x → HasFewPlies x.value
 exit_case (Some v) (Some cs) x h e =
-    let same : record { value = v; conds = cs } ≡ x = cc in subst (λ (y : ExitLine). HasFewPlies y.value) same h
+    let same : record { value = v; conds = cs } ≡ x = cc in
+    subst (λ (y : ExitLine). HasFewPlies y.value) same h
 exit_case (Some v) None x h e = absurd cc
 exit_case None cs x h e = absurd (no_exit cs e)
   where
@@ -181,7 +192,9 @@ exit_case None cs x h e = absurd (no_exit cs e)
 exit_lag : (ws : List (List ℕ)) (x : ExitLine) → exit_of ws ≡ Some x → HasFewPlies x.value
 unfolding exit_of
 exit_lag ws x e =
-    exit_case (value_of (before_first (is (codes "if")) ws)) (some_of cond_of (after_first (is (codes "if")) ws)) x (value_small (before_first (is (codes "if")) ws)) e
+    exit_case (value_of (before_first (is (codes "if")) ws))
+    (some_of cond_of (after_first (is (codes "if")) ws)) x
+    (value_small (before_first (is (codes "if")) ws)) e
 
 -- one line more
 sound_last : (earlier groups : List GroupLine) (g : GroupLine) → AreSoundAfter earlier groups →
@@ -189,15 +202,27 @@ sound_last : (earlier groups : List GroupLine) (g : GroupLine) → AreSoundAfter
     AreSoundAfter earlier (groups ++ g ∷ [])
 sound_last earlier [] g h c i =
     (sound_behind earlier g (subst (λ es. cause_of_group es g ≡ None) (append-nil earlier) c) i, tt)
-sound_last earlier (e ∷ es) g h c i =
-    (h.0, sound_last (earlier ++ e ∷ []) es g h.1 (subst (λ xs. cause_of_group xs g ≡ None) (sym (append_assoc earlier (e ∷ []) es)) c) i)
+sound_last earlier (e ∷ es) g h c i = (
+  h.0,
+  sound_last (earlier ++ e ∷ []) es g h.1
+      (subst (λ xs. cause_of_group xs g ≡ None) (sym (append_assoc earlier (e ∷ []) es)) c) i,
+)
 
 is_result : (E : Type 0) (r s : RuleLines) → (let a : Result RuleLines E = Ok r in a ≡ Ok s) → r ≡ s
 is_result E r s e = cc
 
-group_added : (r s : RuleLines) (g : GroupLine) (o : Option RulesCause) → AreSoundLines r → AreStates g.states → cause_of_group r.groups g ≡ o → unless o (record { groups = r.groups ++ g ∷ []; forbids = r.forbids; exits = r.exits }) ≡ Ok s → AreSoundLines s
+group_added : (r s : RuleLines) (g : GroupLine) (o : Option RulesCause) → AreSoundLines r
+    → AreStates g.states → cause_of_group r.groups g ≡ o
+    → unless o (record { groups = r.groups ++ g ∷ []; forbids = r.forbids; exits = r.exits }) ≡ Ok s
+    → AreSoundLines s
 group_added r s g None h i c e =
-    subst AreSoundLines (is_result RulesCause _ s e) (record { groups = sound_last [] r.groups g h.groups c i; forbids = h.forbids; few_exits = h.few_exits; exits = h.exits })
+    subst AreSoundLines (is_result RulesCause _ s e)
+    (record {
+      groups = sound_last [] r.groups g h.groups c i;
+      forbids = h.forbids;
+      few_exits = h.few_exits;
+      exits = h.exits;
+    })
 group_added r s g (Some x) h i c e = absurd cc
 
 group_sound : (r s : RuleLines) (line ws : List (List ℕ)) (o : Option GroupLine) → group_of ws ≡ o →
@@ -206,12 +231,18 @@ group_sound r s line ws None w h e = absurd cc
 group_sound r s line ws (Some g) w h e =
     group_added r s g (cause_of_group r.groups g) h (group_in_order ws g w) refl e
 
-forbid_added : (r s : RuleLines) (f : Forbid) (b : Bool) (c : RulesCause) → AreSoundLines r → nat_le 64 (length r.forbids) ≡ b → cond b (Err c) (Ok (record { groups = r.groups; forbids = r.forbids ++ f ∷ []; exits = r.exits })) ≡ Ok s → AreSoundLines s
+forbid_added : (r s : RuleLines) (f : Forbid) (b : Bool) (c : RulesCause) → AreSoundLines r
+    → nat_le 64 (length r.forbids) ≡ b
+    → cond b (Err c)
+    (Ok (record { groups = r.groups; forbids = r.forbids ++ f ∷ []; exits = r.exits })) ≡ Ok s
+    → AreSoundLines s
 forbid_added r s f true c h t e = absurd cc
 forbid_added r s f false c h t e =
     let l = leb-false 64 (length r.forbids) t in
-    let more : length (r.forbids ++ f ∷ []) ≤ 64 = omega (arith, length-append r.forbids (f ∷ [])) in
-    subst AreSoundLines (is_result RulesCause _ s e) (record { groups = h.groups; forbids = more; few_exits = h.few_exits; exits = h.exits })
+    let more : length (r.forbids ++ f ∷ []) ≤ 64 = omega
+    (arith, length-append r.forbids (f ∷ [])) in
+    subst AreSoundLines (is_result RulesCause _ s e)
+    (record { groups = h.groups; forbids = more; few_exits = h.few_exits; exits = h.exits })
 
 forbid_sound : (r s : RuleLines) (line : List (List ℕ)) (o : Option Forbid) → AreSoundLines r →
     with_line add_forbid r line o ≡ Ok s → AreSoundLines s
@@ -224,23 +255,37 @@ all_last : (xs : List ExitLine) (x : ExitLine) → AllByRecursion IsSoundExit xs
 all_last [] x h p = (p, tt)
 all_last (y ∷ ys) x h p = (h.0, all_last ys x h.1 p)
 
-exit_added : (r s : RuleLines) (x : ExitLine) (a b : Bool) (c : RulesCause) → AreSoundLines r → HasFewPlies x.value → nat_le 128 (length r.exits) ≡ a → nat_lt MOST_CONDS (length x.conds) ≡ b → cond (a || b) (Err c) (Ok (record { groups = r.groups; forbids = r.forbids; exits = r.exits ++ x ∷ [] })) ≡ Ok s → AreSoundLines s
+exit_added : (r s : RuleLines) (x : ExitLine) (a b : Bool) (c : RulesCause) → AreSoundLines r
+    → HasFewPlies x.value → nat_le 128 (length r.exits) ≡ a → nat_lt MOST_CONDS (length x.conds) ≡ b
+    → cond (a || b) (Err c)
+    (Ok (record { groups = r.groups; forbids = r.forbids; exits = r.exits ++ x ∷ [] })) ≡ Ok s
+    → AreSoundLines s
 exit_added r s x true b c h v t u e = absurd cc
 exit_added r s x false true c h v t u e = absurd cc
 exit_added r s x false false c h v t u e =
     let l = leb-false 128 (length r.exits) t in
     let m = ltb-false MOST_CONDS (length x.conds) u in
     let more : length (r.exits ++ x ∷ []) ≤ 128 = omega (arith, length-append r.exits (x ∷ [])) in
-    subst AreSoundLines (is_result RulesCause _ s e) (record { groups = h.groups; forbids = h.forbids; few_exits = more; exits = all_last r.exits x h.exits (record { lag = v; conds = omega arith }) })
+    subst AreSoundLines (is_result RulesCause _ s e)
+    (record {
+      groups = h.groups;
+      forbids = h.forbids;
+      few_exits = more;
+      exits = all_last r.exits x h.exits (record { lag = v; conds = omega arith });
+    })
 
 exit_sound : (r s : RuleLines) (line ws : List (List ℕ)) (o : Option ExitLine) → exit_of ws ≡ o →
     AreSoundLines r → with_line add_exit r line o ≡ Ok s → AreSoundLines s
 exit_sound r s line ws None w h e = absurd cc
 exit_sound r s line ws (Some x) w h e =
-    exit_added r s x (nat_le 128 (length r.exits)) (nat_le 9 (length x.conds)) causes.TooManyLines h (exit_lag ws x w) refl refl e
+    exit_added r s x (nat_le 128 (length r.exits)) (nat_le 9 (length x.conds)) causes.TooManyLines h
+    (exit_lag ws x w) refl refl e
 
 line_cases : (r s : RuleLines) (a b c : Bool) (line ws : List (List ℕ)) → AreSoundLines r →
-    cond a (with_line add_group r line (group_of ws)) (cond b (with_line add_forbid r line (forbid_of ws)) (cond c (with_line add_exit r line (exit_of ws)) (Err causes.UnknownLine))) ≡ Ok s → AreSoundLines s
+    cond a (with_line add_group r line (group_of ws))
+    (cond b (with_line add_forbid r line (forbid_of ws))
+    (cond c (with_line add_exit r line (exit_of ws)) (Err causes.UnknownLine))) ≡ Ok s
+    → AreSoundLines s
 line_cases r s true b c line ws h e = group_sound r s line ws (group_of ws) refl h e
 line_cases r s false true c line ws h e = forbid_sound r s line (forbid_of ws) h e
 line_cases r s false false true line ws h e = exit_sound r s line ws (exit_of ws) refl h e
@@ -251,9 +296,13 @@ line_sound : (r s : RuleLines) (ws : List (List ℕ)) → AreSoundLines r → li
 unfolding line_of
 line_sound r s [] h e = subst AreSoundLines (is_result RulesCause r s e) h
 line_sound r s (w ∷ ws) h e =
-    line_cases r s (is (codes "group") w) (is (codes "forbid") w) (is (codes "exit") w) (w ∷ ws) ws h e
+    line_cases r s (is (codes "group") w) (is (codes "forbid") w) (is (codes "exit") w)
+    (w ∷ ws) ws h e
 
-lines_case : (n : ℕ) (a : Result RuleLines RulesCause) (r s : RuleLines) (ls : List (ℕ × List (List ℕ))) (ws : List (List ℕ)) → line_of r ws ≡ a → AreSoundLines r → ((t : RuleLines) → AreSoundLines t → lines_of t ls ≡ Ok s → AreSoundLines s) → (at_line n a >>= λ t. lines_of t ls) ≡ Ok s → AreSoundLines s
+lines_case : (n : ℕ) (a : Result RuleLines RulesCause) (r s : RuleLines)
+    (ls : List (ℕ × List (List ℕ))) (ws : List (List ℕ)) → line_of r ws ≡ a → AreSoundLines r
+    → ((t : RuleLines) → AreSoundLines t → lines_of t ls ≡ Ok s → AreSoundLines s)
+    → (at_line n a >>= λ t. lines_of t ls) ≡ Ok s → AreSoundLines s
 lines_case n (Ok t) r s ls ws w h k e = k t (line_sound r t ws h w) e
 lines_case n (Err c) r s ls ws w h k e = absurd cc
 
@@ -266,7 +315,8 @@ sound_from (l ∷ ls) r s h e =
 pub lines_sound : (ls : List (ℕ × List (List ℕ))) (s : RuleLines) → lines_of no_rules ls ≡ Ok s →
     AreSoundLines s
 lines_sound ls s e =
-    sound_from ls no_rules s (record { groups = tt; forbids = omega arith; few_exits = omega arith; exits = tt }) e
+    sound_from ls no_rules s
+    (record { groups = tt; forbids = omega arith; few_exits = omega arith; exits = tt }) e
 
 -- the whole text
 both_true : (a b : Bool) → not (a && b) ≡ false → (a ≡ true) × (b ≡ true)
@@ -282,15 +332,24 @@ whole_case false false t r f g e = (is_result RulesFault t r e, refl, refl)
 
 whole_sound : (t r : RuleLines) → AreSoundLines t → whole t ≡ Ok r → IsSound r
 whole_sound t r h e =
-    let w = whole_case (not (has_king_group t.groups White && has_king_group t.groups Black)) (nat_lt 134217728 (size_of t.groups)) t r (record { line = 0; cause = causes.KingGroup }) (record { line = 0; cause = causes.SetTooBig (capped (size_of t.groups)) }) e in
+    let w = whole_case (not (has_king_group t.groups White && has_king_group t.groups Black))
+    (nat_lt 134217728 (size_of t.groups)) t r (record { line = 0; cause = causes.KingGroup })
+    (record { line = 0; cause = causes.SetTooBig (capped (size_of t.groups)) }) e in
     let kings = both_true (has_king_group t.groups White) (has_king_group t.groups Black) w.1 in
-    subst IsSound w.0 (record { lines = h; white_king = kings.0; black_king = kings.1; size = ltb-false 134217728 (size_of t.groups) w.2 })
+    subst IsSound w.0 (record {
+      lines = h;
+      white_king = kings.0;
+      black_king = kings.1;
+      size = ltb-false 134217728 (size_of t.groups) w.2;
+    })
 
-read_sound : (ls : List (ℕ × List (List ℕ))) (a : Result RuleLines RulesFault) (r : RuleLines) → lines_of no_rules ls ≡ a → (a >>= whole) ≡ Ok r → IsSound r
+read_sound : (ls : List (ℕ × List (List ℕ))) (a : Result RuleLines RulesFault) (r : RuleLines)
+    → lines_of no_rules ls ≡ a → (a >>= whole) ≡ Ok r → IsSound r
 read_sound ls (Err f) r l e = absurd cc
 read_sound ls (Ok t) r l e = whole_sound t r (lines_sound ls t l) e
 
-header_case : (b : Bool) (ls : List (ℕ × List (List ℕ))) (r : RuleLines) (f : RulesFault) → cond b (lines_of no_rules ls >>= whole) (Err f) ≡ Ok r → IsSound r
+header_case : (b : Bool) (ls : List (ℕ × List (List ℕ))) (r : RuleLines) (f : RulesFault)
+    → cond b (lines_of no_rules ls >>= whole) (Err f) ≡ Ok r → IsSound r
 header_case true ls r f e = read_sound ls (lines_of no_rules ls) r refl e
 header_case false ls r f e = absurd cc
 
@@ -307,7 +366,8 @@ text_case false ls r f e = header_sound ls r e
 text_sound : (text : List ℕ) (r : RuleLines) → rules_of text ≡ Ok r → IsSound r
 unfolding rules_of
 text_sound text r e =
-    text_case (nat_lt 65536 (length text)) (significant (numbered 1 (lines text))) r (record { line = 0; cause = causes.TooLong }) e
+    text_case (nat_lt 65536 (length text)) (significant (numbered 1 (lines text))) r
+    (record { line = 0; cause = causes.TooLong }) e
 
 pub answer_sound : (text : List ℕ) (a : Result RuleLines RulesError) → Answers a (rules_of text) →
     IfOk a IsSound

@@ -18,17 +18,24 @@ use Rattle.frz_san.proofs.Signs.{one_move, Sign, none, one, signs}
 
 -- the legal move whose text without its sign this is
 abbrev pub IsFound : Board → List ℕ → Option Step → Type 0
-IsFound p text found = (m : Step) → (found ≡ Some m) ↔ (IsStep m × (is_legal p m ≡ true) × (unsigned p m ≡ text))
+IsFound p text found =
+    (m : Step) → (found ≡ Some m) ↔ (IsStep m × (is_legal p m ≡ true) × (unsigned p m ≡ text))
 
 -- the legal move whose text this is
 abbrev pub IsRead : Board → List ℕ → Option Step → Type 0
-IsRead p text read = (m : Step) → (read ≡ Some m) ↔ (IsStep m × (is_legal p m ≡ true) × IsSan p m text)
+IsRead p text read =
+    (m : Step) → (read ≡ Some m) ↔ (IsStep m × (is_legal p m ≡ true) × IsSan p m text)
 
 module _ (p : Board) (text : List ℕ) where
   -- a move with the text is the only one
   pub only : (n : Step) → IsStep n → is_legal p n ≡ true → IsSan p n text → IsRead p text (Some n)
   only n step legal t m = (
-    λ e. let same : n ≡ m = cc in (subst IsStep same step, ap (is_legal p) (sym same) ∙ legal, subst (λ x. IsSan p x text) same t),
+    λ e. let same : n ≡ m =
+        cc in (
+          subst IsStep same step,
+          ap (is_legal p) (sym same) ∙ legal,
+          subst (λ x. IsSan p x text) same t,
+        ),
     λ h. ap Some (one_move p n m text step h.0 legal h.1 t h.2),
   )
 
@@ -51,7 +58,8 @@ module _ (p : Board) (text : List ℕ) where
 
   -- no move has the text, where none has it without a sign and none with one
   nothing : IsFound p text None →
-      ((m : Step) (c : ℕ) → IsStep m → is_legal p m ≡ true → text ≡ unsigned p m ++ c ∷ [] → sign (after p m) ≡ c ∷ [] → ⊥) →
+      ((m : Step) (c : ℕ) → IsStep m → is_legal p m ≡ true → text ≡ unsigned p m ++ c ∷ [] →
+      sign (after p m) ≡ c ∷ [] → ⊥) →
       IsRead p text None
   nothing f without m = (
     λ h. absurd cc,
@@ -63,7 +71,8 @@ module _ (p : Board) (text : List ℕ) where
 
   -- the empty text
   pub read_empty : length text ≡ 0 → IsFound p text None → IsRead p text None
-  read_empty l f = nothing f (λ m c step legal e s. omega (arith, ap length e, length-append (unsigned p m) (c ∷ [])))
+  read_empty l f = nothing f
+      (λ m c step legal e s. omega (arith, ap length e, length-append (unsigned p m) (c ∷ [])))
 
   module _ (front : List ℕ) (b : ℕ) (e : text ≡ front ++ b ∷ []) (f : IsFound p text None) where
     -- no move has the front
@@ -84,7 +93,9 @@ module _ (p : Board) (text : List ℕ) where
         IsRead p text (Some n)
     read_signed n o g s h =
         let found = (g n).0 refl in
-        only n found.0 found.1 (inl (e ∙ ap (λ z. z ++ b ∷ []) (sym found.2) ∙ ap (λ z. unsigned p n ++ z) (sym (sign_is o h) ∙ s)))
+        only n found.0 found.1
+        (inl (e ∙ ap (λ z. z ++ b ∷ []) (sym found.2) ∙ ap (λ z. unsigned p n ++ z)
+        (sym (sign_is o h) ∙ s)))
 
     is_sign : (o : Option ℕ) → option_to_list o ≡ b ∷ [] → option_eq nat_eq o (Some b) ≡ true
     is_sign None h = cc
@@ -99,7 +110,8 @@ module _ (p : Board) (text : List ℕ) where
         let ends = end_one front (unsigned p m) b c (sym e ∙ t) in
         let found : Some n ≡ Some m = (g m).1 (step, legal, sym ends.0) in
         let same : n ≡ m = cc in
-        let yes = is_sign o (s ∙ ap (λ x. sign (after p x)) same ∙ u ∙ ap (λ z. z ∷ []) (sym ends.1)) in
+        let yes = is_sign o (s ∙ ap (λ x. sign (after p x)) same ∙ u
+        ∙ ap (λ z. z ∷ []) (sym ends.1)) in
         cc)
 
 module _ (p : Board) (text : List ℕ) (xs : List Step) (all : xs ≡ legal_moves_of p) where
@@ -113,7 +125,12 @@ module _ (p : Board) (text : List ℕ) (xs : List Step) (all : xs ≡ legal_move
       IsFound p text (Some n)
   found_here n i l e t m =
       let legal = legal_at n i l e in (
-        λ h. let same : n ≡ m = cc in (subst IsStep same legal.0, ap (is_legal p) (sym same) ∙ legal.1, ap (unsigned p) (sym same) ∙ t),
+        λ h. let same : n ≡ m =
+            cc in (
+              subst IsStep same legal.0,
+              ap (is_legal p) (sym same) ∙ legal.1,
+              ap (unsigned p) (sym same) ∙ t,
+            ),
         λ h. ap Some (same_move p n m legal.0 h.0 legal.1 h.1 (t ∙ sym h.2)),
       )
 
@@ -134,7 +151,8 @@ module _ (p : Board) (text : List ℕ) (xs : List Step) (all : xs ≡ legal_move
       unsigned p (get_or xs k d) ≡ text → ⊥
   none_yet n i l e before here k d h t =
       elim (eqb_tells k i) [
-        | inl w ↦ here (ap (unsigned p) (get_or_read xs i n l e d ∙ ap (λ j. get_or xs j d) (sym w.1)) ∙ t)
+        | inl w ↦ here (ap (unsigned p)
+            (get_or_read xs i n l e d ∙ ap (λ j. get_or xs j d) (sym w.1)) ∙ t)
         | inr w ↦ before k d (let differ = w.1 in omega arith) t
       ]
 

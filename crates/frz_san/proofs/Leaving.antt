@@ -59,12 +59,18 @@ module _ (p : Board) (m : Step) (v : IsValid p) (step : IsStep m) (f : Move p m)
   -- the man on the destination leaves the board
   from_destination : is_empty p m.to ≡ false → Leaves p m
   from_destination h =
-      let cell : slice_index p.cells m.to ≢ 0 = elim (eqb_tells (slice_index p.cells m.to) 0) [ inl w ↦ (let e = w.0 in absurd cc) | inr w ↦ w.1 ] in
+      let cell : slice_index p.cells m.to ≢ 0 = elim (eqb_tells (slice_index p.cells m.to) 0)
+      [ inl w ↦ (let e = w.0 in absurd cc) | inr w ↦ w.1 ] in
       record {
         square = m.to;
         on_board = step.to;
-        before = of_other p.turn (man_on p m.to) (there (slice_index p.cells m.to) (v.fits.men m.to 0 (let size = v.fits.size in let l = step.to in omega arith)) cell) f.free;
-        after = ap (λ x. is_man_of (other_of p.turn) (man_of_cell x)) (after_at p m v step.to f m.to) ∙ one_side p.turn (man_of_cell (cell_then p f.man m m.to)) (arrived_own p m f);
+        before = of_other p.turn (man_on p m.to)
+            (there (slice_index p.cells m.to)
+            (v.fits.men m.to 0 (let size = v.fits.size in let l = step.to in omega arith)) cell)
+            f.free;
+        after = ap (λ x. is_man_of (other_of p.turn) (man_of_cell x))
+            (after_at p m v step.to f m.to)
+            ∙ one_side p.turn (man_of_cell (cell_then p f.man m m.to)) (arrived_own p m f);
       }
 
   gone_by : (t : Bool) (e b a w x : ℕ) → t ≡ true →
@@ -75,21 +81,27 @@ module _ (p : Board) (m : Step) (v : IsValid p) (step : IsStep m) (f : Move p m)
   from_beside : (is_pawn f.man.kind && takes_in_passing p f.man.colour m.from m.to) ≡ true →
       Leaves p m
   from_beside h =
-      let passing = (and_parts (is_pawn f.man.kind) (takes_in_passing p f.man.colour m.from m.to) h).1 in
+      let passing = (and_parts (is_pawn f.man.kind) (takes_in_passing p f.man.colour m.from m.to)
+      h).1 in
       let pawn = taken p m v f.man.colour f.own passing in
       let size = v.fits.size in
       let from = on_board p m.from f.man size f.on in
       record {
         square = beside_on_file m.from m.to;
         on_board = omega arith;
-        before = ap (λ x. is_man_of (other_of p.turn) (man_of_cell x)) pawn ∙ ap (is_man_of (other_of p.turn)) (cell_forth (other_of p.turn) Pawn) ∙ own_colour (other_of p.turn);
-        after = ap (λ x. is_man_of (other_of p.turn) (man_of_cell x)) (after_at p m v step.to f (beside_on_file m.from m.to)
-            ∙ gone_by (is_pawn f.man.kind && takes_in_passing p f.man.colour m.from m.to) (beside_on_file m.from m.to) m.to m.from _ _ h);
+        before = ap (λ x. is_man_of (other_of p.turn) (man_of_cell x)) pawn
+            ∙ ap (is_man_of (other_of p.turn)) (cell_forth (other_of p.turn) Pawn)
+            ∙ own_colour (other_of p.turn);
+        after = ap (λ x. is_man_of (other_of p.turn) (man_of_cell x))
+            (after_at p m v step.to f (beside_on_file m.from m.to)
+            ∙ gone_by (is_pawn f.man.kind && takes_in_passing p f.man.colour m.from m.to)
+            (beside_on_file m.from m.to) m.to m.from _ _ h);
       }
 
   leaves : is_capture p f.man m ≡ true → Leaves p m
   leaves h =
-      elim (or_cases (not (is_empty p m.to)) (is_pawn f.man.kind && takes_in_passing p f.man.colour m.from m.to) h) [
+      elim (or_cases (not (is_empty p m.to))
+      (is_pawn f.man.kind && takes_in_passing p f.man.colour m.from m.to) h) [
         | inl w ↦ from_destination (by_not (is_empty p m.to) w)
         | inr w ↦ from_beside w
       ]
@@ -100,20 +112,27 @@ module _ (p : Board) (m : Step) (v : IsValid p) (step : IsStep m) (f : Move p m)
 
   clash : holds p (other_of p.turn) m.from ≡ true → ⊥
   clash h =
-      let own = ap (is_man_of (other_of p.turn)) f.on ∙ ap (λ c. same_colour c (other_of p.turn)) f.own ∙ one_colour p.turn p.turn (own_colour p.turn) in
+      let own = ap (is_man_of (other_of p.turn)) f.on ∙ ap (λ c. same_colour c (other_of p.turn))
+      f.own ∙ one_colour p.turn p.turn (own_colour p.turn) in
       cc
 
   captured : Leaves p m → is_capture p f.man m ≡ true
   captured l =
       elim (two_cases (is_pawn f.man.kind && takes_in_passing p f.man.colour m.from m.to)) [
-        | inl w ↦ either_or (not (is_empty p m.to)) (is_pawn f.man.kind && takes_in_passing p f.man.colour m.from m.to) (inr w)
+        | inl w ↦ either_or (not (is_empty p m.to))
+            (is_pawn f.man.kind && takes_in_passing p f.man.colour m.from m.to) (inr w)
         | inr w ↦ elim (eqb_tells l.square m.to) [
-          | inl same ↦ either_or (not (is_empty p m.to)) (is_pawn f.man.kind && takes_in_passing p f.man.colour m.from m.to)
-              (inl (ap not (held p (other_of p.turn) m.to (ap (holds p (other_of p.turn)) (sym same.1) ∙ l.before))))
+          | inl same ↦ either_or (not (is_empty p m.to))
+              (is_pawn f.man.kind && takes_in_passing p f.man.colour m.from m.to)
+              (inl (ap not (held p (other_of p.turn) m.to
+              (ap (holds p (other_of p.turn)) (sym same.1) ∙ l.before))))
           | inr other ↦ absurd (
-              let origin : l.square ≢ m.from = λ e. clash (ap (holds p (other_of p.turn)) (sym e) ∙ l.before) in
-              let same = kept_by (is_pawn f.man.kind && takes_in_passing p f.man.colour m.from m.to) (beside_on_file m.from m.to) m.to m.from _ _ l.square w other.1 origin in
-              let still = ap (λ x. is_man_of (other_of p.turn) (man_of_cell x)) (after_at p m v step.to f l.square ∙ same) in
+              let origin : l.square ≢ m.from = λ e. clash
+              (ap (holds p (other_of p.turn)) (sym e) ∙ l.before) in
+              let same = kept_by (is_pawn f.man.kind && takes_in_passing p f.man.colour m.from m.to)
+              (beside_on_file m.from m.to) m.to m.from _ _ l.square w other.1 origin in
+              let still = ap (λ x. is_man_of (other_of p.turn) (man_of_cell x))
+              (after_at p m v step.to f l.square ∙ same) in
               let gone = l.after in let was = l.before in cc)
         ]
       ]
@@ -125,5 +144,8 @@ pub captures_in_words : (p : Board) (m : Step) (man : Man) → IsValid p → IsS
     is_legal p m ≡ true → man_on p m.from ≡ Some man → (is_capture p man m ≡ true) ↔ Leaves p m
 captures_in_words p m man v step legal on =
     let f = facts p m legal in
-    let same : f.man ≡ man = same_some f.man man (sym f.on ∙ on) in
-    (λ h. leaves p m v step f (ap (λ x. is_capture p x m) same ∙ h), λ l. ap (λ x. is_capture p x m) (sym same) ∙ captured p m v step f l)
+    let same : f.man ≡ man = same_some f.man man (sym f.on ∙ on) in (
+      λ h. leaves p m v step f (ap (λ x. is_capture p x m) same ∙ h),
+      λ l. ap (λ x. is_capture p x m)
+          (sym same) ∙ captured p m v step f l,
+    )

@@ -26,7 +26,8 @@ pub same_promotion : (x y : Option Kind) → promotion x ≡ promotion y → x �
 same_promotion None None e = refl
 same_promotion None (Some k) e = cc
 same_promotion (Some k) None e = cc
-same_promotion (Some k) (Some j) e = let l : letter_of_kind k ≡ letter_of_kind j = cc in ap Some (same_letter k j l)
+same_promotion (Some k) (Some j) e =
+    let l : letter_of_kind k ≡ letter_of_kind j = cc in ap Some (same_letter k j l)
 
 pub same_square : (a b : ℕ) → file_letter a ≡ file_letter b → rank_digit a ≡ rank_digit b → a ≡ b
 same_square a b h k = omega arith
@@ -55,13 +56,15 @@ end_two xs ys a b c d e =
 
 -- the text of a pawn's move, from whether it captures
 abbrev pub pawn_by : Bool → ℕ → ℕ → Option Kind → List ℕ
-pawn_by t a b x = (if t then file_letter a ∷ [] else []) ++ (if t then 120 ∷ [] else []) ++ square_text b ++ promotion x
+pawn_by t a b x = (if t then file_letter a ∷ [] else []) ++ (if t then 120 ∷ [] else [])
+    ++ square_text b ++ promotion x
 
 -- the text of a piece's move, from its letter, its origin's part and whether it captures
 abbrev pub piece_by : ℕ → List ℕ → Bool → ℕ → List ℕ
 piece_by l o t b = (l ∷ []) ++ o ++ (if t then 120 ∷ [] else []) ++ square_text b
 
-pub record SamePawn (t u : Bool) (a b : ℕ) (x : Option Kind) (c d : ℕ) (y : Option Kind) : Type 0 where
+pub record SamePawn (t u : Bool) (a b : ℕ) (x : Option Kind) (c d : ℕ)
+    (y : Option Kind) : Type 0 where
   pub capture : t ≡ u
   pub to : b ≡ d
   pub promo : x ≡ y
@@ -74,16 +77,29 @@ pawn_tells true true a b x c d y lb ld e =
     let file : file_letter b ≡ file_letter d = cc in
     let rank : rank_digit b ≡ rank_digit d = cc in
     let rest : promotion x ≡ promotion y = cc in
-    record { capture = refl; to = same_square b d file rank; promo = same_promotion x y rest; from = λ _. omega arith }
-pawn_tells true false a b x c d y lb ld e = let second : 120 ≡ rank_digit d = cc in absurd (omega arith)
-pawn_tells false true a b x c d y lb ld e = let second : rank_digit b ≡ 120 = cc in absurd (omega arith)
+    record {
+      capture = refl;
+      to = same_square b d file rank;
+      promo = same_promotion x y rest;
+      from = λ _. omega arith;
+    }
+pawn_tells true false a b x c d y lb ld e =
+    let second : 120 ≡ rank_digit d = cc in absurd (omega arith)
+pawn_tells false true a b x c d y lb ld e =
+    let second : rank_digit b ≡ 120 = cc in absurd (omega arith)
 pawn_tells false false a b x c d y lb ld e =
     let file : file_letter b ≡ file_letter d = cc in
     let rank : rank_digit b ≡ rank_digit d = cc in
     let rest : promotion x ≡ promotion y = cc in
-    record { capture = refl; to = same_square b d file rank; promo = same_promotion x y rest; from = λ h. absurd cc }
+    record {
+      capture = refl;
+      to = same_square b d file rank;
+      promo = same_promotion x y rest;
+      from = λ h. absurd cc;
+    }
 
-pub record SamePiece (l : ℕ) (o : List ℕ) (t : Bool) (b : ℕ) (k : ℕ) (q : List ℕ) (u : Bool) (d : ℕ) : Type 0 where
+pub record SamePiece (l : ℕ) (o : List ℕ) (t : Bool) (b : ℕ) (k : ℕ) (q : List ℕ) (u : Bool)
+    (d : ℕ) : Type 0 where
   pub letter : l ≡ k
   pub before : o ++ (if t then 120 ∷ [] else []) ≡ q ++ (if u then 120 ∷ [] else [])
   pub to : b ≡ d
@@ -92,8 +108,10 @@ pub piece_tells : (l : ℕ) (o : List ℕ) (t : Bool) (b : ℕ) (k : ℕ) (q : L
     piece_by l o t b ≡ piece_by k q u d → SamePiece l o t b k q u d
 piece_tells l o t b k q u d e =
     let first : l ≡ k = cc in
-    let rest : o ++ (if t then 120 ∷ [] else []) ++ square_text b ≡ q ++ (if u then 120 ∷ [] else []) ++ square_text d = cc in
-    let ends = end_two (o ++ (if t then 120 ∷ [] else [])) (q ++ (if u then 120 ∷ [] else [])) (file_letter b) (rank_digit b) (file_letter d) (rank_digit d) rest in
+    let rest : o ++ (if t then 120 ∷ [] else []) ++ square_text b ≡ q
+    ++ (if u then 120 ∷ [] else []) ++ square_text d = cc in
+    let ends = end_two (o ++ (if t then 120 ∷ [] else [])) (q ++ (if u then 120 ∷ [] else []))
+    (file_letter b) (rank_digit b) (file_letter d) (rank_digit d) rest in
     record { letter = first; before = ends.0; to = same_square b d ends.1 ends.2 }
 
 small : (t : Bool) (a b : ℕ) (x : Option Kind) (l : ℕ) (rest : List ℕ) → l < 97 →
@@ -112,4 +130,5 @@ low Pawn = omega arith
 -- a pawn's text begins with a small letter, a piece's with a capital
 pub no_letter : (t : Bool) (a b : ℕ) (x : Option Kind) (k : Kind) (o : List ℕ) (u : Bool) (d : ℕ) →
     pawn_by t a b x ≡ piece_by (letter_of_kind k) o u d → ⊥
-no_letter t a b x k o u d e = small t a b x (letter_of_kind k) (o ++ (if u then 120 ∷ [] else []) ++ square_text d) (low k) e
+no_letter t a b x k o u d e =
+    small t a b x (letter_of_kind k) (o ++ (if u then 120 ∷ [] else []) ++ square_text d) (low k) e

@@ -25,12 +25,15 @@ rival_of : (p : Board) (m n : Step) → Contains (legal_moves_of p) n → is_riv
     Rival p m n
 rival_of p m n w h =
     let legal = only_legal p n w in
-    let parts = and_parts (slice_index p.cells n.from == slice_index p.cells m.from && n.to == m.to) (not (n.from == m.from)) h in
-    let same = and_parts (slice_index p.cells n.from == slice_index p.cells m.from) (n.to == m.to) parts.0 in
+    let parts = and_parts (slice_index p.cells n.from == slice_index p.cells m.from && n.to == m.to)
+    (not (n.from == m.from)) h in
+    let same = and_parts (slice_index p.cells n.from == slice_index p.cells m.from) (n.to == m.to)
+    parts.0 in
     record {
       step = legal.0;
       legal = legal.1;
-      man = ap man_of_cell (eqb-true (slice_index p.cells n.from) (slice_index p.cells m.from) same.0);
+      man = ap man_of_cell
+          (eqb-true (slice_index p.cells n.from) (slice_index p.cells m.from) same.0);
       to = eqb-true n.to m.to same.1;
       from = not_same n.from m.from parts.1;
     }
@@ -52,7 +55,8 @@ pub file_in_words : (p : Board) (m : Step) →
 unfolding has_rival_on_file
 file_in_words p m = (
   λ h.
-      let f = member (λ (n : Step). is_rival p m n && file_of n.from == file_of m.from) (legal_moves_of p) h in
+      let f = member (λ (n : Step). is_rival p m n && file_of n.from == file_of m.from)
+      (legal_moves_of p) h in
       let parts = and_parts (is_rival p m f.0) (file_of f.0.from == file_of m.from) f.2 in
       (f.0, rival_of p m f.0 f.1 parts.0, eqb-true (file_of f.0.from) (file_of m.from) parts.1),
   λ w. rival_on_file p m w.0 (listed p w.0 w.1.step w.1.legal) (passes p m w.0 w.1) w.2,
@@ -63,7 +67,8 @@ pub rank_in_words : (p : Board) (m : Step) →
 unfolding has_rival_on_rank
 rank_in_words p m = (
   λ h.
-      let f = member (λ (n : Step). is_rival p m n && rank_of n.from == rank_of m.from) (legal_moves_of p) h in
+      let f = member (λ (n : Step). is_rival p m n && rank_of n.from == rank_of m.from)
+      (legal_moves_of p) h in
       let parts = and_parts (is_rival p m f.0) (rank_of f.0.from == rank_of m.from) f.2 in
       (f.0, rival_of p m f.0 f.1 parts.0, eqb-true (rank_of f.0.from) (rank_of m.from) parts.1),
   λ w. rival_on_rank p m w.0 (listed p w.0 w.1.step w.1.legal) (passes p m w.0 w.1) w.2,

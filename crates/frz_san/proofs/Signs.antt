@@ -45,7 +45,9 @@ plain_promotion None = tt
 plain_promotion (Some k) = (omega arith, (plain_letter k, tt))
 
 plain_part : (r f k : Bool) (s : ℕ) →
-    Plain (if not r then [] else (if not f then file_letter s ∷ [] else (if not k then rank_digit s ∷ [] else square_text s)))
+    Plain (if not r then []
+    else (if not f then file_letter s ∷ []
+    else (if not k then rank_digit s ∷ [] else square_text s)))
 plain_part false f k s = tt
 plain_part true false k s = (omega arith, tt)
 plain_part true true false s = (omega arith, tt)
@@ -55,15 +57,20 @@ plain_pawn : (p : Board) (man : Man) (m : Step) → Plain (pawn_text p man m)
 plain_pawn p man m =
     plain_append (pawn_origin p man m ++ cross p man m ++ square_text m.to) (promotion m.promo)
     (plain_append (pawn_origin p man m ++ cross p man m) (square_text m.to)
-    (plain_append (pawn_origin p man m) (cross p man m) (plain_if (is_capture p man m) (file_letter m.from) (omega arith)) (plain_if (is_capture p man m) 120 (omega arith)))
+    (plain_append (pawn_origin p man m) (cross p man m)
+    (plain_if (is_capture p man m) (file_letter m.from) (omega arith))
+    (plain_if (is_capture p man m) 120 (omega arith)))
     (plain_square m.to))
     (plain_promotion m.promo)
 
 plain_piece : (p : Board) (man : Man) (m : Step) → Plain (piece_text p man m)
 plain_piece p man m =
     plain_append ((letter_of_kind man.kind ∷ []) ++ origin p m ++ cross p man m) (square_text m.to)
-    (plain_append ((letter_of_kind man.kind ∷ []) ++ origin p m) (cross p man m)
-    (plain_letter man.kind, plain_part (has_rival p m) (has_rival_on_file p m) (has_rival_on_rank p m) m.from)
+    (plain_append ((letter_of_kind man.kind ∷ []) ++ origin p m) (cross p man m) (
+      plain_letter man.kind,
+      plain_part (has_rival p m) (has_rival_on_file p m)
+          (has_rival_on_rank p m) m.from,
+    )
     (plain_if (is_capture p man m) 120 (omega arith)))
     (plain_square m.to)
 
@@ -73,7 +80,8 @@ plain_either false xs ys a b = b
 
 plain_by : (p : Board) (o : Option Man) (m : Step) → Plain (text_by p o m)
 plain_by p None m = tt
-plain_by p (Some man) m = plain_either (is_pawn man.kind) (pawn_text p man m) (piece_text p man m) (plain_pawn p man m) (plain_piece p man m)
+plain_by p (Some man) m = plain_either (is_pawn man.kind) (pawn_text p man m) (piece_text p man m)
+    (plain_pawn p man m) (plain_piece p man m)
 
 plain : (p : Board) (m : Step) → Plain (unsigned p m)
 plain p m = plain_by p (man_on p m.from) m
@@ -103,9 +111,11 @@ without : (xs ys s t : List ℕ) → Plain xs → Plain ys → Sign s → Sign t
 without xs ys s t a b (none h) (none k) e =
     sym (append-nil xs) ∙ ap (λ z. xs ++ z) (sym h) ∙ e ∙ ap (λ z. ys ++ z) k ∙ append-nil ys
 without xs ys s t a b (none h) (one d l k) e =
-    absurd (not_longer xs ys d a l (sym (append-nil xs) ∙ ap (λ z. xs ++ z) (sym h) ∙ e ∙ ap (λ z. ys ++ z) k))
+    absurd (not_longer xs ys d a l
+    (sym (append-nil xs) ∙ ap (λ z. xs ++ z) (sym h) ∙ e ∙ ap (λ z. ys ++ z) k))
 without xs ys s t a b (one c l h) (none k) e =
-    absurd (not_longer ys xs c b l (sym (append-nil ys) ∙ ap (λ z. ys ++ z) (sym k) ∙ sym e ∙ ap (λ z. xs ++ z) h))
+    absurd (not_longer ys xs c b l
+    (sym (append-nil ys) ∙ ap (λ z. ys ++ z) (sym k) ∙ sym e ∙ ap (λ z. xs ++ z) h))
 without xs ys s t a b (one c l h) (one d r k) e =
     (end_one xs ys c d (ap (λ z. xs ++ z) (sym h) ∙ e ∙ ap (λ z. ys ++ z) k)).0
 
@@ -120,4 +130,5 @@ pub one_move : (p : Board) (m n : Step) (text : List ℕ) → IsStep m → IsSte
 one_move p m n text sm sn hm hn tm tn =
     let a = split p m text tm in
     let b = split p n text tn in
-    same_move p m n sm sn hm hn (without (unsigned p m) (unsigned p n) a.0 b.0 (plain p m) (plain p n) a.1 b.1 (sym a.2 ∙ b.2))
+    same_move p m n sm sn hm hn
+    (without (unsigned p m) (unsigned p n) a.0 b.0 (plain p m) (plain p n) a.1 b.1 (sym a.2 ∙ b.2))

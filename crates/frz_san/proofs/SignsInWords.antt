@@ -26,7 +26,8 @@ not_false e = absurd cc
 mate_by : (b : Bool) (moves : List Step) → (sign_by b moves ≡ 35 ∷ []) ↔ ((moves ≡ []) × (b ≡ true))
 mate_by false moves = (λ e. absurd (no_byte 35 e), λ h. absurd (not_false h.1))
 mate_by true [] = (λ e. (refl, refl), λ h. refl)
-mate_by true (m ∷ ms) = (λ e. absurd (other_byte 35 43 (omega arith) (sym e)), λ h. absurd (no_move m ms h.0))
+mate_by true (m ∷ ms) =
+    (λ e. absurd (other_byte 35 43 (omega arith) (sym e)), λ h. absurd (no_move m ms h.0))
 
 check_by : (b : Bool) (moves : List Step) →
     (sign_by b moves ≡ 43 ∷ []) ↔ ((moves ≢ []) × (b ≡ true))

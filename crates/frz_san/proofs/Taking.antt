@@ -51,7 +51,8 @@ way_steps p c a b h =
 
 way_advances : (p : Board) (c : Colour) (a b : ℕ) → advances p c a b ≡ true → Way p c a b
 way_advances p c a b h =
-    let parts = and_parts (is_home c a && (files_apart a b == 0 && is_forward c 2 a b)) (is_empty p b && is_empty p (passed_over a b)) h in
+    let parts = and_parts (is_home c a && (files_apart a b == 0 && is_forward c 2 a b))
+    (is_empty p b && is_empty p (passed_over a b)) h in
     let home = and_parts (is_home c a) (files_apart a b == 0 && is_forward c 2 a b) parts.0 in
     let ahead = and_parts (files_apart a b == 0) (is_forward c 2 a b) home.1 in
     let empty = and_parts (is_empty p b) (is_empty p (passed_over a b)) parts.1 in
@@ -65,15 +66,19 @@ way_passing p c a b h =
 
 way : (p : Board) (c : Colour) (a b : ℕ) → goes p c Pawn a b ≡ true → Way p c a b
 way p c a b h =
-    elim (or_cases (captures p c a b || steps p c a b) (advances p c a b || takes_in_passing p c a b) h) [
-      | inl w ↦ elim (or_cases (captures p c a b) (steps p c a b) w) [ inl v ↦ way_captures p c a b v | inr v ↦ way_steps p c a b v ]
-      | inr w ↦ elim (or_cases (advances p c a b) (takes_in_passing p c a b) w) [ inl v ↦ way_advances p c a b v | inr v ↦ way_passing p c a b v ]
+    elim (or_cases (captures p c a b || steps p c a b)
+    (advances p c a b || takes_in_passing p c a b) h) [
+      | inl w ↦ elim (or_cases (captures p c a b) (steps p c a b) w)
+          [ inl v ↦ way_captures p c a b v | inr v ↦ way_steps p c a b v ]
+      | inr w ↦ elim (or_cases (advances p c a b) (takes_in_passing p c a b) w)
+          [ inl v ↦ way_advances p c a b v | inr v ↦ way_passing p c a b v ]
     ]
 
 -- the way of a legal pawn move
 pub way_of : (p : Board) (m : Step) → (f : Move p m) → f.man.kind ≡ Pawn →
     Way p f.man.colour m.from m.to
-way_of p m f k = way p f.man.colour m.from m.to (sym (ap (λ x. goes p f.man.colour x m.from m.to) k) ∙ f.way)
+way_of p m f k =
+    way p f.man.colour m.from m.to (sym (ap (λ x. goes p f.man.colour x m.from m.to) k) ∙ f.way)
 
 taking : (e t k : Bool) → k ≡ true → (e ≡ false) ⊎ (t ≡ true) → (not e || (k && t)) ≡ true
 taking false t k h w = refl
@@ -92,13 +97,17 @@ by_way : (p : Board) (man : Man) (m : Step) → man.kind ≡ Pawn → Way p man.
     is_capture p man m ≡ not (file_of m.from == file_of m.to)
 by_way p man m k (diagonal apart forward taken) =
     let differ : file_of m.from ≢ file_of m.to = omega arith in
-    taking (is_empty p m.to) (takes_in_passing p man.colour m.from m.to) (is_pawn man.kind) (ap is_pawn k) taken
-    ∙ elim (eqb_tells (file_of m.from) (file_of m.to)) [ inl w ↦ absurd (differ w.1) | inr w ↦ sym (ap not w.0) ]
+    taking (is_empty p m.to) (takes_in_passing p man.colour m.from m.to) (is_pawn man.kind)
+    (ap is_pawn k) taken
+    ∙ elim (eqb_tells (file_of m.from) (file_of m.to))
+    [ inl w ↦ absurd (differ w.1) | inr w ↦ sym (ap not w.0) ]
 by_way p man m k (straight apart forward empty) =
-    keeping (is_empty p m.to) (takes_in_passing p man.colour m.from m.to) (is_pawn man.kind) empty (straight_file p man.colour m.from m.to apart)
+    keeping (is_empty p m.to) (takes_in_passing p man.colour m.from m.to) (is_pawn man.kind) empty
+    (straight_file p man.colour m.from m.to apart)
     ∙ sym (ap not (eq-eqb (file_of m.from) (file_of m.to) (omega arith)))
 by_way p man m k (double apart forward empty between) =
-    keeping (is_empty p m.to) (takes_in_passing p man.colour m.from m.to) (is_pawn man.kind) empty (straight_file p man.colour m.from m.to apart)
+    keeping (is_empty p m.to) (takes_in_passing p man.colour m.from m.to) (is_pawn man.kind) empty
+    (straight_file p man.colour m.from m.to apart)
     ∙ sym (ap not (eq-eqb (file_of m.from) (file_of m.to) (omega arith)))
 
 same_some : (x y : Man) → Some x ≡ Some y → x ≡ y
@@ -110,4 +119,5 @@ pub captures_by_file : (p : Board) (man : Man) (m : Step) → man_on p m.from �
 captures_by_file p man m on h k =
     let f = facts p m h in
     let same : f.man ≡ man = same_some f.man man (sym f.on ∙ on) in
-    sym (ap (λ x. is_capture p x m) same) ∙ by_way p f.man m (ap (λ (x : Man). x.kind) same ∙ k) (way_of p m f (ap (λ (x : Man). x.kind) same ∙ k))
+    sym (ap (λ x. is_capture p x m) same) ∙ by_way p f.man m (ap (λ (x : Man). x.kind) same ∙ k)
+    (way_of p m f (ap (λ (x : Man). x.kind) same ∙ k))

@@ -75,14 +75,16 @@ unfolding choices_to
 choices_more s l i h =
     let n : i + 1 - l ≡ suc (i - l) = omega arith in
     let k : l + (i - l) ≡ i = omega arith in
-    let sum : choices s l (i + 1 - l) ≡ choices s l (i - l) + choose s i = ap (choices s l) n ∙ choices_last s l (i - l) ∙ ap (λ j. choices s l (i - l) + choose s j) k in
+    let sum : choices s l (i + 1 - l) ≡ choices s l (i - l) + choose s i = ap (choices s l) n
+    ∙ choices_last s l (i - l) ∙ ap (λ j. choices s l (i - l) + choose s j) k in
     omega (arith, sum)
 
 pub choices_end : (g : GroupLine) (i : ℕ) → IsCounted g → i ≡ g.most + 1 →
     choices_to (length g.states) g.least i ≡ capped (radix_of g)
 unfolding choices_to
 choices_end g i h e =
-    let o = h.order in let n : i - g.least ≡ suc (g.most - g.least) = omega arith in ap (λ m. capped (choices (length g.states) g.least m)) n
+    let o = h.order in let n : i - g.least ≡ suc (g.most - g.least) = omega arith in
+    ap (λ m. capped (choices (length g.states) g.least m)) n
 
 pub ruleset sums = (choices_start, choices_more, choices_end)
 
@@ -112,7 +114,9 @@ times_more t r groups i g l e h =
     let more : i + 1 ≡ suc i = omega arith in
     let d : drop i groups ≡ get_or groups i g ∷ drop (suc i) groups = drop-cons groups i g l in
     let p = product (map radix_of (drop (suc i) groups)) in
-    let right : held (t * product (map radix_of (drop i groups))) ≡ held (t * (radix_of g * p)) = ap (λ gs. held (t * product (map radix_of gs))) d ∙ ap (λ x. held (t * (radix_of x * p))) e in
+    let right : held (t * product (map radix_of (drop i groups))) ≡ held (t * (radix_of g * p)) =
+    ap (λ gs. held (t * product (map radix_of gs))) d ∙ ap (λ x. held (t * (radix_of x * p)))
+    e in
     ap (λ k. held (min (t * r) (2 ^ 64 - 1) * product (map radix_of (drop k groups)))) more
     ∙ ap (λ x. held (min (t * x) (2 ^ 64 - 1) * p)) (h ∙ sym (held_is (radix_of g)))
     ∙ two_held t (radix_of g) p ∙ sym right

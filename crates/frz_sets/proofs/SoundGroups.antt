@@ -12,7 +12,8 @@ neither false b h = (refl, h)
 pub counted_group : (earlier : List GroupLine) (g : GroupLine) → IsSoundBehind earlier g →
     IsCounted g
 counted_group earlier g n =
-    let a = neither (nat_lt g.most g.least) ((g.most == 0) || nat_lt (length g.states) g.most) n.count in
+    let a = neither (nat_lt g.most g.least) ((g.most == 0) || nat_lt (length g.states) g.most)
+    n.count in
     let b = neither (g.most == 0) (nat_lt (length g.states) g.most) a.1 in
     record {
       order = ltb-false g.most g.least a.0;

@@ -31,7 +31,8 @@ is_bad_count g = nat_lt g.most g.least || (g.most == 0 || nat_lt (length g.state
 abbrev pub has_king_group : List GroupLine → Colour → Bool
 has_king_group groups c = list_any (λ g. same_colour g.colour c && list_any is_king g.states) groups
 
--- a group with king states has no others and exactly one man, and is the first of its colour with them
+-- a group with king states has no others and exactly one man,
+-- and is the first of its colour with them
 abbrev pub is_bad_king : List GroupLine → GroupLine → Bool
 is_bad_king earlier g =
     list_any is_king g.states

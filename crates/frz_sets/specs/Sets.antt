@@ -1,4 +1,5 @@
--- The set that groups describe: which men it has where, the turn states, and how many numbers it has.
+-- The set that groups describe: which men it has where, the
+-- turn states, and how many numbers it has.
 use Rattle.std.specs.Prelude.{ℕ, ◌+◌, Bool, ◌==◌, ◌&&◌, ◌||◌, List, ◌∷◌, length, map, filter}
 use Rattle.std.specs.List.{list_any}
 use Rattle.frz_board.specs.declared.man.Colour.{Colour}
@@ -14,7 +15,8 @@ use Rattle.frz_sets.specs.Views.{GroupLine}
 -- the group has the man of this cell on this square as a state
 abbrev pub is_state : ℕ → ℕ → GroupLine → Bool
 is_state cell s g =
-    list_any (λ state. cell_of_man (record { colour = g.colour; kind = state.0 }) == cell && state.1 == s) g.states
+    list_any (λ state. cell_of_man (record { colour = g.colour; kind = state.0 }) == cell
+    && state.1 == s) g.states
 
 -- some group has it
 abbrev pub has_state : List GroupLine → ℕ → ℕ → Bool
@@ -30,7 +32,8 @@ is_pair gs c b =
     has_state gs (pawn c) b
     && list_any (λ s. is_beside s b && has_state gs (pawn (other_of c)) s) squares
 
--- a pawn of c can stand ahead of t as if it had just come over t, with one of the other side beside it
+-- a pawn of c can stand ahead of t as if it had just come over
+-- t, with one of the other side beside it
 abbrev pub is_possible_for : List GroupLine → Colour → ℕ → Bool
 is_possible_for gs c t = is_passing_rank c t && is_pair gs c (ahead c t)
 

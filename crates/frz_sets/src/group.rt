@@ -17,5 +17,10 @@ impl Model for Group {
 
     ghost Value = { GroupLine };
 
-    ghost view = { λ g. record { colour = g.colour; least = g.least; most = g.most; states = g.states.items } };
+    ghost view = { λ g. record {
+      colour = g.colour;
+      least = g.least;
+      most = g.most;
+      states = g.states.items;
+    } };
 }

@@ -1,5 +1,5 @@
-//! Rules as values: groups, forbid lines and exit lines; the set that groups describe, its size, and
-//! when rules are sound.
+//! Rules as values: groups, forbid lines and exit lines; the
+//! set that groups describe, its size, and when rules are sound.
 #![tactic(auto)]
 
 mod exit;

@@ -17,5 +17,9 @@ impl Model for Rules {
 
     ghost Value = { RuleLines };
 
-    ghost view = { λ r. record { groups = r.groups.items; forbids = r.forbids.items; exits = r.exits.items } };
+    ghost view = { λ r. record {
+      groups = r.groups.items;
+      forbids = r.forbids.items;
+      exits = r.exits.items;
+    } };
 }

@@ -52,7 +52,8 @@ any_at q a zero k l m h = absurd (omega arith)
 any_at q a (suc n) k l m h =
     elim (eqb_tells a k) [
       | inl w ↦ either_or (q a) (list_any q (range_with_len (a + 1) n)) (inl (ap q w.1 ∙ h))
-      | inr w ↦ either_or (q a) (list_any q (range_with_len (a + 1) n)) (inr (any_at q (a + 1) n k (let ne = w.1 in omega arith) (omega arith) h))
+      | inr w ↦ either_or (q a) (list_any q (range_with_len (a + 1) n))
+          (inr (any_at q (a + 1) n k (let ne = w.1 in omega arith) (omega arith) h))
     ]
 
 pub each_square : (q : ℕ → Bool) → list_all q squares ≡ true → (s : ℕ) → s < 64 → q s ≡ true
@@ -86,7 +87,9 @@ any_square q s l h = any_at q 0 64 s (omega arith) (omega arith) h
 
 pub no_square : (q : ℕ → Bool) → ((s : ℕ) → s < 64 → q s ≡ false) → list_any q squares ≡ false
 no_square q h =
-    false_from_ne_true (list_any q squares) (λ e. let w = some_square q e in let not = h w.square w.on_board in let there = w.passes in cc)
+    false_from_ne_true (list_any q squares)
+    (λ e. let w = some_square q e in let not = h w.square w.on_board in let there = w.passes in
+    cc)
 
 -- two tests that agree on each square
 pub all_squares-same : (q r : ℕ → Bool) → ((s : ℕ) → s < 64 → q s ≡ r s) →

@@ -126,7 +126,8 @@ has-without v w k small l =
 -- the squares that pass either test
 pub union : (f g : ℕ → Bool) → bit_or (set_of f) (set_of g) ≡ set_of (λ k. f k || g k)
 union f g =
-    set_of-from (bit_or (set_of f) (set_of g)) (λ k. f k || g k) (or_lt 64 (set_of f) (set_of g) (set_of-small f) (set_of-small g))
+    set_of-from (bit_or (set_of f) (set_of g)) (λ k. f k || g k)
+    (or_lt 64 (set_of f) (set_of g) (set_of-small f) (set_of-small g))
     (λ k l. has-or (set_of f) (set_of g) k
     ∙ ap (λ x. x || has_square (set_of g) k) (has-set_of f k l)
     ∙ ap (λ x. f k || x) (has-set_of g k l))
@@ -140,7 +141,8 @@ none_from b h e = grind (arith, nat_tests)
 -- a set without squares is 0
 pub empty_set : (w : ℕ) → w < 2 ^ 64 → ((k : ℕ) → k < 64 → has_square w k ≡ false) → w ≡ 0
 empty_set w small h =
-    same_from_bits_below 64 w 0 small (pow_pos 64) (λ k l. none_from (bit_at w k) (bit_at-lt w k) (h k l) ∙ sym (bit_at-zero k))
+    same_from_bits_below 64 w 0 small (pow_pos 64)
+    (λ k l. none_from (bit_at w k) (bit_at-lt w k) (h k l) ∙ sym (bit_at-zero k))
 
 not_both : (x y : Bool) → (x && y) ≡ false → (not x || not y) ≡ true
 not_both true true h = cc
@@ -156,14 +158,17 @@ either_not false y h = refl
 pub apart_sets : (f : ℕ → Bool) (w : ℕ) → w < 2 ^ 64 →
     (bit_and (set_of f) w == 0) ≡ list_all (λ s. not (f s) || not (has_square w s)) squares
 apart_sets f w small =
-    both_ways (bit_and (set_of f) w == 0) (list_all (λ s. not (f s) || not (has_square w s)) squares)
+    both_ways (bit_and (set_of f) w == 0)
+    (list_all (λ s. not (f s) || not (has_square w s)) squares)
     (λ h. all_squares (λ s. not (f s) || not (has_square w s))
     (λ k l. not_both (f k) (has_square w k)
-    (ap (λ x. x && has_square w k) (sym (has-set_of f k l)) ∙ sym (has-and (set_of f) w k) ∙ ap (λ v. has_square v k) (eqb-true (bit_and (set_of f) w) 0 h) ∙ has-zero k)))
+    (ap (λ x. x && has_square w k) (sym (has-set_of f k l)) ∙ sym (has-and (set_of f) w k)
+    ∙ ap (λ v. has_square v k) (eqb-true (bit_and (set_of f) w) 0 h) ∙ has-zero k)))
     (λ h. eq-eqb (bit_and (set_of f) w) 0
     (empty_set (bit_and (set_of f) w) (and_small (set_of f) w small)
     (λ k l. has-and (set_of f) w k ∙ ap (λ x. x && has_square w k) (has-set_of f k l)
-    ∙ either_not (f k) (has_square w k) (each_square (λ s. not (f s) || not (has_square w s)) h k l))))
+    ∙ either_not (f k) (has_square w k)
+    (each_square (λ s. not (f s) || not (has_square w s)) h k l))))
 
 none_at : (f : ℕ → Bool) → list_any f squares ≡ false → (k : ℕ) → k < 64 → f k ≡ false
 none_at f h k l = false_from_ne_true (f k) (λ e. let there = any_square f k l e in cc)
@@ -172,8 +177,12 @@ none_at f h k l = false_from_ne_true (f k) (λ e. let there = any_square f k l e
 pub set_of-none : (f : ℕ → Bool) → (set_of f == 0) ≡ not (list_any f squares)
 set_of-none f =
     both_ways (set_of f == 0) (not (list_any f squares))
-    (λ h. ap not (no_square f (λ k l. sym (has-set_of f k l) ∙ ap (λ w. has_square w k) (eqb-true (set_of f) 0 h) ∙ has-zero k)))
-    (λ h. eq-eqb (set_of f) 0 (empty_set (set_of f) (set_of-small f) (λ k l. has-set_of f k l ∙ none_at f (not-true (list_any f squares) h) k l)))
+    (λ h. ap not (no_square f
+    (λ k l. sym (has-set_of f k l) ∙ ap (λ w. has_square w k) (eqb-true (set_of f) 0 h)
+    ∙ has-zero k)))
+    (λ h. eq-eqb (set_of f) 0
+    (empty_set (set_of f) (set_of-small f)
+    (λ k l. has-set_of f k l ∙ none_at f (not-true (list_any f squares) h) k l)))
 
 pub set_of-some : (f : ℕ → Bool) → not (set_of f == 0) ≡ list_any f squares
 set_of-some f = ap not (set_of-none f) ∙ not-not (list_any f squares)

@@ -32,21 +32,27 @@ put-same m n v = put-at m n v n ((bytes_eq-Decides n n).1 refl)
 
 -- at a name that differs
 pub put-other : (m : Files) (n v q : List ℕ) → n ≢ q → put m n v q ≡ m q
-put-other m n v q differs = put-off m n v q (false_from_ne_true (bytes_eq n q) (λ e. differs ((bytes_eq-Decides n q).0 e)))
+put-other m n v q differs =
+    put-off m n v q (false_from_ne_true (bytes_eq n q) (λ e. differs ((bytes_eq-Decides n q).0 e)))
 
 -- a file that was put and then grew
-pub grown-put : (m : Files) (n v piece : List ℕ) → grown (Some n) piece (put m n v) ≡ put m n (v ++ piece)
-grown-put m n v piece = put-put m n v (bytes_at (put m n v) n ++ piece) ∙ ap (λ o. put m n (unwrap_or o [] ++ piece)) (put-same m n v)
+pub grown-put : (m : Files) (n v piece : List ℕ)
+    → grown (Some n) piece (put m n v) ≡ put m n (v ++ piece)
+grown-put m n v piece = put-put m n v (bytes_at (put m n v) n ++ piece)
+    ∙ ap (λ o. put m n (unwrap_or o [] ++ piece)) (put-same m n v)
 
 -- choices by tests that exclude each other, in either order
-swap_at : {A : Type 0} (a b : Bool) (x y z : A) → (a ≡ true → b ≡ true → ⊥) → cond b y (cond a x z) ≡ cond a x (cond b y z)
+swap_at : {A : Type 0} (a b : Bool) (x y z : A) → (a ≡ true → b ≡ true → ⊥)
+    → cond b y (cond a x z) ≡ cond a x (cond b y z)
 swap_at true true x y z h = absurd (h refl refl)
 swap_at true false x y z h = refl
 swap_at false true x y z h = refl
 swap_at false false x y z h = refl
 
 -- two names that differ may be put in either order
-pub put-swap : (m : Files) (n k v w : List ℕ) → (n ≡ k → ⊥) → put (put m n v) k w ≡ put (put m k w) n v
+pub put-swap : (m : Files) (n k v w : List ℕ) → (n ≡ k → ⊥)
+    → put (put m n v) k w ≡ put (put m k w) n v
 unfolding put
 put-swap m n k v w differs = λ i q.
-    swap_at (bytes_eq n q) (bytes_eq k q) (Some v) (Some w) (m q) (λ a b. differs ((bytes_eq-Decides n q).0 a ∙ sym ((bytes_eq-Decides k q).0 b))) i
+    swap_at (bytes_eq n q) (bytes_eq k q) (Some v) (Some w) (m q)
+    (λ a b. differs ((bytes_eq-Decides n q).0 a ∙ sym ((bytes_eq-Decides k q).0 b))) i

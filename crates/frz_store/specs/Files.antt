@@ -1,4 +1,5 @@
--- What a store holds, as a function of the name: the bytes of the name, or none where it is not there.
+-- What a store holds, as a function of the name: the bytes of
+-- the name, or none where it is not there.
 use Rattle.std.specs.Prelude.{ℕ, ◌+◌, ◌≤◌, List, [], ◌++◌, length, Option, Some, None, IsSomeAnd, if◌then◌else◌}
 use Rattle.std.specs.Option.{unwrap_or}
 use Rattle.std.specs.Str.{bytes_eq}

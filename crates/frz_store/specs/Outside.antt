@@ -17,8 +17,10 @@ pub record IsNext (before now : ℕ) : Type 0 where
 abbrev pub Rose : ℕ → ℕ → Type 0
 Rose before now = counted before ≤ now
 
--- neither count falls, and success leaves both; a failure has raised the count of faults, and want of memory that of wants
-pub record StoreCauses {T : Type 0} (faults_before faults_now wants_before wants_now : ℕ) (result : Result T StoreFault) : Type 0 where
+-- neither count falls, and success leaves both; a failure has
+-- raised the count of faults, and want of memory that of wants
+pub record StoreCauses {T : Type 0} (faults_before faults_now wants_before wants_now : ℕ)
+    (result : Result T StoreFault) : Type 0 where
   pub later : faults_before ≤ faults_now
   pub wants_later : wants_before ≤ wants_now
   pub fine : OnOk result (faults_now ≡ faults_before)
@@ -26,8 +28,10 @@ pub record StoreCauses {T : Type 0} (faults_before faults_now wants_before wants
   pub failed : IsErrOf result Failed → Rose faults_before faults_now
   pub no_memory : IsErrOf result NoMemory → Rose wants_before wants_now
 
--- neither count falls, and success leaves both; a failure has raised the count of faults, and want of memory is free
-pub record FreeCauses {T : Type 0} (faults_before faults_now wants_before wants_now : ℕ) (result : Result T StoreFault) : Type 0 where
+-- neither count falls, and success leaves both; a failure has
+-- raised the count of faults, and want of memory is free
+pub record FreeCauses {T : Type 0} (faults_before faults_now wants_before wants_now : ℕ)
+    (result : Result T StoreFault) : Type 0 where
   pub later : faults_before ≤ faults_now
   pub wants_later : wants_before ≤ wants_now
   pub fine : OnOk result (faults_now ≡ faults_before)
@@ -35,7 +39,8 @@ pub record FreeCauses {T : Type 0} (faults_before faults_now wants_before wants_
   pub failed : IsErrOf result Failed → Rose faults_before faults_now
 
 -- the count of faults does not fall; success leaves it, and each refusal has raised it
-pub record HasCause {T E : Type 0} (faults_before faults_now : ℕ) (result : Result T E) : Type 0 where
+pub record HasCause {T E : Type 0} (faults_before faults_now : ℕ)
+    (result : Result T E) : Type 0 where
   pub later : faults_before ≤ faults_now
   pub fine : OnOk result (faults_now ≡ faults_before)
   pub failed : OnErr result (Rose faults_before faults_now)

@@ -67,8 +67,10 @@ pub record StoreFine (old new : StoreTold) : Type 0 where
   pub faults : new.faults ≡ old.faults
   pub wants : new.wants ≡ old.wants
 
--- the bytes were put under the name, or there was no memory and nothing is new. It is no call of the store
-pub record IsPut {T : Type 0} (name bytes : List ℕ) (result : Result T StoreFault) (old new : StoreTold) : Type 0 where
+-- the bytes were put under the name, or there was no memory and
+-- nothing is new. It is no call of the store
+pub record IsPut {T : Type 0} (name bytes : List ℕ) (result : Result T StoreFault)
+    (old new : StoreTold) : Type 0 where
   pub files : OnOk result (new.files ≡ option_map (λ m. put m name bytes) old.files)
   pub no_memory : OnErr result (new.files ≡ old.files)
   pub never_failed : IsErrOf result Failed → ⊥

@@ -57,7 +57,8 @@ impl Sink for MemSink {
         ensures taken { taken self.new ≡ taken self.old ++ taken_of self.old piece.now }
         ensures whole { OnOk result (taken_of self.old piece.now ≡ piece.now) }
         ensures prefix { (k : ℕ) × (taken_of self.old piece.now ≡ take k piece.now) }
-        ensures room { room_left self.new ≡ room_left self.old - length (taken_of self.old piece.now) }
+        ensures room { room_left self.new ≡ room_left self.old - length
+            (taken_of self.old piece.now) }
         ensures plan { plan self.new ≡ after (plan self.old) FailOn.Call }
         ensures faults { faults self.new ≡ faults_after self.old piece.now }
         ensures cause { HasCause (faults self.old) (faults self.new) result }

@@ -106,7 +106,8 @@ impl Shelf {
     /// Makes the name hold these bytes.
     pub fn put(&mut self, alloc: Global, name: &str, bytes: &[u8]) -> Result<(), AllocError>
         requires { room_of self.old ≡ 0 }
-        ensures files { OnOk result (files_of self.new ≡ put (files_of self.old) name.now bytes.now) }
+        ensures files { OnOk result
+            (files_of self.new ≡ put (files_of self.old) name.now bytes.now) }
         ensures err { OnErr result (files_of self.new ≡ files_of self.old) }
         ensures last { last_of self.new ≡ last_of self.old }
         ensures room { room_of self.new ≡ 0 }

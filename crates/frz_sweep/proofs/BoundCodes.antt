@@ -14,10 +14,12 @@ use Rattle.frz_game.proofs.Lemmas.{graph_lawful}
 
 pub table_of_codes : (rules : RuleLines) (value : Board → Value) (side : Colour) (codes : List ℕ) →
     length codes ≡ size_of rules.groups →
-    ((i : ℕ) → IsCodeAt (graph_by rules value) side i (slice_index codes i)) → IsTableOf rules value side codes
+    ((i : ℕ) → IsCodeAt (graph_by rules value) side i (slice_index codes i))
+    → IsTableOf rules value side codes
 table_of_codes rules value side codes many at =
     let entry : ℕ → ℕ = λ k. slice_index codes k in
     exact_table rules value side codes (record {
       many = many;
-      local = λ i l. codes_meet (graph_by rules value) (graph_lawful rules value) side entry (bounds_are_codes (graph_by rules value) side entry at) i;
+      local = λ i l. codes_meet (graph_by rules value) (graph_lawful rules value) side entry
+          (bounds_are_codes (graph_by rules value) side entry at) i;
     })

@@ -45,4 +45,5 @@ lags_at arena size finite side i most arms same wins a v among leads good =
     let listed = subst (λ (z : List (Arm Step ℕ Value)). Contains z a) (sym same) among in
     let win = All-contains (λ (b : Arm Step ℕ Value). WinsIn side most b.next) arms a wins listed in
     subst (λ (lag : Value → ℕ). lag v ≤ most) (sym finite.lag)
-    (lag_of_exit side most a.next v leads win (ap (λ (class : Value → Colour → Class). class v side) (sym finite.class) ∙ good))
+    (lag_of_exit side most a.next v leads win
+    (ap (λ (class : Value → Colour → Class). class v side) (sym finite.class) ∙ good))

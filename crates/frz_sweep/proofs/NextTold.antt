@@ -40,7 +40,8 @@ settled_win n m c l =
 
 settled_failure : (n m c : ℕ) → m ≤ n → IsFailureWithin m c ↔ IsFailureWithin m (settled_code n c)
 settled_failure n m c l =
-    settled_says (λ d. IsFailureWithin m d) n c (no_failure m 1 (omega arith)) (λ f. omega (arith, f.1))
+    settled_says (λ d. IsFailureWithin m d) n c (no_failure m 1 (omega arith))
+    (λ f. omega (arith, f.1))
 
 settled_zero : (n c : ℕ) → settled_code n c ≡ 0 → c ≡ 0
 settled_zero n c e =
@@ -65,7 +66,8 @@ local_told arena law side n entry told i =
     let code = local_code arena side entry i in
     record {
       zero = λ e. broken_of_code arena side entry i (settled_zero n code e);
-      broken = λ some e. (let k = at_broken arena side entry i e in let l = settled_low n code (omega arith) in l ∙ k);
+      broken = λ some e. (let k = at_broken arena side entry i e in
+          let l = settled_low n code (omega arith) in l ∙ k);
       wins = λ m l. (
         λ w. (settled_win n m code (omega arith)).0 ((next.wins m i (omega arith)).0 w),
         λ w. (next.wins m i (omega arith)).1 ((settled_win n m code (omega arith)).1 w),
@@ -87,8 +89,14 @@ settled_told arena side n i c told ne =
           record {
             zero = λ _. b;
             broken = λ _ _. e;
-            wins = λ m l. (λ w. absurd (broken_never_wins arena side m i b w), λ w. absurd (no_win m c (omega arith) w));
-            fails = λ m l. (λ f. absurd (broken_never_fails arena side m i b f), λ f. absurd (no_failure m c (omega arith) f));
+            wins = λ m l. (
+              λ w. absurd (broken_never_wins arena side m i b w),
+              λ w. absurd (no_win m c (omega arith) w),
+            );
+            fails = λ m l. (
+              λ f. absurd (broken_never_fails arena side m i b f),
+              λ f. absurd (no_failure m c (omega arith) f),
+            );
             within = omega arith;
           })
       | hold e ↦ absurd (ne e)
@@ -100,8 +108,11 @@ settled_told arena side n i c told ne =
             broken = λ _ b. absurd (broken_never_wins arena side k i b w);
             wins = λ m l. elim (cases_lt m n) [
               | inl below ↦ told.wins m below
-              | inr above ↦
-                  (λ _. ((as_win c k e).0, omega arith), λ _. wins_later arena side k m i (omega arith) w)
+              | inr above ↦ (
+                λ _. ((as_win c k e).0, omega arith),
+                λ _. wins_later arena side k m i
+                    (omega arith) w,
+              )
             ];
             fails = λ m l. (
               λ f. absurd (never_both arena side k m i w f),
@@ -121,8 +132,11 @@ settled_told arena side n i c told ne =
             );
             fails = λ m l. elim (cases_lt m n) [
               | inl below ↦ told.fails m below
-              | inr above ↦
-                  (λ _. ((as_failure c k e).0, omega arith), λ _. fails_later arena side k m i (omega arith) f)
+              | inr above ↦ (
+                λ _. ((as_failure c k e).0, omega arith),
+                λ _. fails_later arena side k m i
+                    (omega arith) f,
+              )
             ];
             within = omega arith;
           })
@@ -137,27 +151,33 @@ late_code arena side n i c some open_one told ne =
       | hold e ↦ absurd (ne e)
       | win k e ↦ elim (cases_lt k n) [
         | inl below ↦
-            absurd (no_win k 1 (omega arith) ((open_one.wins k below).0 ((told.wins k (omega arith)).1 (as_win c k e))))
+            absurd (no_win k 1 (omega arith)
+            ((open_one.wins k below).0 ((told.wins k (omega arith)).1 (as_win c k e))))
         | inr above ↦ omega arith
       ]
       | failure k e ↦ elim (cases_lt k n) [
         | inl below ↦
-            absurd (no_failure k 1 (omega arith) ((open_one.fails k below).0 ((told.fails k (omega arith)).1 (as_failure c k e))))
+            absurd (no_failure k 1 (omega arith)
+            ((open_one.fails k below).0 ((told.fails k (omega arith)).1 (as_failure c k e))))
         | inr above ↦ omega arith
       ]
     ]
 
--- in the middle of a ply, where the numbers below i are told it, the next one is told it by its local code
+-- in the middle of a ply, where the numbers below i are told
+-- it, the next one is told it by its local code
 pub next_told : {M V : Type 0} (arena : Arena M ℕ V) → IsLawful arena →
     (side : Colour) (n i : ℕ) (codes : List ℕ) →
     ((p : ℕ) → p < i → IsTold arena side (n + 1) p (slice_index codes p)) →
     ((p : ℕ) → i ≤ p → IsTold arena side n p (slice_index codes p)) →
-    IsTold arena side (n + 1) i (settled_code n (local_code arena side (λ k. slice_index codes k) i))
+    IsTold arena side (n + 1) i
+    (settled_code n (local_code arena side (λ k. slice_index codes k) i))
 next_told arena law side n i codes before after =
     local_told arena law side n (λ k. slice_index codes k)
     (record {
-      wins = λ m p l. elim (cases_lt p i) [ inl h ↦ (before p h).wins m (omega arith) | inr h ↦ (after p h).wins m l ];
-      fails = λ m p l. elim (cases_lt p i) [ inl h ↦ (before p h).fails m (omega arith) | inr h ↦ (after p h).fails m l ];
+      wins = λ m p l. elim (cases_lt p i)
+          [ inl h ↦ (before p h).wins m (omega arith) | inr h ↦ (after p h).wins m l ];
+      fails = λ m p l. elim (cases_lt p i)
+          [ inl h ↦ (before p h).fails m (omega arith) | inr h ↦ (after p h).fails m l ];
     })
     i
 
@@ -166,4 +186,5 @@ pub past_told : {M V : Type 0} (arena : Arena M ℕ V) (side : Colour) (n i : �
     length codes ≤ i →
     IsTold arena side n i (slice_index codes i) → IsTold arena side (n + 1) i (slice_index codes i)
 past_told arena side n i codes l told =
-    settled_told arena side n i (slice_index codes i) told (λ e. (let k = get_or_past codes i 0 l in omega arith))
+    settled_told arena side n i (slice_index codes i) told
+    (λ e. (let k = get_or_past codes i 0 l in omega arith))

@@ -47,15 +47,21 @@ earlier_failure n c l m f = (f.0, l)
 -- the codes after a ply that changed nothing, with no lag to come, tell all
 reached : {M V : Type 0} (arena : Arena M ℕ V) (side : Colour) (n : ℕ) → LagsWithin arena side n →
     (codes : List ℕ) →
-    AreTold arena side (n + 1) codes → AreTold arena side (n + 2) codes → AreCodes arena side (λ i. slice_index codes i)
+    AreTold arena side (n + 1) codes → AreTold arena side (n + 2) codes
+    → AreCodes arena side (λ i. slice_index codes i)
 reached arena side n lags codes before after =
     let still : (p : ℕ) → WinsWithin arena side (suc n) p → WinsWithin arena side n p =
-    λ p w. (let told = before p in (told.wins n (omega arith)).1 (earlier_win n _ (let h = told.within in omega arith) (suc n) (((after p).wins (suc n) (omega arith)).0 w))) in
+    λ p w. (let told = before p in (told.wins n (omega arith)).1
+    (earlier_win n _ (let h = told.within in omega arith) (suc n)
+    (((after p).wins (suc n) (omega arith)).0 w))) in
     let calm : (p : ℕ) → FailsWithin arena side (suc n) p → FailsWithin arena side n p =
-    λ p f. (let told = before p in (told.fails n (omega arith)).1 (earlier_failure n _ (let h = told.within in omega arith) (suc n) (((after p).fails (suc n) (omega arith)).0 f))) in
+    λ p f. (let told = before p in (told.fails n (omega arith)).1
+    (earlier_failure n _ (let h = told.within in omega arith) (suc n)
+    (((after p).fails (suc n) (omega arith)).0 f))) in
     let wins_by : (m p : ℕ) → WinsWithin arena side m p → IsWinWithin n (slice_index codes p) =
     λ m p w. ((before p).wins n (omega arith)).0 (wins_stay arena side n lags still m p w) in
-    let fails_by : (m p : ℕ) → FailsWithin arena side m p → IsFailureWithin n (slice_index codes p) =
+    let fails_by : (m p : ℕ) → FailsWithin arena side m p
+    → IsFailureWithin n (slice_index codes p) =
     λ m p f. ((before p).fails n (omega arith)).0 (fails_stay arena side n calm m p f) in
     record {
       broken = λ p. ((before p).broken (omega arith), (before p).zero);
@@ -64,7 +70,8 @@ reached arena side n lags codes before after =
         | inr above ↦ (
           λ w. (let k = wins_by m p w in (k.0, omega (arith, k.1))),
           λ w. wins_later arena side n m p (omega arith)
-              (((before p).wins n (omega arith)).1 (earlier_win n _ (let h = (before p).within in omega arith) m w)),
+              (((before p).wins n (omega arith)).1
+              (earlier_win n _ (let h = (before p).within in omega arith) m w)),
         )
       ];
       fails = λ m p. elim (cases_lt m (n + 1)) [
@@ -72,7 +79,8 @@ reached arena side n lags codes before after =
         | inr above ↦ (
           λ f. (let k = fails_by m p f in (k.0, omega (arith, k.1))),
           λ f. fails_later arena side n m p (omega arith)
-              (((before p).fails n (omega arith)).1 (earlier_failure n _ (let h = (before p).within in omega arith) m f)),
+              (((before p).fails n (omega arith)).1
+              (earlier_failure n _ (let h = (before p).within in omega arith) m f)),
         )
       ];
     }
@@ -84,11 +92,13 @@ lags_later arena side n most l lags p a v i e good = let h = lags p a v i e good
 -- where a ply above 0 changes nothing, and each lag is below it, the codes are those of the bounds
 pub reached_codes : {M V : Type 0} (arena : Arena M ℕ V) (side : Colour) (ply most : ℕ) →
     most < ply → LagsWithin arena side most → (codes : List ℕ) →
-    AreTold arena side ply codes → AreTold arena side (ply + 1) codes → (i : ℕ) → IsCodeAt arena side i (slice_index codes i)
+    AreTold arena side ply codes → AreTold arena side (ply + 1) codes → (i : ℕ)
+    → IsCodeAt arena side i (slice_index codes i)
 reached_codes arena side zero most l lags codes before after i = absurd (omega arith)
 reached_codes arena side (suc n) most l lags codes before after i =
     let ply : suc n ≡ n + 1 = omega arith in
     let next : suc n + 1 ≡ n + 2 = omega arith in
     codes_of_bounds arena side (λ k. slice_index codes k)
     (reached arena side n (lags_later arena side n most (omega arith) lags) codes
-    (subst (λ z. AreTold arena side z codes) ply before) (subst (λ z. AreTold arena side z codes) next after)) i
+    (subst (λ z. AreTold arena side z codes) ply before)
+    (subst (λ z. AreTold arena side z codes) next after)) i

@@ -11,7 +11,9 @@ pub record ArePieces (pieces done count before now : ℕ) : Type 0 where
 pub no_pieces : (count before : ℕ) → ArePieces 0 0 count before before
 no_pieces count before = record { calls = omega arith; few = omega arith; full = λ h. omega arith }
 
-pub piece_more : (pieces done here all count before mid now : ℕ) → ArePieces pieces done count before mid → now ≤ mid + 1 → done < count → here ≡ min 16384 (count - done) → all ≡ done + here
+pub piece_more : (pieces done here all count before mid now : ℕ)
+    → ArePieces pieces done count before mid → now ≤ mid + 1 → done < count
+    → here ≡ min 16384 (count - done) → all ≡ done + here
     → ArePieces (pieces + 1) all count before now
 piece_more pieces done here all count before mid now h next left cut is = record {
   calls = (let c = h.calls in omega (arith, c, next));
@@ -20,9 +22,13 @@ piece_more pieces done here all count before mid now h next left cut is = record
 }
 
 -- no more than the count has
-pub pieces_within : (pieces done count before now : ℕ) → ArePieces pieces done count before now → done ≤ count → now ≤ before + pieces_of count
-pieces_within pieces done count before now h within = let c = h.calls in let f = h.few in omega (arith, c, f, within)
+pub pieces_within : (pieces done count before now : ℕ) → ArePieces pieces done count before now
+    → done ≤ count → now ≤ before + pieces_of count
+pieces_within pieces done count before now h within =
+    let c = h.calls in let f = h.few in omega (arith, c, f, within)
 
 -- and one more while something is left
-pub next_within : (pieces done count before mid now : ℕ) → ArePieces pieces done count before mid → done < count → now ≤ mid + 1 → now ≤ before + pieces_of count
-next_within pieces done count before mid now h left next = let c = h.calls in let f = h.full left in omega (arith, c, f, left, next)
+pub next_within : (pieces done count before mid now : ℕ) → ArePieces pieces done count before mid
+    → done < count → now ≤ mid + 1 → now ≤ before + pieces_of count
+next_within pieces done count before mid now h left next =
+    let c = h.calls in let f = h.full left in omega (arith, c, f, left, next)

@@ -11,10 +11,11 @@ use Rattle.frz_rules.specs.declared.fault.RulesFault.{RulesFault}
 use Rattle.frz_table.specs.Numbers.{AreBytes}
 use Rattle.frz_table.specs.OldFiles.{limited, limited_read, old_format, old_magic, old_rules_of}
 use Rattle.frz_table.specs.Steps.{IsFormatOf}
-use Rattle.frz_table.proofs.SomeFiles.{IsHead, read_short, short_bytes}
+use Rattle.frz_table.proofs.KeptFiles.{IsHead, read_short, short_bytes}
 
 -- a text whose rules have few numbers is read so
-few_numbers : (rules : RuleLines) → old_size_of rules.groups ≤ MOST_OLD_NUMBERS → limited rules ≡ Ok rules
+few_numbers : (rules : RuleLines) → old_size_of rules.groups ≤ MOST_OLD_NUMBERS
+    → limited rules ≡ Ok rules
 few_numbers rules few =
     let size : ℕ = old_size_of rules.groups in
     let fault : RulesFault = record { line = 0; cause = SetTooBig (capped size) } in
@@ -26,7 +27,8 @@ old_read text rules size read is few =
     ap limited_read read ∙ few_numbers rules (subst (λ n. n ≤ MOST_OLD_NUMBERS) is few)
 
 -- and one whose rules have too many is refused
-pub old_refused : (text : List ℕ) (rules : RuleLines) (fault : RulesFault) → rules_of text ≡ Ok rules →
+pub old_refused : (text : List ℕ) (rules : RuleLines) (fault : RulesFault) →
+    rules_of text ≡ Ok rules →
     limited rules ≡ Err fault → old_rules_of text ≡ Err fault
 old_refused text rules fault read is = ap limited_read read ∙ is
 
@@ -34,11 +36,15 @@ pub old_is_format : (magic : List ℕ) → magic ≡ old_magic → IsFormatOf ma
 old_is_format magic is = record { magic_is = sym is; refuses = λ text fault h. ap limited_read h }
 
 pub old_eight : (magic : List ℕ) → magic ≡ old_magic → (length magic ≡ 8) × AreBytes magic
-old_eight magic is =
-    (ap (length {A = ℕ}) is, subst (λ (l : List ℕ). AreBytes l) (sym is) (short_bytes old_magic refl))
+old_eight magic is = (
+  ap (length {A = ℕ}) is,
+  subst (λ (l : List ℕ). AreBytes l) (sym is)
+      (short_bytes old_magic refl),
+)
 
 -- a file of the former format can have this text and this size
-pub old_head : (text : List ℕ) (rules : RuleLines) (size : ℕ) → rules_of text ≡ Ok rules → AreBytes text → size ≤ MOST_OLD_NUMBERS → IsHead old_magic text size
+pub old_head : (text : List ℕ) (rules : RuleLines) (size : ℕ) → rules_of text ≡ Ok rules
+    → AreBytes text → size ≤ MOST_OLD_NUMBERS → IsHead old_magic text size
 old_head text rules size read are few = record {
   eight = refl;
   magic_bytes = short_bytes old_magic refl;

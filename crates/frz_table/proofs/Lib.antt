@@ -10,6 +10,7 @@ pub mod Files
 pub mod HeldFiles
 pub mod OpeningCalls
 pub mod Made
+pub mod KeptFiles
 pub mod SomeFiles
 pub mod FormerFiles
 pub mod Lemmas

@@ -11,7 +11,8 @@ use Rattle.frz_table.proofs.Files.{behind, before, number_behind}
 use Rattle.frz_table.proofs.NumberLists.{length-to_le_bytes}
 
 -- bytes behind bytes
-pub AreBytes-append : (xs ys : List ℕ) → AreBytes xs → AreBytes ys → (i : ℕ) → get_or (xs ++ ys) i 0 < 256
+pub AreBytes-append : (xs ys : List ℕ) → AreBytes xs → AreBytes ys → (i : ℕ)
+    → get_or (xs ++ ys) i 0 < 256
 AreBytes-append [] ys front back i = back i
 AreBytes-append (x ∷ xs) ys front back zero = front 0
 AreBytes-append (x ∷ xs) ys front back (suc i) = AreBytes-append xs ys (λ j. front (suc j)) back i
@@ -39,42 +40,62 @@ AreBytes-number n = AreBytes-low_first 0 4 n
 pub AreBytes-number_bytes : (ns : List ℕ) → AreBytes (number_bytes ns)
 unfolding number_bytes
 AreBytes-number_bytes [] = AreBytes-zeros 0
-AreBytes-number_bytes (n ∷ ns) = AreBytes-append (to_le_bytes w32 n) (number_bytes ns) (AreBytes-number n) (AreBytes-number_bytes ns)
+AreBytes-number_bytes (n ∷ ns) = AreBytes-append (to_le_bytes w32 n) (number_bytes ns)
+    (AreBytes-number n) (AreBytes-number_bytes ns)
 
 -- the magic, a number, and what stands behind them
 abbrev pub begun : List ℕ → ℕ → List ℕ → List ℕ
 begun magic n rest = magic ++ (to_le_bytes w32 n ++ rest)
 
-pub begun_bytes : (magic : List ℕ) (n : ℕ) (rest : List ℕ) → AreBytes magic → AreBytes rest → AreBytes (begun magic n rest)
-begun_bytes magic n rest m r = AreBytes-append magic (to_le_bytes w32 n ++ rest) m (AreBytes-append (to_le_bytes w32 n) rest (AreBytes-number n) r)
+pub begun_bytes : (magic : List ℕ) (n : ℕ) (rest : List ℕ) → AreBytes magic → AreBytes rest
+    → AreBytes (begun magic n rest)
+begun_bytes magic n rest m r = AreBytes-append magic (to_le_bytes w32 n ++ rest) m
+    (AreBytes-append (to_le_bytes w32 n) rest (AreBytes-number n) r)
 
-pub begun_long : (magic : List ℕ) (n : ℕ) (rest : List ℕ) → length magic ≡ 8 → length (begun magic n rest) ≡ 12 + length rest
+pub begun_long : (magic : List ℕ) (n : ℕ) (rest : List ℕ) → length magic ≡ 8
+    → length (begun magic n rest) ≡ 12 + length rest
 begun_long magic n rest eight =
-    omega (arith, eight, length-append magic (to_le_bytes w32 n ++ rest), length-append (to_le_bytes w32 n) rest, length-to_le_bytes n)
+    omega (
+      arith,
+      eight,
+      length-append magic (to_le_bytes w32 n ++ rest),
+      length-append (to_le_bytes w32 n) rest,
+      length-to_le_bytes n,
+    )
 
-pub begun_kept : (magic : List ℕ) (n : ℕ) (rest : List ℕ) → length magic ≡ 8 → n < 2 ^ 32 → kept_length (begun magic n rest) ≡ n
+pub begun_kept : (magic : List ℕ) (n : ℕ) (rest : List ℕ) → length magic ≡ 8 → n < 2 ^ 32
+    → kept_length (begun magic n rest) ≡ n
 begun_kept magic n rest eight fits = number_behind 8 n magic rest eight fits
 
-pub begun_begins : (magic : List ℕ) (n : ℕ) (rest : List ℕ) → length magic ≡ 8 → take 8 (begun magic n rest) ≡ magic
+pub begun_begins : (magic : List ℕ) (n : ℕ) (rest : List ℕ) → length magic ≡ 8
+    → take 8 (begun magic n rest) ≡ magic
 begun_begins magic n rest eight = before 8 magic (to_le_bytes w32 n ++ rest) eight
 
-begun_behind : (magic : List ℕ) (n : ℕ) (rest : List ℕ) → length magic ≡ 8 → drop 12 (begun magic n rest) ≡ rest
+begun_behind : (magic : List ℕ) (n : ℕ) (rest : List ℕ) → length magic ≡ 8
+    → drop 12 (begun magic n rest) ≡ rest
 begun_behind magic n rest eight =
-    let twelve : length (magic ++ to_le_bytes w32 n) ≡ 12 = omega (arith, eight, length-append magic (to_le_bytes w32 n), length-to_le_bytes n) in
-    ap (drop 12) (sym (append_assoc magic (to_le_bytes w32 n) rest)) ∙ behind 12 (magic ++ to_le_bytes w32 n) rest twelve
+    let twelve : length (magic ++ to_le_bytes w32 n) ≡ 12 = omega
+    (arith, eight, length-append magic (to_le_bytes w32 n), length-to_le_bytes n) in
+    ap (drop 12) (sym (append_assoc magic (to_le_bytes w32 n) rest))
+    ∙ behind 12 (magic ++ to_le_bytes w32 n) rest twelve
 
 -- so many bytes that begin with the magic, the text and a size
 abbrev pub made : List ℕ → List ℕ → ℕ → ℕ → List ℕ
 made magic text kept count =
-    begun magic (length text) (text ++ (to_le_bytes w32 kept ++ replicate (count - (16 + length text)) 0))
+    begun magic (length text)
+    (text ++ (to_le_bytes w32 kept ++ replicate (count - (16 + length text)) 0))
 
-pub made_bytes : (magic text : List ℕ) (kept count : ℕ) → AreBytes magic → AreBytes text → AreBytes (made magic text kept count)
+pub made_bytes : (magic text : List ℕ) (kept count : ℕ) → AreBytes magic → AreBytes text
+    → AreBytes (made magic text kept count)
 made_bytes magic text kept count m t =
     let zeros : List ℕ = replicate (count - (16 + length text)) 0 in
     begun_bytes magic (length text) (text ++ (to_le_bytes w32 kept ++ zeros)) m
-    (AreBytes-append text (to_le_bytes w32 kept ++ zeros) t (AreBytes-append (to_le_bytes w32 kept) zeros (AreBytes-number kept) (AreBytes-zeros (count - (16 + length text)))))
+    (AreBytes-append text (to_le_bytes w32 kept ++ zeros) t
+    (AreBytes-append (to_le_bytes w32 kept) zeros (AreBytes-number kept)
+    (AreBytes-zeros (count - (16 + length text)))))
 
-pub made_long : (magic text : List ℕ) (kept count : ℕ) → length magic ≡ 8 → 16 + length text ≤ count → length (made magic text kept count) ≡ count
+pub made_long : (magic text : List ℕ) (kept count : ℕ) → length magic ≡ 8 → 16 + length text ≤ count
+    → length (made magic text kept count) ≡ count
 made_long magic text kept count eight enough =
     let left : ℕ = count - (16 + length text) in
     let zeros : List ℕ = replicate left 0 in
@@ -91,12 +112,14 @@ made_long magic text kept count eight enough =
     )
 
 -- they have the text
-pub made_text : (magic text : List ℕ) (kept count : ℕ) → length magic ≡ 8 → length text ≤ 65536 → 16 + length text ≤ count
+pub made_text : (magic text : List ℕ) (kept count : ℕ) → length magic ≡ 8 → length text ≤ 65536
+    → 16 + length text ≤ count
     → HasText magic text count (made magic text kept count)
 made_text magic text kept count eight short enough =
     let rest : List ℕ = to_le_bytes w32 kept ++ replicate (count - (16 + length text)) 0 in
     let bytes : List ℕ = made magic text kept count in
-    let counted : kept_length bytes ≡ length text = begun_kept magic (length text) (text ++ rest) eight (omega (arith, short)) in
+    let counted : kept_length bytes ≡ length text = begun_kept magic (length text) (text ++ rest)
+    eight (omega (arith, short)) in
     record {
       head = record {
         all = made_long magic text kept count eight enough;
@@ -105,22 +128,33 @@ made_text magic text kept count eight short enough =
         kept = counted;
         short = short;
       };
-      text_is = ap (λ (k : ℕ). take k (drop 12 bytes)) counted ∙ ap (take (length text)) (begun_behind magic (length text) (text ++ rest) eight) ∙ before (length text) text rest refl;
+      text_is = ap (λ (k : ℕ). take k (drop 12 bytes)) counted ∙ ap (take (length text))
+          (begun_behind magic (length text) (text ++ rest) eight)
+          ∙ before (length text) text rest refl;
     }
 
 -- and the size
-pub made_size : (magic text : List ℕ) (kept count : ℕ) → length magic ≡ 8 → length text ≤ 65536 → kept < 2 ^ 32
+pub made_size : (magic text : List ℕ) (kept count : ℕ) → length magic ≡ 8 → length text ≤ 65536
+    → kept < 2 ^ 32
     → kept_size (made magic text kept count) ≡ kept
 made_size magic text kept count eight short fits =
     let number : List ℕ = to_le_bytes w32 (length text) in
     let zeros : List ℕ = replicate (count - (16 + length text)) 0 in
     let rest : List ℕ = to_le_bytes w32 kept ++ zeros in
     let bytes : List ℕ = made magic text kept count in
-    let counted : kept_length bytes ≡ length text = begun_kept magic (length text) (text ++ rest) eight (omega (arith, short)) in
+    let counted : kept_length bytes ≡ length text = begun_kept magic (length text) (text ++ rest)
+    eight (omega (arith, short)) in
     let flat : bytes ≡ ((magic ++ number) ++ text) ++ rest =
-    sym (append_assoc magic number (text ++ rest)) ∙ sym (append_assoc (magic ++ number) text rest) in
+    sym (append_assoc magic number (text ++ rest))
+    ∙ sym (append_assoc (magic ++ number) text rest) in
     let place : length ((magic ++ number) ++ text) ≡ 12 + length text =
-    omega (arith, eight, length-append (magic ++ number) text, length-append magic number, length-to_le_bytes (length text)) in
+    omega (
+      arith,
+      eight,
+      length-append (magic ++ number) text,
+      length-append magic number,
+      length-to_le_bytes (length text),
+    ) in
     ap (λ (k : ℕ). number_at (12 + k) bytes) counted ∙ ap (number_at (12 + length text)) flat
     ∙ number_behind (12 + length text) kept ((magic ++ number) ++ text) zeros place fits
 
@@ -137,7 +171,8 @@ abbrev pub unlike : List ℕ → List ℕ
 unlike magic = other_than (get_or magic 0 0) ∷ replicate 15 0
 
 pub unlike_bytes : (magic : List ℕ) → AreBytes (unlike magic)
-unlike_bytes magic = AreBytes-append (other_than (get_or magic 0 0) ∷ []) (replicate 15 0) (small (get_or magic 0 0)) (AreBytes-zeros 15)
+unlike_bytes magic = AreBytes-append (other_than (get_or magic 0 0) ∷ []) (replicate 15 0)
+    (small (get_or magic 0 0)) (AreBytes-zeros 15)
   where
     small : (n i : ℕ) → get_or (other_than n ∷ []) i 0 < 256
     small zero zero = lit< tt
@@ -150,4 +185,6 @@ unlike_begins magic = by_test (bytes_eq (take 8 (unlike magic)) magic) refl
     by_test : (b : Bool) → bytes_eq (take 8 (unlike magic)) magic ≡ b → b ≡ false
     by_test false is = refl
     by_test true is =
-        absurd (differs (get_or magic 0 0) (ap (λ (l : List ℕ). get_or l 0 0) ((bytes_eq-Decides (take 8 (unlike magic)) magic).0 is)))
+        absurd (differs (get_or magic 0 0)
+        (ap (λ (l : List ℕ). get_or l 0 0)
+        ((bytes_eq-Decides (take 8 (unlike magic)) magic).0 is)))

@@ -29,8 +29,8 @@ UnlessOutside Failed P = ⊤
 UnlessOutside NoMemory P = ⊤
 UnlessOutside fault P = P
 
--- neither count falls, and an answer of the call's own leaves both; a failure has raised the count of
--- faults, and want of memory is free
+-- neither count falls, and an answer of the call's own leaves both; a failure has raised the count
+-- of faults, and want of memory is free
 pub record TableCauses {T : Type 0} (faults_before faults_now wants_before wants_now : ℕ)
     (result : Result T TableFault) : Type 0 where
   pub later : faults_before ≤ faults_now

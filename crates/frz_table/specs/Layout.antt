@@ -1,4 +1,5 @@
--- The bytes of a table file: a header of magic, length of the text, text and size, then White's codes, then Black's.
+-- The bytes of a table file: a header of magic, length of the
+-- text, text and size, then White's codes, then Black's.
 use Rattle.std.specs.Prelude.{ℕ, ◌+◌, ◌*◌, ◌/◌, List, ◌++◌, length, drop, codes}
 use Rattle.std.specs.Int.{w32, to_le_bytes}
 use Rattle.frz_board.specs.declared.man.Colour.{Colour}
@@ -13,10 +14,12 @@ magic_of Plain = codes "FREEZER2"
 magic_of Chained = codes "FREEZERC"
 
 abbrev pub header_of : List ℕ → List ℕ → ℕ → List ℕ
-header_of magic text size = magic ++ (to_le_bytes w32 (length text) ++ (text ++ to_le_bytes w32 size))
+header_of magic text size =
+    magic ++ (to_le_bytes w32 (length text) ++ (text ++ to_le_bytes w32 size))
 
 abbrev pub file_of : List ℕ → List ℕ → ℕ → List ℕ → List ℕ → List ℕ
-file_of magic text size white black = header_of magic text size ++ (number_bytes white ++ number_bytes black)
+file_of magic text size white black =
+    header_of magic text size ++ (number_bytes white ++ number_bytes black)
 
 -- how many bytes a file of this text and this size has
 abbrev pub due_length : List ℕ → ℕ → ℕ

@@ -1,4 +1,5 @@
--- Table files of the former format: opened as others are, but with another magic and another size, which is limited.
+-- Table files of the former format: opened as others are, but
+-- with another magic and another size, which is limited.
 use Rattle.std.specs.Prelude.{ℕ, ◌≤◌, nat_lt, List, Option, Result, Ok, Err, codes, if◌then◌else◌}
 use Rattle.frz_combinations.specs.Binomials.{capped}
 use Rattle.frz_sets.specs.Views.{RuleLines}
@@ -20,7 +21,8 @@ old_magic = codes "FREEZER1"
 abbrev pub limited : RuleLines → Result RuleLines RulesFault
 limited rules =
     if nat_lt MOST_OLD_NUMBERS (old_size_of rules.groups)
-    then Err (record { line = 0; cause = SetTooBig (capped (old_size_of rules.groups)) }) else Ok rules
+    then Err (record { line = 0; cause = SetTooBig (capped (old_size_of rules.groups)) })
+    else Ok rules
 
 abbrev pub limited_read : Result RuleLines RulesFault → Result RuleLines RulesFault
 limited_read (Err fault) = Err fault
@@ -32,7 +34,8 @@ old_rules_of text = limited_read (rules_of text)
 
 -- the former format of table files
 abbrev pub old_format : Format
-old_format = record { magic = old_magic; read = old_rules_of; size = λ rules. old_size_of rules.groups }
+old_format =
+    record { magic = old_magic; read = old_rules_of; size = λ rules. old_size_of rules.groups }
 
 -- what contracts see of an open file of the former format
 pub record OldTable : Type 0 where

@@ -13,14 +13,16 @@ use Rattle.frz_table.specs.Numbers.{number_at}
 use Rattle.frz_table.specs.Layout.{magic_of, due_length}
 use Rattle.frz_table.specs.Tables.{Table, IsTableFile}
 
--- what tells one format of table files from another: its magic, how it reads a text, and the size of rules
+-- what tells one format of table files from another: its magic,
+-- how it reads a text, and the size of rules
 pub record Format : Type 0 where
   pub magic : List ℕ
   pub read : List ℕ → Result RuleLines RulesFault
   pub size : RuleLines → ℕ
 
 abbrev pub table_format : FileKind → Format
-table_format kind = record { magic = magic_of kind; read = rules_of; size = λ rules. size_of rules.groups }
+table_format kind =
+    record { magic = magic_of kind; read = rules_of; size = λ rules. size_of rules.groups }
 
 -- what a file gives that opens
 pub record Contents : Type 0 where
@@ -55,7 +57,8 @@ with_rules format bytes (Ok rules) =
 
 abbrev pub with_text : Format → List ℕ → Result Contents TableFault
 with_text format bytes =
-    if nat_lt (length bytes) (16 + kept_length bytes) then Err (Truncated (length bytes) (16 + kept_length bytes))
+    if nat_lt (length bytes) (16 + kept_length bytes)
+    then Err (Truncated (length bytes) (16 + kept_length bytes))
     else with_rules format bytes (format.read (kept_text bytes))
 
 abbrev pub with_length : Format → List ℕ → Result Contents TableFault
@@ -73,25 +76,29 @@ opened format None = Err Missing
 opened format (Some bytes) =
     if nat_lt (length bytes) 16 then Err (Truncated (length bytes) 16) else with_magic format bytes
 
--- how many calls of the store open what a name holds: one asks for its length, and one each reads the
--- magic, the length of the text, the text and the size, until a step refuses
+-- how many calls of the store open what a name holds: one asks for its length, and one each reads
+-- the magic, the length of the text, the text and the size, until a step refuses
 abbrev pub calls_by_rules : Result RuleLines RulesFault → ℕ
 calls_by_rules (Err fault) = 4
 calls_by_rules (Ok rules) = 5
 
 abbrev pub calls_by_text : Format → List ℕ → ℕ
 calls_by_text format bytes =
-    if nat_lt (length bytes) (16 + kept_length bytes) then 3 else calls_by_rules (format.read (kept_text bytes))
+    if nat_lt (length bytes) (16 + kept_length bytes) then 3 else calls_by_rules
+    (format.read (kept_text bytes))
 
 abbrev pub calls_by_length : Format → List ℕ → ℕ
-calls_by_length format bytes = if nat_lt 65536 (kept_length bytes) then 3 else calls_by_text format bytes
+calls_by_length format bytes =
+    if nat_lt 65536 (kept_length bytes) then 3 else calls_by_text format bytes
 
 abbrev pub calls_by_magic : Format → List ℕ → ℕ
-calls_by_magic format bytes = if bytes_eq (take 8 bytes) format.magic then calls_by_length format bytes else 2
+calls_by_magic format bytes =
+    if bytes_eq (take 8 bytes) format.magic then calls_by_length format bytes else 2
 
 unfoldable pub opening_calls : Format → Option (List ℕ) → ℕ
 opening_calls format None = 1
-opening_calls format (Some bytes) = if nat_lt (length bytes) 16 then 1 else calls_by_magic format bytes
+opening_calls format (Some bytes) =
+    if nat_lt (length bytes) 16 then 1 else calls_by_magic format bytes
 
 abbrev pub contents_of : Table → Contents
 contents_of table = record { text = table.text; rules = table.rules }

@@ -11,7 +11,8 @@ use Rattle.frz_table.specs.Opening.{Format, Contents, Refuses, opened, opening_c
 use Rattle.frz_table.specs.Steps.{IsFormatOf, HasText, SizeRefused}
 use Rattle.frz_table.specs.Tables.{Table, IsTableFile, table_size}
 
--- the name may hold this: what the store tells that it holds, and any bytes or none where it does not tell
+-- the name may hold this: what the store tells that it holds,
+-- and any bytes or none where it does not tell
 abbrev pub MayHold : Option Files → List ℕ → Option (List ℕ) → Type 0
 MayHold None name held = IfSome held AreBytes
 MayHold (Some m) name held = m name ≡ held
@@ -25,13 +26,16 @@ abbrev pub AskedFor : Option (List ℕ) → (before now : ℕ) → Type 0
 AskedFor held before now = now ≤ before + (16 + length (held_text held))
 
 -- the name may hold bytes that open so
-pub record MayOpen (format : Format) (files : Option Files) (name : List ℕ) (contents : Contents) : Type 0 where
+pub record MayOpen (format : Format) (files : Option Files) (name : List ℕ)
+    (contents : Contents) : Type 0 where
   pub bytes : List ℕ
   pub may : MayHold files name (Some bytes)
   pub opens : opened format (Some bytes) ≡ Ok contents
 
--- the name may hold what is refused so, and no more bytes and calls were asked of the store than open it
-pub record MayRefuse (format : Format) (name : List ℕ) (old new : StoreTold) (fault : TableFault) : Type 0 where
+-- the name may hold what is refused so, and no more bytes and
+-- calls were asked of the store than open it
+pub record MayRefuse (format : Format) (name : List ℕ) (old new : StoreTold)
+    (fault : TableFault) : Type 0 where
   pub held : Option (List ℕ)
   pub may : MayHold old.files name held
   pub refuses : Refuses (opened format held) fault
@@ -58,10 +62,12 @@ pub record SomeRefused (magic : List ℕ) (old new : StoreTold) (fault : TableFa
   pub bytes : IfSome held AreBytes
   pub refuses : (format : Format) → IsFormatOf magic format → Refuses (opened format held) fault
   pub asked : AskedFor held old.asked new.asked
-  pub calls : (format : Format) → IsFormatOf magic format → new.calls ≤ old.calls + opening_calls format held
+  pub calls : (format : Format) → IsFormatOf magic format
+      → new.calls ≤ old.calls + opening_calls format held
 
 -- some bytes with this text are refused so by the last two steps
-pub record SomeSizeRefused (magic text : List ℕ) (count size : ℕ) (fault : TableFault) : Type 0 where
+pub record SomeSizeRefused (magic text : List ℕ) (count size : ℕ)
+    (fault : TableFault) : Type 0 where
   pub held : List ℕ
   pub bytes : AreBytes held
   pub has_text : HasText magic text count held

@@ -13,17 +13,20 @@ use Rattle.frz_table.specs.Opening.{Format, Refuses, opened, opening_calls, kept
 -- a format with this magic that refuses what the reader of rules refuses
 pub record IsFormatOf (magic : List ℕ) (format : Format) : Type 0 where
   pub magic_is : format.magic ≡ magic
-  pub refuses : (text : List ℕ) (fault : RulesFault) → rules_of text ≡ Err fault → format.read text ≡ Err fault
+  pub refuses : (text : List ℕ) (fault : RulesFault) → rules_of text ≡ Err fault
+      → format.read text ≡ Err fault
 
 -- where the store tells, each format of this magic refuses the name so
 abbrev pub AllRefuse : List ℕ → Option Files → List ℕ → TableFault → Type 0
 AllRefuse magic files name fault =
-    IfSome files (λ m. (format : Format) → IsFormatOf magic format → Refuses (opened format (m name)) fault)
+    IfSome files (λ m. (format : Format) → IsFormatOf magic format
+    → Refuses (opened format (m name)) fault)
 
 -- where the store tells, each format of this magic opens the name by so many calls or more
 abbrev pub AllCall : List ℕ → Option Files → List ℕ → (before now : ℕ) → Type 0
 AllCall magic files name before now =
-    IfSome files (λ m. (format : Format) → IsFormatOf magic format → now ≤ before + opening_calls format (m name))
+    IfSome files (λ m. (format : Format) → IsFormatOf magic format
+    → now ≤ before + opening_calls format (m name))
 
 -- the magic is there, and so many bytes of so many are the text
 pub record HasHead (magic : List ℕ) (count text_count : ℕ) (bytes : List ℕ) : Type 0 where
@@ -49,9 +52,12 @@ SizeRefused text size fault bytes =
     (rules : RuleLines) → Refuses (of_size bytes (record { text = text; rules = rules }) size) fault
 
 -- the lists are both sides' codes in the file of this name, text and size, where the store tells
-pub record AreLoaded (files : Option Files) (name text : List ℕ) (size : ℕ) (white black : List ℕ) : Type 0 where
-  pub white_is : IfSome files (λ m. IfSome (m name) (λ bytes. white ≡ codes_at White text size bytes))
-  pub black_is : IfSome files (λ m. IfSome (m name) (λ bytes. black ≡ codes_at Black text size bytes))
+pub record AreLoaded (files : Option Files) (name text : List ℕ) (size : ℕ)
+    (white black : List ℕ) : Type 0 where
+  pub white_is : IfSome files
+      (λ m. IfSome (m name) (λ bytes. white ≡ codes_at White text size bytes))
+  pub black_is : IfSome files
+      (λ m. IfSome (m name) (λ bytes. black ≡ codes_at Black text size bytes))
   pub white_long : length white ≡ size
   pub black_long : length black ≡ size
   pub white_fit : AreNumbers white

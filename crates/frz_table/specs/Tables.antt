@@ -25,7 +25,8 @@ pub record IsRead (text : List ℕ) (rules : RuleLines) : Type 0 where
   pub sound : IsSound rules
   pub bytes : AreBytes text
 
--- the bytes have this magic, the text's length, the text and this size in their places, and the length due
+-- the bytes have this magic, the text's length, the text and
+-- this size in their places, and the length due
 pub record IsTableFile (magic text : List ℕ) (size : ℕ) (bytes : List ℕ) : Type 0 where
   pub begins : take 8 bytes ≡ magic
   pub counted : number_at 8 bytes ≡ length text

@@ -32,7 +32,8 @@ pub(crate) fn load_codes<S: Store>(
     text: &[u8],
     size: u32,
 ) -> Result<(Vec<u32>, Vec<u32>), TableFault>
-    requires { Holds (S.files store.old) name.now (λ bytes. length bytes ≡ due_length text.now size) }
+    requires { Holds (S.files store.old) name.now
+        (λ bytes. length bytes ≡ due_length text.now size) }
     ensures loaded { IfOk result (λ lists.
         AreLoaded (S.files store.old) name.now text.now size lists.0.items lists.1.items) }
     ensures quiet { StoreQuiet (store_of S.Store store.old) (store_of S.Store store.new) }

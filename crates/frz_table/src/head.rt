@@ -56,7 +56,8 @@ pub(crate) fn read_head<S: Store>(
     ensures quiet { StoreQuiet (store_of S.Store store.old) (store_of S.Store store.new) }
     ensures asked { S.asked store.new ≤ S.asked store.old + 12 }
     ensures calls { S.calls store.new ≤ S.calls store.old + 3 }
-    ensures calls_told { AllCall magic.now (S.files store.old) name.now (S.calls store.old) (S.calls store.new) }
+    ensures calls_told { AllCall magic.now (S.files store.old) name.now (S.calls store.old)
+        (S.calls store.new) }
     ensures causes { TableCauses (S.faults store.old) (S.faults store.new)
         (S.wants store.old) (S.wants store.new) result }
 {

@@ -33,7 +33,8 @@ pub fn one_reading()
 /// What was loaded gives the same bytes when it is written.
 pub fn loaded_and_written()
     ensures { (magic text : List ℕ) (size : ℕ) (bytes : List ℕ) → IsTableFile magic text size bytes
-        → AreBytes bytes → file_of magic text size (codes_at White text size bytes) (codes_at Black text size bytes)
+        → AreBytes bytes → file_of magic text size (codes_at White text size bytes)
+        (codes_at Black text size bytes)
         ≡ bytes }
 {}
 

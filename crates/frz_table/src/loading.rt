@@ -20,8 +20,10 @@ impl TableFile {
     pub fn entry<S: Store>(&self, store: &mut S, side: Colour, i: u32) -> Result<u32, StoreFault>
         requires number { i < table_size self.now }
         requires carried { Carries (S.files store.old) self.now }
-        ensures code { IfOk result (λ code. IfSome (S.files store.old) (λ m. IfSome (m self.now.name)
-            (λ bytes. slice_get (codes_at side self.now.text (table_size self.now) bytes) i ≡ Some code))) }
+        ensures code { IfOk result
+            (λ code. IfSome (S.files store.old) (λ m. IfSome (m self.now.name)
+            (λ bytes. slice_get (codes_at side self.now.text (table_size self.now) bytes) i
+            ≡ Some code))) }
         ensures quiet { StoreQuiet (store_of S.Store store.old) (store_of S.Store store.new) }
         ensures asked { S.asked store.new ≤ S.asked store.old + 4 }
         ensures calls { IsNext (S.calls store.old) (S.calls store.new) }
@@ -39,16 +41,20 @@ impl TableFile {
         store: &mut S,
     ) -> Result<(Vec<u32>, Vec<u32>), TableFault>
         requires { Carries (S.files store.old) self.now }
-        ensures white { IfOk result (λ lists. IfSome (S.files store.old) (λ m. IfSome (m self.now.name)
+        ensures white { IfOk result
+            (λ lists. IfSome (S.files store.old) (λ m. IfSome (m self.now.name)
             (λ bytes. lists.0.items ≡ codes_at White self.now.text (table_size self.now) bytes))) }
-        ensures black { IfOk result (λ lists. IfSome (S.files store.old) (λ m. IfSome (m self.now.name)
+        ensures black { IfOk result
+            (λ lists. IfSome (S.files store.old) (λ m. IfSome (m self.now.name)
             (λ bytes. lists.1.items ≡ codes_at Black self.now.text (table_size self.now) bytes))) }
-        ensures may_keep { IfOk result (λ lists. MayKeep (S.files store.old) self.now lists.0.items lists.1.items) }
+        ensures may_keep { IfOk result
+            (λ lists. MayKeep (S.files store.old) self.now lists.0.items lists.1.items) }
         ensures white_size { IfOk result (λ lists. length lists.0.items ≡ table_size self.now) }
         ensures black_size { IfOk result (λ lists. length lists.1.items ≡ table_size self.now) }
         ensures quiet { StoreQuiet (store_of S.Store store.old) (store_of S.Store store.new) }
         ensures asked { S.asked store.new ≤ S.asked store.old + 8 * table_size self.now }
-        ensures calls { S.calls store.new ≤ S.calls store.old + 2 * pieces_of (table_size self.now) }
+        ensures calls { S.calls store.new ≤ S.calls store.old + 2 * pieces_of
+            (table_size self.now) }
         ensures outside { IfErr result IsOutside }
         ensures causes { TableCauses (S.faults store.old) (S.faults store.new)
             (S.wants store.old) (S.wants store.new) result }

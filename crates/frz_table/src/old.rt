@@ -37,7 +37,8 @@ impl Model for OldFile {
 
     ghost Value = { OldTable };
 
-    ghost view = { λ t. record { name = string_bytes t.name; text = t.text.items; rules = t.rules } };
+    ghost view = { λ t.
+        record { name = string_bytes t.name; text = t.text.items; rules = t.rules } };
 
     ghost invariant = { λ t. IsOldRead t.text.items t.rules };
 }
@@ -72,7 +73,8 @@ pub fn open_old<S: Store>(alloc: Global, store: &mut S, name: &str) -> Result<Ol
         (λ m. opened old_format (m name.now) ≡ Ok (old_contents_of t))) }
     ensures refused { IfErr result (λ f. IfSome (S.files store.old)
         (λ m. Refuses (opened old_format (m name.now)) f)) }
-    ensures may_open { IfOk result (λ t. MayOpen old_format (S.files store.old) name.now (old_contents_of t)) }
+    ensures may_open { IfOk result
+        (λ t. MayOpen old_format (S.files store.old) name.now (old_contents_of t)) }
     ensures may_refuse { IfErr result (MayRefuse old_format name.now
         (store_of S.Store store.old) (store_of S.Store store.new)) }
     ensures name { IfOk result (λ t. t.name ≡ name.now) }
@@ -80,7 +82,8 @@ pub fn open_old<S: Store>(alloc: Global, store: &mut S, name: &str) -> Result<Ol
 
     // Nothing is written; at most 16 bytes and the text are asked for, in five calls.
     ensures quiet { StoreQuiet (store_of S.Store store.old) (store_of S.Store store.new) }
-    ensures asked { IfOk result (λ t. S.asked store.new ≤ S.asked store.old + (16 + length t.text)) }
+    ensures asked { IfOk result
+        (λ t. S.asked store.new ≤ S.asked store.old + (16 + length t.text)) }
     ensures asked_told { IfSome (S.files store.old) (λ m. S.asked store.new
         ≤ S.asked store.old + (16 + length (kept_text (bytes_at m name.now)))) }
     ensures asked_bound { S.asked store.new ≤ S.asked store.old + (16 + 65536) }
@@ -142,16 +145,22 @@ impl OldFile {
         store: &mut S,
     ) -> Result<(Vec<u32>, Vec<u32>), TableFault>
         requires { CarriesOld (S.files store.old) self.now }
-        ensures white { IfOk result (λ lists. IfSome (S.files store.old) (λ m. IfSome (m self.now.name)
-            (λ bytes. lists.0.items ≡ codes_at White self.now.text (old_table_size self.now) bytes))) }
-        ensures black { IfOk result (λ lists. IfSome (S.files store.old) (λ m. IfSome (m self.now.name)
-            (λ bytes. lists.1.items ≡ codes_at Black self.now.text (old_table_size self.now) bytes))) }
-        ensures may_keep { IfOk result (λ lists. MayKeepOld (S.files store.old) self.now lists.0.items lists.1.items) }
+        ensures white { IfOk result
+            (λ lists. IfSome (S.files store.old) (λ m. IfSome (m self.now.name)
+            (λ bytes. lists.0.items ≡ codes_at White self.now.text (old_table_size self.now)
+            bytes))) }
+        ensures black { IfOk result
+            (λ lists. IfSome (S.files store.old) (λ m. IfSome (m self.now.name)
+            (λ bytes. lists.1.items ≡ codes_at Black self.now.text (old_table_size self.now)
+            bytes))) }
+        ensures may_keep { IfOk result
+            (λ lists. MayKeepOld (S.files store.old) self.now lists.0.items lists.1.items) }
         ensures white_size { IfOk result (λ lists. length lists.0.items ≡ old_table_size self.now) }
         ensures black_size { IfOk result (λ lists. length lists.1.items ≡ old_table_size self.now) }
         ensures quiet { StoreQuiet (store_of S.Store store.old) (store_of S.Store store.new) }
         ensures asked { S.asked store.new ≤ S.asked store.old + 8 * old_table_size self.now }
-        ensures calls { S.calls store.new ≤ S.calls store.old + 2 * pieces_of (old_table_size self.now) }
+        ensures calls { S.calls store.new ≤ S.calls store.old + 2 * pieces_of
+            (old_table_size self.now) }
         ensures outside { IfErr result IsOutside }
         ensures causes { TableCauses (S.faults store.old) (S.faults store.new)
             (S.wants store.old) (S.wants store.new) result }

@@ -27,7 +27,8 @@ pub fn open_kind<S: Store>(
         (λ m. opened (table_format kind) (m name.now) ≡ Ok (contents_of t))) }
     ensures refused { IfErr result (λ f. IfSome (S.files store.old)
         (λ m. Refuses (opened (table_format kind) (m name.now)) f)) }
-    ensures may_open { IfOk result (λ t. MayOpen (table_format kind) (S.files store.old) name.now (contents_of t)) }
+    ensures may_open { IfOk result
+        (λ t. MayOpen (table_format kind) (S.files store.old) name.now (contents_of t)) }
     ensures may_refuse { IfErr result (MayRefuse (table_format kind) name.now
         (store_of S.Store store.old) (store_of S.Store store.new)) }
     ensures name { IfOk result (λ t. t.name ≡ name.now) }
@@ -36,7 +37,8 @@ pub fn open_kind<S: Store>(
 
     // Nothing is written; at most 16 bytes and the text are asked for, in five calls.
     ensures quiet { StoreQuiet (store_of S.Store store.old) (store_of S.Store store.new) }
-    ensures asked { IfOk result (λ t. S.asked store.new ≤ S.asked store.old + (16 + length t.text)) }
+    ensures asked { IfOk result
+        (λ t. S.asked store.new ≤ S.asked store.old + (16 + length t.text)) }
     ensures asked_told { IfSome (S.files store.old) (λ m. S.asked store.new
         ≤ S.asked store.old + (16 + length (kept_text (bytes_at m name.now)))) }
     ensures asked_bound { S.asked store.new ≤ S.asked store.old + (16 + 65536) }
@@ -67,14 +69,16 @@ pub fn open_table<S: Store>(
         (λ m. opened (table_format Plain) (m name.now) ≡ Ok (contents_of t))) }
     ensures refused { IfErr result (λ f. IfSome (S.files store.old)
         (λ m. Refuses (opened (table_format Plain) (m name.now)) f)) }
-    ensures may_open { IfOk result (λ t. MayOpen (table_format Plain) (S.files store.old) name.now (contents_of t)) }
+    ensures may_open { IfOk result
+        (λ t. MayOpen (table_format Plain) (S.files store.old) name.now (contents_of t)) }
     ensures may_refuse { IfErr result (MayRefuse (table_format Plain) name.now
         (store_of S.Store store.old) (store_of S.Store store.new)) }
     ensures name { IfOk result (λ t. t.name ≡ name.now) }
     ensures kind { IfOk result (λ t. t.kind ≡ Plain) }
     ensures carries { IfOk result (Carries (S.files store.new)) }
     ensures quiet { StoreQuiet (store_of S.Store store.old) (store_of S.Store store.new) }
-    ensures asked { IfOk result (λ t. S.asked store.new ≤ S.asked store.old + (16 + length t.text)) }
+    ensures asked { IfOk result
+        (λ t. S.asked store.new ≤ S.asked store.old + (16 + length t.text)) }
     ensures asked_told { IfSome (S.files store.old) (λ m. S.asked store.new
         ≤ S.asked store.old + (16 + length (kept_text (bytes_at m name.now)))) }
     ensures asked_bound { S.asked store.new ≤ S.asked store.old + (16 + 65536) }

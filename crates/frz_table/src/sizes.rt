@@ -20,14 +20,17 @@ pub(crate) fn check_size<S: Store>(
     opened: &Text,
     size: u32,
 ) -> Result<(), TableFault>
-    requires text { Holds (S.files store.old) name.now (HasText magic.now opened.now.text.items opened.now.file) }
+    requires text { Holds (S.files store.old) name.now
+        (HasText magic.now opened.now.text.items opened.now.file) }
     requires short { length opened.now.text.items ≤ 65536 }
     requires are_bytes { AreBytes opened.now.text.items }
     requires fits { 16 + length opened.now.text.items ≤ opened.now.file }
-    ensures sized { OnOk result (Holds (S.files store.old) name.now (HasSize opened.now.text.items size)) }
+    ensures sized { OnOk result
+        (Holds (S.files store.old) name.now (HasSize opened.now.text.items size)) }
     ensures refused { IfErr result (λ f. Holds (S.files store.old) name.now
         (SizeRefused opened.now.text.items size f)) }
-    ensures some_refused { IfErr result (SomeSizeRefused magic.now opened.now.text.items opened.now.file size) }
+    ensures some_refused { IfErr result
+        (SomeSizeRefused magic.now opened.now.text.items opened.now.file size) }
     ensures quiet { StoreQuiet (store_of S.Store store.old) (store_of S.Store store.new) }
     ensures asked { S.asked store.new ≤ S.asked store.old + 4 }
     ensures calls { S.calls store.new ≤ S.calls store.old + 1 }

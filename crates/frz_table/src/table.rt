@@ -25,7 +25,12 @@ impl Model for TableFile {
 
     ghost Value = { Table };
 
-    ghost view = { λ t. record { name = string_bytes t.name; kind = t.kind; text = t.text.items; rules = t.rules } };
+    ghost view = { λ t. record {
+      name = string_bytes t.name;
+      kind = t.kind;
+      text = t.text.items;
+      rules = t.rules;
+    } };
 
     ghost invariant = { λ t. IsRead t.text.items t.rules × (t.set ≡ t.rules.groups) };
 }

@@ -64,12 +64,14 @@ pub(crate) fn open_text<S: Store>(
     ensures some_refused { IfErr result (SomeRefused magic.now
         (store_of S.Store store.old) (store_of S.Store store.new)) }
     ensures quiet { StoreQuiet (store_of S.Store store.old) (store_of S.Store store.new) }
-    ensures asked { IfOk result (λ t. S.asked store.new ≤ S.asked store.old + (12 + length t.text.items)) }
+    ensures asked { IfOk result
+        (λ t. S.asked store.new ≤ S.asked store.old + (12 + length t.text.items)) }
     ensures asked_told { IfSome (S.files store.old) (λ m. S.asked store.new
         ≤ S.asked store.old + (12 + length (kept_text (bytes_at m name.now)))) }
     ensures asked_bound { S.asked store.new ≤ S.asked store.old + (12 + 65536) }
     ensures calls { S.calls store.new ≤ S.calls store.old + 4 }
-    ensures calls_told { AllCall magic.now (S.files store.old) name.now (S.calls store.old) (S.calls store.new) }
+    ensures calls_told { AllCall magic.now (S.files store.old) name.now (S.calls store.old)
+        (S.calls store.new) }
     ensures causes { TableCauses (S.faults store.old) (S.faults store.new)
         (S.wants store.old) (S.wants store.new) result }
 {

@@ -33,9 +33,11 @@ pub fn write_header_kind<S: Store>(
     requires text { length text.now < 2 ^ 32 }
     requires room { 16 + length text.now ≤ S.room store.old }
     ensures files { OnOk result (S.files store.new
-        ≡ option_map (grown (S.last store.old) (header_of (magic_of kind) text.now size)) (S.files store.old)) }
+        ≡ option_map (grown (S.last store.old) (header_of (magic_of kind) text.now size))
+        (S.files store.old)) }
     ensures failed_files { OnErr result ((k : ℕ) × (S.files store.new
-        ≡ option_map (grown (S.last store.old) (take k (header_of (magic_of kind) text.now size))) (S.files store.old))) }
+        ≡ option_map (grown (S.last store.old) (take k (header_of (magic_of kind) text.now size)))
+        (S.files store.old))) }
     ensures last { S.last store.new ≡ S.last store.old }
     ensures room { OnOk result (S.room store.new + (16 + length text.now) ≡ S.room store.old) }
     ensures asked { S.asked store.new ≡ S.asked store.old }
@@ -54,9 +56,11 @@ pub fn write_header<S: Store>(store: &mut S, text: &[u8], size: u32) -> Result<(
     requires text { length text.now < 2 ^ 32 }
     requires room { 16 + length text.now ≤ S.room store.old }
     ensures files { OnOk result (S.files store.new
-        ≡ option_map (grown (S.last store.old) (header_of (magic_of Plain) text.now size)) (S.files store.old)) }
+        ≡ option_map (grown (S.last store.old) (header_of (magic_of Plain) text.now size))
+        (S.files store.old)) }
     ensures failed_files { OnErr result ((k : ℕ) × (S.files store.new
-        ≡ option_map (grown (S.last store.old) (take k (header_of (magic_of Plain) text.now size))) (S.files store.old))) }
+        ≡ option_map (grown (S.last store.old) (take k (header_of (magic_of Plain) text.now size)))
+        (S.files store.old))) }
     ensures last { S.last store.new ≡ S.last store.old }
     ensures room { OnOk result (S.room store.new + (16 + length text.now) ≡ S.room store.old) }
     ensures asked { S.asked store.new ≡ S.asked store.old }
@@ -74,7 +78,8 @@ pub fn write_entries<S: Store>(store: &mut S, codes: &[u32]) -> Result<(), Faile
     ensures files { OnOk result (0 < length codes.now → S.files store.new
         ≡ option_map (grown (S.last store.old) (number_bytes codes.now)) (S.files store.old)) }
     ensures failed_files { OnErr result ((k : ℕ) × (S.files store.new
-        ≡ option_map (grown (S.last store.old) (take k (number_bytes codes.now))) (S.files store.old))) }
+        ≡ option_map (grown (S.last store.old) (take k (number_bytes codes.now)))
+        (S.files store.old))) }
     ensures empty { length codes.now ≡ 0 → store.new ≡ store.old }
     ensures last { S.last store.new ≡ S.last store.old }
     ensures room { OnOk result (S.room store.new + 4 * length codes.now ≡ S.room store.old) }

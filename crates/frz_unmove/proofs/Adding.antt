@@ -65,7 +65,8 @@ adds_one P old new y e h same = record {
 -- those of two kinds, one after the other
 pub adds_both : {A : Type 0} (P Q R : A → Type 0) (old mid new : List A) (a b n : ℕ) →
     Adds P old mid a → Adds Q mid new b → a + b ≤ n →
-    ((x : A) → P x → Q x → ⊥) → ((x : A) → P x → R x) → ((x : A) → Q x → R x) → ((x : A) → R x → P x ⊎ Q x) → Adds R old new n
+    ((x : A) → P x → Q x → ⊥) → ((x : A) → P x → R x) → ((x : A) → Q x → R x)
+    → ((x : A) → R x → P x ⊎ Q x) → Adds R old new n
 adds_both P Q R old mid new a b n f g room apart left right cases = record {
   more = f.more ++ g.more;
   is = g.is ∙ ap (λ xs. xs ++ g.more) f.is ∙ append_assoc old f.more g.more;

@@ -19,32 +19,43 @@ use Rattle.frz_unmove.proofs.Names.{same_parts}
 use Rattle.frz_unmove.proofs.Ways.{way_back}
 
 -- a move begins on one of the origins
-from_origin : (gs : List GroupLine) (q : Board) (x : Pred) (c : Comes gs q x) (man : Man) (word : ℕ) → mover_cell q x.mv ≡ cell_of_man man →
-    ((a : ℕ) → a < 64 → may_go (other_of man.colour) man.kind x.mv.to a ≡ true → is_empty q a ≡ true → has_square word a ≡ true) → has_square word x.mv.from ≡ true
+from_origin : (gs : List GroupLine) (q : Board) (x : Pred) (c : Comes gs q x) (man : Man)
+    (word : ℕ) → mover_cell q x.mv ≡ cell_of_man man →
+    ((a : ℕ) → a < 64 → may_go (other_of man.colour) man.kind x.mv.to a ≡ true → is_empty q a ≡ true
+    → has_square word a ≡ true) → has_square word x.mv.from ≡ true
 from_origin gs q x c man word e h =
-    h x.mv.from c.step.from (sym (way_back man.colour man.kind x.mv.from x.mv.to) ∙ way gs q x c man e) (vacated gs q x c)
+    h x.mv.from c.step.from
+    (sym (way_back man.colour man.kind x.mv.from x.mv.to) ∙ way gs q x c man e) (vacated gs q x c)
 
 from_origin_as : (gs : List GroupLine) (q : Board) (b : ℕ) (promo : Option Kind) (x : Pred) →
     ComesAs gs q b promo x → (man : Man) (word : ℕ) →
     ((a : ℕ) → mover_cell q (record { from = a; to = b; promo = promo }) ≡ cell_of_man man) →
-    ((a : ℕ) → a < 64 → may_go (other_of man.colour) man.kind b a ≡ true → is_empty q a ≡ true → has_square word a ≡ true) → has_square word x.mv.from ≡ true
+    ((a : ℕ) → a < 64 → may_go (other_of man.colour) man.kind b a ≡ true → is_empty q a ≡ true
+    → has_square word a ≡ true) → has_square word x.mv.from ≡ true
 from_origin_as gs q b promo x h man word e way_to =
-    let move : x.mv ≡ record { from = x.mv.from; to = b; promo = promo } = same_parts x.mv (record { from = x.mv.from; to = b; promo = promo }) refl h.0.1 h.1 in
+    let move : x.mv ≡ record { from = x.mv.from; to = b; promo = promo } = same_parts x.mv
+    (record { from = x.mv.from; to = b; promo = promo }) refl h.0.1 h.1 in
     from_origin gs q x h.0.0 man word (ap (mover_cell q) move ∙ e x.mv.from)
-    (λ a l w empty. way_to a l (ap (λ t. may_go (other_of man.colour) man.kind t a) (sym h.0.1) ∙ w) empty)
+    (λ a l w empty. way_to a l (ap (λ t. may_go (other_of man.colour) man.kind t a) (sym h.0.1) ∙ w)
+    empty)
 
 pub promo_cases_at : (gs : List GroupLine) (q : Board) (b : ℕ) (x : Pred) → ComesTo gs q b x →
     (man : Man) → man_on q b ≡ Some man →
-    (x.mv.promo ≡ None) ⊎ ((x.mv.promo ≡ Some man.kind) × ((is_last man.colour b && is_promotion (Some man.kind)) ≡ true))
+    (x.mv.promo ≡ None)
+    ⊎ ((x.mv.promo ≡ Some man.kind)
+    × ((is_last man.colour b && is_promotion (Some man.kind)) ≡ true))
 promo_cases_at gs q b x h man on =
-    subst (λ s. (x.mv.promo ≡ None) ⊎ ((x.mv.promo ≡ Some man.kind) × ((is_last man.colour s && is_promotion (Some man.kind)) ≡ true))) h.1
+    subst (λ s. (x.mv.promo ≡ None)
+    ⊎ ((x.mv.promo ≡ Some man.kind)
+    × ((is_last man.colour s && is_promotion (Some man.kind)) ≡ true))) h.1
     (promo_cases gs q x h.0 man (ap (man_on q) h.1 ∙ on))
 
 -- the words of the origins have where a move begins
 pub in_ways : (gs : List GroupLine) (q : Board) (b : ℕ) (promo : Option Kind) (x : Pred) →
     ComesAs gs q b promo x → (man : Man) (word : ℕ) →
     ((a : ℕ) → mover_cell q (record { from = a; to = b; promo = promo }) ≡ cell_of_man man) →
-    ((a : ℕ) → a < 64 → has_square word a ≡ (may_go (other_of man.colour) man.kind b a && is_empty q a)) →
+    ((a : ℕ) → a < 64 →
+    has_square word a ≡ (may_go (other_of man.colour) man.kind b a && is_empty q a)) →
     has_square word x.mv.from ≡ true
 in_ways gs q b promo x h man word e ways =
     from_origin_as gs q b promo x h man word e (λ a l w empty. ways a l ∙ and_from _ _ w empty)
@@ -52,11 +63,14 @@ in_ways gs q b promo x h man word e ways =
 pub in_room : (gs : List GroupLine) (q : Board) (b : ℕ) (promo : Option Kind) (x : Pred) →
     ComesAs gs q b promo x → (man : Man) (word kept : ℕ) → length q.cells ≡ 64 →
     ((a : ℕ) → mover_cell q (record { from = a; to = b; promo = promo }) ≡ cell_of_man man) →
-    ((a : ℕ) → a < 64 → has_square word a ≡ (may_go (other_of man.colour) man.kind b a && is_empty q a)) →
-    ((a : ℕ) → a < 64 → has_square kept a ≡ (has_square word a && has_room gs (taken_off q b) man a)) →
+    ((a : ℕ) → a < 64 →
+    has_square word a ≡ (may_go (other_of man.colour) man.kind b a && is_empty q a)) →
+    ((a : ℕ) → a < 64 →
+    has_square kept a ≡ (has_square word a && has_room gs (taken_off q b) man a)) →
     has_square kept x.mv.from ≡ true
 in_room gs q b promo x h man word kept size e ways room =
-    let move : x.mv ≡ record { from = x.mv.from; to = b; promo = promo } = same_parts x.mv (record { from = x.mv.from; to = b; promo = promo }) refl h.0.1 h.1 in
+    let move : x.mv ≡ record { from = x.mv.from; to = b; promo = promo } = same_parts x.mv
+    (record { from = x.mv.from; to = b; promo = promo }) refl h.0.1 h.1 in
     let begins = room_to_begin gs q x h.0.0 size man (ap (mover_cell q) move ∙ e x.mv.from) in
     room x.mv.from h.0.0.step.from
     ∙ and_from _ _ (in_ways gs q b promo x h man word e ways)

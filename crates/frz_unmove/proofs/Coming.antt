@@ -39,7 +39,8 @@ use Rattle.frz_unmove.specs.Gathering.{Comes, ComesTo, taken_of, target_of, firs
 use Rattle.frz_unmove.proofs.Undone.{next, after_is, mover_is, undone_next, promotes_pawn}
 
 -- a cell that is not the side's and no king of the other side is empty or one of five men
-taken_by : (d : Colour) (x : ℕ) → x < 13 → is_man_of d (man_of_cell x) ≡ false → (x == cell_of_man (record { colour = other_of d; kind = King })) ≡ false →
+taken_by : (d : Colour) (x : ℕ) → x < 13 → is_man_of d (man_of_cell x) ≡ false →
+    (x == cell_of_man (record { colour = other_of d; kind = King })) ≡ false →
     (x ≡ 0) ⊎ ((first_taken (other_of d) ≤ x) × (x < first_taken (other_of d) + 5))
 taken_by White x l h k = grind (arith, nat_tests)
 taken_by Black x l h k = grind (arith, nat_tests)
@@ -61,23 +62,32 @@ last_of false false h = cc
 
 promoted_last : (c : Colour) (b : ℕ) (j : Kind) → promotes c Pawn b (Some j) ≡ true →
     (is_last c b ≡ true) × (is_promotion (Some j) ≡ true)
-promoted_last c b j h =
-    (last_of (is_last c b) (is_promotion (Some j)) h, (and_parts (is_promotion (Some j)) (if is_last c b then true else false) h).0)
+promoted_last c b j h = (
+  last_of (is_last c b) (is_promotion (Some j)) h,
+  (and_parts (is_promotion (Some j)) (if is_last c b then true else false) h).0,
+)
 
 -- the same cell is the same man
 pub same_man : (m n : Man) → cell_of_man m ≡ cell_of_man n → m ≡ n
 same_man m n e =
     same_Some m n (sym (cell_forth m.colour m.kind) ∙ ap man_of_cell e ∙ cell_forth n.colour n.kind)
 
-promo_by : (c : Colour) (k : Kind) (b : ℕ) (promo : Option Kind) (man : Man) → promotes c k b promo ≡ true → arrives (record { colour = c; kind = k }) promo ≡ man →
-    (promo ≡ None) ⊎ ((promo ≡ Some man.kind) × ((is_last man.colour b && is_promotion (Some man.kind)) ≡ true))
+promo_by : (c : Colour) (k : Kind) (b : ℕ) (promo : Option Kind) (man : Man) →
+    promotes c k b promo ≡ true → arrives (record { colour = c; kind = k }) promo ≡ man →
+    (promo ≡ None) ⊎ ((promo ≡ Some man.kind)
+    × ((is_last man.colour b && is_promotion (Some man.kind)) ≡ true))
 promo_by c k b None man h e = inl refl
 promo_by c k b (Some j) man h e =
     let pawn = promotes_pawn c k b j h in
     let last = promoted_last c b j (ap (λ l. promotes c l b (Some j)) (sym pawn) ∙ h) in
     let kind : j ≡ man.kind = ap (λ (x : Man). x.kind) e in
     let side : c ≡ man.colour = ap (λ (x : Man). x.colour) e in
-    inr (ap Some kind, and_from (is_last man.colour b) (is_promotion (Some man.kind)) (ap (λ d. is_last d b) (sym side) ∙ last.0) (ap (λ l. is_promotion (Some l)) (sym kind) ∙ last.1))
+    inr (
+      ap Some kind,
+      and_from (is_last man.colour b) (is_promotion (Some man.kind))
+          (ap (λ d. is_last d b) (sym side) ∙ last.0)
+          (ap (λ l. is_promotion (Some l)) (sym kind) ∙ last.1),
+    )
 
 other_two : (d : Colour) → same_colour d (other_of d) ≡ false
 other_two White = refl
@@ -104,8 +114,11 @@ other_man p d k s h =
     elim (cases_Bool (has p d k s)) [
       | inr e ↦ e
       | inl e ↦
-          let cell = eqb-true (slice_index p.cells s) (cell_of_man (record { colour = d; kind = k })) e in
-          let side : holds p (other_of d) s ≡ false = ap (λ w. is_man_of (other_of d) (man_of_cell w)) cell ∙ ap (is_man_of (other_of d)) (cell_forth d k) ∙ other_two d in
+          let cell = eqb-true (slice_index p.cells s)
+          (cell_of_man (record { colour = d; kind = k })) e in
+          let side : holds p (other_of d) s ≡ false =
+          ap (λ w. is_man_of (other_of d) (man_of_cell w)) cell ∙ ap (is_man_of (other_of d))
+          (cell_forth d k) ∙ other_two d in
           absurd (cc)
     ]
 
@@ -169,7 +182,8 @@ module _ (gs : List GroupLine) (q : Board) (x : Pred) (c : Comes gs q x) where
   -- the set knows the man where it was, and what it took
   pub known_mover : is_known gs (mover_cell q x.mv) x.mv.from ≡ true
   known_mover =
-      ap (λ cell. is_known gs cell x.mv.from) (mover ∙ sym (kept.mover c.earlier x.mv v c.step.to f))
+      ap (λ cell. is_known gs cell x.mv.from)
+      (mover ∙ sym (kept.mover c.earlier x.mv v c.step.to f))
       ∙ known_at x.mv.from c.step.from
 
   taken_is : taken_of gs x ≡ slice_index c.earlier.cells x.mv.to
@@ -182,10 +196,14 @@ module _ (gs : List GroupLine) (q : Board) (x : Pred) (c : Comes gs q x) where
       let d = c.earlier.turn in
       let side : other_of d ≡ q.turn = ap other_of (sym mover_turn) ∙ other_other q.turn in
       let cell = slice_index c.earlier.cells x.mv.to in
-      let small : cell < 13 = v.fits.men x.mv.to 0 (let l = c.step.to in omega (arith, v.fits.size)) in
-      let cases = taken_by d cell small f.free (kept.no_king_there c.earlier x.mv v c.step.to f (other_of d)) in
-      subst (λ e. (taken_of gs x ≡ 0) ⊎ ((first_taken e ≤ taken_of gs x) × (taken_of gs x < first_taken e + 5))) side
-      (subst (λ n. (n ≡ 0) ⊎ ((first_taken (other_of d) ≤ n) × (n < first_taken (other_of d) + 5))) (sym taken_is) cases)
+      let small : cell < 13 = v.fits.men x.mv.to 0
+      (let l = c.step.to in omega (arith, v.fits.size)) in
+      let cases = taken_by d cell small f.free
+      (kept.no_king_there c.earlier x.mv v c.step.to f (other_of d)) in
+      subst (λ e. (taken_of gs x ≡ 0)
+      ⊎ ((first_taken e ≤ taken_of gs x) × (taken_of gs x < first_taken e + 5))) side
+      (subst (λ n. (n ≡ 0) ⊎ ((first_taken (other_of d) ≤ n) × (n < first_taken (other_of d) + 5)))
+      (sym taken_is) cases)
 
   -- where the mover's man stands there is none of the other side
   none_held : (k : Kind) → has q q.turn k x.mv.to ≡ false
@@ -199,7 +217,10 @@ module _ (gs : List GroupLine) (q : Board) (x : Pred) (c : Comes gs q x) where
       elim (cases_Bool (has c.earlier d k s)) [
         | inl e ↦ e
         | inr e ↦
-            let gone = others_by test (kept.takes c.earlier x.mv v c.step.to f) (beside_on_file x.mv.from x.mv.to) x.mv.to x.mv.from (cell_of_man (arrives f.man x.mv.promo)) (slice_index c.earlier.cells s) s (no_cell d k) e ne in
+            let gone = others_by test (kept.takes c.earlier x.mv v c.step.to f)
+            (beside_on_file x.mv.from x.mv.to) x.mv.to x.mv.from
+            (cell_of_man (arrives f.man x.mv.promo)) (slice_index c.earlier.cells s) s
+            (no_cell d k) e ne in
             let off : has q d k s ≡ false = ap test (cell_is s) ∙ gone in
             absurd (cc)
       ]
@@ -208,7 +229,8 @@ module _ (gs : List GroupLine) (q : Board) (x : Pred) (c : Comes gs q x) where
   room_taken : (man : Man) → man_of_cell (taken_of gs x) ≡ Some man → man.colour ≡ q.turn →
       has_room gs q man x.mv.to ≡ true
   room_taken man on side =
-      let cell : slice_index c.earlier.cells x.mv.to ≡ cell_of_man man = sym taken_is ∙ cell_back (taken_of gs x) man.colour man.kind on in
+      let cell : slice_index c.earlier.cells x.mv.to ≡ cell_of_man man = sym taken_is
+      ∙ cell_back (taken_of gs x) man.colour man.kind on in
       room_where gs c.earlier q man x.mv.to c.number.member c.step.to
       (record {
         stood = cell;
@@ -227,19 +249,31 @@ module _ (gs : List GroupLine) (q : Board) (x : Pred) (c : Comes gs q x) where
       let p = c.earlier in
       let here : p.ep ≡ Some t = sym target_is ∙ e in
       let side : other_of p.turn ≡ q.turn = ap other_of (sym mover_turn) ∙ other_other q.turn in
-      let stands : is_passed p (other_of p.turn) t ≡ true = ap (target_stands p) (sym here) ∙ v.target in
-      let passed = (and_parts (has_passed p (other_of p.turn) t) (has_pawn_beside p (other_of (other_of p.turn)) (ahead (other_of p.turn) t)) stands).0 in
-      let pawns = (and_parts (is_passing_rank (other_of p.turn) t && (is_empty p t && is_empty p (ahead (other_of (other_of p.turn)) t))) (has p (other_of p.turn) Pawn (ahead (other_of p.turn) t)) passed).0 in
-      let rank = (and_parts (is_passing_rank (other_of p.turn) t) (is_empty p t && is_empty p (ahead (other_of (other_of p.turn)) t)) pawns).0 in
-      ((target_possible gs p c.number.member t here).0, ap (λ d. is_passing_rank d t) (sym side) ∙ rank)
+      let stands : is_passed p (other_of p.turn) t ≡ true = ap (target_stands p) (sym here)
+      ∙ v.target in
+      let passed = (and_parts (has_passed p (other_of p.turn) t)
+      (has_pawn_beside p (other_of (other_of p.turn)) (ahead (other_of p.turn) t)) stands).0 in
+      let pawns = (and_parts
+      (is_passing_rank (other_of p.turn) t
+      && (is_empty p t && is_empty p (ahead (other_of (other_of p.turn)) t)))
+      (has p (other_of p.turn) Pawn (ahead (other_of p.turn) t)) passed).0 in
+      let rank = (and_parts (is_passing_rank (other_of p.turn) t)
+      (is_empty p t && is_empty p (ahead (other_of (other_of p.turn)) t)) pawns).0 in (
+        (target_possible gs p c.number.member t here).0,
+        ap (λ d. is_passing_rank d t) (sym side)
+            ∙ rank,
+      )
 
   -- the man on the move's end has come as itself, or as a pawn on its last rank
   pub promo_cases : (man : Man) → man_on q x.mv.to ≡ Some man →
       (x.mv.promo ≡ None)
-      ⊎ ((x.mv.promo ≡ Some man.kind) × ((is_last man.colour x.mv.to && is_promotion (Some man.kind)) ≡ true))
+      ⊎ ((x.mv.promo ≡ Some man.kind)
+      × ((is_last man.colour x.mv.to && is_promotion (Some man.kind)) ≡ true))
   promo_cases man on =
-      let there : man_on q x.mv.to ≡ Some (arrives f.man x.mv.promo) = ap man_of_cell (cell_is x.mv.to ∙ arrived c.earlier x.mv f) ∙ arrives_own f.man x.mv.promo in
-      promo_by f.man.colour f.man.kind x.mv.to x.mv.promo man f.promo (same_Some (arrives f.man x.mv.promo) man (sym there ∙ on))
+      let there : man_on q x.mv.to ≡ Some (arrives f.man x.mv.promo) = ap man_of_cell
+      (cell_is x.mv.to ∙ arrived c.earlier x.mv f) ∙ arrives_own f.man x.mv.promo in
+      promo_by f.man.colour f.man.kind x.mv.to x.mv.promo man f.promo
+      (same_Some (arrives f.man x.mv.promo) man (sym there ∙ on))
 
 -- the test of what was taken passes
 taken_by_test : (gs : List GroupLine) (q : Board) (x : Pred) (c : Comes gs q x) (r : Bool) →
@@ -254,42 +288,51 @@ pub may_be_taken : (gs : List GroupLine) (q : Board) (x : Pred) (b taken : ℕ) 
     MatchOption (man_of_cell taken) (r ≡ false) (λ man. r ≡ has_room gs q man b) → r ≡ true
 may_be_taken gs q x b taken r h e side test =
     taken_by_test gs q x h.0 r (man_of_cell taken) (ap man_of_cell e) side
-    (subst (λ s. MatchOption (man_of_cell taken) (r ≡ false) (λ man. r ≡ has_room gs q man s)) (sym h.1) test)
+    (subst (λ s. MatchOption (man_of_cell taken) (r ≡ false) (λ man. r ≡ has_room gs q man s))
+    (sym h.1) test)
 
 -- the position without the man that has moved
 abbrev pub taken_off : Board → ℕ → Board
 taken_off q s = record q { cells = slice_set q.cells s 0 }
 
-module _ (gs : List GroupLine) (q : Board) (x : Pred) (c : Comes gs q x) (size : length q.cells ≡ 64) where
+module _ (gs : List GroupLine) (q : Board) (x : Pred) (c : Comes gs q x)
+    (size : length q.cells ≡ 64) where
   taken_off_at : (s : ℕ) →
       slice_index (taken_off q x.mv.to).cells s
       ≡ (if s == x.mv.to then 0 else slice_index q.cells s)
   taken_off_at s = set_at q.cells x.mv.to 0 s (let low = c.step.to in omega (arith, size, low))
 
-  -- once the man that has moved is taken off, a man stands where it stood before, and not where the move ends
+  -- once the man that has moved is taken off, a man stands
+  -- where it stood before, and not where the move ends
   still_there : (d : Colour) (k : Kind) (s : ℕ) → has (taken_off q x.mv.to) d k s ≡ true →
       has c.earlier d k s ≡ true
   still_there d k s h =
       let test : ℕ → Bool = λ w. w == cell_of_man (record { colour = d; kind = k }) in
       elim (eqb_tells s x.mv.to) [
         | inl e ↦
-            let off : has (taken_off q x.mv.to) d k s ≡ false = ap test (taken_off_at s ∙ ap (λ b. if b then 0 else slice_index q.cells s) e.0) ∙ no_cell d k in
+            let off : has (taken_off q x.mv.to) d k s ≡ false = ap test
+            (taken_off_at s ∙ ap (λ b. if b then 0 else slice_index q.cells s) e.0)
+            ∙ no_cell d k in
             absurd (cc)
         | inr e ↦
             stood_there gs q x c d k s e.1
-            (ap test (sym (taken_off_at s ∙ ap (λ b. if b then 0 else slice_index q.cells s) e.0)) ∙ h)
+            (ap test (sym (taken_off_at s ∙ ap (λ b. if b then 0 else slice_index q.cells s) e.0))
+            ∙ h)
       ]
 
   none_begins : (d : Colour) (k : Kind) → has (taken_off q x.mv.to) d k x.mv.from ≡ false
   none_begins d k =
       let test : ℕ → Bool = λ w. w == cell_of_man (record { colour = d; kind = k }) in
-      let empty : slice_index q.cells x.mv.from ≡ 0 = eqb-true (slice_index q.cells x.mv.from) 0 (vacated gs q x c) in
+      let empty : slice_index q.cells x.mv.from ≡ 0 = eqb-true (slice_index q.cells x.mv.from) 0
+      (vacated gs q x c) in
       elim (eqb_tells x.mv.from x.mv.to) [
         | inl e ↦
-            ap test (taken_off_at x.mv.from ∙ ap (λ b. if b then 0 else slice_index q.cells x.mv.from) e.0)
+            ap test (taken_off_at x.mv.from
+            ∙ ap (λ b. if b then 0 else slice_index q.cells x.mv.from) e.0)
             ∙ no_cell d k
         | inr e ↦
-            ap test (taken_off_at x.mv.from ∙ ap (λ b. if b then 0 else slice_index q.cells x.mv.from) e.0 ∙ empty)
+            ap test (taken_off_at x.mv.from
+            ∙ ap (λ b. if b then 0 else slice_index q.cells x.mv.from) e.0 ∙ empty)
             ∙ no_cell d k
       ]
 

@@ -31,7 +31,8 @@ other_side White h = cc
 other_side Black h = cc
 
 -- a pawn of the one side is no man of the other
-left_pawn : (d : Colour) (cell : ℕ) (man : Man) → other_of d ≡ man.colour → cell ≡ cell_of_man (record { colour = d; kind = Pawn }) → cell ≡ cell_of_man man → ⊥
+left_pawn : (d : Colour) (cell : ℕ) (man : Man) → other_of d ≡ man.colour
+    → cell ≡ cell_of_man (record { colour = d; kind = Pawn }) → cell ≡ cell_of_man man → ⊥
 left_pawn d cell man side e g =
     let same = same_man (record { colour = d; kind = Pawn }) man (sym e ∙ g) in
     other_side d (side ∙ sym (ap (λ (w : Man). w.colour) same))
@@ -39,7 +40,9 @@ left_pawn d cell man side e g =
 took_target : (p : Board) (m : Step) (move : Move p m) (t : ℕ) → p.ep ≡ Some t →
     (is_pawn move.man.kind && takes_in_passing p move.man.colour m.from m.to) ≡ true → t ≡ m.to
 took_target p m move t here h =
-    let aims = (and_parts (pawn_reaches move.man.colour m.from m.to) (is_target p.ep m.to) (and_parts (is_pawn move.man.kind) (takes_in_passing p move.man.colour m.from m.to) h).1).1 in
+    let aims = (and_parts (pawn_reaches move.man.colour m.from m.to) (is_target p.ep m.to)
+    (and_parts (is_pawn move.man.kind) (takes_in_passing p move.man.colour m.from m.to)
+    h).1).1 in
     eqb-true t m.to (ap (λ o. is_target o m.to) (sym here) ∙ aims)
 
 -- the pawn that had passed over the target stands ahead of it still, unless the move took it
@@ -53,22 +56,36 @@ passed_stands gs q x c t e =
     let done = f gs q x c in
     let valid = v gs q x c in
     let here : p.ep ≡ Some t = sym (ap (λ (b : Board). b.ep) (candidate_is gs q x c)) ∙ e in
-    let side : other_of p.turn ≡ q.turn = ap other_of (sym (mover_turn gs q x c)) ∙ other_other q.turn in
-    let stands : is_passed p (other_of p.turn) t ≡ true = ap (target_stands p) (sym here) ∙ valid.target in
-    let passed = (and_parts (has_passed p (other_of p.turn) t) (has_pawn_beside p (other_of (other_of p.turn)) (ahead (other_of p.turn) t)) stands).0 in
-    let pawn : has p (other_of p.turn) Pawn (ahead (other_of p.turn) t) ≡ true = (and_parts (is_passing_rank (other_of p.turn) t && (is_empty p t && is_empty p (ahead (other_of (other_of p.turn)) t))) (has p (other_of p.turn) Pawn (ahead (other_of p.turn) t)) passed).1 in
-    let there : slice_index p.cells (ahead q.turn t) ≡ cell_of_man (record { colour = q.turn; kind = Pawn }) =
-    eqb-true (slice_index p.cells (ahead q.turn t)) (cell_of_man (record { colour = q.turn; kind = Pawn })) (ap (λ d. has p d Pawn (ahead d t)) (sym side) ∙ pawn) in
+    let side : other_of p.turn ≡ q.turn = ap other_of (sym (mover_turn gs q x c))
+    ∙ other_other q.turn in
+    let stands : is_passed p (other_of p.turn) t ≡ true = ap (target_stands p) (sym here)
+    ∙ valid.target in
+    let passed = (and_parts (has_passed p (other_of p.turn) t)
+    (has_pawn_beside p (other_of (other_of p.turn)) (ahead (other_of p.turn) t)) stands).0 in
+    let pawn : has p (other_of p.turn) Pawn (ahead (other_of p.turn) t) ≡ true =
+    (and_parts (is_passing_rank (other_of p.turn) t
+    && (is_empty p t && is_empty p (ahead (other_of (other_of p.turn)) t)))
+    (has p (other_of p.turn) Pawn (ahead (other_of p.turn) t)) passed).1 in
+    let there : slice_index p.cells (ahead q.turn t) ≡ cell_of_man
+    (record { colour = q.turn; kind = Pawn }) =
+    eqb-true (slice_index p.cells (ahead q.turn t))
+    (cell_of_man (record { colour = q.turn; kind = Pawn }))
+    (ap (λ d. has p d Pawn (ahead d t)) (sym side) ∙ pawn) in
     elim (eqb_tells (ahead q.turn t) m.to) [
       | inl i ↦ either_or _ _ (inr (either_or _ _ (inl i.0)))
       | inr i ↦ elim (eqb_tells t m.to) [
         | inl j ↦ either_or _ _ (inr (either_or _ _ (inr j.0)))
         | inr j ↦ either_or _ _ (inl
-            (let kept_there = stays_by (kept.takes p m valid c.step.to done) (beside_on_file m.from m.to) m.to m.from (cell_of_man (arrives done.man m.promo)) (slice_index p.cells (ahead q.turn t)) (ahead q.turn t)
+            (let kept_there = stays_by (kept.takes p m valid c.step.to done)
+            (beside_on_file m.from m.to) m.to m.from (cell_of_man (arrives done.man m.promo))
+            (slice_index p.cells (ahead q.turn t)) (ahead q.turn t)
             (λ h k. j.1 (took_target p m done t here h))
             i.1
-            (λ k. left_pawn q.turn (slice_index p.cells (ahead q.turn t)) done.man (ap other_of (sym side) ∙ other_other p.turn ∙ sym done.own) there (ap (slice_index p.cells) k ∙ kept.mover p m valid c.step.to done)) in
-            eq-eqb (slice_index q.cells (ahead q.turn t)) (cell_of_man (record { colour = q.turn; kind = Pawn }))
+            (λ k. left_pawn q.turn (slice_index p.cells (ahead q.turn t)) done.man
+            (ap other_of (sym side) ∙ other_other p.turn ∙ sym done.own) there
+            (ap (slice_index p.cells) k ∙ kept.mover p m valid c.step.to done)) in
+            eq-eqb (slice_index q.cells (ahead q.turn t))
+            (cell_of_man (record { colour = q.turn; kind = Pawn }))
             (cell_is gs q x c (ahead q.turn t) ∙ kept_there ∙ there)))
       ]
     ]
@@ -78,7 +95,8 @@ pub stood : (gs : List GroupLine) (q : Board) (b : ℕ) (x : Pred) → ComesTo g
     target_of gs x ≡ Some t → may_be_target gs q b t ≡ true
 stood gs q b x h t e =
     let of_set = target_of_set gs q x h.0 t e in
-    and_from (list_any (λ y. t == y) (targets gs)) (is_passing_rank q.turn t && may_have_passed q b t) of_set.0
+    and_from (list_any (λ y. t == y) (targets gs))
+    (is_passing_rank q.turn t && may_have_passed q b t) of_set.0
     (and_from (is_passing_rank q.turn t) (may_have_passed q b t) of_set.1
     (ap (λ d. may_have_passed q d t) (sym h.1) ∙ passed_stands gs q x h.0 t e))
 
@@ -87,17 +105,21 @@ pub target_of_word : (gs : List GroupLine) (q : Board) (b word t : ℕ) → IsTa
     t < 64 → has_square word t ≡ true → (first_target q.turn ≤ t) × (t < first_target q.turn + 8)
 target_of_word gs q b word t is low h =
     let may = sym (is t low) ∙ h in
-    let rest = (and_parts (list_any (λ y. t == y) (targets gs)) (is_passing_rank q.turn t && may_have_passed q b t) may).1 in
+    let rest = (and_parts (list_any (λ y. t == y) (targets gs))
+    (is_passing_rank q.turn t && may_have_passed q b t) may).1 in
     target_place q.turn t (and_parts (is_passing_rank q.turn t) (may_have_passed q b t) rest).0
 
 key_by : (gs : List GroupLine) (q : Board) (b word : ℕ) (x : Pred) → ComesTo gs q b x →
     IsTargetWord gs q b word → (o : Option ℕ) → target_of gs x ≡ o →
-    (target_key o ≡ 0) ⊎ ((1 ≤ target_key o) × (target_key o ≤ 64) × (has_square word (target_key o - 1) ≡ true))
+    (target_key o ≡ 0)
+    ⊎ ((1 ≤ target_key o) × (target_key o ≤ 64) × (has_square word (target_key o - 1) ≡ true))
 key_by gs q b word x h is None e = inl refl
 key_by gs q b word x h is (Some t) e =
     let may = stood gs q b x h t e in
-    let rest = (and_parts (list_any (λ y. t == y) (targets gs)) (is_passing_rank q.turn t && may_have_passed q b t) may).1 in
-    let place = target_place q.turn t (and_parts (is_passing_rank q.turn t) (may_have_passed q b t) rest).0 in
+    let rest = (and_parts (list_any (λ y. t == y) (targets gs))
+    (is_passing_rank q.turn t && may_have_passed q b t) may).1 in
+    let place = target_place q.turn t
+    (and_parts (is_passing_rank q.turn t) (may_have_passed q b t) rest).0 in
     let ends = first_ends q.turn in
     let low : t < 64 = (let high = place.1 in omega (arith, high, ends)) in
     let same : t + 1 - 1 ≡ t = omega arith in
@@ -106,5 +128,7 @@ key_by gs q b word x h is (Some t) e =
 -- an earlier target is none, or in the word
 pub key_in_word : (gs : List GroupLine) (q : Board) (b word : ℕ) (x : Pred) → ComesTo gs q b x →
     IsTargetWord gs q b word →
-    (target_key (target_of gs x) ≡ 0) ⊎ ((1 ≤ target_key (target_of gs x)) × (target_key (target_of gs x) ≤ 64) × (has_square word (target_key (target_of gs x) - 1) ≡ true))
+    (target_key (target_of gs x) ≡ 0)
+    ⊎ ((1 ≤ target_key (target_of gs x)) × (target_key (target_of gs x) ≤ 64)
+    × (has_square word (target_key (target_of gs x) - 1) ≡ true))
 key_in_word gs q b word x h is = key_by gs q b word x h is (target_of gs x) refl

@@ -27,7 +27,8 @@ use Rattle.frz_unmove.proofs.Coming.{comes_before, v}
 before_size : (q : Board) (m : Step) (taken : ℕ) (target : Option ℕ) →
     length (before q (name m taken target)).cells ≡ 64 → length q.cells ≡ 64
 before_size q m taken target h =
-    sym (written-length q.cells m.from m.to (mover_cell q m) taken (beside_on_file m.from m.to) (pawn q.turn) (was_en_passant q m target))
+    sym (written-length q.cells m.from m.to (mover_cell q m) taken (beside_on_file m.from m.to)
+    (pawn q.turn) (was_en_passant q m target))
     ∙ h
 
 back_by : (t : Bool) (e a b y v w x : ℕ) → (a ≡ b → ⊥) → (t ≡ true → b ≡ e → ⊥) →
@@ -41,26 +42,44 @@ taken_back : (q : Board) (m : Step) (taken : ℕ) (target : Option ℕ) → leng
 taken_back q m taken target size lf lt ne =
     let e = beside_on_file m.from m.to in
     let t = was_en_passant q m target in
-    written q.cells m.from m.to (mover_cell q m) taken e (pawn q.turn) m.to t (omega (arith, size)) (omega (arith, size)) (omega (arith, size))
+    written q.cells m.from m.to (mover_cell q m) taken e (pawn q.turn) m.to t (omega (arith, size))
+    (omega (arith, size)) (omega (arith, size))
     ∙ back_by t e m.from m.to (pawn q.turn) (mover_cell q m) taken (slice_index q.cells m.to) ne
-    (λ h i. let reach = (and_parts (pawn_reaches (other_of q.turn) m.from m.to) (is_target target m.to) (and_parts (mover_cell q m == pawn (other_of q.turn)) (pawn_reaches (other_of q.turn) m.from m.to && is_target target m.to) h).1).0 in
-    beside_apart (other_of q.turn) m.from m.to (and_parts (files_apart m.from m.to == 1) (is_forward (other_of q.turn) 1 m.from m.to) reach).1 i)
+    (λ h i. let reach =
+    (and_parts (pawn_reaches (other_of q.turn) m.from m.to) (is_target target m.to)
+    (and_parts (mover_cell q m == pawn (other_of q.turn))
+    (pawn_reaches (other_of q.turn) m.from m.to && is_target target m.to) h).1).0 in
+    beside_apart (other_of q.turn) m.from m.to
+    (and_parts (files_apart m.from m.to == 1) (is_forward (other_of q.turn) 1 m.from m.to) reach).1
+    i)
 
 -- an earlier position of this name, from which the move leads on
-module _ (gs : List GroupLine) (q : Board) (m : Step) (taken : ℕ) (target : Option ℕ) (step : IsStep m) (i : ℕ)
-    (number : HasNumber gs i (before q (name m taken target))) (legal : is_legal (before q (name m taken target)) m ≡ true) (arrives : after (before q (name m taken target)) m ≡ q) where
+module _ (gs : List GroupLine) (q : Board) (m : Step) (taken : ℕ) (target : Option ℕ)
+    (step : IsStep m) (i : ℕ)
+    (number : HasNumber gs i (before q (name m taken target)))
+    (legal : is_legal (before q (name m taken target)) m ≡ true)
+    (arrives : after (before q (name m taken target)) m ≡ q) where
   abbrev found : Pred
   found = record { number = i; mv = m }
 
   comes : Comes gs q found
   comes =
-      record { earlier = before q (name m taken target); number = number; step = step; legal = legal; arrives = arrives }
+      record {
+        earlier = before q (name m taken target);
+        number = number;
+        step = step;
+        legal = legal;
+        arrives = arrives;
+      }
 
   same_taken : taken_of gs found ≡ taken
   same_taken =
-      let e : candidate gs i ≡ before q (name m taken target) = is_candidate gs i (before q (name m taken target)) number in
+      let e : candidate gs i ≡ before q (name m taken target) = is_candidate gs i
+      (before q (name m taken target)) number in
       ap (λ (b : Board). slice_index b.cells m.to) e
-      ∙ taken_back q m taken target (before_size q m taken target number.member.valid.fits.size) step.from step.to (goes_off (before q (name m taken target)) m (facts (before q (name m taken target)) m legal))
+      ∙ taken_back q m taken target (before_size q m taken target number.member.valid.fits.size)
+      step.from step.to
+      (goes_off (before q (name m taken target)) m (facts (before q (name m taken target)) m legal))
 
   same_target : target_of gs found ≡ target
   same_target = ap (λ (b : Board). b.ep) (is_candidate gs i (before q (name m taken target)) number)
@@ -81,15 +100,19 @@ same_parts m n from to promo =
     ∙ ap (made n.from n.to) promo
 
 -- what has the name comes from there
-pub of_name : (gs : List GroupLine) (q : Board) (m : Step) (taken : ℕ) (target : Option ℕ) (x : Pred) → ComesFrom gs q m taken target x →
-    HasNumber gs x.number (before q (name m taken target)) × (is_legal (before q (name m taken target)) m ≡ true) × (after (before q (name m taken target)) m ≡ q) × (x.mv ≡ m)
+pub of_name : (gs : List GroupLine) (q : Board) (m : Step) (taken : ℕ) (target : Option ℕ)
+    (x : Pred) → ComesFrom gs q m taken target x →
+    HasNumber gs x.number (before q (name m taken target))
+    × (is_legal (before q (name m taken target)) m ≡ true)
+    × (after (before q (name m taken target)) m ≡ q) × (x.mv ≡ m)
 of_name gs q m taken target x h =
     let c : Comes gs q x = h.0.0.0.0.0 in
     let move : x.mv ≡ m = same_parts x.mv m h.1 h.0.0.0.0.1 h.0.0.0.1 in
     let there : before q (name m taken target) ≡ c.earlier =
     ap (λ n. before q (name n taken target)) (sym move)
     ∙ ap (λ w. before q (name x.mv w target)) (sym h.0.0.1)
-    ∙ ap (λ t. before q (name x.mv (taken_of gs x) t)) (sym (target_by (target_of gs x) target h.0.1))
+    ∙ ap (λ t. before q (name x.mv (taken_of gs x) t))
+    (sym (target_by (target_of gs x) target h.0.1))
     ∙ comes_before gs q x c in (
       subst (HasNumber gs x.number) (sym there) c.number,
       ap (λ b. is_legal b m) there ∙ ap (is_legal c.earlier) (sym move) ∙ c.legal,

@@ -22,21 +22,27 @@ use Rattle.frz_unmove.specs.Earlier.{before, cells_before, mover_cell, name, was
 
 pub written : (xs : List ℕ) (a b v w e y s : ℕ) (t : Bool) → a < length xs → b < length xs →
     e < length xs →
-    slice_index (cond t (slice_set (slice_set (slice_set xs b w) a v) e y) (slice_set (slice_set xs b w) a v)) s ≡ cond (t && (s == e)) y (cond (s == a) v (cond (s == b) w (slice_index xs s)))
+    slice_index (cond t (slice_set (slice_set (slice_set xs b w) a v) e y)
+    (slice_set (slice_set xs b w) a v)) s ≡ cond (t && (s == e)) y
+    (cond (s == a) v (cond (s == b) w (slice_index xs s)))
 written xs a b v w e y s false la lb le =
     set_at (slice_set xs b w) a v s (rw length-set la) ∙ ap (cond (s == a) v) (set_at xs b w s lb)
 written xs a b v w e y s true la lb le =
     set_at (slice_set (slice_set xs b w) a v) e y s (rw (length-set, length-set) le)
-    ∙ ap (cond (s == e) y) (set_at (slice_set xs b w) a v s (rw length-set la) ∙ ap (cond (s == a) v) (set_at xs b w s lb))
+    ∙ ap (cond (s == e) y)
+    (set_at (slice_set xs b w) a v s (rw length-set la) ∙ ap (cond (s == a) v) (set_at xs b w s lb))
 
 pub written-length : (xs : List ℕ) (a b v w e y : ℕ) (t : Bool) →
-    length (cond t (slice_set (slice_set (slice_set xs b w) a v) e y) (slice_set (slice_set xs b w) a v)) ≡ length xs
+    length (cond t (slice_set (slice_set (slice_set xs b w) a v) e y)
+    (slice_set (slice_set xs b w) a v)) ≡ length xs
 written-length xs a b v w e y false = rw (length-set, length-set) refl
 written-length xs a b v w e y true = rw (length-set, length-set, length-set) refl
 
 undone_by : (t : Bool) (e a b s x y v w r : ℕ) → (t ≡ true → s ≡ e → y ≡ x) → (s ≡ a → v ≡ x) →
     (s ≡ b → w ≡ x) →
-    cond (t && (s == e)) y (cond (s == a) v (cond (s == b) w (cond (t && (s == e)) 0 (cond (s == b) r (cond (s == a) 0 x))))) ≡ x
+    cond (t && (s == e)) y
+    (cond (s == a) v
+    (cond (s == b) w (cond (t && (s == e)) 0 (cond (s == b) r (cond (s == a) 0 x))))) ≡ x
 undone_by false e a b s x y v w r he ha hb =
     elim (eqb_tells s a) [
       | inl i ↦ rw i.0 (ha i.1)
@@ -94,16 +100,20 @@ module _ (p : Board) (m : Step) (v : IsValid p) (lt : m.to < 64) (f : Move p m) 
   took : was_en_passant next m p.ep ≡ kept.takes p m v lt f
   took =
       let side : other_of next.turn ≡ f.man.colour = other_other p.turn ∙ sym f.own in
-      ap (λ c. mover_cell next m == pawn c && (pawn_reaches c m.from m.to && is_target p.ep m.to)) side
-      ∙ ap (λ x. x == pawn f.man.colour && (pawn_reaches f.man.colour m.from m.to && is_target p.ep m.to)) mover_is
-      ∙ ap (λ x. x && (pawn_reaches f.man.colour m.from m.to && is_target p.ep m.to)) (kept.pawn_tests f.man.colour f.man.kind).0
+      ap (λ c. mover_cell next m == pawn c && (pawn_reaches c m.from m.to && is_target p.ep m.to))
+      side
+      ∙ ap (λ x. x == pawn f.man.colour
+      && (pawn_reaches f.man.colour m.from m.to && is_target p.ep m.to)) mover_is
+      ∙ ap (λ x. x && (pawn_reaches f.man.colour m.from m.to && is_target p.ep m.to))
+      (kept.pawn_tests f.man.colour f.man.kind).0
 
   abbrev undone : List ℕ
   undone = cells_before next (name m (slice_index p.cells m.to) p.ep)
 
   abbrev by_takes : Bool → List ℕ
   by_takes t =
-      let back = slice_set (slice_set next.cells m.to (slice_index p.cells m.to)) m.from (mover_cell next m) in
+      let back = slice_set (slice_set next.cells m.to (slice_index p.cells m.to)) m.from
+      (mover_cell next m) in
       cond t (slice_set back (beside_on_file m.from m.to) (pawn next.turn)) back
 
   undone_is : undone ≡ by_takes (kept.takes p m v lt f)
@@ -111,7 +121,8 @@ module _ (p : Board) (m : Step) (v : IsValid p) (lt : m.to < 64) (f : Move p m) 
 
   size : length next.cells ≡ 64
   size =
-      (kept.valid_then p m v lt f (ap (λ (q : Board). is_in_check q p.turn) (sym after_is) ∙ f.safe)).fits.size
+      (kept.valid_then p m v lt f
+      (ap (λ (q : Board). is_in_check q p.turn) (sym after_is) ∙ f.safe)).fits.size
 
   beside_fits : beside_on_file m.from m.to < 64
   beside_fits = let from = kept.lf p m v lt f in let to = lt in omega arith
@@ -123,9 +134,13 @@ module _ (p : Board) (m : Step) (v : IsValid p) (lt : m.to < 64) (f : Move p m) 
       let e = beside_on_file m.from m.to in
       let w = slice_index p.cells m.to in
       ap (λ xs. slice_index xs s) undone_is
-      ∙ written next.cells m.from m.to (mover_cell next m) w e (pawn next.turn) s t (omega (arith, size)) (omega (arith, size)) (omega (arith, size, beside_fits))
-      ∙ ap (λ x. cond (t && (s == e)) (pawn next.turn) (cond (s == m.from) (mover_cell next m) (cond (s == m.to) w x))) (kept.cell_there p m v lt f s)
-      ∙ undone_by t e m.from m.to s (slice_index p.cells s) (pawn next.turn) (mover_cell next m) w (cell_of_man (arrives f.man m.promo))
+      ∙ written next.cells m.from m.to (mover_cell next m) w e (pawn next.turn) s t
+      (omega (arith, size)) (omega (arith, size)) (omega (arith, size, beside_fits))
+      ∙ ap (λ x. cond (t && (s == e)) (pawn next.turn)
+      (cond (s == m.from) (mover_cell next m) (cond (s == m.to) w x)))
+      (kept.cell_there p m v lt f s)
+      ∙ undone_by t e m.from m.to s (slice_index p.cells s) (pawn next.turn) (mover_cell next m) w
+      (cell_of_man (arrives f.man m.promo))
       (λ h i. sym (kept.enemy p m v lt f h) ∙ ap (slice_index p.cells) (sym i))
       (λ i. mover_is ∙ sym (kept.mover p m v lt f) ∙ ap (slice_index p.cells) (sym i))
       (λ i. ap (slice_index p.cells) (sym i))
@@ -133,12 +148,15 @@ module _ (p : Board) (m : Step) (v : IsValid p) (lt : m.to < 64) (f : Move p m) 
   same_cells : undone ≡ p.cells
   same_cells =
       same_number_lists undone p.cells
-      (ap length undone_is ∙ written-length next.cells m.from m.to (mover_cell next m) (slice_index p.cells m.to) (beside_on_file m.from m.to) (pawn next.turn) (kept.takes p m v lt f) ∙ size ∙ sym v.fits.size)
+      (ap length undone_is ∙ written-length next.cells m.from m.to (mover_cell next m)
+      (slice_index p.cells m.to) (beside_on_file m.from m.to) (pawn next.turn)
+      (kept.takes p m v lt f) ∙ size ∙ sym v.fits.size)
       (λ k l. same_cell k)
 
   -- what the name of a move says gives back the position before it
   pub undone_next : before next (name m (slice_index p.cells m.to) p.ep) ≡ p
   undone_next =
-      let made : List ℕ → Colour → Board = λ cells turn. record { cells = cells; turn = turn; ep = p.ep } in
+      let made : List ℕ → Colour
+      → Board = λ cells turn. record { cells = cells; turn = turn; ep = p.ep } in
       ap (λ cells. made cells (other_of next.turn)) same_cells
       ∙ ap (made p.cells) (other_other p.turn)

@@ -1,5 +1,5 @@
--- The moves that lead to a position, kind by kind: where they end, what the man has become, what it took, the
--- earlier target, and where they begin.
+-- The moves that lead to a position, kind by kind: where they end, what the man has become, what it
+-- took, the earlier target, and where they begin.
 use Rattle.std.specs.Prelude.{ℕ, ◌≡◌, ◌+◌, ◌<◌, ◌==◌, ◌&&◌, ◌||◌, Bool, true, List, Option, None, Some, slice_index}
 use Rattle.std.specs.List.{list_any}
 use Rattle.frz_board.specs.declared.man.Colour.{Colour}
@@ -37,7 +37,8 @@ abbrev pub target_key : Option ℕ → ℕ
 target_key None = 0
 target_key (Some t) = t + 1
 
--- the moves to this square; with this promotion; that took this; with this earlier target; from this square
+-- the moves to this square; with this promotion; that took
+-- this; with this earlier target; from this square
 abbrev pub ComesTo : List GroupLine → Board → ℕ → Pred → Type 0
 ComesTo gs q b x = Comes gs q x × (x.mv.to ≡ b)
 
@@ -69,7 +70,8 @@ abbrev pub HasOrigins : List GroupLine → Board → ℕ → Option Kind → ℕ
 HasOrigins gs q b promo word =
     (x : Pred) → ComesAs gs q b promo x → has_square word x.mv.from ≡ true
 
--- the pawn that had passed over the square stands ahead of it still, or the move to this square took it
+-- the pawn that had passed over the square stands ahead of it
+-- still, or the move to this square took it
 abbrev pub may_have_passed : Board → ℕ → ℕ → Bool
 may_have_passed q b t = has q q.turn Pawn (ahead q.turn t) || (ahead q.turn t == b || t == b)
 

@@ -27,7 +27,8 @@ bits_to-no f s e = rw (add-one, e) (omega arith)
 pub bits_to-small : (f : ℕ → Bool) (s : ℕ) → s < 64 → bits_to f s + 2 ^ s < 2 ^ 64
 unfolding bits_to
 bits_to-small f s h =
-    let at : suc s ≤ 64 = omega arith in let m = pow_mono at in omega (arith, bits_below-small f s, double s, m)
+    let at : suc s ≤ 64 = omega arith in let m = pow_mono at in
+    omega (arith, bits_below-small f s, double s, m)
 
 pub bits_to-all : (f : ℕ → Bool) → bits_to f 64 ≡ set_of f
 unfolding bits_to set_of
@@ -40,5 +41,12 @@ pub bits_to-end : (f : ℕ → Bool) (n : ℕ) → n ≡ 64 → bits_to f n ≡ 
 unfolding bits_to set_of
 bits_to-end f n h = ap (bits_below f) h
 
-pub ruleset bits =
-    (one_shifted_fits, bits_to-end, bits_to-zero, bits_to-yes, bits_to-no, bits_to-small, bits_to-all)
+pub ruleset bits = (
+  one_shifted_fits,
+  bits_to-end,
+  bits_to-zero,
+  bits_to-yes,
+  bits_to-no,
+  bits_to-small,
+  bits_to-all,
+)

@@ -67,4 +67,5 @@ numbered_short n k (part ∷ parts) h = (h.0, numbered_short n (k + 1) parts h.1
 pub lines_short : (text : List ℕ) →
     AllByRecursion (λ l. length l.1 ≤ length text) (numbered 1 (lines text))
 lines_short text =
-    numbered_short (length text) 1 (lines text) (ended_short (length text) (split is_line_feed text) (split_short is_line_feed text))
+    numbered_short (length text) 1 (lines text)
+    (ended_short (length text) (split is_line_feed text) (split_short is_line_feed text))

@@ -61,7 +61,9 @@ cut_case : (p : ℕ → Bool) (c : Bool) (b : ℕ) (bs : List ℕ) → p b ≡ c
     CutsAt p (b ∷ bs) (cond (not c) (1 + position_or_len p bs) 0)
 cut_case p true b bs e l h = rw e refl
 cut_case p false b bs e l h =
-    let more : suc (position_or_len p bs) ≡ 1 + position_or_len p bs = omega arith in subst (CutsAt p (b ∷ bs)) more (cuts_later p b bs (position_or_len p bs) e (h (omega arith)))
+    let more : suc (position_or_len p bs) ≡ 1 + position_or_len p bs = omega arith in
+    subst (CutsAt p (b ∷ bs)) more
+    (cuts_later p b bs (position_or_len p bs) e (h (omega arith)))
 
 split_cut : (p : ℕ → Bool) (text : List ℕ) → position_or_len p text < length text →
     CutsAt p text (position_or_len p text)
@@ -89,12 +91,14 @@ present_case false n len i e h = absurd cc
 pub absent : (p : ℕ → Bool) (text : List ℕ) → None ≡ position p text →
     length text ≤ position_or_len p text
 absent p text h =
-    absent_case (nat_lt (position_or_len p text) (length text)) (position_or_len p text) (length text) refl h
+    absent_case (nat_lt (position_or_len p text) (length text)) (position_or_len p text)
+    (length text) refl h
 
 pub present : (p : ℕ → Bool) (text : List ℕ) (i : ℕ) → Some i ≡ position p text →
     (position_or_len p text ≡ i) × (position_or_len p text < length text)
 present p text i h =
-    present_case (nat_lt (position_or_len p text) (length text)) (position_or_len p text) (length text) i refl h
+    present_case (nat_lt (position_or_len p text) (length text)) (position_or_len p text)
+    (length text) i refl h
 
 pub split_absent : (p : ℕ → Bool) (text : List ℕ) → None ≡ position p text →
     split p text ≡ text ∷ []
@@ -104,7 +108,8 @@ pub split_present : (p : ℕ → Bool) (text : List ℕ) (i : ℕ) → Some i �
     split p text ≡ take i text ∷ split p (from_place (i + 1) text)
 split_present p text i h =
     let f = present p text i h in
-    let cut : split p text ≡ take i text ∷ split p (drop (i + 1) text) = rw add-one (subst (CutsAt p text) f.0 (split_cut p text f.1)) in
+    let cut : split p text ≡ take i text ∷ split p (drop (i + 1) text) = rw add-one
+    (subst (CutsAt p text) f.0 (split_cut p text f.1)) in
     cut ∙ ap (λ rest. take i text ∷ split p rest) (sym (from_place_drop (i + 1) text))
 
 pub present_within : (p : ℕ → Bool) (text : List ℕ) (i : ℕ) → Some i ≡ position p text →

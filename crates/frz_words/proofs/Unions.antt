@@ -26,7 +26,10 @@ one_more : (f : ℕ → Bool) (i : Rectangle) (o : Option (List Rectangle)) →
     set_with (λ s. f s || covers i s) o ≡ set_with f (with_item i o)
 one_more f i None = refl
 one_more f i (Some is) =
-    ap (λ n. Some n) (set_of-same (λ s. (f s || covers i s) || list_any (λ j. covers j s) is) (λ s. f s || list_any (λ j. covers j s) (i ∷ is)) (λ s l. or_assoc (f s) (covers i s) (list_any (λ j. covers j s) is)))
+    ap (λ n. Some n)
+    (set_of-same (λ s. (f s || covers i s) || list_any (λ j. covers j s) is)
+    (λ s. f s || list_any (λ j. covers j s) (i ∷ is))
+    (λ s l. or_assoc (f s) (covers i s) (list_any (λ j. covers j s) is)))
 
 pub items_union : (f : ℕ → Bool) (is : List (Option Rectangle)) →
     with_items (set_of f) is ≡ set_with f (all_items is)

@@ -49,14 +49,17 @@ begins_skip (b ∷ bs) l = begins_case (is_blank b) b bs refl l (begins_skip bs)
 -- no byte of a word
 pub words_absent : (line : List ℕ) → None ≡ position (λ b. not (is_blank b)) line → words line ≡ []
 words_absent line h =
-    let all : drop (blanks line) line ≡ [] = drop_all (blanks line) line (absent (λ b. not (is_blank b)) line h) in
+    let all : drop (blanks line) line ≡ [] = drop_all (blanks line) line
+    (absent (λ b. not (is_blank b)) line h) in
     sym (words_skip line) ∙ ap words all ∙ no_words
 
 -- the first byte of a word
 pub words_start : (line : List ℕ) (i : ℕ) → Some i ≡ position (λ b. not (is_blank b)) line →
     words line ≡ words (from_place i line)
 words_start line i h =
-    rw from_place_drop (subst (λ n. words line ≡ words (drop n line)) (present (λ b. not (is_blank b)) line i h).0 (sym (words_skip line)))
+    rw from_place_drop
+    (subst (λ n. words line ≡ words (drop n line)) (present (λ b. not (is_blank b)) line i h).0
+    (sym (words_skip line)))
 
 pub begins_start : (line : List ℕ) (i : ℕ) → Some i ≡ position (λ b. not (is_blank b)) line →
     IsTrue (begins_word (from_place i line))
@@ -110,8 +113,16 @@ pub some_bytes : (line : List ℕ) → IsTrue (begins_word line) → 0 < length 
 some_bytes [] h = absurd cc
 some_bytes (b ∷ bs) h = omega arith
 
-pub ruleset wording =
-    (words_absent, words_start, begins_start, word_last, word_next, start_within, end_within, some_bytes)
+pub ruleset wording = (
+  words_absent,
+  words_start,
+  begins_start,
+  word_last,
+  word_next,
+  start_within,
+  end_within,
+  some_bytes,
+)
 
 pub word_at_zero : (ws : List (List ℕ)) (k : ℕ) → k ≤ 0 → word_at ws k ≡ None
 word_at_zero [] k h = refl

@@ -18,7 +18,8 @@ first x xs = (zero, omega arith, refl)
 later : {X : Type 0} (y : X) (xs : List X) (x : X) → Contains xs x → Contains (y ∷ xs) x
 later y xs x (k, h, e) = (suc k, omega (arith, h), e)
 
-pub cases : {X : Type 0} (y : X) (xs : List X) (x : X) → Contains (y ∷ xs) x → (y ≡ x) ⊎ Contains xs x
+pub cases : {X : Type 0} (y : X) (xs : List X) (x : X) → Contains (y ∷ xs) x
+    → (y ≡ x) ⊎ Contains xs x
 cases y xs x (zero, h, e) = inl e
 cases y xs x (suc k, h, e) = inr (k, omega (arith, h), e)
 
@@ -37,19 +38,24 @@ module _ {X Y : Type 0} (f : X → Option Y) where
   pub picked_from : (xs : List X) (y : Y) → Contains (filter_map f xs) y → Picked f xs y
   picked_from [] y h = absurd (none_in y h)
   picked_from (x ∷ xs) y h = elim (maybe (f x)) [
-    | inl s ↦ elim (cases s.0 (filter_map f xs) y (subst (λ ys. Contains ys y) (taken x xs s.0 s.1) h)) [
-      | inl e ↦ (x, first x xs, s.1 ∙ ap Some e)
-      | inr i ↦ let r = picked_from xs y i in (r.0, later x xs r.0 r.1, r.2)
-    ]
-    | inr n ↦ let r = picked_from xs y (subst (λ ys. Contains ys y) (left x xs n) h) in (r.0, later x xs r.0 r.1, r.2)
+    | inl s ↦ elim (cases s.0 (filter_map f xs) y
+        (subst (λ ys. Contains ys y) (taken x xs s.0 s.1) h)) [
+          | inl e ↦ (x, first x xs, s.1 ∙ ap Some e)
+          | inr i ↦ let r = picked_from xs y i in (r.0, later x xs r.0 r.1, r.2)
+        ]
+    | inr n ↦ let r = picked_from xs y (subst (λ ys. Contains ys y) (left x xs n) h) in
+        (r.0, later x xs r.0 r.1, r.2)
   ]
 
-  pub picked_in : (xs : List X) (x : X) (y : Y) → Contains xs x → f x ≡ Some y → Contains (filter_map f xs) y
+  pub picked_in : (xs : List X) (x : X) (y : Y) → Contains xs x → f x ≡ Some y
+      → Contains (filter_map f xs) y
   picked_in [] x y h e = absurd (none_in x h)
   picked_in (z ∷ xs) x y h e = elim (cases z xs x h) [
-    | inl s ↦ subst (λ ys. Contains ys y) (sym (taken z xs y (ap f s ∙ e))) (first y (filter_map f xs))
+    | inl s ↦ subst (λ ys. Contains ys y) (sym (taken z xs y (ap f s ∙ e)))
+        (first y (filter_map f xs))
     | inr i ↦ let r = picked_in xs x y i e in elim (maybe (f z)) [
-      | inl s ↦ subst (λ ys. Contains ys y) (sym (taken z xs s.0 s.1)) (later s.0 (filter_map f xs) y r)
+      | inl s ↦ subst (λ ys. Contains ys y) (sym (taken z xs s.0 s.1))
+          (later s.0 (filter_map f xs) y r)
       | inr n ↦ subst (λ ys. Contains ys y) (sym (left z xs n)) r
     ]
   ]
@@ -77,9 +83,13 @@ pub one_place : {X Y : Type 0} (f : X → Option Y) (R : X → X → Type 0) (S 
     slice_get (filter_map f xs) l ≡ Some z → S y z → k ≡ l
 one_place f R S [] h turn from k l y z a b s = absurd (none_in y (placed [] k y a))
 one_place {X} {Y} f R S (x ∷ xs) h turn from k l y z a b s = elim (maybe (f x)) [
-  | inr n ↦ one_place f R S xs h.1 turn from k l y z (subst (λ ys. slice_get ys k ≡ Some y) (left f x xs n) a) (subst (λ ys. slice_get ys l ≡ Some z) (left f x xs n) b) s
+  | inr n ↦ one_place f R S xs h.1 turn from k l y z
+      (subst (λ ys. slice_get ys k ≡ Some y) (left f x xs n) a)
+      (subst (λ ys. slice_get ys l ≡ Some z) (left f x xs n) b) s
   | inl t ↦
-      at t.0 t.1 (λ k l u v. one_place f R S xs h.1 turn from k l y z u v s) k l (subst (λ ys. slice_get ys k ≡ Some y) (taken f x xs t.0 t.1) a) (subst (λ ys. slice_get ys l ≡ Some z) (taken f x xs t.0 t.1) b)
+      at t.0 t.1 (λ k l u v. one_place f R S xs h.1 turn from k l y z u v s) k l
+      (subst (λ ys. slice_get ys k ≡ Some y) (taken f x xs t.0 t.1) a)
+      (subst (λ ys. slice_get ys l ≡ Some z) (taken f x xs t.0 t.1) b)
 ]
   where
     clash : (v w : Y) → f x ≡ Some v → S v w → Contains (filter_map f xs) w → ⊥
@@ -88,12 +98,15 @@ one_place {X} {Y} f R S (x ∷ xs) h turn from k l y z a b s = elim (maybe (f x)
         h.0 r.0 r.1 (from x r.0 v w e r.2 c)
 
     at : (v : Y) → f x ≡ Some v →
-        ((k l : ℕ) → slice_get (filter_map f xs) k ≡ Some y → slice_get (filter_map f xs) l ≡ Some z → k ≡ l) →
+        ((k l : ℕ) → slice_get (filter_map f xs) k ≡ Some y →
+        slice_get (filter_map f xs) l ≡ Some z → k ≡ l) →
         (k l : ℕ) → slice_get (v ∷ filter_map f xs) k ≡ Some y →
         slice_get (v ∷ filter_map f xs) l ≡ Some z → k ≡ l
     at v e later zero zero a b = refl
     at v e later zero (suc l) a b =
-        absurd (clash v z e (subst (λ u. S u z) (sym (same_Some v y a)) s) (placed (filter_map f xs) l z b))
+        absurd (clash v z e (subst (λ u. S u z) (sym (same_Some v y a)) s)
+        (placed (filter_map f xs) l z b))
     at v e later (suc k) zero a b =
-        absurd (clash v y e (subst (λ u. S u y) (sym (same_Some v z b)) (turn y z s)) (placed (filter_map f xs) k y a))
+        absurd (clash v y e (subst (λ u. S u y) (sym (same_Some v z b)) (turn y z s))
+        (placed (filter_map f xs) k y a))
     at v e later (suc k) (suc l) a b = ap suc (later k l a b)

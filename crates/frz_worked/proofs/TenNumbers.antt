@@ -86,7 +86,10 @@ unfolding none_clash clash
 apart [] h = tt
 apart (e ∷ es) h =
     let both = and_parts (list_all (λ g. not (clash e g)) es) (none_clash es) h in (
-      λ g i c. absurd (true≢false (sym (each (λ x. not (clash e x)) es g both.0 i) ∙ ap not (and_from (e.number == g.number) (target_of e.next == target_of g.next) (eq-eqb e.number g.number c.0) (eq-eqb (target_of e.next) (target_of g.next) c.1)))),
+      λ g i c. absurd (true≢false
+          (sym (each (λ x. not (clash e x)) es g both.0 i)
+          ∙ ap not (and_from (e.number == g.number) (target_of e.next == target_of g.next)
+          (eq-eqb e.number g.number c.0) (eq-eqb (target_of e.next) (target_of g.next) c.1)))),
       apart es both.1,
     )
 
@@ -107,7 +110,8 @@ edge_of i a h =
 
 arm_at : (e : Edge) → Contains EDGES e → IsArm game e.number (arm_of e)
 arm_at e i =
-    picked_in (arm_from e.number) EDGES e (arm_of e) i (keeps (e.number == e.number) (arm_of e) (eq-eqb e.number e.number refl))
+    picked_in (arm_from e.number) EDGES e (arm_of e) i
+    (keeps (e.number == e.number) (arm_of e) (eq-eqb e.number e.number refl))
 
 inside_of : (q : ℕ) (n : Next) → leads_to q n ≡ true → n ≡ Inside q
 inside_of q (Inside p) h = ap Inside (eqb-true p q h)
@@ -143,13 +147,17 @@ preds_are q i m = (
 
 pub preds_once : (q : ℕ) → HaveDifferentNumbers (preds_to q)
 preds_once q k l x y a b s =
-    one_place (pred_to q) Clash (λ (u v : Pred). u.number ≡ v.number) EDGES (apart EDGES edges_apart) (λ _ _ e. sym e)
+    one_place (pred_to q) Clash (λ (u v : Pred). u.number ≡ v.number) EDGES
+    (apart EDGES edges_apart) (λ _ _ e. sym e)
     (λ e g u v c d t.
     let f = kept (leads_to q e.next) (pred_of e) u c in
     let h = kept (leads_to q g.next) (pred_of g) v d in
     let n : e.number ≡ u.number = ap (λ (p : Pred). p.number) f.1 in
-    let o : g.number ≡ v.number = ap (λ (p : Pred). p.number) h.1 in
-    (n ∙ (t ∙ sym o), ap target_of (inside_of q e.next f.0) ∙ sym (ap target_of (inside_of q g.next h.0)))) k l x y a b s
+    let o : g.number ≡ v.number = ap (λ (p : Pred). p.number) h.1 in (
+      n ∙ (t ∙ sym o),
+      ap target_of (inside_of q e.next f.0)
+          ∙ sym (ap target_of (inside_of q g.next h.0)),
+    )) k l x y a b s
 
 -- The tables are gone through from the first edge on: one that is picked, and one that is not.
 more_by : {Y : Type 0} (f : Edge → Option Y) (k : ℕ) (d : Edge) (o : Option Y) → k < 15 →
@@ -165,12 +173,14 @@ pub arms_more : (i k : ℕ) (d : Edge) → k < 15 → (get_or EDGES k d).number 
     filter_map (arm_from i) (take (k + 1) EDGES)
     ≡ filter_map (arm_from i) (take k EDGES) ++ arm_of (get_or EDGES k d) ∷ []
 arms_more i k d l e = let edge = get_or EDGES k d in
-    more_by (arm_from i) k d (Some (arm_of edge)) l (keeps (edge.number == i) (arm_of edge) (eq-eqb edge.number i e))
+    more_by (arm_from i) k d (Some (arm_of edge)) l
+    (keeps (edge.number == i) (arm_of edge) (eq-eqb edge.number i e))
 
 pub arms_same : (i k : ℕ) (d : Edge) → k < 15 → (get_or EDGES k d).number ≢ i →
     filter_map (arm_from i) (take (k + 1) EDGES) ≡ filter_map (arm_from i) (take k EDGES)
 arms_same i k d l n = let edge = get_or EDGES k d in
-    more_by (arm_from i) k d None l (drops (edge.number == i) (arm_of edge) (ne_eqb edge.number i n))
+    more_by (arm_from i) k d None l
+    (drops (edge.number == i) (arm_of edge) (ne_eqb edge.number i n))
     ∙ append-nil (filter_map (arm_from i) (take k EDGES))
 
 pub preds_more : (q k : ℕ) (d : Edge) → k < 15 → leads_to q (get_or EDGES k d).next ≡ true →
@@ -204,7 +214,8 @@ fit : (e : Edge) → Contains EDGES e →
 unfolding fits
 fit e i = and_parts (is_going (game.node e.number)) (fits_next e.next) (each fits EDGES e all_fit i)
 
-fit_arm : (i : ℕ) (a : Arm) → IsArm game i a → (is_going (game.node i) ≡ true) × (fits_next a.next ≡ true)
+fit_arm : (i : ℕ) (a : Arm) → IsArm game i a → (is_going (game.node i) ≡ true)
+    × (fits_next a.next ≡ true)
 fit_arm i a h =
     let r = edge_of i a h in
     let f = fit r.0 r.1 in
@@ -235,17 +246,20 @@ finite = record {
 
 pub different : HasDifferentArms game
 different i k l q a b =
-    one_place (arm_from i) Clash (λ (u v : Arm). u.next ≡ v.next) EDGES (apart EDGES edges_apart) (λ _ _ e. sym e)
+    one_place (arm_from i) Clash (λ (u v : Arm). u.next ≡ v.next) EDGES (apart EDGES edges_apart)
+    (λ _ _ e. sym e)
     (λ e g u v c d t.
     let f = kept (e.number == i) (arm_of e) u c in
     let h = kept (g.number == i) (arm_of g) v d in
     let n : e.next ≡ u.next = ap (λ (x : Arm). x.next) f.1 in
     let o : g.next ≡ v.next = ap (λ (x : Arm). x.next) h.1 in
-    (eqb-true e.number i f.0 ∙ sym (eqb-true g.number i h.0), ap target_of (n ∙ (t ∙ sym o)))) k l a.0 b.0 a.1 b.1 (a.2 ∙ sym b.2)
+    (eqb-true e.number i f.0 ∙ sym (eqb-true g.number i h.0), ap target_of (n ∙ (t ∙ sym o)))) k l
+    a.0 b.0 a.1 b.1 (a.2 ∙ sym b.2)
 
 pub free_is : (i : ℕ) (a : Arm) → IsArm game i a → is_free i a.mv.to ≡ a.free
 free_is i a h =
     let r = edge_of i a h in
     let s : step_of r.0.next ≡ a.mv = ap (λ (x : Arm). x.mv) r.3 in
     let f : is_free r.0.number (target_of r.0.next) ≡ a.free = ap (λ (x : Arm). x.free) r.3 in
-    ap (is_free i) (sym (ap (λ (m : Step). m.to) s)) ∙ (ap (λ j. is_free j (target_of r.0.next)) (sym r.2) ∙ f)
+    ap (is_free i) (sym (ap (λ (m : Step). m.to) s))
+    ∙ (ap (λ j. is_free j (target_of r.0.next)) (sym r.2) ∙ f)

@@ -1,6 +1,7 @@
 //! Builds and checks the tables of the rules texts that are named as arguments, over real files,
-//! and asks them at the positions of the file `bounds`. The table of `RULES on BACK` is chained over
-//! that of BACK, which an argument before it named, and `sample SQUARE` prints the sample of a square.
+//! and asks them at the positions of the file `bounds`. The table of `RULES on BACK` is chained
+//! over that of BACK, which an argument before it named, and
+//! `sample SQUARE` prints the sample of a square.
 #![tactic(auto)]
 
 ghost use Rattle.std.specs.Prelude.{◌≡◌, ◌<◌};
@@ -18,8 +19,8 @@ use std::process::ExitCode;
 use std::sync::ledger::{Blank, Ledger};
 use std::{env, fs};
 
-/// Builds the table of a rules text under its name with `.t` behind it, and checks it. Gives whether
-/// both went well.
+/// Builds the table of a rules text under its name with `.t`
+/// behind it, and checks it. Gives whether both went well.
 fn build_and_check<S: Store, O: Sink, L: Ledger>(
     alloc: Global,
     rules: &str,

@@ -9,5 +9,6 @@ returns c =
     let same = c.skip.ensures.source in
     items_from_collect c.collect.result c.collect.ensures.ran
     (YieldsList-from_skip _
-    (YieldsList-from_vec _ (ap into_iter_items same) (ap into_iter_len same ∙ c.args.args.rest.ok.0))
+    (YieldsList-from_vec _ (ap into_iter_items same)
+    (ap into_iter_len same ∙ c.args.args.rest.ok.0))
     c.skip.ensures.count)

@@ -1,4 +1,5 @@
--- Each position of a finite arena has a bound, of at most as many plies as the size and the greatest lag.
+-- Each position of a finite arena has a bound, of at most as
+-- many plies as the size and the greatest lag.
 use Rattle.std.proofs.Common.{◌≡◌, ◌≢◌, ◌≤◌, ◌<◌, ◌+◌, ℕ, zero, suc, inl, inr, List, [], ◌∷◌, length, refl, subst, ap, arith}
 use Rattle.std.specs.Prelude.{eqb}
 use Rattle.std.specs.List.{Contains, IsDistinct}
@@ -25,7 +26,9 @@ use Rattle.frz_arena.proofs.Plies.Decided.{each_or_not, each_free_or_not, good_d
 -- an arm that is good at one ply more leads to a least win
 least_arm : {M N V : Type 0} (arena : Arena M N V) (side : Colour) (most n : ℕ) → most < suc n →
     (x : Next N V) → ((v : V) → x ≡ Outside v → arena.class v side ≡ Good → arena.lag v ≤ most)
-    → LeadsTo (WinsWithin arena side (suc n)) (IsGoodExit arena side (suc n)) x → (LeadsTo (WinsWithin arena side n) (IsGoodExit arena side n) x → ⊥) → (q : N) × IsBound arena side q (Wins (suc n))
+    → LeadsTo (WinsWithin arena side (suc n)) (IsGoodExit arena side (suc n)) x
+    → (LeadsTo (WinsWithin arena side n) (IsGoodExit arena side n) x → ⊥)
+    → (q : N) × IsBound arena side q (Wins (suc n))
 least_arm arena side most n l (Inside q) lags h not =
     (q, (h, λ k m v. not (wins_later arena side k n q (omega arith) v)))
 least_arm arena side most n l (Outside v) lags h not =
@@ -37,16 +40,22 @@ pub win_step : {M N V : Type 0} (arena : Arena M N V) → IsLawful arena →
     IsBound arena side p (Wins (suc (suc n))) → (q : N) × IsBound arena side q (Wins (suc n))
 win_step arena law side most lags n l p (inl w, least) = absurd (least (suc n) (omega arith) w)
 win_step arena law side most lags n l p (inr (inl w), least) =
-    least_arm arena side most n l w.1.0.next (λ v. lags p w.1.0 v w.1.1) w.1.3 (λ g. least (suc n) (omega arith) (inr (inl (w.0, (w.1.0, w.1.1, w.1.2, g)))))
+    least_arm arena side most n l w.1.0.next (λ v. lags p w.1.0 v w.1.1) w.1.3
+    (λ g. least (suc n) (omega arith) (inr (inl (w.0, (w.1.0, w.1.1, w.1.2, g)))))
 win_step {M} {N} {V} arena law side most lags n l p (inr (inr w), least) =
-    elim (each_or_not (λ (a : Arm M N V). LeadsTo (WinsWithin arena side n) (IsGoodExit arena side n) a.next) (λ a. good_decided arena side n (wins_decided arena law side n) a.next) (arena.arms p)) [
+    elim (each_or_not (λ (a : Arm M N V). LeadsTo (WinsWithin arena side n)
+    (IsGoodExit arena side n) a.next)
+    (λ a. good_decided arena side n (wins_decided arena law side n) a.next) (arena.arms p)) [
       | inl all ↦
-          absurd (least (suc n) (omega arith) (inr (inr (w.0, (w.1.0, w.1.1, all w.1.0 w.1.1), all))))
+          absurd (least (suc n) (omega arith)
+          (inr (inr (w.0, (w.1.0, w.1.1, all w.1.0 w.1.1), all))))
       | inr r ↦ least_arm arena side most n l r.0.next (λ v. lags p r.0 v r.1) (w.2 r.0 r.1) r.2
     ]
 
 least_bad_arm : {M N V : Type 0} (arena : Arena M N V) (side : Colour) (n : ℕ) (x : Next N V)
-    → LeadsTo (FailsWithin arena side (suc n)) (IsBadExit arena side) x → (LeadsTo (FailsWithin arena side n) (IsBadExit arena side) x → ⊥) → (q : N) × IsBound arena side q (Fails (suc n))
+    → LeadsTo (FailsWithin arena side (suc n)) (IsBadExit arena side) x
+    → (LeadsTo (FailsWithin arena side n) (IsBadExit arena side) x → ⊥) → (q : N)
+    × IsBound arena side q (Fails (suc n))
 least_bad_arm arena side n (Inside q) h not =
     (q, (h, λ k m v. not (fails_later arena side k n q (omega arith) v)))
 least_bad_arm arena side n (Outside v) h not = absurd (not h)
@@ -56,11 +65,14 @@ pub failure_step : {M N V : Type 0} (arena : Arena M N V) → IsLawful arena →
     (q : N) × IsBound arena side q (Fails (suc n))
 failure_step arena law side n p (inl w, least) = absurd (least (suc n) (omega arith) w)
 failure_step arena law side n p (inr (inl w), least) =
-    least_bad_arm arena side n w.1.0.next w.1.2 (λ g. least (suc n) (omega arith) (inr (inl (w.0, (w.1.0, w.1.1, g)))))
+    least_bad_arm arena side n w.1.0.next w.1.2
+    (λ g. least (suc n) (omega arith) (inr (inl (w.0, (w.1.0, w.1.1, g)))))
 failure_step {M} {N} {V} arena law side n p (inr (inr w), least) =
-    elim (each_free_or_not arena (LeadsTo (FailsWithin arena side n) (IsBadExit arena side)) (bad_decided arena side n (fails_decided arena law side n)) p) [
+    elim (each_free_or_not arena (LeadsTo (FailsWithin arena side n) (IsBadExit arena side))
+    (bad_decided arena side n (fails_decided arena law side n)) p) [
       | inl all ↦
-          absurd (least (suc n) (omega arith) (inr (inr (w.0, (w.1.0, w.1.1, w.1.2, all w.1.0 w.1.1 w.1.2), all))))
+          absurd (least (suc n) (omega arith)
+          (inr (inr (w.0, (w.1.0, w.1.1, w.1.2, all w.1.0 w.1.1 w.1.2), all))))
       | inr r ↦ elim (true_or_false r.0.free) [
         | inl t ↦ least_bad_arm arena side n r.0.next (w.2 r.0 r.1 t) (λ g. r.2 (λ _. g))
         | inr f ↦ absurd (r.2 (λ t. absurd (cc)))
@@ -86,14 +98,18 @@ descent {B = B} d zero n p h b = record {
   many = refl;
   distinct = one_distinct p;
   each =
-      λ x i. elim (in_cases p [] x i) [ inl e ↦ (n, omega arith, subst (λ z. B n z) e b) | inr j ↦ absurd (none_in_empty x j) ];
+      λ x i. elim (in_cases p [] x i)
+      [ inl e ↦ (n, omega arith, subst (λ z. B n z) e b) | inr j ↦ absurd (none_in_empty x j) ];
 }
 descent d (suc k) zero p h b = absurd (omega arith)
 descent d (suc k) (suc zero) p h b = absurd (omega arith)
 descent {B = B} d (suc k) (suc (suc n)) p h b =
     let q = d.step n (omega arith) p b in
     let c = descent d k (suc n) q.0 (omega arith) q.1 in
-    let new : (x : ℕ) → Contains c.nodes x → p ≢ x = λ x i e. (let r = c.each x i in let g = d.one (suc (suc n)) r.0 x (subst (λ z. B (suc (suc n)) z) e b) r.2 in let l = r.1 in omega arith) in
+    let new : (x : ℕ) → Contains c.nodes x
+    → p ≢ x = λ x i e.
+    (let r = c.each x i in let g = d.one (suc (suc n)) r.0 x
+    (subst (λ z. B (suc (suc n)) z) e b) r.2 in let l = r.1 in omega arith) in
     record {
       nodes = p ∷ c.nodes;
       many = ap suc c.many;
@@ -111,7 +127,8 @@ few {size} {most} {B} d n p b =
       | inr h ↦ h
       | inl h ↦ absurd (
           let c = descent d size n p (omega arith) b in
-          let l = length-le_from_distinct_below c.nodes size c.distinct (λ q t. (let r = c.each q (among c.nodes q t) in d.below r.0 q r.2)) in
+          let l = length-le_from_distinct_below c.nodes size c.distinct
+          (λ q t. (let r = c.each q (among c.nodes q t) in d.below r.0 q r.2)) in
           let m = c.many in
           omega arith)
     ]
@@ -121,7 +138,8 @@ wins_descend : {M V : Type 0} (arena : Arena M ℕ V) → IsLawful arena → (si
     Descends size most (λ n p. IsBound arena side p (Wins n))
 wins_descend arena law size numbered side most lags = record {
   below =
-      λ n p b. elim (cases_lt p size) [ inl l ↦ l | inr l ↦ absurd (broken_never_wins arena side n p (numbered.past p l) b.0) ];
+      λ n p b. elim (cases_lt p size)
+      [ inl l ↦ l | inr l ↦ absurd (broken_never_wins arena side n p (numbered.past p l) b.0) ];
   one = λ n m p b c. (let e = one_bound arena side p (Wins n) (Wins m) b c in cc);
   step = λ n l p b. win_step arena law side most lags n l p b;
 }
@@ -131,7 +149,8 @@ fails_descend : {M V : Type 0} (arena : Arena M ℕ V) → IsLawful arena → (s
     Descends size 0 (λ n p. IsBound arena side p (Fails n))
 fails_descend arena law size numbered side = record {
   below =
-      λ n p b. elim (cases_lt p size) [ inl l ↦ l | inr l ↦ absurd (broken_never_fails arena side n p (numbered.past p l) b.0) ];
+      λ n p b. elim (cases_lt p size)
+      [ inl l ↦ l | inr l ↦ absurd (broken_never_fails arena side n p (numbered.past p l) b.0) ];
   one = λ n m p b c. (let e = one_bound arena side p (Fails n) (Fails m) b c in cc);
   step = λ n l p b. failure_step arena law side n p b;
 }
@@ -154,16 +173,20 @@ pub bound_exists : {M V : Type 0} (arena : Arena M ℕ V) → IsLawful arena →
     (b : Bound) × IsBound arena side p b
 bound_exists arena law size numbered side most lags p =
     elim (wins_decided arena law side (size + most) p) [
-      | inl w ↦ (let r = least_of (λ n. WinsWithin arena side n p) (λ n. wins_decided arena law side n p) (size + most) w in (Wins r.0, (r.2, r.3)))
+      | inl w ↦ (let r = least_of (λ n. WinsWithin arena side n p)
+          (λ n. wins_decided arena law side n p) (size + most) w in (Wins r.0, (r.2, r.3)))
       | inr none ↦ elim (fails_decided arena law side (size + most) p) [
-        | inl f ↦ (let r = least_of (λ n. FailsWithin arena side n p) (λ n. fails_decided arena law side n p) (size + most) f in (Fails r.0, (r.2, r.3)))
+        | inl f ↦ (let r = least_of (λ n. FailsWithin arena side n p)
+            (λ n. fails_decided arena law side n p) (size + most) f in (Fails r.0, (r.2, r.3)))
         | inr never ↦ (
           Holds,
           (
-            λ n w. (let r = least_of (λ n. WinsWithin arena side n p) (λ n. wins_decided arena law side n p) n w in
+            λ n w. (let r = least_of (λ n. WinsWithin arena side n p)
+                (λ n. wins_decided arena law side n p) n w in
                 let l = win_plies_few arena law size numbered side most lags r.0 p (r.2, r.3) in
                 none (wins_later arena side r.0 (size + most) p l r.2)),
-            λ n f. (let r = least_of (λ n. FailsWithin arena side n p) (λ n. fails_decided arena law side n p) n f in
+            λ n f. (let r = least_of (λ n. FailsWithin arena side n p)
+                (λ n. fails_decided arena law side n p) n f in
                 let l = failure_plies_few arena law size numbered side r.0 p (r.2, r.3) in
                 never (fails_later arena side r.0 (size + most) p (omega arith) r.2)),
           ),

@@ -79,8 +79,10 @@ codes_of_bounds arena side entry codes p =
           Holds,
           e,
           (
-            λ n w. (let g = ((codes.wins n p).0 w).0 in let b : is_win 1 ≡ true = subst (λ x. is_win x ≡ true) e g in cc),
-            λ n f. (let g = ((codes.fails n p).0 f).0 in let b : is_failure 1 ≡ true = subst (λ x. is_failure x ≡ true) e g in cc),
+            λ n w. (let g = ((codes.wins n p).0 w).0 in let b : is_win 1 ≡ true = subst
+                (λ x. is_win x ≡ true) e g in cc),
+            λ n f. (let g = ((codes.fails n p).0 f).0 in let b : is_failure 1 ≡ true = subst
+                (λ x. is_failure x ≡ true) e g in cc),
           ),
         ),
       )
@@ -129,7 +131,8 @@ bound_fails arena side p (Wins m) h n = (
 )
 bound_fails arena side p Holds h n = (λ f. absurd (h.1 n f), λ c. absurd (let g = c.0 in cc))
 bound_fails arena side p (Fails m) h n = (
-  λ f. elim (cases_lt n m) [ inl l ↦ absurd (h.1 n l f) | inr l ↦ ((as_failure (3 + 2 * m) m refl).0, omega arith) ],
+  λ f. elim (cases_lt n m)
+      [ inl l ↦ absurd (h.1 n l f) | inr l ↦ ((as_failure (3 + 2 * m) m refl).0, omega arith) ],
   λ c. (let l = c.1 in fails_later arena side m n p (omega arith) h.0),
 )
 
@@ -140,13 +143,26 @@ code_above (Fails n) = omega arith
 
 at_code : {M N V : Type 0} (arena : Arena M N V) (side : Colour) (p : N) (c : ℕ) →
     IsCodeAt arena side p c →
-    record { broken : (arena.node p ≡ Broken) ↔ (c ≡ 0); wins : (n : ℕ) → WinsWithin arena side n p ↔ IsWinWithin n c; fails : (n : ℕ) → FailsWithin arena side n p ↔ IsFailureWithin n c }
+    record {
+      broken : (arena.node p ≡ Broken) ↔ (c ≡ 0);
+      wins : (n : ℕ)
+          → WinsWithin arena side n p ↔ IsWinWithin n c;
+      fails : (n : ℕ)
+          → FailsWithin arena side n p ↔ IsFailureWithin n c;
+    }
 at_code arena side p c (inl h) = record {
   broken = (λ e. h.1, λ e. h.0);
   wins =
-      λ n. (λ w. absurd (broken_never_wins arena side n p h.0 w), λ k. absurd (let b : is_win 0 ≡ true = subst (λ x. is_win x ≡ true) h.1 k.0 in cc));
+      λ n. (
+        λ w. absurd (broken_never_wins arena side n p h.0 w),
+        λ k. absurd (let b : is_win 0 ≡ true = subst (λ x. is_win x ≡ true) h.1 k.0 in cc),
+      );
   fails =
-      λ n. (λ w. absurd (broken_never_fails arena side n p h.0 w), λ k. absurd (let b : is_failure 0 ≡ true = subst (λ x. is_failure x ≡ true) h.1 k.0 in cc));
+      λ n. (
+        λ w. absurd (broken_never_fails arena side n p h.0 w),
+        λ k. absurd (let b : is_failure 0 ≡ true = subst (λ x. is_failure x ≡ true) h.1 k.0 in
+            cc),
+      );
 }
 at_code arena side p c (inr h) =
     let b = h.1.0 in
@@ -154,8 +170,10 @@ at_code arena side p c (inr h) =
     let l = code_above b in
     record {
       broken = (λ k. absurd (h.0 k), λ k. absurd (omega arith));
-      wins = λ n. subst (λ z. WinsWithin arena side n p ↔ IsWinWithin n z) (sym e) (bound_wins arena side p b h.1.2 n);
-      fails = λ n. subst (λ z. FailsWithin arena side n p ↔ IsFailureWithin n z) (sym e) (bound_fails arena side p b h.1.2 n);
+      wins = λ n. subst (λ z. WinsWithin arena side n p ↔ IsWinWithin n z) (sym e)
+          (bound_wins arena side p b h.1.2 n);
+      fails = λ n. subst (λ z. FailsWithin arena side n p ↔ IsFailureWithin n z) (sym e)
+          (bound_fails arena side p b h.1.2 n);
     }
 
 pub bounds_are_codes : {M N V : Type 0} (arena : Arena M N V) (side : Colour) (entry : N → ℕ) →
@@ -182,5 +200,11 @@ opposed_bounds arena law side p n (Wins k) h c =
     absurd (never_both arena (other_of side) k n p c.0 (wins_gives_fails arena law side n p h.0))
 opposed_bounds arena law side p n Holds h c =
     absurd (c.1 n (wins_gives_fails arena law side n p h.0))
-opposed_bounds arena law side p n (Fails m) h c =
-    (m, elim (cases_lt n m) [ inl l ↦ absurd (c.1 n l (wins_gives_fails arena law side n p h.0)) | inr l ↦ l ], refl)
+opposed_bounds arena law side p n (Fails m) h c = (
+  m,
+  elim (cases_lt n m) [
+    | inl l ↦ absurd (c.1 n l (wins_gives_fails arena law side n p h.0))
+    | inr l ↦ l
+  ],
+  refl,
+)

@@ -26,16 +26,23 @@ is_bad Bad g s = refl
 
 -- what the other_of forces is bad, where the exits are true
 forced_is_bad : {P M V : Type 0} (game : Game P M V) → TrueExits game → (side : Colour) (n : ℕ) →
-    ((q : P) → game.member q ≡ true → Forces game.chess mate_alone (other_of side) n q → FailsWithin (arena_of game) side n q)
-    → (p : P) (m : M) → game.member p ≡ true → Contains (game.chess.moves p) m → Forces game.chess mate_alone (other_of side) n (game.chess.play p m)
-    → LeadsTo (FailsWithin (arena_of game) side n) (IsBadExit (arena_of game) side) (arm_of game p m).next
+    ((q : P) → game.member q ≡ true → Forces game.chess mate_alone (other_of side) n q
+    → FailsWithin (arena_of game) side n q)
+    → (p : P) (m : M) → game.member p ≡ true → Contains (game.chess.moves p) m
+    → Forces game.chess mate_alone (other_of side) n (game.chess.play p m)
+    → LeadsTo (FailsWithin (arena_of game) side n) (IsBadExit (arena_of game) side)
+    (arm_of game p m).next
 forced_is_bad {P} {M} {V} game exits side n ih p m b i f =
     let q = game.chess.play p m in
-    let exit : game.member q ≡ false → IsExit game q = λ o. record { from = p; move = m; begins = b; legal = i; ends = refl; outside = o } in
-    leads_inside (FailsWithin (arena_of game) side n) (IsBadExit (arena_of game) side) (game.member q) q (game.value q)
+    let exit : game.member q ≡ false
+    → IsExit game q =
+    λ o. record { from = p; move = m; begins = b; legal = i; ends = refl; outside = o } in
+    leads_inside (FailsWithin (arena_of game) side n) (IsBadExit (arena_of game) side)
+    (game.member q) q (game.value q)
     (λ e. ih q e f)
     (λ o. is_bad (game.class (game.value q) side)
-    (λ g. (let k = true_win game exits side q (exit o) g in one_forces game.chess side k.0 n q k.1 f))
+    (λ g. (let k = true_win game exits side q (exit o) g in
+    one_forces game.chess side k.0 n q k.1 f))
     (λ s. (exits q (exit o)).holds side s n f))
 
 pub forced_fails : {P M V : Type 0} (game : Game P M V) → TrueExits game →
@@ -43,19 +50,33 @@ pub forced_fails : {P M V : Type 0} (game : Game P M V) → TrueExits game →
     Forces game.chess mate_alone (other_of side) n p → FailsWithin (arena_of game) side n p
 forced_fails game exits side zero p b (inl e) = absurd (cc)
 forced_fails game exits side zero p b (inr k) =
-    inl (mated_by (game.member p) (game.chess.moves p) (game.chess.in_check p) (game.chess.turn p) b k.no_move k.attacked ∙ ap Mate (k.to_move ∙ other_twice side))
+    inl (mated_by (game.member p) (game.chess.moves p) (game.chess.in_check p) (game.chess.turn p) b
+    k.no_move k.attacked ∙ ap Mate (k.to_move ∙ other_twice side))
 forced_fails game exits side (suc n) p b (inl f) = inl (forced_fails game exits side n p b f)
 forced_fails game exits side (suc n) p b (inr (inl e)) = absurd (cc)
 forced_fails game exits side (suc n) p b (inr (inr (inl f))) =
-    let some : game.chess.moves p ≢ [] = λ e. none_in_empty f.1.0 (subst (λ xs. Contains xs f.1.0) e f.1.1) in
-    let g = goes (game.member p) (game.chess.moves p) (game.chess.in_check p) (game.chess.turn p) b some in
-    inr (inl (g ∙ ap Going f.0, (arm_of game p f.1.0, arm_at game p f.1.0 f.1.1, forced_is_bad game exits side n (forced_fails game exits side n) p f.1.0 b f.1.1 f.1.2)))
+    let some : game.chess.moves p ≢ [] = λ e. none_in_empty f.1.0
+    (subst (λ xs. Contains xs f.1.0) e f.1.1) in
+    let g = goes (game.member p) (game.chess.moves p) (game.chess.in_check p) (game.chess.turn p) b
+    some in
+    inr (inl (
+      g ∙ ap Going f.0,
+      (
+        arm_of game p f.1.0,
+        arm_at game p f.1.0 f.1.1,
+        forced_is_bad game exits side n
+            (forced_fails game exits side n) p f.1.0 b f.1.1 f.1.2,
+      ),
+    ))
 forced_fails {P} {M} {V} game exits side (suc n) p b (inr (inr (inr f))) =
-    let g = goes (game.member p) (game.chess.moves p) (game.chess.in_check p) (game.chess.turn p) b f.1 ∙ ap Going (f.0 ∙ other_twice side) in
+    let g = goes (game.member p) (game.chess.moves p) (game.chess.in_check p) (game.chess.turn p) b
+    f.1 ∙ ap Going (f.0 ∙ other_twice side) in
     let F = FailsWithin (arena_of game) side n in
     let Q = IsBadExit (arena_of game) side in
     let each : (a : Arm M P V) → IsArm (arena_of game) p a → LeadsTo F Q a.next =
-    λ a i. (let m = move_of game p a i in subst (λ z. LeadsTo F Q z.next) m.2 (forced_is_bad game exits side n (forced_fails game exits side n) p m.0 b m.1 (f.2 m.0 m.1))) in
+    λ a i. (let m = move_of game p a i in subst (λ z. LeadsTo F Q z.next) m.2
+    (forced_is_bad game exits side n (forced_fails game exits side n) p m.0 b m.1
+    (f.2 m.0 m.1))) in
     elim (passes_or_none (λ (a : Arm M P V). a.free) ((arena_of game).arms p)) [
       | inl r ↦ inr (inr (g, (r.0, r.1, r.2, each r.0 r.1), λ a i _. each a i))
       | inr none ↦ inl (fails_at_once (arena_of game) side n p (inr (g, none)))

@@ -17,7 +17,8 @@ pub game_is_lawful : {P M V : Type 0} (game : Game P M V) →
     IsLawful (arena_of game)
 game_is_lawful game opposed = record {
   goes_on = λ p mover e h. (
-      let g = is_going (game.member p) (game.chess.moves p) (game.chess.in_check p) (game.chess.turn p) mover e in
+      let g = is_going (game.member p) (game.chess.moves p) (game.chess.in_check p)
+      (game.chess.turn p) mover e in
       g.1 (map_empty (arm_of game p) (game.chess.moves p) h));
   opposed = opposed;
 }

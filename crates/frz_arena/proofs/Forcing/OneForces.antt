@@ -22,8 +22,11 @@ no_mated_mover chess side (suc m) p w (inr (inr (inl f))) =
 no_mated_mover chess side (suc m) p w (inr (inr (inr f))) = two_turns (other_of side) w.to_move f.0
 
 no_double_mover : {P M : Type 0} (chess : Chess P M) (side : Colour) (n : ℕ) →
-    ((m : ℕ) (q : P) → Forces chess mate_alone side n q → Forces chess mate_alone (other_of side) m q → ⊥) → (m : ℕ) (p : P)
-    → ((chess.turn p ≡ side) × SomeMove chess (Forces chess mate_alone side n) p) ⊎ ((chess.turn p ≡ other_of side) × (chess.moves p ≢ []) × EachMove chess (Forces chess mate_alone side n) p)
+    ((m : ℕ) (q : P) → Forces chess mate_alone side n q
+    → Forces chess mate_alone (other_of side) m q → ⊥) → (m : ℕ) (p : P)
+    → ((chess.turn p ≡ side) × SomeMove chess (Forces chess mate_alone side n) p)
+    ⊎ ((chess.turn p ≡ other_of side) × (chess.moves p ≢ [])
+    × EachMove chess (Forces chess mate_alone side n) p)
     → Forces chess mate_alone (other_of side) m p → ⊥
 no_double_mover chess side n ih zero p w (inl e) = cc
 no_double_mover chess side n ih zero p (inl w) (inr k) =

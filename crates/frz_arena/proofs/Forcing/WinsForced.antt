@@ -14,12 +14,14 @@ use Rattle.frz_arena.specs.Games.{Game, next_by, node_by, arm_of, arena_of, goal
 use Rattle.frz_arena.proofs.Plies.Later.{later}
 use Rattle.frz_arena.proofs.LocalCodes.PlyCodes.{mapped_in, from_mapped}
 
-pub forces_later : {P M : Type 0} (chess : Chess P M) (goal : P → Option ℕ) (side : Colour) (n k : ℕ) (p : P) → n ≤ k → Forces chess goal side n p → Forces chess goal side k p
+pub forces_later : {P M : Type 0} (chess : Chess P M) (goal : P → Option ℕ) (side : Colour)
+    (n k : ℕ) (p : P) → n ≤ k → Forces chess goal side n p → Forces chess goal side k p
 forces_later chess goal side n k p h f =
     later (λ i. Forces chess goal side i p) (λ _ v. inl v) n k h f
 
 -- a goal within its lag
-pub forces_goal : {P M : Type 0} (chess : Chess P M) (goal : P → Option ℕ) (side : Colour) (n : ℕ) (p : P) → goal p ≡ Some n → Forces chess goal side n p
+pub forces_goal : {P M : Type 0} (chess : Chess P M) (goal : P → Option ℕ) (side : Colour) (n : ℕ)
+    (p : P) → goal p ≡ Some n → Forces chess goal side n p
 forces_goal chess goal side zero p e = inl e
 forces_goal chess goal side (suc n) p e = inr (inl e)
 
@@ -74,29 +76,46 @@ goal_by_class i c lag e h = rw (e, h) refl
 
 -- what is good at n is forced within n
 good_is_forced : {P M V : Type 0} (game : Game P M V) (side : Colour) (n : ℕ) →
-    ((q : P) → WinsWithin (arena_of game) side n q → Forces game.chess (goals_of game side) side n q) → (q : P) → LeadsTo (WinsWithin (arena_of game) side n) (IsGoodExit (arena_of game) side n) (next_by (game.member q) q (game.value q)) → Forces game.chess (goals_of game side) side n q
+    ((q : P) → WinsWithin (arena_of game) side n q
+    → Forces game.chess (goals_of game side) side n q) → (q : P)
+    → LeadsTo (WinsWithin (arena_of game) side n) (IsGoodExit (arena_of game) side n)
+    (next_by (game.member q) q (game.value q)) → Forces game.chess (goals_of game side) side n q
 good_is_forced game side n ih q h =
-    elim (leads_by (WinsWithin (arena_of game) side n) (IsGoodExit (arena_of game) side n) (game.member q) q (game.value q) h) [
+    elim (leads_by (WinsWithin (arena_of game) side n) (IsGoodExit (arena_of game) side n)
+    (game.member q) q (game.value q) h) [
       | inl w ↦ ih q w.1
       | inr w ↦
           forces_later game.chess (goals_of game side) side (game.lag (game.value q)) n q w.1.1
-          (forces_goal game.chess (goals_of game side) side (game.lag (game.value q)) q (goal_by_class (game.member q) (game.class (game.value q) side) (game.lag (game.value q)) w.0 w.1.0))
+          (forces_goal game.chess (goals_of game side) side (game.lag (game.value q)) q
+          (goal_by_class (game.member q) (game.class (game.value q) side) (game.lag (game.value q))
+          w.0 w.1.0))
     ]
 
 -- the restricted game's win is forced in chess
 pub wins_forces : {P M V : Type 0} (game : Game P M V) (side : Colour) (n : ℕ) (p : P) →
     WinsWithin (arena_of game) side n p → Forces game.chess (goals_of game side) side n p
 wins_forces game side zero p w =
-    let h = is_mate (game.member p) (game.chess.moves p) (game.chess.in_check p) (game.chess.turn p) (other_of side) w in
+    let h = is_mate (game.member p) (game.chess.moves p) (game.chess.in_check p) (game.chess.turn p)
+    (other_of side) w in
     inr (record { to_move = h.3; no_move = h.1; attacked = h.2 })
 wins_forces game side (suc n) p (inl w) = inl (wins_forces game side n p w)
 wins_forces game side (suc n) p (inr (inl w)) =
-    let g = is_going (game.member p) (game.chess.moves p) (game.chess.in_check p) (game.chess.turn p) side w.0 in
+    let g = is_going (game.member p) (game.chess.moves p) (game.chess.in_check p)
+    (game.chess.turn p) side w.0 in
     let m = move_of game p w.1.0 w.1.1 in
     let F = WinsWithin (arena_of game) side n in
     let Q = IsGoodExit (arena_of game) side n in
     let h = subst (λ a. LeadsTo F Q a.next) (sym m.2) w.1.3 in
-    inr (inr (inl (g.2, (m.0, m.1, good_is_forced game side n (wins_forces game side n) (game.chess.play p m.0) h))))
+    inr (inr (inl (
+      g.2,
+      (m.0, m.1, good_is_forced game side n (wins_forces game side n) (game.chess.play p m.0) h),
+    )))
 wins_forces game side (suc n) p (inr (inr w)) =
-    let g = is_going (game.member p) (game.chess.moves p) (game.chess.in_check p) (game.chess.turn p) (other_of side) w.0 in
-    inr (inr (inr (g.2, g.1, λ m i. good_is_forced game side n (wins_forces game side n) (game.chess.play p m) (w.2 (arm_of game p m) (arm_at game p m i)))))
+    let g = is_going (game.member p) (game.chess.moves p) (game.chess.in_check p)
+    (game.chess.turn p) (other_of side) w.0 in
+    inr (inr (inr (
+      g.2,
+      g.1,
+      λ m i. good_is_forced game side n (wins_forces game side n)
+          (game.chess.play p m) (w.2 (arm_of game p m) (arm_at game p m i)),
+    )))

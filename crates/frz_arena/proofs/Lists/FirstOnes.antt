@@ -25,7 +25,8 @@ one_first {xs = xs} i j x y a b =
       | inl l ↦ absurd (not_before i j x y l a b)
       | inr l ↦ elim (cases_lt j i) [
         | inl m ↦ absurd (not_before j i y x m b a)
-        | inr m ↦ (let e : i ≡ j = omega (arith, l, m) in (e, one_at xs j x y (subst (λ k. slice_get xs k ≡ Some x) e a.here) b.here))
+        | inr m ↦ (let e : i ≡ j = omega (arith, l, m) in
+            (e, one_at xs j x y (subst (λ k. slice_get xs k ≡ Some x) e a.here) b.here))
       ]
     ]
 
@@ -38,7 +39,8 @@ earlier test y ys f i x a (suc j) z l e = a.before j z (omega (arith, l)) e
 first_later : {X : Type 0} (test : X → Bool) (y : X) (ys : List X) → test y ≡ false →
     (i : ℕ) (x : X) → IsFirst test ys i x → IsFirst test (y ∷ ys) (suc i) x
 first_later {X} test y ys f i x a =
-    let before : (j : ℕ) (z : X) → j < suc i → slice_get (y ∷ ys) j ≡ Some z → test z ≡ false = earlier test y ys f i x a in
+    let before : (j : ℕ) (z : X) → j < suc i → slice_get (y ∷ ys) j ≡ Some z
+    → test z ≡ false = earlier test y ys f i x a in
     record { here = a.here; passes = a.passes; before = before }
 
 -- where some element passes, there is a first one
@@ -47,16 +49,25 @@ pub first_there : {X : Type 0} (test : X → Bool) (xs : List X) (x : X) → Con
 first_there test [] x h t = absurd (none_in_empty x h)
 first_there test (y ∷ ys) x h t =
     elim (true_or_false (test y)) [
-      | inl t1 ↦
-          (zero, y, record { here = refl; passes = t1; before = λ j z l e. absurd (omega (arith, l)) })
+      | inl t1 ↦ (
+        zero,
+        y,
+        record {
+          here = refl;
+          passes = t1;
+          before = λ j z l e. absurd (omega (arith, l));
+        },
+      )
       | inr f1 ↦ elim (in_cases y ys x h) [
         | inl e ↦ absurd (cc)
-        | inr i ↦ (let r = first_there test ys x i t in (suc r.0, r.1, first_later test y ys f1 r.0 r.1 r.2))
+        | inr i ↦ (let r = first_there test ys x i t in
+            (suc r.0, r.1, first_later test y ys f1 r.0 r.1 r.2))
       ]
     ]
 
 -- the found arm is one
-pub one_found : {X : Type 0} (with_code : ℕ → X → Bool) (won : Bool) (c : ℕ) (xs : List X) (i j : ℕ) (x y : X) → IsFound with_code won c xs i x → IsFound with_code won c xs j y → (i ≡ j) × (x ≡ y)
+pub one_found : {X : Type 0} (with_code : ℕ → X → Bool) (won : Bool) (c : ℕ) (xs : List X) (i j : ℕ)
+    (x y : X) → IsFound with_code won c xs i x → IsFound with_code won c xs j y → (i ≡ j) × (x ≡ y)
 one_found with_code true c xs i j x y a b = one_first i j x y a b
 one_found with_code false c xs i j x y (inl a) (inl b) = one_first i j x y a b
 one_found with_code false c xs i j x y (inr a) (inr b) = one_first i j x y a.1 b.1

@@ -30,6 +30,7 @@ passes_or_none {X} test (y ∷ xs) =
       | inl t ↦ inl (y, first_in y xs, t)
       | inr f ↦ elim (passes_or_none test xs) [
         | inl r ↦ inl (r.0, later_in y xs r.0 r.1, r.2)
-        | inr none ↦ inr (λ x h t. elim (in_cases y xs x h) [ inl e ↦ absurd (cc) | inr i ↦ none x i t ])
+        | inr none ↦ inr
+            (λ x h t. elim (in_cases y xs x h) [ inl e ↦ absurd (cc) | inr i ↦ none x i t ])
       ]
     ]

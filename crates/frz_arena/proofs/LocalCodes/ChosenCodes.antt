@@ -39,8 +39,13 @@ pub kept_in : {X : Type 0} (test : X → Bool) (xs : List X) (x : X) → Contain
 kept_in test [] x h t = absurd (none_in_empty x h)
 kept_in test (y ∷ xs) x h t =
     elim (true_or_false (test y)) [
-      | inl kept ↦ (rw kept (elim (in_cases y xs x h) [ inl e ↦ subst (λ z. Contains (y ∷ filter test xs) z) e (first_in y (filter test xs)) | inr i ↦ later_in y (filter test xs) x (kept_in test xs x i t) ]))
-      | inr gone ↦ (rw gone (elim (in_cases y xs x h) [ inl e ↦ absurd (cc) | inr i ↦ kept_in test xs x i t ]))
+      | inl kept ↦ (rw kept
+          (elim (in_cases y xs x h) [
+            | inl e ↦ subst (λ z. Contains (y ∷ filter test xs) z) e (first_in y (filter test xs))
+            | inr i ↦ later_in y (filter test xs) x (kept_in test xs x i t)
+          ]))
+      | inr gone ↦ (rw gone
+          (elim (in_cases y xs x h) [ inl e ↦ absurd (cc) | inr i ↦ kept_in test xs x i t ]))
     ]
 
 pub from_kept : {X : Type 0} (test : X → Bool) (xs : List X) (x : X) → Contains (filter test xs) x →
@@ -48,8 +53,17 @@ pub from_kept : {X : Type 0} (test : X → Bool) (xs : List X) (x : X) → Conta
 from_kept test [] x h = absurd (none_in_empty x h)
 from_kept test (y ∷ xs) x h =
     elim (true_or_false (test y)) [
-      | inl kept ↦ (let k = rw kept at h in elim (in_cases y (filter test xs) x k) [ inl e ↦ (subst (λ z. Contains (y ∷ xs) z) e (first_in y xs), subst (λ z. test z ≡ true) e kept) | inr i ↦ (let r : Contains xs x × (test x ≡ true) = from_kept test xs x i in (later_in y xs x r.0, r.1)) ])
-      | inr gone ↦ (let k = rw gone at h in let r : Contains xs x × (test x ≡ true) = from_kept test xs x k in (later_in y xs x r.0, r.1))
+      | inl kept ↦ (let k = rw kept at h in
+          elim (in_cases y (filter test xs) x k) [
+            | inl e ↦ (
+              subst (λ z. Contains (y ∷ xs) z) e (first_in y xs),
+              subst (λ z. test z ≡ true) e kept,
+            )
+            | inr i ↦ (let r : Contains xs x × (test x ≡ true) = from_kept test xs x i in
+                (later_in y xs x r.0, r.1))
+          ])
+      | inr gone ↦ (let k = rw gone at h in let r : Contains xs x
+          × (test x ≡ true) = from_kept test xs x k in (later_in y xs x r.0, r.1))
     ]
 
 -- the least of some codes is one of them, and none is less
@@ -59,7 +73,8 @@ least_in c (d ∷ cs) =
     elim (cases_le c (least (d ∷ cs))) [
       | inl e ↦ subst (λ z. Contains (c ∷ d ∷ cs) z) (sym e) (first_in c (d ∷ cs))
       | inr e ↦
-          subst (λ z. Contains (c ∷ d ∷ cs) z) (sym e) (later_in c (d ∷ cs) (least (d ∷ cs)) (least_in d cs))
+          subst (λ z. Contains (c ∷ d ∷ cs) z) (sym e)
+          (later_in c (d ∷ cs) (least (d ∷ cs)) (least_in d cs))
     ]
 
 pub least_below : (cs : List ℕ) (x : ℕ) → Contains cs x → least cs ≤ x
@@ -67,12 +82,14 @@ least_below [] x h = absurd (none_in_empty x h)
 least_below (c ∷ []) x h =
     elim (in_cases c [] x h) [ inl e ↦ omega arith | inr i ↦ absurd (none_in_empty x i) ]
 least_below (c ∷ d ∷ cs) x h =
-    elim (in_cases c (d ∷ cs) x h) [ inl e ↦ omega arith | inr i ↦ (let k = least_below (d ∷ cs) x i in omega arith) ]
+    elim (in_cases c (d ∷ cs) x h)
+    [ inl e ↦ omega arith | inr i ↦ (let k = least_below (d ∷ cs) x i in omega arith) ]
 
 pub greatest_above : (cs : List ℕ) (x : ℕ) → Contains cs x → x ≤ greatest cs
 greatest_above [] x h = absurd (none_in_empty x h)
 greatest_above (c ∷ cs) x h =
-    elim (in_cases c cs x h) [ inl e ↦ omega arith | inr i ↦ (let k = greatest_above cs x i in omega arith) ]
+    elim (in_cases c cs x h)
+    [ inl e ↦ omega arith | inr i ↦ (let k = greatest_above cs x i in omega arith) ]
 
 -- what bounds each code bounds the greatest, which is one of them
 pub greatest_below : (cs : List ℕ) (m : ℕ) → ((x : ℕ) → Contains cs x → x ≤ m) → greatest cs ≤ m
@@ -89,19 +106,24 @@ greatest_in c (d ∷ cs) =
     elim (cases_max c (greatest (d ∷ cs))) [
       | inl e ↦ subst (λ z. Contains (c ∷ d ∷ cs) z) (sym e) (first_in c (d ∷ cs))
       | inr e ↦
-          subst (λ z. Contains (c ∷ d ∷ cs) z) (sym e) (later_in c (d ∷ cs) (greatest (d ∷ cs)) (greatest_in d cs))
+          subst (λ z. Contains (c ∷ d ∷ cs) z) (sym e)
+          (later_in c (d ∷ cs) (greatest (d ∷ cs)) (greatest_in d cs))
     ]
 
 pub any_from : {X : Type 0} (test : X → Bool) (xs : List X) (x : X) → Contains xs x →
     test x ≡ true → list_any test xs ≡ true
 any_from test [] x h t = absurd (none_in_empty x h)
 any_from test (y ∷ xs) x h t =
-    elim (in_cases y xs x h) [ inl e ↦ (let u : test y ≡ true = cc in rw u refl) | inr i ↦ (let k = any_from test xs x i t in or_right (test y) (list_any test xs) k) ]
+    elim (in_cases y xs x h) [
+      | inl e ↦ (let u : test y ≡ true = cc in rw u refl)
+      | inr i ↦ (let k = any_from test xs x i t in or_right (test y) (list_any test xs) k)
+    ]
 
 pub none_from : {X : Type 0} (test : X → Bool) (xs : List X) → list_any test xs ≡ false → (x : X) →
     Contains xs x → test x ≡ false
 none_from test xs f x h =
-    elim (true_or_false (test x)) [ inl t ↦ (let k = any_from test xs x h t in absurd (cc)) | inr g ↦ g ]
+    elim (true_or_false (test x))
+    [ inl t ↦ (let k = any_from test xs x h t in absurd (cc)) | inr g ↦ g ]
 
 pub all_from : {X : Type 0} (test : X → Bool) (xs : List X) →
     ((x : X) → Contains xs x → test x ≡ true) → list_all test xs ≡ true
@@ -153,7 +175,8 @@ some_from test [] h = absurd (cc)
 some_from test (y ∷ xs) h =
     elim (true_or_false (test y)) [
       | inl t ↦ (y, first_in y xs, t)
-      | inr g ↦ (let k = rw g at h in let r = some_from test xs k in (r.0, later_in y xs r.0 r.1, r.2))
+      | inr g ↦ (let k = rw g at h in let r = some_from test xs k in
+          (r.0, later_in y xs r.0 r.1, r.2))
     ]
 
 -- the least sought one is among the codes
@@ -161,7 +184,8 @@ pub least_sought : (sought : ℕ → Bool) (cs : List ℕ) → list_any sought c
     Contains cs (least (filter sought cs)) × (sought (least (filter sought cs)) ≡ true)
 least_sought sought cs h =
     let r = some_from sought cs h in
-    from_kept sought cs (least (filter sought cs)) (least_kept (filter sought cs) r.0 (kept_in sought cs r.0 r.1 r.2))
+    from_kept sought cs (least (filter sought cs))
+    (least_kept (filter sought cs) r.0 (kept_in sought cs r.0 r.1 r.2))
 
 -- a chosen_code code that is sought comes from a sought one
 pub chosen_sought : {sought shunned : ℕ → Bool} → Kinds sought shunned → (c : ℕ) (cs : List ℕ) →
@@ -170,10 +194,12 @@ pub chosen_sought : {sought shunned : ℕ → Bool} → Kinds sought shunned →
     × (chosen_code sought shunned (c ∷ cs) ≡ w + 2)
 chosen_sought {sought} {shunned} k c cs h =
     elim (true_or_false (list_any sought (c ∷ cs))) [
-      | inl t ↦ (let l = least_sought sought (c ∷ cs) t in (least (filter sought (c ∷ cs)), l.0, l.1, rw t refl))
+      | inl t ↦ (let l = least_sought sought (c ∷ cs) t in
+          (least (filter sought (c ∷ cs)), l.0, l.1, rw t refl))
       | inr f ↦ elim (true_or_false (list_all shunned (c ∷ cs))) [
         | inl a ↦ absurd (
-            let g = k.shunned_more (greatest (c ∷ cs)) (each_of shunned (c ∷ cs) a (greatest (c ∷ cs)) (greatest_in c cs)) in
+            let g = k.shunned_more (greatest (c ∷ cs))
+            (each_of shunned (c ∷ cs) a (greatest (c ∷ cs)) (greatest_in c cs)) in
             let e : chosen_code sought shunned (c ∷ cs) ≡ greatest (c ∷ cs) + 2 = rw (f, a) refl in
             k.apart (greatest (c ∷ cs) + 2) (subst (λ z. sought z ≡ true) e h) g)
         | inr b ↦ absurd (
@@ -190,8 +216,10 @@ chosen_least {sought} {shunned} k cs w h t =
     let a : list_any sought cs ≡ true = any_from sought cs w h t in
     let l = least_sought sought cs a in
     let e : chosen_code sought shunned cs ≡ least (filter sought cs) + 2 = rw a refl in
-    let b = least_below (filter sought cs) w (kept_in sought cs w h t) in
-    (subst (λ z. sought z ≡ true) (sym e) (k.sought_more (least (filter sought cs)) l.1), omega arith)
+    let b = least_below (filter sought cs) w (kept_in sought cs w h t) in (
+      subst (λ z. sought z ≡ true) (sym e) (k.sought_more (least (filter sought cs)) l.1),
+      omega arith,
+    )
 
 -- a chosen_code code that is shunned bounds each code, and each is shunned
 pub chosen_shunned : {sought shunned : ℕ → Bool} → Kinds sought shunned → (cs : List ℕ) →
@@ -202,7 +230,8 @@ chosen_shunned {sought} {shunned} k cs h x i =
       | inl t ↦ absurd (
           let l = least_sought sought cs t in
           let e : chosen_code sought shunned cs ≡ least (filter sought cs) + 2 = rw t refl in
-          k.apart (least (filter sought cs) + 2) (k.sought_more (least (filter sought cs)) l.1) (subst (λ z. shunned z ≡ true) e h))
+          k.apart (least (filter sought cs) + 2) (k.sought_more (least (filter sought cs)) l.1)
+          (subst (λ z. shunned z ≡ true) e h))
       | inr f ↦ elim (true_or_false (list_all shunned cs)) [
         | inl a ↦ (
             let e : chosen_code sought shunned cs ≡ greatest cs + 2 = rw (f, a) refl in
@@ -225,8 +254,11 @@ chosen_all {sought} {shunned} k c cs m h =
     elim (true_or_false (list_any sought (c ∷ cs))) [
       | inl t ↦ absurd (let r = some_from sought (c ∷ cs) t in k.apart r.0 r.2 (h r.0 r.1).0)
       | inr f ↦ (
-          let e : chosen_code sought shunned (c ∷ cs) ≡ greatest (c ∷ cs) + 2 = rw (f, a) refl in
-          (subst (λ z. shunned z ≡ true) (sym e) (k.shunned_more (greatest (c ∷ cs)) (h (greatest (c ∷ cs)) (greatest_in c cs)).0), omega arith))
+          let e : chosen_code sought shunned (c ∷ cs) ≡ greatest (c ∷ cs) + 2 = rw (f, a) refl in (
+            subst (λ z. shunned z ≡ true) (sym e)
+                (k.shunned_more (greatest (c ∷ cs)) (h (greatest (c ∷ cs)) (greatest_in c cs)).0),
+            omega arith,
+          ))
     ]
 
 -- a chosen code that is shunned is that of the greatest
@@ -237,8 +269,10 @@ chosen_greatest {sought} {shunned} k c cs h =
     elim (true_or_false (list_any sought (c ∷ cs))) [
       | inl t ↦ absurd (
           let l = least_sought sought (c ∷ cs) t in
-          let e : chosen_code sought shunned (c ∷ cs) ≡ least (filter sought (c ∷ cs)) + 2 = rw t refl in
-          k.apart (least (filter sought (c ∷ cs)) + 2) (k.sought_more (least (filter sought (c ∷ cs))) l.1) (subst (λ z. shunned z ≡ true) e h))
+          let e : chosen_code sought shunned (c ∷ cs) ≡ least (filter sought (c ∷ cs)) + 2 =
+          rw t refl in
+          k.apart (least (filter sought (c ∷ cs)) + 2)
+          (k.sought_more (least (filter sought (c ∷ cs))) l.1) (subst (λ z. shunned z ≡ true) e h))
       | inr f ↦ elim (true_or_false (list_all shunned (c ∷ cs))) [
         | inl a ↦ (greatest (c ∷ cs), greatest_in c cs, rw (f, a) refl)
         | inr b ↦ absurd (
@@ -269,7 +303,8 @@ chosen_is_greatest {sought} {shunned} k cs w i h =
     let above = greatest_above cs w i in
     elim (true_or_false (list_any sought cs)) [
       | inl t ↦ absurd (let r = some_from sought cs t in k.apart r.0 r.2 (h r.0 r.1).0)
-      | inr f ↦ (let e : chosen_code sought shunned cs ≡ greatest cs + 2 = rw (f, a) refl in omega arith)
+      | inr f ↦ (let e : chosen_code sought shunned cs ≡ greatest cs + 2 = rw (f, a) refl in
+          omega arith)
     ]
 
 -- where no code is sought and some is not shunned, it is a hold

@@ -27,9 +27,11 @@ empty_list (c ∷ cs) h = absurd (h c (first_in c cs))
 chosen_above : (sought shunned : ℕ → Bool) (cs : List ℕ) → 1 ≤ chosen_code sought shunned cs
 chosen_above sought shunned cs =
     elim (true_or_false (list_any sought cs)) [
-      | inl t ↦ (let e : chosen_code sought shunned cs ≡ least (filter sought cs) + 2 = rw t refl in omega arith)
+      | inl t ↦ (let e : chosen_code sought shunned cs ≡ least (filter sought cs) + 2 = rw t refl in
+          omega arith)
       | inr f ↦ elim (true_or_false (list_all shunned cs)) [
-        | inl a ↦ (let e : chosen_code sought shunned cs ≡ greatest cs + 2 = rw (f, a) refl in omega arith)
+        | inl a ↦ (let e : chosen_code sought shunned cs ≡ greatest cs + 2 = rw (f, a) refl in
+            omega arith)
         | inr b ↦ (let e : chosen_code sought shunned cs ≡ 1 = rw (f, b) refl in omega arith)
       ]
     ]
@@ -39,19 +41,25 @@ own_above [] = omega arith
 own_above (c ∷ cs) = chosen_above is_win is_failure (c ∷ cs)
 
 -- moves to what is good make a win
-pub code_of_moves : {M N V : Type 0} (arena : Arena M N V) (side : Colour) (entry : N → ℕ) (n : ℕ) (P : N → Type 0) → ((q : N) → P q → IsWinWithin n (entry q)) → (p : N) → MovesToGood arena side (LeadsTo P (IsGoodExit arena side n)) p → IsWinWithin (suc n) (local_code arena side entry p)
+pub code_of_moves : {M N V : Type 0} (arena : Arena M N V) (side : Colour) (entry : N → ℕ) (n : ℕ)
+    (P : N → Type 0) → ((q : N) → P q → IsWinWithin n (entry q)) → (p : N)
+    → MovesToGood arena side (LeadsTo P (IsGoodExit arena side n)) p
+    → IsWinWithin (suc n) (local_code arena side entry p)
 code_of_moves arena side entry n P h p (inl m) =
     let a = m.1.0 in
     let g = code_of_good arena side entry n P h a.next m.1.3 in
-    let k = own_win_from (free_codes arena side entry p) (next_code arena side entry a.next) (code_among_free arena side entry p a m.1.1 m.1.2) g.0 in
+    let k = own_win_from (free_codes arena side entry p) (next_code arena side entry a.next)
+    (code_among_free arena side entry p a m.1.1 m.1.2) g.0 in
     let e = at_own arena side entry p m.0 in
     (subst (λ z. is_win z ≡ true) (sym e) k.0, omega arith)
 code_of_moves arena side entry n P h p (inr m) =
     let cs = all_codes arena side entry p in
     let each : (x : ℕ) → Contains cs x → (is_win x ≡ true) × (x ≤ 2 + 2 * n) =
     λ x i. (let r = arm_of_code arena side entry p x i in
-    win_at n (next_code arena side entry r.0.next) x r.2 (code_of_good arena side entry n P h r.0.next (m.2 r.0 r.1))) in
-    let k = other_win_from cs (next_code arena side entry m.1.0.next) (2 + 2 * n) (code_among_all arena side entry p m.1.0 m.1.1) each in
+    win_at n (next_code arena side entry r.0.next) x r.2
+    (code_of_good arena side entry n P h r.0.next (m.2 r.0 r.1))) in
+    let k = other_win_from cs (next_code arena side entry m.1.0.next) (2 + 2 * n)
+    (code_among_all arena side entry p m.1.0 m.1.1) each in
     let e = at_other arena side entry p m.0 in
     (subst (λ z. is_win z ≡ true) (sym e) k.0, omega arith)
 
@@ -64,22 +72,34 @@ pub moves_of_code : {M N V : Type 0} (arena : Arena M N V) → IsLawful arena �
     ⊎ MovesToGood arena side (LeadsTo P (IsGoodExit arena side n)) p
 moves_of_code {M} {N} {V} arena law side entry n P h p w =
     elim (node_is side (arena.node p)) [
-      | broken e ↦ absurd (let k = win_at (suc n) _ _ (at_broken arena side entry p e) w in let b = k.0 in cc)
-      | mated e ↦ absurd (let k = win_at (suc n) _ _ (at_mated arena side entry p e) w in let b = k.0 in cc)
+      | broken e ↦ absurd (let k = win_at (suc n) _ _ (at_broken arena side entry p e) w in
+          let b = k.0 in cc)
+      | mated e ↦ absurd (let k = win_at (suc n) _ _ (at_mated arena side entry p e) w in
+          let b = k.0 in cc)
       | mates e ↦ inl e
-      | stale mover e ↦ absurd (let k = win_at (suc n) _ _ (at_stale arena side entry p mover e) w in let b = k.0 in cc)
+      | stale mover e ↦ absurd
+          (let k = win_at (suc n) _ _ (at_stale arena side entry p mover e) w in let b = k.0 in cc)
       | moves e ↦ inr (inl (
           let f = at_own arena side entry p e in
           let k = win_at (suc n) _ _ f w in
           let s = own_win (free_codes arena side entry p) k.0 in
           let a = free_of_code arena side entry p s.0 s.1 in
-          let g : IsWinWithin n s.0 = (s.2, omega arith) in
-          (e, (a.0, a.1, a.2, good_of_code arena side entry n P h a.0.next (win_at n _ _ (sym a.3) g)))))
+          let g : IsWinWithin n s.0 = (s.2, omega arith) in (
+            e,
+            (
+              a.0,
+              a.1,
+              a.2,
+              good_of_code arena side entry n P h a.0.next
+                  (win_at n _ _ (sym a.3) g),
+            ),
+          )))
       | waits e ↦ inr (inr (
           let f = at_other arena side entry p e in
           let k = win_at (suc n) _ _ f w in
           let each : EachArm arena p (LeadsTo P (IsGoodExit arena side n)) =
-          λ a i. (let s = other_win (all_codes arena side entry p) k.0 (next_code arena side entry a.next) (code_among_all arena side entry p a i) in
+          λ a i. (let s = other_win (all_codes arena side entry p) k.0
+          (next_code arena side entry a.next) (code_among_all arena side entry p a i) in
           good_of_code arena side entry n P h a.next (s.0, omega arith)) in
           let a = some_arm arena law p (other_of side) e in
           (e, (a.0, a.1, each a.0 a.1), each)))
@@ -91,10 +111,13 @@ pub mate_of_code : {M N V : Type 0} (arena : Arena M N V) → IsLawful arena →
     arena.node p ≡ Mate (other_of side)
 mate_of_code {M} {N} {V} arena law side entry p w =
     elim (node_is side (arena.node p)) [
-      | broken e ↦ absurd (let k = win_at zero _ _ (at_broken arena side entry p e) w in let b = k.0 in cc)
-      | mated e ↦ absurd (let k = win_at zero _ _ (at_mated arena side entry p e) w in let b = k.0 in cc)
+      | broken e ↦ absurd (let k = win_at zero _ _ (at_broken arena side entry p e) w in
+          let b = k.0 in cc)
+      | mated e ↦ absurd (let k = win_at zero _ _ (at_mated arena side entry p e) w in
+          let b = k.0 in cc)
       | mates e ↦ e
-      | stale mover e ↦ absurd (let k = win_at zero _ _ (at_stale arena side entry p mover e) w in let b = k.0 in cc)
+      | stale mover e ↦ absurd
+          (let k = win_at zero _ _ (at_stale arena side entry p mover e) w in let b = k.0 in cc)
       | moves e ↦ absurd (
           let k = win_at zero _ _ (at_own arena side entry p e) w in
           let s = own_win (free_codes arena side entry p) k.0 in
@@ -103,24 +126,30 @@ mate_of_code {M} {N} {V} arena law side entry p w =
       | waits e ↦ absurd (
           let k = win_at zero _ _ (at_other arena side entry p e) w in
           let a = some_arm arena law p (other_of side) e in
-          let s = other_win (all_codes arena side entry p) k.0 (next_code arena side entry a.0.next) (code_among_all arena side entry p a.0 a.1) in
+          let s = other_win (all_codes arena side entry p) k.0 (next_code arena side entry a.0.next)
+          (code_among_all arena side entry p a.0 a.1) in
           let b = win_above (next_code arena side entry a.0.next) s.0 in
           omega arith)
     ]
 
 -- moves to what is bad make a failure
-pub code_of_bad_moves : {M N V : Type 0} (arena : Arena M N V) (side : Colour) (entry : N → ℕ) (n : ℕ) (P : N → Type 0) → ((q : N) → P q → IsFailureWithin n (entry q)) → (p : N) → MovesToBad arena side (LeadsTo P (IsBadExit arena side)) p → IsFailureWithin (suc n) (local_code arena side entry p)
+pub code_of_bad_moves : {M N V : Type 0} (arena : Arena M N V) (side : Colour) (entry : N → ℕ)
+    (n : ℕ) (P : N → Type 0) → ((q : N) → P q → IsFailureWithin n (entry q)) → (p : N)
+    → MovesToBad arena side (LeadsTo P (IsBadExit arena side)) p
+    → IsFailureWithin (suc n) (local_code arena side entry p)
 code_of_bad_moves arena side entry n P h p (inl m) =
     let a = m.1.0 in
     let g = code_of_bad arena side entry n P h a.next m.1.2 in
-    let k = other_failure_from (all_codes arena side entry p) (next_code arena side entry a.next) (code_among_all arena side entry p a m.1.1) g.0 in
+    let k = other_failure_from (all_codes arena side entry p) (next_code arena side entry a.next)
+    (code_among_all arena side entry p a m.1.1) g.0 in
     let e = at_other arena side entry p m.0 in
     (subst (λ z. is_failure z ≡ true) (sym e) k.0, omega arith)
 code_of_bad_moves arena side entry n P h p (inr m) =
     let cs = free_codes arena side entry p in
     let each : (x : ℕ) → Contains cs x → (is_failure x ≡ true) × (x ≤ 3 + 2 * n) =
     λ x i. (let r = free_of_code arena side entry p x i in
-    failure_at n (next_code arena side entry r.0.next) x r.3 (code_of_bad arena side entry n P h r.0.next (m.2 r.0 r.1 r.2))) in
+    failure_at n (next_code arena side entry r.0.next) x r.3
+    (code_of_bad arena side entry n P h r.0.next (m.2 r.0 r.1 r.2))) in
     let k = own_failure_from cs (3 + 2 * n) (omega arith) each in
     let e = at_own arena side entry p m.0 in
     (subst (λ z. is_failure z ≡ true) (sym e) k.0, omega arith)
@@ -130,7 +159,8 @@ pub code_of_lost : {M N V : Type 0} (arena : Arena M N V) (side : Colour) (entry
     IsLost arena side p → local_code arena side entry p ≡ 3
 code_of_lost arena side entry p (inl e) = at_mated arena side entry p e
 code_of_lost {M} {N} {V} arena side entry p (inr f) =
-    let none : (x : ℕ) → Contains (free_codes arena side entry p) x → ⊥ = λ x i. (let r = free_of_code arena side entry p x i in f.1 r.0 r.1 r.2) in
+    let none : (x : ℕ) → Contains (free_codes arena side entry p) x
+    → ⊥ = λ x i. (let r = free_of_code arena side entry p x i in f.1 r.0 r.1 r.2) in
     at_own arena side entry p f.0 ∙ ap own_code (empty_list (free_codes arena side entry p) none)
 
 -- a failure comes of a loss, or of moves to what is bad
@@ -141,15 +171,20 @@ pub bad_moves_of_code : {M N V : Type 0} (arena : Arena M N V) → IsLawful aren
     IsLost arena side p ⊎ MovesToBad arena side (LeadsTo P (IsBadExit arena side)) p
 bad_moves_of_code {M} {N} {V} arena law side entry n P h p w =
     elim (node_is side (arena.node p)) [
-      | broken e ↦ absurd (let k = failure_at (suc n) _ _ (at_broken arena side entry p e) w in let b = k.0 in cc)
+      | broken e ↦ absurd (let k = failure_at (suc n) _ _ (at_broken arena side entry p e) w in
+          let b = k.0 in cc)
       | mated e ↦ inl (inl e)
-      | mates e ↦ absurd (let k = failure_at (suc n) _ _ (at_mates arena side entry p e) w in let b = k.0 in cc)
-      | stale mover e ↦ absurd (let k = failure_at (suc n) _ _ (at_stale arena side entry p mover e) w in let b = k.0 in cc)
+      | mates e ↦ absurd (let k = failure_at (suc n) _ _ (at_mates arena side entry p e) w in
+          let b = k.0 in cc)
+      | stale mover e ↦ absurd
+          (let k = failure_at (suc n) _ _ (at_stale arena side entry p mover e) w in let b = k.0 in
+          cc)
       | moves e ↦ (
           let f = at_own arena side entry p e in
           let k = failure_at (suc n) _ _ f w in
           let each : EachFree arena p (LeadsTo P (IsBadExit arena side)) =
-          λ a i t. (let s = own_failure (free_codes arena side entry p) k.0 (next_code arena side entry a.next) (code_among_free arena side entry p a i t) in
+          λ a i t. (let s = own_failure (free_codes arena side entry p) k.0
+          (next_code arena side entry a.next) (code_among_free arena side entry p a i t) in
           bad_of_code arena side entry n P h a.next (s.0, omega arith)) in
           elim (passes_or_none (λ (a : Arm M N V). a.free) (arena.arms p)) [
             | inl r ↦ inr (inr (e, (r.0, r.1, r.2, each r.0 r.1 r.2), each))
@@ -159,10 +194,18 @@ bad_moves_of_code {M} {N} {V} arena law side entry n P h p w =
           let f = at_other arena side entry p e in
           let k = failure_at (suc n) _ _ f w in
           let b = some_arm arena law p (other_of side) e in
-          let s = other_failure (all_codes arena side entry p) (next_code arena side entry b.0.next) (code_among_all arena side entry p b.0 b.1) k.0 in
+          let s = other_failure (all_codes arena side entry p) (next_code arena side entry b.0.next)
+          (code_among_all arena side entry p b.0 b.1) k.0 in
           let a = arm_of_code arena side entry p s.0 s.1 in
-          let g : IsFailureWithin n s.0 = (s.2, omega arith) in
-          (e, (a.0, a.1, bad_of_code arena side entry n P h a.0.next (failure_at n _ _ (sym a.2) g)))))
+          let g : IsFailureWithin n s.0 = (s.2, omega arith) in (
+            e,
+            (
+              a.0,
+              a.1,
+              bad_of_code arena side entry n P h a.0.next
+                  (failure_at n _ _ (sym a.2) g),
+            ),
+          )))
     ]
 
 -- a position whose code is 3 is lost at once
@@ -171,45 +214,55 @@ pub lost_of_code : {M N V : Type 0} (arena : Arena M N V) → IsLawful arena →
     IsLost arena side p
 lost_of_code {M} {N} {V} arena law side entry p w =
     elim (node_is side (arena.node p)) [
-      | broken e ↦ absurd (let k = failure_at zero _ _ (at_broken arena side entry p e) w in let b = k.0 in cc)
+      | broken e ↦ absurd (let k = failure_at zero _ _ (at_broken arena side entry p e) w in
+          let b = k.0 in cc)
       | mated e ↦ inl e
-      | mates e ↦ absurd (let k = failure_at zero _ _ (at_mates arena side entry p e) w in let b = k.0 in cc)
-      | stale mover e ↦ absurd (let k = failure_at zero _ _ (at_stale arena side entry p mover e) w in let b = k.0 in cc)
+      | mates e ↦ absurd (let k = failure_at zero _ _ (at_mates arena side entry p e) w in
+          let b = k.0 in cc)
+      | stale mover e ↦ absurd
+          (let k = failure_at zero _ _ (at_stale arena side entry p mover e) w in let b = k.0 in cc)
       | moves e ↦ inr (
         e,
         λ a i t. (
             let k = failure_at zero _ _ (at_own arena side entry p e) w in
-            let s = own_failure (free_codes arena side entry p) k.0 (next_code arena side entry a.next) (code_among_free arena side entry p a i t) in
+            let s = own_failure (free_codes arena side entry p) k.0
+            (next_code arena side entry a.next) (code_among_free arena side entry p a i t) in
             let b = failure_above (next_code arena side entry a.next) s.0 in
             omega arith),
       )
       | waits e ↦ absurd (
           let k = failure_at zero _ _ (at_other arena side entry p e) w in
           let a = some_arm arena law p (other_of side) e in
-          let s = other_failure (all_codes arena side entry p) (next_code arena side entry a.0.next) (code_among_all arena side entry p a.0 a.1) k.0 in
+          let s = other_failure (all_codes arena side entry p) (next_code arena side entry a.0.next)
+          (code_among_all arena side entry p a.0 a.1) k.0 in
           let b = failure_above s.0 s.2 in
           omega arith)
     ]
 
 -- a number that is not broken has no code 0
-pub broken_of_code : {M N V : Type 0} (arena : Arena M N V) (side : Colour) (entry : N → ℕ) (p : N) → local_code arena side entry p ≡ 0 → arena.node p ≡ Broken
+pub broken_of_code : {M N V : Type 0} (arena : Arena M N V) (side : Colour) (entry : N → ℕ) (p : N)
+    → local_code arena side entry p ≡ 0 → arena.node p ≡ Broken
 broken_of_code {M} {N} {V} arena side entry p w =
     elim (node_is side (arena.node p)) [
       | broken e ↦ e
       | mated e ↦ absurd (let k = at_mated arena side entry p e in omega arith)
       | mates e ↦ absurd (let k = at_mates arena side entry p e in omega arith)
       | stale mover e ↦ absurd (let k = at_stale arena side entry p mover e in omega arith)
-      | moves e ↦ absurd (let k = at_own arena side entry p e in let l = own_above (free_codes arena side entry p) in omega arith)
-      | waits e ↦ absurd (let k = at_other arena side entry p e in let l = chosen_above is_failure is_win (all_codes arena side entry p) in omega arith)
+      | moves e ↦ absurd (let k = at_own arena side entry p e in
+          let l = own_above (free_codes arena side entry p) in omega arith)
+      | waits e ↦ absurd (let k = at_other arena side entry p e in
+          let l = chosen_above is_failure is_win (all_codes arena side entry p) in omega arith)
     ]
 
 -- the entries tell the wins and failures within fewer plies than n
-pub record TellBefore {M N V : Type 0} (arena : Arena M N V) (side : Colour) (n : ℕ) (entry : N → ℕ) : Type 0 where
+pub record TellBefore {M N V : Type 0} (arena : Arena M N V) (side : Colour) (n : ℕ)
+    (entry : N → ℕ) : Type 0 where
   pub wins : (m : ℕ) (p : N) → m < n → WinsWithin arena side m p ↔ IsWinWithin m (entry p)
   pub fails : (m : ℕ) (p : N) → m < n → FailsWithin arena side m p ↔ IsFailureWithin m (entry p)
 
 -- what comes at once or by moves is told by the codes, where each such step is
-told : {N : Type 0} (Within Moves : ℕ → N → Type 0) (Tells : ℕ → ℕ → Type 0) (code : N → ℕ) (n : ℕ) →
+told : {N : Type 0} (Within Moves : ℕ → N → Type 0) (Tells : ℕ → ℕ → Type 0) (code : N → ℕ)
+    (n : ℕ) →
     ((m : ℕ) (p : N) → Within (suc m) p → Within m p ⊎ Moves m p) →
     ((m c : ℕ) → Tells m c → Tells (suc m) c) →
     ((p : N) → Within zero p → Tells zero (code p)) →
@@ -219,46 +272,59 @@ told Within Moves Tells code n split more at_once by_moves zero p l w = at_once 
 told Within Moves Tells code n split more at_once by_moves (suc m) p l w =
     elim (split m p w) [
       | inl earlier ↦
-          more m (code p) (told Within Moves Tells code n split more at_once by_moves m p (omega arith) earlier)
+          more m (code p) (told Within Moves Tells code n split more at_once by_moves m p
+          (omega arith) earlier)
       | inr step ↦ by_moves m p (omega arith) step
     ]
 
 local_wins : {M N V : Type 0} (arena : Arena M N V) (side : Colour) (n : ℕ) (entry : N → ℕ) →
     TellBefore arena side n entry →
-    (m : ℕ) (p : N) → m ≤ n → WinsWithin arena side m p → IsWinWithin m (local_code arena side entry p)
+    (m : ℕ) (p : N) → m ≤ n → WinsWithin arena side m p
+    → IsWinWithin m (local_code arena side entry p)
 local_wins arena side n entry before =
-    told (WinsWithin arena side) (λ m. MovesToGood arena side (LeadsTo (WinsWithin arena side m) (IsGoodExit arena side m))) IsWinWithin (local_code arena side entry) n
+    told (WinsWithin arena side)
+    (λ m. MovesToGood arena side (LeadsTo (WinsWithin arena side m) (IsGoodExit arena side m)))
+    IsWinWithin (local_code arena side entry) n
     (λ m p w. w)
     (λ m c w. (w.0, omega (arith, w.1)))
     (λ p w. win_at zero _ _ (sym (at_mates arena side entry p w)) (refl, omega arith))
-    (λ m p l. code_of_moves arena side entry m (WinsWithin arena side m) (λ q. (before.wins m q l).0) p)
+    (λ m p l. code_of_moves arena side entry m (WinsWithin arena side m)
+    (λ q. (before.wins m q l).0) p)
 
 local_fails : {M N V : Type 0} (arena : Arena M N V) (side : Colour) (n : ℕ) (entry : N → ℕ) →
     TellBefore arena side n entry →
-    (m : ℕ) (p : N) → m ≤ n → FailsWithin arena side m p → IsFailureWithin m (local_code arena side entry p)
+    (m : ℕ) (p : N) → m ≤ n → FailsWithin arena side m p
+    → IsFailureWithin m (local_code arena side entry p)
 local_fails arena side n entry before =
-    told (FailsWithin arena side) (λ m. MovesToBad arena side (LeadsTo (FailsWithin arena side m) (IsBadExit arena side))) IsFailureWithin (local_code arena side entry) n
+    told (FailsWithin arena side)
+    (λ m. MovesToBad arena side (LeadsTo (FailsWithin arena side m) (IsBadExit arena side)))
+    IsFailureWithin (local_code arena side entry) n
     (λ m p f. f)
     (λ m c f. (f.0, omega (arith, f.1)))
     (λ p f. failure_at zero _ _ (sym (code_of_lost arena side entry p f)) (refl, omega arith))
-    (λ m p l. code_of_bad_moves arena side entry m (FailsWithin arena side m) (λ q. (before.fails m q l).0) p)
+    (λ m p l. code_of_bad_moves arena side entry m (FailsWithin arena side m)
+    (λ q. (before.fails m q l).0) p)
 
 wins_local : {M N V : Type 0} (arena : Arena M N V) → IsLawful arena →
     (side : Colour) (n : ℕ) (entry : N → ℕ) → TellBefore arena side n entry →
-    (m : ℕ) (p : N) → m ≤ n → IsWinWithin m (local_code arena side entry p) → WinsWithin arena side m p
+    (m : ℕ) (p : N) → m ≤ n → IsWinWithin m (local_code arena side entry p)
+    → WinsWithin arena side m p
 wins_local arena law side n entry before zero p l w = mate_of_code arena law side entry p w
 wins_local arena law side n entry before (suc m) p l w =
-    elim (moves_of_code arena law side entry m (WinsWithin arena side m) (λ q. (before.wins m q (omega arith)).1) p w) [
+    elim (moves_of_code arena law side entry m (WinsWithin arena side m)
+    (λ q. (before.wins m q (omega arith)).1) p w) [
       | inl mate ↦ wins_later arena side zero (suc m) p (omega arith) mate
       | inr step ↦ inr step
     ]
 
 fails_local : {M N V : Type 0} (arena : Arena M N V) → IsLawful arena →
     (side : Colour) (n : ℕ) (entry : N → ℕ) → TellBefore arena side n entry →
-    (m : ℕ) (p : N) → m ≤ n → IsFailureWithin m (local_code arena side entry p) → FailsWithin arena side m p
+    (m : ℕ) (p : N) → m ≤ n → IsFailureWithin m (local_code arena side entry p)
+    → FailsWithin arena side m p
 fails_local arena law side n entry before zero p l f = lost_of_code arena law side entry p f
 fails_local arena law side n entry before (suc m) p l f =
-    elim (bad_moves_of_code arena law side entry m (FailsWithin arena side m) (λ q. (before.fails m q (omega arith)).1) p f) [
+    elim (bad_moves_of_code arena law side entry m (FailsWithin arena side m)
+    (λ q. (before.fails m q (omega arith)).1) p f) [
       | inl lost ↦ fails_at_once arena side (suc m) p lost
       | inr step ↦ inr step
     ]
@@ -269,7 +335,13 @@ pub local_tells : {M N V : Type 0} (arena : Arena M N V) → IsLawful arena →
     TellBefore arena side (suc n) (local_code arena side entry)
 local_tells arena law side n entry before = record {
   wins =
-      λ m p l. (local_wins arena side n entry before m p (omega arith), wins_local arena law side n entry before m p (omega arith));
+      λ m p l. (
+        local_wins arena side n entry before m p (omega arith),
+        wins_local arena law side n entry before m p (omega arith),
+      );
   fails =
-      λ m p l. (local_fails arena side n entry before m p (omega arith), fails_local arena law side n entry before m p (omega arith));
+      λ m p l. (
+        local_fails arena side n entry before m p (omega arith),
+        fails_local arena law side n entry before m p (omega arith),
+      );
 }

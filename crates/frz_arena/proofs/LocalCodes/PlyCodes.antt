@@ -56,20 +56,28 @@ code_bad n lag Good h = absurd (win_and_failure (2 + 2 * lag) (win_of lag) h.0)
 code_bad n lag Safe h = absurd (let k = h.0 in cc)
 code_bad n lag Bad h = refl
 
-pub code_of_good : {M N V : Type 0} (arena : Arena M N V) (side : Colour) (entry : N → ℕ) (n : ℕ) (P : N → Type 0) → ((q : N) → P q → IsWinWithin n (entry q)) → (x : Next N V) → LeadsTo P (IsGoodExit arena side n) x → IsWinWithin n (next_code arena side entry x)
+pub code_of_good : {M N V : Type 0} (arena : Arena M N V) (side : Colour) (entry : N → ℕ) (n : ℕ)
+    (P : N → Type 0) → ((q : N) → P q → IsWinWithin n (entry q)) → (x : Next N V)
+    → LeadsTo P (IsGoodExit arena side n) x → IsWinWithin n (next_code arena side entry x)
 code_of_good arena side entry n P h (Inside q) g = h q g
 code_of_good arena side entry n P h (Outside v) g =
     good_code n (arena.lag v) (arena.class v side) g.0 g.1
 
-pub good_of_code : {M N V : Type 0} (arena : Arena M N V) (side : Colour) (entry : N → ℕ) (n : ℕ) (P : N → Type 0) → ((q : N) → IsWinWithin n (entry q) → P q) → (x : Next N V) → IsWinWithin n (next_code arena side entry x) → LeadsTo P (IsGoodExit arena side n) x
+pub good_of_code : {M N V : Type 0} (arena : Arena M N V) (side : Colour) (entry : N → ℕ) (n : ℕ)
+    (P : N → Type 0) → ((q : N) → IsWinWithin n (entry q) → P q) → (x : Next N V)
+    → IsWinWithin n (next_code arena side entry x) → LeadsTo P (IsGoodExit arena side n) x
 good_of_code arena side entry n P h (Inside q) g = h q g
 good_of_code arena side entry n P h (Outside v) g = code_good n (arena.lag v) (arena.class v side) g
 
-pub code_of_bad : {M N V : Type 0} (arena : Arena M N V) (side : Colour) (entry : N → ℕ) (n : ℕ) (P : N → Type 0) → ((q : N) → P q → IsFailureWithin n (entry q)) → (x : Next N V) → LeadsTo P (IsBadExit arena side) x → IsFailureWithin n (next_code arena side entry x)
+pub code_of_bad : {M N V : Type 0} (arena : Arena M N V) (side : Colour) (entry : N → ℕ) (n : ℕ)
+    (P : N → Type 0) → ((q : N) → P q → IsFailureWithin n (entry q)) → (x : Next N V)
+    → LeadsTo P (IsBadExit arena side) x → IsFailureWithin n (next_code arena side entry x)
 code_of_bad arena side entry n P h (Inside q) g = h q g
 code_of_bad arena side entry n P h (Outside v) g = bad_code n (arena.lag v) (arena.class v side) g
 
-pub bad_of_code : {M N V : Type 0} (arena : Arena M N V) (side : Colour) (entry : N → ℕ) (n : ℕ) (P : N → Type 0) → ((q : N) → IsFailureWithin n (entry q) → P q) → (x : Next N V) → IsFailureWithin n (next_code arena side entry x) → LeadsTo P (IsBadExit arena side) x
+pub bad_of_code : {M N V : Type 0} (arena : Arena M N V) (side : Colour) (entry : N → ℕ) (n : ℕ)
+    (P : N → Type 0) → ((q : N) → IsFailureWithin n (entry q) → P q) → (x : Next N V)
+    → IsFailureWithin n (next_code arena side entry x) → LeadsTo P (IsBadExit arena side) x
 bad_of_code arena side entry n P h (Inside q) g = h q g
 bad_of_code arena side entry n P h (Outside v) g = code_bad n (arena.lag v) (arena.class v side) g
 
@@ -114,7 +122,8 @@ pub at_mates : {M N V : Type 0} (arena : Arena M N V) (side : Colour) (entry : N
     arena.node p ≡ Mate (other_of side) → local_code arena side entry p ≡ 2
 at_mates arena side entry p e = rw e (other_side side 3 2)
 
-pub at_stale : {M N V : Type 0} (arena : Arena M N V) (side : Colour) (entry : N → ℕ) (p : N) (mover : Colour) → arena.node p ≡ Stalemate mover → local_code arena side entry p ≡ 1
+pub at_stale : {M N V : Type 0} (arena : Arena M N V) (side : Colour) (entry : N → ℕ) (p : N)
+    (mover : Colour) → arena.node p ≡ Stalemate mover → local_code arena side entry p ≡ 1
 at_stale arena side entry p mover e = rw e refl
 
 pub at_own : {M N V : Type 0} (arena : Arena M N V) (side : Colour) (entry : N → ℕ) (p : N) →
@@ -170,21 +179,31 @@ other_win_from [] y m i h = absurd (none_in_empty y i)
 other_win_from (c ∷ cs) y m i h = chosen_all failures_first c cs m h
 
 -- arms and their codes
-pub code_among_free : {M N V : Type 0} (arena : Arena M N V) (side : Colour) (entry : N → ℕ) (p : N) (a : Arm M N V) → IsArm arena p a → a.free ≡ true → Contains (free_codes arena side entry p) (next_code arena side entry a.next)
+pub code_among_free : {M N V : Type 0} (arena : Arena M N V) (side : Colour) (entry : N → ℕ) (p : N)
+    (a : Arm M N V) → IsArm arena p a → a.free ≡ true
+    → Contains (free_codes arena side entry p) (next_code arena side entry a.next)
 code_among_free {M} {N} {V} arena side entry p a h t =
-    mapped_in (λ (b : Arm M N V). next_code arena side entry b.next) (filter (λ b. b.free) (arena.arms p)) a (kept_in (λ b. b.free) (arena.arms p) a h t)
+    mapped_in (λ (b : Arm M N V). next_code arena side entry b.next)
+    (filter (λ b. b.free) (arena.arms p)) a (kept_in (λ b. b.free) (arena.arms p) a h t)
 
-pub code_among_all : {M N V : Type 0} (arena : Arena M N V) (side : Colour) (entry : N → ℕ) (p : N) (a : Arm M N V) → IsArm arena p a → Contains (all_codes arena side entry p) (next_code arena side entry a.next)
+pub code_among_all : {M N V : Type 0} (arena : Arena M N V) (side : Colour) (entry : N → ℕ) (p : N)
+    (a : Arm M N V) → IsArm arena p a
+    → Contains (all_codes arena side entry p) (next_code arena side entry a.next)
 code_among_all {M} {N} {V} arena side entry p a h =
     mapped_in (λ (b : Arm M N V). next_code arena side entry b.next) (arena.arms p) a h
 
-pub free_of_code : {M N V : Type 0} (arena : Arena M N V) (side : Colour) (entry : N → ℕ) (p : N) (w : ℕ) → Contains (free_codes arena side entry p) w → (a : Arm M N V) × IsArm arena p a × (a.free ≡ true) × (next_code arena side entry a.next ≡ w)
+pub free_of_code : {M N V : Type 0} (arena : Arena M N V) (side : Colour) (entry : N → ℕ) (p : N)
+    (w : ℕ) → Contains (free_codes arena side entry p) w → (a : Arm M N V) × IsArm arena p a
+    × (a.free ≡ true) × (next_code arena side entry a.next ≡ w)
 free_of_code {M} {N} {V} arena side entry p w h =
-    let r = from_mapped (λ (b : Arm M N V). next_code arena side entry b.next) (filter (λ b. b.free) (arena.arms p)) w h in
+    let r = from_mapped (λ (b : Arm M N V). next_code arena side entry b.next)
+    (filter (λ b. b.free) (arena.arms p)) w h in
     let k = from_kept (λ (b : Arm M N V). b.free) (arena.arms p) r.0 r.1 in
     (r.0, k.0, k.1, r.2)
 
-pub arm_of_code : {M N V : Type 0} (arena : Arena M N V) (side : Colour) (entry : N → ℕ) (p : N) (w : ℕ) → Contains (all_codes arena side entry p) w → (a : Arm M N V) × IsArm arena p a × (next_code arena side entry a.next ≡ w)
+pub arm_of_code : {M N V : Type 0} (arena : Arena M N V) (side : Colour) (entry : N → ℕ) (p : N)
+    (w : ℕ) → Contains (all_codes arena side entry p) w → (a : Arm M N V) × IsArm arena p a
+    × (next_code arena side entry a.next ≡ w)
 arm_of_code {M} {N} {V} arena side entry p w h =
     from_mapped (λ (b : Arm M N V). next_code arena side entry b.next) (arena.arms p) w h
 

@@ -49,17 +49,20 @@ append_none xs = search (rules, common_steps)
 
 least_kept_push : (test : ℕ → Bool) (cs : List ℕ) (c : ℕ) →
     least (filter test (cs ++ c ∷ []))
-    ≡ (if test c then (if list_any test cs then min (least (filter test cs)) c else c) else least (filter test cs))
+    ≡ (if test c then (if list_any test cs then min (least (filter test cs)) c else c)
+    else least (filter test cs))
 least_kept_push test cs c =
     let e = filter-append test cs (c ∷ []) in
     elim (true_or_false (test c)) [
       | inr f ↦ (
-          let k : filter test (cs ++ c ∷ []) ≡ filter test cs = e ∙ (rw f (append_none (filter test cs))) in
+          let k : filter test (cs ++ c ∷ []) ≡ filter test cs = e
+          ∙ (rw f (append_none (filter test cs))) in
           rw f (ap least k))
       | inl t ↦ elim (true_or_false (list_any test cs)) [
         | inl a ↦ (
             let r = kept_some test cs a in
-            let l : least (filter test cs ++ c ∷ []) ≡ min (least (filter test cs)) c = rw r.2 (least_push r.0 r.1 c) in
+            let l : least (filter test cs ++ c ∷ []) ≡ min (least (filter test cs)) c = rw r.2
+            (least_push r.0 r.1 c) in
             let k : filter test (cs ++ c ∷ []) ≡ filter test cs ++ c ∷ [] = e ∙ (rw t refl) in
             rw (t, a) (ap least k ∙ l))
         | inr b ↦ (
@@ -71,26 +74,34 @@ least_kept_push test cs c =
 -- one code more
 pub tally_push : (sought shunned : ℕ → Bool) (cs : List ℕ) (c : ℕ) (t u : Tally) →
     IsTally sought shunned cs t
-    → u.any ≡ (t.any || sought c) → u.least ≡ (if sought c then (if t.any then min t.least c else c) else t.least) → u.all ≡ (t.all && shunned c) → u.greatest ≡ max t.greatest c
+    → u.any ≡ (t.any || sought c)
+    → u.least ≡ (if sought c then (if t.any then min t.least c else c) else t.least)
+    → u.all ≡ (t.all && shunned c) → u.greatest ≡ max t.greatest c
     → IsTally sought shunned (cs ++ c ∷ []) u
 tally_push sought shunned cs c t u h any least_is all greatest_is = record {
   any =
-      any ∙ (rw h.any (sym (list_any-append sought cs (c ∷ []) ∙ ap (λ b. list_any sought cs || b) (or_false (sought c)))));
+      any ∙ (rw h.any (sym
+      (list_any-append sought cs (c ∷ []) ∙ ap (λ b. list_any sought cs || b)
+      (or_false (sought c)))));
   least = least_is ∙ (rw (h.any, h.least) (sym (least_kept_push sought cs c)));
   all =
-      all ∙ (rw h.all (sym (list_all-append shunned cs (c ∷ []) ∙ ap (λ b. list_all shunned cs && b) (and_true (shunned c)))));
+      all ∙ (rw h.all (sym
+      (list_all-append shunned cs (c ∷ []) ∙ ap (λ b. list_all shunned cs && b)
+      (and_true (shunned c)))));
   greatest = greatest_is ∙ (rw h.greatest (sym (greatest_push cs c)));
 }
 
 -- the same, with the tests as they were computed
 pub tally_with : (sought shunned : ℕ → Bool) (cs : List ℕ) (c : ℕ) (a b : Bool) → a ≡ sought c →
     b ≡ shunned c → (t u : Tally) → IsTally sought shunned cs t
-    → u.any ≡ (t.any || a) → u.least ≡ (if a then (if t.any then min t.least c else c) else t.least) → u.all ≡ (t.all && b) → u.greatest ≡ max t.greatest c
+    → u.any ≡ (t.any || a) → u.least ≡ (if a then (if t.any then min t.least c else c) else t.least)
+    → u.all ≡ (t.all && b) → u.greatest ≡ max t.greatest c
     → IsTally sought shunned (cs ++ c ∷ []) u
 tally_with sought shunned cs c a b e f t u h any least_is all greatest_is =
     tally_push sought shunned cs c t u h
     (subst (λ z. u.any ≡ (t.any || z)) e any)
-    (subst (λ z. u.least ≡ (if z then (if t.any then min t.least c else c) else t.least)) e least_is)
+    (subst (λ z. u.least ≡ (if z then (if t.any then min t.least c else c) else t.least)) e
+    least_is)
     (subst (λ z. u.all ≡ (t.all && z)) f all) greatest_is
 
 -- what a tally says in the end

@@ -20,8 +20,10 @@ equations_tell arena law side entry eqs zero =
 equations_tell arena law side entry eqs (suc n) =
     let next = local_tells arena law side n entry (equations_tell arena law side entry eqs n) in
     record {
-      wins = λ m p l. subst (λ c. WinsWithin arena side m p ↔ IsWinWithin m c) (sym (eqs p)) (next.wins m p l);
-      fails = λ m p l. subst (λ c. FailsWithin arena side m p ↔ IsFailureWithin m c) (sym (eqs p)) (next.fails m p l);
+      wins = λ m p l. subst (λ c. WinsWithin arena side m p ↔ IsWinWithin m c) (sym (eqs p))
+          (next.wins m p l);
+      fails = λ m p l. subst (λ c. FailsWithin arena side m p ↔ IsFailureWithin m c) (sym (eqs p))
+          (next.fails m p l);
     }
 
 -- what meets every equation is the codes
@@ -29,7 +31,11 @@ pub solution_is_codes : {M N V : Type 0} (arena : Arena M N V) → IsLawful aren
     (side : Colour) (entry : N → ℕ) → MeetsEquations arena side entry → AreCodes arena side entry
 solution_is_codes arena law side entry eqs = record {
   broken =
-      λ p. (λ e. eqs p ∙ at_broken arena side entry p e, λ e. broken_of_code arena side entry p (sym (eqs p) ∙ e));
+      λ p. (
+        λ e. eqs p ∙ at_broken arena side entry p e,
+        λ e. broken_of_code arena side entry p
+            (sym (eqs p) ∙ e),
+      );
   wins = λ n p. (equations_tell arena law side entry eqs (suc n)).wins n p (omega arith);
   fails = λ n p. (equations_tell arena law side entry eqs (suc n)).fails n p (omega arith);
 }
@@ -74,7 +80,8 @@ same_code c d w w' f f' z z' =
           let h = w n (as_win c n e) in
           elim (code_is d) [
             | none k ↦ absurd (let g = z' k in omega arith)
-            | hold k ↦ absurd (let g = h.0 in let b : is_win 1 ≡ true = subst (λ x. is_win x ≡ true) k g in cc)
+            | hold k ↦ absurd (let g = h.0 in let b : is_win 1 ≡ true = subst (λ x. is_win x ≡ true)
+                k g in cc)
             | win m k ↦ (let g = w' m (as_win d m k) in let a = h.1 in let b = g.1 in omega arith)
             | failure m k ↦ absurd (win_and_failure d h.0 (as_failure d m k).0)
           ])
@@ -82,15 +89,20 @@ same_code c d w w' f f' z z' =
           let h = f n (as_failure c n e) in
           elim (code_is d) [
             | none k ↦ absurd (let g = z' k in omega arith)
-            | hold k ↦ absurd (let g = h.0 in let b : is_failure 1 ≡ true = subst (λ x. is_failure x ≡ true) k g in cc)
+            | hold k ↦ absurd (let g = h.0 in let b : is_failure 1 ≡ true = subst
+                (λ x. is_failure x ≡ true) k g in cc)
             | win m k ↦ absurd (win_and_failure d (as_win d m k).0 h.0)
-            | failure m k ↦ (let g = f' m (as_failure d m k) in let a = h.1 in let b = g.1 in omega arith)
+            | failure m k ↦ (let g = f' m (as_failure d m k) in let a = h.1 in let b = g.1 in
+                omega arith)
           ])
       | hold e ↦ elim (code_is d) [
         | none k ↦ absurd (let g = z' k in omega arith)
         | hold k ↦ e ∙ sym k
-        | win m k ↦ absurd (let g = (w' m (as_win d m k)).0 in let b : is_win 1 ≡ true = subst (λ x. is_win x ≡ true) e g in cc)
-        | failure m k ↦ absurd (let g = (f' m (as_failure d m k)).0 in let b : is_failure 1 ≡ true = subst (λ x. is_failure x ≡ true) e g in cc)
+        | win m k ↦ absurd (let g = (w' m (as_win d m k)).0 in let b : is_win 1 ≡ true = subst
+            (λ x. is_win x ≡ true) e g in cc)
+        | failure m k ↦ absurd
+            (let g = (f' m (as_failure d m k)).0 in let b : is_failure 1 ≡ true = subst
+            (λ x. is_failure x ≡ true) e g in cc)
       ]
     ]
 
@@ -99,7 +111,8 @@ pub codes_meet : {M N V : Type 0} (arena : Arena M N V) → IsLawful arena →
     (side : Colour) (entry : N → ℕ) → AreCodes arena side entry → MeetsEquations arena side entry
 codes_meet arena law side entry codes p =
     let told : (n : ℕ) → TellBefore arena side (suc n) (local_code arena side entry) =
-    λ n. local_tells arena law side n entry (record { wins = λ m q _. codes.wins m q; fails = λ m q _. codes.fails m q }) in
+    λ n. local_tells arena law side n entry
+    (record { wins = λ m q _. codes.wins m q; fails = λ m q _. codes.fails m q }) in
     same_code (entry p) (local_code arena side entry p)
     (λ n h. ((told n).wins n p (omega arith)).0 ((codes.wins n p).1 h))
     (λ n h. (codes.wins n p).0 (((told n).wins n p (omega arith)).1 h))

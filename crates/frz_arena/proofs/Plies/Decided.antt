@@ -27,7 +27,9 @@ some_or_none D d (y ∷ xs) =
       | inl h ↦ inl (y, first_in y xs, h)
       | inr n ↦ elim (some_or_none D d xs) [
         | inl r ↦ inl (r.0, later_in y xs r.0 r.1, r.2)
-        | inr none ↦ inr (λ x i h. elim (in_cases y xs x i) [ inl e ↦ n (subst D (sym e) h) | inr j ↦ none x j h ])
+        | inr none ↦ inr
+            (λ x i h. elim (in_cases y xs x i)
+            [ inl e ↦ n (subst D (sym e) h) | inr j ↦ none x j h ])
       ]
     ]
 
@@ -79,11 +81,13 @@ bad_decided arena side n d (Inside q) = d q
 bad_decided arena side n d (Outside v) = is_bad (arena.class v side)
 
 -- nothing moves but at a position that goes on
-still_node : {M N V : Type 0} (arena : Arena M N V) (side : Colour) (P : Next N V → Type 0) (p : N) → ((mover : Colour) → arena.node p ≡ Going mover → ⊥) → MovesToGood arena side P p → ⊥
+still_node : {M N V : Type 0} (arena : Arena M N V) (side : Colour) (P : Next N V → Type 0) (p : N)
+    → ((mover : Colour) → arena.node p ≡ Going mover → ⊥) → MovesToGood arena side P p → ⊥
 still_node arena side P p h (inl w) = h side w.0
 still_node arena side P p h (inr w) = h (other_of side) w.0
 
-still_bad_node : {M N V : Type 0} (arena : Arena M N V) (side : Colour) (P : Next N V → Type 0) (p : N) → ((mover : Colour) → arena.node p ≡ Going mover → ⊥) → MovesToBad arena side P p → ⊥
+still_bad_node : {M N V : Type 0} (arena : Arena M N V) (side : Colour) (P : Next N V → Type 0)
+    (p : N) → ((mover : Colour) → arena.node p ≡ Going mover → ⊥) → MovesToBad arena side P p → ⊥
 still_bad_node arena side P p h (inl w) = h (other_of side) w.0
 still_bad_node arena side P p h (inr w) = h side w.0
 
@@ -96,12 +100,15 @@ moves_decided {M} {N} {V} arena law side P d p =
       | mated e ↦ inr (still_node arena side P p (λ mover g. cc))
       | mates e ↦ inr (still_node arena side P p (λ mover g. cc))
       | stale other e ↦ inr (still_node arena side P p (λ mover g. cc))
-      | moves e ↦ elim (some_or_none (λ (a : Arm M N V). (a.free ≡ true) × P a.next) (λ a. both_decided (is_true a.free) (d a.next)) (arena.arms p)) [
-        | inl r ↦ inl (inl (e, (r.0, r.1, r.2.0, r.2.1)))
-        | inr none ↦ inr (elim [ inl w ↦ none w.1.0 w.1.1 (w.1.2, w.1.3) | inr w ↦ one_mover side e w.0 ])
-      ]
+      | moves e ↦ elim (some_or_none (λ (a : Arm M N V). (a.free ≡ true) × P a.next)
+          (λ a. both_decided (is_true a.free) (d a.next)) (arena.arms p)) [
+            | inl r ↦ inl (inl (e, (r.0, r.1, r.2.0, r.2.1)))
+            | inr none ↦ inr
+                (elim [ inl w ↦ none w.1.0 w.1.1 (w.1.2, w.1.3) | inr w ↦ one_mover side e w.0 ])
+          ]
       | waits e ↦ elim (each_or_not (λ (a : Arm M N V). P a.next) (λ a. d a.next) (arena.arms p)) [
-        | inl all ↦ (let a = some_arm arena law p (other_of side) e in inl (inr (e, (a.0, a.1, all a.0 a.1), all)))
+        | inl all ↦ (let a = some_arm arena law p (other_of side) e in
+            inl (inr (e, (a.0, a.1, all a.0 a.1), all)))
         | inr r ↦ inr (elim [ inl w ↦ one_mover side w.0 e | inr w ↦ r.2 (w.2 r.0 r.1) ])
       ]
     ]
@@ -164,10 +171,12 @@ wins_decided arena law side zero p =
 wins_decided arena law side (suc n) p =
     elim (wins_decided arena law side n p) [
       | inl w ↦ inl (inl w)
-      | inr none ↦ elim (moves_decided arena law side (LeadsTo (WinsWithin arena side n) (IsGoodExit arena side n)) (good_decided arena side n (wins_decided arena law side n)) p) [
-        | inl m ↦ inl (inr m)
-        | inr gone ↦ inr (elim [ inl w ↦ none w | inr m ↦ gone m ])
-      ]
+      | inr none ↦ elim (moves_decided arena law side
+          (LeadsTo (WinsWithin arena side n) (IsGoodExit arena side n))
+          (good_decided arena side n (wins_decided arena law side n)) p) [
+            | inl m ↦ inl (inr m)
+            | inr gone ↦ inr (elim [ inl w ↦ none w | inr m ↦ gone m ])
+          ]
     ]
 
 lost_decided : {M N V : Type 0} (arena : Arena M N V) (side : Colour) (p : N) →
@@ -176,9 +185,11 @@ lost_decided {M} {N} {V} arena side p =
     elim (node_is side (arena.node p)) [
       | broken e ↦ inr (elim [ inl w ↦ cc | inr w ↦ (let g = w.0 in cc) ])
       | mated e ↦ inl (inl e)
-      | mates e ↦ inr (elim [ inl w ↦ one_mate side w e | inr w ↦ mate_or_going (other_of side) side e w.0 ])
+      | mates e ↦ inr (elim
+          [ inl w ↦ one_mate side w e | inr w ↦ mate_or_going (other_of side) side e w.0 ])
       | stale other e ↦ inr (elim [ inl w ↦ cc | inr w ↦ (let g = w.0 in cc) ])
-      | waits e ↦ inr (elim [ inl w ↦ mate_or_going side (other_of side) w e | inr w ↦ one_mover side w.0 e ])
+      | waits e ↦ inr (elim
+          [ inl w ↦ mate_or_going side (other_of side) w e | inr w ↦ one_mover side w.0 e ])
       | moves e ↦ elim (passes_or_none (λ (a : Arm M N V). a.free) (arena.arms p)) [
         | inl f ↦ inr (elim [ inl w ↦ mate_or_going side side w e | inr w ↦ w.1 f.0 f.1 f.2 ])
         | inr none ↦ inl (inr (e, none))
@@ -191,10 +202,12 @@ fails_decided arena law side zero p = lost_decided arena side p
 fails_decided arena law side (suc n) p =
     elim (fails_decided arena law side n p) [
       | inl w ↦ inl (inl w)
-      | inr none ↦ elim (bad_moves_decided arena law side (LeadsTo (FailsWithin arena side n) (IsBadExit arena side)) (bad_decided arena side n (fails_decided arena law side n)) p) [
-        | inl m ↦ inl (inr m)
-        | inr gone ↦ inr (elim [ inl w ↦ none w | inr m ↦ gone m ])
-      ]
+      | inr none ↦ elim (bad_moves_decided arena law side
+          (LeadsTo (FailsWithin arena side n) (IsBadExit arena side))
+          (bad_decided arena side n (fails_decided arena law side n)) p) [
+            | inl m ↦ inl (inr m)
+            | inr gone ↦ inr (elim [ inl w ↦ none w | inr m ↦ gone m ])
+          ]
     ]
 
 -- the least number below n, or none below n
@@ -206,7 +219,8 @@ least_below F d (suc n) =
       | inl r ↦ inl (r.0, (let l = r.1 in omega arith), r.2, r.3)
       | inr none ↦ elim (d n) [
         | inl f ↦ inl (n, omega arith, f, none)
-        | inr away ↦ inr (λ k l f. elim (cases_lt k n) [ inl h ↦ none k h f | inr h ↦ (let e : k ≡ n = omega arith in away (subst F e f)) ])
+        | inr away ↦ inr (λ k l f. elim (cases_lt k n)
+            [ inl h ↦ none k h f | inr h ↦ (let e : k ≡ n = omega arith in away (subst F e f)) ])
       ]
     ]
 

@@ -31,7 +31,8 @@ chosen_step sought shunned c cs h =
       | inl t ↦ (least (filter sought (c ∷ cs)), (least_sought sought (c ∷ cs) t).0, rw t refl)
       | inr f ↦ elim (true_or_false (list_all shunned (c ∷ cs))) [
         | inl a ↦ (greatest (c ∷ cs), greatest_in c cs, rw (f, a) refl)
-        | inr b ↦ absurd (let e : chosen_code sought shunned (c ∷ cs) ≡ 1 = rw (f, b) refl in omega arith)
+        | inr b ↦ absurd (let e : chosen_code sought shunned (c ∷ cs) ≡ 1 = rw (f, b) refl in
+            omega arith)
       ]
     ]
 
@@ -63,7 +64,8 @@ local_step {M} {N} {V} arena law side entry p h =
       | waits e ↦ (
           let k = at_other arena side entry p e in
           let b = some_arm arena law p (other_of side) e in
-          let s = other_step (all_codes arena side entry p) (next_code arena side entry b.0.next) (code_among_all arena side entry p b.0 b.1) (omega arith) in
+          let s = other_step (all_codes arena side entry p) (next_code arena side entry b.0.next)
+          (code_among_all arena side entry p b.0 b.1) (omega arith) in
           let a = arm_of_code arena side entry p s.0 s.1 in
           (a.0, a.1, k ∙ (s.2 ∙ ap (λ z. z + 2) (sym a.2))))
     ]
@@ -74,7 +76,10 @@ exit_below most lag Safe h = omega arith
 exit_below most lag Bad h = omega arith
 
 -- where an arm's code is greater than that of an exit, it leads to a position
-inside_step : {M N V : Type 0} (arena : Arena M N V) (side : Colour) (entry : N → ℕ) (most : ℕ) (x : Next N V) → ((v : V) → x ≡ Outside v → arena.class v side ≡ Good → arena.lag v ≤ most) → 3 + 2 * most < next_code arena side entry x → (q : N) × (entry q ≡ next_code arena side entry x)
+inside_step : {M N V : Type 0} (arena : Arena M N V) (side : Colour) (entry : N → ℕ) (most : ℕ)
+    (x : Next N V) → ((v : V) → x ≡ Outside v → arena.class v side ≡ Good → arena.lag v ≤ most)
+    → 3 + 2 * most < next_code arena side entry x → (q : N)
+    × (entry q ≡ next_code arena side entry x)
 inside_step arena side entry most (Inside q) lags h = (q, refl)
 inside_step arena side entry most (Outside v) lags h =
     absurd (let k = exit_below most (arena.lag v) (arena.class v side) (lags v refl) in omega arith)
@@ -87,7 +92,8 @@ equal q x t = grind (arith, nat_tests)
 
 pub among : (xs : List ℕ) (q : ℕ) → list_any (eqb q) xs ≡ true → Contains xs q
 among xs q t =
-    let r = some_from (eqb q) xs t in let e : q ≡ r.0 = equal q r.0 r.2 in subst (λ z. Contains xs z) (sym e) r.1
+    let r = some_from (eqb q) xs t in let e : q ≡ r.0 = equal q r.0 r.2 in
+    subst (λ z. Contains xs z) (sym e) r.1
 
 pub apart : (p : ℕ) (xs : List ℕ) → ((x : ℕ) → Contains xs x → p ≢ x) →
     AllByRecursion (λ y. eqb p y ≡ false) xs
@@ -100,7 +106,8 @@ unfolding IsDistinct
 one_distinct p = (tt, tt)
 
 -- positions with codes in steps of 2
-pub record Chain {M V : Type 0} (arena : Arena M ℕ V) (size : ℕ) (entry : ℕ → ℕ) (p k : ℕ) : Type 0 where
+pub record Chain {M V : Type 0} (arena : Arena M ℕ V) (size : ℕ) (entry : ℕ → ℕ)
+    (p k : ℕ) : Type 0 where
   pub nodes : List ℕ
   pub many : length nodes ≡ suc k
   pub distinct : IsDistinct eqb nodes
@@ -112,7 +119,8 @@ in_size : {M V : Type 0} (arena : Arena M ℕ V) (size : ℕ) → IsNumbered are
 in_size arena size numbered side entry eqs p h =
     elim (cases_lt p size) [
       | inl l ↦ l
-      | inr l ↦ absurd (let e = eqs p ∙ at_broken arena side entry p (numbered.past p l) in omega arith)
+      | inr l ↦ absurd (let e = eqs p ∙ at_broken arena side entry p (numbered.past p l) in
+          omega arith)
     ]
 
 pub chain : {M V : Type 0} (arena : Arena M ℕ V) → IsLawful arena → (size : ℕ) →
@@ -124,7 +132,14 @@ chain arena law size numbered side most lags entry eqs zero p h =
       nodes = p ∷ [];
       many = refl;
       distinct = one_distinct p;
-      below = λ x i. elim (in_cases p [] x i) [ inl e ↦ (subst (λ z. z < size) e (in_size arena size numbered side entry eqs p (omega arith)), subst (λ z. entry z ≤ entry p) e (omega arith)) | inr j ↦ absurd (none_in_empty x j) ];
+      below = λ x i. elim (in_cases p [] x i) [
+        | inl e ↦ (
+          subst (λ z. z < size) e
+              (in_size arena size numbered side entry eqs p (omega arith)),
+          subst (λ z. entry z ≤ entry p) e (omega arith),
+        )
+        | inr j ↦ absurd (none_in_empty x j)
+      ];
     }
 chain {M} {V} arena law size numbered side most lags entry eqs (suc k) p h =
     let e = eqs p in
@@ -132,14 +147,18 @@ chain {M} {V} arena law size numbered side most lags entry eqs (suc k) p h =
     let q = inside_step arena side entry most a.0.next (λ v. lags p a.0 v a.1) (omega arith) in
     let l : entry p ≡ entry q.0 + 2 = omega arith in
     let c = chain arena law size numbered side most lags entry eqs k q.0 (omega arith) in
-    let new : (x : ℕ) → Contains c.nodes x → p ≢ x = λ x i f. (let b = (c.below x i).1 in let g : entry p ≡ entry x = ap entry f in omega arith) in
+    let new : (x : ℕ) → Contains c.nodes x
+    → p ≢ x = λ x i f. (let b = (c.below x i).1 in let g : entry p ≡ entry x = ap entry f in
+    omega arith) in
     record {
       nodes = p ∷ c.nodes;
       many = ap suc {x = length c.nodes} {y = suc k} c.many;
       distinct = IsDistinct-cons eqb p c.nodes (apart p c.nodes new) c.distinct;
       below = λ x i. elim (in_cases p c.nodes x i) [
-        | inl f ↦
-            (subst (λ z. z < size) f (in_size arena size numbered side entry eqs p (omega arith)), subst (λ z. entry z ≤ entry p) f (omega arith))
+        | inl f ↦ (
+          subst (λ z. z < size) f (in_size arena size numbered side entry eqs p (omega arith)),
+          subst (λ z. entry z ≤ entry p) f (omega arith),
+        )
         | inr j ↦ (let b = c.below x j in (b.0, omega (arith, b.1)))
       ];
     }
@@ -151,7 +170,8 @@ entries_small arena law size numbered side most lags entry eqs p =
     elim (cases_lt (3 + 2 * (size + most)) (entry p)) [
       | inl h ↦ absurd (
           let c = chain arena law size numbered side most lags entry eqs size p (omega arith) in
-          let l = length-le_from_distinct_below c.nodes size c.distinct (λ q t. (c.below q (among c.nodes q t)).0) in
+          let l = length-le_from_distinct_below c.nodes size c.distinct
+          (λ q t. (c.below q (among c.nodes q t)).0) in
           let m = c.many in
           omega arith)
       | inr h ↦ h

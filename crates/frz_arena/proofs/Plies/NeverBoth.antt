@@ -10,7 +10,9 @@ use Rattle.frz_arena.specs.Plies.{LeadsTo, IsGoodExit, IsBadExit, MovesToGood, W
 use Rattle.frz_arena.proofs.Plies.NodeKinds.{mate_or_going, one_mate, one_mover, good_or_bad}
 
 -- an arm is not good and bad
-pub not_good_and_bad : {M N V : Type 0} (arena : Arena M N V) (side : Colour) (P Q : N → Type 0) (n : ℕ) → ((q : N) → P q → Q q → ⊥) → (x : Next N V) → LeadsTo P (IsGoodExit arena side n) x → LeadsTo Q (IsBadExit arena side) x → ⊥
+pub not_good_and_bad : {M N V : Type 0} (arena : Arena M N V) (side : Colour) (P Q : N → Type 0)
+    (n : ℕ) → ((q : N) → P q → Q q → ⊥) → (x : Next N V) → LeadsTo P (IsGoodExit arena side n) x
+    → LeadsTo Q (IsBadExit arena side) x → ⊥
 not_good_and_bad arena side P Q n none (Inside q) g b = none q g b
 not_good_and_bad arena side P Q n none (Outside v) g b = good_or_bad g.0 b
 
@@ -37,9 +39,11 @@ mover_is_not_lost arena side n ih zero p (inr w) (inr f) = one_mover side f.0 w.
 mover_is_not_lost arena side n ih (suc m) p w (inl f) = mover_is_not_lost arena side n ih m p w f
 mover_is_not_lost arena side n ih (suc m) p (inl w) (inr (inl f)) = one_mover side w.0 f.0
 mover_is_not_lost arena side n ih (suc m) p (inr w) (inr (inl f)) =
-    not_good_and_bad arena side (WinsWithin arena side n) (FailsWithin arena side m) n (ih m) f.1.0.next (w.2 f.1.0 f.1.1) f.1.2
+    not_good_and_bad arena side (WinsWithin arena side n) (FailsWithin arena side m) n
+    (ih m) f.1.0.next (w.2 f.1.0 f.1.1) f.1.2
 mover_is_not_lost arena side n ih (suc m) p (inl w) (inr (inr f)) =
-    not_good_and_bad arena side (WinsWithin arena side n) (FailsWithin arena side m) n (ih m) w.1.0.next w.1.3 (f.2 w.1.0 w.1.1 w.1.2)
+    not_good_and_bad arena side (WinsWithin arena side n) (FailsWithin arena side m) n
+    (ih m) w.1.0.next w.1.3 (f.2 w.1.0 w.1.1 w.1.2)
 mover_is_not_lost arena side n ih (suc m) p (inr w) (inr (inr f)) = one_mover side f.0 w.0
 
 pub never_both : {M N V : Type 0} (arena : Arena M N V) (side : Colour) (n m : ℕ) (p : N) →

@@ -22,7 +22,8 @@ some_not : {X : Type 0} (test : X → Bool) (xs : List X) → list_all test xs �
 some_not test [] h = absurd (cc)
 some_not test (y ∷ xs) h =
     elim (true_or_false (test y)) [
-      | inl t ↦ (let k = rw t at h in let r = some_not test xs k in (r.0, later_in y xs r.0 r.1, r.2))
+      | inl t ↦ (let k = rw t at h in let r = some_not test xs k in
+          (r.0, later_in y xs r.0 r.1, r.2))
       | inr f ↦ (y, first_in y xs, f)
     ]
 
@@ -31,9 +32,11 @@ chosen_one : (sought shunned : ℕ → Bool) (cs : List ℕ) → chosen_code sou
     (x : ℕ) × Contains cs x × (sought x ≡ false) × (shunned x ≡ false)
 chosen_one sought shunned cs h =
     elim (true_or_false (list_any sought cs)) [
-      | inl t ↦ absurd (let e : chosen_code sought shunned cs ≡ least (filter sought cs) + 2 = rw t refl in omega arith)
+      | inl t ↦ absurd (let e : chosen_code sought shunned cs ≡ least (filter sought cs) + 2 =
+          rw t refl in omega arith)
       | inr f ↦ elim (true_or_false (list_all shunned cs)) [
-        | inl a ↦ absurd (let e : chosen_code sought shunned cs ≡ greatest cs + 2 = rw (f, a) refl in omega arith)
+        | inl a ↦ absurd (let e : chosen_code sought shunned cs ≡ greatest cs + 2 =
+            rw (f, a) refl in omega arith)
         | inr b ↦ (let r = some_not shunned cs b in (r.0, r.1, none_from sought cs f r.0 r.1, r.2))
       ]
     ]
@@ -61,10 +64,14 @@ own_win_arm arena side entry p e w =
     (a.0, a.1, a.2, ap (λ z. z + 2) a.3 ∙ (sym s.3 ∙ sym f))
 
 -- each arm of the other_of keeps it
-pub other_win_arms : {M N V : Type 0} (arena : Arena M N V) (side : Colour) (entry : N → ℕ) (p : N) → arena.node p ≡ Going (other_of side) → is_win (local_code arena side entry p) ≡ true → (a : Arm M N V) → IsArm arena p a → (is_win (next_code arena side entry a.next) ≡ true) × (next_code arena side entry a.next + 2 ≤ local_code arena side entry p)
+pub other_win_arms : {M N V : Type 0} (arena : Arena M N V) (side : Colour) (entry : N → ℕ) (p : N)
+    → arena.node p ≡ Going (other_of side) → is_win (local_code arena side entry p) ≡ true
+    → (a : Arm M N V) → IsArm arena p a → (is_win (next_code arena side entry a.next) ≡ true)
+    × (next_code arena side entry a.next + 2 ≤ local_code arena side entry p)
 other_win_arms arena side entry p e w a i =
     let f = at_other arena side entry p e in
-    let s = other_win (all_codes arena side entry p) (subst (λ z. is_win z ≡ true) f w) (next_code arena side entry a.next) (code_among_all arena side entry p a i) in
+    let s = other_win (all_codes arena side entry p) (subst (λ z. is_win z ≡ true) f w)
+    (next_code arena side entry a.next) (code_among_all arena side entry p a i) in
     (s.0, omega (arith, s.1))
 
 -- the mover's free arm that keeps a hold
@@ -78,13 +85,18 @@ own_hold_arm arena side entry p e h =
     (a.0, a.1, a.2, (let k = a.3 in let l = s.2 in omega arith))
 
 -- no arm of the other_of loses it
-pub other_hold_arms : {M N V : Type 0} (arena : Arena M N V) (side : Colour) (entry : N → ℕ) (p : N) → arena.node p ≡ Going (other_of side) → local_code arena side entry p ≡ 1 → (a : Arm M N V) → IsArm arena p a → is_failure (next_code arena side entry a.next) ≡ false
+pub other_hold_arms : {M N V : Type 0} (arena : Arena M N V) (side : Colour) (entry : N → ℕ) (p : N)
+    → arena.node p ≡ Going (other_of side) → local_code arena side entry p ≡ 1 → (a : Arm M N V)
+    → IsArm arena p a → is_failure (next_code arena side entry a.next) ≡ false
 other_hold_arms arena side entry p e h a i =
-    let f : other_code (all_codes arena side entry p) ≡ 1 = sym (at_other arena side entry p e) ∙ h in
+    let f : other_code (all_codes arena side entry p) ≡ 1 = sym (at_other arena side entry p e)
+    ∙ h in
     elim (true_or_false (list_any is_failure (all_codes arena side entry p))) [
-      | inl t ↦ absurd (let k : other_code (all_codes arena side entry p) ≡ least (filter is_failure (all_codes arena side entry p)) + 2 = rw t refl in omega arith)
+      | inl t ↦ absurd (let k : other_code (all_codes arena side entry p) ≡ least
+          (filter is_failure (all_codes arena side entry p)) + 2 = rw t refl in omega arith)
       | inr g ↦
-          none_from is_failure (all_codes arena side entry p) g (next_code arena side entry a.next) (code_among_all arena side entry p a i)
+          none_from is_failure (all_codes arena side entry p) g (next_code arena side entry a.next)
+          (code_among_all arena side entry p a i)
     ]
 
 -- a move of the opponent that takes as many plies as the win
@@ -96,12 +108,15 @@ pub other_win_arm : {M N V : Type 0} (arena : Arena M N V) → IsLawful arena �
 other_win_arm arena law side entry p e w =
     let f = at_other arena side entry p e in
     let b = some_arm arena law p (other_of side) e in
-    let s = other_longest (all_codes arena side entry p) (next_code arena side entry b.0.next) (code_among_all arena side entry p b.0 b.1) (subst (λ z. is_win z ≡ true) f w) in
+    let s = other_longest (all_codes arena side entry p) (next_code arena side entry b.0.next)
+    (code_among_all arena side entry p b.0 b.1) (subst (λ z. is_win z ≡ true) f w) in
     let a = arm_of_code arena side entry p s.0 s.1 in
     (a.0, a.1, ap (λ z. z + 2) a.2 ∙ (sym s.2 ∙ sym f))
 
 -- a move of the opponent that keeps the hold
-pub other_hold_arm : {M N V : Type 0} (arena : Arena M N V) (side : Colour) (entry : N → ℕ) (p : N) → arena.node p ≡ Going (other_of side) → local_code arena side entry p ≡ 1 → (a : Arm M N V) × IsArm arena p a × (next_code arena side entry a.next ≤ 1)
+pub other_hold_arm : {M N V : Type 0} (arena : Arena M N V) (side : Colour) (entry : N → ℕ) (p : N)
+    → arena.node p ≡ Going (other_of side) → local_code arena side entry p ≡ 1 → (a : Arm M N V)
+    × IsArm arena p a × (next_code arena side entry a.next ≤ 1)
 other_hold_arm arena side entry p e h =
     let f = at_other arena side entry p e in
     let s = chosen_one is_failure is_win (all_codes arena side entry p) (sym f ∙ h) in

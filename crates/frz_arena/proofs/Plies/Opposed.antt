@@ -40,9 +40,18 @@ pub wins_gives_fails : {M N V : Type 0} (arena : Arena M N V) → IsLawful arena
 wins_gives_fails arena law side zero p w = inl w
 wins_gives_fails arena law side (suc n) p (inl w) = inl (wins_gives_fails arena law side n p w)
 wins_gives_fails arena law side (suc n) p (inr (inl w)) =
-    inr (inl (w.0 ∙ ap Going (sym (other_twice side)), (w.1.0, w.1.1, good_is_bad arena law side n (wins_gives_fails arena law side n) w.1.0.next w.1.3)))
+    inr (inl (
+      w.0 ∙ ap Going (sym (other_twice side)),
+      (
+        w.1.0,
+        w.1.1,
+        good_is_bad arena law side n (wins_gives_fails arena law side n) w.1.0.next
+            w.1.3,
+      ),
+    ))
 wins_gives_fails {M} {N} {V} arena law side (suc n) p (inr (inr w)) =
-    let bad : (a : Arm M N V) → IsArm arena p a → LeadsTo (FailsWithin arena (other_of side) n) (IsBadExit arena (other_of side)) a.next =
+    let bad : (a : Arm M N V) → IsArm arena p a → LeadsTo (FailsWithin arena (other_of side) n)
+    (IsBadExit arena (other_of side)) a.next =
     λ a h. good_is_bad arena law side n (wins_gives_fails arena law side n) a.next (w.2 a h) in
     elim (passes_or_none (λ (a : Arm M N V). a.free) (arena.arms p)) [
       | inl f ↦ inr (inr (w.0, (f.0, f.1, f.2, bad f.0 f.1), λ a h _. bad a h))

@@ -10,7 +10,9 @@ use Rattle.frz_arena.specs.Plies.{LeadsTo, IsGoodExit, IsBadExit, MovesToGood, M
 use Rattle.frz_arena.proofs.Plies.Opposed.{wins_later, fails_at_once}
 
 -- better arms for better arms
-pub moves_better : {M N V : Type 0} (arena : Arena M N V) (side : Colour) (P R : Next N V → Type 0) (p : N) → ((a : Arm M N V) → IsArm arena p a → P a.next → R a.next) → MovesToGood arena side P p → MovesToGood arena side R p
+pub moves_better : {M N V : Type 0} (arena : Arena M N V) (side : Colour) (P R : Next N V → Type 0)
+    (p : N) → ((a : Arm M N V) → IsArm arena p a → P a.next → R a.next) → MovesToGood arena side P p
+    → MovesToGood arena side R p
 moves_better arena side P R p f (inl w) = inl (w.0, (w.1.0, w.1.1, w.1.2, f w.1.0 w.1.1 w.1.3))
 moves_better arena side P R p f (inr w) =
     inr (w.0, (w.1.0, w.1.1, f w.1.0 w.1.1 w.1.2), λ a i. f a i (w.2 a i))
@@ -43,7 +45,9 @@ pub wins_stay : {M N V : Type 0} (arena : Arena M N V) (side : Colour) (k : ℕ)
 wins_stay arena side k lags still zero p w = wins_later arena side zero k p (omega arith) w
 wins_stay arena side k lags still (suc n) p (inl w) = wins_stay arena side k lags still n p w
 wins_stay arena side k lags still (suc n) p (inr m) =
-    still p (inr (moves_better arena side _ _ p (λ a i. good_still arena side n k (wins_stay arena side k lags still n) a.next (λ v. lags p a v i)) m))
+    still p (inr (moves_better arena side _ _ p
+    (λ a i. good_still arena side n k (wins_stay arena side k lags still n) a.next
+    (λ v. lags p a v i)) m))
 
 pub fails_stay : {M N V : Type 0} (arena : Arena M N V) (side : Colour) (k : ℕ) →
     ((p : N) → FailsWithin arena side (suc k) p → FailsWithin arena side k p) → (n : ℕ) (p : N) →
@@ -51,4 +55,5 @@ pub fails_stay : {M N V : Type 0} (arena : Arena M N V) (side : Colour) (k : ℕ
 fails_stay arena side k still zero p f = fails_at_once arena side k p f
 fails_stay arena side k still (suc n) p (inl f) = fails_stay arena side k still n p f
 fails_stay arena side k still (suc n) p (inr m) =
-    still p (inr (moves_worse arena side _ _ (bad_still arena side n k (fails_stay arena side k still n)) p m))
+    still p (inr (moves_worse arena side _ _
+    (bad_still arena side n k (fails_stay arena side k still n)) p m))

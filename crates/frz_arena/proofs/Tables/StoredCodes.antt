@@ -22,11 +22,17 @@ stored_win_is : {P M V : Type 0} (game : Game P M V) (side : Colour) (p : P) (n 
     c ≡ 2 + 2 * n → (b : Bound) × (c ≡ code_of b) × IsBound (arena_of game) side p b →
     WinsWithin (arena_of game) side n p
 stored_win_is game side p n c e b =
-    (bound_wins (arena_of game) side p b.0 b.2 n).1 (let f : code_of b.0 ≡ 2 + 2 * n = sym b.1 ∙ e in (subst (λ z. is_win z ≡ true) (sym f) (win_of n), omega arith))
+    (bound_wins (arena_of game) side p b.0 b.2 n).1
+    (let f : code_of b.0 ≡ 2 + 2 * n = sym b.1 ∙ e in
+    (subst (λ z. is_win z ≡ true) (sym f) (win_of n), omega arith))
 
-pub stored_win : {P M V : Type 0} (game : Game P M V) (numbers : Numbering P) (side : Colour) (codes : List ℕ) → IsTable numbers (arena_of game) side codes → (p : P) (i n : ℕ) → numbers.number p ≡ Some i → slice_index codes i ≡ 2 + 2 * n → Forces game.chess (goals_of game side) side n p
+pub stored_win : {P M V : Type 0} (game : Game P M V) (numbers : Numbering P) (side : Colour)
+    (codes : List ℕ) → IsTable numbers (arena_of game) side codes → (p : P) (i n : ℕ)
+    → numbers.number p ≡ Some i → slice_index codes i ≡ 2 + 2 * n
+    → Forces game.chess (goals_of game side) side n p
 stored_win game numbers side codes table p i n e c =
-    wins_forces game side n p (stored_win_is game side p n (slice_index codes i) c (table.bound p i e))
+    wins_forces game side n p
+    (stored_win_is game side p n (slice_index codes i) c (table.bound p i e))
 
 -- a hold or a win fails at no number of plies
 no_failure : {P M V : Type 0} (game : Game P M V) (side : Colour) (p : P) (b : Bound) →
@@ -41,7 +47,8 @@ pub stored_hold : {P M V : Type 0} (game : Game P M V) → TrueExits game →
     Forces game.chess mate_alone (other_of side) n p → ⊥
 stored_hold game exits numbers side codes table p i m e c n f =
     let b = table.bound p i e in
-    no_failure game side p b.0 b.2 (subst (λ z. is_failure z ≡ false) b.1 c) n (forced_fails game exits side n p m f)
+    no_failure game side p b.0 b.2 (subst (λ z. is_failure z ≡ false) b.1 c) n
+    (forced_fails game exits side n p m f)
 
 -- where the exits are true, a stored win is a forced mate
 pub stored_mate : {P M V : Type 0} (game : Game P M V) → TrueExits game →
@@ -49,11 +56,13 @@ pub stored_mate : {P M V : Type 0} (game : Game P M V) → TrueExits game →
     IsTable numbers (arena_of game) side codes → (p : P) (i n : ℕ) → numbers.number p ≡ Some i →
     slice_index codes i ≡ 2 + 2 * n → (k : ℕ) × Forces game.chess mate_alone side k p
 stored_mate game exits numbers side codes table p i n e c =
-    wins_mates game exits side n p (stored_win_is game side p n (slice_index codes i) c (table.bound p i e))
+    wins_mates game exits side n p
+    (stored_win_is game side p n (slice_index codes i) c (table.bound p i e))
 
 pub stored_mate_in : {P M V : Type 0} (game : Game P M V) → TrueExits game →
     (numbers : Numbering P) (side : Colour) → AllNumbered game side → (codes : List ℕ) →
     IsTable numbers (arena_of game) side codes → (p : P) (i n : ℕ) → numbers.number p ≡ Some i →
     slice_index codes i ≡ 2 + 2 * n → Forces game.chess mate_alone side n p
 stored_mate_in game exits numbers side all codes table p i n e c =
-    wins_mates_in game exits side all n p (stored_win_is game side p n (slice_index codes i) c (table.bound p i e))
+    wins_mates_in game exits side all n p
+    (stored_win_is game side p n (slice_index codes i) c (table.bound p i e))

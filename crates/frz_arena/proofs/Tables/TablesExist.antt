@@ -62,12 +62,16 @@ table_exists {M} {N} {V} numbers arena numbering law side most lags =
     let graph = numbers_of numbers arena in
     let lawful = numbers_lawful numbers arena law in
     let numbered = numbered_is numbers arena numbering in
-    let r = listed (IsCodeAt graph side) (code_exists graph lawful numbers.size numbered side most lags) numbers.size in
+    let r = listed (IsCodeAt graph side)
+    (code_exists graph lawful numbers.size numbered side most lags) numbers.size in
     let entry : ℕ → ℕ = λ k. slice_index r.items k in
     let all : (i : ℕ) → IsCodeAt graph side i (entry i) = λ i.
     elim (cases_lt i numbers.size) [
       | inl l ↦ r.each i l
       | inr l ↦ inl (numbered.past i l, (let m = r.many in none_past r.items i (omega arith)))
     ] in
-    let eqs = codes_meet graph lawful side entry (bounds_are_codes graph side entry all) in
-    (r.items, exact_is_table numbers arena numbering law side r.items (record { many = r.many; local = λ i h. eqs i }))
+    let eqs = codes_meet graph lawful side entry (bounds_are_codes graph side entry all) in (
+      r.items,
+      exact_is_table numbers arena numbering law side r.items
+          (record { many = r.many; local = λ i h. eqs i }),
+    )

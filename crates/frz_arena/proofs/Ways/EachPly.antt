@@ -18,32 +18,57 @@ second_false b zero e h = h
 second_false b (suc k) e h = absurd (cc)
 
 -- the first ply of a way whose start does not fail
-pub first_ply : {M N V S R : Type 0} (player : Player M N V S R) (k : ℕ) (s t : S) (p : N) (x : Ply M N V) (xs : List (Ply M N V)) (e : End N V R) → (k ≡ 0) ⊎ (is_failure (player.entry p) ≡ false) → IsWay player k s p (x ∷ xs) e t → IsPlyOf player x
+pub first_ply : {M N V S R : Type 0} (player : Player M N V S R) (k : ℕ) (s t : S) (p : N)
+    (x : Ply M N V) (xs : List (Ply M N V)) (e : End N V R)
+    → (k ≡ 0) ⊎ (is_failure (player.entry p) ≡ false) → IsWay player k s p (x ∷ xs) e t
+    → IsPlyOf player x
 first_ply player k s t p x xs e start w =
     let m = moving player k p x.mover w.1 in
     let from = sym w.0 in
-    let sound : is_failure (player.entry p) ≡ false = elim start [ inl z ↦ second_false (is_failure (player.entry p)) k z m.0.starts | inr f ↦ f ] in
-    let agrees : player.entry x.from ≡ local_code player.arena player.side player.entry x.from = subst (λ q. player.entry q ≡ local_code player.arena player.side player.entry q) from m.0.agrees in
-    let goes : player.arena.node x.from ≡ Going x.mover = subst (λ q. player.arena.node q ≡ Going x.mover) from m.1 in
-    let stands = win_or_hold player.arena player.side player.entry x.mover x.from goes agrees (subst (λ q. is_failure (player.entry q) ≡ false) from sound) in
+    let sound : is_failure (player.entry p) ≡ false =
+    elim start [
+      | inl z ↦ second_false (is_failure (player.entry p)) k z m.0.starts
+      | inr f ↦ f
+    ] in
+    let agrees : player.entry x.from ≡ local_code player.arena player.side player.entry x.from =
+    subst (λ q. player.entry q ≡ local_code player.arena player.side player.entry q) from
+    m.0.agrees in
+    let goes : player.arena.node x.from ≡ Going x.mover = subst
+    (λ q. player.arena.node q ≡ Going x.mover) from m.1 in
+    let stands = win_or_hold player.arena player.side player.entry x.mover x.from goes agrees
+    (subst (λ q. is_failure (player.entry q) ≡ false) from sound) in
     ply_of player s w.2.0 x agrees goes stands w.2.1
 
 pub never_fails : {M N V S R : Type 0} (player : Player M N V S R) (x : Ply M N V) →
     IsPlyOf player x → is_failure (arm_code player.arena player.side player.entry x.arm) ≡ false
 never_fails player x h =
-    elim (h.stands) [ inl w ↦ win_is_no_failure (arm_code player.arena player.side player.entry x.arm) (h.win w).0 | inr o ↦ h.hold o ]
+    elim (h.stands) [
+      | inl w ↦ win_is_no_failure
+          (arm_code player.arena player.side player.entry x.arm) (h.win w).0
+      | inr o ↦ h.hold o
+    ]
 
-each_after : {M N V S R : Type 0} (player : Player M N V S R) (k : ℕ) (s t : S) (xs : List (Ply M N V)) (e : End N V R) → ((p : N) → is_failure (player.entry p) ≡ false → IsWay player k s p xs e t → (x : Ply M N V) → Contains xs x → IsPlyOf player x) → (y : Next N V) → is_failure (next_code player.arena player.side player.entry y) ≡ false → LeadsTo (λ q. IsWay player k s q xs e t) (λ v. (xs ≡ []) × (e ≡ Exit v) × (t ≡ s)) y → (x : Ply M N V) → Contains xs x → IsPlyOf player x
+each_after : {M N V S R : Type 0} (player : Player M N V S R) (k : ℕ) (s t : S)
+    (xs : List (Ply M N V)) (e : End N V R)
+    → ((p : N) → is_failure (player.entry p) ≡ false → IsWay player k s p xs e t → (x : Ply M N V)
+    → Contains xs x → IsPlyOf player x) → (y : Next N V)
+    → is_failure (next_code player.arena player.side player.entry y) ≡ false
+    → LeadsTo (λ q. IsWay player k s q xs e t) (λ v. (xs ≡ []) × (e ≡ Exit v) × (t ≡ s)) y
+    → (x : Ply M N V) → Contains xs x → IsPlyOf player x
 each_after player k s t xs e ih (Inside q) f w x i = ih q f w x i
 each_after player k s t xs e ih (Outside v) f w x i =
     absurd (none_in_empty x (subst (λ ys. Contains ys x) w.0 i))
 
-pub each_ply : {M N V S R : Type 0} (player : Player M N V S R) (k : ℕ) (s t : S) (p : N) (xs : List (Ply M N V)) (e : End N V R) → (k ≡ 0) ⊎ (is_failure (player.entry p) ≡ false) → IsWay player k s p xs e t → (x : Ply M N V) → Contains xs x → IsPlyOf player x
+pub each_ply : {M N V S R : Type 0} (player : Player M N V S R) (k : ℕ) (s t : S) (p : N)
+    (xs : List (Ply M N V)) (e : End N V R) → (k ≡ 0) ⊎ (is_failure (player.entry p) ≡ false)
+    → IsWay player k s p xs e t → (x : Ply M N V) → Contains xs x → IsPlyOf player x
 each_ply player k s t p [] e start w x i = absurd (none_in_empty x i)
 each_ply player k s t p (y ∷ xs) e start w x i =
     let f = first_ply player k s t p y xs e start w in
     elim (in_cases y xs x i) [
       | inl z ↦ subst (λ q. IsPlyOf player q) z f
       | inr j ↦
-          each_after player (suc k) w.2.0 t xs e (λ q g v. each_ply player (suc k) w.2.0 t q xs e (inr g) v) y.arm.next (never_fails player y f) w.2.2 x j
+          each_after player (suc k) w.2.0 t xs e
+          (λ q g v. each_ply player (suc k) w.2.0 t q xs e (inr g) v) y.arm.next
+          (never_fails player y f) w.2.2 x j
     ]

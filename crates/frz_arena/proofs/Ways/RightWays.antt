@@ -39,7 +39,11 @@ right_end player k p e right there end q kept given g =
       | stopped l r f ↦ cc
     ]
 
-right_after : {M N V S R : Type 0} (player : Player M N V S R) (k : ℕ) (s t : S) (xs : List (Ply M N V)) (e : End N V R) (q : N) (kept given : ℕ) → e ≡ Wrong q kept given → ((p : N) → player.arena.node p ≢ Broken → IsWay player k s p xs e t → ⊥) → (y : Next N V) → LeadsTo (λ p. player.arena.node p ≡ Broken → ⊥) (λ v. ⊤) y → LeadsTo (λ p. IsWay player k s p xs e t) (λ v. (xs ≡ []) × (e ≡ Exit v) × (t ≡ s)) y → ⊥
+right_after : {M N V S R : Type 0} (player : Player M N V S R) (k : ℕ) (s t : S)
+    (xs : List (Ply M N V)) (e : End N V R) (q : N) (kept given : ℕ) → e ≡ Wrong q kept given
+    → ((p : N) → player.arena.node p ≢ Broken → IsWay player k s p xs e t → ⊥) → (y : Next N V)
+    → LeadsTo (λ p. player.arena.node p ≡ Broken → ⊥) (λ v. ⊤) y
+    → LeadsTo (λ p. IsWay player k s p xs e t) (λ v. (xs ≡ []) × (e ≡ Exit v) × (t ≡ s)) y → ⊥
 right_after player k s t xs e q kept given g ih (Inside p) there h = ih p there h
 right_after player k s t xs e q kept given g ih (Outside v) there h = let f = h.1 in cc
 
@@ -51,7 +55,8 @@ right_way player closed eqs k s t p [] e q kept given g there w =
     right_end player k p e (eqs p) there (ended player k s t p e w) q kept given g
 right_way player closed eqs k s t p (x ∷ xs) e q kept given g there w =
     let at = arm_there player (same_colour x.mover player.side) player.opponent s w.2.0 x w.2.1 in
-    right_after player (suc k) w.2.0 t xs e q kept given g (λ p b v. right_way player closed eqs (suc k) w.2.0 t p xs e q kept given g b v) x.arm.next
+    right_after player (suc k) w.2.0 t xs e q kept given g
+    (λ p b v. right_way player closed eqs (suc k) w.2.0 t p xs e q kept given g b v) x.arm.next
     (closed.unbroken x.from x.arm (at_in (player.arena.arms x.from) x.place x.arm at)) w.2.2
 
 -- the arena of a game is closed
@@ -73,14 +78,16 @@ game_closed {P} {M} {V} game = record {
   unbroken = λ p a i.
       (let r = from_mapped (arm_of game p) (game.chess.moves p) a i in
       let q = game.chess.play p r.0 in
-      subst (λ (b : Arm M P V). LeadsTo (λ r. (arena_of game).node r ≡ Broken → ⊥) (λ w. ⊤) b.next) r.2 (next_there game (game.member q) q (game.value q) refl));
+      subst (λ (b : Arm M P V). LeadsTo (λ r. (arena_of game).node r ≡ Broken → ⊥) (λ w. ⊤) b.next)
+      r.2 (next_there game (game.member q) q (game.value q) refl));
 }
 
 -- and so is the arena of its numbers
 named_there : {M N V : Type 0} (numbers : Numbering N) (arena : Arena M N V) →
     IsNumbering numbers arena → (x : Next N V) →
     LeadsTo (λ q. arena.node q ≡ Broken → ⊥) (λ v. ⊤) x →
-    LeadsTo (λ i. node_at arena (numbers.at i) ≡ Broken → ⊥) (λ v. ⊤) (named_next (name_in numbers) x)
+    LeadsTo (λ i. node_at arena (numbers.at i) ≡ Broken → ⊥) (λ v. ⊤)
+    (named_next (name_in numbers) x)
 named_there numbers arena law (Inside q) h = λ b. h (sym (naming_node numbers arena law q) ∙ b)
 named_there numbers arena law (Outside v) h = tt
 
@@ -91,7 +98,8 @@ arms_there : {M N V : Type 0} (numbers : Numbering N) (arena : Arena M N V) →
 arms_there numbers arena law closed None a i = absurd (none_in_empty a i)
 arms_there {M} {N} {V} numbers arena law closed (Some p) a i =
     let r = from_mapped (named (name_in numbers)) (arena.arms p) a i in
-    subst (λ (b : Arm M ℕ V). LeadsTo (λ i. node_at arena (numbers.at i) ≡ Broken → ⊥) (λ v. ⊤) b.next) r.2 (named_there numbers arena law r.0.next (closed.unbroken p r.0 r.1))
+    subst (λ (b : Arm M ℕ V). LeadsTo (λ i. node_at arena (numbers.at i) ≡ Broken → ⊥)
+    (λ v. ⊤) b.next) r.2 (named_there numbers arena law r.0.next (closed.unbroken p r.0 r.1))
 
 pub numbers_closed : {M N V : Type 0} (numbers : Numbering N) (arena : Arena M N V) →
     IsNumbering numbers arena → IsClosed arena → IsClosed (numbers_of numbers arena)
@@ -110,5 +118,9 @@ pub right_table : {M N V S R : Type 0} (numbers : Numbering N) (arena : Arena M 
     numbers.number p ≡ Some i → (s t : S) (xs : List (Ply M ℕ V)) (j kept given : ℕ) →
     IsWay (table_player numbers arena side codes opponent) 0 s i xs (Wrong j kept given) t → ⊥
 right_table numbers arena law lawful closed side codes table opponent p i e s t xs j kept given w =
-    let eqs = exact_meets (numbers_of numbers arena) side numbers.size (numbered_is numbers arena law) codes (table_is_exact numbers arena law lawful side codes table) in
-    right_way (table_player numbers arena side codes opponent) (numbers_closed numbers arena law closed) eqs 0 s t i xs (Wrong j kept given) j kept given refl (number_there numbers arena law p i e) w
+    let eqs = exact_meets (numbers_of numbers arena) side numbers.size
+    (numbered_is numbers arena law) codes
+    (table_is_exact numbers arena law lawful side codes table) in
+    right_way (table_player numbers arena side codes opponent)
+    (numbers_closed numbers arena law closed) eqs 0 s t i xs (Wrong j kept given) j kept given refl
+    (number_there numbers arena law p i e) w

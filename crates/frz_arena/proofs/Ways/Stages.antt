@@ -17,11 +17,13 @@ pub number_same : (a b : ℕ) → a ≡ b → (a == b) ≡ true
 number_same a b e = grind (arith, nat_tests)
 
 -- the kept code is the local one, and a start does not fail
-pub record IsSound {M N V S R : Type 0} (player : Player M N V S R) (plies : ℕ) (p : N) : Type 0 where
+pub record IsSound {M N V S R : Type 0} (player : Player M N V S R) (plies : ℕ)
+    (p : N) : Type 0 where
   pub agrees : player.entry p ≡ local_code player.arena player.side player.entry p
   pub starts : ((plies == 0) && is_failure (player.entry p)) ≡ false
 
-pub data StageIs {M N V S R : Type 0} (player : Player M N V S R) (plies : ℕ) (p : N) (x : Stage N V R) : Type 0 where
+pub data StageIs {M N V S R : Type 0} (player : Player M N V S R) (plies : ℕ) (p : N)
+    (x : Stage N V R) : Type 0 where
   wrong : (player.entry p ≡ local_code player.arena player.side player.entry p → ⊥) →
       x ≡ Over (Wrong p (player.entry p) (local_code player.arena player.side player.entry p)) →
       StageIs player plies p x
@@ -59,18 +61,23 @@ pub stage_is : {M N V S R : Type 0} (player : Player M N V S R) (plies : ℕ) (p
     StageIs player plies p (stage player plies p)
 stage_is player plies p =
     elim (true_or_false (player.entry p == local_code player.arena player.side player.entry p)) [
-      | inr f ↦ wrong (λ e. (let t = number_same (player.entry p) (local_code player.arena player.side player.entry p) e in cc)) (rw f refl)
-      | inl t ↦ (let e = same_number (player.entry p) (local_code player.arena player.side player.entry p) t in
+      | inr f ↦ wrong (λ e.
+          (let t = number_same (player.entry p) (local_code player.arena player.side player.entry p)
+          e in cc)) (rw f refl)
+      | inl t ↦ (let e = same_number (player.entry p)
+          (local_code player.arena player.side player.entry p) t in
           elim (true_or_false ((plies == 0) && is_failure (player.entry p))) [
             | inl s ↦
                 fails e (and_second (plies == 0) (is_failure (player.entry p)) s) (rw (t, s) refl)
             | inr n ↦
-                rw (t, n) (stage_of_is player plies p (record { agrees = e; starts = n }) (player.arena.node p) refl)
+                rw (t, n) (stage_of_is player plies p (record { agrees = e; starts = n })
+                (player.arena.node p) refl)
           ])
     ]
 
 -- a way is over there, or a ply is due
-pub data OverOrDue {M N V S R : Type 0} (player : Player M N V S R) (plies : ℕ) (p : N) : Type 0 where
+pub data OverOrDue {M N V S R : Type 0} (player : Player M N V S R) (plies : ℕ)
+    (p : N) : Type 0 where
   over : (end : End N V R) → stage player plies p ≡ Over end → OverOrDue player plies p
   due : IsSound player plies p → (mover : Colour) → player.arena.node p ≡ Going mover →
       is_cut player.opponent plies (player.entry p) ≡ false →

@@ -15,7 +15,8 @@ use Rattle.frz_arena.proofs.Ways.Stages.{IsSound, StageIs, stage_is, same_number
 use Rattle.frz_arena.proofs.Ways.FoundArms.{mover_is, itself, another, chosen_is_at, chosen_free, chosen_win, chosen_hold, any_win, any_hold, small_is_no_failure}
 
 -- a way with no more plies, by its end
-pub data EndedAt {M N V S R : Type 0} (player : Player M N V S R) (plies : ℕ) (p : N) (end : End N V R) : Type 0 where
+pub data EndedAt {M N V S R : Type 0} (player : Player M N V S R) (plies : ℕ) (p : N)
+    (end : End N V R) : Type 0 where
   wrong : (player.entry p ≡ local_code player.arena player.side player.entry p → ⊥) →
       end ≡ Wrong p (player.entry p) (local_code player.arena player.side player.entry p) →
       EndedAt player plies p end
@@ -45,15 +46,19 @@ over_is player plies p end o =
       | stages.moves s m b t e ↦ absurd (cc)
     ]
 
-stop_is : {N V S R : Type 0} (own : Bool) (opponent : Opponent N S R) (s t : S) (p : N) (end : End N V R) → IsStopBy {V = V} own opponent s p end t → (is_line opponent ≡ false) × ((reason : R) × (end ≡ Stopped reason))
+stop_is : {N V S R : Type 0} (own : Bool) (opponent : Opponent N S R) (s t : S) (p : N)
+    (end : End N V R) → IsStopBy {V = V} own opponent s p end t → (is_line opponent ≡ false)
+    × ((reason : R) × (end ≡ Stopped reason))
 stop_is true opponent s t p end h = absurd h
 stop_is false (ByCodes most) s t p end h = absurd h
 stop_is false (ByInput read) s t p end h = (refl, (h.0, h.1))
 
-pub ended : {M N V S R : Type 0} (player : Player M N V S R) (plies : ℕ) (s t : S) (p : N) (end : End N V R) → IsWay player plies s p [] end t → EndedAt player plies p end
+pub ended : {M N V S R : Type 0} (player : Player M N V S R) (plies : ℕ) (s t : S) (p : N)
+    (end : End N V R) → IsWay player plies s p [] end t → EndedAt player plies p end
 ended player plies s t p end (inl h) = over_is player plies p end h.0
 ended player plies s t p end (inr h) =
-    let r = stop_is (same_colour h.0 player.side) player.opponent s t p end h.2 in stopped r.0 r.1.0 r.1.1
+    let r = stop_is (same_colour h.0 player.side) player.opponent s t p end h.2 in
+    stopped r.0 r.1.0 r.1.1
 
 moved : {N V R : Type 0} {x : Stage N V R} (a b : Colour) → x ≡ Moves a → x ≡ Moves b → a ≡ b
 moved a b e f = cc
@@ -86,13 +91,19 @@ cut_is (ByCodes most) plies c h =
 cut_is (ByInput read) plies c h = absurd (cc)
 
 -- the ply is by the codes, or the opponent's own choice
-taken_by : {M N V S R : Type 0} (player : Player M N V S R) (own : Bool) (opponent : Opponent N S R) (s t : S) (x : Ply M N V) → IsTakenBy player own opponent s x t → IsChosen player.arena player.side player.entry x.mover x.from x.place x.arm ⊎ ((own ≡ false) × (is_line opponent ≡ false) × (slice_get (player.arena.arms x.from) x.place ≡ Some x.arm))
+taken_by : {M N V S R : Type 0} (player : Player M N V S R) (own : Bool) (opponent : Opponent N S R)
+    (s t : S) (x : Ply M N V) → IsTakenBy player own opponent s x t
+    → IsChosen player.arena player.side player.entry x.mover x.from x.place x.arm
+    ⊎ ((own ≡ false) × (is_line opponent ≡ false)
+    × (slice_get (player.arena.arms x.from) x.place ≡ Some x.arm))
 taken_by player true opponent s t x h = inl h.0
 taken_by player false (ByCodes most) s t x h = inl h.0
 taken_by player false (ByInput read) s t x h = inr (refl, refl, h.0)
 
 -- the arm of a ply is there
-pub arm_there : {M N V S R : Type 0} (player : Player M N V S R) (own : Bool) (opponent : Opponent N S R) (s t : S) (x : Ply M N V) → IsTakenBy player own opponent s x t → slice_get (player.arena.arms x.from) x.place ≡ Some x.arm
+pub arm_there : {M N V S R : Type 0} (player : Player M N V S R) (own : Bool)
+    (opponent : Opponent N S R) (s t : S) (x : Ply M N V) → IsTakenBy player own opponent s x t
+    → slice_get (player.arena.arms x.from) x.place ≡ Some x.arm
 arm_there player own opponent s t x h =
     elim (taken_by player own opponent s t x h) [
       | inl c ↦ chosen_is_at player.arena player.side player.entry x.mover x.from x.place x.arm c
@@ -101,7 +112,10 @@ arm_there player own opponent s t x h =
 
 same_of : (side mover : Colour) → mover ≡ side → same_colour mover side ≡ true
 same_of side mover e =
-    elim (mover_is side mover) [ itself m s ↦ s | another m s ↦ absurd (let f : other_of side ≡ side = sym m ∙ e in other_differs side f) ]
+    elim (mover_is side mover) [
+      | itself m s ↦ s
+      | another m s ↦ absurd (let f : other_of side ≡ side = sym m ∙ e in other_differs side f)
+    ]
 
 other_when : (side mover : Colour) → same_colour mover side ≡ false → mover ≡ other_of side
 other_when side mover f = elim (mover_is side mover) [ itself m s ↦ absurd (cc) | another m s ↦ m ]
@@ -119,24 +133,31 @@ pub ply_of : {M N V S R : Type 0} (player : Player M N V S R) (s t : S) (x : Ply
 ply_of player s t x k e stands h =
     elim (taken_by player (same_colour x.mover player.side) player.opponent s t x h) [
       | inl c ↦ (
-          let win = chosen_win player.arena player.side player.entry x.mover x.from x.place x.arm c e k in
-          let holds = chosen_hold player.arena player.side player.entry x.mover x.from x.place x.arm c in
+          let win = chosen_win player.arena player.side player.entry x.mover x.from x.place x.arm c
+          e k in
+          let holds = chosen_hold player.arena player.side player.entry x.mover x.from x.place x.arm
+          c in
           record {
             agrees = k;
             stands = stands;
             goes_on = e;
-            there = chosen_is_at player.arena player.side player.entry x.mover x.from x.place x.arm c;
-            free = λ m. chosen_free player.arena player.side player.entry x.mover x.from x.place x.arm c (same_of player.side x.mover m);
+            there = chosen_is_at player.arena player.side player.entry x.mover x.from x.place x.arm
+                c;
+            free = λ m. chosen_free player.arena player.side player.entry x.mover x.from x.place
+                x.arm c (same_of player.side x.mover m);
             win = λ w. (let r = win w in (r.0, (let l = r.1 in omega (arith, l))));
             best_win = λ _ w. (win w).1;
-            hold = λ h. small_is_no_failure (arm_code player.arena player.side player.entry x.arm) (holds h);
+            hold = λ h. small_is_no_failure (arm_code player.arena player.side player.entry x.arm)
+                (holds h);
             best_hold = λ _ h. holds h;
           })
       | inr o ↦ (
           let f = o.0 in
           let l = o.1 in
           let other = other_when player.side x.mover f in
-          let not_best : is_by_codes player x.mover ≡ true → ⊥ = λ b. neither_of (same_colour x.mover player.side) (is_line player.opponent) f l b in
+          let not_best : is_by_codes player x.mover ≡ true
+          → ⊥ = λ b. neither_of (same_colour x.mover player.side) (is_line player.opponent) f l
+          b in
           let any = e ∙ ap Going other in
           record {
             agrees = k;

@@ -25,17 +25,33 @@ with_zero : {N V R : Type 0} (e : End N V R) (p : N) (kept given : ℕ) → kept
     e ≡ Wrong p kept given → e ≡ Wrong p 0 given
 with_zero e p kept given z f = cc
 
-pub zero_way : {M N V S R : Type 0} (player : Player M N V S R) (k : ℕ) (s t : S) (p : N) (xs : List (Ply M N V)) (e : End N V R) → player.entry p ≡ 0 → IsWay player k s p xs e t → (xs ≡ []) × ((given : ℕ) × (e ≡ Wrong p 0 given))
+pub zero_way : {M N V S R : Type 0} (player : Player M N V S R) (k : ℕ) (s t : S) (p : N)
+    (xs : List (Ply M N V)) (e : End N V R) → player.entry p ≡ 0 → IsWay player k s p xs e t
+    → (xs ≡ []) × ((given : ℕ) × (e ≡ Wrong p 0 given))
 zero_way player k s t p [] e z (inl h) =
     let o = h.0 in
     elim (stage_is player k p) [
-      | stages.wrong n f ↦
-          (refl, (local_code player.arena player.side player.entry p, with_zero e p (player.entry p) (local_code player.arena player.side player.entry p) z (cc)))
-      | stages.fails a f g ↦ absurd (let l = failure_above (player.entry p) f in omega (arith, l, z))
+      | stages.wrong n f ↦ (
+        refl,
+        (
+          local_code player.arena player.side player.entry p,
+          with_zero e p (player.entry p)
+              (local_code player.arena player.side player.entry p) z (cc),
+        ),
+      )
+      | stages.fails a f g ↦ absurd
+          (let l = failure_above (player.entry p) f in omega (arith, l, z))
       | stages.broken d b f ↦ (refl, (0, with_zero e p (player.entry p) 0 z (cc)))
-      | stages.mated d m b f ↦ absurd (elim (mate_code player p m d.agrees b) [ inl three ↦ omega (arith, three, z) | inr two ↦ (let l = two.1 in omega (arith, l, z)) ])
-      | stages.stale d m b f ↦ absurd (let l = d.agrees ∙ at_stale player.arena player.side player.entry p m b in omega (arith, l, z))
-      | stages.cut d m b u f ↦ absurd (let l = (cut_is player.opponent k (player.entry p) u).0 in omega (arith, l, z))
+      | stages.mated d m b f ↦ absurd
+          (elim (mate_code player p m d.agrees b) [
+            | inl three ↦ omega (arith, three, z)
+            | inr two ↦ (let l = two.1 in omega (arith, l, z))
+          ])
+      | stages.stale d m b f ↦ absurd
+          (let l = d.agrees ∙ at_stale player.arena player.side player.entry p m b in
+          omega (arith, l, z))
+      | stages.cut d m b u f ↦ absurd
+          (let l = (cut_is player.opponent k (player.entry p) u).0 in omega (arith, l, z))
       | stages.moves d m b u f ↦ absurd (cc)
     ]
 zero_way player k s t p [] e z (inr h) = absurd (none_due player k p h.0 z h.1)

@@ -20,11 +20,13 @@ pub fn unique_codes<M, N, V>()
 
 /// Where the side is to move, and its local code is a win or a hold, a free move keeps it.
 pub fn own_plies<M, N, V>()
-    ensures win { (arena : Arena M N V) (side : Colour) (entry : N → ℕ) (p : N) → arena.node p ≡ Going side →
+    ensures win { (arena : Arena M N V) (side : Colour) (entry : N → ℕ) (p : N) →
+        arena.node p ≡ Going side →
         is_win (local_code arena side entry p) ≡ true →
         (a : Arm M N V) × IsArm arena p a × (a.free ≡ true)
         × (arm_code arena side entry a + 2 ≡ local_code arena side entry p) }
-    ensures hold { (arena : Arena M N V) (side : Colour) (entry : N → ℕ) (p : N) → arena.node p ≡ Going side →
+    ensures hold { (arena : Arena M N V) (side : Colour) (entry : N → ℕ) (p : N) →
+        arena.node p ≡ Going side →
         local_code arena side entry p ≡ 1 →
         (a : Arm M N V) × IsArm arena p a × (a.free ≡ true) × (arm_code arena side entry a ≤ 1) }
 {}
@@ -37,7 +39,8 @@ pub fn opponent_plies<M, N, V>()
         (a : Arm M N V) → IsArm arena p a →
         (is_win (arm_code arena side entry a) ≡ true)
         × (arm_code arena side entry a + 2 ≤ local_code arena side entry p) }
-    ensures some_win { (arena : Arena M N V) → IsLawful arena → (side : Colour) (entry : N → ℕ) (p : N) →
+    ensures some_win { (arena : Arena M N V) → IsLawful arena →
+        (side : Colour) (entry : N → ℕ) (p : N) →
         arena.node p ≡ Going (other_of side) → is_win (local_code arena side entry p) ≡ true →
         (a : Arm M N V) × IsArm arena p a
         × (arm_code arena side entry a + 2 ≡ local_code arena side entry p) }

@@ -17,14 +17,15 @@ pub fn games_are_lawful<P, M, V>()
         IsLawful (arena_of game) }
 {}
 
-/// A win of the restricted game is forced in chess, to its goals; where the exits are true, to mate,
-/// and within its plies where each value by which the side wins has a number.
+/// A win of the restricted game is forced in chess, to its goals; where the exits are true, to
+/// mate, and within its plies where each value by which the side wins has a number.
 pub fn wins_are_forced<P, M, V>()
     ensures goals { (game : Game P M V) (side : Colour) (n : ℕ) (p : P) →
         WinsWithin (arena_of game) side n p → Forces game.chess (goals_of game side) side n p }
     ensures mates { (game : Game P M V) → TrueExits game → (side : Colour) (n : ℕ) (p : P) →
         WinsWithin (arena_of game) side n p → (k : ℕ) × ForcesMate game.chess side k p }
-    ensures within { (game : Game P M V) → TrueExits game → (side : Colour) → AllNumbered game side →
+    ensures within { (game : Game P M V) → TrueExits game → (side : Colour) →
+        AllNumbered game side →
         (n : ℕ) (p : P) → WinsWithin (arena_of game) side n p → ForcesMate game.chess side n p }
 {}
 
@@ -39,7 +40,8 @@ pub fn holds_are_safe<P, M, V>()
     ensures forced { (game : Game P M V) → TrueExits game → (side : Colour) (n : ℕ) (p : P) →
         game.member p ≡ true → ForcesMate game.chess (other_of side) n p →
         FailsWithin (arena_of game) side n p }
-    ensures safe { (game : Game P M V) → TrueExits game → (side : Colour) (p : P) → game.member p ≡ true →
+    ensures safe { (game : Game P M V) → TrueExits game → (side : Colour) (p : P) →
+        game.member p ≡ true →
         ((n : ℕ) → FailsWithin (arena_of game) side n p → ⊥) →
         NeverForcesMate game.chess (other_of side) p }
 {}

@@ -6,14 +6,16 @@ ghost use Rattle.frz_arena.specs.Arena.{IsLawful};
 ghost use Rattle.frz_arena.specs.WayEnds.{End, Mated, Exit, Cut, EndsDrawn};
 ghost use Rattle.frz_arena.specs.Ways.{Player, Ply, ByCodes, is_line, IsWay};
 
-/// From a win of n plies a line that ends in a mate, or at an exit with its lag counted, has n plies.
+/// From a win of n plies a line that ends in a mate, or at an
+/// exit with its lag counted, has n plies.
 pub fn wins_in_lines<M, N, V, S, R>()
     ensures mate { (player : Player M N V S R) → is_line player.opponent ≡ true →
         (s t : S) (p : N) (xs : List (Ply M N V)) (mover : Colour) (n : ℕ) →
         player.entry p ≡ 2 + 2 * n → IsWay player 0 s p xs (Mated mover) t → length xs ≡ n }
     ensures exit { (player : Player M N V S R) → is_line player.opponent ≡ true →
         (s t : S) (p : N) (xs : List (Ply M N V)) (v : V) (n : ℕ) →
-        player.entry p ≡ 2 + 2 * n → IsWay player 0 s p xs (Exit v) t → length xs + player.arena.lag v ≡ n }
+        player.entry p ≡ 2 + 2 * n → IsWay player 0 s p xs (Exit v) t
+        → length xs + player.arena.lag v ≡ n }
 {}
 
 /// A line from a hold stays one, and is cut after its plies.
@@ -31,6 +33,7 @@ pub fn holds_in_lines<M, N, V, S, R>()
 
 /// A line ends, and leaves the input as it was.
 pub fn lines_end<M, N, V, S, R>()
-    ensures { (player : Player M N V S R) (most : ℕ) → player.opponent ≡ ByCodes most → IsLawful player.arena →
+    ensures { (player : Player M N V S R) (most : ℕ) → player.opponent ≡ ByCodes most →
+        IsLawful player.arena →
         (s : S) (p : N) → (xs : List (Ply M N V)) × (e : End N V R) × IsWay player 0 s p xs e s }
 {}

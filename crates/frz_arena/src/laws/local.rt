@@ -12,26 +12,30 @@ ghost use Rattle.frz_arena.specs.LocalCodes.{arm_code, local_code};
 /// Where the side is to move: the free win of the fewest plies, else the longest of free failures
 /// alone, else a hold; and a failure at once where no move is free.
 pub fn own_codes<M, N, V>()
-    ensures win { (arena : Arena M N V) (side : Colour) (entry : N → ℕ) (p : N) → arena.node p ≡ Going side →
+    ensures win { (arena : Arena M N V) (side : Colour) (entry : N → ℕ) (p : N) →
+        arena.node p ≡ Going side →
         (a : Arm M N V) → IsArm arena p a → a.free ≡ true →
         is_win (arm_code arena side entry a) ≡ true →
         ((b : Arm M N V) → IsArm arena p b → b.free ≡ true →
         is_win (arm_code arena side entry b) ≡ true →
         arm_code arena side entry a ≤ arm_code arena side entry b) →
         local_code arena side entry p ≡ arm_code arena side entry a + 2 }
-    ensures failure { (arena : Arena M N V) (side : Colour) (entry : N → ℕ) (p : N) → arena.node p ≡ Going side →
+    ensures failure { (arena : Arena M N V) (side : Colour) (entry : N → ℕ) (p : N) →
+        arena.node p ≡ Going side →
         (a : Arm M N V) → IsArm arena p a → a.free ≡ true →
         ((b : Arm M N V) → IsArm arena p b → b.free ≡ true →
         (is_failure (arm_code arena side entry b) ≡ true)
         × (arm_code arena side entry b ≤ arm_code arena side entry a)) →
         local_code arena side entry p ≡ arm_code arena side entry a + 2 }
-    ensures hold { (arena : Arena M N V) (side : Colour) (entry : N → ℕ) (p : N) → arena.node p ≡ Going side →
+    ensures hold { (arena : Arena M N V) (side : Colour) (entry : N → ℕ) (p : N) →
+        arena.node p ≡ Going side →
         (a : Arm M N V) → IsArm arena p a → a.free ≡ true →
         is_failure (arm_code arena side entry a) ≡ false →
         ((b : Arm M N V) → IsArm arena p b → b.free ≡ true →
         is_win (arm_code arena side entry b) ≡ false) →
         local_code arena side entry p ≡ 1 }
-    ensures none { (arena : Arena M N V) (side : Colour) (entry : N → ℕ) (p : N) → arena.node p ≡ Going side →
+    ensures none { (arena : Arena M N V) (side : Colour) (entry : N → ℕ) (p : N) →
+        arena.node p ≡ Going side →
         ((a : Arm M N V) → IsArm arena p a → a.free ≡ true → ⊥) →
         local_code arena side entry p ≡ 3 }
 {}

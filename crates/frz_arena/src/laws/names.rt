@@ -14,14 +14,18 @@ ghost use Rattle.frz_arena.specs.Plies.{WinsWithin, FailsWithin};
 
 /// Wins, failures and bounds do not depend on the names of the positions.
 pub fn same_under_names<M, A, B, V>()
-    ensures wins { (name : A → B) (first : Arena M A V) (second : Arena M B V) → IsNaming name first second →
+    ensures wins { (name : A → B) (first : Arena M A V) (second : Arena M B V) →
+        IsNaming name first second →
         (side : Colour) (n : ℕ) (p : A) →
         WinsWithin first side n p ↔ WinsWithin second side n (name p) }
-    ensures fails { (name : A → B) (first : Arena M A V) (second : Arena M B V) → IsNaming name first second →
+    ensures fails { (name : A → B) (first : Arena M A V) (second : Arena M B V) →
+        IsNaming name first second →
         (side : Colour) (n : ℕ) (p : A) →
         FailsWithin first side n p ↔ FailsWithin second side n (name p) }
-    ensures bound { (name : A → B) (first : Arena M A V) (second : Arena M B V) → IsNaming name first second →
-        (side : Colour) (p : A) (b : Bound) → IsBound first side p b ↔ IsBound second side (name p) b }
+    ensures bound { (name : A → B) (first : Arena M A V) (second : Arena M B V) →
+        IsNaming name first second →
+        (side : Colour) (p : A) (b : Bound) → IsBound first side p b ↔ IsBound second side
+        (name p) b }
 {}
 
 /// The numbers of an arena are an arena of the same positions.
@@ -34,13 +38,16 @@ pub fn numbers_are_names<M, N, V>()
         IsLawful (numbers_of numbers arena) }
 {}
 
-/// Only the numbers at which a game goes on have moves, and each of them leads out of the set or to a
-/// number below the size that is not broken.
+/// Only the numbers at which a game goes on have moves, and each of them leads out of the set or to
+/// a number below the size that is not broken.
 pub fn numbers_go_on<P, M, V>()
-    ensures going { (game : Game P M V) (numbers : Numbering P) → IsNumbering numbers (arena_of game) →
+    ensures going { (game : Game P M V) (numbers : Numbering P) →
+        IsNumbering numbers (arena_of game) →
         (i : ℕ) (a : Arm M ℕ V) → IsArm (numbers_of numbers (arena_of game)) i a →
         (mover : Colour) × ((numbers_of numbers (arena_of game)).node i ≡ Going mover) }
-    ensures inside { (game : Game P M V) (numbers : Numbering P) → IsNumbering numbers (arena_of game) →
-        (i q : ℕ) (a : Arm M ℕ V) → IsArm (numbers_of numbers (arena_of game)) i a → a.next ≡ Inside q →
+    ensures inside { (game : Game P M V) (numbers : Numbering P) →
+        IsNumbering numbers (arena_of game) →
+        (i q : ℕ) (a : Arm M ℕ V) → IsArm (numbers_of numbers (arena_of game)) i a →
+        a.next ≡ Inside q →
         (q < numbers.size) × ((numbers_of numbers (arena_of game)).node q ≢ Broken) }
 {}

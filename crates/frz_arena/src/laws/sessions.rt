@@ -11,18 +11,22 @@ ghost use Rattle.frz_arena.specs.Turns.{Alternates};
 ghost use Rattle.frz_arena.specs.WayEnds.{End};
 ghost use Rattle.frz_arena.specs.Ways.{Player, Ply, ByInput, IsWay};
 
-/// A session ends, where the sides move in turn and each reply is an arm and uses up some of the input.
+/// A session ends, where the sides move in turn and each reply
+/// is an arm and uses up some of the input.
 pub fn sessions_end<M, N, V, S, R>()
-    ensures { (player : Player M N V S R) (read : N → S → Answer S R) → player.opponent ≡ ByInput read →
+    ensures { (player : Player M N V S R) (read : N → S → Answer S R) →
+        player.opponent ≡ ByInput read →
         IsLawful player.arena → Alternates player.arena →
         (size : S → ℕ) → IsInput player.arena size read →
-        (s : S) (p : N) → (xs : List (Ply M N V)) × (e : End N V R) × (t : S) × IsWay player 0 s p xs e t }
+        (s : S) (p : N) → (xs : List (Ply M N V)) × (e : End N V R) × (t : S)
+        × IsWay player 0 s p xs e t }
 {}
 
 /// In a game whose moves change the turn the sides move in turn, also over its numbers.
 pub fn sides_move_in_turn<P, M, V>()
     ensures game { (game : Game P M V) → ((p : P) (m : M) → Contains (game.chess.moves p) m →
-        game.chess.turn (game.chess.play p m) ≡ other_of (game.chess.turn p)) → Alternates (arena_of game) }
+        game.chess.turn (game.chess.play p m) ≡ other_of (game.chess.turn p))
+        → Alternates (arena_of game) }
     ensures numbers { (game : Game P M V) → ((p : P) (m : M) → Contains (game.chess.moves p) m →
         game.chess.turn (game.chess.play p m) ≡ other_of (game.chess.turn p)) →
         (numbers : Numbering P) → IsNumbering numbers (arena_of game) →

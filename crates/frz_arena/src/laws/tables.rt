@@ -15,7 +15,8 @@ ghost use Rattle.frz_arena.specs.Tables.{IsExact, IsTable};
 
 /// The codes of an exact table over numbers are the codes of the bounds.
 pub fn exact_codes<M, V>()
-    ensures { (arena : Arena M ℕ V) → IsLawful arena → (side : Colour) (size : ℕ) → IsNumbered arena size →
+    ensures { (arena : Arena M ℕ V) → IsLawful arena → (side : Colour) (size : ℕ) →
+        IsNumbered arena size →
         (codes : List ℕ) → IsExact arena side size codes →
         (i : ℕ) → IsCodeAt arena side i (slice_index codes i) }
 {}
@@ -23,19 +24,24 @@ pub fn exact_codes<M, V>()
 /// A table is exact by its local codes exactly where it is the table of the bounds. There is one
 /// such table, and its codes have few plies.
 pub fn one_table<M, N, V>()
-    ensures table { (numbers : Numbering N) (arena : Arena M N V) → IsNumbering numbers arena → IsLawful arena →
-        (side : Colour) (codes : List ℕ) → IsExact (numbers_of numbers arena) side numbers.size codes →
+    ensures table { (numbers : Numbering N) (arena : Arena M N V) → IsNumbering numbers arena →
+        IsLawful arena →
+        (side : Colour) (codes : List ℕ) →
+        IsExact (numbers_of numbers arena) side numbers.size codes →
         IsTable numbers arena side codes }
-    ensures exact { (numbers : Numbering N) (arena : Arena M N V) → IsNumbering numbers arena → IsLawful arena →
+    ensures exact { (numbers : Numbering N) (arena : Arena M N V) → IsNumbering numbers arena →
+        IsLawful arena →
         (side : Colour) (codes : List ℕ) → IsTable numbers arena side codes →
         IsExact (numbers_of numbers arena) side numbers.size codes }
-    ensures there { (numbers : Numbering N) (arena : Arena M N V) → IsNumbering numbers arena → IsLawful arena →
+    ensures there { (numbers : Numbering N) (arena : Arena M N V) → IsNumbering numbers arena →
+        IsLawful arena →
         (side : Colour) (most : ℕ) → LagsWithin (numbers_of numbers arena) side most →
         (codes : List ℕ) × IsTable numbers arena side codes }
     ensures one { (numbers : Numbering N) (arena : Arena M N V) → IsNumbering numbers arena →
         (side : Colour) (codes others : List ℕ) →
         IsTable numbers arena side codes → IsTable numbers arena side others → codes ≡ others }
-    ensures plies { (numbers : Numbering N) (arena : Arena M N V) → IsNumbering numbers arena → IsLawful arena →
+    ensures plies { (numbers : Numbering N) (arena : Arena M N V) → IsNumbering numbers arena →
+        IsLawful arena →
         (side : Colour) (most : ℕ) → LagsWithin (numbers_of numbers arena) side most →
         (codes : List ℕ) → IsTable numbers arena side codes →
         (i : ℕ) → slice_index codes i ≤ 3 + 2 * (numbers.size + most) }

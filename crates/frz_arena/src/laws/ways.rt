@@ -24,7 +24,8 @@ ghost use Rattle.frz_arena.specs.Ways.{Player, Opponent, Ply, is_by_codes, IsWay
 
 /// A way is unique: the start and the input tell its plies, its end, and what is left of the input.
 pub fn one_way<M, N, V, S, R>()
-    ensures { (player : Player M N V S R) (k : ℕ) (s t u : S) (p : N) (xs ys : List (Ply M N V)) (e f : End N V R) →
+    ensures { (player : Player M N V S R) (k : ℕ) (s t u : S) (p : N) (xs ys : List (Ply M N V))
+        (e f : End N V R) →
         IsWay player k s p xs e t → IsWay player k s p ys f u →
         (xs ≡ ys) × (e ≡ f) × (t ≡ u) }
 {}
@@ -38,45 +39,56 @@ pub fn arms_are_found<M, N, V>()
         (i : ℕ) × (a : Arm M N V) × IsChosen arena side entry mover p i a }
     ensures one { (arena : Arena M N V) (side : Colour) (entry : N → ℕ) (mover : Colour)
         (p : N) (i j : ℕ) (a b : Arm M N V) →
-        IsChosen arena side entry mover p i a → IsChosen arena side entry mover p j b → (i ≡ j) × (a ≡ b) }
+        IsChosen arena side entry mover p i a → IsChosen arena side entry mover p j b → (i ≡ j)
+        × (a ≡ b) }
     ensures choice { (arena : Arena M N V) (side : Colour) (entry : N → ℕ) (mover : Colour)
         (p : N) (i : ℕ) (x : Choice) →
-        IsFound has_code (is_win (entry p)) (entry p) (map (choice_of arena side entry mover) (arena.arms p)) i x →
+        IsFound has_code (is_win (entry p)) (entry p)
+        (map (choice_of arena side entry mover) (arena.arms p)) i x →
         (a : Arm M N V) × IsChosen arena side entry mover p i a }
 {}
 
-/// Each ply of a way is at a right code, and its arm is there, free where the side moves. It keeps a win
-/// with at least one ply less, and a hold does not become a failure.
+/// Each ply of a way is at a right code, and its arm is there, free where the side moves. It keeps
+/// a win with at least one ply less, and a hold does not become a failure.
 pub fn plies_keep<M, N, V, S, R>()
-    ensures { (player : Player M N V S R) (s t : S) (p : N) (xs : List (Ply M N V)) (e : End N V R) →
+    ensures { (player : Player M N V S R) (s t : S) (p : N) (xs : List (Ply M N V))
+        (e : End N V R) →
         IsWay player 0 s p xs e t → (x : Ply M N V) → Contains xs x → IsPlyOf player x }
 {}
 
-/// From a win of n plies a way has at most n plies, with the lag of its exit counted; it ends in a mate of
-/// the opponent or at an exit that wins, unless a code is wrong or the input stops it.
+/// From a win of n plies a way has at most n plies, with the lag of its exit counted; it ends in a
+/// mate of the opponent or at an exit that wins, unless a code is wrong or the input stops it.
 pub fn wins_are_kept<M, N, V, S, R>()
-    ensures few { (player : Player M N V S R) (s t : S) (p : N) (xs : List (Ply M N V)) (e : End N V R) (n : ℕ) →
+    ensures few { (player : Player M N V S R) (s t : S) (p : N) (xs : List (Ply M N V))
+        (e : End N V R) (n : ℕ) →
         player.entry p ≡ 2 + 2 * n → IsWay player 0 s p xs e t → length xs ≤ n }
-    ensures ends { (player : Player M N V S R) (s t : S) (p : N) (xs : List (Ply M N V)) (e : End N V R) (n : ℕ) →
-        player.entry p ≡ 2 + 2 * n → IsWay player 0 s p xs e t → EndsWon player.arena player.side e }
-    ensures exit { (player : Player M N V S R) (s t : S) (p : N) (xs : List (Ply M N V)) (v : V) (n : ℕ) →
-        player.entry p ≡ 2 + 2 * n → IsWay player 0 s p xs (Exit v) t → length xs + player.arena.lag v ≤ n }
+    ensures ends { (player : Player M N V S R) (s t : S) (p : N) (xs : List (Ply M N V))
+        (e : End N V R) (n : ℕ) →
+        player.entry p ≡ 2 + 2 * n → IsWay player 0 s p xs e t
+        → EndsWon player.arena player.side e }
+    ensures exit { (player : Player M N V S R) (s t : S) (p : N) (xs : List (Ply M N V)) (v : V)
+        (n : ℕ) →
+        player.entry p ≡ 2 + 2 * n → IsWay player 0 s p xs (Exit v) t
+        → length xs + player.arena.lag v ≤ n }
 {}
 
 /// From a hold the side is not mated, and no exit is bad for it.
 pub fn holds_are_kept<M, N, V, S, R>()
-    ensures { (player : Player M N V S R) (s t : S) (p : N) (xs : List (Ply M N V)) (e : End N V R) →
+    ensures { (player : Player M N V S R) (s t : S) (p : N) (xs : List (Ply M N V))
+        (e : End N V R) →
         player.entry p ≡ 1 → IsWay player 0 s p xs e t → EndsHeld player.arena player.side e }
 {}
 
-/// Where each code is its local one, no way ends as wrong, from a position that is not broken; and so
-/// with the table of the bounds, from the number of a position.
+/// Where each code is its local one, no way ends as wrong, from a position that is not broken; and
+/// so with the table of the bounds, from the number of a position.
 pub fn right_codes<M, N, V, S, R>()
     ensures codes { (player : Player M N V S R) → IsClosed player.arena →
         MeetsEquations player.arena player.side player.entry →
-        (s t : S) (p : N) (xs : List (Ply M N V)) (q : N) (kept given : ℕ) → player.arena.node p ≢ Broken →
+        (s t : S) (p : N) (xs : List (Ply M N V)) (q : N) (kept given : ℕ) →
+        player.arena.node p ≢ Broken →
         IsWay player 0 s p xs (Wrong q kept given) t → ⊥ }
-    ensures table { (numbers : Numbering N) (arena : Arena M N V) → IsNumbering numbers arena → IsLawful arena →
+    ensures table { (numbers : Numbering N) (arena : Arena M N V) → IsNumbering numbers arena →
+        IsLawful arena →
         IsClosed arena → (side : Colour) (codes : List ℕ) → IsTable numbers arena side codes →
         (opponent : Opponent ℕ S R) (p : N) (i : ℕ) → numbers.number p ≡ Some i →
         (s t : S) (xs : List (Ply M ℕ V)) (j kept given : ℕ) →
@@ -86,55 +98,71 @@ pub fn right_codes<M, N, V, S, R>()
 /// The arena of a game is closed, and so is that of its numbers.
 pub fn games_are_closed<P, M, V>()
     ensures game { (game : Game P M V) → IsClosed (arena_of game) }
-    ensures numbers { (game : Game P M V) (numbers : Numbering P) → IsNumbering numbers (arena_of game) →
+    ensures numbers { (game : Game P M V) (numbers : Numbering P) →
+        IsNumbering numbers (arena_of game) →
         IsClosed (numbers_of numbers (arena_of game)) }
 {}
 
 /// Where the exits are true, the opponent forces no mate after any ply of a way by the table.
 pub fn ways_are_safe<P, M, V, S, R>()
-    ensures { (game : Game P M V) → TrueExits game → (numbers : Numbering P) → IsNumbering numbers (arena_of game) →
+    ensures { (game : Game P M V) → TrueExits game → (numbers : Numbering P) →
+        IsNumbering numbers (arena_of game) →
         (side : Colour) (codes : List ℕ) → IsTable numbers (arena_of game) side codes →
         (opponent : Opponent ℕ S R) (s t : S) (i : ℕ) (xs : List (Ply M ℕ V)) (e : End ℕ V R) →
         IsWay (table_player numbers (arena_of game) side codes opponent) 0 s i xs e t →
         (x : Ply M ℕ V) → Contains xs x →
-        (p : P) (m : M) → numbers.at x.from ≡ Some p → slice_get (game.chess.moves p) x.place ≡ Some m →
+        (p : P) (m : M) → numbers.at x.from ≡ Some p →
+        slice_get (game.chess.moves p) x.place ≡ Some m →
         NeverForcesMate game.chess (other_of side) (game.chess.play p m) }
 {}
 
-/// The plies of a way follow each other: the first is from the start, each leads to the position of the
-/// next, and an exit is where the last one leads. A win stays a win, of at least one ply less; a hold stays
-/// one where the codes find the ply.
+/// The plies of a way follow each other: the first is from the start, each leads to the position of
+/// the next, and an exit is where the last one leads. A win stays a win, of at least one ply less;
+/// a hold stays one where the codes find the ply.
 pub fn plies_follow<M, N, V, S, R>()
-    ensures first { (player : Player M N V S R) (s t : S) (p : N) (xs : List (Ply M N V)) (e : End N V R) →
+    ensures first { (player : Player M N V S R) (s t : S) (p : N) (xs : List (Ply M N V))
+        (e : End N V R) →
         IsWay player 0 s p xs e t → (x : Ply M N V) → slice_get xs 0 ≡ Some x → x.from ≡ p }
-    ensures next { (player : Player M N V S R) (s t : S) (p : N) (xs : List (Ply M N V)) (e : End N V R) →
+    ensures next { (player : Player M N V S R) (s t : S) (p : N) (xs : List (Ply M N V))
+        (e : End N V R) →
         IsWay player 0 s p xs e t → (i : ℕ) (x y : Ply M N V) →
         slice_get xs i ≡ Some x → slice_get xs (suc i) ≡ Some y → x.arm.next ≡ Inside y.from }
     ensures exit { (player : Player M N V S R) (s t : S) (p : N) (xs : List (Ply M N V)) (v : V) →
         IsWay player 0 s p xs (Exit v) t →
-        (x : Ply M N V) × ((i : ℕ) × (suc i ≡ length xs) × (slice_get xs i ≡ Some x)) × (x.arm.next ≡ Outside v) }
-    ensures win { (player : Player M N V S R) (s t : S) (p : N) (xs : List (Ply M N V)) (e : End N V R) →
+        (x : Ply M N V) × ((i : ℕ) × (suc i ≡ length xs) × (slice_get xs i ≡ Some x))
+        × (x.arm.next ≡ Outside v) }
+    ensures win { (player : Player M N V S R) (s t : S) (p : N) (xs : List (Ply M N V))
+        (e : End N V R) →
         IsWay player 0 s p xs e t → (i : ℕ) (x y : Ply M N V) →
-        slice_get xs i ≡ Some x → slice_get xs (suc i) ≡ Some y → is_win (player.entry x.from) ≡ true →
+        slice_get xs i ≡ Some x → slice_get xs (suc i) ≡ Some y →
+        is_win (player.entry x.from) ≡ true →
         (is_win (player.entry y.from) ≡ true) × (player.entry y.from + 2 ≤ player.entry x.from) }
-    ensures hold { (player : Player M N V S R) (s t : S) (p : N) (xs : List (Ply M N V)) (e : End N V R) →
+    ensures hold { (player : Player M N V S R) (s t : S) (p : N) (xs : List (Ply M N V))
+        (e : End N V R) →
         IsWay player 0 s p xs e t → (i : ℕ) (x y : Ply M N V) →
-        slice_get xs i ≡ Some x → slice_get xs (suc i) ≡ Some y → is_by_codes player x.mover ≡ true →
+        slice_get xs i ≡ Some x → slice_get xs (suc i) ≡ Some y →
+        is_by_codes player x.mover ≡ true →
         player.entry x.from ≡ 1 → player.entry y.from ≡ 1 }
 {}
 
-/// Each ply of a way by a table is a legal move at the position of its number, free as its arm says.
+/// Each ply of a way by a table is a legal move at the position
+/// of its number, free as its arm says.
 pub fn plies_are_moves<P, M, V, S, R>()
-    ensures { (game : Game P M V) (numbers : Numbering P) (side : Colour) (codes : List ℕ) (opponent : Opponent ℕ S R)
+    ensures { (game : Game P M V) (numbers : Numbering P) (side : Colour) (codes : List ℕ)
+        (opponent : Opponent ℕ S R)
         (s t : S) (i : ℕ) (xs : List (Ply M ℕ V)) (e : End ℕ V R) →
         IsWay (table_player numbers (arena_of game) side codes opponent) 0 s i xs e t →
         (x : Ply M ℕ V) → Contains xs x →
-        (p : P) × (m : M) × (numbers.at x.from ≡ Some p) × (slice_get (game.chess.moves p) x.place ≡ Some m)
+        (p : P) × (m : M) × (numbers.at x.from ≡ Some p)
+        × (slice_get (game.chess.moves p) x.place ≡ Some m)
         × (game.free p m ≡ x.arm.free) }
 {}
 
-/// From code 0 a way has no plies and ends as wrong: it is there that a hold without an arm that holds ends.
+/// From code 0 a way has no plies and ends as wrong: it is
+/// there that a hold without an arm that holds ends.
 pub fn zero_is_wrong<M, N, V, S, R>()
-    ensures { (player : Player M N V S R) (k : ℕ) (s t : S) (p : N) (xs : List (Ply M N V)) (e : End N V R) →
-        player.entry p ≡ 0 → IsWay player k s p xs e t → (xs ≡ []) × ((given : ℕ) × (e ≡ Wrong p 0 given)) }
+    ensures { (player : Player M N V S R) (k : ℕ) (s t : S) (p : N) (xs : List (Ply M N V))
+        (e : End N V R) →
+        player.entry p ≡ 0 → IsWay player k s p xs e t → (xs ≡ [])
+        × ((given : ℕ) × (e ≡ Wrong p 0 given)) }
 {}

@@ -26,7 +26,8 @@ pub fn true_values()
 /// A bound that is a win is forced in chess, to mate or to a value that wins. Where the exits are
 /// true it is forced to mate, and within its plies where each value that wins has a number.
 pub fn wins()
-    ensures goals { (rules : RuleLines) (value : Board → Value) (side : Colour) (n : ℕ) (p : Board) →
+    ensures goals { (rules : RuleLines) (value : Board → Value) (side : Colour) (n : ℕ)
+        (p : Board) →
         IsBoundAt rules value side p (Wins n) → ForcesWin rules value side n p }
     ensures mates { (rules : RuleLines) (value : Board → Value) → AreTrueExits rules value →
         (side : Colour) (n : ℕ) (p : Board) → IsBoundAt rules value side p (Wins n) →
@@ -46,10 +47,11 @@ pub fn holds()
         IsBoundAt rules value side p (Wins n) → NeverForcesMate chess (other_of side) p }
 {}
 
-/// Without an exit line each value outside the set is unknown: the exits are true, and no value wins
-/// without a number.
+/// Without an exit line each value outside the set is unknown:
+/// the exits are true, and no value wins without a number.
 pub fn no_exit_line()
-    ensures true_exits { (rules : RuleLines) → rules.exits ≡ [] → AreTrueExits rules (value_by rules) }
+    ensures true_exits { (rules : RuleLines) → rules.exits ≡ []
+        → AreTrueExits rules (value_by rules) }
     ensures numbered { (rules : RuleLines) → rules.exits ≡ [] →
         (side : Colour) → AllNumbered (game_of rules (value_by rules)) side }
 {}

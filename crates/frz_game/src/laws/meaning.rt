@@ -11,12 +11,14 @@ ghost use Rattle.frz_arena.specs.declared.bound.Bound.{Bound};
 ghost use Rattle.frz_game.specs.Bounds.{IsBoundAt, IsTableOf};
 ghost use Rattle.frz_game.specs.Meaning.{Means, WinsAlone, TableMeans};
 
-/// The bound of a side at a position of the set means what it says of chess, and where one side's is
-/// a win, the other's is a failure of no more plies.
+/// The bound of a side at a position of the set means what it says of chess, and where one side's
+/// is a win, the other's is a failure of no more plies.
 pub fn bounds_mean()
-    ensures bound { (rules : RuleLines) (value : Board → Value) (side : Colour) (p : Board) (b : Bound) →
+    ensures bound { (rules : RuleLines) (value : Board → Value) (side : Colour) (p : Board)
+        (b : Bound) →
         Member rules.groups p → IsBoundAt rules value side p b → Means rules value side p b }
-    ensures alone { (rules : RuleLines) (value : Board → Value) (side : Colour) (p : Board) (b c : Bound) →
+    ensures alone { (rules : RuleLines) (value : Board → Value) (side : Colour) (p : Board)
+        (b c : Bound) →
         IsBoundAt rules value side p b → IsBoundAt rules value (other_of side) p c → WinsAlone b c }
 {}
 

@@ -27,24 +27,29 @@ pub fn tables()
         IsExact (graph_by rules value) side (size_of rules.groups) codes }
     ensures there { (rules : RuleLines) (value : Board → Value) → HasSmallLags value →
         (side : Colour) → (codes : List ℕ) × IsTableOf rules value side codes }
-    ensures one { (rules : RuleLines) (value : Board → Value) (side : Colour) (codes others : List ℕ) →
+    ensures one { (rules : RuleLines) (value : Board → Value) (side : Colour)
+        (codes others : List ℕ) →
         IsTableOf rules value side codes → IsTableOf rules value side others → codes ≡ others }
     ensures plies { (rules : RuleLines) (value : Board → Value) → HasSmallLags value →
         (side : Colour) (codes : List ℕ) → IsTableOf rules value side codes →
         (i : ℕ) → slice_index codes i ≤ 3 + 2 * (size_of rules.groups + 1000) }
     ensures bound { (rules : RuleLines) (value : Board → Value) (side : Colour) (codes : List ℕ) →
         IsTableOf rules value side codes → (p : Board) → Member rules.groups p →
-        (b : Bound) × (slice_index codes (Num rules.groups p) ≡ code_of b) × IsBoundAt rules value side p b }
+        (b : Bound) × (slice_index codes (Num rules.groups p) ≡ code_of b)
+        × IsBoundAt rules value side p b }
 {}
 
 /// A position of the set has one bound of each side. Where one side's is a win, the other's is a
 /// failure of no more plies.
 pub fn bounds()
     ensures there { (rules : RuleLines) (value : Board → Value) → HasSmallLags value →
-        (side : Colour) (p : Board) → Member rules.groups p → (b : Bound) × IsBoundAt rules value side p b }
-    ensures one { (rules : RuleLines) (value : Board → Value) (side : Colour) (p : Board) (b c : Bound) →
+        (side : Colour) (p : Board) → Member rules.groups p → (b : Bound)
+        × IsBoundAt rules value side p b }
+    ensures one { (rules : RuleLines) (value : Board → Value) (side : Colour) (p : Board)
+        (b c : Bound) →
         IsBoundAt rules value side p b → IsBoundAt rules value side p c → b ≡ c }
-    ensures opposed { (rules : RuleLines) (value : Board → Value) (side : Colour) (p : Board) (n : ℕ) (c : Bound) →
+    ensures opposed { (rules : RuleLines) (value : Board → Value) (side : Colour) (p : Board)
+        (n : ℕ) (c : Bound) →
         IsBoundAt rules value side p (Wins n) → IsBoundAt rules value (other_of side) p c →
         (m : ℕ) × (m ≤ n) × (c ≡ Fails m) }
 {}

@@ -7,4 +7,7 @@ use Rattle.freezer.proofs.top.freezer.Goals as goal
 
 pub returns-clause-outcome : goal.returns-clause-outcome
 returns-clause-outcome g c =
-    outcome _ _ _ (world _ _ _ _) _ _ (λ files input a h. let law = lawful_of c.one_line_answer.ensures c.one_play_answer.ensures (map string_bytes c.args.words.now) in law.means files input a h) c.run-end.ensures.ran c.finish.ensures
+    outcome _ _ _ (world _ _ _ _) _ _
+    (λ files input a h. let law = lawful_of c.one_line_answer.ensures c.one_play_answer.ensures
+    (map string_bytes c.args.words.now) in law.means files input a h) c.run-end.ensures.ran
+    c.finish.ensures

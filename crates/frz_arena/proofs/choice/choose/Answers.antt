@@ -24,8 +24,12 @@ neither with_code false c xs e one none i x (inr f) =
 
 pub returns-in-None-clause-some : goal.returns-in-None-clause-some
 returns-in-None-clause-some c =
-    second has_code _ c.args.kept c.args.choices.now (sym c.is_win.ensures ∙ c.if-is_win.false) (c.first_with-2.ensures.none (subst (λ r. IsNone r) (sym c.in-None.is) refl)) c.first_with-in-None.result c.first_with-in-None.ensures.some
+    second has_code _ c.args.kept c.args.choices.now (sym c.is_win.ensures ∙ c.if-is_win.false)
+    (c.first_with-2.ensures.none (subst (λ r. IsNone r) (sym c.in-None.is) refl))
+    c.first_with-in-None.result c.first_with-in-None.ensures.some
 
 pub returns-in-None-clause-none : goal.returns-in-None-clause-none
 returns-in-None-clause-none c n =
-    neither has_code _ c.args.kept c.args.choices.now (sym c.is_win.ensures ∙ c.if-is_win.false) (c.first_with-2.ensures.none (subst (λ r. IsNone r) (sym c.in-None.is) refl)) (c.first_with-in-None.ensures.none n)
+    neither has_code _ c.args.kept c.args.choices.now (sym c.is_win.ensures ∙ c.if-is_win.false)
+    (c.first_with-2.ensures.none (subst (λ r. IsNone r) (sym c.in-None.is) refl))
+    (c.first_with-in-None.ensures.none n)

@@ -11,6 +11,9 @@ loop-code-init c = c.new-tally.ensures is_failure is_win
 pub loop-code-preserved : goal.loop-code-preserved
 loop-code-preserved c =
     let e = c.with-tally.ensures in
-    subst (λ xs. IsTally is_failure is_win xs c.with-tally.result) (sym (take_more c.args.all.now c.loop-code.code-index 0 c.loop-code-test.true))
-    (tally_with is_failure is_win (take c.loop-code.code-index c.args.all.now) (get_or c.args.all.now c.loop-code.code-index 0) c.is_failure.result c.is_win.result c.is_failure.ensures c.is_win.ensures
+    subst (λ xs. IsTally is_failure is_win xs c.with-tally.result)
+    (sym (take_more c.args.all.now c.loop-code.code-index 0 c.loop-code-test.true))
+    (tally_with is_failure is_win (take c.loop-code.code-index c.args.all.now)
+    (get_or c.args.all.now c.loop-code.code-index 0) c.is_failure.result c.is_win.result
+    c.is_failure.ensures c.is_win.ensures
     c.loop-code.tally c.with-tally.result c.loop-code.invariant e.any e.least e.all e.greatest)

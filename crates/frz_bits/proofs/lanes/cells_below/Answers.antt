@@ -11,5 +11,7 @@ returns c k l =
     let below = λ (x : ℕ). ltb x c.args.end in
     let cells = c.args.cells in
     ap (λ w. has_square w k) (bitmask_splat w8 ltb cells 64 c.args.end c.fits-cells.0 (omega arith))
-    ∙ ap (λ b. b == 1) (bit_mask_l (map below cells) k ∙ ap (λ b. cond b 1 0) (get_or-map below cells k 0 false (omega (arith, c.fits-cells.0))))
+    ∙ ap (λ b. b == 1)
+    (bit_mask_l (map below cells) k ∙ ap (λ b. cond b 1 0)
+    (get_or-map below cells k 0 false (omega (arith, c.fits-cells.0))))
     ∙ one_or_none (below (get_or cells k 0))

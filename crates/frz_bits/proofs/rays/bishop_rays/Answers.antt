@@ -8,5 +8,8 @@ use Rattle.frz_bits.proofs.rays.bishop_rays.Goals as goal
 pub returns : goal.returns
 returns c =
     c.seen.ensures
-    ∙ set_of-same (λ b. has_square c.bishop_lines.result b && is_open c.args.occupied c.args.s b) (λ b. is_bishop_ray c.args.occupied c.args.s b)
-    (λ b l. ap (λ x. x && is_open c.args.occupied c.args.s b) (ap (λ w. has_square w b) c.bishop_lines.ensures ∙ has-set_of (λ b. is_bishop_line c.args.s b) b l))
+    ∙ set_of-same (λ b. has_square c.bishop_lines.result b && is_open c.args.occupied c.args.s b)
+    (λ b. is_bishop_ray c.args.occupied c.args.s b)
+    (λ b l. ap (λ x. x && is_open c.args.occupied c.args.s b)
+    (ap (λ w. has_square w b) c.bishop_lines.ensures ∙ has-set_of (λ b. is_bishop_line c.args.s b) b
+    l))

@@ -11,4 +11,6 @@ at-requires c = (next_is c.args.word c.args.n c.ranges.word.fits c.if-rest-eq0.f
 
 pub returns : goal.returns
 returns c =
-    let P : ℕ → Type 0 = λ s. IsNext c.args.word c.args.n s in subst P (sym c.at.ensures) (next_is c.args.word c.args.n c.ranges.word.fits c.if-rest-eq0.false)
+    let P : ℕ → Type 0 = λ s. IsNext c.args.word c.args.n s in
+    subst P (sym c.at.ensures)
+    (next_is c.args.word c.args.n c.ranges.word.fits c.if-rest-eq0.false)

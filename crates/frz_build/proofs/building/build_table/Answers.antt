@@ -15,9 +15,16 @@ returns-in-Err-clause-built g c =
     let value = g.B.ExitBook.value_at game.book.now in
     let old : StoreTold = store_of g.S.Store c.args.store.now in
     let result : Result ℕ StoreFault = Err NoMemory in
-    builds (magic_of file.kind) file.text.now rules value file.name.now (size_of rules.groups) result old old refl
-    (some_tables rules value (c.tables.ensures.there rules value (g.met.B.ExitBook.small game.book.now)))
+    builds (magic_of file.kind) file.text.now rules value file.name.now (size_of rules.groups)
+    result old old refl
+    (some_tables rules value
+    (c.tables.ensures.there rules value (g.met.B.ExitBook.small game.book.now)))
     (record {
       unwritten = record { files = refl; last = refl; room = refl };
-      later = record { asked = omega arith; calls = omega arith; faults = omega arith; wants = omega arith };
+      later = record {
+        asked = omega arith;
+        calls = omega arith;
+        faults = omega arith;
+        wants = omega arith;
+      };
     })

@@ -10,7 +10,8 @@ use Rattle.frz_chain.proofs.building.build_chain.Goals as goal
 
 pub build_over-requires-clause-text : goal.build_over-requires-clause-text
 build_over-requires-clause-text g c =
-    let short : length c.args.text.now ≤ 65536 = read_short c.args.text.now c.in_ok-rules.rules c.in_ok-rules.ensures.exact in omega (arith, short)
+    let short : length c.args.text.now ≤ 65536 = read_short c.args.text.now c.in_ok-rules.rules
+    c.in_ok-rules.ensures.exact in omega (arith, short)
 
 pub returns-in_err-build_over-clause-refused : goal.returns-in_err-build_over-clause-refused
 returns-in_err-build_over-clause-refused g c =
@@ -18,10 +19,15 @@ returns-in_err-build_over-clause-refused g c =
     let mid = store_of g.S.Store c.open_back.new.store in
     let new = store_of g.S.Store c.build_over.new.store in
     let err : ChainFault → Result ℕ ChainFault = λ f. Err f in
-    let p = err_from_is_err_and c.from_residual-in_err-build_over.result c.from_residual-in_err-build_over.ensures.1 in
-    subst (λ (r : Result ℕ ChainFault). IfErr r (RefusesToChain c.args.text.now c.args.back.now c.args.name.now old new)) (sym (p.1 ∙ ap err p.2))
-    (not_chained c.args.text.now c.args.back.now c.args.name.now c.in_ok-rules.rules c.in_ok-rules.ensures.exact (loaded_back c.in_ok-back.back) old mid new
-    c.args.steps.now c.open_back.new.steps c.in_ok-back.ensures.quiet c.in_ok-back.ensures.opened c.in_err-build_over.field-0.0
+    let p = err_from_is_err_and c.from_residual-in_err-build_over.result
+    c.from_residual-in_err-build_over.ensures.1 in
+    subst (λ (r : Result ℕ ChainFault). IfErr r
+    (RefusesToChain c.args.text.now c.args.back.now c.args.name.now old new))
+    (sym (p.1 ∙ ap err p.2))
+    (not_chained c.args.text.now c.args.back.now c.args.name.now c.in_ok-rules.rules
+    c.in_ok-rules.ensures.exact (loaded_back c.in_ok-back.back) old mid new
+    c.args.steps.now c.open_back.new.steps c.in_ok-back.ensures.quiet c.in_ok-back.ensures.opened
+    c.in_err-build_over.field-0.0
     c.in_ok-back.ensures.cause c.in_err-build_over.ensures.built)
 
 pub returns-clause-built : goal.returns-clause-built
@@ -29,6 +35,8 @@ returns-clause-built g c =
     let old = store_of g.S.Store c.args.store.now in
     let mid = store_of g.S.Store c.open_back.new.store in
     let new = store_of g.S.Store c.build_over.new.store in
-    chained c.args.text.now c.args.back.now c.args.name.now c.in_ok-rules.rules c.in_ok-rules.ensures.exact (loaded_back c.in_ok-back.back) old mid new
-    c.args.steps.now c.open_back.new.steps c.in_ok-back.ensures.quiet c.in_ok-back.ensures.opened c.requires c.in_ok-build_over.field-0
+    chained c.args.text.now c.args.back.now c.args.name.now c.in_ok-rules.rules
+    c.in_ok-rules.ensures.exact (loaded_back c.in_ok-back.back) old mid new
+    c.args.steps.now c.open_back.new.steps c.in_ok-back.ensures.quiet c.in_ok-back.ensures.opened
+    c.requires c.in_ok-build_over.field-0
     c.in_ok-build_over.ensures.size c.in_ok-back.ensures.cause c.in_ok-build_over.ensures.built

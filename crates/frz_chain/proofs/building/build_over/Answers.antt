@@ -14,14 +14,22 @@ returns-in_default-clause-built g c =
     let result : Result ℕ StoreFault = Err NoMemory in
     let quiet : StoreQuiet old old = record {
       unwritten = record { files = refl; last = refl; room = refl };
-      later = record { asked = omega arith; calls = omega arith; faults = omega arith; wants = omega arith };
+      later = record {
+        asked = omega arith;
+        calls = omega arith;
+        faults = omega arith;
+        wants = omega arith;
+      };
     } in
-    no_memory read.text.now read.rules.now (loaded_back c.args.back.now) c.requires.sound ℕ c.args.name.now result old old refl quiet
+    no_memory read.text.now read.rules.now (loaded_back c.args.back.now) c.requires.sound ℕ
+    c.args.name.now result old old refl quiet
 
 pub returns-clause-built : goal.returns-clause-built
 returns-clause-built g c =
     let read = c.args.read.now in
     let book = c.behind.result in
-    moved_built read.text.now read.rules.now book.rules.now (back_with book.back.now book.white.now book.black.now) (loaded_back c.args.back.now) ℕ
-    c.args.name.now c.build_table.result (store_of g.S.Store c.args.store.now) (store_of g.S.Store c.build_table.new.store)
+    moved_built read.text.now read.rules.now book.rules.now
+    (back_with book.back.now book.white.now book.black.now) (loaded_back c.args.back.now) ℕ
+    c.args.name.now c.build_table.result (store_of g.S.Store c.args.store.now)
+    (store_of g.S.Store c.build_table.new.store)
     c.behind.ensures.rules c.behind.ensures.back c.build_table.ensures.built

@@ -16,7 +16,8 @@ returns-in-Err-clause-refused g c =
     let back = c.args.back.now in
     let old = store_of g.S.Store c.args.store.now in
     let new = store_of g.S.Store c.open_kind.new.store in
-    subst (λ (f : ChainFault). RefusesChain table back old new c.args.steps.now c.args.steps.now f) (sym c.of_table.ensures)
+    subst (λ (f : ChainFault). RefusesChain table back old new c.args.steps.now c.args.steps.now f)
+    (sym c.of_table.ensures)
     (not_opened table back old new c.args.steps.now c.in-Err.fault c.in-Err.ensures.may_refuse)
 
 pub returns-in_err-behind-clause-refused : goal.returns-in_err-behind-clause-refused
@@ -30,8 +31,11 @@ returns-in_err-behind-clause-refused g c =
     let fault = c.in_err-behind.field-0.0 in
     let err : ChainFault → Result ChainVerdict ChainFault = λ f. Err f in
     let p = err_from_is_err_and c.from_residual.result c.from_residual.ensures.1 in
-    subst (λ (r : Result ChainVerdict ChainFault). IfErr r (RefusesChain table back old new c.args.steps.now c.open_back.new.steps)) (sym (p.1 ∙ ap err p.2))
-    (back_refused table back (contents_of c.in-Ok.opened) old mid new c.args.steps.now c.open_back.new.steps fault
+    subst (λ (r : Result ChainVerdict ChainFault). IfErr r
+    (RefusesChain table back old new c.args.steps.now c.open_back.new.steps))
+    (sym (p.1 ∙ ap err p.2))
+    (back_refused table back (contents_of c.in-Ok.opened) old mid new c.args.steps.now
+    c.open_back.new.steps fault
     e.may_open e.quiet.unwritten.files e.asked e.calls c.in_err-behind.ensures.refused)
 
 pub returns : goal.returns
@@ -43,9 +47,16 @@ returns g c =
     let e = c.in-Ok.ensures in
     let b = c.in_ok-behind.ensures in
     let k = c.check_over.ensures in
-    let fine : StoreFine old then = record { faults = b.cause.faults ∙ e.causes.fine; wants = b.cause.wants ∙ e.causes.wants_fine } in
-    let told = result_told c.in-Ok.opened c.args.table.now c.args.back.now (loaded_back c.in_ok-behind.behind) old mid then new
-    c.args.steps.now c.open_back.new.steps c.check_over.new.steps e.may_open e.quiet.unwritten.files e.asked e.calls b.opened k.asked k.calls k.steps
+    let fine : StoreFine old
+    then = record {
+      faults = b.cause.faults ∙ e.causes.fine;
+      wants = b.cause.wants
+          ∙ e.causes.wants_fine;
+    } in
+    let told = result_told c.in-Ok.opened c.args.table.now c.args.back.now
+    (loaded_back c.in_ok-behind.behind) old mid then new
+    c.args.steps.now c.open_back.new.steps c.check_over.new.steps e.may_open e.quiet.unwritten.files
+    e.asked e.calls b.opened k.asked k.calls k.steps
     c.check_over.result b.quiet.unwritten.files e.kind e.name k.verdict k.sizes k.outside in
     record {
       verdict = told.checked;

@@ -10,21 +10,29 @@ use Rattle.frz_chain.proofs.opening.open_back.Goals.{After-exact_back}
 
 -- the verdict on what the name may hold
 judged : (g : Over) (c : After-exact_back g)
-    → JudgedBack c.args.name.now (back_with c.in-Ok.table.rules.groups c.in-Ok-load_checked.loaded.white.items c.in-Ok-load_checked.loaded.black.items)
-    c.in-Ok-load_checked.loaded.verdict (store_of g.S.Store c.args.store.now) (store_of g.S.Store c.load_checked.new.store) c.args.steps.now c.load_checked.new.steps
+    → JudgedBack c.args.name.now
+    (back_with c.in-Ok.table.rules.groups c.in-Ok-load_checked.loaded.white.items
+    c.in-Ok-load_checked.loaded.black.items)
+    c.in-Ok-load_checked.loaded.verdict (store_of g.S.Store c.args.store.now)
+    (store_of g.S.Store c.load_checked.new.store) c.args.steps.now c.load_checked.new.steps
 judged g c =
     let loaded = c.in-Ok-load_checked.loaded in
     let opened = c.in-Ok.ensures in
     let e = c.in-Ok-load_checked.ensures in
-    judged_back c.in-Ok.table c.args.name.now loaded.white.items loaded.black.items loaded.verdict (store_of g.S.Store c.args.store.now)
-    (store_of g.S.Store c.open_table.new.store) (store_of g.S.Store c.load_checked.new.store) c.args.steps.now c.load_checked.new.steps
-    e.kept opened.quiet.unwritten.files opened.kind opened.name opened.may_open opened.asked opened.calls e.asked e.calls e.steps e.verdict
+    judged_back c.in-Ok.table c.args.name.now loaded.white.items loaded.black.items loaded.verdict
+    (store_of g.S.Store c.args.store.now)
+    (store_of g.S.Store c.open_table.new.store) (store_of g.S.Store c.load_checked.new.store)
+    c.args.steps.now c.load_checked.new.steps
+    e.kept opened.quiet.unwritten.files opened.kind opened.name opened.may_open opened.asked
+    opened.calls e.asked e.calls e.steps e.verdict
 
 pub returns-in-Ok-load_checked-clause-opened : goal.returns-in-Ok-load_checked-clause-opened
-returns-in-Ok-load_checked-clause-opened g c = back_given _ _ _ _ _ _ _ (judged g c) c.exact_back.result c.exact_back.ensures
+returns-in-Ok-load_checked-clause-opened g c =
+    back_given _ _ _ _ _ _ _ (judged g c) c.exact_back.result c.exact_back.ensures
 
 pub returns-in-Ok-load_checked-clause-refused : goal.returns-in-Ok-load_checked-clause-refused
-returns-in-Ok-load_checked-clause-refused g c = back_wrong _ _ _ _ _ _ _ (judged g c) c.exact_back.result c.exact_back.ensures
+returns-in-Ok-load_checked-clause-refused g c =
+    back_wrong _ _ _ _ _ _ _ (judged g c) c.exact_back.result c.exact_back.ensures
 
 pub returns-in-Err-load_checked-clause-refused : goal.returns-in-Err-load_checked-clause-refused
 returns-in-Err-load_checked-clause-refused g c =
@@ -33,6 +41,8 @@ returns-in-Err-load_checked-clause-refused g c =
     let mid = store_of g.S.Store c.open_table.new.store in
     let new = store_of g.S.Store c.load_checked.new.store in
     let e = c.in-Err-load_checked.ensures in
-    subst (λ (f : ChainFault). RefusesBack name old new c.args.steps.now c.load_checked.new.steps f) (sym c.of_back-in-Err-load_checked.ensures)
-    (not_loaded c.in-Ok.table name old mid new c.args.steps.now c.load_checked.new.steps c.in-Err-load_checked.fault c.in-Ok.ensures.may_open
+    subst (λ (f : ChainFault). RefusesBack name old new c.args.steps.now c.load_checked.new.steps f)
+    (sym c.of_back-in-Err-load_checked.ensures)
+    (not_loaded c.in-Ok.table name old mid new c.args.steps.now c.load_checked.new.steps
+    c.in-Err-load_checked.fault c.in-Ok.ensures.may_open
     c.in-Ok.ensures.asked c.in-Ok.ensures.calls e.asked e.calls e.steps e.outside)

@@ -10,7 +10,8 @@ greatest : (s j r c : ℕ) → c < s → choose c (j + 1) ≤ r →
 greatest s j r c h fits above =
     let one = add-one j in
     ap (λ n. unrank s n r) one
-    ∙ unrank-greatest s j r c h (subst (λ n. choose c n ≤ r) one fits) (λ x k l. subst (λ n. r < choose x n) one (above x k l))
+    ∙ unrank-greatest s j r c h (subst (λ n. choose c n ≤ r) one fits)
+    (λ x k l. subst (λ n. r < choose x n) one (above x k l))
     ∙ ap (λ n. c ∷ unrank c j (r - choose c n)) (sym one)
 
 pub returns : goal.returns

@@ -5,11 +5,13 @@ use Rattle.frz_commands_ask.proofs.kept.codes_in.Goals as goal
 
 pub entry-requires-clause-number : goal.entry-requires-clause-number
 entry-requires-clause-number g c =
-    number_below c.args.table.now c.set.result.now c.set.ensures c.args.p.now c.in_ok-i.i c.in_ok-i.ensures
+    number_below c.args.table.now c.set.result.now c.set.ensures c.args.p.now c.in_ok-i.i
+    c.in_ok-i.ensures
 
 pub entry-requires-2-clause-number : goal.entry-requires-2-clause-number
 entry-requires-2-clause-number g c =
-    number_below c.args.table.now c.set.result.now c.set.ensures c.args.p.now c.in_ok-i.i c.in_ok-i.ensures
+    number_below c.args.table.now c.set.result.now c.set.ensures c.args.p.now c.in_ok-i.i
+    c.in_ok-i.ensures
 
 pub returns-clause-kept : goal.returns-clause-kept
 returns-clause-kept g c =
@@ -21,33 +23,42 @@ returns-clause-kept g c =
       white_small = omega arith;
       black_small = omega arith;
       white =
-          entry_kept table groups c.set.ensures c.args.p.now c.in_ok-i.i c.in_ok-i.ensures White told told refl
+          entry_kept table groups c.set.ensures c.args.p.now c.in_ok-i.i c.in_ok-i.ensures White
+          told told refl
           c.in_ok-white.white c.in_ok-white.ensures.code;
       black =
-          entry_kept table groups c.set.ensures c.args.p.now c.in_ok-i.i c.in_ok-i.ensures Black told
-          (g.S.Store.files c.entry.new.store) c.in_ok-white.ensures.quiet.unwritten.files c.in_ok-black.black c.in_ok-black.ensures.code;
+          entry_kept table groups c.set.ensures c.args.p.now c.in_ok-i.i c.in_ok-i.ensures Black
+          told
+          (g.S.Store.files c.entry.new.store) c.in_ok-white.ensures.quiet.unwritten.files
+          c.in_ok-black.black c.in_ok-black.ensures.code;
     }
 
 pub returns-clause-unread : goal.returns-clause-unread
 returns-clause-unread g c = λ none.
-    absurd (none (inside_it c.args.table.now c.set.result.now c.set.ensures c.args.p.now c.in_ok-i.i c.in_ok-i.ensures))
+    absurd (none (inside_it c.args.table.now c.set.result.now c.set.ensures c.args.p.now c.in_ok-i.i
+    c.in_ok-i.ensures))
 
 pub returns-in_err-white-clause-unread : goal.returns-in_err-white-clause-unread
 returns-in_err-white-clause-unread g c = λ none.
-    absurd (none (inside_it c.args.table.now c.set.result.now c.set.ensures c.args.p.now c.in_ok-i.i c.in_ok-i.ensures))
+    absurd (none (inside_it c.args.table.now c.set.result.now c.set.ensures c.args.p.now c.in_ok-i.i
+    c.in_ok-i.ensures))
 
 pub returns-in_err-black-clause-unread : goal.returns-in_err-black-clause-unread
 returns-in_err-black-clause-unread g c = λ none.
-    absurd (none (inside_it c.args.table.now c.set.result.now c.set.ensures c.args.p.now c.in_ok-i.i c.in_ok-i.ensures))
+    absurd (none (inside_it c.args.table.now c.set.result.now c.set.ensures c.args.p.now c.in_ok-i.i
+    c.in_ok-i.ensures))
 
 pub returns-clause-unasked : goal.returns-clause-unasked
 returns-clause-unasked g c = λ none.
-    absurd (none (inside_it c.args.table.now c.set.result.now c.set.ensures c.args.p.now c.in_ok-i.i c.in_ok-i.ensures))
+    absurd (none (inside_it c.args.table.now c.set.result.now c.set.ensures c.args.p.now c.in_ok-i.i
+    c.in_ok-i.ensures))
 
 pub returns-in_err-white-clause-unasked : goal.returns-in_err-white-clause-unasked
 returns-in_err-white-clause-unasked g c = λ none.
-    absurd (none (inside_it c.args.table.now c.set.result.now c.set.ensures c.args.p.now c.in_ok-i.i c.in_ok-i.ensures))
+    absurd (none (inside_it c.args.table.now c.set.result.now c.set.ensures c.args.p.now c.in_ok-i.i
+    c.in_ok-i.ensures))
 
 pub returns-in_err-black-clause-unasked : goal.returns-in_err-black-clause-unasked
 returns-in_err-black-clause-unasked g c = λ none.
-    absurd (none (inside_it c.args.table.now c.set.result.now c.set.ensures c.args.p.now c.in_ok-i.i c.in_ok-i.ensures))
+    absurd (none (inside_it c.args.table.now c.set.result.now c.set.ensures c.args.p.now c.in_ok-i.i
+    c.in_ok-i.ensures))

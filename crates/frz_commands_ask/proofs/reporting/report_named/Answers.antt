@@ -15,8 +15,10 @@ returns-in-Ok g c = λ input.
     let e = c.in-Ok.ensures in
     let r = c.report.ensures in
     rw c.end_of.ensures
-    (reported c.args.name.now c.in-Ok.table (store_of g.S.Store c.args.store.now) (store_of g.S.Store c.open_table.new.store) (store_of g.S.Store c.report.new.store)
-    input (sink_of g.O.Sink c.args.out.now) (sink_of g.O.Sink c.report.new.out) c.args.steps.now c.report.new.steps
+    (reported c.args.name.now c.in-Ok.table (store_of g.S.Store c.args.store.now)
+    (store_of g.S.Store c.open_table.new.store) (store_of g.S.Store c.report.new.store)
+    input (sink_of g.O.Sink c.args.out.now) (sink_of g.O.Sink c.report.new.out) c.args.steps.now
+    c.report.new.steps
     (record {
       opens = e.may_open;
       kind = e.kind;
@@ -39,6 +41,7 @@ returns-in-Err g c = λ input.
     let fault = c.in-Err.fault in
     let job = reporting_at c.args.name.now in
     ended job (stop_of_table fault) _ _ (world _ _ _ _) _ (quiet_store _ _ _ _ _ e.quiet)
-    (may_stop Totals job (stop_of_table fault) _ _ input _ _ _ refl refl (own_refusal fault) (table_cause Table Totals fault _ _ e.causes))
+    (may_stop Totals job (stop_of_table fault) _ _ input _ _ _ refl refl (own_refusal fault)
+    (table_cause Table Totals fault _ _ e.causes))
     (rw c.from.ensures at c.end.ensures)
     (λ sees files left agrees. stopped_so _ files left _ _ agrees fault e.may_refuse (omega arith))

@@ -4,8 +4,10 @@ use Rattle.frz_commands_ask.specs.Reporting.{reporting_at}
 use Rattle.frz_commands_ask.proofs.reporting.run_report.Goals as goal
 
 pub returns-in-Some-clause-ran : goal.returns-in-Some-clause-ran
-returns-in-Some-clause-ran g c = λ input. as_taken _ _ _ reporting_at _ _ c.in-Some.ensures (c.report_named.ensures input)
+returns-in-Some-clause-ran g c =
+    λ input. as_taken _ _ _ reporting_at _ _ c.in-Some.ensures (c.report_named.ensures input)
 
 pub returns-in-None-clause-ran : goal.returns-in-None-clause-ran
 returns-in-None-clause-ran g c = λ input.
-    as_taken _ _ _ reporting_at _ _ c.in-None.ensures (c.refuse.ensures (store_of g.S.Store c.args.store.now) input _)
+    as_taken _ _ _ reporting_at _ _ c.in-None.ensures
+    (c.refuse.ensures (store_of g.S.Store c.args.store.now) input _)

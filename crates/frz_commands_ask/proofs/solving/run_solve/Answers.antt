@@ -7,7 +7,11 @@ use Rattle.frz_commands_ask.specs.Meaning.{solving_at}
 use Rattle.frz_commands_ask.proofs.solving.run_solve.Goals as goal
 
 pub returns-in-Some-clause-ran : goal.returns-in-Some-clause-ran
-returns-in-Some-clause-ran g c = λ input. as_taken _ _ _ (λ (p : List ℕ × List ℕ). on_position (solving_at p.0) (fen_of p.1)) _ _ c.in-Some.ensures (c.solve.ensures.ran input)
+returns-in-Some-clause-ran g c =
+    λ input. as_taken _ _ _ (λ (p : List ℕ × List ℕ). on_position (solving_at p.0) (fen_of p.1)) _ _
+    c.in-Some.ensures (c.solve.ensures.ran input)
 
 pub returns-in-None-clause-ran : goal.returns-in-None-clause-ran
-returns-in-None-clause-ran g c = λ input. as_taken _ _ _ (λ (p : List ℕ × List ℕ). on_position (solving_at p.0) (fen_of p.1)) _ _ c.in-None.ensures (c.refuse.ensures (store_of g.S.Store c.args.store.now) input _)
+returns-in-None-clause-ran g c =
+    λ input. as_taken _ _ _ (λ (p : List ℕ × List ℕ). on_position (solving_at p.0) (fen_of p.1)) _ _
+    c.in-None.ensures (c.refuse.ensures (store_of g.S.Store c.args.store.now) input _)

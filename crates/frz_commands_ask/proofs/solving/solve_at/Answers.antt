@@ -16,15 +16,23 @@ pub returns-in-Ok : goal.returns-in-Ok
 returns-in-Ok g c = λ input.
     let e = c.in-Ok.ensures in
     let rules = c.args.rules.now in
-    through _ _ _ _ _ (quiet_store _ _ _ _ _ e.quiet) (fine_store _ _ _ _ _ _ e.cause) (at_stage _ _ _) _
+    through _ _ _ _ _ (quiet_store _ _ _ _ _ e.quiet) (fine_store _ _ _ _ _ _ e.cause)
+    (at_stage _ _ _) _
     (λ sees files left agrees. record {
       found = found_rules rules c.args.p.now e.read.files files left _ e.read.agrees agrees;
       answers = λ m i a fits same untaken solved.
-          is_read_at c.args.p.now m rules _ a (ap (λ (f : Files). rules_held (f rules)) (same refl) ∙ e.read.due) solved;
+          is_read_at c.args.p.now m rules _ a
+          (ap (λ (f : Files). rules_held (f rules)) (same refl) ∙ e.read.due) solved;
       costs = λ m i a fits same untaken solved costs. record {
         steps = tt;
-        calls = (let a = subst (λ (f : Files). g.S.Store.calls c.read_rules_at.new.store ≤ g.S.Store.calls c.args.store.now + (1 + reads_of (f rules))) (sym (same refl)) e.read.calls in let b = costs.calls in omega (arith, a, b));
-        asked = (let a = subst (λ (f : Files). g.S.Store.asked c.read_rules_at.new.store ≤ g.S.Store.asked c.args.store.now + asked_of (f rules)) (sym (same refl)) e.read.asked in let b = costs.asked in omega (arith, a, b));
+        calls = (let a = subst
+            (λ (f : Files). g.S.Store.calls c.read_rules_at.new.store ≤ g.S.Store.calls
+            c.args.store.now + (1 + reads_of (f rules))) (sym (same refl)) e.read.calls in
+            let b = costs.calls in omega (arith, a, b));
+        asked = (let a = subst
+            (λ (f : Files). g.S.Store.asked c.read_rules_at.new.store ≤ g.S.Store.asked
+            c.args.store.now + asked_of (f rules)) (sym (same refl)) e.read.asked in
+            let b = costs.asked in omega (arith, a, b));
       };
     })
     (c.solve_by.ensures (store_of g.S.Store c.read_rules_at.new.store) input)
@@ -36,5 +44,6 @@ returns-in-Err g c = λ input.
     let out = sink_of g.O.Sink c.args.out.now in
     let steps = c.args.steps.now in
     ended job c.in-Err.stop _ _ (world _ _ _ _) _ (quiet_store _ _ _ _ _ e.quiet)
-    (may_stop RuleLines job c.in-Err.stop _ _ input out steps steps refl refl (own_stop _ c.in-Err.stop e.read.due) e.cause) c.end.ensures
+    (may_stop RuleLines job c.in-Err.stop _ _ input out steps steps refl refl
+    (own_stop _ c.in-Err.stop e.read.due) e.cause) c.end.ensures
     (λ sees files left agrees. stopped_at _ _ c.in-Err.stop files left _ _ e.read agrees)

@@ -18,13 +18,25 @@ returns-in-Ok g c =
     let e = c.in-Ok.ensures in
     let bytes = e.built.bytes in
     let one : IsFileOn both.read.text.items both.read.rules back bytes =
-    subst (λ (t : List ℕ). IsFileOn t both.read.rules back bytes) c.deref.ensures.value e.built.one_file in
-    λ input. wrote_it (chaining_by both.read.text.items both.read.rules back table) table bytes (world _ _ _ _) _ _ e.later refl refl
-    (chained_line c.in-Ok.size) _ _ refl e.built.written.0 e.built.written.1 e.room (c.said.ensures _ _ _ c.write_chained.ensures)
+    subst (λ (t : List ℕ). IsFileOn t both.read.rules back bytes) c.deref.ensures.value
+    e.built.one_file in
+    λ input. wrote_it (chaining_by both.read.text.items both.read.rules back table) table bytes
+    (world _ _ _ _) _ _ e.later refl refl
+    (chained_line c.in-Ok.size) _ _ refl e.built.written.0 e.built.written.1 e.room
+    (c.said.ensures _ _ _ c.write_chained.ensures)
     (λ sees files left agrees. record {
       found = as_given _ files left _ agrees;
-      answer = (bytes, one, ap (λ (n : ℕ). says Success (chained_line n) (put files table bytes)) e.size);
-      costs = record { steps = (let a = e.cost in omega (arith, a)); calls = (let a = e.calls in omega (arith, a)); asked = (let a = e.asked in omega (arith, a)) };
+      answer = (
+        bytes,
+        one,
+        ap (λ (n : ℕ). says Success (chained_line n) (put files table bytes))
+            e.size,
+      );
+      costs = record {
+        steps = (let a = e.cost in omega (arith, a));
+        calls = (let a = e.calls in omega (arith, a));
+        asked = (let a = e.asked in omega (arith, a));
+      };
     })
 
 pub returns-in-Err : goal.returns-in-Err
@@ -35,8 +47,10 @@ returns-in-Err g c =
     let e = c.in-Err.ensures in
     let bytes = e.built.bytes in
     let one : IsFileOn both.read.text.items both.read.rules back bytes =
-    subst (λ (t : List ℕ). IsFileOn t both.read.rules back bytes) c.deref.ensures.value e.built.one_file in
-    λ input. not_written (chaining_by both.read.text.items both.read.rules back table) table bytes (world _ _ _ _) (store_of g.S.Store c.build_over.new.store) _ e.later refl refl
+    subst (λ (t : List ℕ). IsFileOn t both.read.rules back bytes) c.deref.ensures.value
+    e.built.one_file in
+    λ input. not_written (chaining_by both.read.text.items both.read.rules back table) table bytes
+    (world _ _ _ _) (store_of g.S.Store c.build_over.new.store) _ e.later refl refl
     ℕ c.in-Err.fault c.from.result c.from.ensures refl e.built.written
     (λ sees files left agrees. record {
       found = as_given _ files left _ agrees;
@@ -46,5 +60,9 @@ returns-in-Err g c =
         text = λ e. cc;
       };
       given = refl;
-      costs = record { steps = (let a = e.cost in omega (arith, a)); calls = (let a = e.calls in omega (arith, a)); asked = (let a = e.asked in omega (arith, a)) };
+      costs = record {
+        steps = (let a = e.cost in omega (arith, a));
+        calls = (let a = e.calls in omega (arith, a));
+        asked = (let a = e.asked in omega (arith, a));
+      };
     })

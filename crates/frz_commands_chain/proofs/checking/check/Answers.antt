@@ -14,7 +14,8 @@ use Rattle.frz_commands_chain.proofs.checking.check.Goals as goal
 pub returns-in-Ok : goal.returns-in-Ok
 returns-in-Ok g c = λ input.
     let e = c.in-Ok.ensures in
-    said _ _ _ _ _ (world _ _ _ _) _ (quiet_so _ _ _ _ _ _ e.quiet e.later) (fine_store _ _ _ _ _ _ e.cause)
+    said _ _ _ _ _ (world _ _ _ _) _ (quiet_so _ _ _ _ _ _ e.quiet e.later)
+    (fine_store _ _ _ _ _ _ e.cause)
     (own_verdict (judgement c.in-Ok.verdict)) (c.tell.ensures _ _ e.verdict.sizes)
     (λ sees files left agrees. judged_so _ _ files left _ _ sees agrees c.in-Ok.verdict e.verdict)
 
@@ -25,7 +26,9 @@ returns-in-Err g c = λ input.
     let job = checking_pair c.args.table.now c.args.back.now in
     let old = store_of g.S.Store c.args.store.now in
     ended job (stop_of_chain fault) _ _ (world _ _ _ _) _ (quiet_so _ _ _ _ _ _ e.quiet e.later)
-    (may_stop ChainVerdict job (stop_of_chain fault) _ _ input _ _ _ refl refl (own_refusal _ _ fault e.refused.refuses)
-    (chain_cause ChainVerdict ChainVerdict fault old old _ (record { faults = refl; wants = refl }) e.cause))
+    (may_stop ChainVerdict job (stop_of_chain fault) _ _ input _ _ _ refl refl
+    (own_refusal _ _ fault e.refused.refuses)
+    (chain_cause ChainVerdict ChainVerdict fault old old _ (record { faults = refl; wants = refl })
+    e.cause))
     (rw c.stop_of.ensures at c.end.ensures)
     (λ sees files left agrees. stopped_so _ _ files left _ _ sees agrees fault e.refused)

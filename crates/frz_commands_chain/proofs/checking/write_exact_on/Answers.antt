@@ -6,14 +6,19 @@ use Rattle.frz_commands_chain.proofs.checking.write_exact_on.Goals as goal
 pub returns-in_err-write_numbered : goal.returns-in_err-write_numbered
 returns-in_err-write_numbered g c =
     gave_up _ _ _ _ c.from_residual.ensures.0
-    (failed_before _ (codes " on " ++ decimal c.args.back ++ codes "\n") _ _ _ c.in_err-write_numbered.ensures.failed (simp append_assoc))
+    (failed_before _ (codes " on " ++ decimal c.args.back ++ codes "\n") _ _ _
+    c.in_err-write_numbered.ensures.failed (simp append_assoc))
 
 pub returns-in_err-write_numbered-2 : goal.returns-in_err-write_numbered-2
 returns-in_err-write_numbered-2 g c =
     gave_up _ _ _ _ c.from_residual-in_err-write_numbered-2.ensures.0
-    (failed_before _ _ _ _ _ (failed_behind _ _ _ _ _ _ c.in_ok-write_numbered.ensures.ok refl c.in_err-write_numbered-2.ensures.failed) refl)
+    (failed_before _ _ _ _ _
+    (failed_behind _ _ _ _ _ _ c.in_ok-write_numbered.ensures.ok refl
+    c.in_err-write_numbered-2.ensures.failed) refl)
 
 pub returns : goal.returns
 returns g c =
-    wrote_behind _ _ _ _ _ _ (took_behind _ _ _ _ _ _ c.in_ok-write_numbered.ensures.ok refl c.in_ok-write_numbered-2.ensures.ok) refl
+    wrote_behind _ _ _ _ _ _
+    (took_behind _ _ _ _ _ _ c.in_ok-write_numbered.ensures.ok refl
+    c.in_ok-write_numbered-2.ensures.ok) refl
     _ c.write_piece.ensures

@@ -15,7 +15,8 @@ returns-in-Ok-clause-read g c = λ input out sees.
     let new = store_of g.S.Store c.open_back.new.store in
     let read = c.in_ok-read.read in
     let e = c.in_ok-read.ensures in
-    back_read rules back read old mid new input out c.args.steps.now c.open_back.new.steps e.read e.quiet.unwritten.files sees
+    back_read rules back read old mid new input out c.args.steps.now c.open_back.new.steps e.read
+    e.quiet.unwritten.files sees
     (record { read = read; back = c.in-Ok.back }) refl c.in-Ok.ensures.opened
 
 pub returns-in-Err-clause-read : goal.returns-in-Err-clause-read
@@ -28,6 +29,8 @@ returns-in-Err-clause-read g c = λ input out sees.
     let read = c.in_ok-read.read in
     let e = c.in_ok-read.ensures in
     let result : Stop → Result BothRead Stop = λ s. Err s in
-    subst (λ (s : Stop). AreBothRead rules back (result s) old new c.args.steps.now c.open_back.new.steps) (sym c.stop_of.ensures)
-    (back_refused rules back read old mid new input out c.args.steps.now c.open_back.new.steps e.read e.quiet.unwritten.files sees
+    subst (λ (s : Stop). AreBothRead rules back (result s) old new c.args.steps.now
+    c.open_back.new.steps) (sym c.stop_of.ensures)
+    (back_refused rules back read old mid new input out c.args.steps.now c.open_back.new.steps
+    e.read e.quiet.unwritten.files sees
     c.in-Err.fault c.in-Err.ensures.refused)

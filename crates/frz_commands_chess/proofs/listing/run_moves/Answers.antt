@@ -7,7 +7,11 @@ use Rattle.frz_commands_chess.specs.Listing.{listing}
 use Rattle.frz_commands_chess.proofs.listing.run_moves.Goals as goal
 
 pub returns-in-Some : goal.returns-in-Some
-returns-in-Some g c = λ store input. as_taken _ _ _ (λ (fen : List ℕ). on_position (listing Coordinates) (fen_of fen)) _ _ c.in-Some.ensures (c.list_moves.ensures store input)
+returns-in-Some g c =
+    λ store input. as_taken _ _ _ (λ (fen : List ℕ). on_position (listing Coordinates) (fen_of fen))
+    _ _ c.in-Some.ensures (c.list_moves.ensures store input)
 
 pub returns-in-None : goal.returns-in-None
-returns-in-None g c = λ store input. as_taken _ _ _ (λ (fen : List ℕ). on_position (listing Coordinates) (fen_of fen)) _ _ c.in-None.ensures (c.refuse.ensures store input _)
+returns-in-None g c =
+    λ store input. as_taken _ _ _ (λ (fen : List ℕ). on_position (listing Coordinates) (fen_of fen))
+    _ _ c.in-None.ensures (c.refuse.ensures store input _)

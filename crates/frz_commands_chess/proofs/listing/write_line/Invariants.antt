@@ -6,7 +6,8 @@ use Rattle.frz_commands_chess.proofs.listing.write_line.Given as goal
 
 abbrev pub invariant-loop-i : goal.invariant-loop-i
 invariant-loop-i g l = record {
-  joined : HasJoined (text_by l.notation l.p) l.moves l.i (sink_of g.O.Sink l.fn.out) (sink_of g.O.Sink l.out);
+  joined : HasJoined (text_by l.notation l.p) l.moves l.i (sink_of g.O.Sink l.fn.out)
+      (sink_of g.O.Sink l.out);
   later : l.fn.steps ≤ l.steps;
   few : l.steps ≤ l.fn.steps + steps_by l.notation l.i;
 }

@@ -11,8 +11,10 @@ both_words both = on_position (moving both.1) (fen_of both.0)
 
 pub returns-in-Some : goal.returns-in-Some
 unfolding both_words
-returns-in-Some g c = λ store input. as_taken _ _ _ both_words _ _ c.in-Some.ensures (c.make_move.ensures store input)
+returns-in-Some g c =
+    λ store input. as_taken _ _ _ both_words _ _ c.in-Some.ensures (c.make_move.ensures store input)
 
 pub returns-in-None : goal.returns-in-None
 unfolding both_words
-returns-in-None g c = λ store input. as_taken _ _ _ both_words _ _ c.in-None.ensures (c.refuse.ensures store input _)
+returns-in-None g c =
+    λ store input. as_taken _ _ _ both_words _ _ c.in-None.ensures (c.refuse.ensures store input _)

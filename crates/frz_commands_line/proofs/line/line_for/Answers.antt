@@ -11,12 +11,15 @@ use Rattle.frz_commands_line.proofs.line.line_for.Goals as goal
 
 pub returns-in-Some-clause-ran : goal.returns-in-Some-clause-ran
 returns-in-Some-clause-ran g c = λ input.
-    as_side _ _ _ (λ (x : Colour). on_position (lining_at c.args.table.now x) (fen_of c.args.fen.now)) _ _ c.in-Some.ensures (c.line_from.ensures.ran input)
+    as_side _ _ _ (λ (x : Colour). on_position (lining_at c.args.table.now x)
+    (fen_of c.args.fen.now)) _ _ c.in-Some.ensures (c.line_from.ensures.ran input)
 
 pub returns-in-None-clause-ran : goal.returns-in-None-clause-ran
 returns-in-None-clause-ran g c = λ input.
-    as_side _ _ _ (λ (x : Colour). on_position (lining_at c.args.table.now x) (fen_of c.args.fen.now)) _ _ c.in-None.ensures
-    (said _ _ _ _ _ (world (store_of g.S.Store c.args.store.now) input _ _) _ (quiet_same _) (fine_same _) refl c.refuse_side.ensures
+    as_side _ _ _ (λ (x : Colour). on_position (lining_at c.args.table.now x)
+    (fen_of c.args.fen.now)) _ _ c.in-None.ensures
+    (said _ _ _ _ _ (world (store_of g.S.Store c.args.store.now) input _ _) _ (quiet_same _)
+    (fine_same _) refl c.refuse_side.ensures
     (λ sees files left agrees. record {
       found = as_given _ files left _ agrees;
       answer = refl;

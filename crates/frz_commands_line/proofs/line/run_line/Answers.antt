@@ -9,9 +9,13 @@ use Rattle.frz_commands_line.proofs.line.run_line.Goals as goal
 
 pub returns-in-Some-clause-ran : goal.returns-in-Some-clause-ran
 returns-in-Some-clause-ran g c = λ input.
-    as_taken _ _ _ (λ (names : List ℕ × List ℕ × List ℕ). on_side (λ x. on_position (lining_at names.0 x) (fen_of names.1)) (side_of names.2)) _ _ c.in-Some.ensures (c.line_for.ensures.ran input)
+    as_taken _ _ _ (λ (names : List ℕ × List ℕ × List ℕ). on_side
+    (λ x. on_position (lining_at names.0 x) (fen_of names.1)) (side_of names.2)) _ _
+    c.in-Some.ensures (c.line_for.ensures.ran input)
 
 pub returns-in-None-clause-ran : goal.returns-in-None-clause-ran
 returns-in-None-clause-ran g c = λ input.
-    as_taken _ _ _ (λ (names : List ℕ × List ℕ × List ℕ). on_side (λ x. on_position (lining_at names.0 x) (fen_of names.1)) (side_of names.2)) _ _ c.in-None.ensures
+    as_taken _ _ _ (λ (names : List ℕ × List ℕ × List ℕ). on_side
+    (λ x. on_position (lining_at names.0 x) (fen_of names.1)) (side_of names.2)) _ _
+    c.in-None.ensures
     (c.refuse.ensures (store_of g.S.Store c.args.store.now) input _)

@@ -11,12 +11,16 @@ use Rattle.frz_commands_line.proofs.play.play_for.Goals as goal
 
 pub returns-in-Some-clause-ran : goal.returns-in-Some-clause-ran
 returns-in-Some-clause-ran g c =
-    as_side _ _ _ (λ (x : Colour). on_position (playing_at c.args.table.now x) (fen_of c.args.fen.now)) _ _ c.in-Some.ensures c.play_from.ensures.ran
+    as_side _ _ _ (λ (x : Colour). on_position (playing_at c.args.table.now x)
+    (fen_of c.args.fen.now)) _ _ c.in-Some.ensures c.play_from.ensures.ran
 
 pub returns-in-None-clause-ran : goal.returns-in-None-clause-ran
 returns-in-None-clause-ran g c =
-    as_side _ _ _ (λ (x : Colour). on_position (playing_at c.args.table.now x) (fen_of c.args.fen.now)) _ _ c.in-None.ensures
-    (said _ _ _ _ _ (world (store_of g.S.Store c.args.store.now) (source_of g.I.Source c.args.input.now) _ _) _ (quiet_same _) (fine_same _) refl c.refuse_side.ensures
+    as_side _ _ _ (λ (x : Colour). on_position (playing_at c.args.table.now x)
+    (fen_of c.args.fen.now)) _ _ c.in-None.ensures
+    (said _ _ _ _ _ (world (store_of g.S.Store c.args.store.now)
+    (source_of g.I.Source c.args.input.now) _ _) _ (quiet_same _) (fine_same _) refl
+    c.refuse_side.ensures
     (λ sees files left agrees. record {
       found = as_given _ files left _ agrees;
       answer = refl;

@@ -9,9 +9,14 @@ use Rattle.frz_commands_line.proofs.play.run_play.Goals as goal
 
 pub returns-in-Some-clause-ran : goal.returns-in-Some-clause-ran
 returns-in-Some-clause-ran g c =
-    as_taken _ _ _ (λ (names : List ℕ × List ℕ × List ℕ). on_side (λ x. on_position (playing_at names.0 x) (fen_of names.1)) (side_of names.2)) _ _ c.in-Some.ensures c.play_for.ensures.ran
+    as_taken _ _ _ (λ (names : List ℕ × List ℕ × List ℕ). on_side
+    (λ x. on_position (playing_at names.0 x) (fen_of names.1)) (side_of names.2)) _ _
+    c.in-Some.ensures c.play_for.ensures.ran
 
 pub returns-in-None-clause-ran : goal.returns-in-None-clause-ran
 returns-in-None-clause-ran g c =
-    as_taken _ _ _ (λ (names : List ℕ × List ℕ × List ℕ). on_side (λ x. on_position (playing_at names.0 x) (fen_of names.1)) (side_of names.2)) _ _ c.in-None.ensures
-    (c.refuse.ensures (store_of g.S.Store c.args.store.now) (source_of g.I.Source c.args.input.now) _)
+    as_taken _ _ _ (λ (names : List ℕ × List ℕ × List ℕ). on_side
+    (λ x. on_position (playing_at names.0 x) (fen_of names.1)) (side_of names.2)) _ _
+    c.in-None.ensures
+    (c.refuse.ensures (store_of g.S.Store c.args.store.now) (source_of g.I.Source c.args.input.now)
+    _)

@@ -18,16 +18,25 @@ returns-in-Ok g c = λ input.
     let rules = c.args.rules.now in
     let table = c.args.table.now in
     let read = c.in-Ok.read in
-    through _ _ _ _ _ (quiet_store _ _ _ _ _ e.quiet) (fine_store _ _ _ _ _ _ e.cause) (at_stage read.text.items read.rules rules table) _
+    through _ _ _ _ _ (quiet_store _ _ _ _ _ e.quiet) (fine_store _ _ _ _ _ _ e.cause)
+    (at_stage read.text.items read.rules rules table) _
     (λ sees files left agrees. record {
       found = found_rules rules table e.read.files files left _ e.read.agrees agrees;
       answers = λ m i a fits same untaken built.
-          is_read_at table m rules read.text.items read.rules a (ap (λ (f : Files). f rules) (same refl) ∙ e.read.due.0) e.read.due.1 built;
+          is_read_at table m rules read.text.items read.rules a
+          (ap (λ (f : Files). f rules) (same refl) ∙ e.read.due.0) e.read.due.1 built;
       costs = λ m i a fits same untaken built costs.
-          let due : rules_held (m rules) ≡ Ok read.rules = ap (λ (f : Files). rules_held (f rules)) (same refl) ∙ ap rules_held e.read.due.0 ∙ ap or_fault e.read.due.1 in record {
+          let due : rules_held (m rules) ≡ Ok read.rules = ap (λ (f : Files). rules_held (f rules))
+          (same refl) ∙ ap rules_held e.read.due.0 ∙ ap or_fault e.read.due.1 in record {
             steps = (let a = costs.steps in omega (arith, a, ap steps_by due));
-            calls = (let a = subst (λ (f : Files). g.S.Store.calls c.read_rules_text.new.store ≤ g.S.Store.calls c.args.store.now + (1 + reads_of (f rules))) (sym (same refl)) e.read.calls in let b = costs.calls in omega (arith, a, b, ap calls_by due));
-            asked = (let a = subst (λ (f : Files). g.S.Store.asked c.read_rules_text.new.store ≤ g.S.Store.asked c.args.store.now + asked_of (f rules)) (sym (same refl)) e.read.asked in let b = costs.asked in omega (arith, a, b));
+            calls = (let a = subst
+                (λ (f : Files). g.S.Store.calls c.read_rules_text.new.store ≤ g.S.Store.calls
+                c.args.store.now + (1 + reads_of (f rules))) (sym (same refl)) e.read.calls in
+                let b = costs.calls in omega (arith, a, b, ap calls_by due));
+            asked = (let a = subst
+                (λ (f : Files). g.S.Store.asked c.read_rules_text.new.store ≤ g.S.Store.asked
+                c.args.store.now + asked_of (f rules)) (sym (same refl)) e.read.asked in
+                let b = costs.asked in omega (arith, a, b));
           };
     })
     (c.build_by.ensures input)
@@ -39,5 +48,7 @@ returns-in-Err g c = λ input.
     let out = sink_of g.O.Sink c.args.out.now in
     let steps = c.args.steps.now in
     ended job c.in-Err.stop _ _ (world _ _ _ _) _ (quiet_store _ _ _ _ _ e.quiet)
-    (may_stop RulesText job c.in-Err.stop _ _ input out steps steps refl refl (own_stop _ c.in-Err.stop e.read.due) e.cause) c.end.ensures
-    (λ sees files left agrees. stopped_at _ _ c.in-Err.stop files left _ _ e.read (omega arith) agrees)
+    (may_stop RulesText job c.in-Err.stop _ _ input out steps steps refl refl
+    (own_stop _ c.in-Err.stop e.read.due) e.cause) c.end.ensures
+    (λ sees files left agrees. stopped_at _ _ c.in-Err.stop files left _ _ e.read (omega arith)
+    agrees)

@@ -22,6 +22,7 @@ returns-in-Err g c = λ input.
     let fault = c.in-Err.fault in
     let job = checking_at c.args.table.now in
     ended job (stop_of_table fault) _ _ (world _ _ _ _) _ (quiet_so _ _ _ _ _ _ e.quiet e.later)
-    (may_stop Judged job (stop_of_table fault) _ _ input _ _ _ refl refl (own_refusal fault) (table_cause Judged Judged fault _ _ e.causes))
+    (may_stop Judged job (stop_of_table fault) _ _ input _ _ _ refl refl (own_refusal fault)
+    (table_cause Judged Judged fault _ _ e.causes))
     (rw c.from.ensures at c.end.ensures)
     (λ sees files left agrees. stopped_so _ files left _ _ agrees fault e.refused)

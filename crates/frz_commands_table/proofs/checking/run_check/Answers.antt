@@ -4,8 +4,10 @@ use Rattle.frz_commands_table.specs.CheckMeans.{checking_at}
 use Rattle.frz_commands_table.proofs.checking.run_check.Goals as goal
 
 pub returns-in-Some-clause-ran : goal.returns-in-Some-clause-ran
-returns-in-Some-clause-ran g c = λ input. as_taken _ _ _ checking_at _ _ c.in-Some.ensures (c.check.ensures input)
+returns-in-Some-clause-ran g c =
+    λ input. as_taken _ _ _ checking_at _ _ c.in-Some.ensures (c.check.ensures input)
 
 pub returns-in-None-clause-ran : goal.returns-in-None-clause-ran
 returns-in-None-clause-ran g c = λ input.
-    as_taken _ _ _ checking_at _ _ c.in-None.ensures (c.refuse.ensures (store_of g.S.Store c.args.store.now) input _)
+    as_taken _ _ _ checking_at _ _ c.in-None.ensures
+    (c.refuse.ensures (store_of g.S.Store c.args.store.now) input _)

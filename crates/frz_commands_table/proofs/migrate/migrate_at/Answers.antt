@@ -28,16 +28,23 @@ returns-in-Ok g c = λ input steps.
     let out = sink_of g.O.Sink c.args.out.now in
     let before = world (store_of g.S.Store c.args.store.now) input out steps in
     let mid = world (store_of g.S.Store c.move_file.new.store) input out steps in
-    let now = world (store_of g.S.Store c.write_new.new.store) input (sink_of g.O.Sink c.write_new.new.out) steps in
-    let at = holds_old old _ (store_of g.S.Store c.args.store.now) (store_of g.S.Store c.move_file.new.store) h.may h.within in
-    through (writing_new moved.file.text (length moved.white.items) moved.white.items moved.black.items new) (migrating_at old new) _ _ _
-    (quiet_store _ _ _ _ _ e.quiet) (fine_store _ _ _ _ _ _ (record { faults = e.causes.fine; wants = e.causes.wants_fine }))
-    (writes_stage moved.file.text (length moved.white.items) moved.white.items moved.black.items old new) _
+    let now = world (store_of g.S.Store c.write_new.new.store) input
+    (sink_of g.O.Sink c.write_new.new.out) steps in
+    let at = holds_old old _ (store_of g.S.Store c.args.store.now)
+    (store_of g.S.Store c.move_file.new.store) h.may h.within in
+    through (writing_new moved.file.text (length moved.white.items) moved.white.items
+    moved.black.items new) (migrating_at old new) _ _ _
+    (quiet_store _ _ _ _ _ e.quiet)
+    (fine_store _ _ _ _ _ _ (record { faults = e.causes.fine; wants = e.causes.wants_fine }))
+    (writes_stage moved.file.text (length moved.white.items) moved.white.items moved.black.items old
+    new) _
     (λ sees files left agrees. record {
       found = found_where (migrating_at old new) at.files files left _ (λ e. cc) at.agrees agrees;
-      answers = λ m i a fits same untaken told. moved_answer old new _ _ moved h m a (ap (λ (f : Files). f old) (same refl) ∙ at.holds) told;
+      answers = λ m i a fits same untaken told. moved_answer old new _ _ moved h m a
+          (ap (λ (f : Files). f old) (same refl) ∙ at.holds) told;
       costs = λ m i a fits same untaken told costs.
-          costs_at old new m h.bytes (old_contents_of moved.file) (length moved.white.items) before mid now (ap (λ (f : Files). f old) (same refl) ∙ at.holds)
+          costs_at old new m h.bytes (old_contents_of moved.file) (length moved.white.items) before
+          mid now (ap (λ (f : Files). f old) (same refl) ∙ at.holds)
           h.opens h.white_moved.many h.within refl costs;
     })
     (c.write_new.ensures input steps)
@@ -48,6 +55,7 @@ returns-in-Err g c = λ input steps.
     let fault = c.in-Err.fault in
     let job = migrating_at c.args.old.now c.args.new.now in
     ended job (stop_of_table fault) _ _ (world _ _ _ _) _ (quiet_store _ _ _ _ _ e.quiet)
-    (may_stop Moved job (stop_of_table fault) _ _ input _ steps steps refl refl (own_refusal fault) (table_cause Moved Moved fault _ _ e.causes))
+    (may_stop Moved job (stop_of_table fault) _ _ input _ steps steps refl refl (own_refusal fault)
+    (table_cause Moved Moved fault _ _ e.causes))
     (rw c.from.ensures at c.end.ensures)
     (λ sees files left agrees. stopped_so _ _ files left _ _ agrees refl fault e.refused)

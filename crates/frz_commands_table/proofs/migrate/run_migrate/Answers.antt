@@ -8,9 +8,11 @@ use Rattle.frz_commands_table.proofs.migrate.run_migrate.Goals as goal
 
 pub returns-in-Some-clause-ran : goal.returns-in-Some-clause-ran
 returns-in-Some-clause-ran g c = λ input steps.
-    as_taken _ _ _ (λ (p : List ℕ × List ℕ). unless (bytes_eq p.0 p.1) (migrating_at p.0 p.1)) _ _ c.in-Some.ensures (c.migrate_named.ensures.ran input steps)
+    as_taken _ _ _ (λ (p : List ℕ × List ℕ). unless (bytes_eq p.0 p.1) (migrating_at p.0 p.1)) _ _
+    c.in-Some.ensures (c.migrate_named.ensures.ran input steps)
 
 pub returns-in-None-clause-ran : goal.returns-in-None-clause-ran
 returns-in-None-clause-ran g c = λ input steps.
-    as_taken _ _ _ (λ (p : List ℕ × List ℕ). unless (bytes_eq p.0 p.1) (migrating_at p.0 p.1)) _ _ c.in-None.ensures
+    as_taken _ _ _ (λ (p : List ℕ × List ℕ). unless (bytes_eq p.0 p.1) (migrating_at p.0 p.1)) _ _
+    c.in-None.ensures
     (c.refuse.ensures (store_of g.S.Store c.args.store.now) input steps)

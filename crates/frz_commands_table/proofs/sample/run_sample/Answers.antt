@@ -7,8 +7,10 @@ use Rattle.frz_commands_table.proofs.sample.run_sample.Goals as goal
 
 pub returns-in-Some : goal.returns-in-Some
 returns-in-Some g c = λ store input.
-    as_taken _ _ _ (λ (word : List ℕ). sampling_named (number_of word LAST_SQUARE)) _ _ c.in-Some.ensures (c.sample_named.ensures store input)
+    as_taken _ _ _ (λ (word : List ℕ). sampling_named (number_of word LAST_SQUARE)) _ _
+    c.in-Some.ensures (c.sample_named.ensures store input)
 
 pub returns-in-None : goal.returns-in-None
 returns-in-None g c = λ store input.
-    as_taken _ _ _ (λ (word : List ℕ). sampling_named (number_of word LAST_SQUARE)) _ _ c.in-None.ensures (c.refuse.ensures store input _)
+    as_taken _ _ _ (λ (word : List ℕ). sampling_named (number_of word LAST_SQUARE)) _ _
+    c.in-None.ensures (c.refuse.ensures store input _)

@@ -9,7 +9,8 @@ use Rattle.frz_commands_table.proofs.sample.sample_at.Goals as goal
 
 pub sample_by-requires : goal.sample_by-requires
 sample_by-requires g c =
-    let read = sym (ap rules_of (c.deref.ensures.value ∙ c.in-Ok.ensures)) ∙ c.in-Ok-read_rules.ensures.exact in record {
+    let read = sym (ap rules_of (c.deref.ensures.value ∙ c.in-Ok.ensures))
+    ∙ c.in-Ok-read_rules.ensures.exact in record {
       read = read;
       sound = c.in-Ok-read_rules.ensures.sound;
       size = size_is c.args.k (omega arith) _ read;
@@ -18,7 +19,8 @@ sample_by-requires g c =
 pub unreachable-requires : goal.unreachable-requires
 unreachable-requires g c =
     let exact = rw c.in-Err-Bad.field-0-is at c.in-Err-Bad.ensures.exact in
-    never_bad c.args.k (omega arith) _ (sym (ap rules_of (c.deref.ensures.value ∙ c.in-Ok.ensures)) ∙ exact)
+    never_bad c.args.k (omega arith) _
+    (sym (ap rules_of (c.deref.ensures.value ∙ c.in-Ok.ensures)) ∙ exact)
 
 -- there is no memory for the text
 pub returns-in_default : goal.returns-in_default

@@ -26,7 +26,8 @@ returns-in-Ok-checked_tables g c = λ store input.
     let white = c.deref.result.now in
     let black = c.entries.result.now in
     let e = c.in-Ok-checked_tables.ensures in
-    said (sampling k) _ _ _ (world _ _ _ _) _ _ (quiet_steps _ _ _ _ _ e.later) (fine_steps _ _ _ _ _) refl (c.said.ensures _ _ _ c.write_sample.ensures)
+    said (sampling k) _ _ _ (world _ _ _ _) _ _ (quiet_steps _ _ _ _ _ e.later)
+    (fine_steps _ _ _ _ _) refl (c.said.ensures _ _ _ c.write_sample.ensures)
     (λ sees files left agrees. record {
       found = as_given _ files left _ agrees;
       answer = (
@@ -37,20 +38,27 @@ returns-in-Ok-checked_tables g c = λ store input.
           black,
           table_as rules _ White _ white c.new-2.ensures c.deref.ensures.value e.white,
           table_as rules _ Black _ black c.new-2.ensures c.entries.ensures e.black,
-          ap (λ (n : ℕ). says Success (sample_lines k n white black) files) (c.size.ensures.size ∙ ap size_of c.in-Ok.ensures ∙ c.requires.size),
+          ap (λ (n : ℕ). says Success (sample_lines k n white black) files)
+              (c.size.ensures.size ∙ ap size_of c.in-Ok.ensures ∙ c.requires.size),
         ),
       );
-      costs = record { steps = (let a = e.cost in let s = c.requires.size in omega (arith, a, s)); calls = omega arith; asked = omega arith };
+      costs = record {
+        steps = (let a = e.cost in let s = c.requires.size in omega (arith, a, s));
+        calls = omega arith;
+        asked = omega arith;
+      };
     })
 
 pub returns : goal.returns
 returns g c = λ store input.
-    stopped (sampling c.args.k) NoMemory (world _ _ _ _) _ (quiet_steps _ _ _ _ _ c.checked_tables.ensures.later) refl
+    stopped (sampling c.args.k) NoMemory (world _ _ _ _) _
+    (quiet_steps _ _ _ _ _ c.checked_tables.ensures.later) refl
     (λ sees files left agrees. record {
       found = as_given _ files left _ agrees;
       some = some_sampled c.args.k c.args.rules.now c.requires.read files;
       costs = record {
-        steps = (let a = c.checked_tables.ensures.cost in let s = c.requires.size in omega (arith, a, s));
+        steps = (let a = c.checked_tables.ensures.cost in let s = c.requires.size in
+            omega (arith, a, s));
         calls = omega arith;
         asked = omega arith;
       };

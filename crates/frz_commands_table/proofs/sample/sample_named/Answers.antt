@@ -10,13 +10,17 @@ use Rattle.frz_commands_table.proofs.sample.sample_named.Goals as goal
 pub returns-in-Some : goal.returns-in-Some
 returns-in-Some g c = λ store input.
     as_named _ _ _ (Some c.at.result) _
-    (ap (λ (k : ℕ). Some k) c.at.ensures ∙ c.in-Some.ensures.value ∙ ap (λ (w : List ℕ). number_of w LAST_SQUARE) c.as_bytes.ensures.value)
+    (ap (λ (k : ℕ). Some k) c.at.ensures ∙ c.in-Some.ensures.value
+    ∙ ap (λ (w : List ℕ). number_of w LAST_SQUARE) c.as_bytes.ensures.value)
     (c.sample_at.ensures store input)
 
 pub returns-in-None : goal.returns-in-None
 returns-in-None g c = λ store input.
-    as_named _ _ _ None _ (c.in-None.ensures.value ∙ ap (λ (w : List ℕ). number_of w LAST_SQUARE) c.as_bytes.ensures.value)
-    (said (sampling_named None) _ _ _ (world _ _ _ _) _ _ (quiet_same _) (fine_same _) refl c.say.ensures
+    as_named _ _ _ None _
+    (c.in-None.ensures.value ∙ ap (λ (w : List ℕ). number_of w LAST_SQUARE)
+    c.as_bytes.ensures.value)
+    (said (sampling_named None) _ _ _ (world _ _ _ _) _ _ (quiet_same _) (fine_same _) refl
+    c.say.ensures
     (λ sees files left agrees. record {
       found = as_given _ files left _ agrees;
       answer = refl;

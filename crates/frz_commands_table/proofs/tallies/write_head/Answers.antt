@@ -10,13 +10,18 @@ returns-in_err-write_numbered g c =
 pub returns-in_err-write_numbered-2 : goal.returns-in_err-write_numbered-2
 returns-in_err-write_numbered-2 g c =
     gave_up _ _ _ _ c.from_residual-in_err-write_numbered-2.ensures.0
-    (failed_behind _ _ _ _ _ _ c.in_ok-write_numbered.ensures.ok refl (failed_before _ _ _ _ _ c.in_err-write_numbered-2.ensures.failed refl))
+    (failed_behind _ _ _ _ _ _ c.in_ok-write_numbered.ensures.ok refl
+    (failed_before _ _ _ _ _ c.in_err-write_numbered-2.ensures.failed refl))
 
 pub returns-in_err-write_numbered-3 : goal.returns-in_err-write_numbered-3
 returns-in_err-write_numbered-3 g c =
     gave_up _ _ _ _ c.from_residual-in_err-write_numbered-3.ensures.0
-    (failed_behind _ _ _ _ _ _ c.in_ok-write_numbered.ensures.ok refl (failed_behind _ _ _ _ _ _ c.in_ok-write_numbered-2.ensures.ok refl (failed_before _ _ _ _ _ c.in_err-write_numbered-3.ensures.failed refl)))
+    (failed_behind _ _ _ _ _ _ c.in_ok-write_numbered.ensures.ok refl
+    (failed_behind _ _ _ _ _ _ c.in_ok-write_numbered-2.ensures.ok refl
+    (failed_before _ _ _ _ _ c.in_err-write_numbered-3.ensures.failed refl)))
 
 pub returns : goal.returns
 returns g c =
-    wrote_behind _ _ _ _ _ _ c.in_ok-write_numbered.ensures.ok refl _ (wrote_behind _ _ _ _ _ _ c.in_ok-write_numbered-2.ensures.ok refl _ (wrote_behind _ _ _ _ _ _ c.in_ok-write_numbered-3.ensures.ok refl _ (c.write_piece.ensures)))
+    wrote_behind _ _ _ _ _ _ c.in_ok-write_numbered.ensures.ok refl _
+    (wrote_behind _ _ _ _ _ _ c.in_ok-write_numbered-2.ensures.ok refl _
+    (wrote_behind _ _ _ _ _ _ c.in_ok-write_numbered-3.ensures.ok refl _ (c.write_piece.ensures)))

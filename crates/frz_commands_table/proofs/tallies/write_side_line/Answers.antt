@@ -10,8 +10,10 @@ returns-in_err-write_side_name g c =
 pub returns-in_err-write_counts : goal.returns-in_err-write_counts
 returns-in_err-write_counts g c =
     gave_up _ _ _ _ c.from_residual-in_err-write_counts.ensures.0
-    (failed_behind _ _ _ _ _ _ c.in_ok-write_side_name.ensures.ok refl (failed_before _ _ _ _ _ c.in_err-write_counts.ensures.failed refl))
+    (failed_behind _ _ _ _ _ _ c.in_ok-write_side_name.ensures.ok refl
+    (failed_before _ _ _ _ _ c.in_err-write_counts.ensures.failed refl))
 
 pub returns : goal.returns
 returns g c =
-    wrote_behind _ _ _ _ _ _ c.in_ok-write_side_name.ensures.ok refl _ (wrote_behind _ _ _ _ _ _ c.in_ok-write_counts.ensures.ok refl _ (c.write_piece.ensures))
+    wrote_behind _ _ _ _ _ _ c.in_ok-write_side_name.ensures.ok refl _
+    (wrote_behind _ _ _ _ _ _ c.in_ok-write_counts.ensures.ok refl _ (c.write_piece.ensures))

@@ -10,7 +10,8 @@ written : (c : goal.After-push-8) → c.push-8.new.text.bytes ≡ fen_text c.arg
 written c =
     fen_written c.args.p.now _ _ _ _ _ _ _ _ _ _ _
     c.write_placement.ensures.text c.push.ensures.text
-    (c.write_turn.ensures.text ∙ ap (λ (k : Colour). c.push.new.text.bytes ++ turn_text k) c.turn.ensures.turn)
+    (c.write_turn.ensures.text ∙ ap (λ (k : Colour). c.push.new.text.bytes ++ turn_text k)
+    c.turn.ensures.turn)
     c.push-2.ensures.text c.push-3.ensures.text c.push-4.ensures.text
     (c.write_target.ensures.text ∙ ap (λ o. c.push-4.new.text.bytes ++ target_text o) c.ep.ensures)
     c.push-5.ensures.text c.push-6.ensures.text c.push-7.ensures.text c.push-8.ensures.text

@@ -7,4 +7,5 @@ returns-clause-text c =
     let few : c.loop-cell.gap ≤ 8 = omega arith in
     let whole : length c.args.row.now ≤ c.loop-cell.cell-index = omega arith in
     c.write_gap.ensures.text
-    ∙ rank_ends c.args.text.now.bytes c.loop-cell.text.bytes c.args.row.now c.loop-cell.gap c.loop-cell.cell-index few whole c.loop-cell.invariant.written
+    ∙ rank_ends c.args.text.now.bytes c.loop-cell.text.bytes c.args.row.now c.loop-cell.gap
+    c.loop-cell.cell-index few whole c.loop-cell.invariant.written

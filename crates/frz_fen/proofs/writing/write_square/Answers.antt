@@ -10,6 +10,7 @@ returns-clause-text c cells =
     let fits : c.args.cell < 13 = omega arith in
     gap_and_man c.args.text.now.bytes c.args.gap c.args.cell cells few man fits
     ∙ ap (λ xs. xs ++ rank_text cells)
-    (ap (λ k. (c.args.text.now.bytes ++ gap_text c.args.gap) ++ k ∷ []) (sym c.cell_letter.ensures.letter)
+    (ap (λ k. (c.args.text.now.bytes ++ gap_text c.args.gap) ++ k ∷ [])
+    (sym c.cell_letter.ensures.letter)
     ∙ ap (λ xs. xs ++ c.cell_letter.result ∷ []) (sym c.write_gap.ensures.text)
     ∙ sym c.push.ensures.text)

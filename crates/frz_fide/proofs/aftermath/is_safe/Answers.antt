@@ -8,5 +8,7 @@ pub returns : goal.returns
 returns c =
     ap not
     (c.is_in_check.ensures ∙ ap (λ (q : Board). is_in_check q c.turn.result) c.moved.ensures
-    ∙ ap (λ t. is_in_check (record c.args.p.now { cells = cells_after c.args.p.now c.args.man c.args.m }) t) c.turn.ensures
+    ∙ ap (λ t. is_in_check
+    (record c.args.p.now { cells = cells_after c.args.p.now c.args.man c.args.m }) t)
+    c.turn.ensures
     ∙ ap (λ o. is_in_check (after_man c.args.p.now o c.args.m) c.args.p.now.turn) (sym c.requires))

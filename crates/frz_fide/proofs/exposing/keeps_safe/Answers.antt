@@ -11,7 +11,8 @@ use Rattle.frz_fide.proofs.exposing.keeps_safe.Goals as goal
 pub returns-then-not-exposing : goal.returns-then-not-exposing
 returns-then-not-exposing c =
     let hidden : c.args.exposing ≡ false = c.if-not-exposing.true in
-    sym (ap not (leaves_safely c.args.p.now c.args.man c.args.m c.requires.man c.requires.can (sym c.requires.exposing ∙ hidden)))
+    sym (ap not (leaves_safely c.args.p.now c.args.man c.args.m c.requires.man c.requires.can
+    (sym c.requires.exposing ∙ hidden)))
 
 pub returns-then-is_king : goal.returns-then-is_king
 returns-then-is_king c =
@@ -21,6 +22,9 @@ returns-then-is_king c =
     ap not
     (c.is_attacked.ensures
     ∙ ap (λ (q : Board). is_attacked q c.m.inside.to c.other.result) c.requires.bare
-    ∙ ap (λ d. is_attacked (without c.args.p.now c.args.m.from) c.m.inside.to d) (c.other.ensures.other ∙ ap other_of c.turn.ensures)
-    ∙ ap (λ (s : Step). is_attacked (without c.args.p.now c.args.m.from) s.to (other_of c.args.p.now.turn)) c.m.view_is
-    ∙ sym (king_goes c.args.p.now c.args.man c.args.m c.requires.valid from to c.requires.man c.requires.can king))
+    ∙ ap (λ d. is_attacked (without c.args.p.now c.args.m.from) c.m.inside.to d)
+    (c.other.ensures.other ∙ ap other_of c.turn.ensures)
+    ∙ ap (λ (s : Step). is_attacked (without c.args.p.now c.args.m.from) s.to
+    (other_of c.args.p.now.turn)) c.m.view_is
+    ∙ sym (king_goes c.args.p.now c.args.man c.args.m c.requires.valid from to c.requires.man
+    c.requires.can king))

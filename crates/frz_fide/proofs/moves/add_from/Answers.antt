@@ -8,15 +8,19 @@ use Rattle.frz_fide.proofs.moves.add_from.Goals as goal
 pub add_between-requires-clause-free : goal.add_between-requires-clause-free
 add_between-requires-clause-free c =
     let next : IsNext c.without-targets.result c.loop-to.n c.in-Some.to = c.in-Some.ensures in
-    on_target c.args.p.now c.without-targets.result c.move_set.result c.side.result c.turn.result c.side.ensures c.turn.ensures c.without-targets.ensures c.in-Some.to next.on_board next.there
+    on_target c.args.p.now c.without-targets.result c.move_set.result c.side.result c.turn.result
+    c.side.ensures c.turn.ensures c.without-targets.ensures c.in-Some.to next.on_board next.there
 
 pub add_between-requires-clause-room : goal.add_between-requires-clause-room
 add_between-requires-clause-room c =
     let next : IsNext c.without-targets.result c.loop-to.n c.in-Some.to = c.in-Some.ensures in
     let here = from_next c.args.list.now.items c.args.p.now c.args.from c.without-targets.result
-    (off_target c.args.p.now c.args.man c.args.from c.without-targets.result c.move_set.result c.side.result c.turn.result c.requires.man c.move_set.ensures c.side.ensures c.turn.ensures c.without-targets.ensures)
+    (off_target c.args.p.now c.args.man c.args.from c.without-targets.result c.move_set.result
+    c.side.result c.turn.result c.requires.man c.move_set.ensures c.side.ensures c.turn.ensures
+    c.without-targets.ensures)
     c.loop-to.n c.in-Some.to c.loop-to.list.items c.loop-to.invariant.1 next in
-    let room = from_below-room c.args.list.now.items c.args.p.now c.args.from c.in-Some.to next.on_board in
+    let room = from_below-room c.args.list.now.items c.args.p.now c.args.from c.in-Some.to
+    next.on_board in
     let all = c.requires.room in
     omega (arith, ap length here)
 
@@ -25,17 +29,24 @@ loop-to-preserved c =
     let next : IsNext c.without-targets.result c.loop-to.n c.in-Some.to = c.in-Some.ensures in
     let on = next.on_board in
     let here = from_next c.args.list.now.items c.args.p.now c.args.from c.without-targets.result
-    (off_target c.args.p.now c.args.man c.args.from c.without-targets.result c.move_set.result c.side.result c.turn.result c.requires.man c.move_set.ensures c.side.ensures c.turn.ensures c.without-targets.ensures)
+    (off_target c.args.p.now c.args.man c.args.from c.without-targets.result c.move_set.result
+    c.side.result c.turn.result c.requires.man c.move_set.ensures c.side.ensures c.turn.ensures
+    c.without-targets.ensures)
     c.loop-to.n c.in-Some.to c.loop-to.list.items c.loop-to.invariant.1 next in (
       omega arith,
       c.add_between.ensures
           ∙ ap (λ xs. xs ++ legal_between c.args.p.now c.args.from c.in-Some.to) here
-          ∙ sym (from_below-next c.args.list.now.items c.args.p.now c.args.from c.in-Some.to next.on_board)
-          ∙ ap (λ n. from_below c.args.list.now.items c.args.p.now c.args.from (n + 1)) (sym c.number-n.ensures.number),
+          ∙ sym (from_below-next c.args.list.now.items c.args.p.now c.args.from c.in-Some.to
+          next.on_board)
+          ∙ ap (λ n. from_below c.args.list.now.items c.args.p.now c.args.from (n + 1))
+          (sym c.number-n.ensures.number),
     )
 
 pub returns : goal.returns
 returns c =
     from_end c.args.list.now.items c.args.p.now c.args.from c.without-targets.result
-    (off_target c.args.p.now c.args.man c.args.from c.without-targets.result c.move_set.result c.side.result c.turn.result c.requires.man c.move_set.ensures c.side.ensures c.turn.ensures c.without-targets.ensures)
-    c.loop-to.n c.loop-to.list.items c.loop-to.invariant.0 c.loop-to.invariant.1 c.in_default.ensures
+    (off_target c.args.p.now c.args.man c.args.from c.without-targets.result c.move_set.result
+    c.side.result c.turn.result c.requires.man c.move_set.ensures c.side.ensures c.turn.ensures
+    c.without-targets.ensures)
+    c.loop-to.n c.loop-to.list.items c.loop-to.invariant.0 c.loop-to.invariant.1
+    c.in_default.ensures

@@ -8,12 +8,15 @@ use Rattle.frz_fide.proofs.moves.put_all.Goals as goal
 pub add_square-requires-clause-own : goal.add_square-requires-clause-own
 add_square-requires-clause-own c =
     let next : IsNext c.side-own.result c.loop-from.n c.in-Some.from = c.in-Some.ensures in
-    on_side c.args.p.now c.side-own.result c.turn.result c.side-own.ensures c.turn.ensures c.in-Some.from next.on_board next.there
+    on_side c.args.p.now c.side-own.result c.turn.result c.side-own.ensures c.turn.ensures
+    c.in-Some.from next.on_board next.there
 
 pub add_square-requires-clause-room : goal.add_square-requires-clause-room
 add_square-requires-clause-room c =
     let next : IsNext c.side-own.result c.loop-from.n c.in-Some.from = c.in-Some.ensures in
-    let here = all_next c.args.p.now c.side-own.result (off_side c.args.p.now c.side-own.result c.turn.result c.side-own.ensures c.turn.ensures) c.loop-from.n c.in-Some.from c.loop-from.list.items c.loop-from.invariant.1 next in
+    let here = all_next c.args.p.now c.side-own.result
+    (off_side c.args.p.now c.side-own.result c.turn.result c.side-own.ensures c.turn.ensures)
+    c.loop-from.n c.in-Some.from c.loop-from.list.items c.loop-from.invariant.1 next in
     let room = all_below-room c.args.p.now c.in-Some.from next.on_board in
     let all = c.requires.room in
     omega (arith, ap length here)
@@ -22,7 +25,9 @@ pub loop-from-preserved : goal.loop-from-preserved
 loop-from-preserved c =
     let next : IsNext c.side-own.result c.loop-from.n c.in-Some.from = c.in-Some.ensures in
     let on = next.on_board in
-    let here = all_next c.args.p.now c.side-own.result (off_side c.args.p.now c.side-own.result c.turn.result c.side-own.ensures c.turn.ensures) c.loop-from.n c.in-Some.from c.loop-from.list.items c.loop-from.invariant.1 next in (
+    let here = all_next c.args.p.now c.side-own.result
+    (off_side c.args.p.now c.side-own.result c.turn.result c.side-own.ensures c.turn.ensures)
+    c.loop-from.n c.in-Some.from c.loop-from.list.items c.loop-from.invariant.1 next in (
       omega arith,
       c.add_square.ensures ∙ ap (λ xs. xs ++ legal_from c.args.p.now c.in-Some.from) here
           ∙ sym (all_below-next c.args.p.now c.in-Some.from next.on_board)
@@ -31,4 +36,7 @@ loop-from-preserved c =
 
 pub returns : goal.returns
 returns c =
-    all_end c.args.p.now c.side-own.result (off_side c.args.p.now c.side-own.result c.turn.result c.side-own.ensures c.turn.ensures) c.loop-from.n c.loop-from.list.items c.loop-from.invariant.0 c.loop-from.invariant.1 c.in_default.ensures
+    all_end c.args.p.now c.side-own.result
+    (off_side c.args.p.now c.side-own.result c.turn.result c.side-own.ensures c.turn.ensures)
+    c.loop-from.n c.loop-from.list.items c.loop-from.invariant.0 c.loop-from.invariant.1
+    c.in_default.ensures

@@ -7,4 +7,5 @@ use Rattle.frz_fide.proofs.playing.after.Goals as goal
 pub returns-clause-valid : goal.returns-clause-valid
 returns-clause-valid c =
     let on : c.args.m.to < 64 = omega (arith, ap (λ (s : Step). s.to) c.m.view_is) in
-    subst IsValid (sym c.boards_after.ensures) (valid_after c.args.p.now c.args.m c.requires.valid on c.requires.legal)
+    subst IsValid (sym c.boards_after.ensures)
+    (valid_after c.args.p.now c.args.m c.requires.valid on c.requires.legal)

@@ -5,4 +5,5 @@ use Rattle.frz_handmade.proofs.bytes.push_numbers.Given as goal
 
 abbrev pub invariant-loop-number : goal.invariant-loop-number
 invariant-loop-number l =
-    l.bytes.items ≡ l.initial.bytes.items ++ flat_map (little_bytes 4) (take l.number-index l.numbers)
+    l.bytes.items ≡ l.initial.bytes.items ++ flat_map (little_bytes 4)
+    (take l.number-index l.numbers)

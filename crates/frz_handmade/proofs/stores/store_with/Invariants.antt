@@ -5,5 +5,6 @@ use Rattle.frz_handmade.proofs.stores.store_with.Given as goal
 
 abbrev pub invariant-loop-name : goal.invariant-loop-name
 invariant-loop-name l =
-    (files l.store ≡ fold (λ held file. put held file.0.now file.1.now) no_files (take l.name-index l.files))
+    (files l.store ≡ fold (λ held file. put held file.0.now file.1.now) no_files
+    (take l.name-index l.files))
     × (room l.store ≡ 0)

@@ -4,7 +4,8 @@ use Rattle.frz_index.proofs.chart.chart_of.Goals as goal
 
 pub first_kind-first-requires : goal.first_kind-first-requires
 first_kind-first-requires c =
-    cut_once c.args.states.now 0 _ 0 (c.cuts_of-cuts.ensures.cut 0 (omega arith)) (cut_first c.args.states.now)
+    cut_once c.args.states.now 0 _ 0 (c.cuts_of-cuts.ensures.cut 0 (omega arith))
+    (cut_first c.args.states.now)
 
 pub returns : goal.returns
 returns c = record {

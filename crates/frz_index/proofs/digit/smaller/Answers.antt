@@ -8,12 +8,16 @@ pub loop-i-preserved : goal.loop-i-preserved
 loop-i-preserved c = record {
   fits = omega (arith, c.saturating_add-sum.ensures);
   rest =
-      ap (λ x. capped (x + choices c.args.states (c.loop-i.i + 1) (c.args.count - (c.loop-i.i + 1)))) (c.saturating_add-sum.ensures ∙ ap (λ x. capped (c.loop-i.sum + x)) c.binomial.ensures)
-      ∙ offset_step c.args.states c.loop-i.i c.args.count c.loop-i.sum (omega (arith, c.loop-i-test.true))
+      ap (λ x. capped (x + choices c.args.states (c.loop-i.i + 1)
+      (c.args.count - (c.loop-i.i + 1))))
+      (c.saturating_add-sum.ensures ∙ ap (λ x. capped (c.loop-i.sum + x)) c.binomial.ensures)
+      ∙ offset_step c.args.states c.loop-i.i c.args.count c.loop-i.sum
+      (omega (arith, c.loop-i-test.true))
       ∙ c.loop-i.invariant.rest;
 }
 
 pub returns : goal.returns
 returns c =
-    offset_end c.args.states c.loop-i.i c.args.count c.loop-i.sum c.loop-i.invariant.fits c.loop-i-test.false
+    offset_end c.args.states c.loop-i.i c.args.count c.loop-i.sum c.loop-i.invariant.fits
+    c.loop-i-test.false
     ∙ c.loop-i.invariant.rest

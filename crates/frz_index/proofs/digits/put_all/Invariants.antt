@@ -6,4 +6,11 @@ use Rattle.frz_index.proofs.digits.put_all.Given as goal
 
 abbrev pub invariant-loop-i : goal.invariant-loop-i
 invariant-loop-i l =
-    record l.p { cells = put_groups (drop l.i l.groups) (digits (map radix_of (drop l.i l.groups)) l.rest) l.p.cells } ≡ record l.fn.p { cells = put_groups l.groups (digits (map radix_of l.groups) l.number) l.fn.p.cells }
+    record l.p {
+      cells = put_groups (drop l.i l.groups)
+          (digits (map radix_of (drop l.i l.groups)) l.rest) l.p.cells;
+    }
+    ≡ record l.fn.p {
+      cells = put_groups l.groups (digits (map radix_of l.groups) l.number)
+          l.fn.p.cells;
+    }

@@ -13,5 +13,6 @@ returns c = record {
   found_again = candidate-Num;
   once = λ gs p q m n e. sym (candidate-Num gs p m) ∙ ap (candidate gs) e ∙ candidate-Num gs q n;
   formula =
-      λ gs p m. sym (value_onto-value (turn_number gs p.turn p.ep) (map radix_of gs) (map (digit_of p) gs) (digits_are p gs m.counts));
+      λ gs p m. sym (value_onto-value (turn_number gs p.turn p.ep) (map radix_of gs)
+      (map (digit_of p) gs) (digits_are p gs m.counts));
 }

@@ -20,14 +20,17 @@ returns-then-not-are_covered-clause-member c = (
   λ m.
       let gs = c.args.r.now.groups in
       let same = c.deref.ensures.value ∙ ap (λ (r : RuleLines). r.groups) c.r.view_is in
-      let covered : c.are_covered.result ≡ true = c.are_covered.ensures ∙ ap (λ (gs : List GroupLine). are_men_covered gs c.args.p.now) same ∙ of_men gs c.args.p.now m.men in
+      let covered : c.are_covered.result ≡ true = c.are_covered.ensures
+      ∙ ap (λ (gs : List GroupLine). are_men_covered gs c.args.p.now) same
+      ∙ of_men gs c.args.p.now m.men in
       let missing = c.if-not-are_covered.true in
       absurd cc,
 )
 
 pub with_groups-requires : goal.with_groups-requires
 with_groups-requires c =
-    subst AreCounted (sym (c.deref-3.ensures.value ∙ ap (λ (r : RuleLines). r.groups) c.r.view_is)) (counted c.args.r.now c.requires.sound.lines)
+    subst AreCounted (sym (c.deref-3.ensures.value ∙ ap (λ (r : RuleLines). r.groups) c.r.view_is))
+    (counted c.args.r.now c.requires.sound.lines)
 
 within : (c : goal.In_ok-number) → Member c.args.r.now.groups c.args.p.now
 within c =
@@ -35,7 +38,9 @@ within c =
     let p = c.args.p.now in
     let same = c.deref.ensures.value ∙ ap (λ (r : RuleLines). r.groups) c.r.view_is in
     let read = c.deref-3.ensures.value ∙ ap (λ (r : RuleLines). r.groups) c.r.view_is in
-    let covered : are_men_covered gs p ≡ true = sym (c.are_covered.ensures ∙ ap (λ (gs : List GroupLine). are_men_covered gs p) same) ∙ c.if-not-are_covered.false in
+    let covered : are_men_covered gs p ≡ true = sym
+    (c.are_covered.ensures ∙ ap (λ (gs : List GroupLine). are_men_covered gs p) same)
+    ∙ c.if-not-are_covered.false in
     record {
       valid = c.requires.valid;
       men = men_of gs p covered;
@@ -43,15 +48,21 @@ within c =
     }
 
 is_number : (c : goal.In_ok-number) →
-    (c.in_ok-number.number ≡ OldNum c.args.r.now.groups c.args.p.now) × (c.in_ok-number.number < 2 ^ 32)
+    (c.in_ok-number.number ≡ OldNum c.args.r.now.groups c.args.p.now)
+    × (c.in_ok-number.number < 2 ^ 32)
 is_number c =
     let gs = c.args.r.now.groups in
     let p = c.args.p.now in
     let turns = c.deref-2.ensures.value ∙ ap (λ (r : RuleLines). r.groups) c.r.view_is in
     let read = c.deref-3.ensures.value ∙ ap (λ (r : RuleLines). r.groups) c.r.view_is in
-    let turn = c.turn_state-turn.ensures ∙ ap (λ (gs : List GroupLine). turn_before gs p.turn p.ep) turns in
-    let digits = c.in_ok-number.ensures.1 ∙ ap (λ (gs : List GroupLine). capped (value_onto c.turn_state-turn.result (flat_map old_radices gs) (flat_map (old_digits p) gs))) read in
-    number_made gs p c.turn_state-turn.result c.in_ok-number.number (within c) c.requires.size turn digits
+    let turn = c.turn_state-turn.ensures ∙ ap (λ (gs : List GroupLine). turn_before gs p.turn p.ep)
+    turns in
+    let digits = c.in_ok-number.ensures.1
+    ∙ ap (λ (gs : List GroupLine). capped
+    (value_onto c.turn_state-turn.result (flat_map old_radices gs)
+    (flat_map (old_digits p) gs))) read in
+    number_made gs p c.turn_state-turn.result c.in_ok-number.number (within c) c.requires.size turn
+    digits
 
 pub overflow_cast-result : goal.overflow_cast-result
 overflow_cast-result c = omega (arith, (is_number c).1)

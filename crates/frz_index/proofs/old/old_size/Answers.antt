@@ -6,4 +6,5 @@ use Rattle.frz_index.proofs.old.old_size.Goals as goal
 
 pub size-requires : goal.size-requires
 size-requires c =
-    subst AreCounted (sym (c.deref.ensures.value ∙ ap (λ (r : RuleLines). r.groups) c.r.view_is)) (counted c.args.r.now c.requires.lines)
+    subst AreCounted (sym (c.deref.ensures.value ∙ ap (λ (r : RuleLines). r.groups) c.r.view_is))
+    (counted c.args.r.now c.requires.lines)

@@ -22,7 +22,8 @@ loop-high-init c = record {
 pub loop-high-preserved : goal.loop-high-preserved
 loop-high-preserved c =
     let middle = c.loop-high.low + (c.loop-high.high - c.loop-high.low) / 2 in
-    let over : c.args.rank < choose middle c.args.count = omega (arith, c.if-binomial-rank.false, c.binomial.ensures, c.requires.small) in
+    let over : c.args.rank < choose middle c.args.count = omega
+    (arith, c.if-binomial-rank.false, c.binomial.ensures, c.requires.small) in
     record {
       order = omega (arith, c.loop-high-test.true);
       within = omega (arith, c.loop-high-test.true, c.loop-high.invariant.within);

@@ -8,7 +8,11 @@ invariant-loop-left l = record {
   within : l.end ≤ length l.states;
   few : l.left ≤ 16;
   small : l.rest ≤ l.rank;
-  rest : record l.p { cells = put_men l.colour l.states (unrank l.end l.left l.rest) l.p.cells } ≡ record l.fn.p { cells = put_men l.colour l.states (unrank (length l.states) l.count l.rank) l.fn.p.cells };
+  rest : record l.p { cells = put_men l.colour l.states (unrank l.end l.left l.rest) l.p.cells }
+      ≡ record l.fn.p {
+        cells = put_men l.colour l.states (unrank (length l.states) l.count l.rank)
+            l.fn.p.cells;
+      };
 }
 
 abbrev pub decreases-loop-left : goal.decreases-loop-left

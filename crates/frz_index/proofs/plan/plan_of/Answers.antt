@@ -10,25 +10,33 @@ use Rattle.frz_index.proofs.plan.plan_of.Goals as goal
 
 pub weights_of-requires : goal.weights_of-requires
 weights_of-requires c =
-    let same = c.in_ok-groups.ensures ∙ c.deref.ensures.value ∙ ap (λ (r : RuleLines). r.groups) c.r.view_is in
+    let same = c.in_ok-groups.ensures ∙ c.deref.ensures.value ∙ ap (λ (r : RuleLines). r.groups)
+    c.r.view_is in
     subst AreNumberable (sym (c.deref-2.ensures.value ∙ same)) (numberable c.args.r.now c.requires)
 
-pub product_from-whole-requires-clause-numberable : goal.product_from-whole-requires-clause-numberable
+pub product_from-whole-requires-clause-numberable :
+    goal.product_from-whole-requires-clause-numberable
 product_from-whole-requires-clause-numberable c =
-    let same = c.in_ok-groups.ensures ∙ c.deref.ensures.value ∙ ap (λ (r : RuleLines). r.groups) c.r.view_is in
+    let same = c.in_ok-groups.ensures ∙ c.deref.ensures.value ∙ ap (λ (r : RuleLines). r.groups)
+    c.r.view_is in
     subst AreNumberable (sym (c.deref-3.ensures.value ∙ same)) (numberable c.args.r.now c.requires)
 
 pub returns : goal.returns
 returns c =
-    let same = c.in_ok-groups.ensures ∙ c.deref.ensures.value ∙ ap (λ (r : RuleLines). r.groups) c.r.view_is in (
+    let same = c.in_ok-groups.ensures ∙ c.deref.ensures.value ∙ ap (λ (r : RuleLines). r.groups)
+    c.r.view_is in (
       record {
         numberable = subst AreNumberable (sym same) (numberable c.args.r.now c.requires);
-        weights_are = subst (λ (gs : List GroupLine). AreWeights gs c.in_ok-weights.weights.items) c.deref-2.ensures.value c.in_ok-weights.ensures;
+        weights_are = subst (λ (gs : List GroupLine). AreWeights gs c.in_ok-weights.weights.items)
+            c.deref-2.ensures.value c.in_ok-weights.ensures;
         whole_is = c.product_from-whole.ensures
             ∙ ap (λ gs. product_from gs 0) c.deref-3.ensures.value;
         targets_are = c.in_ok-targets.ensures ∙ ap targets c.deref-4.ensures.value;
-        known_are = subst (λ (gs : List GroupLine). AreKnown gs c.in_ok-known_cells.known_cells.items) c.deref-5.ensures.value c.in_ok-known_cells.ensures;
-        charts_are = subst (λ (gs : List GroupLine). AreCharts gs c.in_ok-charts.charts.items) c.deref-6.ensures.value c.in_ok-charts.ensures;
+        known_are = subst (λ (gs : List GroupLine).
+            AreKnown gs c.in_ok-known_cells.known_cells.items) c.deref-5.ensures.value
+            c.in_ok-known_cells.ensures;
+        charts_are = subst (λ (gs : List GroupLine). AreCharts gs c.in_ok-charts.charts.items)
+            c.deref-6.ensures.value c.in_ok-charts.ensures;
         rows_are = c.in_ok-triangle.ensures;
       },
       same,
@@ -36,5 +44,7 @@ returns c =
 
 pub charts_of-requires : goal.charts_of-requires
 charts_of-requires c =
-    let same = c.in_ok-groups.ensures ∙ c.deref.ensures.value ∙ ap (λ (r : RuleLines). r.groups) c.r.view_is in
-    subst (AllByRecursion (λ (g : GroupLine). AreStates g.states)) (sym (c.deref-6.ensures.value ∙ same)) (in_order c.args.r.now c.requires)
+    let same = c.in_ok-groups.ensures ∙ c.deref.ensures.value ∙ ap (λ (r : RuleLines). r.groups)
+    c.r.view_is in
+    subst (AllByRecursion (λ (g : GroupLine). AreStates g.states))
+    (sym (c.deref-6.ensures.value ∙ same)) (in_order c.args.r.now c.requires)

@@ -4,4 +4,8 @@ use Rattle.frz_index.proofs.plan.weights_of.Given as goal
 
 abbrev pub invariant-loop-i : goal.invariant-loop-i
 invariant-loop-i l =
-    record { size : length l.weights.items ≡ l.i; known : (k : ℕ) → k < l.i → slice_index l.weights.items k ≡ product_from l.groups (suc k) }
+    record {
+      size : length l.weights.items ≡ l.i;
+      known : (k : ℕ) → k < l.i
+          → slice_index l.weights.items k ≡ product_from l.groups (suc k);
+    }

@@ -5,5 +5,7 @@ use Rattle.frz_index.proofs.room.any_takes_one_more.Goals as goal
 pub takes_one_more-requires-clause-chart : goal.takes_one_more-requires-clause-chart
 takes_one_more-requires-clause-chart c =
     c.requires.charts.each c.loop-i.i c.index-groups-i.result _
-    (slice_get_read c.args.groups.now (length c.args.groups.now) c.loop-i.i c.index-groups-i.result refl c.loop-i-test.true c.index-groups-i.is)
-    (slice_get-get_or c.args.charts.now c.loop-i.i _ (omega (arith, c.requires.charts.size, c.loop-i-test.true)))
+    (slice_get_read c.args.groups.now (length c.args.groups.now) c.loop-i.i c.index-groups-i.result
+    refl c.loop-i-test.true c.index-groups-i.is)
+    (slice_get-get_or c.args.charts.now c.loop-i.i _
+    (omega (arith, c.requires.charts.size, c.loop-i-test.true)))

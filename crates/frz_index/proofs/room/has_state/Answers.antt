@@ -23,14 +23,19 @@ differ Black Black h e = cc
 pub returns-then-eq : goal.returns-then-eq
 returns-then-eq c =
     let colour = ap (λ (g : GroupLine). g.colour) c.group.view_is in
-    let own : c.args.group.now.colour ≡ c.args.man.colour = sym colour ∙ equal c.group.inside.colour c.args.man.colour (sym c.eq.ensures ∙ c.if-eq.true) in
-    let state = own_state c.args.group.now c.args.chart.now c.requires c.args.man c.args.s c.contains.ensures.on_board own in
+    let own : c.args.group.now.colour ≡ c.args.man.colour = sym colour
+    ∙ equal c.group.inside.colour c.args.man.colour (sym c.eq.ensures ∙ c.if-eq.true) in
+    let state = own_state c.args.group.now c.args.chart.now c.requires c.args.man c.args.s
+    c.contains.ensures.on_board own in
     c.contains.ensures.there
-    ∙ ap (λ i. has_square (slice_index c.args.chart.now.words i) c.args.s) c.kind_number.ensures.number
+    ∙ ap (λ i. has_square (slice_index c.args.chart.now.words i) c.args.s)
+    c.kind_number.ensures.number
     ∙ sym state
 
 pub returns-else-eq : goal.returns-else-eq
 returns-else-eq c =
     let colour = ap (λ (g : GroupLine). g.colour) c.group.view_is in
-    let none = no_state c.args.group.now c.args.man c.args.s (λ own. differ c.group.inside.colour c.args.man.colour (sym c.eq.ensures ∙ c.if-eq.false) (colour ∙ own)) in
+    let none = no_state c.args.group.now c.args.man c.args.s
+    (λ own. differ c.group.inside.colour c.args.man.colour (sym c.eq.ensures ∙ c.if-eq.false)
+    (colour ∙ own)) in
     c.if-eq.false ∙ sym none

@@ -12,24 +12,36 @@ use Rattle.frz_index.proofs.set.number_in.Goals as goal
 
 pub turn_number-turn-requires : goal.turn_number-turn-requires
 turn_number-turn-requires c =
-    omega (arith, ap length c.deref-4.ensures.value, ap length c.requires.plan.targets_are, targets_few c.args.plan.now.groups.items)
+    omega (
+      arith,
+      ap length c.deref-4.ensures.value,
+      ap length c.requires.plan.targets_are,
+      targets_few c.args.plan.now.groups.items,
+    )
 
 pub returns-then-without-ne0 : goal.returns-then-without-ne0
 returns-then-without-ne0 c =
     let gs = c.args.plan.now.groups.items in
     let p = c.args.p.now in
-    let covered = subst (λ (gs : List GroupLine). AreCovered p gs c.in_ok-digits.covered) c.deref.ensures.value c.in_ok-digits.ensures.2 in
-    let left = left_of p c.in_ok-digits.covered c.occupied.result c.without.result c.occupied.ensures c.without.ensures in
-    λ m. c.if-without-ne0.true (left_none gs p c.in_ok-digits.covered c.without.result c.without.type_inv covered left m)
+    let covered = subst (λ (gs : List GroupLine). AreCovered p gs c.in_ok-digits.covered)
+    c.deref.ensures.value c.in_ok-digits.ensures.2 in
+    let left = left_of p c.in_ok-digits.covered c.occupied.result c.without.result
+    c.occupied.ensures c.without.ensures in
+    λ m. c.if-without-ne0.true
+    (left_none gs p c.in_ok-digits.covered c.without.result c.without.type_inv covered left m)
 
 within : (c : goal.After-turn_number-turn) → Member c.args.plan.now.groups.items c.args.p.now
 within c =
     let gs = c.args.plan.now.groups.items in
     let p = c.args.p.now in
-    let covered = subst (λ (gs : List GroupLine). AreCovered p gs c.in_ok-digits.covered) c.deref.ensures.value c.in_ok-digits.ensures.2 in
-    let left = left_of p c.in_ok-digits.covered c.occupied.result c.without.result c.occupied.ensures c.without.ensures in
-    let counts = subst (AllByRecursion (IsWithinCount p)) c.deref.ensures.value c.in_ok-digits.ensures.0 in
-    member gs p c.in_ok-digits.covered c.without.result c.requires.valid covered left c.if-without-ne0.false counts
+    let covered = subst (λ (gs : List GroupLine). AreCovered p gs c.in_ok-digits.covered)
+    c.deref.ensures.value c.in_ok-digits.ensures.2 in
+    let left = left_of p c.in_ok-digits.covered c.occupied.result c.without.result
+    c.occupied.ensures c.without.ensures in
+    let counts = subst (AllByRecursion (IsWithinCount p)) c.deref.ensures.value
+    c.in_ok-digits.ensures.0 in
+    member gs p c.in_ok-digits.covered c.without.result c.requires.valid covered left
+    c.if-without-ne0.false counts
 
 is_number : (c : goal.After-turn_number-turn) →
     c.turn_number-turn.result * c.args.plan.now.whole + c.in_ok-digits.digits
@@ -39,20 +51,34 @@ is_number c =
     let p = c.args.p.now in
     let turn : c.turn_number-turn.result ≡ turn_number gs p.turn p.ep =
     c.turn_number-turn.ensures
-    ∙ ap (λ ts. turn_among ts c.turn.result c.ep.result) (c.deref-4.ensures.value ∙ c.requires.plan.targets_are)
-    ∙ ap (λ d. turn_among (targets gs) d c.ep.result) c.turn.ensures ∙ ap (turn_among (targets gs) p.turn) c.ep.ensures in
-    let digits = c.in_ok-digits.ensures.1 ∙ ap (λ (gs : List GroupLine). value (map radix_of gs) (map (digit_of p) gs)) c.deref.ensures.value in
+    ∙ ap (λ ts. turn_among ts c.turn.result c.ep.result)
+    (c.deref-4.ensures.value ∙ c.requires.plan.targets_are)
+    ∙ ap (λ d. turn_among (targets gs) d c.ep.result) c.turn.ensures
+    ∙ ap (turn_among (targets gs) p.turn) c.ep.ensures in
+    let digits = c.in_ok-digits.ensures.1
+    ∙ ap (λ (gs : List GroupLine). value (map radix_of gs) (map (digit_of p) gs))
+    c.deref.ensures.value in
     ap (λ n. n * c.args.plan.now.whole + c.in_ok-digits.digits) turn
     ∙ ap (λ w. turn_number gs p.turn p.ep * w + c.in_ok-digits.digits) c.requires.plan.whole_is
     ∙ ap (λ d. turn_number gs p.turn p.ep * product (map radix_of gs) + d) digits
 
 pub overflow_mul-result : goal.overflow_mul-result
 overflow_mul-result c =
-    omega (arith, is_number c, number_fits c.args.plan.now.groups.items c.args.p.now c.requires.plan.numberable (within c))
+    omega (
+      arith,
+      is_number c,
+      number_fits c.args.plan.now.groups.items c.args.p.now
+          c.requires.plan.numberable (within c),
+    )
 
 pub overflow_add-result : goal.overflow_add-result
 overflow_add-result c =
-    omega (arith, is_number c, number_fits c.args.plan.now.groups.items c.args.p.now c.requires.plan.numberable (within c))
+    omega (
+      arith,
+      is_number c,
+      number_fits c.args.plan.now.groups.items c.args.p.now
+          c.requires.plan.numberable (within c),
+    )
 
 pub returns : goal.returns
 returns c = (within c, is_number c)

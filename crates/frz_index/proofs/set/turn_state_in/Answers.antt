@@ -4,8 +4,10 @@ use Rattle.frz_index.proofs.set.turn_state_in.Goals as goal
 
 pub nonzero_div-i : goal.nonzero_div-i
 nonzero_div-i c =
-    whole_some c.args.plan.now.groups.items c.args.plan.now.whole c.requires.numberable c.requires.whole_is
+    whole_some c.args.plan.now.groups.items c.args.plan.now.whole c.requires.numberable
+    c.requires.whole_is
 
 pub turn_at-requires : goal.turn_at-requires
 turn_at-requires c =
-    subst (All (λ t. t < 64)) (sym (c.deref.ensures.value ∙ c.requires.targets_are)) (targets_low c.args.plan.now.groups.items)
+    subst (All (λ t. t < 64)) (sym (c.deref.ensures.value ∙ c.requires.targets_are))
+    (targets_low c.args.plan.now.groups.items)

@@ -6,9 +6,11 @@ use Rattle.frz_line.proofs.laws.one_line.Goals as goal
 
 pub returns-clause-there : goal.returns-clause-there
 returns-clause-there c = λ rules value side codes start.
-    c.lines_end.ensures (line_player (graph_by rules value) side codes) MOST_PLIES refl (c.numbered.ensures.graph_lawful rules value) tt start
+    c.lines_end.ensures (line_player (graph_by rules value) side codes) MOST_PLIES refl
+    (c.numbered.ensures.graph_lawful rules value) tt start
 
 pub returns-clause-one : goal.returns-clause-one
 returns-clause-one c = λ rules value side codes start plies others end last w v.
-    let r = c.one_way.ensures (line_player (graph_by rules value) side codes) 0 tt tt tt start plies others end last w v in
+    let r = c.one_way.ensures (line_player (graph_by rules value) side codes) 0 tt tt tt start plies
+    others end last w v in
     (r.0, r.1)

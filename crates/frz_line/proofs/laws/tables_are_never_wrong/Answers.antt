@@ -7,5 +7,8 @@ use Rattle.frz_line.proofs.laws.tables_are_never_wrong.Goals as goal
 
 pub returns : goal.returns
 returns c = λ rules value side codes table p member plies number kept given w.
-    c.right_codes.ensures.table (numbers_by rules.groups) (arena_by rules value) (c.numbered.ensures.numbering rules value) (c.numbered.ensures.lawful rules value) (c.games_are_closed.ensures.game (game_of rules value)) side codes table (ByCodes MOST_PLIES) p (Num rules.groups p)
+    c.right_codes.ensures.table (numbers_by rules.groups) (arena_by rules value)
+    (c.numbered.ensures.numbering rules value) (c.numbered.ensures.lawful rules value)
+    (c.games_are_closed.ensures.game (game_of rules value)) side codes table (ByCodes MOST_PLIES) p
+    (Num rules.groups p)
     (c.membership.ensures.number rules.groups p member) tt tt plies number kept given w

@@ -13,7 +13,10 @@ invariant-plies g l = record {
   inside : l.spot.number < g.G.NumberedGame.count l.game;
   stands : (l.spot.played ≡ 0) ⊎ (is_failure l.spot.code ≡ false);
   few : IsFew MOST_PLIES l.spot.played l.spot.code;
-  far : SoFar (told_codes l.table l.side (g.S.Store.files l.initial.store)) (g.G.NumberedGame.arena l.game) l.side l.start l.code l.spot (sink_of g.O.Sink l.initial.out) (sink_of g.O.Sink l.out) (spent_by (store_of g.S.Store l.initial.store) l.initial.steps) (spent_by (store_of g.S.Store l.store) l.steps);
+  far : SoFar (told_codes l.table l.side (g.S.Store.files l.initial.store))
+      (g.G.NumberedGame.arena l.game) l.side l.start l.code l.spot (sink_of g.O.Sink l.initial.out)
+      (sink_of g.O.Sink l.out) (spent_by (store_of g.S.Store l.initial.store) l.initial.steps)
+      (spent_by (store_of g.S.Store l.store) l.steps);
   quiet : StoreQuiet (store_of g.S.Store l.initial.store) (store_of g.S.Store l.store);
   fine : StoreFine (store_of g.S.Store l.initial.store) (store_of g.S.Store l.store);
   later : l.initial.steps ≤ l.steps;

@@ -4,7 +4,8 @@ use Rattle.frz_line.proofs.playing.write_moved.Goals as goal
 
 pub returns-in_err-write_first : goal.returns-in_err-write_first
 returns-in_err-write_first g c =
-    gave_up _ _ _ _ c.from_residual.ensures.0 (failed_before _ _ _ _ _ c.in_err-write_first.ensures.failed refl)
+    gave_up _ _ _ _ c.from_residual.ensures.0
+    (failed_before _ _ _ _ _ c.in_err-write_first.ensures.failed refl)
 
 pub returns : goal.returns
 returns g c = wrote_behind _ _ _ _ _ _ c.in_ok-write_first.ensures.ok refl _ c.write_arm.ensures

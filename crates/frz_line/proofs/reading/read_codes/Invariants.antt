@@ -11,8 +11,10 @@ invariant-loop-arm g l = record {
   read : IfSome (told_codes l.table l.side (g.S.Store.files l.initial.store))
       (λ kept. l.codes.items ≡ map (arm_code l.side kept) (take l.arm-index l.arm-items));
   quiet : StoreQuiet (store_of g.S.Store l.initial.store) (store_of g.S.Store l.store);
-  asked : g.S.Store.asked l.store ≤ g.S.Store.asked l.initial.store + 4 * arms_reads (take l.arm-index l.arm-items);
-  calls : g.S.Store.calls l.store ≤ g.S.Store.calls l.initial.store + arms_reads (take l.arm-index l.arm-items);
+  asked : g.S.Store.asked l.store ≤ g.S.Store.asked l.initial.store + 4 * arms_reads
+      (take l.arm-index l.arm-items);
+  calls : g.S.Store.calls l.store ≤ g.S.Store.calls l.initial.store + arms_reads
+      (take l.arm-index l.arm-items);
   faults : g.S.Store.faults l.store ≡ g.S.Store.faults l.initial.store;
   wants : g.S.Store.wants l.store ≡ g.S.Store.wants l.initial.store;
 }

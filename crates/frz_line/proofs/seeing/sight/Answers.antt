@@ -10,6 +10,10 @@ pub read_codes-requires-clause-within : goal.read_codes-requires-clause-within
 read_codes-requires-clause-within g c =
     let arena = g.G.NumberedGame.arena c.args.game.now in
     let size = g.G.NumberedGame.count c.args.game.now in
-    let within = c.within.ensures arena size (g.met.G.NumberedGame.finite c.args.game.now c.requires.sound) c.args.number in
-    subst (λ (arms : List (Arm Step ℕ Value)). All (λ a. IsWithin (table_size c.args.table.now) a.next) arms) (sym c.nexts_by-node.ensures.arms)
-    (subst (λ (n : ℕ). All (λ a. IsWithin n a.next) (arena.arms c.args.number)) (sym c.requires.many) within)
+    let within = c.within.ensures arena size
+    (g.met.G.NumberedGame.finite c.args.game.now c.requires.sound) c.args.number in
+    subst (λ (arms : List (Arm Step ℕ Value)). All
+    (λ a. IsWithin (table_size c.args.table.now) a.next) arms)
+    (sym c.nexts_by-node.ensures.arms)
+    (subst (λ (n : ℕ). All (λ a. IsWithin n a.next) (arena.arms c.args.number))
+    (sym c.requires.many) within)

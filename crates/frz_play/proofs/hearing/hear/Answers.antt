@@ -8,38 +8,72 @@ use Rattle.frz_play.proofs.hearing.hear.Goals as goal
 
 pub lines-init : goal.lines-init
 lines-init g c = record {
-  far = hears_start c.args.list.now.items c.args.reader.now (source_of g.I.Source c.args.input.now) (sink_of g.O.Sink c.args.out.now) c.requires.ended;
+  far = hears_start c.args.list.now.items c.args.reader.now (source_of g.I.Source c.args.input.now)
+      (sink_of g.O.Sink c.args.out.now) c.requires.ended;
   faults = refl;
 }
 
 pub returns-in_default-clause-heard : goal.returns-in_default-clause-heard
 returns-in_default-clause-heard g c =
-    hears_fault c.args.list.now.items c.args.reader.now c.lines.reader c.next_line.new.reader (source_of g.I.Source c.args.input.now) (source_of g.I.Source c.lines.input) (source_of g.I.Source c.next_line.new.input) (sink_of g.O.Sink c.args.out.now) (sink_of g.O.Sink c.lines.out) c.lines.invariant.far c.next_line.new.line.items c.in_default.field-0 c.in_default.ensures.heard
+    hears_fault c.args.list.now.items c.args.reader.now c.lines.reader c.next_line.new.reader
+    (source_of g.I.Source c.args.input.now) (source_of g.I.Source c.lines.input)
+    (source_of g.I.Source c.next_line.new.input) (sink_of g.O.Sink c.args.out.now)
+    (sink_of g.O.Sink c.lines.out) c.lines.invariant.far c.next_line.new.line.items
+    c.in_default.field-0 c.in_default.ensures.heard
 
 pub returns-in-Some-clause-heard : goal.returns-in-Some-clause-heard
 returns-in-Some-clause-heard g c =
-    hears_stop c.args.list.now.items c.args.reader.now c.lines.reader c.next_line.new.reader (source_of g.I.Source c.args.input.now) (source_of g.I.Source c.lines.input) (source_of g.I.Source c.next_line.new.input) (sink_of g.O.Sink c.args.out.now) (sink_of g.O.Sink c.lines.out) c.lines.invariant.far c.next_line.new.line.items c.in-Some.why
-    (subst (λ (o : Option Why). HearsLine c.lines.reader c.next_line.new.reader (Ok o) c.next_line.new.line.items (source_of g.I.Source c.lines.input) (source_of g.I.Source c.next_line.new.input)) c.in-Some.is c.in-Ok.ensures.heard)
+    hears_stop c.args.list.now.items c.args.reader.now c.lines.reader c.next_line.new.reader
+    (source_of g.I.Source c.args.input.now) (source_of g.I.Source c.lines.input)
+    (source_of g.I.Source c.next_line.new.input) (sink_of g.O.Sink c.args.out.now)
+    (sink_of g.O.Sink c.lines.out) c.lines.invariant.far c.next_line.new.line.items c.in-Some.why
+    (subst (λ (o : Option Why). HearsLine c.lines.reader c.next_line.new.reader
+    (Ok o) c.next_line.new.line.items (source_of g.I.Source c.lines.input)
+    (source_of g.I.Source c.next_line.new.input)) c.in-Some.is c.in-Ok.ensures.heard)
 
 pub returns-in-Some-place_of-clause-heard : goal.returns-in-Some-place_of-clause-heard
 returns-in-Some-place_of-clause-heard g c =
-    hears_reply c.args.list.now.items c.args.reader.now c.lines.reader c.next_line.new.reader (source_of g.I.Source c.args.input.now) (source_of g.I.Source c.lines.input) (source_of g.I.Source c.next_line.new.input) (sink_of g.O.Sink c.args.out.now) (sink_of g.O.Sink c.lines.out) c.lines.invariant.far c.next_line.new.line.items c.in-Some-place_of.place
-    (ap (place_said c.args.list.now.items) (sym c.as_slice.ensures.value) ∙ (sym c.place_of.ensures.place ∙ c.in-Some-place_of.is))
-    (subst (λ (o : Option Why). HearsLine c.lines.reader c.next_line.new.reader (Ok o) c.next_line.new.line.items (source_of g.I.Source c.lines.input) (source_of g.I.Source c.next_line.new.input)) c.in_default-next.is c.in-Ok.ensures.heard)
+    hears_reply c.args.list.now.items c.args.reader.now c.lines.reader c.next_line.new.reader
+    (source_of g.I.Source c.args.input.now) (source_of g.I.Source c.lines.input)
+    (source_of g.I.Source c.next_line.new.input) (sink_of g.O.Sink c.args.out.now)
+    (sink_of g.O.Sink c.lines.out) c.lines.invariant.far c.next_line.new.line.items
+    c.in-Some-place_of.place
+    (ap (place_said c.args.list.now.items) (sym c.as_slice.ensures.value)
+    ∙ (sym c.place_of.ensures.place ∙ c.in-Some-place_of.is))
+    (subst (λ (o : Option Why). HearsLine c.lines.reader c.next_line.new.reader
+    (Ok o) c.next_line.new.line.items (source_of g.I.Source c.lines.input)
+    (source_of g.I.Source c.next_line.new.input)) c.in_default-next.is c.in-Ok.ensures.heard)
 
 pub lines-preserved : goal.lines-preserved
 lines-preserved g c = record {
-  far = hears_refused c.args.list.now.items c.args.reader.now c.lines.reader c.next_line.new.reader (source_of g.I.Source c.args.input.now) (source_of g.I.Source c.lines.input) (source_of g.I.Source c.next_line.new.input) (sink_of g.O.Sink c.args.out.now) (sink_of g.O.Sink c.lines.out) c.lines.invariant.far c.next_line.new.line.items (sink_of g.O.Sink c.write_refused.new.out)
-      (ap (place_said c.args.list.now.items) (sym c.as_slice.ensures.value) ∙ (sym c.place_of.ensures.place ∙ c.in_default-place_of.is))
-      (subst (λ (o : Option Why). HearsLine c.lines.reader c.next_line.new.reader (Ok o) c.next_line.new.line.items (source_of g.I.Source c.lines.input) (source_of g.I.Source c.next_line.new.input)) c.in_default-next.is c.in-Ok.ensures.heard)
+  far = hears_refused c.args.list.now.items c.args.reader.now c.lines.reader c.next_line.new.reader
+      (source_of g.I.Source c.args.input.now) (source_of g.I.Source c.lines.input)
+      (source_of g.I.Source c.next_line.new.input) (sink_of g.O.Sink c.args.out.now)
+      (sink_of g.O.Sink c.lines.out) c.lines.invariant.far c.next_line.new.line.items
+      (sink_of g.O.Sink c.write_refused.new.out)
+      (ap (place_said c.args.list.now.items) (sym c.as_slice.ensures.value)
+      ∙ (sym c.place_of.ensures.place ∙ c.in_default-place_of.is))
+      (subst (λ (o : Option Why). HearsLine c.lines.reader c.next_line.new.reader
+      (Ok o) c.next_line.new.line.items (source_of g.I.Source c.lines.input)
+      (source_of g.I.Source c.next_line.new.input)) c.in_default-next.is c.in-Ok.ensures.heard)
       c.in_ok-write_refused.ensures.ok;
   faults = c.in-Ok.ensures.cause.fine ∙ c.lines.invariant.faults;
 }
 
 pub returns-in_err-write_refused-clause-heard : goal.returns-in_err-write_refused-clause-heard
 returns-in_err-write_refused-clause-heard g c =
-    hears_fails c.args.list.now.items c.args.reader.now c.next_line.new.reader (source_of g.I.Source c.args.input.now) (source_of g.I.Source c.next_line.new.input) (sink_of g.O.Sink c.args.out.now) (sink_of g.O.Sink c.write_refused.new.out) c.from_residual.result c.from_residual.ensures.1
-    (hears_failed c.args.list.now.items c.args.reader.now c.lines.reader c.next_line.new.reader (source_of g.I.Source c.args.input.now) (source_of g.I.Source c.lines.input) (source_of g.I.Source c.next_line.new.input) (sink_of g.O.Sink c.args.out.now) (sink_of g.O.Sink c.lines.out) c.lines.invariant.far c.next_line.new.line.items (sink_of g.O.Sink c.write_refused.new.out)
-    (ap (place_said c.args.list.now.items) (sym c.as_slice.ensures.value) ∙ (sym c.place_of.ensures.place ∙ c.in_default-place_of.is))
-    (subst (λ (o : Option Why). HearsLine c.lines.reader c.next_line.new.reader (Ok o) c.next_line.new.line.items (source_of g.I.Source c.lines.input) (source_of g.I.Source c.next_line.new.input)) c.in_default-next.is c.in-Ok.ensures.heard)
+    hears_fails c.args.list.now.items c.args.reader.now c.next_line.new.reader
+    (source_of g.I.Source c.args.input.now) (source_of g.I.Source c.next_line.new.input)
+    (sink_of g.O.Sink c.args.out.now) (sink_of g.O.Sink c.write_refused.new.out)
+    c.from_residual.result c.from_residual.ensures.1
+    (hears_failed c.args.list.now.items c.args.reader.now c.lines.reader c.next_line.new.reader
+    (source_of g.I.Source c.args.input.now) (source_of g.I.Source c.lines.input)
+    (source_of g.I.Source c.next_line.new.input) (sink_of g.O.Sink c.args.out.now)
+    (sink_of g.O.Sink c.lines.out) c.lines.invariant.far c.next_line.new.line.items
+    (sink_of g.O.Sink c.write_refused.new.out)
+    (ap (place_said c.args.list.now.items) (sym c.as_slice.ensures.value)
+    ∙ (sym c.place_of.ensures.place ∙ c.in_default-place_of.is))
+    (subst (λ (o : Option Why). HearsLine c.lines.reader c.next_line.new.reader
+    (Ok o) c.next_line.new.line.items (source_of g.I.Source c.lines.input)
+    (source_of g.I.Source c.next_line.new.input)) c.in_default-next.is c.in-Ok.ensures.heard)
     c.in_err-write_refused.ensures.failed)

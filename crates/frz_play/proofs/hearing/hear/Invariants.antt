@@ -5,7 +5,8 @@ use Rattle.frz_play.proofs.hearing.hear.Given as goal
 
 abbrev pub invariant-lines : goal.invariant-lines
 invariant-lines g l = record {
-  far : HearsOn l.list.items l.initial.reader l.reader (source_of g.I.Source l.initial.input) (source_of g.I.Source l.input) (sink_of g.O.Sink l.initial.out) (sink_of g.O.Sink l.out);
+  far : HearsOn l.list.items l.initial.reader l.reader (source_of g.I.Source l.initial.input)
+      (source_of g.I.Source l.input) (sink_of g.O.Sink l.initial.out) (sink_of g.O.Sink l.out);
   faults : g.I.Source.faults l.input ≡ g.I.Source.faults l.initial.input;
 }
 

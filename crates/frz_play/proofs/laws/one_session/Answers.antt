@@ -10,6 +10,10 @@ use Rattle.frz_play.proofs.laws.one_session.Goals as goal
 pub returns-clause-there : goal.returns-clause-there
 returns-clause-there c = λ rules value side codes start input.
     let arena = graph_by rules value in
-    c.sessions_end.ensures (session_player arena side codes) (λ i input. reads (arena.arms i) input.more input.left) refl (c.numbered.ensures.graph_lawful rules value)
-    (c.sides_move_in_turn.ensures.numbers (game_of rules value) (λ p m h. turn_after p m ((c.all_listed.ensures p m).0 h).1) (numbers_by rules.groups) (c.numbered.ensures.numbering rules value))
+    c.sessions_end.ensures (session_player arena side codes)
+    (λ i input. reads (arena.arms i) input.more input.left) refl
+    (c.numbered.ensures.graph_lawful rules value)
+    (c.sides_move_in_turn.ensures.numbers (game_of rules value)
+    (λ p m h. turn_after p m ((c.all_listed.ensures p m).0 h).1) (numbers_by rules.groups)
+    (c.numbered.ensures.numbering rules value))
     (λ input. input.more) (reads_input arena) (opened input) start

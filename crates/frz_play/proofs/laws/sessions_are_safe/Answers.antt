@@ -5,5 +5,9 @@ use Rattle.frz_play.specs.Sessions.{session_player}
 use Rattle.frz_play.proofs.laws.sessions_are_safe.Goals as goal
 
 pub returns : goal.returns
-returns c = λ rules value exits side codes table start input plies end left w x in_it p m at_it there.
-    c.ways_are_safe.ensures (game_of rules value) (c.true_values.ensures.exits rules value exits) (numbers_by rules.groups) (c.numbered.ensures.numbering rules value) side codes table (session_player (graph_by rules value) side codes).opponent (opened input) left start plies end w x in_it p m at_it there
+returns c =
+    λ rules value exits side codes table start input plies end left w x in_it p m at_it there.
+    c.ways_are_safe.ensures (game_of rules value) (c.true_values.ensures.exits rules value exits)
+    (numbers_by rules.groups) (c.numbered.ensures.numbering rules value) side codes table
+    (session_player (graph_by rules value) side codes).opponent (opened input) left start plies end
+    w x in_it p m at_it there

@@ -8,7 +8,8 @@ use Rattle.frz_play.proofs.line.read_line.Given as goal
 abbrev pub invariant-bytes : goal.invariant-bytes
 invariant-bytes g l = record {
   one : IsOneLine l.line.items;
-  took : TookBytes l.line.items (source_of g.I.Source l.initial.input) (source_of g.I.Source l.input);
+  took : TookBytes l.line.items (source_of g.I.Source l.initial.input)
+      (source_of g.I.Source l.input);
   short : length l.line.items ≤ MOST_LENGTH;
   faults : g.I.Source.faults l.input ≡ g.I.Source.faults l.initial.input;
 }

@@ -21,36 +21,55 @@ use Rattle.frz_play.proofs.opening.play_session.Goals as goal
 
 pub returns-in_default-clause-played : goal.returns-in_default-clause-played
 returns-in_default-clause-played g c =
-    nothing_told (told_codes c.args.table.now c.args.side (g.S.Store.files c.args.store.now)) c.args.table.now.rules c.args.side c.args.p.now (source_of g.I.Source c.args.input.now) (sink_of g.O.Sink c.args.out.now) (spent_by (store_of g.S.Store c.args.store.now) c.args.steps.now)
-    (λ member. (let some = c.in_default.ensures.member.1 (subst (λ (z : List GroupLine). Member z c.args.p.now) (sym c.set.ensures) member) in cc))
+    nothing_told (told_codes c.args.table.now c.args.side (g.S.Store.files c.args.store.now))
+    c.args.table.now.rules c.args.side c.args.p.now (source_of g.I.Source c.args.input.now)
+    (sink_of g.O.Sink c.args.out.now)
+    (spent_by (store_of g.S.Store c.args.store.now) c.args.steps.now)
+    (λ member. (let some = c.in_default.ensures.member.1
+    (subst (λ (z : List GroupLine). Member z c.args.p.now) (sym c.set.ensures) member) in cc))
 
 pub entry-requires-clause-number : goal.entry-requires-clause-number
 entry-requires-clause-number g c =
     let rules = c.args.table.now.rules in
-    let there : number_of rules.groups c.args.p.now ≡ Some c.in-Some.start = subst (λ (z : List GroupLine). number_of z c.args.p.now ≡ Some c.in-Some.start) c.set.ensures (sym c.number.ensures.function ∙ c.in-Some.is) in
+    let there : number_of rules.groups c.args.p.now ≡ Some c.in-Some.start = subst
+    (λ (z : List GroupLine). number_of z c.args.p.now ≡ Some c.in-Some.start) c.set.ensures
+    (sym c.number.ensures.function ∙ c.in-Some.is) in
     (c.numbered.ensures.numbering rules (value_by rules)).in_size c.args.p.now c.in-Some.start there
 
 pub returns-in_err-code-clause-played : goal.returns-in_err-code-clause-played
 returns-in_err-code-clause-played g c =
-    start_unread (told_codes c.args.table.now c.args.side (g.S.Store.files c.args.store.now)) c.args.table.now.rules c.args.side c.args.p.now (source_of g.I.Source c.args.input.now) (sink_of g.O.Sink c.args.out.now) (spent_by (store_of g.S.Store c.args.store.now) c.args.steps.now) (spent_by (store_of g.S.Store c.entry.new.store) c.args.steps.now)
-    (code_read (store_of g.S.Store c.args.store.now) (store_of g.S.Store c.entry.new.store) c.args.steps.now c.in_err-code.ensures.asked c.in_err-code.ensures.calls) c.in_err-code.field-0.0 c.from_residual.result c.from_residual.ensures.1
+    start_unread (told_codes c.args.table.now c.args.side (g.S.Store.files c.args.store.now))
+    c.args.table.now.rules c.args.side c.args.p.now (source_of g.I.Source c.args.input.now)
+    (sink_of g.O.Sink c.args.out.now)
+    (spent_by (store_of g.S.Store c.args.store.now) c.args.steps.now)
+    (spent_by (store_of g.S.Store c.entry.new.store) c.args.steps.now)
+    (code_read (store_of g.S.Store c.args.store.now) (store_of g.S.Store c.entry.new.store)
+    c.args.steps.now c.in_err-code.ensures.asked c.in_err-code.ensures.calls)
+    c.in_err-code.field-0.0 c.from_residual.result c.from_residual.ensures.1
 
 pub play_from-requires-clause-sound : goal.play_from-requires-clause-sound
 play_from-requires-clause-sound g c =
     let sound = subst IsSound (sym c.rules-rules.ensures.rules) c.rules-rules.ensures.sound in
-    finite c.rules-rules.result.now (λ q. value_by c.new-book.result.rules.now q) (λ q valid. c.new-book.result.small q valid) sound.size
+    finite c.rules-rules.result.now (λ q. value_by c.new-book.result.rules.now q)
+    (λ q valid. c.new-book.result.small q valid) sound.size
 
 pub play_from-requires-clause-turns : goal.play_from-requires-clause-turns
 play_from-requires-clause-turns g c =
     let rules = c.rules-rules.result.now in
     let value : Board → Value = λ q. value_by c.new-book.result.rules.now q in
-    c.sides_move_in_turn.ensures.numbers (game_of rules value) (λ p m h. turn_after p m ((c.all_listed.ensures p m).0 h).1) (numbers_by rules.groups) (c.numbered.ensures.numbering rules value)
+    c.sides_move_in_turn.ensures.numbers (game_of rules value)
+    (λ p m h. turn_after p m ((c.all_listed.ensures p m).0 h).1) (numbers_by rules.groups)
+    (c.numbered.ensures.numbering rules value)
 
 pub play_from-requires-clause-inside : goal.play_from-requires-clause-inside
 play_from-requires-clause-inside g c =
     let rules = c.args.table.now.rules in
-    let there : number_of rules.groups c.args.p.now ≡ Some c.in-Some.start = subst (λ (z : List GroupLine). number_of z c.args.p.now ≡ Some c.in-Some.start) c.set.ensures (sym c.number.ensures.function ∙ c.in-Some.is) in
-    subst (λ (r : RuleLines). c.in-Some.start < size_of r.groups) (sym c.rules-rules.ensures.rules) ((c.numbered.ensures.numbering rules (value_by rules)).in_size c.args.p.now c.in-Some.start there)
+    let there : number_of rules.groups c.args.p.now ≡ Some c.in-Some.start = subst
+    (λ (z : List GroupLine). number_of z c.args.p.now ≡ Some c.in-Some.start) c.set.ensures
+    (sym c.number.ensures.function ∙ c.in-Some.is) in
+    subst (λ (r : RuleLines). c.in-Some.start < size_of r.groups) (sym c.rules-rules.ensures.rules)
+    ((c.numbered.ensures.numbering rules (value_by rules)).in_size c.args.p.now c.in-Some.start
+    there)
 
 pub returns-clause-played : goal.returns-clause-played
 returns-clause-played g c =
@@ -61,9 +80,29 @@ returns-clause-played g c =
     let start = c.in-Some.start in
     let before = spent_by (store_of g.S.Store c.entry.new.store) c.args.steps.now in
     let now = spent_by (store_of g.S.Store c.play_from.new.store) c.play_from.new.steps in
-    let is : start ≡ Num rules.groups c.args.p.now = subst (λ (z : List GroupLine). start ≡ Num z c.args.p.now) c.set.ensures c.in-Some.ensures.number in
+    let is : start ≡ Num rules.groups c.args.p.now = subst
+    (λ (z : List GroupLine). start ≡ Num z c.args.p.now) c.set.ensures
+    c.in-Some.ensures.number in
     let w = c.play_from.ensures.wrote in
-    let here = subst (λ (f : Option Files). IfSome (told_codes c.args.table.now c.args.side f) (λ codes. Plays (graph_by c.rules-rules.result.now (λ q. value_by c.new-book.result.rules.now q)) c.args.side codes start c.in_ok-code.code source w.1 w.0 c.play_from.result before now)) c.in_ok-code.ensures.quiet.unwritten.files w.5 in
-    let by_rules = subst (λ (r : RuleLines). IfSome told (λ codes. Plays (graph_by c.rules-rules.result.now (λ q. value_by r q)) c.args.side codes start c.in_ok-code.code source w.1 w.0 c.play_from.result before now)) c.new-book.ensures here in
-    let plays = subst (λ (r : RuleLines). IfSome told (λ codes. Plays (graph_by r (λ q. value_by r q)) c.args.side codes start c.in_ok-code.code source w.1 w.0 c.play_from.result before now)) c.rules-rules.ensures.rules by_rules in
-    session_told told rules c.args.side c.args.p.now c.play_from.result source (source_of g.I.Source c.play_from.new.input) (sink_of g.O.Sink c.args.out.now) (sink_of g.O.Sink c.play_from.new.out) (spent_by (store_of g.S.Store c.args.store.now) c.args.steps.now) before now start c.in_ok-code.code is (code_read (store_of g.S.Store c.args.store.now) (store_of g.S.Store c.entry.new.store) c.args.steps.now c.in_ok-code.ensures.asked c.in_ok-code.ensures.calls) (code_kept c.args.table.now c.args.side files start c.in_ok-code.code c.in_ok-code.ensures.code) w.0 w.1 w.2 w.3 w.4 plays
+    let here = subst (λ (f : Option Files). IfSome (told_codes c.args.table.now c.args.side f)
+    (λ codes. Plays (graph_by c.rules-rules.result.now
+    (λ q. value_by c.new-book.result.rules.now q)) c.args.side codes start c.in_ok-code.code
+    source w.1 w.0 c.play_from.result before now)) c.in_ok-code.ensures.quiet.unwritten.files
+    w.5 in
+    let by_rules = subst
+    (λ (r : RuleLines). IfSome told
+    (λ codes. Plays (graph_by c.rules-rules.result.now (λ q. value_by r q)) c.args.side codes
+    start c.in_ok-code.code source w.1 w.0 c.play_from.result before now)) c.new-book.ensures
+    here in
+    let plays = subst (λ (r : RuleLines). IfSome told
+    (λ codes. Plays (graph_by r (λ q. value_by r q)) c.args.side codes start c.in_ok-code.code
+    source w.1 w.0 c.play_from.result before now)) c.rules-rules.ensures.rules by_rules in
+    session_told told rules c.args.side c.args.p.now c.play_from.result source
+    (source_of g.I.Source c.play_from.new.input) (sink_of g.O.Sink c.args.out.now)
+    (sink_of g.O.Sink c.play_from.new.out)
+    (spent_by (store_of g.S.Store c.args.store.now) c.args.steps.now) before now start
+    c.in_ok-code.code is
+    (code_read (store_of g.S.Store c.args.store.now) (store_of g.S.Store c.entry.new.store)
+    c.args.steps.now c.in_ok-code.ensures.asked c.in_ok-code.ensures.calls)
+    (code_kept c.args.table.now c.args.side files start c.in_ok-code.code c.in_ok-code.ensures.code)
+    w.0 w.1 w.2 w.3 w.4 plays

@@ -6,4 +6,6 @@ use Rattle.frz_play.proofs.playing.play_own.Goals as goal
 pub play_at-requires-clause-there : goal.play_at-requires-clause-there
 play_at-requires-clause-there g c =
     let lists = c.args.lists.now in
-    (found_code true lists.nexts.items lists.codes.items (is_win c.args.spot.code) c.args.spot.code c.place_for-place.result c.place_for-place.ensures.0 c.requires.many c.place_for-place.ensures.1).0
+    (found_code true lists.nexts.items lists.codes.items (is_win c.args.spot.code) c.args.spot.code
+    c.place_for-place.result c.place_for-place.ensures.0 c.requires.many
+    c.place_for-place.ensures.1).0

@@ -13,7 +13,12 @@ invariant-plies g l = record {
   inside : l.spot.number < g.G.NumberedGame.count l.game;
   stands : (l.spot.is_start ≡ true) ⊎ (is_failure l.spot.code ≡ false);
   ended : l.reader.ended ≡ true → HasEnded (source_of g.I.Source l.input);
-  far : SoFar (told_codes l.table l.side (g.S.Store.files l.initial.store)) (g.G.NumberedGame.arena l.game) l.side l.start l.code l.spot l.reader (source_of g.I.Source l.initial.input) (source_of g.I.Source l.input) (sink_of g.O.Sink l.initial.out) (sink_of g.O.Sink l.out) (spent_by (store_of g.S.Store l.initial.store) l.initial.steps) (spent_by (store_of g.S.Store l.store) l.steps);
+  far : SoFar (told_codes l.table l.side (g.S.Store.files l.initial.store))
+      (g.G.NumberedGame.arena l.game) l.side l.start l.code l.spot l.reader
+      (source_of g.I.Source l.initial.input) (source_of g.I.Source l.input)
+      (sink_of g.O.Sink l.initial.out) (sink_of g.O.Sink l.out)
+      (spent_by (store_of g.S.Store l.initial.store) l.initial.steps)
+      (spent_by (store_of g.S.Store l.store) l.steps);
   quiet : StoreQuiet (store_of g.S.Store l.initial.store) (store_of g.S.Store l.store);
   fine : StoreFine (store_of g.S.Store l.initial.store) (store_of g.S.Store l.store);
   heard : g.I.Source.faults l.input ≡ g.I.Source.faults l.initial.input;
@@ -21,4 +26,5 @@ invariant-plies g l = record {
 }
 
 abbrev pub decreases-plies : goal.decreases-plies
-decreases-plies g l = session_left (g.G.NumberedGame.arena l.game) l.side l.reader.more l.spot.number
+decreases-plies g l =
+    session_left (g.G.NumberedGame.arena l.game) l.side l.reader.more l.spot.number

@@ -9,46 +9,95 @@ use Rattle.frz_play.proofs.session.turn.Goals as goal
 
 pub returns-in_err-due-clause-wrote : goal.returns-in_err-due-clause-wrote
 returns-in_err-due-clause-wrote g c =
-    stopped_by (told_codes c.args.table.now c.args.side (g.S.Store.files c.args.store.now)) (g.G.NumberedGame.arena c.args.game.now) c.args.side c.args.spot c.args.reader.now c.in_err-due.field-0.0 c.from_residual.result (source_of g.I.Source c.args.input.now) (sink_of g.O.Sink c.args.out.now) c.from_residual.ensures.1
+    stopped_by (told_codes c.args.table.now c.args.side (g.S.Store.files c.args.store.now))
+    (g.G.NumberedGame.arena c.args.game.now) c.args.side c.args.spot c.args.reader.now
+    c.in_err-due.field-0.0 c.from_residual.result (source_of g.I.Source c.args.input.now)
+    (sink_of g.O.Sink c.args.out.now) c.from_residual.ensures.1
 
 pub returns-in_err-write_opening-clause-wrote : goal.returns-in_err-write_opening-clause-wrote
 returns-in_err-write_opening-clause-wrote g c =
     let game = c.args.game.now in
-    opening_wrote c.arms_are_found.ensures.one c.filled.ensures (told_codes c.args.table.now c.args.side (g.S.Store.files c.args.store.now)) (g.G.NumberedGame.arena game) (g.G.NumberedGame.count game) (g.met.G.NumberedGame.finite game c.requires.sound) c.args.side c.args.spot c.sight.new.lists.nexts.items c.sight.new.lists.codes.items
-    c.in_ok-due.ensures.arms c.in_ok-due.ensures.codes c.in_ok-due.due c.in_ok-due.ensures.due c.args.reader.now c.from_residual-in_err-write_opening.result (source_of g.I.Source c.args.input.now) (sink_of g.O.Sink c.args.out.now) (sink_of g.O.Sink c.write_opening.new.out) c.from_residual-in_err-write_opening.ensures.1 c.in_err-write_opening.ensures.failed
+    opening_wrote c.arms_are_found.ensures.one c.filled.ensures
+    (told_codes c.args.table.now c.args.side (g.S.Store.files c.args.store.now))
+    (g.G.NumberedGame.arena game) (g.G.NumberedGame.count game)
+    (g.met.G.NumberedGame.finite game c.requires.sound) c.args.side c.args.spot
+    c.sight.new.lists.nexts.items c.sight.new.lists.codes.items
+    c.in_ok-due.ensures.arms c.in_ok-due.ensures.codes c.in_ok-due.due c.in_ok-due.ensures.due
+    c.args.reader.now c.from_residual-in_err-write_opening.result
+    (source_of g.I.Source c.args.input.now) (sink_of g.O.Sink c.args.out.now)
+    (sink_of g.O.Sink c.write_opening.new.out) c.from_residual-in_err-write_opening.ensures.1
+    c.in_err-write_opening.ensures.failed
 
 pub play-requires-clause-there : goal.play-requires-clause-there
 play-requires-clause-there g c =
     let game = c.args.game.now in
-    has_move (g.G.NumberedGame.arena game) (g.G.NumberedGame.count game) (g.met.G.NumberedGame.finite game c.requires.sound) c.args.side c.args.spot c.sight.new.lists.nexts.items c.sight.new.lists.codes.items
-    c.in_ok-due.ensures.arms c.in_ok-due.ensures.read c.requires.stands c.in_ok-due.due c.in_ok-due.ensures.due
+    has_move (g.G.NumberedGame.arena game) (g.G.NumberedGame.count game)
+    (g.met.G.NumberedGame.finite game c.requires.sound) c.args.side c.args.spot
+    c.sight.new.lists.nexts.items c.sight.new.lists.codes.items
+    c.in_ok-due.ensures.arms c.in_ok-due.ensures.read c.requires.stands c.in_ok-due.due
+    c.in_ok-due.ensures.due
 
 pub play-requires-clause-uncut : goal.play-requires-clause-uncut
 play-requires-clause-uncut g c =
     let node = (g.G.NumberedGame.arena c.args.game.now).node c.args.spot.number in
-    never_cut c.args.spot.is_start c.args.spot.code (node_code c.args.side node (free_among c.sight.new.lists.nexts.items c.sight.new.lists.codes.items) c.sight.new.lists.codes.items) node c.in_ok-due.due c.in_ok-due.ensures.due
+    never_cut c.args.spot.is_start c.args.spot.code
+    (node_code c.args.side node
+    (free_among c.sight.new.lists.nexts.items c.sight.new.lists.codes.items)
+    c.sight.new.lists.codes.items) node c.in_ok-due.due c.in_ok-due.ensures.due
 
 pub returns-clause-next : goal.returns-clause-next
 returns-clause-next g c =
     let game = c.args.game.now in
-    turn_next (g.G.NumberedGame.arena game) (g.G.NumberedGame.count game) (g.met.G.NumberedGame.finite game c.requires.sound) c.args.side c.args.spot c.sight.new.lists.nexts.items c.sight.new.lists.codes.items
-    c.in_ok-due.ensures.arms c.in_ok-due.ensures.read c.requires.stands c.requires.turns c.in_ok-due.due c.in_ok-due.ensures.due c.args.reader.now c.play.new.reader c.play.result (source_of g.I.Source c.args.input.now) (source_of g.I.Source c.play.new.input) (sink_of g.O.Sink c.write_opening.new.out) (sink_of g.O.Sink c.play.new.out) c.play.ensures.played
+    turn_next (g.G.NumberedGame.arena game) (g.G.NumberedGame.count game)
+    (g.met.G.NumberedGame.finite game c.requires.sound) c.args.side c.args.spot
+    c.sight.new.lists.nexts.items c.sight.new.lists.codes.items
+    c.in_ok-due.ensures.arms c.in_ok-due.ensures.read c.requires.stands c.requires.turns
+    c.in_ok-due.due c.in_ok-due.ensures.due c.args.reader.now c.play.new.reader c.play.result
+    (source_of g.I.Source c.args.input.now) (source_of g.I.Source c.play.new.input)
+    (sink_of g.O.Sink c.write_opening.new.out) (sink_of g.O.Sink c.play.new.out)
+    c.play.ensures.played
 
 pub returns-clause-wrote : goal.returns-clause-wrote
 returns-clause-wrote g c =
     let game = c.args.game.now in
-    turn_wrote c.arms_are_found.ensures.one c.filled.ensures (told_codes c.args.table.now c.args.side (g.S.Store.files c.args.store.now)) (g.G.NumberedGame.arena game) (g.G.NumberedGame.count game) (g.met.G.NumberedGame.finite game c.requires.sound) c.args.side c.args.spot c.sight.new.lists.nexts.items c.sight.new.lists.codes.items
-    c.in_ok-due.ensures.arms c.in_ok-due.ensures.codes c.in_ok-due.due c.in_ok-due.ensures.due c.args.reader.now c.play.new.reader c.play.result (source_of g.I.Source c.args.input.now) (source_of g.I.Source c.play.new.input) (sink_of g.O.Sink c.args.out.now) (sink_of g.O.Sink c.write_opening.new.out) (sink_of g.O.Sink c.play.new.out) c.in_ok-write_opening.ensures.ok c.play.ensures.played
+    turn_wrote c.arms_are_found.ensures.one c.filled.ensures
+    (told_codes c.args.table.now c.args.side (g.S.Store.files c.args.store.now))
+    (g.G.NumberedGame.arena game) (g.G.NumberedGame.count game)
+    (g.met.G.NumberedGame.finite game c.requires.sound) c.args.side c.args.spot
+    c.sight.new.lists.nexts.items c.sight.new.lists.codes.items
+    c.in_ok-due.ensures.arms c.in_ok-due.ensures.codes c.in_ok-due.due c.in_ok-due.ensures.due
+    c.args.reader.now c.play.new.reader c.play.result (source_of g.I.Source c.args.input.now)
+    (source_of g.I.Source c.play.new.input) (sink_of g.O.Sink c.args.out.now)
+    (sink_of g.O.Sink c.write_opening.new.out) (sink_of g.O.Sink c.play.new.out)
+    c.in_ok-write_opening.ensures.ok c.play.ensures.played
 
 pub returns-clause-still_ended : goal.returns-clause-still_ended
 returns-clause-still_ended g c =
-    still_ended c.args.side c.args.spot c.sight.new.lists.nexts.items c.sight.new.lists.codes.items c.args.reader.now c.play.new.reader c.play.result (source_of g.I.Source c.args.input.now) (source_of g.I.Source c.play.new.input) c.in_ok-due.due (sink_of g.O.Sink c.write_opening.new.out) (sink_of g.O.Sink c.play.new.out) c.play.ensures.played c.requires.ended
+    still_ended c.args.side c.args.spot c.sight.new.lists.nexts.items c.sight.new.lists.codes.items
+    c.args.reader.now c.play.new.reader c.play.result (source_of g.I.Source c.args.input.now)
+    (source_of g.I.Source c.play.new.input) c.in_ok-due.due
+    (sink_of g.O.Sink c.write_opening.new.out) (sink_of g.O.Sink c.play.new.out)
+    c.play.ensures.played c.requires.ended
 
 pub returns-clause-placed : goal.returns-clause-placed
 returns-clause-placed g c =
-    settled_placed c.play.result (played_settled c.args.side c.args.spot c.sight.new.lists.nexts.items c.sight.new.lists.codes.items c.args.reader.now c.play.new.reader c.play.result (source_of g.I.Source c.args.input.now) (source_of g.I.Source c.play.new.input) c.in_ok-due.due (sink_of g.O.Sink c.write_opening.new.out) (sink_of g.O.Sink c.play.new.out) c.play.ensures.played)
+    settled_placed c.play.result
+    (played_settled c.args.side c.args.spot c.sight.new.lists.nexts.items
+    c.sight.new.lists.codes.items c.args.reader.now c.play.new.reader c.play.result
+    (source_of g.I.Source c.args.input.now) (source_of g.I.Source c.play.new.input) c.in_ok-due.due
+    (sink_of g.O.Sink c.write_opening.new.out) (sink_of g.O.Sink c.play.new.out)
+    c.play.ensures.played)
 
 pub returns-clause-cause : goal.returns-clause-cause
 returns-clause-cause g c =
-    settled_cause c.play.result (store_of g.S.Store c.args.store.now) (store_of g.S.Store c.sight.new.store) (played_settled c.args.side c.args.spot c.sight.new.lists.nexts.items c.sight.new.lists.codes.items c.args.reader.now c.play.new.reader c.play.result (source_of g.I.Source c.args.input.now) (source_of g.I.Source c.play.new.input) c.in_ok-due.due (sink_of g.O.Sink c.write_opening.new.out) (sink_of g.O.Sink c.play.new.out) c.play.ensures.played)
-    (record { faults = c.in_ok-due.ensures.causes.fine; wants = c.in_ok-due.ensures.causes.wants_fine })
+    settled_cause c.play.result (store_of g.S.Store c.args.store.now)
+    (store_of g.S.Store c.sight.new.store)
+    (played_settled c.args.side c.args.spot c.sight.new.lists.nexts.items
+    c.sight.new.lists.codes.items c.args.reader.now c.play.new.reader c.play.result
+    (source_of g.I.Source c.args.input.now) (source_of g.I.Source c.play.new.input) c.in_ok-due.due
+    (sink_of g.O.Sink c.write_opening.new.out) (sink_of g.O.Sink c.play.new.out)
+    c.play.ensures.played)
+    (record {
+      faults = c.in_ok-due.ensures.causes.fine;
+      wants = c.in_ok-due.ensures.causes.wants_fine;
+    })

@@ -6,13 +6,18 @@ use Rattle.frz_prelude.proofs.bound_lines.write_kept_line.Goals as goal
 pub returns-in_err-write_side_name : goal.returns-in_err-write_side_name
 returns-in_err-write_side_name g c =
     gave_up _ _ _ _ c.from_residual.ensures.0
-    (failed_before _ (kept_words c.args.code ++ codes "\n") _ _ _ c.in_err-write_side_name.ensures.failed (simp append_assoc))
+    (failed_before _ (kept_words c.args.code ++ codes "\n") _ _ _
+    c.in_err-write_side_name.ensures.failed (simp append_assoc))
 
 pub returns-in_err-write_kept_words : goal.returns-in_err-write_kept_words
 returns-in_err-write_kept_words g c =
     gave_up _ _ _ _ c.from_residual-in_err-write_kept_words.ensures.0
-    (failed_before _ _ _ _ _ (failed_behind _ _ _ _ _ _ c.in_ok-write_side_name.ensures.ok refl c.in_err-write_kept_words.ensures.failed) refl)
+    (failed_before _ _ _ _ _
+    (failed_behind _ _ _ _ _ _ c.in_ok-write_side_name.ensures.ok refl
+    c.in_err-write_kept_words.ensures.failed) refl)
 
 pub returns : goal.returns
 returns g c =
-    wrote_behind _ _ _ _ _ _ (took_behind _ _ _ _ _ _ c.in_ok-write_side_name.ensures.ok refl c.in_ok-write_kept_words.ensures.ok) refl _ c.write_piece.ensures
+    wrote_behind _ _ _ _ _ _
+    (took_behind _ _ _ _ _ _ c.in_ok-write_side_name.ensures.ok refl
+    c.in_ok-write_kept_words.ensures.ok) refl _ c.write_piece.ensures

@@ -7,7 +7,8 @@ use Rattle.frz_prelude.proofs.refusing.refuse_named.Goals as goal
 
 pub returns : goal.returns
 returns g c = λ store input steps.
-    said _ _ _ _ _ (world _ _ _ _) _ (quiet_same _) (fine_same _) (own_status c.args.why) c.end.ensures
+    said _ _ _ _ _ (world _ _ _ _) _ (quiet_same _) (fine_same _) (own_status c.args.why)
+    c.end.ensures
     (λ sees files left agrees. record {
       found = as_given _ files left _ agrees;
       answer = refl;

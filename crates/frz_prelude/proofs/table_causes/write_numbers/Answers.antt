@@ -7,14 +7,19 @@ use Rattle.frz_prelude.proofs.table_causes.write_numbers.Goals as goal
 pub returns-in_err-write_piece : goal.returns-in_err-write_piece
 returns-in_err-write_piece g c =
     gave_up _ _ _ _ c.from_residual.ensures.0
-    (failed_before _ ((c.args.what.now ++ decimal c.args.there) ++ due_text c.args.due) _ _ _ c.in_err-write_piece.ensures.failed (simp append_assoc))
+    (failed_before _ ((c.args.what.now ++ decimal c.args.there) ++ due_text c.args.due) _ _ _
+    c.in_err-write_piece.ensures.failed (simp append_assoc))
 
 pub returns-in_err-write_numbered : goal.returns-in_err-write_numbered
 returns-in_err-write_numbered g c =
     gave_up _ _ _ _ c.from_residual-in_err-write_numbered.ensures.0
-    (failed_before _ _ _ _ _ (failed_behind _ _ _ _ _ _ c.in_ok-write_piece.ensures.ok refl c.in_err-write_numbered.ensures.failed) refl)
+    (failed_before _ _ _ _ _
+    (failed_behind _ _ _ _ _ _ c.in_ok-write_piece.ensures.ok refl
+    c.in_err-write_numbered.ensures.failed) refl)
 
 pub returns : goal.returns
 returns g c =
-    wrote_behind _ _ _ _ _ _ (took_behind _ _ _ _ _ _ c.in_ok-write_piece.ensures.ok refl c.in_ok-write_numbered.ensures.ok) refl
+    wrote_behind _ _ _ _ _ _
+    (took_behind _ _ _ _ _ _ c.in_ok-write_piece.ensures.ok refl c.in_ok-write_numbered.ensures.ok)
+    refl
     _ c.write_due.ensures

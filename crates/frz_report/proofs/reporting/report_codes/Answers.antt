@@ -12,5 +12,7 @@ returns-clause-wrote g c =
     let codes : Colour → List ℕ = λ side. of_side side c.args.white.now c.args.black.now in
     let old = sink_of g.O.Sink c.args.out.now in
     let new = sink_of g.O.Sink c.write_report.new.out in
-    subst (λ (r : RuleLines). WritesReport r (value_by r) codes c.write_report.result old new) c.rules-rules.ensures.rules
-    (subst (λ (r : RuleLines). WritesReport c.rules-rules.result.now (λ q. value_by r q) codes c.write_report.result old new) c.new-book.ensures c.write_report.ensures.wrote)
+    subst (λ (r : RuleLines). WritesReport r (value_by r) codes c.write_report.result old new)
+    c.rules-rules.ensures.rules
+    (subst (λ (r : RuleLines). WritesReport c.rules-rules.result.now (λ q. value_by r q) codes
+    c.write_report.result old new) c.new-book.ensures c.write_report.ensures.wrote)

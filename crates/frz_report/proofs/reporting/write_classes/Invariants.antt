@@ -3,4 +3,5 @@ use Rattle.frz_report.proofs.Walking.{HasWritten}
 use Rattle.frz_report.proofs.reporting.write_classes.Given as goal
 
 abbrev pub invariant-loop-class : goal.invariant-loop-class
-invariant-loop-class g l = HasWritten l.classes.entries l.class-iterator (sink_of g.O.Sink l.fn.out) (sink_of g.O.Sink l.out)
+invariant-loop-class g l = HasWritten l.classes.entries l.class-iterator (sink_of g.O.Sink l.fn.out)
+    (sink_of g.O.Sink l.out)

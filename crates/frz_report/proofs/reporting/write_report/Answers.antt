@@ -18,8 +18,10 @@ returns-in_err-squeezes-clause-wrote g c =
     let codes = g.E.Entries.codes c.args.entries.now in
     let old = sink_of g.O.Sink c.args.out.now in
     let new = sink_of g.O.Sink c.walk.new.out in
-    as_fault (λ r. WritesReport rules value codes r old new) c.in_err-squeezes.field-0.0 c.from_residual.result c.from_residual.ensures.1
-    (stopped_early rules value codes c.in_err-squeezes.field-0.0 (length (squeezes rules.groups codes)) old new c.in_err-squeezes.ensures.wrote)
+    as_fault (λ r. WritesReport rules value codes r old new) c.in_err-squeezes.field-0.0
+    c.from_residual.result c.from_residual.ensures.1
+    (stopped_early rules value codes c.in_err-squeezes.field-0.0
+    (length (squeezes rules.groups codes)) old new c.in_err-squeezes.ensures.wrote)
 
 pub returns-in_err-write_classes-clause-wrote : goal.returns-in_err-write_classes-clause-wrote
 returns-in_err-write_classes-clause-wrote g c =
@@ -29,8 +31,10 @@ returns-in_err-write_classes-clause-wrote g c =
     let old = sink_of g.O.Sink c.args.out.now in
     let mid = sink_of g.O.Sink c.walk.new.out in
     let new = sink_of g.O.Sink c.write_classes.new.out in
-    let failed = subst (λ (l : List (List ℕ × ℕ)). FailedWithin (flat_map class_line l) mid new) c.in_ok-squeezes.ensures.counts c.in_err-write_classes.ensures.failed in
-    as_fault (λ r. WritesReport rules value codes r old new) Output c.from_residual-in_err-write_classes.result c.from_residual-in_err-write_classes.ensures.1
+    let failed = subst (λ (l : List (List ℕ × ℕ)). FailedWithin (flat_map class_line l) mid new)
+    c.in_ok-squeezes.ensures.counts c.in_err-write_classes.ensures.failed in
+    as_fault (λ r. WritesReport rules value codes r old new) Output
+    c.from_residual-in_err-write_classes.result c.from_residual-in_err-write_classes.ensures.1
     (classes_failed rules value codes old mid c.in_ok-squeezes.ensures.wrote.1 new failed)
 
 pub returns-in_err-write_totals-clause-wrote : goal.returns-in_err-write_totals-clause-wrote
@@ -43,11 +47,16 @@ returns-in_err-write_totals-clause-wrote g c =
     let then = sink_of g.O.Sink c.write_classes.new.out in
     let new = sink_of g.O.Sink c.write_totals.new.out in
     let e = c.in_ok-squeezes.ensures in
-    let took = subst (λ (l : List (List ℕ × ℕ)). TookText (flat_map class_line l) mid then) e.counts c.in_ok-write_classes.ensures.ok in
-    let last : last_line c.in_ok-squeezes.squeezes c.walk.new.census.total ≡ last_line (length (squeezes rules.groups codes)) (length (exits_of rules value)) =
-    ap (λ (k : ℕ). last_line k c.walk.new.census.total) e.wrote.0 ∙ ap (λ (k : ℕ). last_line (length (squeezes rules.groups codes)) k) e.total in
-    let failed = subst (λ (l : List ℕ). FailedWithin l then new) last c.in_err-write_totals.ensures.failed in
-    as_fault (λ r. WritesReport rules value codes r old new) Output c.from_residual-in_err-write_totals.result c.from_residual-in_err-write_totals.ensures.1
+    let took = subst (λ (l : List (List ℕ × ℕ)). TookText (flat_map class_line l) mid then) e.counts
+    c.in_ok-write_classes.ensures.ok in
+    let last : last_line c.in_ok-squeezes.squeezes c.walk.new.census.total ≡ last_line
+    (length (squeezes rules.groups codes)) (length (exits_of rules value)) =
+    ap (λ (k : ℕ). last_line k c.walk.new.census.total) e.wrote.0
+    ∙ ap (λ (k : ℕ). last_line (length (squeezes rules.groups codes)) k) e.total in
+    let failed = subst (λ (l : List ℕ). FailedWithin l then new) last
+    c.in_err-write_totals.ensures.failed in
+    as_fault (λ r. WritesReport rules value codes r old new) Output
+    c.from_residual-in_err-write_totals.result c.from_residual-in_err-write_totals.ensures.1
     (last_failed rules value codes old mid e.wrote.1 then took new failed)
 
 pub returns-clause-wrote : goal.returns-clause-wrote
@@ -60,11 +69,17 @@ returns-clause-wrote g c =
     let then = sink_of g.O.Sink c.write_classes.new.out in
     let new = sink_of g.O.Sink c.write_totals.new.out in
     let e = c.in_ok-squeezes.ensures in
-    let totals : Totals = record { squeezes = c.in_ok-squeezes.squeezes; unassigned = c.walk.new.census.total } in
-    let took = subst (λ (l : List (List ℕ × ℕ)). TookText (flat_map class_line l) mid then) e.counts c.in_ok-write_classes.ensures.ok in
-    let last : last_line c.in_ok-squeezes.squeezes c.walk.new.census.total ≡ last_line (length (squeezes rules.groups codes)) (length (exits_of rules value)) =
-    ap (λ (k : ℕ). last_line k c.walk.new.census.total) e.wrote.0 ∙ ap (λ (k : ℕ). last_line (length (squeezes rules.groups codes)) k) e.total in
+    let totals : Totals =
+    record { squeezes = c.in_ok-squeezes.squeezes; unassigned = c.walk.new.census.total } in
+    let took = subst (λ (l : List (List ℕ × ℕ)). TookText (flat_map class_line l) mid then) e.counts
+    c.in_ok-write_classes.ensures.ok in
+    let last : last_line c.in_ok-squeezes.squeezes c.walk.new.census.total ≡ last_line
+    (length (squeezes rules.groups codes)) (length (exits_of rules value)) =
+    ap (λ (k : ℕ). last_line k c.walk.new.census.total) e.wrote.0
+    ∙ ap (λ (k : ℕ). last_line (length (squeezes rules.groups codes)) k) e.total in
     let line = subst (λ (l : List ℕ). TookText l then new) last c.in_ok-write_totals.ensures.ok in
     let is : totals ≡ totals_of rules value codes =
-    ap (λ (k : ℕ). record { squeezes = k; unassigned = c.walk.new.census.total }) e.wrote.0 ∙ ap (λ (k : ℕ). record { squeezes = length (squeezes rules.groups codes); unassigned = k }) e.total in
+    ap (λ (k : ℕ). record { squeezes = k; unassigned = c.walk.new.census.total }) e.wrote.0
+    ∙ ap (λ (k : ℕ). record { squeezes = length (squeezes rules.groups codes); unassigned = k })
+    e.total in
     all_written rules value codes old mid e.wrote.1 then took new totals is line

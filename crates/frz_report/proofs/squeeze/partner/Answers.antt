@@ -10,5 +10,11 @@ pub number_if_valid-requires : goal.number_if_valid-requires
 number_if_valid-requires c =
     let p = c.args.p.now in
     let first = and_parts (same_colour p.turn White) (is_none p.ep) (cc) in
-    let white = is_white p.turn first.0 in
-    (p, c.requires, white, has_none p.ep first.1, c.hand_over.ensures ∙ ap (λ (t : Colour). record { cells = p.cells; turn = other_of t; ep = None }) white)
+    let white = is_white p.turn first.0 in (
+      p,
+      c.requires,
+      white,
+      has_none p.ep first.1,
+      c.hand_over.ensures
+          ∙ ap (λ (t : Colour). record { cells = p.cells; turn = other_of t; ep = None }) white,
+    )

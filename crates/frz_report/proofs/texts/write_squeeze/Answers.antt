@@ -20,12 +20,15 @@ returns-in_err-write_piece g c =
     let second = rw c.from-2.ensures at c.in_ok-write_numbered-2.ensures.ok in
     gave_up _ _ _ _ c.from_residual-in_err-write_piece.ensures.0
     (failed_behind _ _ _ _ _ _ first refl
-    (failed_behind _ _ _ _ _ _ second refl (failed_before _ _ _ _ _ c.in_err-write_piece.ensures.failed refl)))
+    (failed_behind _ _ _ _ _ _ second refl
+    (failed_before _ _ _ _ _ c.in_err-write_piece.ensures.failed refl)))
 
 pub returns : goal.returns
 returns g c =
     let first = rw c.from.ensures at c.in_ok-write_numbered.ensures.ok in
     let second = rw c.from-2.ensures at c.in_ok-write_numbered-2.ensures.ok in
-    let line = rw (c.as_bytes.ensures.value, c.as_str.ensures.value, c.write_fen.ensures.text) at c.write_line.ensures in
+    let line = rw (c.as_bytes.ensures.value, c.as_str.ensures.value, c.write_fen.ensures.text)
+    at c.write_line.ensures in
     wrote_behind _ _ _ _ _ _ first refl _
-    (wrote_behind _ _ _ _ _ _ second refl _ (wrote_behind _ _ _ _ _ _ c.in_ok-write_piece.ensures.ok refl _ line))
+    (wrote_behind _ _ _ _ _ _ second refl _
+    (wrote_behind _ _ _ _ _ _ c.in_ok-write_piece.ensures.ok refl _ line))

@@ -12,38 +12,52 @@ use Rattle.frz_report.proofs.Walking.{arms_legal}
 use Rattle.frz_report.proofs.walk.count_exits.Goals as goal
 
 pub note_all-requires-clause-valid : goal.note_all-requires-clause-valid
-note_all-requires-clause-valid g c = (position_tells c.args.game.now.rules.now.groups c.args.number c.args.p.now c.requires.position).member.valid
+note_all-requires-clause-valid g c =
+    (position_tells c.args.game.now.rules.now.groups c.args.number c.args.p.now
+    c.requires.position).member.valid
 
 pub note_all-requires-clause-legal : goal.note_all-requires-clause-legal
 note_all-requires-clause-legal g c =
     let rules = c.args.game.now.rules.now in
     let value = g.B.ExitBook.value_at c.args.game.now.book.now in
-    let are : c.as_slice.result.now ≡ (graph_by rules value).arms c.args.number = c.as_slice.ensures.value ∙ c.nexts_by.ensures.arms in
-    subst (λ (l : List (Arm Step ℕ Value)). All (λ a. is_legal c.args.p.now a.mv ≡ true) l) (sym are) (arms_legal rules value c.args.number c.args.p.now c.requires.position)
+    let are : c.as_slice.result.now ≡ (graph_by rules value).arms c.args.number =
+    c.as_slice.ensures.value ∙ c.nexts_by.ensures.arms in
+    subst (λ (l : List (Arm Step ℕ Value)). All (λ a. is_legal c.args.p.now a.mv ≡ true) l)
+    (sym are) (arms_legal rules value c.args.number c.args.p.now c.requires.position)
 
 pub note_all-requires-clause-counts : goal.note_all-requires-clause-counts
 note_all-requires-clause-counts g c =
     let rules = c.args.game.now.rules.now in
-    let value = g.B.ExitBook.value_at c.args.game.now.book.now in
-    (exits_below rules value c.args.number, c.requires.counts, c.requires.total, omega (arith, c.as_slice.ensures.fits))
+    let value = g.B.ExitBook.value_at c.args.game.now.book.now in (
+      exits_below rules value c.args.number,
+      c.requires.counts,
+      c.requires.total,
+      omega (arith, c.as_slice.ensures.fits),
+    )
 
 pub returns-clause-counts : goal.returns-clause-counts
 returns-clause-counts g c =
     let rules = c.args.game.now.rules.now in
     let value = g.B.ExitBook.value_at c.args.game.now.book.now in
-    let are : c.as_slice.result.now ≡ (graph_by rules value).arms c.args.number = c.as_slice.ensures.value ∙ c.nexts_by.ensures.arms in
+    let are : c.as_slice.result.now ≡ (graph_by rules value).arms c.args.number =
+    c.as_slice.ensures.value ∙ c.nexts_by.ensures.arms in
     on_ok _ _ c.note_all.result
-    (λ (h : (exits : List (List ℕ)) → Counts c.args.census.now.classes.entries exits → Counts c.note_all.new.self.classes.entries (exits ++ classes_after c.args.p.now c.as_slice.result.now)).
-    counted_more rules value c.args.number c.args.p.now c.as_slice.result.now c.requires.position are c.args.census.now.classes.entries c.note_all.new.self.classes.entries h c.requires.counts)
+    (λ (h : (exits : List (List ℕ)) → Counts c.args.census.now.classes.entries exits
+    → Counts c.note_all.new.self.classes.entries
+    (exits ++ classes_after c.args.p.now c.as_slice.result.now)).
+    counted_more rules value c.args.number c.args.p.now c.as_slice.result.now c.requires.position
+    are c.args.census.now.classes.entries c.note_all.new.self.classes.entries h c.requires.counts)
     c.note_all.ensures.counts
 
 pub returns-clause-total : goal.returns-clause-total
 returns-clause-total g c =
     let rules = c.args.game.now.rules.now in
     let value = g.B.ExitBook.value_at c.args.game.now.book.now in
-    let are : c.as_slice.result.now ≡ (graph_by rules value).arms c.args.number = c.as_slice.ensures.value ∙ c.nexts_by.ensures.arms in
+    let are : c.as_slice.result.now ≡ (graph_by rules value).arms c.args.number =
+    c.as_slice.ensures.value ∙ c.nexts_by.ensures.arms in
     on_ok _ _ c.note_all.result
-    (λ h. total_more rules value c.args.number c.args.p.now c.as_slice.result.now c.requires.position are c.args.census.now.total c.note_all.new.self.total c.requires.total h)
+    (λ h. total_more rules value c.args.number c.args.p.now c.as_slice.result.now
+    c.requires.position are c.args.census.now.total c.note_all.new.self.total c.requires.total h)
     c.note_all.ensures.total
 
 pub returns-clause-few : goal.returns-clause-few
@@ -51,5 +65,6 @@ returns-clause-few g c =
     let rules = c.args.game.now.rules.now in
     let value = g.B.ExitBook.value_at c.args.game.now.book.now in
     on_ok _ _ c.note_all.result
-    (λ h. few_more rules value c.args.number c.args.p.now c.as_slice.result.now c.args.census.now.total c.note_all.new.self.total c.as_slice.ensures.fits c.requires.few h)
+    (λ h. few_more rules value c.args.number c.args.p.now c.as_slice.result.now
+    c.args.census.now.total c.note_all.new.self.total c.as_slice.ensures.fits c.requires.few h)
     c.note_all.ensures.total

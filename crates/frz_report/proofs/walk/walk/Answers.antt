@@ -29,13 +29,19 @@ loop-number-preserved g c =
     let n = c.loop-number.number in
     let e = c.in_ok-squeezes.ensures in
     let i = c.loop-number.invariant in
-    let size_is : c.size-number-end.result ≡ size_of rules.groups = c.size-number-end.ensures.size ∙ ap size_of c.args.game.now.fits in
+    let size_is : c.size-number-end.result ≡ size_of rules.groups = c.size-number-end.ensures.size
+    ∙ ap size_of c.args.game.now.fits in
     let low : n < size_of rules.groups = omega arith in
     let one : c.in_ok-squeezes.field-0 ≡ one_of (squeeze_at rules.groups codes n) = e.wrote.0 in
-    let most : one_of (squeeze_at rules.groups codes n) ≤ 1 = one_at_most rules codes (squeeze_at rules.groups codes n) in
+    let most : one_of (squeeze_at rules.groups codes n) ≤ 1 = one_at_most rules codes
+    (squeeze_at rules.groups codes n) in
     record {
-      took = took_more rules codes n (size_of rules.groups) (sink_of g.O.Sink c.args.out.now) (sink_of g.O.Sink c.loop-number.out) (sink_of g.O.Sink c.look.new.out) low i.took e.wrote.1;
-      squeezes = ap (λ (k : ℕ). k + c.in_ok-squeezes.field-0) i.squeezes ∙ ap (λ (k : ℕ). length (squeezes_below rules.groups codes n) + k) one ∙ sym (many_more rules codes n);
+      took = took_more rules codes n (size_of rules.groups) (sink_of g.O.Sink c.args.out.now)
+          (sink_of g.O.Sink c.loop-number.out) (sink_of g.O.Sink c.look.new.out) low i.took
+          e.wrote.1;
+      squeezes = ap (λ (k : ℕ). k + c.in_ok-squeezes.field-0) i.squeezes
+          ∙ ap (λ (k : ℕ). length (squeezes_below rules.groups codes n) + k) one
+          ∙ sym (many_more rules codes n);
       few_squeezes = omega (arith, i.few_squeezes);
       counts = e.counts;
       total = e.total;
@@ -52,33 +58,43 @@ returns-in_err-squeezes-clause-wrote g c =
     let old = sink_of g.O.Sink c.args.out.now in
     let new = sink_of g.O.Sink c.look.new.out in
     let many : ℕ = length (squeezes rules.groups codes) in
-    let size_is : c.size-number-end.result ≡ size_of rules.groups = c.size-number-end.ensures.size ∙ ap size_of c.args.game.now.fits in
+    let size_is : c.size-number-end.result ≡ size_of rules.groups = c.size-number-end.ensures.size
+    ∙ ap size_of c.args.game.now.fits in
     let low : n < size_of rules.groups = omega arith in
-    as_fault (λ r. WritesSome r (lines_below rules codes (size_of rules.groups)) many old new) c.in_err-squeezes.field-0.0 c.from_residual.result c.from_residual.ensures.1
-    (stopped_more rules codes n (size_of rules.groups) old (sink_of g.O.Sink c.loop-number.out) new low c.loop-number.invariant.took c.in_err-squeezes.field-0.0 (one_of (squeeze_at rules.groups codes n)) c.in_err-squeezes.ensures.wrote many)
+    as_fault (λ r. WritesSome r (lines_below rules codes (size_of rules.groups)) many old new)
+    c.in_err-squeezes.field-0.0 c.from_residual.result c.from_residual.ensures.1
+    (stopped_more rules codes n (size_of rules.groups) old (sink_of g.O.Sink c.loop-number.out) new
+    low c.loop-number.invariant.took c.in_err-squeezes.field-0.0
+    (one_of (squeeze_at rules.groups codes n)) c.in_err-squeezes.ensures.wrote many)
 
 pub returns-clause-wrote : goal.returns-clause-wrote
 returns-clause-wrote g c =
     let rules = c.args.game.now.rules.now in
     let codes = g.E.Entries.codes c.args.entries.now in
-    let size_is : c.size-number-end.result ≡ size_of rules.groups = c.size-number-end.ensures.size ∙ ap size_of c.args.game.now.fits in
+    let size_is : c.size-number-end.result ≡ size_of rules.groups = c.size-number-end.ensures.size
+    ∙ ap size_of c.args.game.now.fits in
     let end : c.loop-number.number ≡ size_of rules.groups = omega arith in (
-      c.loop-number.invariant.squeezes ∙ ap (λ (k : ℕ). length (squeezes_below rules.groups codes k)) end,
-      subst (λ (k : ℕ). TookText (lines_below rules codes k) (sink_of g.O.Sink c.args.out.now) (sink_of g.O.Sink c.loop-number.out)) end c.loop-number.invariant.took,
+      c.loop-number.invariant.squeezes
+          ∙ ap (λ (k : ℕ). length (squeezes_below rules.groups codes k)) end,
+      subst (λ (k : ℕ). TookText (lines_below rules codes k) (sink_of g.O.Sink c.args.out.now)
+          (sink_of g.O.Sink c.loop-number.out)) end c.loop-number.invariant.took,
     )
 
 pub returns-clause-counts : goal.returns-clause-counts
 returns-clause-counts g c =
     let rules = c.args.game.now.rules.now in
     let value = g.B.ExitBook.value_at c.args.game.now.book.now in
-    let size_is : c.size-number-end.result ≡ size_of rules.groups = c.size-number-end.ensures.size ∙ ap size_of c.args.game.now.fits in
+    let size_is : c.size-number-end.result ≡ size_of rules.groups = c.size-number-end.ensures.size
+    ∙ ap size_of c.args.game.now.fits in
     let end : c.loop-number.number ≡ size_of rules.groups = omega arith in
-    subst (λ (k : ℕ). Counts c.loop-number.census.classes.entries (exits_below rules value k)) end c.loop-number.invariant.counts
+    subst (λ (k : ℕ). Counts c.loop-number.census.classes.entries (exits_below rules value k)) end
+    c.loop-number.invariant.counts
 
 pub returns-clause-total : goal.returns-clause-total
 returns-clause-total g c =
     let rules = c.args.game.now.rules.now in
     let value = g.B.ExitBook.value_at c.args.game.now.book.now in
-    let size_is : c.size-number-end.result ≡ size_of rules.groups = c.size-number-end.ensures.size ∙ ap size_of c.args.game.now.fits in
+    let size_is : c.size-number-end.result ≡ size_of rules.groups = c.size-number-end.ensures.size
+    ∙ ap size_of c.args.game.now.fits in
     let end : c.loop-number.number ≡ size_of rules.groups = omega arith in
     c.loop-number.invariant.total ∙ ap (λ (k : ℕ). length (exits_below rules value k)) end

@@ -15,27 +15,47 @@ settle-requires-else-start-clause-room g c = has_room c.args.i c.requires.begun 
 
 pub start_of-start-requires-clause-short : goal.start_of-start-requires-clause-short
 start_of-start-requires-clause-short g c a i =
-    (is_graph (g.met.G.NumberedGame.finite c.args.graph.now c.requires.sound) (g.met.G.Graph.different c.args.graph.now c.requires.sound)).lags c.args.i a (subst (λ xs. In a xs) (c.as_slice.ensures.value ∙ c.nexts_by.ensures.arms) i)
+    (is_graph (g.met.G.NumberedGame.finite c.args.graph.now c.requires.sound)
+    (g.met.G.Graph.different c.args.graph.now c.requires.sound)).lags c.args.i a
+    (subst (λ xs. In a xs) (c.as_slice.ensures.value ∙ c.nexts_by.ensures.arms) i)
 
 pub returns-in-Broken-clause-begun : goal.returns-in-Broken-clause-begun
 returns-in-Broken-clause-begun g c =
-    subst (HasBegun (g.G.NumberedGame.arena c.args.graph.now) (g.G.NumberedGame.count c.args.graph.now) c.args.side (c.args.i + 1)) (sym c.set_broken.ensures) (begins_broken c.args.i c.requires.begun c.requires.inside (sym c.in-Broken.ensures.node))
+    subst (HasBegun (g.G.NumberedGame.arena c.args.graph.now)
+    (g.G.NumberedGame.count c.args.graph.now) c.args.side (c.args.i + 1)) (sym c.set_broken.ensures)
+    (begins_broken c.args.i c.requires.begun c.requires.inside (sym c.in-Broken.ensures.node))
 
 pub returns-in-Mate-clause-begun : goal.returns-in-Mate-clause-begun
 returns-in-Mate-clause-begun g c =
-    subst (HasBegun (g.G.NumberedGame.arena c.args.graph.now) (g.G.NumberedGame.count c.args.graph.now) c.args.side (c.args.i + 1)) (sym (c.settle.ensures ∙ ap (settled c.args.tally.now c.args.i) c.mate_code.ensures))
-    (begins_mate c.args.i c.requires.begun c.requires.inside c.in-Mate.c (sym c.in-Mate.ensures.node))
+    subst (HasBegun (g.G.NumberedGame.arena c.args.graph.now)
+    (g.G.NumberedGame.count c.args.graph.now) c.args.side (c.args.i + 1))
+    (sym (c.settle.ensures ∙ ap (settled c.args.tally.now c.args.i) c.mate_code.ensures))
+    (begins_mate c.args.i c.requires.begun c.requires.inside c.in-Mate.c
+    (sym c.in-Mate.ensures.node))
 
 pub returns-then-start-clause-begun : goal.returns-then-start-clause-begun
 returns-then-start-clause-begun g c =
     let arms = (g.G.NumberedGame.arena c.args.graph.now).arms c.args.i in
-    let said : c.start_of-start.result ≡ start_of c.is_same.result c.args.side arms = c.start_of-start.ensures.value ∙ ap (start_of c.is_same.result c.args.side) (c.as_slice.ensures.value ∙ c.nexts_by.ensures.arms) in
-    subst (HasBegun (g.G.NumberedGame.arena c.args.graph.now) (g.G.NumberedGame.count c.args.graph.now) c.args.side (c.args.i + 1)) (sym (c.set_open.ensures ∙ ap₂ (opened c.args.tally.now c.args.i) (ap (λ (s : Start). s.count) said) (c.later_of.ensures.value ∙ ap later_of said)))
-    (begins_open c.args.i c.requires.begun c.requires.inside c.in-Going.c c.is_same.result (sym c.in-Going.ensures.node) c.is_same.ensures (sym (ap (λ (s : Start). s.any) said) ∙ c.if-start.true))
+    let said : c.start_of-start.result ≡ start_of c.is_same.result c.args.side arms =
+    c.start_of-start.ensures.value ∙ ap (start_of c.is_same.result c.args.side)
+    (c.as_slice.ensures.value ∙ c.nexts_by.ensures.arms) in
+    subst (HasBegun (g.G.NumberedGame.arena c.args.graph.now)
+    (g.G.NumberedGame.count c.args.graph.now) c.args.side (c.args.i + 1))
+    (sym (c.set_open.ensures ∙ ap₂ (opened c.args.tally.now c.args.i)
+    (ap (λ (s : Start). s.count) said) (c.later_of.ensures.value ∙ ap later_of said)))
+    (begins_open c.args.i c.requires.begun c.requires.inside c.in-Going.c c.is_same.result
+    (sym c.in-Going.ensures.node) c.is_same.ensures
+    (sym (ap (λ (s : Start). s.any) said) ∙ c.if-start.true))
 
 pub returns-else-start-clause-begun : goal.returns-else-start-clause-begun
 returns-else-start-clause-begun g c =
     let arms = (g.G.NumberedGame.arena c.args.graph.now).arms c.args.i in
-    let said : c.start_of-start.result ≡ start_of c.is_same.result c.args.side arms = c.start_of-start.ensures.value ∙ ap (start_of c.is_same.result c.args.side) (c.as_slice.ensures.value ∙ c.nexts_by.ensures.arms) in
-    subst (HasBegun (g.G.NumberedGame.arena c.args.graph.now) (g.G.NumberedGame.count c.args.graph.now) c.args.side (c.args.i + 1)) (sym c.settle-else-start.ensures)
-    (begins_failed c.args.i c.requires.begun c.requires.inside c.in-Going.c c.is_same.result (sym c.in-Going.ensures.node) c.is_same.ensures (sym (ap (λ (s : Start). s.any) said) ∙ c.if-start.false))
+    let said : c.start_of-start.result ≡ start_of c.is_same.result c.args.side arms =
+    c.start_of-start.ensures.value ∙ ap (start_of c.is_same.result c.args.side)
+    (c.as_slice.ensures.value ∙ c.nexts_by.ensures.arms) in
+    subst (HasBegun (g.G.NumberedGame.arena c.args.graph.now)
+    (g.G.NumberedGame.count c.args.graph.now) c.args.side (c.args.i + 1))
+    (sym c.settle-else-start.ensures)
+    (begins_failed c.args.i c.requires.begun c.requires.inside c.in-Going.c c.is_same.result
+    (sym c.in-Going.ensures.node) c.is_same.ensures
+    (sym (ap (λ (s : Start). s.any) said) ∙ c.if-start.false))

@@ -12,9 +12,13 @@ loop-i-init g c =
     let s = subst (λ n. HasSize n t) z c.reset.ensures.size in
     record {
       begun =
-          subst (Begun (shape_of (g.G.NumberedGame.arena c.args.graph.now) (g.G.NumberedGame.count c.args.graph.now)) c.args.side 0 t.codes t.counts t.later t.queue) (sym c.reset.ensures.tail)
-          (begun_none (shape_of (g.G.NumberedGame.arena c.args.graph.now) (g.G.NumberedGame.count c.args.graph.now)) c.args.side t.codes t.counts t.later t.queue s
-          (λ i h. c.reset.ensures.codes i (omega (arith, h, z))) (λ i h. c.reset.ensures.later i (omega (arith, h, z))));
+          subst (Begun (shape_of (g.G.NumberedGame.arena c.args.graph.now)
+          (g.G.NumberedGame.count c.args.graph.now)) c.args.side 0 t.codes t.counts t.later t.queue)
+          (sym c.reset.ensures.tail)
+          (begun_none (shape_of (g.G.NumberedGame.arena c.args.graph.now)
+          (g.G.NumberedGame.count c.args.graph.now)) c.args.side t.codes t.counts t.later t.queue s
+          (λ i h. c.reset.ensures.codes i (omega (arith, h, z)))
+          (λ i h. c.reset.ensures.later i (omega (arith, h, z))));
       last = λ j h. absurd (omega (arith, h));
       short = omega arith;
       cost = omega arith;

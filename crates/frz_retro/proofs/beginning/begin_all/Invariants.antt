@@ -4,7 +4,8 @@ use Rattle.frz_retro.proofs.beginning.begin_all.Given as goal
 
 abbrev pub invariant-loop-i : goal.invariant-loop-i
 invariant-loop-i g l = record {
-  begun : HasBegun (g.G.NumberedGame.arena l.graph) (g.G.NumberedGame.count l.graph) l.side l.i l.tally;
+  begun : HasBegun (g.G.NumberedGame.arena l.graph) (g.G.NumberedGame.count l.graph) l.side l.i
+      l.tally;
   last : (j : ℕ) → j < l.i → get_or l.tally.later j 0 ≤ l.last;
   short : l.last ≤ 2004;
   cost : l.steps ≤ l.fn.steps + l.i;

@@ -12,11 +12,15 @@ loop-i-preserved g c = record {
   kept =
       λ mid done w. c.settle_if_due.ensures.kept mid done (c.loop-i.invariant.kept mid done w);
   queue =
-      grows_on c.args.tally.now c.loop-i.tally c.settle_if_due.new.tally c.loop-i.invariant.queue c.settle_if_due.ensures.queue;
+      grows_on c.args.tally.now c.loop-i.tally c.settle_if_due.new.tally c.loop-i.invariant.queue
+      c.settle_if_due.ensures.queue;
 }
 
 pub returns-clause-kept : goal.returns-clause-kept
 returns-clause-kept g c =
     let e : c.loop-i.i ≡ g.G.NumberedGame.count c.args.graph.now =
-    let a = c.size-i-end.ensures in let b = c.loop-i.auto.i-end in let d = c.loop-i-test.false in omega (arith, a, b, d) in
-    subst (λ n. LooksAt (g.G.NumberedGame.arena c.args.graph.now) (g.G.NumberedGame.count c.args.graph.now) c.args.side c.args.k 0 n c.args.tally.now c.loop-i.tally) e c.loop-i.invariant.kept
+    let a = c.size-i-end.ensures in let b = c.loop-i.auto.i-end in let d = c.loop-i-test.false in
+    omega (arith, a, b, d) in
+    subst (λ n. LooksAt (g.G.NumberedGame.arena c.args.graph.now)
+    (g.G.NumberedGame.count c.args.graph.now) c.args.side c.args.k 0 n c.args.tally.now
+    c.loop-i.tally) e c.loop-i.invariant.kept

@@ -15,7 +15,8 @@ use Rattle.frz_retro.proofs.local.local_codes.Goals as goal
 pub returns : goal.returns
 returns c arena size finite side E = record {
   settled = λ i mover code n s. settled_by (rules i mover n)
-      (settled_stays (same_colour mover side) (arm_code side E) f (arena.arms i) code (λ a _. inl (same a)) s);
+      (settled_stays (same_colour mover side) (arm_code side E) f (arena.arms i) code
+      (λ a _. inl (same a)) s);
   held = λ i mover n h. held_by (rules i mover n) (record {
     undecided = λ b j k. ap (is_of (same_colour mover side)) (same b) ∙ h.undecided b j k;
     arm = h.arm;
@@ -37,28 +38,39 @@ returns c arena size finite side E = record {
     own : (i : ℕ) → arena.node i ≡ Going side →
         Rules true f (arena.arms i) (local.local_code arena side entry i)
     own i n = record {
-      decided = λ a j k t least. c.own_codes.ensures.win arena side entry i n a (contains_in (arena.arms i) a j) k (as_win (f a) true t)
+      decided = λ a j k t least. c.own_codes.ensures.win arena side entry i n a
+          (contains_in (arena.arms i) a j) k (as_win (f a) true t)
           (λ b m free t'. least b (in_contains (arena.arms i) b m) free (of_win (f b) true t'));
-      exhausted = λ a j k each. c.own_codes.ensures.failure arena side entry i n a (contains_in (arena.arms i) a j) k
-          (λ b m free. let e = each b (in_contains (arena.arms i) b m) free in (as_failure (f b) true e.0, e.1));
-      held = λ a j k t none. c.own_codes.ensures.hold arena side entry i n a (contains_in (arena.arms i) a j) k (as_failure (f a) false t)
+      exhausted = λ a j k each. c.own_codes.ensures.failure arena side entry i n a
+          (contains_in (arena.arms i) a j) k
+          (λ b m free. let e = each b (in_contains (arena.arms i) b m) free in
+          (as_failure (f b) true e.0, e.1));
+      held = λ a j k t none. c.own_codes.ensures.hold arena side entry i n a
+          (contains_in (arena.arms i) a j) k (as_failure (f a) false t)
           (λ b m free. as_win (f b) false (none b (in_contains (arena.arms i) b m) free));
-      none = λ h. c.own_codes.ensures.none arena side entry i n (λ a m free. true≢false (sym free ∙ h a (in_contains (arena.arms i) a m)));
+      none = λ h. c.own_codes.ensures.none arena side entry i n
+          (λ a m free. true≢false (sym free ∙ h a (in_contains (arena.arms i) a m)));
     }
 
     opponent : (i : ℕ) → arena.node i ≡ Going (other_of side) →
         Rules false f (arena.arms i) (local.local_code arena side entry i)
     opponent i n = record {
-      decided = λ a j k t least. c.opponent_codes.ensures.failure arena side entry i n a (contains_in (arena.arms i) a j) (as_failure (f a) true t)
+      decided = λ a j k t least. c.opponent_codes.ensures.failure arena side entry i n a
+          (contains_in (arena.arms i) a j) (as_failure (f a) true t)
           (λ b m t'. least b (in_contains (arena.arms i) b m) refl (of_failure (f b) true t'));
-      exhausted = λ a j k each. c.opponent_codes.ensures.win arena side entry i n a (contains_in (arena.arms i) a j)
-          (λ b m. let e = each b (in_contains (arena.arms i) b m) refl in (as_win (f b) true e.0, e.1));
-      held = λ a j k t none. c.opponent_codes.ensures.hold arena side entry i n a (contains_in (arena.arms i) a j) (as_win (f a) false t)
+      exhausted = λ a j k each. c.opponent_codes.ensures.win arena side entry i n a
+          (contains_in (arena.arms i) a j)
+          (λ b m. let e = each b (in_contains (arena.arms i) b m) refl in
+          (as_win (f b) true e.0, e.1));
+      held = λ a j k t none. c.opponent_codes.ensures.hold arena side entry i n a
+          (contains_in (arena.arms i) a j) (as_win (f a) false t)
           (λ b m. as_failure (f b) false (none b (in_contains (arena.arms i) b m) refl));
-      none = λ h. absurd (finite.lawful.goes_on i (other_of side) n (nothing_in (arena.arms i) (λ a j. true≢false (h a j))));
+      none = λ h. absurd (finite.lawful.goes_on i (other_of side) n
+          (nothing_in (arena.arms i) (λ a j. true≢false (h a j))));
     }
 
     rules : (i : ℕ) (mover : _) → arena.node i ≡ Going mover →
         Rules (same_colour mover side) f (arena.arms i) (local.local_code arena side entry i)
-    rules i mover n = by_turn (λ w. Rules w f (arena.arms i) (local.local_code arena side entry i)) mover side
+    rules i mover n =
+        by_turn (λ w. Rules w f (arena.arms i) (local.local_code arena side entry i)) mover side
         (λ e. own i (n ∙ ap Going e)) (λ e. opponent i (n ∙ ap Going e))

@@ -11,7 +11,9 @@ use Rattle.frz_retro.proofs.meeting.go_through.Goals as goal
 pub loop-pred-init : goal.loop-pred-init
 loop-pred-init g c = let t = c.args.tally.now in record {
   kept =
-      λ k mid done m. through_begins (shape_of (g.G.NumberedGame.arena c.args.graph.now) (g.G.NumberedGame.count c.args.graph.now)) c.args.side k mid done t.codes t.counts t.later t.queue t.tail c.args.q c.args.preds.now m;
+      λ k mid done m. through_begins
+      (shape_of (g.G.NumberedGame.arena c.args.graph.now) (g.G.NumberedGame.count c.args.graph.now))
+      c.args.side k mid done t.codes t.counts t.later t.queue t.tail c.args.q c.args.preds.now m;
   settled = λ r h. refl;
   queue = (refl, omega arith, λ j l. refl);
 }
@@ -23,8 +25,13 @@ meet-requires-clause-meeting g c =
       r.0,
       r.1,
       done,
-      subst (IsMeeting (g.G.NumberedGame.arena c.args.graph.now) (g.G.NumberedGame.count c.args.graph.now) c.args.side r.0 r.1 done c.loop-pred.tally c.args.q) (sym c.pred-item.is)
-          (through_at c.loop-pred.pred-index c.pred-item.result r.3 c.loop-pred-test.true (c.loop-pred.invariant.settled c.args.q r.3.settled) (c.loop-pred.invariant.kept r.0 r.1 r.2 r.3)),
+      subst (IsMeeting (g.G.NumberedGame.arena c.args.graph.now)
+          (g.G.NumberedGame.count c.args.graph.now) c.args.side r.0 r.1 done c.loop-pred.tally
+          c.args.q)
+          (sym c.pred-item.is)
+          (through_at c.loop-pred.pred-index c.pred-item.result r.3 c.loop-pred-test.true
+          (c.loop-pred.invariant.settled c.args.q r.3.settled)
+          (c.loop-pred.invariant.kept r.0 r.1 r.2 r.3)),
     )
 
 pub loop-pred-preserved : goal.loop-pred-preserved
@@ -33,17 +40,30 @@ loop-pred-preserved g c = record {
       let before = done_mid done c.args.q (drop c.loop-pred.pred-index c.args.preds.now) in
       let after = done_mid done c.args.q (drop (c.loop-pred.pred-index + 1) c.args.preds.now) in
       c.meet.ensures.kept k mid before after
-      (subst (IsMeeting (g.G.NumberedGame.arena c.args.graph.now) (g.G.NumberedGame.count c.args.graph.now) c.args.side k mid before c.loop-pred.tally c.args.q) (sym c.pred-item.is)
-      (through_at c.loop-pred.pred-index c.pred-item.result m c.loop-pred-test.true (c.loop-pred.invariant.settled c.args.q m.settled) (c.loop-pred.invariant.kept k mid done m)))
-      (subst (λ (p : Pred). Meets before after p.number c.args.q) (sym c.pred-item.is) (through_more c.loop-pred.pred-index c.pred-item.result m c.loop-pred-test.true));
+      (subst (IsMeeting (g.G.NumberedGame.arena c.args.graph.now)
+      (g.G.NumberedGame.count c.args.graph.now) c.args.side k mid before c.loop-pred.tally c.args.q)
+      (sym c.pred-item.is)
+      (through_at c.loop-pred.pred-index c.pred-item.result m c.loop-pred-test.true
+      (c.loop-pred.invariant.settled c.args.q m.settled) (c.loop-pred.invariant.kept k mid done m)))
+      (subst (λ (p : Pred). Meets before after p.number c.args.q) (sym c.pred-item.is)
+      (through_more c.loop-pred.pred-index c.pred-item.result m c.loop-pred-test.true));
   settled =
-      λ r h. let e = c.loop-pred.invariant.settled r h in c.meet.ensures.settled r (omega (arith, e, h)) ∙ e;
+      λ r h. let e =
+      c.loop-pred.invariant.settled r h in c.meet.ensures.settled r (omega (arith, e, h)) ∙ e;
   queue =
-      grows_on c.args.tally.now c.loop-pred.tally c.meet.new.tally c.loop-pred.invariant.queue c.meet.ensures.queue;
+      grows_on c.args.tally.now c.loop-pred.tally c.meet.new.tally c.loop-pred.invariant.queue
+      c.meet.ensures.queue;
 }
 
 pub returns-clause-kept : goal.returns-clause-kept
 returns-clause-kept g c k mid done more m h =
     let t = c.loop-pred.tally in
-    through_ends (shape_of (g.G.NumberedGame.arena c.args.graph.now) (g.G.NumberedGame.count c.args.graph.now)) c.args.side k mid (bar_at k (g.G.NumberedGame.count c.args.graph.now)) done more t.codes t.counts t.later t.queue t.tail c.args.q
-    (subst (λ xs. InPass (g.G.NumberedGame.arena c.args.graph.now) (g.G.NumberedGame.count c.args.graph.now) c.args.side k (g.G.NumberedGame.count c.args.graph.now) mid (done_mid done c.args.q xs) t) (drop_all c.loop-pred.pred-index c.args.preds.now c.loop-pred-test.false) (c.loop-pred.invariant.kept k mid done m)) h
+    through_ends (shape_of (g.G.NumberedGame.arena c.args.graph.now)
+    (g.G.NumberedGame.count c.args.graph.now)) c.args.side k mid
+    (bar_at k (g.G.NumberedGame.count c.args.graph.now)) done more t.codes t.counts t.later t.queue
+    t.tail c.args.q
+    (subst (λ xs. InPass (g.G.NumberedGame.arena c.args.graph.now)
+    (g.G.NumberedGame.count c.args.graph.now) c.args.side k
+    (g.G.NumberedGame.count c.args.graph.now) mid (done_mid done c.args.q xs) t)
+    (drop_all c.loop-pred.pred-index c.args.preds.now c.loop-pred-test.false)
+    (c.loop-pred.invariant.kept k mid done m)) h

@@ -14,9 +14,14 @@ loop-at-init g c =
     let u = c.settle_late.new.tally in
     record {
       kept =
-          work_done (shape_of (g.G.NumberedGame.arena c.args.graph.now) (g.G.NumberedGame.count c.args.graph.now)) c.args.side c.args.k t.tail (bar_at c.args.k (g.G.NumberedGame.count c.args.graph.now)) (done_in t.queue c.args.head) (done_in u.queue c.args.head) u.codes u.counts u.later u.queue u.tail
+          work_done (shape_of (g.G.NumberedGame.arena c.args.graph.now)
+          (g.G.NumberedGame.count c.args.graph.now)) c.args.side c.args.k t.tail
+          (bar_at c.args.k (g.G.NumberedGame.count c.args.graph.now)) (done_in t.queue c.args.head)
+          (done_in u.queue c.args.head) u.codes u.counts u.later u.queue u.tail
           (c.settle_late.ensures.kept t.tail (done_in t.queue c.args.head) c.requires.work)
-          (λ i q. done_by_same t.queue u.queue c.args.head q (λ j l. let h = c.requires.head in c.settle_late.ensures.queue.2 j (omega (arith, l, h))));
+          (λ i q. done_by_same t.queue u.queue c.args.head q
+          (λ j l. let h = c.requires.head in c.settle_late.ensures.queue.2 j
+          (omega (arith, l, h))));
       queue = c.settle_late.ensures.queue;
       cost = omega arith;
     }
@@ -25,13 +30,26 @@ pub go_through-requires-clause-coming : goal.go_through-requires-clause-coming
 go_through-requires-clause-coming g c =
     let t = c.loop-at.tally in
     let q : c.queued-q.result ≡ get_or t.queue c.loop-at.at 0 = c.queued-q.ensures in
-    let within : c.loop-at.at < c.args.tally.now.tail = let e = c.tail-end.ensures in let h = c.loop-at-test.true in omega (arith, e, h) in (
+    let within : c.loop-at.at < c.args.tally.now.tail = let e = c.tail-end.ensures in
+    let h = c.loop-at-test.true in omega (arith, e, h) in (
       c.args.k,
       c.args.tally.now.tail,
       done_in t.queue c.loop-at.at,
-      (subst (λ r. AreComing (g.G.NumberedGame.arena c.args.graph.now) (g.G.NumberedGame.count c.args.graph.now) c.args.side c.args.k c.args.tally.now.tail (done_in t.queue c.loop-at.at) t r c.items.result.now) (sym q)
-          (coming_from (shape_of (g.G.NumberedGame.arena c.args.graph.now) (g.G.NumberedGame.count c.args.graph.now)) c.args.side c.args.k c.args.tally.now.tail c.loop-at.at t.codes t.counts t.later t.queue t.tail c.items.result.now c.loop-at.invariant.kept within
-          (subst (λ r. ArePreds (shape_of (g.G.NumberedGame.arena c.args.graph.now) (g.G.NumberedGame.count c.args.graph.now)) r c.items.result.now) q (subst (ArePreds (shape_of (g.G.NumberedGame.arena c.args.graph.now) (g.G.NumberedGame.count c.args.graph.now)) c.queued-q.result) (sym c.items.ensures) (are_preds (g.met.G.NumberedGame.finite c.args.graph.now c.requires.sound) c.preds.ensures.all c.preds.ensures.once))))),
+      (subst (λ r. AreComing (g.G.NumberedGame.arena c.args.graph.now)
+          (g.G.NumberedGame.count c.args.graph.now) c.args.side c.args.k c.args.tally.now.tail
+          (done_in t.queue c.loop-at.at) t r c.items.result.now) (sym q)
+          (coming_from (shape_of (g.G.NumberedGame.arena c.args.graph.now)
+          (g.G.NumberedGame.count c.args.graph.now)) c.args.side c.args.k c.args.tally.now.tail
+          c.loop-at.at t.codes t.counts t.later t.queue t.tail c.items.result.now
+          c.loop-at.invariant.kept within
+          (subst (λ r. ArePreds
+          (shape_of (g.G.NumberedGame.arena c.args.graph.now)
+          (g.G.NumberedGame.count c.args.graph.now)) r c.items.result.now) q
+          (subst (ArePreds
+          (shape_of (g.G.NumberedGame.arena c.args.graph.now)
+          (g.G.NumberedGame.count c.args.graph.now)) c.queued-q.result) (sym c.items.ensures)
+          (are_preds (g.met.G.NumberedGame.finite c.args.graph.now c.requires.sound)
+          c.preds.ensures.all c.preds.ensures.once))))),
     )
 
 pub loop-at-preserved : goal.loop-at-preserved
@@ -39,21 +57,49 @@ loop-at-preserved g c =
     let t = c.loop-at.tally in
     let u = c.go_through.new.tally in
     let q : c.queued-q.result ≡ get_or t.queue c.loop-at.at 0 = c.queued-q.ensures in
-    let within : c.loop-at.at < c.args.tally.now.tail = let e = c.tail-end.ensures in let h = c.loop-at-test.true in omega (arith, e, h) in
+    let within : c.loop-at.at < c.args.tally.now.tail = let e = c.tail-end.ensures in
+    let h = c.loop-at-test.true in omega (arith, e, h) in
     let grew = c.loop-at.invariant.queue in
     record {
       kept =
-          let more = c.go_through.ensures.kept c.args.k c.args.tally.now.tail (done_in t.queue c.loop-at.at) (λ _ r. done_by t.queue c.loop-at.at r || (c.queued-q.result == r)) (subst (λ r. AreComing (g.G.NumberedGame.arena c.args.graph.now) (g.G.NumberedGame.count c.args.graph.now) c.args.side c.args.k c.args.tally.now.tail (done_in t.queue c.loop-at.at) t r c.items.result.now) (sym q)
-          (coming_from (shape_of (g.G.NumberedGame.arena c.args.graph.now) (g.G.NumberedGame.count c.args.graph.now)) c.args.side c.args.k c.args.tally.now.tail c.loop-at.at t.codes t.counts t.later t.queue t.tail c.items.result.now c.loop-at.invariant.kept within
-          (subst (λ r. ArePreds (shape_of (g.G.NumberedGame.arena c.args.graph.now) (g.G.NumberedGame.count c.args.graph.now)) r c.items.result.now) q (subst (ArePreds (shape_of (g.G.NumberedGame.arena c.args.graph.now) (g.G.NumberedGame.count c.args.graph.now)) c.queued-q.result) (sym c.items.ensures) (are_preds (g.met.G.NumberedGame.finite c.args.graph.now c.requires.sound) c.preds.ensures.all c.preds.ensures.once))))) (λ i r. refl) in
-          came (shape_of (g.G.NumberedGame.arena c.args.graph.now) (g.G.NumberedGame.count c.args.graph.now)) c.args.side c.args.k c.args.tally.now.tail c.loop-at.at (bar_at c.args.k (g.G.NumberedGame.count c.args.graph.now)) u.codes u.counts u.later t.queue u.queue u.tail
-          (subst (λ x. InPass (g.G.NumberedGame.arena c.args.graph.now) (g.G.NumberedGame.count c.args.graph.now) c.args.side c.args.k (g.G.NumberedGame.count c.args.graph.now) c.args.tally.now.tail (λ _ r. done_by t.queue c.loop-at.at r || (x == r)) u) q more)
+          let more = c.go_through.ensures.kept c.args.k c.args.tally.now.tail
+          (done_in t.queue c.loop-at.at)
+          (λ _ r. done_by t.queue c.loop-at.at r || (c.queued-q.result == r))
+          (subst (λ r. AreComing (g.G.NumberedGame.arena c.args.graph.now)
+          (g.G.NumberedGame.count c.args.graph.now) c.args.side c.args.k c.args.tally.now.tail
+          (done_in t.queue c.loop-at.at) t r c.items.result.now) (sym q)
+          (coming_from (shape_of (g.G.NumberedGame.arena c.args.graph.now)
+          (g.G.NumberedGame.count c.args.graph.now)) c.args.side c.args.k c.args.tally.now.tail
+          c.loop-at.at t.codes t.counts t.later t.queue t.tail c.items.result.now
+          c.loop-at.invariant.kept within
+          (subst (λ r. ArePreds
+          (shape_of (g.G.NumberedGame.arena c.args.graph.now)
+          (g.G.NumberedGame.count c.args.graph.now)) r c.items.result.now) q
+          (subst (ArePreds
+          (shape_of (g.G.NumberedGame.arena c.args.graph.now)
+          (g.G.NumberedGame.count c.args.graph.now)) c.queued-q.result) (sym c.items.ensures)
+          (are_preds (g.met.G.NumberedGame.finite c.args.graph.now c.requires.sound)
+          c.preds.ensures.all c.preds.ensures.once))))) (λ i r. refl) in
+          came (shape_of (g.G.NumberedGame.arena c.args.graph.now)
+          (g.G.NumberedGame.count c.args.graph.now)) c.args.side c.args.k c.args.tally.now.tail
+          c.loop-at.at (bar_at c.args.k (g.G.NumberedGame.count c.args.graph.now)) u.codes u.counts
+          u.later t.queue u.queue u.tail
+          (subst (λ x. InPass (g.G.NumberedGame.arena c.args.graph.now)
+          (g.G.NumberedGame.count c.args.graph.now) c.args.side c.args.k
+          (g.G.NumberedGame.count c.args.graph.now) c.args.tally.now.tail
+          (λ _ r. done_by t.queue c.loop-at.at r || (x == r)) u) q more)
           (λ j h. let x = grew.1 in c.go_through.ensures.queue.2 j (omega (arith, h, x, within)));
       queue = grows_on c.args.tally.now t u grew c.go_through.ensures.queue;
-      cost = let x = c.loop-at.invariant.cost in let y = c.preds.ensures.step in let h = c.loop-at.auto.at in omega (arith, x, y, h);
+      cost = let x = c.loop-at.invariant.cost in let y = c.preds.ensures.step in
+          let h = c.loop-at.auto.at in omega (arith, x, y, h);
     }
 
 pub returns-clause-kept : goal.returns-clause-kept
 returns-clause-kept g c =
-    let e : c.loop-at.at ≡ c.args.tally.now.tail = let h = c.requires.head in let t = c.tail-end.ensures in let a = c.loop-at.auto.at-end in let b = c.loop-at-test.false in omega (arith, h, t, a, b) in
-    subst (λ n. InPass (g.G.NumberedGame.arena c.args.graph.now) (g.G.NumberedGame.count c.args.graph.now) c.args.side c.args.k (g.G.NumberedGame.count c.args.graph.now) c.args.tally.now.tail (done_in c.loop-at.tally.queue n) c.loop-at.tally) e c.loop-at.invariant.kept
+    let e : c.loop-at.at ≡ c.args.tally.now.tail = let h = c.requires.head in
+    let t = c.tail-end.ensures in let a = c.loop-at.auto.at-end in
+    let b = c.loop-at-test.false in omega (arith, h, t, a, b) in
+    subst (λ n. InPass (g.G.NumberedGame.arena c.args.graph.now)
+    (g.G.NumberedGame.count c.args.graph.now) c.args.side c.args.k
+    (g.G.NumberedGame.count c.args.graph.now) c.args.tally.now.tail
+    (done_in c.loop-at.tally.queue n) c.loop-at.tally) e c.loop-at.invariant.kept

@@ -5,7 +5,8 @@ use Rattle.frz_retro.proofs.passes.pass.Given as goal
 
 abbrev pub invariant-loop-at : goal.invariant-loop-at
 invariant-loop-at g l = record {
-  kept : InPass (g.G.NumberedGame.arena l.graph) (g.G.NumberedGame.count l.graph) l.side l.k (g.G.NumberedGame.count l.graph) l.fn.tally.tail (done_in l.tally.queue l.at) l.tally;
+  kept : InPass (g.G.NumberedGame.arena l.graph) (g.G.NumberedGame.count l.graph) l.side l.k
+      (g.G.NumberedGame.count l.graph) l.fn.tally.tail (done_in l.tally.queue l.at) l.tally;
   queue : Grows l.fn.tally l.tally;
   cost : l.steps ≡ l.fn.steps + (l.at - l.head);
 }

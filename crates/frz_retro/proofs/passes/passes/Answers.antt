@@ -9,7 +9,9 @@ use Rattle.frz_retro.proofs.passes.passes.Goals.{then-head-tail, else-head-tail+
 pub passes-init : goal.passes-init
 passes-init g c = let t = c.args.tally.now in record {
   kept =
-      first_work (shape_of (g.G.NumberedGame.arena c.args.graph.now) (g.G.NumberedGame.count c.args.graph.now)) c.args.side t.codes t.counts t.later t.queue t.tail c.requires.begun;
+      first_work (shape_of (g.G.NumberedGame.arena c.args.graph.now)
+      (g.G.NumberedGame.count c.args.graph.now)) c.args.side t.codes t.counts t.later t.queue t.tail
+      c.requires.begun;
   tail = c.tail-tail.ensures;
   exits = refl;
   early = omega arith;
@@ -24,7 +26,9 @@ pass-requires-clause-work g c =
     let f = few_passes w in
     let small = (g.met.G.NumberedGame.finite c.args.graph.now c.requires.sound).few in
     let early = c.passes.invariant.early in
-    pass_begins (shape_of (g.G.NumberedGame.arena c.args.graph.now) (g.G.NumberedGame.count c.args.graph.now)) c.args.side c.passes.k c.passes.head t.codes t.counts t.later t.queue t.tail w (omega (arith, f.0, f.1, small, early))
+    pass_begins (shape_of (g.G.NumberedGame.arena c.args.graph.now)
+    (g.G.NumberedGame.count c.args.graph.now)) c.args.side c.passes.k c.passes.head t.codes t.counts
+    t.later t.queue t.tail w (omega (arith, f.0, f.1, small, early))
 
 pub pass-requires-clause-last : goal.pass-requires-clause-last
 pass-requires-clause-last g c i l =
@@ -40,14 +44,18 @@ passes-preserved g c =
     let cost = c.pass.ensures.cost in
     record {
       kept =
-          subst (λ n. InPass (g.G.NumberedGame.arena c.args.graph.now) (g.G.NumberedGame.count c.args.graph.now) c.args.side (c.passes.k + 1) (g.G.NumberedGame.count c.args.graph.now) n (done_in c.pass.new.tally.queue n) c.pass.new.tally) (sym e) c.pass.ensures.kept;
+          subst (λ n. InPass (g.G.NumberedGame.arena c.args.graph.now)
+          (g.G.NumberedGame.count c.args.graph.now) c.args.side (c.passes.k + 1)
+          (g.G.NumberedGame.count c.args.graph.now) n (done_in c.pass.new.tally.queue n)
+          c.pass.new.tally) (sym e) c.pass.ensures.kept;
       tail = c.tail-tail-in-passes.ensures;
       exits = c.pass.ensures.exits ∙ i.exits;
       early =
           let h = i.early in
           elim c.if-head-tail.branch [
             | then-head-tail w ↦ let a = w.if-head-tail.true in omega (arith, h, a)
-            | else-head-tail+then-k-last w ↦ let a = w.if-k-last.true in let b = c.requires.short in omega (arith, a, b)
+            | else-head-tail+then-k-last w ↦ let a =
+                w.if-k-last.true in let b = c.requires.short in omega (arith, a, b)
           ];
       cost = let h = i.cost in omega (arith, cost, h, e, f.0);
       later = let h = i.later in omega (arith, cost, h);
@@ -62,7 +70,13 @@ returns-clause-exact g c =
     record {
       many = w.sized.codes;
       local =
-          all_local (shape_of (g.G.NumberedGame.arena c.args.graph.now) (g.G.NumberedGame.count c.args.graph.now)) c.args.side c.passes.k c.passes.head c.passes.head t.codes t.counts t.later t.queue t.tail (c.local_codes.ensures (g.G.NumberedGame.arena c.args.graph.now) (g.G.NumberedGame.count c.args.graph.now) (g.met.G.NumberedGame.finite c.args.graph.now c.requires.sound) c.args.side t.codes) w (omega (arith, e, a))
+          all_local (shape_of (g.G.NumberedGame.arena c.args.graph.now)
+          (g.G.NumberedGame.count c.args.graph.now)) c.args.side c.passes.k c.passes.head
+          c.passes.head t.codes t.counts t.later t.queue t.tail
+          (c.local_codes.ensures (g.G.NumberedGame.arena c.args.graph.now)
+          (g.G.NumberedGame.count c.args.graph.now)
+          (g.met.G.NumberedGame.finite c.args.graph.now c.requires.sound) c.args.side t.codes) w
+          (omega (arith, e, a))
           (λ j m.
           let same = ap (λ (xs : List ℕ). get_or xs j 0) c.passes.invariant.exits in
           let x = c.requires.last j m in

@@ -5,7 +5,8 @@ use Rattle.frz_retro.proofs.passes.passes.Given as goal
 
 abbrev pub invariant-passes : goal.invariant-passes
 invariant-passes g l = record {
-  kept : InPass (g.G.NumberedGame.arena l.graph) (g.G.NumberedGame.count l.graph) l.side l.k (g.G.NumberedGame.count l.graph) l.head (done_in l.tally.queue l.head) l.tally;
+  kept : InPass (g.G.NumberedGame.arena l.graph) (g.G.NumberedGame.count l.graph) l.side l.k
+      (g.G.NumberedGame.count l.graph) l.head (done_in l.tally.queue l.head) l.tally;
   tail : l.tail ≡ l.tally.tail;
   exits : l.tally.later ≡ l.fn.tally.later;
   early : l.k ≤ 1001 + l.head;

@@ -10,5 +10,7 @@ in_at (x ∷ xs) (suc i) d l = inr (in_at xs i d (omega (arith, l)))
 
 pub after_arm-s-requires-clause-short : goal.after_arm-s-requires-clause-short
 after_arm-s-requires-clause-short c =
-    let there = in_at c.args.arms.now (c.arms.left - 1) c.index-arms-left.result (let x = c.arms.invariant.within in let y = c.arms-test.true in omega (arith, x, y)) in
-    c.requires.short c.index-arms-left.result (subst (λ a. In a c.args.arms.now) (sym c.index-arms-left.is) there)
+    let there = in_at c.args.arms.now (c.arms.left - 1) c.index-arms-left.result
+    (let x = c.arms.invariant.within in let y = c.arms-test.true in omega (arith, x, y)) in
+    c.requires.short c.index-arms-left.result
+    (subst (λ a. In a c.args.arms.now) (sym c.index-arms-left.is) there)

@@ -13,6 +13,8 @@ whole-requires c =
 pub returns-in-Err-clause-memory : goal.returns-in-Err-clause-memory
 returns-in-Err-clause-memory c = λ e.
     let none : c.in-Err.e ≡ errors.NoMemory = cc in
-    wants c.args.text.now c.in-Some.first.number (words c.in-Some.first.text.now) (significant c.next_line.new.lines)
-    (omega (arith, c.if-text-gt-LONGEST_TEXT.false)) (ap significant (sym c.new-lines.ensures.lines) ∙ c.in-Some.ensures.next)
+    wants c.args.text.now c.in-Some.first.number (words c.in-Some.first.text.now)
+    (significant c.next_line.new.lines)
+    (omega (arith, c.if-text-gt-LONGEST_TEXT.false))
+    (ap significant (sym c.new-lines.ensures.lines) ∙ c.in-Some.ensures.next)
     (sym c.if-not-is_header.ensures) (c.in-Err.ensures.memory (cc))

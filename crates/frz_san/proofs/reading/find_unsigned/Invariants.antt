@@ -5,4 +5,5 @@ use Rattle.frz_san.proofs.reading.find_unsigned.Given as goal
 
 -- no move so far has this text
 abbrev pub invariant-loop-m : goal.invariant-loop-m
-invariant-loop-m l = (k : ℕ) (d : Step) → k < l.m-index → unsigned l.p (get_or l.moves k d) ≡ l.text → ⊥
+invariant-loop-m l =
+    (k : ℕ) (d : Step) → k < l.m-index → unsigned l.p (get_or l.moves k d) ≡ l.text → ⊥

@@ -7,9 +7,13 @@ use Rattle.frz_store.proofs.shelf.+find.Goals as goal
 pub returns-then-eq : goal.returns-then-eq
 returns-then-eq t c =
     ap Some c.deref.ensures.value
-    ∙ sym (last_here no_files _ _ c.args.name.now c.in-len1-up.len_at_least c.file-item.is (ap (λ (x : List ℕ). bytes_eq x c.args.name.now) (sym c.as_str.ensures.value) ∙ sym c.if-eq.ensures))
+    ∙ sym (last_here no_files _ _ c.args.name.now c.in-len1-up.len_at_least c.file-item.is
+    (ap (λ (x : List ℕ). bytes_eq x c.args.name.now) (sym c.as_str.ensures.value)
+    ∙ sym c.if-eq.ensures))
 
 pub returns-else-eq : goal.returns-else-eq
 returns-else-eq t c =
     c.find.ensures
-    ∙ sym (last_else no_files _ _ c.args.name.now c.in-len1-up.len_at_least c.file-item.is (ap (λ (x : List ℕ). bytes_eq x c.args.name.now) (sym c.as_str.ensures.value) ∙ sym c.if-eq.ensures))
+    ∙ sym (last_else no_files _ _ c.args.name.now c.in-len1-up.len_at_least c.file-item.is
+    (ap (λ (x : List ℕ). bytes_eq x c.args.name.now) (sym c.as_str.ensures.value)
+    ∙ sym c.if-eq.ensures))

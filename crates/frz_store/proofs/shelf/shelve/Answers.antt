@@ -5,4 +5,5 @@ use Rattle.frz_store.proofs.ShelfFiles.{stacked-push}
 use Rattle.frz_store.proofs.shelf.shelve.Goals as goal
 
 pub returns : goal.returns
-returns c = ap (stacked no_files) c.in-Ok.ensures.items ∙ stacked-push no_files c.args.rest.now.items _
+returns c =
+    ap (stacked no_files) c.in-Ok.ensures.items ∙ stacked-push no_files c.args.rest.now.items _

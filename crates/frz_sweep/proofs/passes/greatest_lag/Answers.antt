@@ -6,7 +6,8 @@ use Rattle.frz_sweep.proofs.passes.greatest_lag.Goals as goal
 
 pub greatest_winning_lag-requires : goal.greatest_winning_lag-requires
 greatest_winning_lag-requires g c =
-    small_lags (g.G.NumberedGame.arena c.args.game.now) (g.G.NumberedGame.count c.args.game.now) (g.met.G.NumberedGame.finite c.args.game.now c.requires) c.loop-i.i c.as_slice.result.now
+    small_lags (g.G.NumberedGame.arena c.args.game.now) (g.G.NumberedGame.count c.args.game.now)
+    (g.met.G.NumberedGame.finite c.args.game.now c.requires) c.loop-i.i c.as_slice.result.now
     (c.as_slice.ensures.value ∙ c.nexts_by.ensures.arms)
 
 pub loop-i-preserved : goal.loop-i-preserved
@@ -17,9 +18,12 @@ loop-i-preserved g c = record {
         let same : p ≡ c.loop-i.i = omega arith in
         let A = g.G.NumberedGame.arena c.args.game.now in
         let finite = g.met.G.NumberedGame.finite c.args.game.now c.requires in
-        let within = lags_at A (g.G.NumberedGame.count c.args.game.now) finite c.args.side c.loop-i.i c.greatest_winning_lag.result c.as_slice.result.now
-        (c.as_slice.ensures.value ∙ c.nexts_by.ensures.arms) c.greatest_winning_lag.ensures.within in
-        let h = within a v (subst (λ z. Contains ((g.G.NumberedGame.arena c.args.game.now).arms z) a) same i) e good in
+        let within = lags_at A (g.G.NumberedGame.count c.args.game.now) finite c.args.side
+        c.loop-i.i c.greatest_winning_lag.result c.as_slice.result.now
+        (c.as_slice.ensures.value ∙ c.nexts_by.ensures.arms)
+        c.greatest_winning_lag.ensures.within in
+        let h = within a v (subst
+        (λ z. Contains ((g.G.NumberedGame.arena c.args.game.now).arms z) a) same i) e good in
         omega arith)
   ];
   small = omega arith;

@@ -21,8 +21,12 @@ plies-preserved g c = record {
     | inl waits ↦ (let l = waits.1 in omega arith)
     | inr changes ↦ (
         let late = c.settle_all-changed.ensures.late changes c.plies.invariant.some in
-        let few = few_plies (g.G.NumberedGame.arena c.args.game.now) (g.G.NumberedGame.count c.args.game.now) (g.met.G.NumberedGame.finite c.args.game.now c.requires.sound) c.args.side c.args.lag c.requires.within
-        c.plies.ply late.0 (slice_index c.settle_all-changed.new.codes late.0) (c.settle_all-changed.ensures.told late.0) late.1 in
+        let few = few_plies (g.G.NumberedGame.arena c.args.game.now)
+        (g.G.NumberedGame.count c.args.game.now)
+        (g.met.G.NumberedGame.finite c.args.game.now c.requires.sound) c.args.side c.args.lag
+        c.requires.within
+        c.plies.ply late.0 (slice_index c.settle_all-changed.new.codes late.0)
+        (c.settle_all-changed.ensures.told late.0) late.1 in
         omega arith)
   ];
 }

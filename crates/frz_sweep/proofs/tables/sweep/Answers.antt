@@ -13,11 +13,13 @@ if_both P Q R f (Err e) p q = tt
 pub solve-requires : goal.solve-requires
 solve-requires g c =
     let game = c.args.game.now in
-    finite game.rules.now (g.B.ExitBook.value_at game.book.now) (g.met.B.ExitBook.small game.book.now) c.requires.size
+    finite game.rules.now (g.B.ExitBook.value_at game.book.now)
+    (g.met.B.ExitBook.small game.book.now) c.requires.size
 
 pub returns-clause-table : goal.returns-clause-table
 returns-clause-table g c =
     let game = c.args.game.now in
     if_both _ _ _
-    (λ codes many at. table_of_codes game.rules.now (g.B.ExitBook.value_at game.book.now) c.args.side codes.items many at)
+    (λ codes many at. table_of_codes game.rules.now (g.B.ExitBook.value_at game.book.now)
+    c.args.side codes.items many at)
     c.solve.result c.solve.ensures.many c.solve.ensures.codes

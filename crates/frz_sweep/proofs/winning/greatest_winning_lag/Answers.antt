@@ -13,9 +13,13 @@ pub loop-arm-preserved : goal.loop-arm-preserved
 loop-arm-preserved c =
     let most = c.max-most.result in
     record {
-      within = All-more (λ (a : Arm Step ℕ Value). WinsIn c.args.side most a.next) c.args.arms.now c.loop-arm.arm-index c.arm-item.result (omega arith)
-          (λ k d l. wins_in_more c.args.side c.loop-arm.most most _ (omega arith) (c.loop-arm.invariant.within k d l))
-          (subst (λ (a : Arm Step ℕ Value). WinsIn c.args.side most a.next) c.arm-item.is (wins_in_more c.args.side c.winning_lag.result most _ (omega arith) c.winning_lag.ensures.within));
+      within = All-more (λ (a : Arm Step ℕ Value). WinsIn c.args.side most a.next) c.args.arms.now
+          c.loop-arm.arm-index c.arm-item.result (omega arith)
+          (λ k d l. wins_in_more c.args.side c.loop-arm.most most _ (omega arith)
+          (c.loop-arm.invariant.within k d l))
+          (subst (λ (a : Arm Step ℕ Value). WinsIn c.args.side most a.next) c.arm-item.is
+          (wins_in_more c.args.side c.winning_lag.result most _ (omega arith)
+          c.winning_lag.ensures.within));
       small = omega arith;
     }
 

@@ -5,7 +5,8 @@ use Rattle.frz_table.proofs.lists.load_numbers.Given as goal
 
 abbrev pub invariant-loop-buffer : goal.invariant-loop-buffer
 invariant-loop-buffer g l =
-    IsLoading (store_of g.S.Store l.initial.store) (store_of g.S.Store l.store) l.name l.at l.count (vec_capacity l.list) (vec_len l.list) l.list.items
+    IsLoading (store_of g.S.Store l.initial.store) (store_of g.S.Store l.store) l.name l.at l.count
+    (vec_capacity l.list) (vec_len l.list) l.list.items
 
 abbrev pub decreases-loop-buffer : goal.decreases-loop-buffer
 decreases-loop-buffer g l = l.count - vec_len l.list

@@ -10,70 +10,122 @@ use Rattle.frz_table.proofs.opening.open_kind.Goals as goal
 pub returns-in_err-opened-clause-refused : goal.returns-in_err-opened-clause-refused
 returns-in_err-opened-clause-refused g c =
     let p = err_from_is_err_and c.from_residual.result c.from_residual.ensures.1 in
-    rw (p.1, p.2) (refuse_format (table_format c.args.kind) _ _ _ _ (table_is_format c.args.kind _ c.magic.ensures) c.in_err-opened.ensures.refused)
+    rw (p.1, p.2) (refuse_format (table_format c.args.kind) _ _ _ _
+    (table_is_format c.args.kind _ c.magic.ensures) c.in_err-opened.ensures.refused)
 
 pub returns-in_err-check_size-clause-refused : goal.returns-in_err-check_size-clause-refused
 returns-in_err-check_size-clause-refused g c =
-    let p = err_from_is_err_and c.from_residual-in_err-check_size.result c.from_residual-in_err-check_size.ensures.1 in
+    let p = err_from_is_err_and c.from_residual-in_err-check_size.result
+    c.from_residual-in_err-check_size.ensures.1 in
     rw (p.1, p.2)
-    (refuse_size (table_format c.args.kind) c.magic.result.now _ _ _ c.in_ok-opened.opened.text.items c.in_ok-opened.opened.rules c.in_ok-opened.opened.file c.size.result _ (table_is_format c.args.kind _ c.magic.ensures)
-    c.in_ok-opened.ensures.text c.open_text.ensures.quiet.unwritten.files c.in_err-check_size.ensures.refused c.in_ok-opened.ensures.read.read (c.size.ensures.size ∙ ap size_of c.in_ok-set.ensures))
+    (refuse_size (table_format c.args.kind) c.magic.result.now _ _ _
+    c.in_ok-opened.opened.text.items c.in_ok-opened.opened.rules c.in_ok-opened.opened.file
+    c.size.result _ (table_is_format c.args.kind _ c.magic.ensures)
+    c.in_ok-opened.ensures.text c.open_text.ensures.quiet.unwritten.files
+    c.in_err-check_size.ensures.refused c.in_ok-opened.ensures.read.read
+    (c.size.ensures.size ∙ ap size_of c.in_ok-set.ensures))
 
 pub returns-clause-opened : goal.returns-clause-opened
 returns-clause-opened g c =
-    opens (table_format c.args.kind) c.magic.result.now _ _ _ c.in_ok-opened.opened.text.items c.in_ok-opened.opened.rules c.in_ok-opened.opened.file c.size.result (table_is_format c.args.kind _ c.magic.ensures)
-    c.in_ok-opened.ensures.text c.open_text.ensures.quiet.unwritten.files c.in_ok-check_size.ensures.sized c.in_ok-opened.ensures.read.read (c.size.ensures.size ∙ ap size_of c.in_ok-set.ensures)
+    opens (table_format c.args.kind) c.magic.result.now _ _ _ c.in_ok-opened.opened.text.items
+    c.in_ok-opened.opened.rules c.in_ok-opened.opened.file c.size.result
+    (table_is_format c.args.kind _ c.magic.ensures)
+    c.in_ok-opened.ensures.text c.open_text.ensures.quiet.unwritten.files
+    c.in_ok-check_size.ensures.sized c.in_ok-opened.ensures.read.read
+    (c.size.ensures.size ∙ ap size_of c.in_ok-set.ensures)
 
 pub returns-in_err-opened-clause-may_refuse : goal.returns-in_err-opened-clause-may_refuse
 returns-in_err-opened-clause-may_refuse g c =
     let p = err_from_is_err_and c.from_residual.result c.from_residual.ensures.1 in
     rw (p.1, p.2)
-    (may_refuse (table_format c.args.kind) _ _ _ _ (refuse_format (table_format c.args.kind) _ _ _ _ (table_is_format c.args.kind _ c.magic.ensures) c.in_err-opened.ensures.refused)
-    (later_asked _ _ _ _ _ (omega arith) c.open_text.ensures.asked_told) (format_calls (table_format c.args.kind) _ _ _ _ _ (table_is_format c.args.kind _ c.magic.ensures) c.open_text.ensures.calls_told)
-    c.magic.result.now (table_is_format c.args.kind _ c.magic.ensures) c.in_err-opened.ensures.some_refused)
+    (may_refuse (table_format c.args.kind) _ _ _ _
+    (refuse_format (table_format c.args.kind) _ _ _ _
+    (table_is_format c.args.kind _ c.magic.ensures) c.in_err-opened.ensures.refused)
+    (later_asked _ _ _ _ _ (omega arith) c.open_text.ensures.asked_told)
+    (format_calls (table_format c.args.kind) _ _ _ _ _
+    (table_is_format c.args.kind _ c.magic.ensures) c.open_text.ensures.calls_told)
+    c.magic.result.now (table_is_format c.args.kind _ c.magic.ensures)
+    c.in_err-opened.ensures.some_refused)
 
 pub returns-in_err-set-clause-may_refuse : goal.returns-in_err-set-clause-may_refuse
 returns-in_err-set-clause-may_refuse g c =
-    let p = err_from_is_err_and c.from_residual-in_err-set.result c.from_residual-in_err-set.ensures.1 in
+    let p = err_from_is_err_and c.from_residual-in_err-set.result
+    c.from_residual-in_err-set.ensures.1 in
     let eight = eight_bytes c.args.kind _ c.magic.ensures in
     rw (p.1, p.2)
-    (may_refuse (table_format c.args.kind) _ _ _ _ (told_outside (table_format c.args.kind) _ c.args.name.now)
-    (later_asked _ _ _ _ _ (omega arith) c.open_text.ensures.asked_told) (format_calls (table_format c.args.kind) _ _ _ _ _ (table_is_format c.args.kind _ c.magic.ensures) c.open_text.ensures.calls_told)
-    c.magic.result.now (table_is_format c.args.kind _ c.magic.ensures) (some_outside c.magic.result.now _ _ _ eight.0 eight.1 tt (omega arith) (omega arith)))
+    (may_refuse (table_format c.args.kind) _ _ _ _
+    (told_outside (table_format c.args.kind) _ c.args.name.now)
+    (later_asked _ _ _ _ _ (omega arith) c.open_text.ensures.asked_told)
+    (format_calls (table_format c.args.kind) _ _ _ _ _
+    (table_is_format c.args.kind _ c.magic.ensures) c.open_text.ensures.calls_told)
+    c.magic.result.now (table_is_format c.args.kind _ c.magic.ensures)
+    (some_outside c.magic.result.now _ _ _ eight.0 eight.1 tt (omega arith) (omega arith)))
 
 pub returns-in_err-check_size-clause-may_refuse : goal.returns-in_err-check_size-clause-may_refuse
 returns-in_err-check_size-clause-may_refuse g c =
-    let p = err_from_is_err_and c.from_residual-in_err-check_size.result c.from_residual-in_err-check_size.ensures.1 in
+    let p = err_from_is_err_and c.from_residual-in_err-check_size.result
+    c.from_residual-in_err-check_size.ensures.1 in
     rw (p.1, p.2)
     (may_refuse_size (table_format c.args.kind) _ _ _ _
-    (refuse_size (table_format c.args.kind) c.magic.result.now _ _ _ c.in_ok-opened.opened.text.items c.in_ok-opened.opened.rules c.in_ok-opened.opened.file c.size.result _ (table_is_format c.args.kind _ c.magic.ensures)
-    c.in_ok-opened.ensures.text c.open_text.ensures.quiet.unwritten.files c.in_err-check_size.ensures.refused c.in_ok-opened.ensures.read.read (c.size.ensures.size ∙ ap size_of c.in_ok-set.ensures))
-    (later_asked _ _ _ _ _ (omega arith) c.open_text.ensures.asked_told) (read_calls (table_format c.args.kind) c.magic.result.now c.in_ok-opened.opened.text.items c.in_ok-opened.opened.rules _ _ _ _ c.in_ok-opened.opened.file (table_is_format c.args.kind _ c.magic.ensures) c.in_ok-opened.ensures.text c.in_ok-opened.ensures.read.read (omega arith))
-    c.magic-2.result.now c.in_ok-opened.opened.text.items c.in_ok-opened.opened.rules c.in_ok-opened.opened.file c.size.result (table_is_format c.args.kind _ c.magic-2.ensures)
-    c.in_ok-opened.ensures.read.read (c.size.ensures.size ∙ ap size_of c.in_ok-set.ensures) (omega (arith, c.in_ok-opened.ensures.asked, c.check_size.ensures.asked)) (omega arith) c.in_err-check_size.ensures.some_refused)
+    (refuse_size (table_format c.args.kind) c.magic.result.now _ _ _
+    c.in_ok-opened.opened.text.items c.in_ok-opened.opened.rules c.in_ok-opened.opened.file
+    c.size.result _ (table_is_format c.args.kind _ c.magic.ensures)
+    c.in_ok-opened.ensures.text c.open_text.ensures.quiet.unwritten.files
+    c.in_err-check_size.ensures.refused c.in_ok-opened.ensures.read.read
+    (c.size.ensures.size ∙ ap size_of c.in_ok-set.ensures))
+    (later_asked _ _ _ _ _ (omega arith) c.open_text.ensures.asked_told)
+    (read_calls (table_format c.args.kind) c.magic.result.now c.in_ok-opened.opened.text.items
+    c.in_ok-opened.opened.rules _ _ _ _ c.in_ok-opened.opened.file
+    (table_is_format c.args.kind _ c.magic.ensures) c.in_ok-opened.ensures.text
+    c.in_ok-opened.ensures.read.read (omega arith))
+    c.magic-2.result.now c.in_ok-opened.opened.text.items c.in_ok-opened.opened.rules
+    c.in_ok-opened.opened.file c.size.result (table_is_format c.args.kind _ c.magic-2.ensures)
+    c.in_ok-opened.ensures.read.read (c.size.ensures.size ∙ ap size_of c.in_ok-set.ensures)
+    (omega (arith, c.in_ok-opened.ensures.asked, c.check_size.ensures.asked)) (omega arith)
+    c.in_err-check_size.ensures.some_refused)
 
 pub returns-in_err-name-clause-may_refuse : goal.returns-in_err-name-clause-may_refuse
 returns-in_err-name-clause-may_refuse g c =
-    let p = err_from_is_err_and c.from_residual-in_err-name.result c.from_residual-in_err-name.ensures.1 in
+    let p = err_from_is_err_and c.from_residual-in_err-name.result
+    c.from_residual-in_err-name.ensures.1 in
     let text = c.in_ok-opened.opened.text.items in
     let eight = eight_bytes c.args.kind _ c.magic.ensures in
     rw (p.1, p.2)
-    (may_refuse_size (table_format c.args.kind) _ _ _ _ (told_outside (table_format c.args.kind) _ c.args.name.now)
-    (later_asked _ _ _ _ _ (omega arith) c.open_text.ensures.asked_told) (read_calls (table_format c.args.kind) c.magic.result.now c.in_ok-opened.opened.text.items c.in_ok-opened.opened.rules _ _ _ _ c.in_ok-opened.opened.file (table_is_format c.args.kind _ c.magic.ensures) c.in_ok-opened.ensures.text c.in_ok-opened.ensures.read.read (omega arith))
-    c.magic.result.now text c.in_ok-opened.opened.rules c.in_ok-opened.opened.file c.size.result (table_is_format c.args.kind _ c.magic.ensures) c.in_ok-opened.ensures.read.read (c.size.ensures.size ∙ ap size_of c.in_ok-set.ensures)
+    (may_refuse_size (table_format c.args.kind) _ _ _ _
+    (told_outside (table_format c.args.kind) _ c.args.name.now)
+    (later_asked _ _ _ _ _ (omega arith) c.open_text.ensures.asked_told)
+    (read_calls (table_format c.args.kind) c.magic.result.now c.in_ok-opened.opened.text.items
+    c.in_ok-opened.opened.rules _ _ _ _ c.in_ok-opened.opened.file
+    (table_is_format c.args.kind _ c.magic.ensures) c.in_ok-opened.ensures.text
+    c.in_ok-opened.ensures.read.read (omega arith))
+    c.magic.result.now text c.in_ok-opened.opened.rules c.in_ok-opened.opened.file c.size.result
+    (table_is_format c.args.kind _ c.magic.ensures) c.in_ok-opened.ensures.read.read
+    (c.size.ensures.size ∙ ap size_of c.in_ok-set.ensures)
     (omega (arith, c.in_ok-opened.ensures.asked, c.check_size.ensures.asked)) (omega arith)
-    (some_size_outside c.magic.result.now text c.in_ok-opened.opened.file c.size.result _ eight.0 eight.1 c.in_ok-opened.ensures.read.bytes c.in_ok-opened.ensures.short c.in_ok-opened.ensures.fits tt))
+    (some_size_outside c.magic.result.now text c.in_ok-opened.opened.file c.size.result _ eight.0
+    eight.1 c.in_ok-opened.ensures.read.bytes c.in_ok-opened.ensures.short
+    c.in_ok-opened.ensures.fits tt))
 
 pub returns-clause-may_open : goal.returns-clause-may_open
 returns-clause-may_open g c =
-    may_open (table_format c.args.kind) c.magic.result.now c.in_ok-opened.opened.text.items c.in_ok-opened.opened.rules c.in_ok-opened.opened.file c.size.result _ _ (table_is_format c.args.kind _ c.magic.ensures)
-    (eight_bytes c.args.kind _ c.magic.ensures).0 (eight_bytes c.args.kind _ c.magic.ensures).1 c.in_ok-opened.ensures.read.bytes c.in_ok-opened.ensures.short (search rules) c.in_ok-opened.ensures.read.read (c.size.ensures.size ∙ ap size_of c.in_ok-set.ensures)
+    may_open (table_format c.args.kind) c.magic.result.now c.in_ok-opened.opened.text.items
+    c.in_ok-opened.opened.rules c.in_ok-opened.opened.file c.size.result _ _
+    (table_is_format c.args.kind _ c.magic.ensures)
+    (eight_bytes c.args.kind _ c.magic.ensures).0 (eight_bytes c.args.kind _ c.magic.ensures).1
+    c.in_ok-opened.ensures.read.bytes c.in_ok-opened.ensures.short (search rules)
+    c.in_ok-opened.ensures.read.read (c.size.ensures.size ∙ ap size_of c.in_ok-set.ensures)
     c.in_ok-opened.ensures.text
-    (opens (table_format c.args.kind) c.magic.result.now _ _ _ c.in_ok-opened.opened.text.items c.in_ok-opened.opened.rules c.in_ok-opened.opened.file c.size.result (table_is_format c.args.kind _ c.magic.ensures)
-    c.in_ok-opened.ensures.text c.open_text.ensures.quiet.unwritten.files c.in_ok-check_size.ensures.sized c.in_ok-opened.ensures.read.read (c.size.ensures.size ∙ ap size_of c.in_ok-set.ensures))
+    (opens (table_format c.args.kind) c.magic.result.now _ _ _ c.in_ok-opened.opened.text.items
+    c.in_ok-opened.opened.rules c.in_ok-opened.opened.file c.size.result
+    (table_is_format c.args.kind _ c.magic.ensures)
+    c.in_ok-opened.ensures.text c.open_text.ensures.quiet.unwritten.files
+    c.in_ok-check_size.ensures.sized c.in_ok-opened.ensures.read.read
+    (c.size.ensures.size ∙ ap size_of c.in_ok-set.ensures))
 
 pub returns-in_err-check_size-clause-causes : goal.returns-in_err-check_size-clause-causes
 returns-in_err-check_size-clause-causes g c =
-    let p = err_from_is_err_and c.from_residual-in_err-check_size.result c.from_residual-in_err-check_size.ensures.1 in
+    let p = err_from_is_err_and c.from_residual-in_err-check_size.result
+    c.from_residual-in_err-check_size.ensures.1 in
     rw (p.1, p.2)
-    (causes_behind _ _ _ _ _ _ c.in_err-check_size.field-0.0 c.in_ok-opened.ensures.causes.fine c.in_ok-opened.ensures.causes.wants_fine c.in_err-check_size.ensures.causes)
+    (causes_behind _ _ _ _ _ _ c.in_err-check_size.field-0.0 c.in_ok-opened.ensures.causes.fine
+    c.in_ok-opened.ensures.causes.wants_fine c.in_err-check_size.ensures.causes)

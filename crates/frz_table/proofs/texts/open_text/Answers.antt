@@ -9,29 +9,43 @@ use Rattle.frz_table.proofs.texts.open_text.Goals as goal
 
 pub returns-in_err-rules-clause-refused : goal.returns-in_err-rules-clause-refused
 returns-in_err-rules-clause-refused g c =
-    let p = err_from_is_err_and c.from_residual-in_err-rules.result c.from_residual-in_err-rules.ensures.1 in
+    let p = err_from_is_err_and c.from_residual-in_err-rules.result
+    c.from_residual-in_err-rules.ensures.1 in
     rw (p.1, p.2)
-    (refuse_rules _ _ _ _ c.in_ok-head.head.file c.in_ok-head.head.text c.in_ok-text.text.items c.in_err-rules.field-0.0 c.in_ok-head.ensures.head c.read_head.ensures.quiet.unwritten.files
-    c.in_ok-text.ensures.bytes (subst (λ (t : List ℕ). Fails c.in_err-rules.field-0.0 (rules_of t)) c.deref-2.ensures.value c.in_err-rules.ensures.exact))
+    (refuse_rules _ _ _ _ c.in_ok-head.head.file c.in_ok-head.head.text c.in_ok-text.text.items
+    c.in_err-rules.field-0.0 c.in_ok-head.ensures.head c.read_head.ensures.quiet.unwritten.files
+    c.in_ok-text.ensures.bytes
+    (subst (λ (t : List ℕ). Fails c.in_err-rules.field-0.0 (rules_of t)) c.deref-2.ensures.value
+    c.in_err-rules.ensures.exact))
 
 pub returns-in_err-text-clause-some_refused : goal.returns-in_err-text-clause-some_refused
 returns-in_err-text-clause-some_refused g c =
-    let p = err_from_is_err_and c.from_residual-in_err-text.result c.from_residual-in_err-text.ensures.1 in
+    let p = err_from_is_err_and c.from_residual-in_err-text.result
+    c.from_residual-in_err-text.ensures.1 in
     rw (p.1, p.2)
-    (some_outside c.args.magic.now _ _ _ (search rules) (search rules) (fault_outside c.in_err-text.field-0.0) (omega (arith, c.in_ok-head.ensures.short)) (omega arith))
+    (some_outside c.args.magic.now _ _ _ (search rules) (search rules)
+    (fault_outside c.in_err-text.field-0.0) (omega (arith, c.in_ok-head.ensures.short))
+    (omega arith))
 
 pub returns-in_err-rules-clause-some_refused : goal.returns-in_err-rules-clause-some_refused
 returns-in_err-rules-clause-some_refused g c =
-    let p = err_from_is_err_and c.from_residual-in_err-rules.result c.from_residual-in_err-rules.ensures.1 in
+    let p = err_from_is_err_and c.from_residual-in_err-rules.result
+    c.from_residual-in_err-rules.ensures.1 in
     rw (p.1, p.2)
-    (some_rules c.args.magic.now c.in_ok-text.text.items _ _ c.in_err-rules.field-0.0 (search rules) (search rules) (subst (λ (t : List ℕ). AreBytes t) c.deref.ensures.value c.bytes_fit.ensures) (omega (arith, c.in_ok-text.ensures.length, c.in_ok-head.ensures.short)) (omega (arith, c.in_ok-text.ensures.length)) (omega arith)
-    (subst (λ (t : List ℕ). Fails c.in_err-rules.field-0.0 (rules_of t)) c.deref-2.ensures.value c.in_err-rules.ensures.exact))
+    (some_rules c.args.magic.now c.in_ok-text.text.items _ _ c.in_err-rules.field-0.0 (search rules)
+    (search rules) (subst (λ (t : List ℕ). AreBytes t) c.deref.ensures.value c.bytes_fit.ensures)
+    (omega (arith, c.in_ok-text.ensures.length, c.in_ok-head.ensures.short))
+    (omega (arith, c.in_ok-text.ensures.length)) (omega arith)
+    (subst (λ (t : List ℕ). Fails c.in_err-rules.field-0.0 (rules_of t)) c.deref-2.ensures.value
+    c.in_err-rules.ensures.exact))
 
 pub returns-in_err-text-clause-calls_told : goal.returns-in_err-text-clause-calls_told
-returns-in_err-text-clause-calls_told g c = all_call_head _ _ _ _ _ _ _ c.in_ok-head.ensures.head (omega arith)
+returns-in_err-text-clause-calls_told g c =
+    all_call_head _ _ _ _ _ _ _ c.in_ok-head.ensures.head (omega arith)
 
 pub returns-in_err-rules-clause-calls_told : goal.returns-in_err-rules-clause-calls_told
-returns-in_err-rules-clause-calls_told g c = all_call_head _ _ _ _ _ _ _ c.in_ok-head.ensures.head (omega arith)
+returns-in_err-rules-clause-calls_told g c =
+    all_call_head _ _ _ _ _ _ _ c.in_ok-head.ensures.head (omega arith)
 
 pub returns-clause-calls_told : goal.returns-clause-calls_told
 returns-clause-calls_told g c = all_call_head _ _ _ _ _ _ _ c.in_ok-head.ensures.head (omega arith)

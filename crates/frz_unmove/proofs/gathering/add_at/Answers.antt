@@ -11,7 +11,10 @@ add_from-requires-clause-room c =
     let on = next.on_board in
     let low = next.from in
     let room = c.requires.room in
-    let more = adds_room (Below (ComesAt c.args.set.now c.args.q.now c.args.to c.args.promo c.args.taken c.args.target.now) (λ x. x.mv.from) c.loop-from.n) c.args.out.now c.loop-from.out c.loop-from.n c.loop-from.invariant.1 in
+    let more = adds_room
+    (Below (ComesAt c.args.set.now c.args.q.now c.args.to c.args.promo c.args.taken
+    c.args.target.now) (λ x. x.mv.from) c.loop-from.n) c.args.out.now c.loop-from.out
+    c.loop-from.n c.loop-from.invariant.1 in
     omega (arith, on, low, room, more)
 
 pub loop-from-preserved : goal.loop-from-preserved
@@ -21,14 +24,21 @@ loop-from-preserved c =
     let low = next.from in
     let e = c.number-n.ensures.number in (
       omega (arith, on, e),
-      walk_next (ComesAt c.args.set.now c.args.q.now c.args.to c.args.promo c.args.taken c.args.target.now) (λ x. x.mv.from) c.args.out.now c.loop-from.out c.add_from.new.out
-          c.loop-from.n c.in-Some.from (c.number-n.result + 1) c.loop-from.n 1 (c.number-n.result + 1) c.loop-from.invariant.1 c.add_from.ensures (omega (arith, low, e)) low (omega (arith, e))
-          (λ x h l m. clash (has_square c.args.origins x.mv.from) (c.requires.origins x h.0.0) (next.first x.mv.from l m)),
+      walk_next (ComesAt c.args.set.now c.args.q.now c.args.to c.args.promo c.args.taken
+          c.args.target.now) (λ x. x.mv.from) c.args.out.now c.loop-from.out c.add_from.new.out
+          c.loop-from.n c.in-Some.from (c.number-n.result + 1) c.loop-from.n 1
+          (c.number-n.result + 1) c.loop-from.invariant.1 c.add_from.ensures (omega (arith, low, e))
+          low (omega (arith, e))
+          (λ x h l m. clash (has_square c.args.origins x.mv.from) (c.requires.origins x h.0.0)
+          (next.first x.mv.from l m)),
     )
 
 pub returns : goal.returns
 returns c =
     let none : HasNoneFrom c.args.origins c.loop-from.n = c.in_default.ensures in
     let within = c.loop-from.invariant.0 in
-    walk_end (ComesAt c.args.set.now c.args.q.now c.args.to c.args.promo c.args.taken c.args.target.now) (λ x. x.mv.from) c.args.out.now c.loop-from.out c.loop-from.n c.loop-from.n 64 c.loop-from.invariant.1 (omega (arith, within))
-    (λ x h l. clash (has_square c.args.origins x.mv.from) (c.requires.origins x h.0.0) (none.none x.mv.from l h.0.0.0.0.step.from))
+    walk_end (ComesAt c.args.set.now c.args.q.now c.args.to c.args.promo c.args.taken
+    c.args.target.now) (λ x. x.mv.from) c.args.out.now c.loop-from.out c.loop-from.n c.loop-from.n
+    64 c.loop-from.invariant.1 (omega (arith, within))
+    (λ x h l. clash (has_square c.args.origins x.mv.from) (c.requires.origins x h.0.0)
+    (none.none x.mv.from l h.0.0.0.0.step.from))

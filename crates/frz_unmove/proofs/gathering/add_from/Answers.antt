@@ -15,6 +15,9 @@ returns-else-knows c =
     adds_none (ComesFrom gs q c.args.m c.args.taken c.args.target.now) c.args.out.now 1
     (λ x h.
     let move : x.mv ≡ c.args.m = same_parts x.mv c.args.m h.1 h.0.0.0.0.1 h.0.0.0.1 in
-    let there : is_known gs (mover_cell q c.args.m) c.args.m.from ≡ true = ap (λ m. is_known gs (mover_cell q m) m.from) (sym move) ∙ known_mover gs q x h.0.0.0.0.0 in
+    let there : is_known gs (mover_cell q c.args.m) c.args.m.from ≡ true =
+    ap (λ m. is_known gs (mover_cell q m) m.from) (sym move) ∙ known_mover gs q x h.0.0.0.0.0 in
     let same : c.mover_cell.result ≡ mover_cell q c.args.m = c.mover_cell.ensures.cell in
-    clash (is_known gs (mover_cell q c.args.m) c.args.m.from) there (ap (λ n. is_known gs n c.args.m.from) (sym same) ∙ ap (is_known gs c.mover_cell.result) (sym (ap (λ (s : Step). s.from) c.m.view_is)) ∙ sym c.knows.ensures ∙ c.if-knows.false))
+    clash (is_known gs (mover_cell q c.args.m) c.args.m.from) there
+    (ap (λ n. is_known gs n c.args.m.from) (sym same) ∙ ap (is_known gs c.mover_cell.result)
+    (sym (ap (λ (s : Step). s.from) c.m.view_is)) ∙ sym c.knows.ensures ∙ c.if-knows.false))

@@ -17,7 +17,9 @@ loop-k-init c =
     let gs = c.args.set.now in
     let q = c.args.q.now in
     let some = some_first q.turn in
-    walk_first (ComesAs gs q c.args.to c.args.promo) (taken_of gs) c.args.out.now c.add_taking.new.out 0 (first_taken q.turn + 0) 576 576 c.add_taking.ensures (omega arith) (omega (arith, some))
+    walk_first (ComesAs gs q c.args.to c.args.promo) (taken_of gs) c.args.out.now
+    c.add_taking.new.out 0 (first_taken q.turn + 0) 576 576 c.add_taking.ensures (omega arith)
+    (omega (arith, some))
     (λ x h. elim (taken_cases gs q x h.0.0) [
       | inl e ↦ inl e
       | inr r ↦ inr (let low = r.0 in omega (arith, low))
@@ -28,9 +30,13 @@ loop-k-preserved c =
     let gs = c.args.set.now in
     let q = c.args.q.now in
     let k = c.loop-k.k in
-    let t : c.first_taken-first.result ≡ first_taken q.turn = c.first_taken-first.ensures.first ∙ ap first_taken c.turn.ensures in
-    walk_next (ComesAs gs q c.args.to c.args.promo) (taken_of gs) c.args.out.now c.loop-k.out c.add_taken.new.out
-    (first_taken q.turn + k) (c.first_taken-first.result + k) (first_taken q.turn + (k + 1)) (576 + 576 * k) 576 (576 + 576 * (k + 1)) c.loop-k.invariant c.add_taken.ensures (omega arith) (omega (arith, t)) (omega (arith, t))
+    let t : c.first_taken-first.result ≡ first_taken q.turn = c.first_taken-first.ensures.first
+    ∙ ap first_taken c.turn.ensures in
+    walk_next (ComesAs gs q c.args.to c.args.promo) (taken_of gs) c.args.out.now c.loop-k.out
+    c.add_taken.new.out
+    (first_taken q.turn + k) (c.first_taken-first.result + k) (first_taken q.turn + (k + 1))
+    (576 + 576 * k) 576 (576 + 576 * (k + 1)) c.loop-k.invariant c.add_taken.ensures (omega arith)
+    (omega (arith, t)) (omega (arith, t))
     (λ x h low high. omega (arith, t, low, high))
 
 pub returns : goal.returns
@@ -40,7 +46,9 @@ returns c =
     let end = c.loop-k-test.false in
     let within = c.loop-k.auto.k-end in
     let some = some_first q.turn in
-    walk_end (ComesAs gs q c.args.to c.args.promo) (taken_of gs) c.args.out.now c.loop-k.out (first_taken q.turn + c.loop-k.k) (576 + 576 * c.loop-k.k) 3456 c.loop-k.invariant (omega (arith, within))
+    walk_end (ComesAs gs q c.args.to c.args.promo) (taken_of gs) c.args.out.now c.loop-k.out
+    (first_taken q.turn + c.loop-k.k) (576 + 576 * c.loop-k.k) 3456 c.loop-k.invariant
+    (omega (arith, within))
     (λ x h low. elim (taken_cases gs q x h.0.0) [
       | inl e ↦ omega (arith, e, low, end, some)
       | inr r ↦ (let high = r.1 in omega (arith, high, low, end))
@@ -53,6 +61,7 @@ side_by Black k l = grind (arith, nat_tests)
 pub add_taken-requires-clause-side : goal.add_taken-requires-clause-side
 add_taken-requires-clause-side c =
     let q = c.args.q.now in
-    let first : c.first_taken-first.result ≡ first_taken q.turn = c.first_taken-first.ensures.first ∙ ap first_taken c.turn.ensures in
+    let first : c.first_taken-first.result ≡ first_taken q.turn = c.first_taken-first.ensures.first
+    ∙ ap first_taken c.turn.ensures in
     ap (λ n. is_man_of q.turn (man_of_cell (n + c.loop-k.k))) first
     ∙ side_by q.turn c.loop-k.k c.loop-k-test.true

@@ -16,7 +16,9 @@ returns-then-is_promoted c =
     let gs = c.args.set.now in
     let q = c.args.q.now in
     let b = c.args.to in
-    adds_both (ComesAs gs q b None) (ComesAs gs q b (Some c.args.man.kind)) (ComesTo gs q b) c.args.out.now c.add_as.new.out c.add_as-then-is_promoted.new.out 3456 3456 6912 c.add_as.ensures c.add_as-then-is_promoted.ensures (omega arith)
+    adds_both (ComesAs gs q b None) (ComesAs gs q b (Some c.args.man.kind)) (ComesTo gs q b)
+    c.args.out.now c.add_as.new.out c.add_as-then-is_promoted.new.out 3456 3456 6912
+    c.add_as.ensures c.add_as-then-is_promoted.ensures (omega arith)
     (λ x h k. not_none c.args.man.kind x.mv.promo h.1 k.1)
     (λ x h. h.0)
     (λ x h. h.0)
@@ -30,10 +32,12 @@ returns-else-is_promoted c =
     let gs = c.args.set.now in
     let q = c.args.q.now in
     let b = c.args.to in
-    adds_same (ComesAs gs q b None) (ComesTo gs q b) c.args.out.now c.add_as.new.out 3456 6912 c.add_as.ensures (omega arith)
+    adds_same (ComesAs gs q b None) (ComesTo gs q b) c.args.out.now c.add_as.new.out 3456 6912
+    c.add_as.ensures (omega arith)
     (λ x h. h.0)
     (λ x h. elim (promo_cases_at gs q b x h c.args.man c.requires.man) [
       | inl e ↦ (h, e)
       | inr e ↦
-          absurd (clash (is_last c.args.man.colour b && is_promotion (Some c.args.man.kind)) e.1 (sym c.is_promoted.ensures ∙ c.if-is_promoted.false))
+          absurd (clash (is_last c.args.man.colour b && is_promotion (Some c.args.man.kind)) e.1
+          (sym c.is_promoted.ensures ∙ c.if-is_promoted.false))
     ])

@@ -15,7 +15,8 @@ returns-in-Some c =
     let i = c.in-Some.number in
     let y : Pred = record { number = i; mv = m } in
     let h = (c.number_before.ensures.number i).0 c.in-Some.is in
-    adds_one (ComesFrom gs q m c.args.taken c.args.target.now) c.args.out.now c.push.new.self y c.push.ensures
+    adds_one (ComesFrom gs q m c.args.taken c.args.target.now) c.args.out.now c.push.new.self y
+    c.push.ensures
     (named gs q m c.args.taken c.args.target.now c.number_before.ensures.step i h.0 h.1 h.2)
     (λ x k.
     let g = of_name gs q m c.args.taken c.args.target.now x k in

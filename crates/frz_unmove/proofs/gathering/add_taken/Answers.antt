@@ -8,4 +8,6 @@ returns-else-may_take c =
     let gs = c.args.set.now in
     let q = c.args.q.now in
     adds_none (ComesTaking gs q c.args.to c.args.promo c.args.taken) c.args.out.now 576
-    (λ x h. clash c.may_take.result (may_be_taken gs q x c.args.to c.args.taken c.may_take.result h.0.0 h.1 c.requires.side c.may_take.ensures) c.if-may_take.false)
+    (λ x h. clash c.may_take.result
+    (may_be_taken gs q x c.args.to c.args.taken c.may_take.result h.0.0 h.1 c.requires.side
+    c.may_take.ensures) c.if-may_take.false)

@@ -7,4 +7,6 @@ use Rattle.frz_unmove.proofs.targets.earlier_targets.Given as goal
 
 abbrev pub invariant-loop-target : goal.invariant-loop-target
 invariant-loop-target l =
-    (t : ℕ) → t < 64 → has_square l.word t ≡ (list_any (λ y. t == y) (take l.target-index l.target-items) && may_have_stood l.q l.to t)
+    (t : ℕ) → t < 64
+    → has_square l.word t
+    ≡ (list_any (λ y. t == y) (take l.target-index l.target-items) && may_have_stood l.q l.to t)

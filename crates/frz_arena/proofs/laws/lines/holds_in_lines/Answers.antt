@@ -12,8 +12,10 @@ returns-clause-drawn g c player line s t p xs e k w =
 
 pub returns-clause-few : goal.returns-clause-few
 returns-clause-few g c player most o s t p xs e k w =
-    let r = (cut_way player most 0 s t p xs e o (omega arith) (one_at_most (player.entry p) k) w).0 in omega (arith, r)
+    let r = (cut_way player most 0 s t p xs e o (omega arith) (one_at_most (player.entry p) k)
+    w).0 in omega (arith, r)
 
 pub returns-clause-cut : goal.returns-clause-cut
 returns-clause-cut g c player most o s t p xs k w =
-    let r = (cut_way player most 0 s t p xs Cut o (omega arith) (one_at_most (player.entry p) k) w).1 refl in omega (arith, r)
+    let r = (cut_way player most 0 s t p xs Cut o (omega arith) (one_at_most (player.entry p) k)
+    w).1 refl in omega (arith, r)

@@ -17,4 +17,5 @@ returns-clause-one g c = lemma.one_table
 
 pub returns-clause-plies : goal.returns-clause-plies
 returns-clause-plies g c numbers arena numbering law side most lags codes table =
-    plies_small numbers arena numbering law side most lags codes (table_is_exact numbers arena numbering law side codes table)
+    plies_small numbers arena numbering law side most lags codes
+    (table_is_exact numbers arena numbering law side codes table)

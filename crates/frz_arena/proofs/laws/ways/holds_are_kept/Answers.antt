@@ -8,4 +8,5 @@ one_at_most c e = omega (arith, e)
 
 pub returns : goal.returns
 returns g c player s t p xs e k w =
-    held_way player 0 s t p xs e (small_is_no_failure (player.entry p) (one_at_most (player.entry p) k)) w
+    held_way player 0 s t p xs e
+    (small_is_no_failure (player.entry p) (one_at_most (player.entry p) k)) w

@@ -5,5 +5,10 @@ use Rattle.frz_bits.proofs.bitboards.Bitboards.hand_over.Goals as goal
 
 pub invariant_of-result : goal.invariant_of-result
 invariant_of-result c =
-    subst (λ (b : Board). HasSides b c.self.inside.white c.self.inside.black) (sym c.hand_over.ensures)
-    (record { fits = c.self.invariant.fits; of_white = c.self.invariant.of_white; of_black = c.self.invariant.of_black })
+    subst (λ (b : Board). HasSides b c.self.inside.white c.self.inside.black)
+    (sym c.hand_over.ensures)
+    (record {
+      fits = c.self.invariant.fits;
+      of_white = c.self.invariant.of_white;
+      of_black = c.self.invariant.of_black;
+    })

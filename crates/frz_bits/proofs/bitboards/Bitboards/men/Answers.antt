@@ -7,7 +7,9 @@ use Rattle.frz_bits.proofs.bitboards.Bitboards.men.Goals as goal
 
 pub returns : goal.returns
 returns c =
-    set_of-from c.cells_equal.result (λ s. has c.args.self.now c.args.man.colour c.args.man.kind s) c.cells_equal.type_inv
+    set_of-from c.cells_equal.result (λ s. has c.args.self.now c.args.man.colour c.args.man.kind s)
+    c.cells_equal.type_inv
     (λ k l. c.cells_equal.ensures k l
     ∙ ap (λ x. slice_index c.cells.result k == x) c.cell_of.ensures.cell
-    ∙ ap (λ cells. slice_index cells k == cell_of_man c.args.man) (c.cells.ensures.cells ∙ ap (λ (p : Board). p.cells) c.self.view_is))
+    ∙ ap (λ cells. slice_index cells k == cell_of_man c.args.man)
+    (c.cells.ensures.cells ∙ ap (λ (p : Board). p.cells) c.self.view_is))

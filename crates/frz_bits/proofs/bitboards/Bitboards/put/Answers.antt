@@ -9,8 +9,10 @@ use Rattle.frz_bits.proofs.bitboards.Bitboards.put.Goals as goal
 pub invariant_of-result : goal.invariant_of-result
 invariant_of-result c =
     subst (λ (p : Board). HasSides p c.replaced.result c.replaced-2.result) (sym c.put.ensures.put)
-    (put_keeps c.self.inside.position c.self.inside.white c.self.inside.black c.args.s c.args.c c.replaced.result c.replaced-2.result
-    c.self.invariant c.put.ensures.on_board (let low = c.requires in omega arith) c.replaced.type_inv c.replaced-2.type_inv
+    (put_keeps c.self.inside.position c.self.inside.white c.self.inside.black c.args.s c.args.c
+    c.replaced.result c.replaced-2.result
+    c.self.invariant c.put.ensures.on_board (let low = c.requires in omega arith)
+    c.replaced.type_inv c.replaced-2.type_inv
     (λ k l. c.replaced.ensures k l
     ∙ ap (λ x. if k == c.args.s then x else has_square c.self.inside.white k) c.is_white.ensures)
     (λ k l. c.replaced-2.ensures k l

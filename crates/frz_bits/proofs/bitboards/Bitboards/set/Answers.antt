@@ -8,9 +8,12 @@ use Rattle.frz_bits.proofs.bitboards.Bitboards.set.Goals as goal
 
 pub invariant_of-self : goal.invariant_of-self
 invariant_of-self c =
-    subst (λ (p : Board). HasSides p c.replaced-self-inside.result c.replaced-self-inside-2.result) (sym c.set.ensures.put)
-    (put_keeps c.self.inside.position c.self.inside.white c.self.inside.black c.args.s c.args.c c.replaced-self-inside.result c.replaced-self-inside-2.result
-    c.self.invariant c.set.ensures.on_board (let low = c.requires in omega arith) c.replaced-self-inside.type_inv c.replaced-self-inside-2.type_inv
+    subst (λ (p : Board). HasSides p c.replaced-self-inside.result c.replaced-self-inside-2.result)
+    (sym c.set.ensures.put)
+    (put_keeps c.self.inside.position c.self.inside.white c.self.inside.black c.args.s c.args.c
+    c.replaced-self-inside.result c.replaced-self-inside-2.result
+    c.self.invariant c.set.ensures.on_board (let low = c.requires in omega arith)
+    c.replaced-self-inside.type_inv c.replaced-self-inside-2.type_inv
     (λ k l. c.replaced-self-inside.ensures k l
     ∙ ap (λ x. if k == c.args.s then x else has_square c.self.inside.white k) c.is_white.ensures)
     (λ k l. c.replaced-self-inside-2.ensures k l

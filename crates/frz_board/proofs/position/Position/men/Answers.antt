@@ -12,7 +12,8 @@ returns-in-White-clause-men c =
     c.count_between.ensures.count
     ∙ count_white c.cells.result
     ∙ ap (λ xs. count_by (λ x. is_man_of White (man_of_cell x)) xs) c.cells.ensures.cells
-    ∙ ap (λ (k : Colour). count_by (λ x. is_man_of k (man_of_cell x)) c.args.self.now.cells) (sym c.in-White.is)
+    ∙ ap (λ (k : Colour). count_by (λ x. is_man_of k (man_of_cell x)) c.args.self.now.cells)
+    (sym c.in-White.is)
 
 pub returns-in-Black-clause-men : goal.returns-in-Black-clause-men
 unfolding men_of
@@ -20,4 +21,5 @@ returns-in-Black-clause-men c =
     c.count_between-in-Black.ensures.count
     ∙ count_black c.cells-in-Black.result
     ∙ ap (λ xs. count_by (λ x. is_man_of Black (man_of_cell x)) xs) c.cells-in-Black.ensures.cells
-    ∙ ap (λ (k : Colour). count_by (λ x. is_man_of k (man_of_cell x)) c.args.self.now.cells) (sym c.in-Black.is)
+    ∙ ap (λ (k : Colour). count_by (λ x. is_man_of k (man_of_cell x)) c.args.self.now.cells)
+    (sym c.in-Black.is)

@@ -13,6 +13,10 @@ returns-then-k-eq1 c =
 
 pub returns : goal.returns
 returns c =
-    let within : c.args.n < length c.self.inside.rows.items = omega (arith, c.requires.n, c.self.view_is) in
-    ap (λ row. get_or row c.args.k 0) (c.index.ensures ∙ get_or_default c.self.inside.rows.items c.args.n c.index.result.now [] within)
-    ∙ (row_at c.self.inside.rows.items c.args.n c.self.invariant within).numbers c.args.k (omega (arith, c.requires.k))
+    let within : c.args.n < length c.self.inside.rows.items = omega
+    (arith, c.requires.n, c.self.view_is) in
+    ap (λ row. get_or row c.args.k 0)
+    (c.index.ensures ∙ get_or_default c.self.inside.rows.items c.args.n c.index.result.now []
+    within)
+    ∙ (row_at c.self.inside.rows.items c.args.n c.self.invariant within).numbers c.args.k
+    (omega (arith, c.requires.k))

@@ -17,5 +17,8 @@ returns g c =
     let rules = c.args.self.now.rules.now in
     let value = g.B.ExitBook.value_at c.args.self.now.book.now in
     let q = after p m in
-    same_arm m c.allowed.result (is_free rules p.turn p m) c.next.result (named_next (name_in (numbers_by rules.groups)) (next_by (is_member rules.groups q) q (value q)))
-    (c.allowed.ensures ∙ ap (λ side. is_free rules side c.as_position.result.now m) c.turn.ensures ∙ ap (λ (q : Board). is_free rules p.turn q m) c.as_position.ensures) c.next.ensures
+    same_arm m c.allowed.result (is_free rules p.turn p m) c.next.result
+    (named_next (name_in (numbers_by rules.groups))
+    (next_by (is_member rules.groups q) q (value q)))
+    (c.allowed.ensures ∙ ap (λ side. is_free rules side c.as_position.result.now m) c.turn.ensures
+    ∙ ap (λ (q : Board). is_free rules p.turn q m) c.as_position.ensures) c.next.ensures

@@ -11,7 +11,9 @@ returns-in-Some g c =
     let groups = c.args.self.now.rules.now.groups in
     let q = after c.args.p.now c.args.m in
     sym (next_inside groups q (g.B.ExitBook.value_at c.args.self.now.book.now q) c.in-Some.n
-    (sym (c.number.ensures ∙ (ap (λ gs. number_of gs c.after-q.result) c.args.self.now.fits ∙ ap (λ (r : Board). number_of groups r) c.after-q.ensures.position)) ∙ c.in-Some.is))
+    (sym (c.number.ensures
+    ∙ (ap (λ gs. number_of gs c.after-q.result) c.args.self.now.fits
+    ∙ ap (λ (r : Board). number_of groups r) c.after-q.ensures.position)) ∙ c.in-Some.is))
 
 pub returns-in-None : goal.returns-in-None
 returns-in-None g c =
@@ -20,4 +22,6 @@ returns-in-None g c =
     let q = after c.args.p.now c.args.m in
     ap Outside (c.value.ensures ∙ ap value (c.as_position.ensures ∙ c.after-q.ensures.position))
     ∙ sym (next_outside groups q (value q)
-    (sym (c.number.ensures ∙ (ap (λ gs. number_of gs c.after-q.result) c.args.self.now.fits ∙ ap (λ (r : Board). number_of groups r) c.after-q.ensures.position)) ∙ c.in-None.is))
+    (sym (c.number.ensures
+    ∙ (ap (λ gs. number_of gs c.after-q.result) c.args.self.now.fits
+    ∙ ap (λ (r : Board). number_of groups r) c.after-q.ensures.position)) ∙ c.in-None.is))

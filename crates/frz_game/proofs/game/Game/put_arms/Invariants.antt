@@ -4,4 +4,5 @@ use Rattle.frz_game.proofs.game.Game.put_arms.Given as goal
 
 abbrev pub invariant-loop-m : goal.invariant-loop-m
 invariant-loop-m g l =
-    l.list.items ≡ map (arm_at l.self.rules.now (g.B.ExitBook.value_at l.self.book.now) l.p) (take l.m-index l.m-items)
+    l.list.items ≡ map (arm_at l.self.rules.now (g.B.ExitBook.value_at l.self.book.now) l.p)
+    (take l.m-index l.m-items)

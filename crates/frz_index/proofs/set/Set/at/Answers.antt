@@ -12,10 +12,13 @@ returns-in-None c = c.in-None.ensures
 pub returns-in-Some : goal.returns-in-Some
 returns-in-Some c = record {
   exact =
-      λ p. subst (λ (q : Board). (Some q ≡ Some p) ↔ HasNumber c.args.self.now c.args.i p) (sym c.position.ensures) (c.in-Some.ensures.exact p);
+      λ p. subst (λ (q : Board). (Some q ≡ Some p) ↔ HasNumber c.args.self.now c.args.i p)
+      (sym c.position.ensures) (c.in-Some.ensures.exact p);
   broken =
-      subst (λ (q : Board). IsNone (Some q) ↔ Broken c.args.self.now c.args.i) (sym c.position.ensures) c.in-Some.ensures.broken;
+      subst (λ (q : Board). IsNone (Some q) ↔ Broken c.args.self.now c.args.i)
+      (sym c.position.ensures) c.in-Some.ensures.broken;
   function =
-      subst (λ (q : Board). Some q ≡ position_at c.args.self.now c.args.i) (sym c.position.ensures) c.in-Some.ensures.function;
+      subst (λ (q : Board). Some q ≡ position_at c.args.self.now c.args.i) (sym c.position.ensures)
+      c.in-Some.ensures.function;
   valid = subst IsValid (sym c.position.ensures) c.in-Some.ensures.valid;
 }

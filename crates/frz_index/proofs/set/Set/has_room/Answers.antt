@@ -8,4 +8,5 @@ returns-else-knows c =
     let gs = c.args.self.now in
     c.if-knows.false
     ∙ sym (room_unknown gs c.args.p.now c.args.man c.args.s
-    (ap (λ cell. is_known gs cell c.args.s) (sym c.cell_of.ensures.cell) ∙ sym c.knows.ensures ∙ c.if-knows.false))
+    (ap (λ cell. is_known gs cell c.args.s) (sym c.cell_of.ensures.cell) ∙ sym c.knows.ensures
+    ∙ c.if-knows.false))

@@ -7,4 +7,5 @@ use Rattle.frz_index.proofs.set.Set.number_on.Goals as goal
 pub returns-clause-function : goal.returns-clause-function
 returns-clause-function c =
     subst (λ (gs : List GroupLine). c.number_in.result ≡ number_of gs c.args.p.now) c.self.view_is
-    (number_matches c.self.inside.plan.groups.items c.args.p.now c.number_in.result c.number_in.ensures)
+    (number_matches c.self.inside.plan.groups.items c.args.p.now c.number_in.result
+    c.number_in.ensures)

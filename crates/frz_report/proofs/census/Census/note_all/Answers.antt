@@ -10,9 +10,15 @@ note_if_open-requires-clause-counts c =
     let i = c.loop-arm.arm-index in
     let front : List (List ℕ) = classes_after c.args.p.now (take i c.args.arms.now) in
     let many : length (k.0 ++ front) ≡ length k.0 + length front = length-append k.0 front in
-    let few : length front ≤ length c.args.arms.now = few_front c.args.p.now c.args.arms.now i (omega arith) in
-    let small = k.3 in
-    (k.0 ++ front, c.loop-arm.invariant.counts k.0 k.1, c.loop-arm.invariant.total ∙ ap (λ (n : ℕ). n + length front) k.2 ∙ sym many, omega arith)
+    let few : length front ≤ length c.args.arms.now = few_front c.args.p.now c.args.arms.now i
+    (omega arith) in
+    let small = k.3 in (
+      k.0 ++ front,
+      c.loop-arm.invariant.counts k.0 k.1,
+      c.loop-arm.invariant.total
+          ∙ ap (λ (n : ℕ). n + length front) k.2 ∙ sym many,
+      omega arith,
+    )
 
 pub loop-arm-preserved : goal.loop-arm-preserved
 loop-arm-preserved c =
@@ -21,13 +27,20 @@ loop-arm-preserved c =
     let i = c.loop-arm.arm-index in
     let arm = c.arm-item.result in
     let front : List (List ℕ) = classes_after p (take i arms) in
-    let step : classes_after p (take (i + 1) arms) ≡ front ++ classes_after p (arm ∷ []) = classes_step p arms i arm (omega arith) c.arm-item.is in
+    let step : classes_after p (take (i + 1) arms) ≡ front ++ classes_after p (arm ∷ []) =
+    classes_step p arms i arm (omega arith) c.arm-item.is in
     record {
-      total = c.in_ok-note_if_open.ensures.total ∙ ap (λ (n : ℕ). n + length (classes_after p (arm ∷ []))) c.loop-arm.invariant.total
-          ∙ plus_assoc c.args.self.now.total (length front) (length (classes_after p (arm ∷ []))) ∙ ap (λ (n : ℕ). c.args.self.now.total + n) (sym (length-append front (classes_after p (arm ∷ []))) ∙ ap length (sym step));
+      total = c.in_ok-note_if_open.ensures.total
+          ∙ ap (λ (n : ℕ). n + length (classes_after p (arm ∷ []))) c.loop-arm.invariant.total
+          ∙ plus_assoc c.args.self.now.total (length front) (length (classes_after p (arm ∷ [])))
+          ∙ ap (λ (n : ℕ). c.args.self.now.total + n)
+          (sym (length-append front (classes_after p (arm ∷ []))) ∙ ap length (sym step));
       counts = λ exits before.
-          subst (Counts c.note_if_open.new.self.classes.entries) (append_assoc exits front (classes_after p (arm ∷ [])) ∙ ap (λ (l : List (List ℕ)). exits ++ l) (sym step))
-          (c.in_ok-note_if_open.ensures.counts (exits ++ front) (c.loop-arm.invariant.counts exits before));
+          subst (Counts c.note_if_open.new.self.classes.entries)
+          (append_assoc exits front (classes_after p (arm ∷ []))
+          ∙ ap (λ (l : List (List ℕ)). exits ++ l) (sym step))
+          (c.in_ok-note_if_open.ensures.counts (exits ++ front)
+          (c.loop-arm.invariant.counts exits before));
     }
   where
     plus_assoc : (a b c : ℕ) → a + b + c ≡ a + (b + c)

@@ -6,5 +6,6 @@ use Rattle.frz_report.proofs.census.Census.note_all.Given as goal
 abbrev pub invariant-loop-arm : goal.invariant-loop-arm
 invariant-loop-arm l = record {
   total : l.self.total ≡ l.fn.self.total + length (classes_after l.p (take l.arm-index l.arms));
-  counts : (exits : List (List ℕ)) → Counts l.fn.self.classes.entries exits → Counts l.self.classes.entries (exits ++ classes_after l.p (take l.arm-index l.arms));
+  counts : (exits : List (List ℕ)) → Counts l.fn.self.classes.entries exits
+      → Counts l.self.classes.entries (exits ++ classes_after l.p (take l.arm-index l.arms));
 }

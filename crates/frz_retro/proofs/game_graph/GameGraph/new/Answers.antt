@@ -6,6 +6,7 @@ returns-clause-sound g c =
     let value = g.B.ExitBook.value_at game.book.now in
     record {
       same = game.fits;
-      finite = c.numbered.ensures.finite game.rules.now value (g.met.B.ExitBook.small game.book.now) c.requires.size;
+      finite = c.numbered.ensures.finite game.rules.now value (g.met.B.ExitBook.small game.book.now)
+          c.requires.size;
       different = c.different_arms.ensures game.rules.now value;
     }

@@ -10,6 +10,8 @@ mover-requires g c =
 pub returns : goal.returns
 returns g c =
     let game = c.args.self.now.game.now in
-    let at = c.game_moves.ensures.there game.rules.now (g.B.ExitBook.value_at game.book.now) c.args.i c.requires.whole in
-    let number = subst (λ groups. HasNumber groups c.args.i at.0) (sym c.requires.sound.same) at.1 in
+    let at = c.game_moves.ensures.there game.rules.now (g.B.ExitBook.value_at game.book.now)
+    c.args.i c.requires.whole in
+    let number = subst (λ groups. HasNumber groups c.args.i at.0) (sym c.requires.sound.same)
+    at.1 in
     at.2 ∙ ap Some (c.mover.ensures.turn at.0 number)

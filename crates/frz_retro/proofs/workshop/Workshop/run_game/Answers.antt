@@ -7,5 +7,8 @@ use Rattle.frz_retro.proofs.workshop.Workshop.run_game.Goals as goal
 pub returns-clause-table : goal.returns-clause-table
 returns-clause-table g c =
     let game = c.args.game.now in
-    let exact = subst (λ h. IsExact (graph_by h.rules.now (g.B.ExitBook.value_at h.book.now)) c.args.side (size_of h.rules.now.groups) c.run.new.self) c.new.ensures.game c.run.ensures.exact in
-    c.tables.ensures.table game.rules.now (g.B.ExitBook.value_at game.book.now) c.args.side c.run.new.self exact
+    let exact = subst (λ h. IsExact (graph_by h.rules.now (g.B.ExitBook.value_at h.book.now))
+    c.args.side (size_of h.rules.now.groups) c.run.new.self) c.new.ensures.game
+    c.run.ensures.exact in
+    c.tables.ensures.table game.rules.now (g.B.ExitBook.value_at game.book.now) c.args.side
+    c.run.new.self exact

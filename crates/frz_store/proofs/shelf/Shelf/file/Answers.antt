@@ -9,8 +9,14 @@ use Rattle.frz_store.proofs.shelf.Shelf.file.Goals as goal
 pub returns-then-eq : goal.returns-then-eq
 returns-then-eq c =
     ap Some c.deref.ensures.value
-    ∙ sym (open_here _ c.args.self.now.newest c.in-Some.file c.args.name.now c.in-Some.is (ap (λ (x : List ℕ). bytes_eq x c.args.name.now) (sym c.as_str.ensures.value) ∙ sym c.if-eq.ensures))
+    ∙ sym (open_here _ c.args.self.now.newest c.in-Some.file c.args.name.now c.in-Some.is
+    (ap (λ (x : List ℕ). bytes_eq x c.args.name.now) (sym c.as_str.ensures.value)
+    ∙ sym c.if-eq.ensures))
 
 pub returns-else-eq : goal.returns-else-eq
 returns-else-eq c =
-    c.find.ensures ∙ ap (λ (x : List NamedFile). stacked no_files x c.args.name.now) c.deref-else-eq.ensures.value ∙ sym (open_else _ c.args.self.now.newest c.in-Some.file c.args.name.now c.in-Some.is (ap (λ (x : List ℕ). bytes_eq x c.args.name.now) (sym c.as_str.ensures.value) ∙ sym c.if-eq.ensures))
+    c.find.ensures ∙ ap (λ (x : List NamedFile). stacked no_files x c.args.name.now)
+    c.deref-else-eq.ensures.value
+    ∙ sym (open_else _ c.args.self.now.newest c.in-Some.file c.args.name.now c.in-Some.is
+    (ap (λ (x : List ℕ). bytes_eq x c.args.name.now) (sym c.as_str.ensures.value)
+    ∙ sym c.if-eq.ensures))

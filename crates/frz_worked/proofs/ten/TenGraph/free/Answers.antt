@@ -6,4 +6,5 @@ use Rattle.frz_worked.proofs.ten.TenGraph.free.Goals as goal
 
 pub returns : goal.returns
 returns g c a there move =
-    c.is_free.ensures ∙ (ap (λ (m : Step). is_free c.args.i m.to) (sym move) ∙ free_is c.args.i a there)
+    c.is_free.ensures ∙ (ap (λ (m : Step). is_free c.args.i m.to) (sym move)
+    ∙ free_is c.args.i a there)

@@ -16,11 +16,15 @@ loop-edge-preserved g c = record {
     | then-leads_to w ↦
         w.out-is
         ∙ (w.push.ensures
-        ∙ (ap₂ (λ (xs : List Pred) (p : Pred). xs ++ p ∷ []) c.loop-edge.invariant.items w.pred_of.ensures
-        ∙ sym (preds_more c.args.q c.loop-edge.edge-index _ c.loop-edge-test.true (sym c.leads_to.ensures ∙ w.if-leads_to.true))))
+        ∙ (ap₂ (λ (xs : List Pred) (p : Pred). xs ++ p ∷ []) c.loop-edge.invariant.items
+        w.pred_of.ensures
+        ∙ sym (preds_more c.args.q c.loop-edge.edge-index _ c.loop-edge-test.true
+        (sym c.leads_to.ensures ∙ w.if-leads_to.true))))
     | else-leads_to w ↦
         w.out-is
-        ∙ (c.loop-edge.invariant.items ∙ sym (preds_same c.args.q c.loop-edge.edge-index _ c.loop-edge-test.true (sym c.leads_to.ensures ∙ w.if-leads_to.false)))
+        ∙ (c.loop-edge.invariant.items
+        ∙ sym (preds_same c.args.q c.loop-edge.edge-index _ c.loop-edge-test.true
+        (sym c.leads_to.ensures ∙ w.if-leads_to.false)))
   ];
   few = elim c.if-leads_to.branch [
     | then-leads_to w ↦
@@ -36,10 +40,15 @@ loop-edge-preserved g c = record {
 
 pub returns-clause-all : goal.returns-clause-all
 returns-clause-all g c i m =
-    let e : c.loop-edge.out ≡ preds_to c.args.q = c.loop-edge.invariant.items ∙ ap (filter_map (pred_to c.args.q)) (take_all c.loop-edge.edge-index EDGES c.loop-edge-test.false) in
-    subst (λ xs. Contains xs (record { number = i; mv = m }) ↔ IsMoveTo game i m c.args.q) (sym e) (preds_are c.args.q i m)
+    let e : c.loop-edge.out ≡ preds_to c.args.q = c.loop-edge.invariant.items
+    ∙ ap (filter_map (pred_to c.args.q))
+    (take_all c.loop-edge.edge-index EDGES c.loop-edge-test.false) in
+    subst (λ xs. Contains xs (record { number = i; mv = m }) ↔ IsMoveTo game i m c.args.q) (sym e)
+    (preds_are c.args.q i m)
 
 pub returns-clause-once : goal.returns-clause-once
 returns-clause-once g c =
-    let e : c.loop-edge.out ≡ preds_to c.args.q = c.loop-edge.invariant.items ∙ ap (filter_map (pred_to c.args.q)) (take_all c.loop-edge.edge-index EDGES c.loop-edge-test.false) in
+    let e : c.loop-edge.out ≡ preds_to c.args.q = c.loop-edge.invariant.items
+    ∙ ap (filter_map (pred_to c.args.q))
+    (take_all c.loop-edge.edge-index EDGES c.loop-edge-test.false) in
     subst HaveDifferentNumbers (sym e) (preds_once c.args.q)

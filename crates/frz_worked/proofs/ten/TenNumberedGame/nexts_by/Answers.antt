@@ -11,11 +11,13 @@ loop-edge-preserved g c = record {
     | then-edge-i w ↦
         ap (λ (x : Lists). x.nexts.items) w.lists-is
         ∙ (w.push.ensures.items
-        ∙ (ap₂ (λ (xs : List Arm) (a : Arm). xs ++ a ∷ []) c.loop-edge.invariant.items w.arm_of.ensures
+        ∙ (ap₂ (λ (xs : List Arm) (a : Arm). xs ++ a ∷ []) c.loop-edge.invariant.items
+        w.arm_of.ensures
         ∙ sym (arms_more c.args.i c.loop-edge.edge-index _ c.loop-edge-test.true w.if-edge-i.true)))
     | else-edge-i w ↦
         ap (λ (x : Lists). x.nexts.items) w.lists-is
-        ∙ (c.loop-edge.invariant.items ∙ sym (arms_same c.args.i c.loop-edge.edge-index _ c.loop-edge-test.true w.if-edge-i.false))
+        ∙ (c.loop-edge.invariant.items
+        ∙ sym (arms_same c.args.i c.loop-edge.edge-index _ c.loop-edge-test.true w.if-edge-i.false))
   ];
   few = elim c.if-edge-i.branch [
     | then-edge-i w ↦
