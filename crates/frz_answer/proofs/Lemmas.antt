@@ -27,6 +27,7 @@ pub use Rattle.frz_answer.proofs.Worlds.{
   fine_steps,
   fine_store,
   ok_fine,
+  quiet_both,
   quiet_same,
   quiet_steps,
   quiet_store,

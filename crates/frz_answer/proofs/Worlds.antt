@@ -73,6 +73,17 @@ quiet_steps store input out before now more = record {
   taken = refl;
 }
 
+-- calls of the store and steps
+pub quiet_both : (old new : StoreTold) (input : SourceTold) (out : SinkTold) (before now : ℕ)
+    → StoreQuiet old new → before ≤ now
+    → Quiet (world old input out before) (world new input out now)
+quiet_both old new input out before now quiet later = record {
+  later = record { store = quiet.later; input = omega arith; out = omega arith; steps = later };
+  store = quiet.unwritten;
+  left = refl;
+  taken = refl;
+}
+
 pub quiet_store : (old new : StoreTold) (input : SourceTold) (out : SinkTold) (steps : ℕ)
     → StoreQuiet old new → Quiet (world old input out steps) (world new input out steps)
 quiet_store old new input out steps h = record {

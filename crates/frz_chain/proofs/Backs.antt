@@ -3,13 +3,9 @@ use Rattle.std.proofs.Common.{◌≡◌, refl, sym, ap, subst, ◌∙◌, ℕ, �
 use Rattle.frz_board.specs.declared.man.Colour.{Colour}
 use Rattle.frz_board.specs.declared.man.Colour.TheVariants.{White, Black}
 use Rattle.frz_exits.specs.Books.{value_by}
-use Rattle.frz_exits.proofs.Lemmas.{small_values}
 use Rattle.frz_graph.specs.EntryCodes.{of_side}
-use Rattle.frz_game.specs.SmallLags.{HasSmallLags}
-use Rattle.frz_game.proofs.Lemmas.{plies_few, table_exact}
+use Rattle.frz_game.proofs.Lemmas.{table_exact}
 use Rattle.frz_rules.specs.Text.{rules_of}
-use Rattle.frz_rules.proofs.Lemmas.{answer_sound}
-use Rattle.frz_sets.specs.Views.{RuleLines}
 use Rattle.frz_store.specs.Files.{Files}
 use Rattle.frz_store.specs.Told.{StoreTold}
 use Rattle.frz_table.specs.declared.fault.TableFault.{TableFault}
@@ -25,7 +21,7 @@ use Rattle.frz_table.proofs.Lemmas.{belongs, opens_by, read_short}
 use Rattle.frz_check.specs.declared.verdict.Verdict.{Verdict}
 use Rattle.frz_check.specs.Kept.{WithinFile, kept_codes}
 use Rattle.frz_check.specs.Verdicts.{IsVerdict}
-use Rattle.frz_check.proofs.Lemmas.{file_not_loaded, verdict_on, within_file}
+use Rattle.frz_check.proofs.Lemmas.{few_plies, file_not_loaded, verdict_on, within_file}
 use Rattle.frz_chain.specs.Backs.{GivesBack, IsBackJudged, IsRefusedBack, OpensBack, RefusesBack}
 use Rattle.frz_chain.specs.Books.{Back, back_with}
 use Rattle.frz_chain.specs.Causes.{back_fault}
@@ -34,11 +30,6 @@ use Rattle.frz_chain.specs.declared.back.BackTable.{BackTable}
 use Rattle.frz_chain.specs.declared.fault.ChainFault.{ChainFault}
 use Rattle.frz_chain.specs.declared.fault.ChainFault.TheVariants as chain
 use Rattle.frz_chain.proofs.Moved.{same_verdict}
-
--- the values of rules that were read have small lags
-pub read_small : (text : List ℕ) (rules : RuleLines) → rules_of text ≡ Ok rules
-    → HasSmallLags (value_by rules)
-read_small text rules read q valid = small_values rules (answer_sound text (Ok rules) read) q
 
 -- a file that is refused is refused as a back table
 file_refused : (held : Option (List ℕ)) (fault : TableFault)
@@ -94,7 +85,7 @@ judged_bytes table white black bytes v read opens white_is black_is h = record {
   told =
       verdict_on Plain (value_by table.rules) (contents_of table) bytes v
       (table_exact table.rules (value_by table.rules))
-      (plies_few table.rules (value_by table.rules) (read_small table.text table.rules read)) read
+      (few_plies table.text table.rules read) read
       opens
       (same_verdict table.rules (value_by table.rules) (λ side. of_side side white black)
       (kept_codes (contents_of table) bytes) v by_side h);

@@ -1,4 +1,11 @@
 -- The lemmas that the crates above use.
+pub use Rattle.frz_check.proofs.Accepted.{
+  few_plies,
+  file_tables,
+  read_small,
+  read_sound,
+  small_lags,
+}
 pub use Rattle.frz_check.proofs.FileChecks.{file_not_loaded, within_file}
 pub use Rattle.frz_check.proofs.OneVerdict.{TablesExact, verdict_there, one_verdict, exact_verdict}
 pub use Rattle.frz_check.proofs.OneFile.{

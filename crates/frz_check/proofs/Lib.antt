@@ -1,5 +1,6 @@
 pub mod FirstWrong
 pub mod OneVerdict
 pub mod OneFile
+pub mod Accepted
 pub mod FileChecks
 pub mod Lemmas

@@ -31,7 +31,7 @@ use Rattle.frz_prelude.specs.declared.stop.Stop.TheVariants.{Refused, Fault}
 use Rattle.frz_prelude.proofs.Lemmas.{holding}
 use Rattle.frz_commands_ask.specs.declared.kept.KeptCodes.{KeptCodes}
 use Rattle.frz_commands_ask.specs.Kept.{code_reads, keeping_bytes, keeping_calls, kept_at, kept_by, kept_of, AreKept, IsKeptIn, IsKept}
-use Rattle.frz_commands_ask.proofs.Soundness.{read_sound}
+use Rattle.frz_check.proofs.Lemmas.{read_sound}
 
 -- the text of a file that opens is the one that it keeps
 pub opened_text : (kind : FileKind) (bytes : List ℕ) (contents : Contents)

@@ -1,4 +1,3 @@
-pub mod Soundness
 pub mod Solved
 pub mod SolvedOnce
 pub mod Entries

@@ -15,7 +15,6 @@ use Rattle.frz_sets.specs.declared.exit.Value.{Value}
 use Rattle.frz_game.specs.Numbers.{is_member}
 use Rattle.frz_game.proofs.Lemmas.{plies_few, stored_bound}
 use Rattle.frz_table.specs.declared.fault.TableFault.{TableFault}
-use Rattle.frz_table.specs.declared.fault.TableFault.TheVariants.{Missing, Magic, Truncated, Extra, Rules, Size, Failed, NoMemory}
 use Rattle.frz_table.specs.declared.kind.FileKind.{FileKind}
 use Rattle.frz_table.specs.declared.kind.FileKind.TheVariants.{Plain, Chained}
 use Rattle.frz_table.specs.Layout.{magic_of}
@@ -23,21 +22,17 @@ use Rattle.frz_table.specs.Opening.{Contents, opened, table_format}
 use Rattle.frz_table.proofs.Lemmas.{belongs}
 use Rattle.frz_check.specs.Kept.{kept_codes}
 use Rattle.frz_check.specs.OneFile.{IsOneFile}
-use Rattle.frz_check.proofs.Lemmas.{one_file_holds}
+use Rattle.frz_check.proofs.Lemmas.{one_file_holds, read_small}
 use Rattle.frz_answer.specs.Answers.{Answer}
 use Rattle.frz_prelude.specs.BoundLines.{side_name, bound_line, bounds_text, kept_line, kept_text}
-use Rattle.frz_prelude.specs.TableCauses.{table_line}
-use Rattle.frz_prelude.specs.TableFiles.{TellsFaultOfKind}
 use Rattle.frz_prelude.specs.declared.refused.Refused.{Refused}
-use Rattle.frz_prelude.specs.declared.refused.Refused.TheVariants as refusals
-use Rattle.frz_prelude.proofs.Lemmas.{IsOfBytes, of_bytes, opened_missing, kept_bound}
+use Rattle.frz_prelude.proofs.Lemmas.{opened_missing, kept_bound, refused_means}
 use Rattle.frz_commands_ask.specs.declared.kept.KeptCodes.{KeptCodes}
 use Rattle.frz_commands_ask.specs.Kept.{kept_at, kept_by, kept_of, answer_by}
 use Rattle.frz_commands_ask.specs.Meaning.{TellsBounds}
 use Rattle.frz_commands_ask.specs.Querying.{MeansStatus, MeansQuery, TellsWhereExact}
 use Rattle.frz_commands_ask.proofs.KeptFiles.{gives_outside, gives_codes}
 use Rattle.frz_commands_ask.proofs.Meaning.{tells_bounds}
-use Rattle.frz_commands_ask.proofs.Soundness.{read_sound, small_lags}
 
 -- the line of a bound's code is that of the bound
 line_of_bound : (side : Colour) (b : Bound) → kept_line side (code_of b) ≡ bound_line side b
@@ -85,38 +80,15 @@ tells_exact : (kind : FileKind) (contents : Contents) (bytes : List ℕ) (p : Bo
     (kept_text (kept_at White contents bytes p) (kept_at Black contents bytes p))
 tells_exact Plain contents bytes p inside opens = λ one.
     let accepted = (belongs (table_format Plain) bytes contents opens).read in
-    let small = small_lags contents.rules (read_sound contents.text contents.rules accepted) in
-    tells_kept Plain (value_by contents.rules) small contents bytes p inside opens one
+    tells_kept Plain (value_by contents.rules) (read_small contents.text contents.rules accepted)
+    contents bytes p inside opens one
 tells_exact Chained contents bytes p inside opens =
     λ value small one. tells_kept Chained value small contents bytes p inside opens one
 
 module _ (kind : FileKind) (table : List ℕ) (p : Board) (files : Files) where
-  fault_told : (bytes : List ℕ) → files table ≡ Some bytes → (fault : TableFault)
-      → opened (table_format kind) (Some bytes) ≡ Err fault
-      → TellsFaultOfKind kind table files (table_line fault)
-  fault_told bytes there fault e =
-      record { bytes = bytes; there = there; fault = fault; refused = e; told = refl }
-
   means_so : (a : Answer) → a.files ≡ files → a.taken ≡ 0
       → MeansStatus kind table p files a.status a.text → MeansQuery kind table p files a
   means_so a same untaken says = record { same = same; untaken = untaken; says = says }
-
-  refused_means : (bytes : List ℕ) → files table ≡ Some bytes → (fault : TableFault)
-      → opened (table_format kind) (Some bytes) ≡ Err fault
-      → IsOfBytes fault
-      → MeansQuery kind table p files (answer_by (Err (refusals.Table fault)) files)
-  refused_means bytes there Missing e of = absurd of
-  refused_means bytes there Magic e of = means_so _ refl refl (fault_told bytes there Magic e)
-  refused_means bytes there (Truncated length due) e of =
-      means_so _ refl refl (fault_told bytes there (Truncated length due) e)
-  refused_means bytes there (Extra length due) e of =
-      means_so _ refl refl (fault_told bytes there (Extra length due) e)
-  refused_means bytes there (Rules fault) e of =
-      means_so _ refl refl (fault_told bytes there (Rules fault) e)
-  refused_means bytes there (Size kept due) e of =
-      means_so _ refl refl (fault_told bytes there (Size kept due) e)
-  refused_means bytes there Failed e of = absurd of
-  refused_means bytes there NoMemory e of = absurd of
 
   by_member : (bytes : List ℕ) → files table ≡ Some bytes → (contents : Contents)
       → opened (table_format kind) (Some bytes) ≡ Ok contents
@@ -160,7 +132,9 @@ module _ (kind : FileKind) (table : List ℕ) (p : Board) (files : Files) where
   by_opening bytes there (Err fault) e =
       subst (λ (x : Result Contents TableFault). MeansQuery kind table p files
       (answer_by (kept_by x bytes p) files)) (sym e)
-      (refused_means bytes there fault e (of_bytes (table_format kind) bytes fault e))
+      (means_so _ refl refl
+      (refused_means kind table files (MeansStatus kind table p files) (λ text tells. tells) bytes
+      there fault e))
 
   by_file : (held : Option (List ℕ)) → files table ≡ held
       → MeansQuery kind table p files (answer_by (kept_of kind p held) files)

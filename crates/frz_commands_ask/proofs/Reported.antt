@@ -8,7 +8,7 @@ use Rattle.frz_store.specs.Files.{Files}
 use Rattle.frz_store.specs.Outside.{Rose}
 use Rattle.frz_store.specs.Told.{StoreTold, SourceTold, SinkTold, StoreQuiet, StoreFine}
 use Rattle.frz_table.specs.declared.fault.TableFault.{TableFault}
-use Rattle.frz_table.specs.declared.fault.TableFault.TheVariants.{Missing, Magic, Truncated, Extra, Rules, Size, Failed, NoMemory}
+use Rattle.frz_table.specs.declared.fault.TableFault.TheVariants.{NoMemory}
 use Rattle.frz_table.specs.declared.kind.FileKind.{FileKind}
 use Rattle.frz_table.specs.declared.kind.FileKind.TheVariants.{Plain}
 use Rattle.frz_table.specs.Layout.{pieces_of}
@@ -32,15 +32,15 @@ use Rattle.frz_answer.specs.Jobs.{WithinCosts}
 use Rattle.frz_answer.specs.Lawful.{IsLawful}
 use Rattle.frz_answer.specs.Texts.{TookText}
 use Rattle.frz_answer.specs.Words.{one_word_of}
-use Rattle.frz_answer.specs.World.{World, world, Agrees, Quiet, spent}
-use Rattle.frz_answer.proofs.Lemmas.{Begun, Found, SaysAll, failed_before, fine_store, one_answer, said, taking_lawful, took_nothing}
+use Rattle.frz_answer.specs.World.{World, world, Agrees, spent}
+use Rattle.frz_answer.proofs.Lemmas.{Begun, Found, SaysAll, failed_before, fine_store, one_answer, quiet_both, said, taking_lawful, took_nothing}
 use Rattle.frz_prelude.specs.Refusals.{status_of, table_status}
 use Rattle.frz_prelude.specs.Stops.{stop_of_table}
 use Rattle.frz_prelude.specs.declared.refused.Refused.{Refused as Refusal}
 use Rattle.frz_prelude.specs.declared.stop.Stop.TheVariants as stop
 use Rattle.frz_prelude.specs.TableCauses.{table_line}
 use Rattle.frz_prelude.specs.declared.refused.Refused.TheVariants as refusals
-use Rattle.frz_prelude.proofs.Lemmas.{StopsWith, found_where, holding, refusal_said, table_own}
+use Rattle.frz_prelude.proofs.Lemmas.{StopsWith, found_where, holding, refusal_own, refusal_said, stops_by}
 use Rattle.frz_report.specs.declared.fault.ReportFault.{ReportFault}
 use Rattle.frz_report.specs.declared.fault.ReportFault.TheVariants as faults
 use Rattle.frz_report.specs.declared.fault.Totals.{Totals}
@@ -48,17 +48,6 @@ use Rattle.frz_report.specs.Reports.{StoreCause, WritesOfFile, WritesOfTable, Wr
 use Rattle.frz_report.proofs.Lemmas.{report_said}
 use Rattle.frz_commands_ask.proofs.ReportMeans.{report_means}
 use Rattle.frz_commands_ask.specs.Reporting.{end_by, report_at, report_by, report_of, reporting_at, reporting_costs, report_words}
-
--- the store was called and steps were made, and nothing was written
-abbrev quiet_so : (old new : StoreTold) (input : SourceTold) (out : SinkTold) (before now : ℕ)
-    → StoreQuiet old new → before ≤ now
-    → Quiet (world old input out before) (world new input out now)
-quiet_so old new input out before now quiet later = record {
-  later = record { store = quiet.later; input = omega arith; out = omega arith; steps = later };
-  store = quiet.unwritten;
-  left = refl;
-  taken = refl;
-}
 
 -- a file that the name may hold, and what was spent on it
 pub record FileSeen (name : List ℕ) (old new : StoreTold) (before now : ℕ) (contents : Contents)
@@ -129,7 +118,7 @@ module _ (name : List ℕ) (contents : Contents) (bytes : List ℕ) (old new : S
       → Ran (reporting_at name) end start finish
   told_so end fine says_it =
       said (reporting_at name) Success (report_of contents bytes) end start
-      (world new input out_old now) out_new (quiet_so old new input out_old before now quiet later)
+      (world new input out_old now) out_new (quiet_both old new input out_old before now quiet later)
       (fine_store old new input out_old before now fine) refl says_it
       (λ sees files left agrees.
       let here = given_by name contents bytes files left start (world new input out_old now) agrees
@@ -318,23 +307,10 @@ module _ (name : List ℕ) (table : Table) (old mid new : StoreTold) (input : So
   reported (Err faults.NoMemory) cause (inl same) = unread stops.NoMemory refl same
   reported (Err faults.NoMemory) cause (inr h) = of_file (Err faults.NoMemory) cause h
 
-from_table : (fault : TableFault) (why : Refusal) → stop_of_table fault ≡ stop.Refused why
-    → refusals.Table fault ≡ why
-from_table Missing why e = cc
-from_table Magic why e = cc
-from_table (Truncated length due) why e = cc
-from_table (Extra length due) why e = cc
-from_table (Rules fault) why e = cc
-from_table (Size kept due) why e = cc
-from_table Failed why e = cc
-from_table NoMemory why e = cc
-
+-- what the table is refused for has a status of `report`
 pub own_refusal : (fault : TableFault) (why : Refusal) → stop_of_table fault ≡ stop.Refused why
     → OneOf (status_of why) (Success ∷ Refused ∷ Absent ∷ [])
-own_refusal fault why e =
-    subst (λ (w : Refusal). OneOf (status_of w) (Success ∷ Refused ∷ Absent ∷ []))
-    (from_table fault why e)
-    (table_own fault (Success ∷ Refused ∷ Absent ∷ []) refl refl)
+own_refusal = refusal_own (Success ∷ Refused ∷ Absent ∷ []) refl refl
 
 module _ (name : List ℕ) (files : Files) (input : List ℕ) (old new : World)
     (agrees : Agrees old files input) (fault : TableFault)
@@ -351,9 +327,9 @@ module _ (name : List ℕ) (files : Files) (input : List ℕ) (old new : World)
         asked = omega (arith, asked);
       }
 
-  refused_so : opened (table_format Plain) h.held ≡ Err fault
-      → SaysAll (reporting_at name) (table_status fault) (table_line fault) files input old new
-  refused_so e =
+  refused_so : (given : TableFault) → opened (table_format Plain) h.held ≡ Err given
+      → SaysAll (reporting_at name) (table_status given) (table_line given) files input old new
+  refused_so given e =
       let at = holding old.store.files name h.held (same_held old.store.files name h.held h.may) in
       record {
         found = found_where (reporting_at name) at.files files input old (λ x. cc) at.agrees agrees;
@@ -376,27 +352,10 @@ module _ (name : List ℕ) (files : Files) (input : List ℕ) (old new : World)
             (spent new)) (sym at.holds) opening_costs;
       }
 
--- the table was not opened
-pub stopped_so : (name : List ℕ) (files : Files) (input : List ℕ) (old new : World)
-    → Agrees old files input → (fault : TableFault)
-    → MayRefuse (table_format Plain) name old.store new.store fault → new.steps ≤ old.steps
-    → StopsWith (reporting_at name) (stop_of_table fault) files input old new
-stopped_so name files input old new agrees Missing h steps =
-    refused_so name files input old new agrees Missing h steps h.refuses
-stopped_so name files input old new agrees Magic h steps =
-    refused_so name files input old new agrees Magic h steps h.refuses
-stopped_so name files input old new agrees (Truncated length due) h steps =
-    refused_so name files input old new agrees (Truncated length due) h steps h.refuses
-stopped_so name files input old new agrees (Extra length due) h steps =
-    refused_so name files input old new agrees (Extra length due) h steps h.refuses
-stopped_so name files input old new agrees (Rules fault) h steps =
-    refused_so name files input old new agrees (Rules fault) h steps h.refuses
-stopped_so name files input old new agrees (Size kept due) h steps =
-    refused_so name files input old new agrees (Size kept due) h steps h.refuses
-stopped_so name files input old new agrees Failed h steps =
-    begun_so name files input old new agrees Failed h steps
-stopped_so name files input old new agrees NoMemory h steps =
-    begun_so name files input old new agrees NoMemory h steps
+  -- the table was not opened
+  pub stopped_so : StopsWith (reporting_at name) (stop_of_table fault) files input old new
+  stopped_so = stops_by (reporting_at name) files input old new
+      (opened (table_format Plain) h.held) refused_so begun_so fault h.refuses
 
 reporting_lawful : (table : List ℕ) → IsLawful (reporting_at table)
 reporting_lawful table = record {

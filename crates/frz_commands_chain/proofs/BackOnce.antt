@@ -4,12 +4,9 @@ use Rattle.std.proofs.Common.{◌≡◌, refl, sym, ap, subst, ◌∙◌, ℕ, z
 use Rattle.frz_board.specs.declared.man.Colour.{Colour}
 use Rattle.frz_board.specs.declared.man.Colour.TheVariants.{White, Black}
 use Rattle.frz_exits.specs.Books.{value_by}
-use Rattle.frz_exits.proofs.Lemmas.{small_values}
-use Rattle.frz_game.specs.SmallLags.{HasSmallLags}
 use Rattle.frz_game.specs.declared.wrong.Wrong.{Wrong as WrongEntry}
-use Rattle.frz_game.proofs.Lemmas.{plies_few, table_exact}
+use Rattle.frz_game.proofs.Lemmas.{table_exact}
 use Rattle.frz_rules.specs.Text.{rules_of}
-use Rattle.frz_rules.proofs.Lemmas.{answer_sound}
 use Rattle.frz_sets.specs.Sets.{size_of}
 use Rattle.frz_table.specs.declared.fault.TableFault.{TableFault}
 use Rattle.frz_table.specs.declared.fault.TableFault.TheVariants.{Missing}
@@ -22,7 +19,7 @@ use Rattle.frz_check.specs.declared.verdict.Verdict.{Verdict}
 use Rattle.frz_check.specs.declared.verdict.Verdict.TheVariants.{Exact, Wrong}
 use Rattle.frz_check.specs.Kept.{kept_codes}
 use Rattle.frz_check.specs.Verdicts.{IsVerdict}
-use Rattle.frz_check.proofs.Lemmas.{one_verdict, verdict_on, verdict_there}
+use Rattle.frz_check.proofs.Lemmas.{few_plies, one_verdict, verdict_on, verdict_there}
 use Rattle.frz_chain.specs.Backs.{HasWrong, IsBackJudged}
 use Rattle.frz_chain.specs.Books.{Back}
 use Rattle.frz_chain.specs.ExactBacks.{is_exact}
@@ -71,14 +68,12 @@ judged_so bytes contents v opens h =
     let rules = contents.rules in
     let read : rules_of contents.text ≡ Ok contents.rules =
     (belongs (table_format Plain) bytes contents opens).read in
-    let small : HasSmallLags (value_by contents.rules) = λ q valid. small_values contents.rules
-    (answer_sound contents.text (Ok contents.rules) read) q in
     record {
       opens = opens;
       told =
           verdict_on Plain (value_by contents.rules) contents bytes v
           (table_exact contents.rules (value_by contents.rules))
-          (plies_few contents.rules (value_by contents.rules) small) read opens h;
+          (few_plies contents.text contents.rules read) read opens h;
     }
 
 pub data BackFound (held : Option (List ℕ)) : Type 0 where

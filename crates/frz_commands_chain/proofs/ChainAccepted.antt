@@ -8,6 +8,7 @@ use Rattle.frz_answer.specs.declared.status.Status.TheVariants.{Success}
 use Rattle.frz_answer.specs.Answers.{Answer}
 use Rattle.frz_prelude.specs.Refusals.{status_of}
 use Rattle.frz_prelude.specs.declared.refused.Refused.{Refused as Refusal}
+use Rattle.frz_prelude.proofs.Lemmas.{by_table_status}
 use Rattle.frz_commands_chain.specs.Backs.{IsBackIn}
 use Rattle.frz_commands_chain.specs.Chaining.{IsChainedAt, MakesChain, made, refused, is_named_twice}
 use Rattle.frz_commands_chain.specs.Checking.{IsCheckedPair, IsJudgedPair, chain_status, judged, refused as refused_pair}
@@ -15,7 +16,6 @@ use Rattle.frz_commands_chain.specs.Reading.{IsRefusedBoth}
 use Rattle.frz_commands_chain.proofs.ChainOnce.{by_refusal}
 use Rattle.frz_commands_chain.proofs.PairMeaning.{judged_on}
 use Rattle.frz_commands_chain.proofs.PairOnce.{never_judged, same_verdict}
-use Rattle.frz_commands_chain.proofs.Stopped.{by_table_status}
 
 -- a refusal has another status
 refusal_fails : (held back_held : Option (List ℕ)) (why : Refusal)

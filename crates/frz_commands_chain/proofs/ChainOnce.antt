@@ -27,13 +27,12 @@ use Rattle.frz_prelude.specs.Refusals.{refusal_line, status_of, table_status}
 use Rattle.frz_prelude.specs.RulesFiles.{or_fault, rules_held}
 use Rattle.frz_prelude.specs.declared.refused.Refused.{Refused as Refusal}
 use Rattle.frz_prelude.specs.declared.refused.Refused.TheVariants as refusals
-use Rattle.frz_prelude.proofs.Lemmas.{refusal_said}
+use Rattle.frz_prelude.proofs.Lemmas.{by_table_status, refusal_said}
 use Rattle.frz_commands_chain.specs.Backs.{IsBackIn}
 use Rattle.frz_commands_chain.specs.Chaining.{IsChainedAt, IsChainedBy, MakesChain, MeansByStatus, MeansChain, made, refused, chained_line, chain_words, chaining_at, is_named_twice}
 use Rattle.frz_commands_chain.specs.Reading.{HasRules, IsRefusedBoth}
 use Rattle.frz_commands_chain.proofs.BackOnce.{BackFound, back_found, never_both, not_open, one_back, one_wrong_entry, right, wrong}
 use Rattle.frz_commands_chain.proofs.PairOnce.{back_opens, not_both, same_fault, same_value, wrong_opens}
-use Rattle.frz_commands_chain.proofs.Stopped.{by_table_status}
 
 -- the one file of a text over a back table is there
 file_on : (text : List ℕ) (r : RuleLines) (back : Back) → IsSound r → (bytes : List ℕ)

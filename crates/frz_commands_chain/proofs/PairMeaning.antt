@@ -2,8 +2,6 @@
 use Rattle.std.proofs.Common.{Some, ◌≡◌, refl, sym, ap, subst, ℕ, List, Option, Ok}
 use Rattle.frz_board.specs.declared.man.Colour.TheVariants.{White, Black}
 use Rattle.frz_exits.specs.Books.{value_by}
-use Rattle.frz_exits.proofs.Lemmas.{small_values}
-use Rattle.frz_game.specs.SmallLags.{HasSmallLags}
 use Rattle.frz_game.proofs.Lemmas.{plies_few, table_means}
 use Rattle.frz_rules.specs.Text.{rules_of}
 use Rattle.frz_rules.proofs.Lemmas.{answer_sound}
@@ -17,7 +15,7 @@ use Rattle.frz_table.proofs.Lemmas.{belongs}
 use Rattle.frz_check.specs.declared.verdict.Verdict.{Verdict}
 use Rattle.frz_check.specs.declared.verdict.Verdict.TheVariants as verdict
 use Rattle.frz_check.specs.Kept.{kept_codes}
-use Rattle.frz_check.proofs.Lemmas.{one_file_holds, one_file_opens, tables_are_one}
+use Rattle.frz_check.proofs.Lemmas.{file_tables, one_file_holds, one_file_opens, tables_are_one}
 use Rattle.frz_chain.specs.Books.{Back, chain_value}
 use Rattle.frz_chain.specs.FileOn.{IsExactBack, IsFileOn, back_of}
 use Rattle.frz_chain.proofs.Lemmas.{chain_small, chained_true}
@@ -30,13 +28,13 @@ use Rattle.frz_answer.proofs.Lemmas.{taking_lawful}
 use Rattle.frz_prelude.specs.Refusals.{refusal_line, status_of, table_status}
 use Rattle.frz_prelude.specs.declared.refused.Refused.{Refused as Refusal}
 use Rattle.frz_prelude.specs.declared.refused.Refused.TheVariants as refusals
+use Rattle.frz_prelude.proofs.Lemmas.{by_table_status}
 use Rattle.frz_commands_chain.specs.Backs.{IsBackIn}
 use Rattle.frz_commands_chain.specs.ChainHeadline.{ChainHeadline}
 use Rattle.frz_commands_chain.specs.Checking.{IsCheckedPair, IsJudgedPair, IsRefusedPair, refused, judged, chain_status, chain_verdict_line}
 use Rattle.frz_commands_chain.specs.CheckMeans.{HoldsPair, MeansChainCheck, MeansStatus, TellsRefusal, of_back, of_table, checking_pair, chaincheck_words}
 use Rattle.frz_commands_chain.proofs.BackOnce.{judged_so}
 use Rattle.frz_commands_chain.proofs.PairOnce.{by_refusal, never_judged, one_pair, same_verdict}
-use Rattle.frz_commands_chain.proofs.Stopped.{by_table_status}
 
 -- what stands in a back table is exact by its own exit lines
 exact_back : (held : Option (List ℕ)) (back : Back) → (h : IsBackIn held back)
@@ -141,9 +139,6 @@ module _ (table back : List ℕ) (files : Files) where
   exact_pair : HoldsPair table back files → IsJudgedPair (files table) (files back) verdict.Exact
   exact_pair p =
       let k = p.back_contents in
-      let back_sound = answer_sound k.text (Ok k.rules) p.back_accepted in
-      let back_small : HasSmallLags (value_by k.rules) = λ q valid. small_values k.rules back_sound
-      q in
       judged_on (files table) (files back) p.bytes p.text p.rules (back_of k p.back_bytes) p.there
       (record {
         bytes = p.back_bytes;
@@ -152,8 +147,7 @@ module _ (table back : List ℕ) (files : Files) where
         judged =
             judged_so p.back_bytes k verdict.Exact
             (one_file_opens Plain (value_by k.rules) k p.back_bytes p.back_accepted p.back_file)
-            (one_file_holds Plain (value_by k.rules) k p.back_bytes
-            (plies_few k.rules (value_by k.rules) back_small) p.back_accepted p.back_file);
+            (file_tables k p.back_bytes p.back_accepted p.back_file);
         keeps = refl;
       })
       p.accepted p.one_file

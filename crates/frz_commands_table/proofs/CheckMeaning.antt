@@ -4,12 +4,12 @@ use Rattle.std.specs.Option.{unwrap_or}
 use Rattle.frz_board.specs.declared.man.Colour.{Colour}
 use Rattle.frz_board.specs.declared.man.Colour.TheVariants.{White, Black}
 use Rattle.frz_exits.specs.Books.{value_by}
-use Rattle.frz_game.proofs.Lemmas.{table_means}
+use Rattle.frz_game.proofs.Lemmas.{table_exact, table_means}
 use Rattle.frz_game.specs.Bounds.{IsTableOf}
 use Rattle.frz_sets.specs.Sets.{size_of}
 use Rattle.frz_store.specs.Files.{Files}
 use Rattle.frz_table.specs.declared.fault.TableFault.{TableFault}
-use Rattle.frz_table.specs.declared.fault.TableFault.TheVariants.{Missing, Magic, Truncated, Extra, Rules, Size, Failed, NoMemory}
+use Rattle.frz_table.specs.declared.fault.TableFault.TheVariants.{Missing}
 use Rattle.frz_table.specs.declared.kind.FileKind.TheVariants.{Plain}
 use Rattle.frz_table.specs.Opening.{Contents, opened, table_format}
 use Rattle.frz_table.proofs.Lemmas.{belongs}
@@ -17,18 +17,16 @@ use Rattle.frz_check.specs.declared.verdict.Verdict.{Verdict}
 use Rattle.frz_check.specs.declared.verdict.Verdict.TheVariants.{Exact, Wrong}
 use Rattle.frz_check.specs.Kept.{kept_codes}
 use Rattle.frz_check.specs.Verdicts.{IsVerdict}
-use Rattle.frz_check.proofs.Lemmas.{one_file_holds, one_file_opens, one_verdict, tables_are_one}
+use Rattle.frz_check.proofs.Lemmas.{file_tables, one_file_opens, one_verdict, tables_are_one}
 use Rattle.frz_answer.specs.declared.status.Status.{Status}
 use Rattle.frz_answer.specs.declared.status.Status.TheVariants as statuses
 use Rattle.frz_answer.specs.Answers.{Answer, says}
 use Rattle.frz_prelude.specs.Refusals.{table_status}
 use Rattle.frz_prelude.specs.TableCauses.{table_line}
-use Rattle.frz_prelude.specs.TableFiles.{TellsTableFault}
-use Rattle.frz_prelude.proofs.Lemmas.{IsOfBytes, of_bytes, opened_missing}
+use Rattle.frz_prelude.proofs.Lemmas.{opened_missing, refused_means}
 use Rattle.frz_commands_table.specs.Checking.{verdict_status, verdict_line, IsCheckedBy, IsCheckedAt}
 use Rattle.frz_commands_table.specs.CheckMeans.{MeansStatus, HoldsOneFile, MeansCheck}
 use Rattle.frz_commands_table.specs.Headline.{Headline}
-use Rattle.frz_commands_table.proofs.Reading.{few_plies, exact_tables}
 
 module _ (table : List ℕ) (files : Files) where
   -- the table is exact
@@ -75,25 +73,6 @@ module _ (table : List ℕ) (files : Files) where
     told = refl;
   }
 
-  fault_told : (bytes : List ℕ) → files table ≡ Some bytes → (fault : TableFault)
-      → opened (table_format Plain) (Some bytes) ≡ Err fault
-      → TellsTableFault table files (table_line fault)
-  fault_told bytes there fault e =
-      record { bytes = bytes; there = there; fault = fault; refused = e; told = refl }
-
-  says_fault : (bytes : List ℕ) → files table ≡ Some bytes → (fault : TableFault)
-      → opened (table_format Plain) (Some bytes) ≡ Err fault
-      → IsOfBytes fault → MeansStatus table files (table_status fault) (table_line fault)
-  says_fault bytes there Missing e of = absurd of
-  says_fault bytes there Magic e of = fault_told bytes there Magic e
-  says_fault bytes there (Truncated length due) e of =
-      fault_told bytes there (Truncated length due) e
-  says_fault bytes there (Extra length due) e of = fault_told bytes there (Extra length due) e
-  says_fault bytes there (Rules fault) e of = fault_told bytes there (Rules fault) e
-  says_fault bytes there (Size kept due) e of = fault_told bytes there (Size kept due) e
-  says_fault bytes there Failed e of = absurd of
-  says_fault bytes there NoMemory e of = absurd of
-
   -- the one file of a text opens as a table of its text and its rules
   opens_as : (one : HoldsOneFile table files) → opened (table_format Plain) (Some one.bytes) ≡ Ok
       (record { text = one.text; rules = one.rules })
@@ -107,10 +86,9 @@ module _ (table : List ℕ) (files : Files) where
       → verdict ≡ Exact
   accepted_there one verdict is =
       let contents : Contents = record { text = one.text; rules = one.rules } in
-      one_verdict one.rules (value_by one.rules) (exact_tables one.rules)
+      one_verdict one.rules (value_by one.rules) (table_exact one.rules (value_by one.rules))
       (kept_codes contents one.bytes) verdict Exact is
-      (one_file_holds Plain (value_by one.rules) contents one.bytes
-      (few_plies one.text one.rules one.accepted) one.accepted one.one_file)
+      (file_tables contents one.bytes one.accepted one.one_file)
 
   means_so : (a : Answer) (status : Status) (text : List ℕ) → a ≡ says status text files
       → MeansStatus table files status text
@@ -145,7 +123,8 @@ module _ (table : List ℕ) (files : Files) where
       judged.verdict) is judged.judged))))
   by_opening bytes there (Err fault) refused a e =
       means_so a (table_status fault) (table_line fault) e
-      (says_fault bytes there fault refused (of_bytes (table_format Plain) bytes fault refused))
+      (refused_means Plain table files (MeansStatus table files) (λ text tells. tells) bytes there
+      fault refused)
       (λ one.
       let no : ◌≡◌ {A = Result Contents TableFault} (Err fault)
       (Ok (record { text = one.text; rules = one.rules })) =

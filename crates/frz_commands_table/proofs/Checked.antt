@@ -1,5 +1,5 @@
 -- How `check` ends, and that it has one answer.
-use Rattle.std.proofs.Common.{◌≡◌, refl, sym, ap, subst, ◌∙◌, ℕ, zero, suc, ◌+◌, ◌*◌, ◌≤◌, List, [], ◌∷◌, drop, length, Option, Some, Result, Ok, Err, arith}
+use Rattle.std.proofs.Common.{◌≡◌, refl, sym, ap, subst, ◌∙◌, ℕ, zero, suc, ◌+◌, ◌*◌, List, [], ◌∷◌, drop, length, Option, Some, Result, Ok, Err}
 use Rattle.std.specs.Prelude.{}
 use Rattle.std.specs.Option.{unwrap_or}
 use Rattle.frz_board.specs.declared.man.Colour.{Colour}
@@ -7,9 +7,8 @@ use Rattle.frz_board.specs.declared.man.Colour.TheVariants.{White, Black}
 use Rattle.frz_exits.specs.Books.{value_by}
 use Rattle.frz_sets.specs.Sets.{size_of}
 use Rattle.frz_store.specs.Files.{Files, bytes_at}
-use Rattle.frz_store.specs.Told.{StoreTold, SourceTold, SinkTold, StoreQuiet}
 use Rattle.frz_table.specs.declared.fault.TableFault.{TableFault}
-use Rattle.frz_table.specs.declared.fault.TableFault.TheVariants.{Missing, Magic, Truncated, Extra, Rules, Size, Failed, NoMemory}
+use Rattle.frz_table.specs.declared.fault.TableFault.TheVariants.{Failed}
 use Rattle.frz_table.specs.declared.kind.FileKind.TheVariants.{Plain}
 use Rattle.frz_table.specs.Numbers.{numbers}
 use Rattle.frz_table.specs.Opening.{Contents, opened, table_format}
@@ -27,7 +26,7 @@ use Rattle.frz_answer.specs.Answers.{Answer, says, SomeAnswer}
 use Rattle.frz_answer.specs.Jobs.{WithinCosts}
 use Rattle.frz_answer.specs.Lawful.{HasOneAnswer, IsLawful}
 use Rattle.frz_answer.specs.Words.{one_word_of}
-use Rattle.frz_answer.specs.World.{World, world, Agrees, Quiet, spent}
+use Rattle.frz_answer.specs.World.{World, Agrees, spent}
 use Rattle.frz_answer.proofs.Lemmas.{SaysAll, taking_lawful}
 use Rattle.frz_prelude.specs.Refusals.{status_of, table_status}
 use Rattle.frz_prelude.specs.Stops.{stop_of_table}
@@ -35,13 +34,13 @@ use Rattle.frz_prelude.specs.TableCauses.{table_line}
 use Rattle.frz_prelude.specs.declared.refused.Refused.{Refused as Refusal}
 use Rattle.frz_prelude.specs.declared.refused.Refused.TheVariants as refusals
 use Rattle.frz_prelude.specs.declared.stop.Stop.TheVariants.{Refused}
-use Rattle.frz_prelude.proofs.Lemmas.{holding, found_where, refusal_said, table_own, StopsWith}
+use Rattle.frz_prelude.proofs.Lemmas.{StopsWith, found_where, holding, refusal_own, some_refusal, stops_by}
 use Rattle.frz_commands_table.specs.declared.judging.Judged.{Judged}
 use Rattle.frz_commands_table.specs.Judging.{JudgesFile}
 use Rattle.frz_commands_table.specs.Checking.{verdict_status, verdict_line, IsCheckedBy, IsCheckedAt, checking_costs}
 use Rattle.frz_commands_table.specs.CheckMeans.{checking_at, check_words}
 use Rattle.frz_commands_table.proofs.CheckMeaning.{check_means}
-use Rattle.frz_commands_table.proofs.Reading.{exact_tables}
+use Rattle.frz_game.proofs.Lemmas.{table_exact}
 
 -- the lists of a file are as long as its set is large
 many_numbers : (n : ℕ) (bytes : List ℕ) → length (numbers n bytes) ≡ n
@@ -80,17 +79,13 @@ some_by (Ok contents) bytes files =
       answer = record { verdict = v.0; judged = v.1; told = refl };
       text = text_said size v.0;
     }
-some_by (Err fault) bytes files = record {
-  a = says (table_status fault) (table_line fault) files;
-  answer = refl;
-  text = refusal_said (refusals.Table fault);
-}
+some_by (Err fault) bytes files = some_refusal (refusals.Table fault) files
 
 one_by : (x : Result Contents TableFault) (bytes : List ℕ) (files : Files) (a b : Answer)
     → IsCheckedBy x bytes files a → IsCheckedBy x bytes files b → b ≡ a
 one_by (Ok contents) bytes files a b h k =
     let same : k.verdict ≡ h.verdict =
-    one_verdict contents.rules (value_by contents.rules) (exact_tables contents.rules)
+    one_verdict contents.rules (value_by contents.rules) (table_exact contents.rules (value_by contents.rules))
     (kept_codes contents bytes) k.verdict h.verdict k.judged h.judged in
     let say : Verdict → Answer = λ v. says (verdict_status v)
     (verdict_line (size_of contents.rules.groups) v) files in
@@ -166,14 +161,14 @@ module _ (table : List ℕ) (files : Files) (input : List ℕ) (old new : World)
       h.file.within
 
   -- the table was refused
-  refused_so : (fault : TableFault)
+  refused_so : (given fault : TableFault)
       → (h : RefusesFile table old.store new.store old.steps new.steps fault)
-      → opened (table_format Plain) h.held ≡ Err fault
-      → SaysAll (checking_at table) (table_status fault) (table_line fault) files input old new
-  refused_so fault h e =
-      held_so (table_status fault) (table_line fault) h.held h.may
+      → opened (table_format Plain) h.held ≡ Err given
+      → SaysAll (checking_at table) (table_status given) (table_line given) files input old new
+  refused_so given fault h e =
+      held_so (table_status given) (table_line given) h.held h.may
       (λ m. subst (λ (x : Result Contents TableFault). IsCheckedBy x (unwrap_or h.held []) m
-      (says (table_status fault) (table_line fault) m)) (sym e) refl) h.within
+      (says (table_status given) (table_line given) m)) (sym e) refl) h.within
 
   begun_so : (fault : TableFault)
       → (h : RefusesFile table old.store new.store old.steps new.steps fault)
@@ -190,45 +185,15 @@ module _ (table : List ℕ) (files : Files) (input : List ℕ) (old new : World)
   pub stopped_so : (fault : TableFault) → RefusesFile table old.store new.store old.steps new.steps
       fault
       → StopsWith (checking_at table) (stop_of_table fault) files input old new
-  stopped_so Missing h = refused_so Missing h h.refuses
-  stopped_so Magic h = refused_so Magic h h.refuses
-  stopped_so (Truncated length due) h = refused_so (Truncated length due) h h.refuses
-  stopped_so (Extra length due) h = refused_so (Extra length due) h h.refuses
-  stopped_so (Rules fault) h = refused_so (Rules fault) h h.refuses
-  stopped_so (Size kept due) h = refused_so (Size kept due) h h.refuses
-  stopped_so Failed h = begun_so Failed h
-  stopped_so NoMemory h = begun_so NoMemory h
+  stopped_so fault h =
+      stops_by (checking_at table) files input old new (opened (table_format Plain) h.held)
+      (λ given. refused_so given fault h) (begun_so fault h) fault h.refuses
 
 -- the statuses of `check`
 pub own_verdict : (v : Verdict) → OneOf (verdict_status v) (Success ∷ Wrong ∷ Table ∷ Absent ∷ [])
 own_verdict verdict.Exact = refl
 own_verdict (verdict.Wrong wrong) = refl
 
-pub from_table : (fault : TableFault) (why : Refusal) → stop_of_table fault ≡ Refused why
-    → refusals.Table fault ≡ why
-from_table Missing why e = cc
-from_table Magic why e = cc
-from_table (Truncated length due) why e = cc
-from_table (Extra length due) why e = cc
-from_table (Rules fault) why e = cc
-from_table (Size kept due) why e = cc
-from_table Failed why e = cc
-from_table NoMemory why e = cc
-
 pub own_refusal : (fault : TableFault) (why : Refusal) → stop_of_table fault ≡ Refused why
     → OneOf (status_of why) (Success ∷ Wrong ∷ Table ∷ Absent ∷ [])
-own_refusal fault why e =
-    subst (λ (w : Refusal). OneOf (status_of w) (Success ∷ Wrong ∷ Table ∷ Absent ∷ []))
-    (from_table fault why e)
-    (table_own fault (Success ∷ Wrong ∷ Table ∷ Absent ∷ []) refl refl)
-
--- the store was called and steps were made, and nothing was written
-pub quiet_so : (old new : StoreTold) (input : SourceTold) (out : SinkTold) (before now : ℕ)
-    → StoreQuiet old new → before ≤ now
-    → Quiet (world old input out before) (world new input out now)
-quiet_so old new input out before now quiet later = record {
-  later = record { store = quiet.later; input = omega arith; out = omega arith; steps = later };
-  store = quiet.unwritten;
-  left = refl;
-  taken = refl;
-}
+own_refusal = refusal_own (Success ∷ Wrong ∷ Table ∷ Absent ∷ []) refl refl

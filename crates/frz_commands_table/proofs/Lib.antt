@@ -5,7 +5,6 @@ mod BuildAsked
 mod BuildMeaning
 mod BuiltOnce
 mod JudgedFiles
-mod Reading
 mod CheckMeaning
 mod Checked
 mod OneAccepted

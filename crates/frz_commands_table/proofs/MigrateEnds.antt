@@ -9,7 +9,7 @@ use Rattle.frz_store.specs.Told.{StoreTold}
 use Rattle.frz_store.specs.Writes.{Written}
 use Rattle.frz_store.specs.declared.outside.StoreFault.{StoreFault}
 use Rattle.frz_table.specs.declared.fault.TableFault.{TableFault}
-use Rattle.frz_table.specs.declared.fault.TableFault.TheVariants.{Missing, Magic, Truncated, Extra, Rules, Size, Failed, NoMemory}
+use Rattle.frz_table.specs.declared.fault.TableFault.TheVariants.{Failed}
 use Rattle.frz_table.specs.declared.kind.FileKind.TheVariants.{Plain}
 use Rattle.frz_table.specs.Layout.{file_of, magic_of, pieces_of}
 use Rattle.frz_table.specs.OldFiles.{old_contents_of, old_format}
@@ -29,12 +29,11 @@ use Rattle.frz_prelude.specs.Stops.{stop_of_table}
 use Rattle.frz_prelude.specs.TableCauses.{table_line}
 use Rattle.frz_prelude.specs.declared.refused.Refused.{Refused as Refusal}
 use Rattle.frz_prelude.specs.declared.stop.Stop.TheVariants.{Refused}
-use Rattle.frz_prelude.proofs.Lemmas.{found_where, holding, table_own, StopsWith}
+use Rattle.frz_prelude.proofs.Lemmas.{found_where, holding, refusal_own, stops_by, StopsWith}
 use Rattle.frz_commands_table.specs.declared.moving.Moved.{Moved}
 use Rattle.frz_commands_table.specs.Rewriting.{MovesFile, RefusesFormer, WithinFormer, former_size}
 use Rattle.frz_commands_table.specs.Migrating.{migrated_line, IsMigratedAt, IsMigratedBy, moving_calls, migrating_costs, writing_new}
 use Rattle.frz_commands_table.specs.MigrateMeans.{migrating_at}
-use Rattle.frz_commands_table.proofs.Checked.{from_table}
 use Rattle.frz_commands_table.proofs.MigratedOnce.{some_migrated_at}
 
 -- the same bytes were written
@@ -195,16 +194,16 @@ module _ (old new : List ℕ) where
   module _ (files : Files) (input : List ℕ) (before mid : World)
       (agrees : Agrees before files input) (steps : mid.steps ≡ before.steps) where
     -- the table was refused
-    refused_so : (fault : TableFault) → (h : RefusesFormer old before.store mid.store fault)
-        → opened old_format h.held ≡ Err fault
-        → SaysAll (migrating_at old new) (table_status fault) (table_line fault) files input before
+    refused_so : (given fault : TableFault) → (h : RefusesFormer old before.store mid.store fault)
+        → opened old_format h.held ≡ Err given
+        → SaysAll (migrating_at old new) (table_status given) (table_line given) files input before
         mid
-    refused_so fault h e =
+    refused_so given fault h e =
         let at = holds_old old h.held before.store mid.store h.may h.within in record {
           found = found_where (migrating_at old new) at.files files input before (λ e. cc) at.agrees
               agrees;
-          answer = answer_of h.held (Err fault) at.files
-              (says (table_status fault) (table_line fault) at.files) at.holds e refl;
+          answer = answer_of h.held (Err given) at.files
+              (says (table_status given) (table_line given) at.files) at.holds e refl;
           costs = subst (λ (o : Option (List ℕ)). WithinCosts (migrating_costs o) (spent before)
               (spent mid)) (sym at.holds) (unwritten_costs h.held before mid h.within steps);
         }
@@ -222,19 +221,11 @@ module _ (old new : List ℕ) where
 
     pub stopped_so : (fault : TableFault) → RefusesFormer old before.store mid.store fault
         → StopsWith (migrating_at old new) (stop_of_table fault) files input before mid
-    stopped_so Missing h = refused_so Missing h h.refuses
-    stopped_so Magic h = refused_so Magic h h.refuses
-    stopped_so (Truncated length due) h = refused_so (Truncated length due) h h.refuses
-    stopped_so (Extra length due) h = refused_so (Extra length due) h h.refuses
-    stopped_so (Rules fault) h = refused_so (Rules fault) h h.refuses
-    stopped_so (Size kept due) h = refused_so (Size kept due) h h.refuses
-    stopped_so Failed h = begun_so Failed h
-    stopped_so NoMemory h = begun_so NoMemory h
+    stopped_so fault h =
+        stops_by (migrating_at old new) files input before mid (opened old_format h.held)
+        (λ given. refused_so given fault h) (begun_so fault h) fault h.refuses
 
 -- the statuses of a refusal are those of `migrate`
 pub own_refusal : (fault : TableFault) (why : Refusal) → stop_of_table fault ≡ Refused why
     → OneOf (status_of why) (Success ∷ Table ∷ Absent ∷ [])
-own_refusal fault why e =
-    subst (λ (w : Refusal). OneOf (status_of w) (Success ∷ Table ∷ Absent ∷ []))
-    (from_table fault why e)
-    (table_own fault (Success ∷ Table ∷ Absent ∷ []) refl refl)
+own_refusal = refusal_own (Success ∷ Table ∷ Absent ∷ []) refl refl

@@ -12,15 +12,15 @@ use Rattle.frz_sets.specs.Sets.{size_of}
 use Rattle.frz_sets.specs.Views.{RuleLines}
 use Rattle.frz_store.specs.Files.{Files, put}
 use Rattle.frz_table.specs.declared.fault.TableFault.{TableFault}
-use Rattle.frz_table.specs.declared.fault.TableFault.TheVariants.{Missing, Magic, Truncated, Extra, Rules, Size, Failed, NoMemory}
 use Rattle.frz_table.specs.OldFiles.{limited_read, old_format, old_rules_of}
 use Rattle.frz_table.specs.Opening.{Contents, opened}
 use Rattle.frz_table.proofs.Lemmas.{opens_by, read_short}
+use Rattle.frz_answer.specs.declared.status.Status.{Status}
 use Rattle.frz_answer.specs.declared.status.Status.TheVariants as statuses
 use Rattle.frz_answer.specs.Answers.{Answer, says}
 use Rattle.frz_prelude.specs.Refusals.{table_status}
 use Rattle.frz_prelude.specs.TableCauses.{table_line}
-use Rattle.frz_prelude.proofs.Lemmas.{IsOfBytes, of_bytes, opened_missing}
+use Rattle.frz_prelude.proofs.Lemmas.{bytes_status, opened_missing}
 use Rattle.frz_commands_table.specs.Migrating.{migrated_line, IsMigratedAt, IsMigratedBy, IsRewritten}
 use Rattle.frz_commands_table.specs.MigrateMeans.{BecomesOneFile, HoldsFormerFile, IsFormerFile, MeansByStatus, MeansMigrate, RefusesOld}
 use Rattle.frz_commands_table.proofs.MovedCodes.{one_file_migrated}
@@ -110,17 +110,12 @@ module _ (old new : List ℕ) (files : Files) where
           same = refl;
         }
 
-    says_fault : (fault : TableFault) → opened old_format (Some bytes) ≡ Err fault → IsOfBytes fault
+    says_fault : (fault : TableFault) → opened old_format (Some bytes) ≡ Err fault
         → MeansByStatus old new files (says (table_status fault) (table_line fault) files)
         (table_status fault)
-    says_fault Missing e of = absurd of
-    says_fault Magic e of = told_refusal Magic e
-    says_fault (Truncated length due) e of = told_refusal (Truncated length due) e
-    says_fault (Extra length due) e of = told_refusal (Extra length due) e
-    says_fault (Rules fault) e of = told_refusal (Rules fault) e
-    says_fault (Size kept due) e of = told_refusal (Size kept due) e
-    says_fault Failed e of = absurd of
-    says_fault NoMemory e of = absurd of
+    says_fault fault e =
+        subst (λ (s : Status). MeansByStatus old new files (says s (table_line fault) files) s)
+        (sym (bytes_status old_format bytes fault e)) (told_refusal fault e)
 
     by_opening : (x : Result Contents TableFault) → opened old_format (Some bytes) ≡ x
         → (a : Answer) → IsMigratedBy x bytes new files a
@@ -128,7 +123,7 @@ module _ (old new : List ℕ) (files : Files) where
     by_opening (Ok contents) opens a h = rewritten contents opens a h
     by_opening (Err fault) refused a e = means_as a _ e (record {
       untaken = refl;
-      says = says_fault fault refused (of_bytes old_format bytes fault refused);
+      says = says_fault fault refused;
       exact = λ former. let no = opens_so bytes there (Err fault) refused former in cc;
     })
 

@@ -11,10 +11,8 @@ use Rattle.frz_answer.specs.Answers.{Answer, says, SomeAnswer}
 use Rattle.frz_answer.specs.Lawful.{HasOneAnswer, IsLawful}
 use Rattle.frz_answer.specs.Words.{two_words_of, unless}
 use Rattle.frz_answer.proofs.Lemmas.{taking_lawful, unless_lawful}
-use Rattle.frz_prelude.specs.Refusals.{table_status}
-use Rattle.frz_prelude.specs.TableCauses.{table_line}
 use Rattle.frz_prelude.specs.declared.refused.Refused.TheVariants as refusals
-use Rattle.frz_prelude.proofs.Lemmas.{refusal_said}
+use Rattle.frz_prelude.proofs.Lemmas.{some_refusal}
 use Rattle.frz_commands_table.specs.Migrating.{migrated_line, IsMigratedAt, IsMigratedBy}
 use Rattle.frz_commands_table.specs.MigrateMeans.{migrating_at, migrate_words}
 use Rattle.frz_commands_table.proofs.MigrateMeaning.{migrate_means}
@@ -28,11 +26,7 @@ some_by (Ok contents) bytes new files =
       answer = record { new_bytes = file.0; migrated = file.1; told = refl };
       text = λ e. cc;
     }
-some_by (Err fault) bytes new files = record {
-  a = says (table_status fault) (table_line fault) files;
-  answer = refl;
-  text = refusal_said (refusals.Table fault);
-}
+some_by (Err fault) bytes new files = some_refusal (refusals.Table fault) files
 
 one_by : (x : Result Contents TableFault) (bytes new : List ℕ) (files : Files) (a b : Answer)
     → IsMigratedBy x bytes new files a → IsMigratedBy x bytes new files b → b ≡ a

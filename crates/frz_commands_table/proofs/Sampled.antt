@@ -27,7 +27,7 @@ use Rattle.frz_game.proofs.Lemmas.{table_there, table_one}
 use Rattle.frz_graph.specs.EntryCodes.{of_side}
 use Rattle.frz_commands_table.specs.Sampling.{sample_text, sample_size, sample_lines, number_line, IsSampledBy, IsSampled, sampling, sampling_named, sample_words}
 use Rattle.frz_commands_table.specs.declared.sample.TheConstants.{LAST_SQUARE}
-use Rattle.frz_commands_table.proofs.Built.{read_sound, small_lags}
+use Rattle.frz_check.proofs.Lemmas.{read_small}
 use Rattle.frz_commands_table.proofs.SampleText.{text_read}
 
 -- the table of either side is exact where both are
@@ -41,7 +41,7 @@ either_table rules value white black w b Black = b
 pub some_sampled : (k : ℕ) (r : RuleLines) → rules_of (sample_text k) ≡ Ok r → (m : Files)
     → SomeAnswer (λ a. IsSampled k m a)
 some_sampled k r read m =
-    let small = small_lags r (read_sound (sample_text k) r read) in
+    let small = read_small (sample_text k) r read in
     let white = table_there r (value_by r) small White in
     let black = table_there r (value_by r) small Black in record {
       a = says Success (sample_lines k sample_size white.0 black.0) m;

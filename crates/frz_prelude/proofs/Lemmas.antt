@@ -1,12 +1,20 @@
 -- The lemmas that the crates above cite.
 pub use Rattle.frz_prelude.proofs.BoundLines.{kept_bound}
 pub use Rattle.frz_prelude.proofs.Held.{Holding, holding, of_rules}
+pub use Rattle.frz_prelude.proofs.NamedRules.{read_named, refused_named, some_named}
 pub use Rattle.frz_prelude.proofs.OpenedTables.{
   IsOfBytes,
+  by_table_status,
   of_bytes,
   opened_missing,
   table_cause,
   table_own,
+}
+pub use Rattle.frz_prelude.proofs.RefusedTables.{
+  bytes_status,
+  refusal_own,
+  refused_means,
+  stops_by,
 }
 pub use Rattle.frz_prelude.proofs.Positions.{as_read, fen_lawful}
 pub use Rattle.frz_prelude.proofs.Stopping.{
@@ -16,4 +24,5 @@ pub use Rattle.frz_prelude.proofs.Stopping.{
   found_where,
   may_stop,
   refusal_said,
+  some_refusal,
 }

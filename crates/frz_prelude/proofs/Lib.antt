@@ -1,6 +1,8 @@
 pub mod Held
 mod BoundLines
 mod OpenedTables
+mod RefusedTables
+mod NamedRules
 pub mod Positions
 pub mod Lemmas
 mod Stopping

@@ -94,14 +94,18 @@ table_cause T A (Size kept due) old new h = record { faults = h.refused; wants =
 table_cause T A Failed old new h = h.failed refl
 table_cause T A NoMemory old new h = tt
 
--- the status is one of these two
+-- the status of a table that was not opened is one of these two
+pub by_table_status : (P : Status → Type 0) (fault : TableFault) → P statuses.Missing
+    → P statuses.Table → P (table_status fault)
+by_table_status P Missing missing table = missing
+by_table_status P Magic missing table = table
+by_table_status P (Truncated length due) missing table = table
+by_table_status P (Extra length due) missing table = table
+by_table_status P (Rules fault) missing table = table
+by_table_status P (Size kept due) missing table = table
+by_table_status P Failed missing table = table
+by_table_status P NoMemory missing table = table
+
 pub table_own : (fault : TableFault) (own : List Status) → OneOf statuses.Missing own
     → OneOf statuses.Table own → OneOf (table_status fault) own
-table_own Missing own missing table = missing
-table_own Magic own missing table = table
-table_own (Truncated length due) own missing table = table
-table_own (Extra length due) own missing table = table
-table_own (Rules fault) own missing table = table
-table_own (Size kept due) own missing table = table
-table_own Failed own missing table = table
-table_own NoMemory own missing table = table
+table_own fault own missing table = by_table_status (λ s. OneOf s own) fault missing table

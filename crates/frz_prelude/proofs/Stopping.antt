@@ -1,5 +1,5 @@
 -- How a job ends that was stopped before it came to its own work.
-use Rattle.std.proofs.Common.{◌≡◌, refl, sym, subst, ℕ, List, [], ◌∷◌, Result, Ok, Err, IsTrue}
+use Rattle.std.proofs.Common.{◌≡◌, refl, sym, subst, ℕ, List, [], ◌∷◌, Result, Ok, Err, IsTrue, ◌++◌, codes}
 use Rattle.std.specs.Prelude.{IfSome}
 use Rattle.frz_store.specs.Files.{Files}
 use Rattle.frz_store.specs.Told.{StoreTold, SourceTold, SinkTold, StoreFine}
@@ -8,29 +8,24 @@ use Rattle.frz_answer.specs.declared.fault.Fault.TheVariants as faults
 use Rattle.frz_answer.specs.declared.end.End.{End}
 use Rattle.frz_answer.specs.declared.status.Status.{Status}
 use Rattle.frz_answer.specs.Statuses.{OneOf}
+use Rattle.frz_answer.specs.Answers.{SomeAnswer, says}
 use Rattle.frz_answer.specs.World.{World, world, Agrees, Fine, Quiet}
 use Rattle.frz_answer.specs.Jobs.{Job, Never, Sees}
 use Rattle.frz_answer.specs.Ends.{MayMeet, Ran, Said}
 use Rattle.frz_answer.proofs.Lemmas.{said, stopped, fine_store, Found, SaysAll, Begun}
 use Rattle.frz_table.specs.declared.fault.TableFault.{TableFault}
 use Rattle.frz_table.specs.declared.fault.TableFault.TheVariants as table
-use Rattle.frz_prelude.specs.TableCauses.{back_line, table_line}
+use Rattle.frz_prelude.specs.TableCauses.{file_line}
 use Rattle.frz_prelude.specs.Refusals.{table_status, status_of, refusal_line}
 use Rattle.frz_prelude.specs.Stops.{WantsMemoryAlone, HasItsCause, EndsBy}
 use Rattle.frz_prelude.specs.declared.refused.Refused.{Refused as Refusal}
 use Rattle.frz_prelude.specs.declared.refused.Refused.TheVariants as refusals
 use Rattle.frz_prelude.specs.declared.stop.Stop.{Stop}
 use Rattle.frz_prelude.specs.declared.stop.Stop.TheVariants.{Refused, Fault}
+use Rattle.frz_prelude.proofs.OpenedTables.{by_table_status}
 
 own_table : (fault : TableFault) → OneOf (table_status fault) (table_status fault ∷ [])
-own_table table.Missing = refl
-own_table table.Magic = refl
-own_table (table.Truncated length due) = refl
-own_table (table.Extra length due) = refl
-own_table (table.Rules fault) = refl
-own_table (table.Size kept due) = refl
-own_table table.Failed = refl
-own_table table.NoMemory = refl
+own_table fault = by_table_status (λ s. OneOf s (s ∷ [])) fault refl refl
 
 -- the status of a refusal is its own
 pub own_status : (why : Refusal) → OneOf (status_of why) (status_of why ∷ [])
@@ -42,35 +37,45 @@ own_status (refusals.Back fault) = own_table fault
 own_status (refusals.BackWrong wrong) = refl
 own_status refusals.Outside = refl
 
-table_said : (fault : TableFault) → table_line fault ≡ [] → ⊥
-table_said table.Missing e = cc
-table_said table.Magic e = cc
-table_said (table.Truncated length due) e = cc
-table_said (table.Extra length due) e = cc
-table_said (table.Rules fault) e = cc
-table_said (table.Size kept due) e = cc
-table_said table.Failed e = cc
-table_said table.NoMemory e = cc
+-- a text with a word in front is not empty
+behind_word : (word rest : List ℕ) → (word ≡ [] → ⊥) → word ++ rest ≡ [] → ⊥
+behind_word [] rest some e = some refl
+behind_word (b ∷ bs) rest some e = cc
 
-back_said : (fault : TableFault) → back_line fault ≡ [] → ⊥
-back_said table.Missing e = cc
-back_said table.Magic e = cc
-back_said (table.Truncated length due) e = cc
-back_said (table.Extra length due) e = cc
-back_said (table.Rules fault) e = cc
-back_said (table.Size kept due) e = cc
-back_said table.Failed e = cc
-back_said table.NoMemory e = cc
+-- nor is the line that refuses a file
+file_said : (word : List ℕ) → (word ≡ [] → ⊥) → (fault : TableFault) → file_line word fault ≡ []
+    → ⊥
+file_said word some table.Missing e = cc
+file_said word some table.Magic e = behind_word word _ some e
+file_said word some (table.Truncated length due) e =
+    behind_word (word ++ _) _ (behind_word word _ some) e
+file_said word some (table.Extra length due) e =
+    behind_word (word ++ _) _ (behind_word word _ some) e
+file_said word some (table.Rules fault) e =
+    behind_word (word ++ _) _ (behind_word word _ some) e
+file_said word some (table.Size kept due) e =
+    behind_word (word ++ _) _ (behind_word word _ some) e
+file_said word some table.Failed e = cc
+file_said word some table.NoMemory e = cc
 
 -- each refusal is said in some text
 pub refusal_said : (why : Refusal) → refusal_line why ≡ [] → ⊥
 refusal_said (refusals.Fen fault) e = cc
 refusal_said refusals.MissingRules e = cc
 refusal_said (refusals.Rules fault) e = cc
-refusal_said (refusals.Table fault) e = table_said fault e
-refusal_said (refusals.Back fault) e = back_said fault e
+refusal_said (refusals.Table fault) e = file_said (codes "table") (λ e. cc) fault e
+refusal_said (refusals.Back fault) e = file_said (codes "back") (λ e. cc) fault e
 refusal_said (refusals.BackWrong wrong) e = cc
 refusal_said refusals.Outside e = cc
+
+-- there is an answer that refuses so
+pub some_refusal : (why : Refusal) (files : Files)
+    → SomeAnswer (λ a. a ≡ says (status_of why) (refusal_line why) files)
+some_refusal why files = record {
+  a = says (status_of why) (refusal_line why) files;
+  answer = refl;
+  text = refusal_said why;
+}
 
 -- what was said with an equal status and an equal text
 pub as_said : (s t : Status) (x y : List ℕ) (end : End) (old new : SinkTold) → s ≡ t → x ≡ y

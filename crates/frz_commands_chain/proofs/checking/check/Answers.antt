@@ -1,20 +1,20 @@
 use Rattle.std.proofs.Common.{refl}
 use Rattle.frz_store.specs.Told.{store_of}
 use Rattle.frz_answer.specs.World.{world}
-use Rattle.frz_answer.proofs.Lemmas.{fine_store, said}
+use Rattle.frz_answer.proofs.Lemmas.{fine_store, quiet_both, said}
 use Rattle.frz_prelude.proofs.Lemmas.{ended, may_stop}
 use Rattle.frz_chain.specs.Chains.{judgement}
 use Rattle.frz_chain.specs.declared.checking.ChainVerdict.{ChainVerdict}
 use Rattle.frz_commands_chain.specs.CheckMeans.{checking_pair}
 use Rattle.frz_commands_chain.specs.Stops.{stop_of_chain}
-use Rattle.frz_commands_chain.proofs.Stopped.{chain_cause, quiet_so}
+use Rattle.frz_commands_chain.proofs.Stopped.{chain_cause}
 use Rattle.frz_commands_chain.proofs.Pairs.{judged_so, own_refusal, own_verdict, stopped_so}
 use Rattle.frz_commands_chain.proofs.checking.check.Goals as goal
 
 pub returns-in-Ok : goal.returns-in-Ok
 returns-in-Ok g c = λ input.
     let e = c.in-Ok.ensures in
-    said _ _ _ _ _ (world _ _ _ _) _ (quiet_so _ _ _ _ _ _ e.quiet e.later)
+    said _ _ _ _ _ (world _ _ _ _) _ (quiet_both _ _ _ _ _ _ e.quiet e.later)
     (fine_store _ _ _ _ _ _ e.cause)
     (own_verdict (judgement c.in-Ok.verdict)) (c.tell.ensures _ _ e.verdict.sizes)
     (λ sees files left agrees. judged_so _ _ files left _ _ sees agrees c.in-Ok.verdict e.verdict)
@@ -25,7 +25,7 @@ returns-in-Err g c = λ input.
     let fault = c.in-Err.fault in
     let job = checking_pair c.args.table.now c.args.back.now in
     let old = store_of g.S.Store c.args.store.now in
-    ended job (stop_of_chain fault) _ _ (world _ _ _ _) _ (quiet_so _ _ _ _ _ _ e.quiet e.later)
+    ended job (stop_of_chain fault) _ _ (world _ _ _ _) _ (quiet_both _ _ _ _ _ _ e.quiet e.later)
     (may_stop ChainVerdict job (stop_of_chain fault) _ _ input _ _ _ refl refl
     (own_refusal _ _ fault e.refused.refuses)
     (chain_cause ChainVerdict ChainVerdict fault old old _ (record { faults = refl; wants = refl })
