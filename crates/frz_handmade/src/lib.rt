@@ -2,6 +2,7 @@
 //! the code that writes tables and the code that reads them.
 #![tactic(auto)]
 
+pub mod blocked;
 mod bytes;
 pub mod rook;
 mod stores;

@@ -1,12 +1,11 @@
 //! Rules texts.
 
+/// Four pawns a side that block each other.
+pub use frz_handmade::blocked::TEXT as BLOCKED;
+
 /// A rook on h1 or h8 and a king on b6 against a king on a8 or b8. A number is 4 where Black is to
 /// move, plus 2 for a rook on h8, plus 1 for a king on b8.
-pub const ROOK: &str = "freezer 1
-group white 1 K:b6
-group white 1 R:h1,h8
-group black 1 K:a8,b8
-";
+pub use frz_handmade::rook::TEXT as ROOK;
 
 /// The rook and king, where White mates at once when the black king leaves to c8.
 pub const WIN: &str = "freezer 1
@@ -67,22 +66,6 @@ group white 1 K:a1
 group black 1 K:h8
 group white 1 P:e5,d6
 group black 0-1 P:d5
-";
-
-/// Four pawns a side that block each other.
-pub const BLOCKED: &str = "freezer 1
-group white 1 K:a1-h5
-group black 1 K:a4-h8
-group white 1 P:a4
-group white 1 P:b3
-group white 1 P:c4
-group white 1 P:e4
-group black 1 P:a5
-group black 1 P:b4
-group black 1 P:c5
-group black 1 P:e5
-exit white holds if count:white:P:4
-exit black holds if count:black:P:4
 ";
 
 /// Two white groups with rooks.

@@ -3,7 +3,7 @@ use super::{
     Answered, COUNTED, RULES, Row, expect_all, expect_asking, expect_call, expect_calls,
     expect_file, expect_front, expect_left, expect_length, fails, no_fails,
 };
-use frz_handmade::{rook, store_with, table_file};
+use frz_handmade::{blocked, rook, store_with, table_file};
 use frz_store::{FailOn, MemStore};
 use std::alloc::Global;
 use std::process::Abort;
@@ -205,22 +205,6 @@ fn builds_the_file_where_only_the_line_is_not_taken(rt: HostRuntime) -> Result<(
     Ok(())
 }
 
-/// Four blocked pawns a side: 278 bytes, 6,400 numbers.
-pub(super) const BLOCKED: &[u8] = b"freezer 1
-group white 1 K:a1-h5
-group black 1 K:a4-h8
-group white 1 P:a4
-group white 1 P:b3
-group white 1 P:c4
-group white 1 P:e4
-group black 1 P:a5
-group black 1 P:b4
-group black 1 P:c5
-group black 1 P:e5
-exit white holds if count:white:P:4
-exit black holds if count:black:P:4
-";
-
 /// White to move. Both sides hold, by a search of the kings' moves that was made apart from these
 /// crates.
 const AMONG_PAWNS: &str = "8/8/6k1/p1p1p3/PpP1P1K1/1P6/8/8 w - - 0 1";
@@ -231,7 +215,7 @@ const OF_BLOCKED: &[Answered] = &[(BUILD, 0, "built 6400\n"), (CHECK, 0, "exact 
 #[test]
 fn blocked_pawns_are_built_checked_and_asked(rt: HostRuntime) -> Result<(), TestFail> {
     let alloc = rt.alloc();
-    let mut store = store_with(alloc, no_fails(alloc), &[("A", BLOCKED)])?;
+    let mut store = store_with(alloc, no_fails(alloc), &[("A", blocked::TEXT.as_bytes())])?;
     expect_calls(&rt, alloc, &mut store, OF_BLOCKED)?;
     expect_length(&rt, &store, "T", Some(51_494));
     let query = ["query", "T", AMONG_PAWNS];

@@ -4,12 +4,12 @@ ghost use Rattle.std.specs.Prelude.{◌≡◌, ◌≤◌, ◌<◌, ◌+◌, ◌*
 ghost use Rattle.frz_sets.specs.Sound.{IsSound};
 ghost use Rattle.frz_table.specs.Tables.{Carries};
 
-use super::building::BLOCKED;
 use super::{RULES, no_fails};
 use frz_build::{NewTable, build_table};
 use frz_check::{Verdict, check_kept};
 use frz_exits::RuleBook;
 use frz_game::Game;
+use frz_handmade::blocked;
 use frz_index::Set;
 use frz_rules::{Rules, read_rules};
 use frz_steps::Steps;
@@ -149,5 +149,5 @@ fn few_steps_build_and_check_the_rook(rt: HostRuntime) -> Result<(), Fail> {
 
 #[test]
 fn few_steps_build_and_check_blocked_pawns(rt: HostRuntime) -> Result<(), Fail> {
-    expect_few_steps(rt.alloc(), BLOCKED, 6_400)
+    expect_few_steps(rt.alloc(), blocked::TEXT.as_bytes(), 6_400)
 }

@@ -1,5 +1,6 @@
 //! Sizes of sets, worked out by hand.
-use super::{A, KINGS, SetSize, all_sized};
+use super::{A, KINGS, SetSize, all_sized, sized};
+use frz_handmade::blocked;
 
 const CHOICES: &[SetSize] = &[
     // 2 * 64 * 64 * 64 * 32 and 2 * 64 * 64 * 64 * 33
@@ -33,19 +34,6 @@ fn choices_of_groups(rt: HostRuntime) {
 
 const CORNERS: &[u8] = b"freezer 1\ngroup white 1 K:a1\ngroup black 1 K:h8\n";
 
-const BLOCKED: &[u8] = b"freezer 1
-group white 1 K:a1-h5
-group black 1 K:a4-h8
-group white 1 P:a4
-group white 1 P:b3
-group white 1 P:c4
-group white 1 P:e4
-group black 1 P:a5
-group black 1 P:b4
-group black 1 P:c5
-group black 1 P:e5
-";
-
 const TARGETS: &[SetSize] = &[
     // three turn states: White, Black and the target d6
     SetSize(
@@ -61,11 +49,16 @@ const TARGETS: &[SetSize] = &[
     SetSize(&[CORNERS, b"group white 1 P:h4\ngroup black 1 P:a5\n"], 2),
     // nor beside a pawn of its own side
     SetSize(&[CORNERS, b"group white 1 P:e4\ngroup white 1 P:d4\n"], 2),
-    // four: the black pawn on b4 stands beside a4 and c4, but no pawn beside e4, a5, c5 or e5
-    SetSize(&[BLOCKED], 6400),
 ];
 
 #[test]
 fn targets(rt: HostRuntime) {
     all_sized(&rt, rt.alloc(), TARGETS);
+}
+
+/// Four turn states: the black pawn on b4 stands beside a4 and c4, but no pawn beside e4, a5, c5 or
+/// e5.
+#[test]
+fn targets_of_blocked_pawns(rt: HostRuntime) {
+    sized(&rt, rt.alloc(), &[blocked::TEXT.as_bytes()], 6400);
 }

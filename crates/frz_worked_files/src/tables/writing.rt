@@ -1,6 +1,7 @@
 //! Files and headers that are written, whole and up to a fault.
 use super::{BLACK, ROOK, WHITE, joined, rook_file};
 use crate::stores::check_file;
+use frz_handmade::blocked;
 use frz_store::{Fail as Failing, FailOn, MemStore, Store, StoreFault};
 use frz_table::{FileKind, write_entries, write_header, write_header_kind};
 use std::alloc::Global;
@@ -12,22 +13,6 @@ const NEAR_ROOK: &str = "freezer 1
 group white 1 K:b6
 group white 1 R:c1,c2
 group black 1 K:a8,b8
-";
-
-/// Four blocked pawns a side: 278 bytes, 6,400 numbers.
-const BLOCKED: &str = "freezer 1
-group white 1 K:a1-h5
-group black 1 K:a4-h8
-group white 1 P:a4
-group white 1 P:b3
-group white 1 P:c4
-group white 1 P:e4
-group black 1 P:a5
-group black 1 P:b4
-group black 1 P:c5
-group black 1 P:e5
-exit white holds if count:white:P:4
-exit black holds if count:black:P:4
 ";
 
 /// Writes the rook's file: five pieces.
@@ -110,14 +95,14 @@ const HEADERS: &[Header] = &[
     ),
     Header(
         FileKind::Plain,
-        BLOCKED,
+        blocked::TEXT,
         6400,
         b"FREEZER2\x16\x01\0\0",
         b"\0\x19\0\0",
     ),
     Header(
         FileKind::Chained,
-        BLOCKED,
+        blocked::TEXT,
         6400,
         b"FREEZERC\x16\x01\0\0",
         b"\0\x19\0\0",
