@@ -1,5 +1,5 @@
 -- Statuses that never come where no count of the objects rises.
-use Rattle.std.proofs.Common.{◌≡◌, ◌≢◌, inl, inr, refl, sym, ap, ◌∙◌, ℕ, Bool, true, false, ◌==◌, ◌||◌}
+use Rattle.std.proofs.Common.{◌≡◌, ◌≢◌, inl, inr, refl, sym, ap, ◌∙◌, ℕ, Bool, true, false, ◌==◌, ◌||◌, arith}
 use Rattle.frz_store.specs.Outside.{Rose}
 use Rattle.frz_answer.specs.declared.status.Status.{Status}
 use Rattle.frz_answer.specs.declared.status.Status.TheVariants as statuses
@@ -25,24 +25,23 @@ own_is_not statuses.Missing = refl
 own_is_not statuses.Limit = refl
 own_is_not statuses.NoMove = refl
 
--- no object has failed
-pub record IsSure (old new : World) : Type 0 where
-  pub store : Rose old.store.faults new.store.faults → ⊥
-  pub input : Rose old.input.faults new.input.faults → ⊥
-  pub out : Rose old.out.faults new.out.faults → ⊥
+-- a count that is what it was did not rise
+still : (old new : ℕ) → new ≡ old → Rose old new → ⊥
+still old new e h = omega (arith, e, h)
 
-never : (job : Job) (status : ℕ) (old new : World) → IsSure old new → HasStatus job status old new
-    → is_outside status ≡ true → ⊥
-never job status old new sure (inl (s, one, e, fine)) h =
-    let no : true ≡ false = sym h ∙ ap is_outside e ∙ own_is_not s in cc
-never job status old new sure (inr (inl (faults.Store, meets, e))) h = sure.store meets.1
-never job status old new sure (inr (inl (faults.Input, meets, e))) h = sure.input meets.1
-never job status old new sure (inr (inl (faults.NoMemory, meets, e))) h =
-    let no : true ≡ false = sym h ∙ ap is_outside e in cc
-never job status old new sure (inr (inr (rose, e))) h = sure.out rose
-
--- a status of the outside is not the call's
+-- a status of the outside is not the call's where no object has failed
 pub not_given : (job : Job) (status other : ℕ) (old new : World) → is_outside other ≡ true
-    → IsSure old new → HasStatus job status old new → status ≢ other
-not_given job status other old new outside sure can e =
-    never job status old new sure can (ap is_outside e ∙ outside)
+    → new.store.faults ≡ old.store.faults → new.input.faults ≡ old.input.faults
+    → new.out.faults ≡ old.out.faults → HasStatus job status old new → status ≢ other
+not_given job status other old new outside store input out (inl (s, one, e, fine)) is =
+    let no : true ≡ false = sym outside ∙ sym (ap is_outside is) ∙ ap is_outside e ∙ own_is_not s in
+    cc
+not_given job status other old new outside store input out (inr (inl (faults.Store, meets, e))) is =
+    still old.store.faults new.store.faults store meets.1
+not_given job status other old new outside store input out (inr (inl (faults.Input, meets, e))) is =
+    still old.input.faults new.input.faults input meets.1
+not_given job status other old new outside store input out
+    (inr (inl (faults.NoMemory, meets, e))) is =
+    let no : true ≡ false = sym outside ∙ sym (ap is_outside is) ∙ ap is_outside e in cc
+not_given job status other old new outside store input out (inr (inr (rose, e))) is =
+    still old.out.faults new.out.faults out rose
