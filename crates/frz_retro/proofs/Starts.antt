@@ -24,7 +24,7 @@ later_says own side arms s h = elim (cases_lt 0 s.least) [
       subst (IsLater own side arms)
       (sym (cond-true (nat_lt 0 s.least) (s.least + 2) (cond (nat_lt 0 s.most) (s.most + 2) 0)
       (lt-ltb 0 s.least l)))
-      (elim h.least_met [
+      (elim h.least.met [
         | inl z ↦ absurd (omega (arith, z, l))
         | inr m ↦
             let kind : is_of own (s.least + 2) ≡ true = ap (λ (x : ℕ). is_of own (x + 2)) m.6
@@ -32,7 +32,7 @@ later_says own side arms s h = elim (cases_lt 0 s.least) [
             let low = of_low own (value_code side m.1) m.5 in let is = m.6 in
             record {
               deciding = λ a i c v x k.
-                  let b = h.least_below a i c v x k in
+                  let b = h.least.within a i c v x k in
                   (kind, omega (arith, b.1));
               settling = λ a i c v x k. inl kind;
               met = inr (m.0, m.1, m.2, m.3, m.4, low, omega (arith, is));
@@ -46,16 +46,16 @@ later_says own side arms s h = elim (cases_lt 0 s.least) [
         | inl p ↦
             subst (IsLater own side arms)
             (sym (cond-true (nat_lt 0 s.most) (s.most + 2) 0 (lt-ltb 0 s.most p)))
-            (elim h.most_met [
+            (elim h.most.met [
               | inl z ↦ absurd (omega (arith, z, p))
               | inr m ↦
                   let low = of_low (not own) (value_code side m.1) m.5 in let is = m.6 in
                   record {
                     deciding = λ a i c v x k.
-                        let b = h.least_below a i c v x k in
+                        let b = h.least.within a i c v x k in
                         absurd (omega (arith, b.0, l));
                     settling = λ a i c v x k.
-                        let b = h.most_above a i c v x k in
+                        let b = h.most.within a i c v x k in
                         inr (omega (arith, b));
                     met = inr (m.0, m.1, m.2, m.3, m.4, low, omega (arith, is));
                   }
@@ -64,10 +64,10 @@ later_says own side arms s h = elim (cases_lt 0 s.least) [
             subst (IsLater own side arms)
             (sym (cond-false (nat_lt 0 s.most) (s.most + 2) 0 (le-ltb 0 s.most p))) (record {
               deciding = λ a i c v x k.
-                  let b = h.least_below a i c v x k in
+                  let b = h.least.within a i c v x k in
                   absurd (omega (arith, b.0, l));
               settling = λ a i c v x k.
-                  let b = h.most_above a i c v x k in
+                  let b = h.most.within a i c v x k in
                   let low = of_low (not own) (value_code side v) k in
                   absurd (omega (arith, b, low, p));
               met = inl refl;
