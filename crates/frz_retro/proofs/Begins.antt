@@ -50,7 +50,7 @@ module _ {B : Shape} {side : Colour} {E C L Q : List ℕ} {tail : ℕ} (n : ℕ)
   is_one = (b.rest n (omega arith) l).0
 
   pub has_room : tail < length Q
-  has_room = room_for 0 0 E Q tail n b.queue is_one
+  has_room = room_for n b.queue is_one
 
   -- the next number has begun
   begins : (F D M R : List ℕ) (end : ℕ) → ((j : ℕ) → j ≢ n → get_or F j 0 ≡ get_or E j 0) →

@@ -1,5 +1,5 @@
 -- Each way on from a number that may be due.
-use Rattle.std.proofs.Common.{◌≡◌, ◌≢◌, ℕ, Bool, true, false, not, ◌+◌, ◌*◌, ◌<◌, ◌≤◌, List, sym, ◌∙◌, ap, arith, inl, inr, get_or, set, length}
+use Rattle.std.proofs.Common.{◌≡◌, ◌≢◌, ℕ, Bool, true, false, not, ◌+◌, ◌*◌, ◌<◌, ◌≤◌, List, sym, ◌∙◌, ap, arith, inl, inr, get_or, set}
 use Rattle.std.proofs.lemmas.Bool.{true≢false}
 use Rattle.frz_board.specs.Men.{same_colour}
 use Rattle.frz_retro.specs.Kinds.{is_of}
@@ -8,7 +8,6 @@ use Rattle.frz_retro.specs.Work.{Work, bar_at}
 use Rattle.frz_board.specs.declared.man.Colour.{Colour}
 use Rattle.frz_arena.specs.declared.node.Node.TheVariants.{Broken, Going}
 use Rattle.frz_retro.proofs.CodeFacts.{of_some}
-use Rattle.frz_retro.proofs.WorkFacts.{room_for}
 use Rattle.frz_retro.proofs.PassToPass.{node_cases}
 use Rattle.frz_retro.proofs.DueSteps.{due_skips, due_settles}
 
@@ -31,9 +30,6 @@ module _ {B : Shape} {side : Colour} {k mid : ℕ} {done : ℕ → ℕ → Bool}
 
   pub due_whole : i < B.size → 2 * k + 2 ≤ get_or L i 0 → B.arena.node i ≢ Broken
   due_whole l b e = let g = due_going l b in cc (g.1)
-
-  pub due_room : get_or E i 0 ≡ 1 → tail < length Q
-  due_room one = room_for k mid E Q tail i w.queue one
 
   module _ (own : Bool)
       (own_is : (c : Colour) → B.arena.node i ≡ Going c → own ≡ same_colour c side) (l : i < B.size)

@@ -1,5 +1,5 @@
 -- Each way on from a pair.
-use Rattle.std.proofs.Common.{◌≡◌, ℕ, Bool, true, false, not, ◌+◌, ◌-◌, ◌<◌, ◌≤◌, List, sym, ◌∙◌, ap, arith, inl, inr, get_or, set, length, Some}
+use Rattle.std.proofs.Common.{◌≡◌, ℕ, Bool, true, false, not, ◌+◌, ◌-◌, ◌<◌, ◌≤◌, List, sym, ◌∙◌, ap, arith, inl, inr, get_or, set, Some}
 use Rattle.std.proofs.lemmas.Bool.{true≢false}
 use Rattle.frz_board.specs.Men.{same_colour}
 use Rattle.frz_retro.specs.Kinds.{is_of}
@@ -12,28 +12,36 @@ use Rattle.frz_unmove.specs.declared.preds.Pred.{Pred}
 use Rattle.frz_retro.proofs.CodeFacts.{of_some}
 use Rattle.frz_retro.proofs.Laws.{mover_is}
 use Rattle.frz_retro.proofs.Meetings.{going_at, meet_uncounted, meet_decides, meet_last, meet_less, meet_waits}
-use Rattle.frz_retro.proofs.WorkFacts.{room_for}
+use Rattle.frz_retro.proofs.WorkFacts.{read_back}
 
--- what the calls of the graph have told
+-- what the graph has told of a number and a move of it
 pub record Told (B : Shape) (side : Colour) (p : Pred) (own counted : Bool) : Type 0 where
+  pub graph : IsGraph B
   pub own_is : (c : Colour) → B.arena.node p.number ≡ Going c → own ≡ same_colour c side
   pub counted_is : (a : Arm) → In a (B.arena.arms p.number) → a.mv ≡ p.mv →
       counted ≡ counts_for own a
 
-pub told_from : (B : Shape) (side : Colour) (p : Pred) (own counted : Bool) (mover : Colour) →
-    mover_of (B.arena.node p.number) ≡ Some mover → own ≡ same_colour mover side →
+pub told_from : {B : Shape} {side : Colour} {p : Pred} {own counted : Bool} {mover : Colour} →
+    IsGraph B → mover_of (B.arena.node p.number) ≡ Some mover → own ≡ same_colour mover side →
     ((a : Arm) → In a (B.arena.arms p.number) → a.mv ≡ p.mv → counted ≡ counts_for own a) →
     Told B side p own counted
-told_from B side p own counted mover moves own_is counted_is = record {
+told_from {B} {side} g moves own_is counted_is = record {
+  graph = g;
   own_is = λ c n. own_is ∙ ap (λ x. same_colour x side) (mover_is moves c n);
   counted_is = counted_is;
 }
 
+-- an open number that does not settle by q, to which it has a counted arm
+pub record Waits (own counted : Bool) (E : List ℕ) (i q : ℕ) : Type 0 where
+  pub counts : counted ≡ true
+  pub open_ : get_or E i 0 ≡ 1
+  pub other : is_of own (get_or E q 0) ≡ false
+
 module _ {B : Shape} {side : Colour} {k mid : ℕ} {done : ℕ → ℕ → Bool} {E C L Q : List ℕ}
-    {tail q : ℕ} {p : Pred} (g : IsGraph B) (m : Meeting B side k mid done E C L Q tail q p)
-    (own counted : Bool) (told : Told B side p own counted) where
+    {tail q : ℕ} {p : Pred} {own counted : Bool} (m : Meeting B side k mid done E C L Q tail q p)
+    (told : Told B side p own counted) where
   going : (c : Colour) × (B.arena.node p.number ≡ Going c)
-  going = going_at B side k mid done E C L Q tail q p g m
+  going = going_at B side k mid done E C L Q tail q p told.graph m
 
   own_as : same_colour going.0 side ≡ own
   own_as = sym (told.own_is going.0 going.1)
@@ -55,7 +63,7 @@ module _ {B : Shape} {side : Colour} {k mid : ℕ} {done : ℕ → ℕ → Bool}
   pub exit_uncounted : {more : ℕ → ℕ → Bool} → Meets done more p.number q → counted ≡ false →
       Work B side k mid (bar_at k B.size) more E C L Q tail
   exit_uncounted {more} t e =
-      meet_uncounted B side k mid done more E C L Q tail q p g m t going.0 going.1
+      meet_uncounted B side k mid done more E C L Q tail q p told.graph m t going.0 going.1
       (counts_as false e)
 
   pub exit_decides : {more : ℕ → ℕ → Bool} → Meets done more p.number q → counted ≡ true →
@@ -66,28 +74,32 @@ module _ {B : Shape} {side : Colour} {k mid : ℕ} {done : ℕ → ℕ → Bool}
       meet_decides B side k mid done more E C L Q tail q p m t going.0 going.1 one
       (counts_as true e) (kind_as kind)
 
-  pub exit_waits : counted ≡ true → get_or E p.number 0 ≡ 1 → is_of own (get_or E q 0) ≡ false →
-      0 < get_or C p.number 0
-  exit_waits e one kind =
-      meet_waits B side k mid done E C L Q tail q p g m going.0 going.1 one (counts_as true e)
-      (other_as kind)
+  module _ (w : Waits own counted E p.number q) where
+    pub exit_waits : 0 < get_or C p.number 0
+    exit_waits =
+        meet_waits B side k mid done E C L Q tail q p told.graph m going.0 going.1 w.open_
+        (counts_as true w.counts) (other_as w.other)
 
-  pub exit_less : {more : ℕ → ℕ → Bool} → Meets done more p.number q → counted ≡ true →
-      get_or E p.number 0 ≡ 1 → is_of own (get_or E q 0) ≡ false →
-      (get_or C p.number 0 - 1 ≡ 0 → get_or E q 0 + 2 < get_or L p.number 0) →
-      Work B side k mid (bar_at k B.size) more E (set C p.number (get_or C p.number 0 - 1)) L Q tail
-  exit_less {more} t e one kind late = let pos = exit_waits e one kind in
-      meet_less B side k mid done more E C L Q tail q p g m t going.0 going.1 one (counts_as true e)
-      (other_as kind) (get_or C p.number 0 - 1) (omega (arith, pos)) late
+    -- by the counter as it is read once it is one less
+    left : get_or (set C p.number (get_or C p.number 0 - 1)) p.number 0 ≡ get_or C p.number 0 - 1
+    left = read_back C p.number (get_or C p.number 0 - 1) exit_waits
 
-  pub exit_last : {more : ℕ → ℕ → Bool} → Meets done more p.number q → counted ≡ true →
-      get_or E p.number 0 ≡ 1 → is_of own (get_or E q 0) ≡ false → get_or C p.number 0 - 1 ≡ 0 →
-      get_or L p.number 0 ≤ get_or E q 0 + 2 →
-      Work B side k mid (bar_at k B.size) more (set E p.number (get_or E q 0 + 2))
-      (set C p.number (get_or C p.number 0 - 1)) L (set Q tail p.number) (tail + 1)
-  exit_last {more} t e one kind zero short = let pos = exit_waits e one kind in
-      meet_last B side k mid done more E C L Q tail q p g m t going.0 going.1 one (counts_as true e)
-      (other_as kind) (omega (arith, pos, zero)) short (get_or C p.number 0 - 1)
+    pub exit_less : {more : ℕ → ℕ → Bool} → Meets done more p.number q →
+        (get_or (set C p.number (get_or C p.number 0 - 1)) p.number 0 ≡ 0
+        → get_or E q 0 + 2 < get_or L p.number 0) →
+        Work B side k mid (bar_at k B.size) more E (set C p.number (get_or C p.number 0 - 1)) L Q
+        tail
+    exit_less {more} t late = let pos = exit_waits in
+        meet_less B side k mid done more E C L Q tail q p told.graph m t going.0 going.1 w.open_
+        (counts_as true w.counts) (other_as w.other) (get_or C p.number 0 - 1) (omega (arith, pos))
+        (λ z. late (left ∙ z))
 
-  pub exit_room : get_or E p.number 0 ≡ 1 → tail < length Q
-  exit_room one = room_for k mid E Q tail p.number m.work.queue one
+    pub exit_last : {more : ℕ → ℕ → Bool} → Meets done more p.number q →
+        get_or (set C p.number (get_or C p.number 0 - 1)) p.number 0 ≤ 0 →
+        get_or L p.number 0 ≤ get_or E q 0 + 2 →
+        Work B side k mid (bar_at k B.size) more (set E p.number (get_or E q 0 + 2))
+        (set C p.number (get_or C p.number 0 - 1)) L (set Q tail p.number) (tail + 1)
+    exit_last {more} t zero short = let pos = exit_waits in let e = left in
+        meet_last B side k mid done more E C L Q tail q p told.graph m t going.0 going.1 w.open_
+        (counts_as true w.counts) (other_as w.other) (omega (arith, pos, e, zero)) short
+        (get_or C p.number 0 - 1)

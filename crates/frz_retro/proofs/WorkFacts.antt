@@ -170,9 +170,9 @@ ones_pos (x ∷ E) zero e = let b = ap one_of (eq-eqb x 1 e) in omega (arith, b)
 ones_pos (x ∷ E) (suc i) e = let h = ones_pos E i e in omega (arith, h)
 
 -- where a number is open, the queue has room
-pub room_for : (k mid : ℕ) (E Q : List ℕ) (tail i : ℕ) → Queue k mid E Q tail → get_or E i 0 ≡ 1 →
-    tail < length Q
-room_for k mid E Q tail i u e = let p = ones_pos E i e in let r = u.room in omega (arith, p, r)
+pub room_for : {k mid : ℕ} {E Q : List ℕ} {tail : ℕ} (i : ℕ) → Queue k mid E Q tail →
+    get_or E i 0 ≡ 1 → tail < length Q
+room_for {E = E} i u e = let p = ones_pos E i e in let r = u.room in omega (arith, p, r)
 
 -- what was written is read
 pub read_back : (C : List ℕ) (i x : ℕ) → 0 < get_or C i 0 → get_or (set C i x) i 0 ≡ x

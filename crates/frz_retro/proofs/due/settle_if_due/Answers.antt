@@ -2,8 +2,9 @@ use Rattle.std.proofs.Common.{◌+◌, sym, ◌∙◌, ap, subst, arith}
 use Rattle.frz_board.specs.Men.{same_colour}
 use Rattle.frz_retro.specs.Kinds.{is_of}
 use Rattle.frz_retro.specs.Tallies.{InPass, settled}
-use Rattle.frz_retro.proofs.DueNumbers.{due_settled, due_early, due_later, due_room, due_kind, due_waits, due_last}
+use Rattle.frz_retro.proofs.DueNumbers.{due_settled, due_early, due_later, due_kind, due_waits, due_last}
 use Rattle.frz_retro.proofs.Laws.{mover_is}
+use Rattle.frz_retro.proofs.WorkFacts.{room_for}
 use Rattle.frz_retro.proofs.due.settle_if_due.Goals as goal
 
 pub returns-then-code-ne1-clause-kept : goal.returns-then-code-ne1-clause-kept
@@ -22,7 +23,7 @@ returns-then-code-k-2-clause-kept g c mid done w =
 
 pub settle-requires-clause-room : goal.settle-requires-clause-room
 settle-requires-clause-room g c =
-    due_room c.args.i c.requires.work.2 (sym c.code.ensures ∙ c.if-code-ne1.false)
+    room_for c.args.i c.requires.work.2.queue (sym c.code.ensures ∙ c.if-code-ne1.false)
 
 pub returns-then-is_kind-clause-kept : goal.returns-then-is_kind-clause-kept
 returns-then-is_kind-clause-kept g c mid done w =
@@ -50,7 +51,7 @@ returns-then-count-gt0-clause-kept g c mid done w =
 
 pub settle-requires-2-clause-room : goal.settle-requires-2-clause-room
 settle-requires-2-clause-room g c =
-    due_room c.args.i c.requires.work.2 (sym c.code.ensures ∙ c.if-code-ne1.false)
+    room_for c.args.i c.requires.work.2.queue (sym c.code.ensures ∙ c.if-code-ne1.false)
 
 pub returns-clause-kept : goal.returns-clause-kept
 returns-clause-kept g c mid done w =
