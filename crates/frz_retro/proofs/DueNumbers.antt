@@ -11,6 +11,15 @@ use Rattle.frz_retro.proofs.CodeFacts.{of_some}
 use Rattle.frz_retro.proofs.PassToPass.{node_cases}
 use Rattle.frz_retro.proofs.DueSteps.{due_skips, due_settles}
 
+-- an open number whose exits are due in pass k
+pub record IsDue (B : Shape) (side : Colour) (k : ℕ) (E L : List ℕ) (i : ℕ) (own : Bool)
+    : Type 0 where
+  pub own_is : (c : Colour) → B.arena.node i ≡ Going c → own ≡ same_colour c side
+  pub inside : i < B.size
+  pub open_ : get_or E i 0 ≡ 1
+  pub least : 2 * k + 2 ≤ get_or L i 0
+  pub most : get_or L i 0 < 2 * k + 4
+
 module _ {B : Shape} {side : Colour} {k mid : ℕ} {done : ℕ → ℕ → Bool} {E C L Q : List ℕ} {tail : ℕ}
     (i : ℕ) (w : Work B side k mid (bar_at k i) done E C L Q tail) where
   pub due_settled : get_or E i 0 ≢ 1 → Work B side k mid (bar_at k (i + 1)) done E C L Q tail
@@ -31,34 +40,32 @@ module _ {B : Shape} {side : Colour} {k mid : ℕ} {done : ℕ → ℕ → Bool}
   pub due_whole : i < B.size → 2 * k + 2 ≤ get_or L i 0 → B.arena.node i ≢ Broken
   due_whole l b e = let g = due_going l b in cc (g.1)
 
-  module _ (own : Bool)
-      (own_is : (c : Colour) → B.arena.node i ≡ Going c → own ≡ same_colour c side) (l : i < B.size)
-      (one : get_or E i 0 ≡ 1) (b : 2 * k + 2 ≤ get_or L i 0) (h : get_or L i 0 < 2 * k + 4) where
+  module _ {own : Bool} (due : IsDue B side k E L i own) where
     pub due_kind : is_of own (get_or L i 0) ≡ true →
         Work B side k mid (bar_at k (i + 1)) done (set E i (get_or L i 0)) C L (set Q tail i)
         (tail + 1)
-    due_kind kind = let g = due_going l b in
-        due_settles B side k mid i done E C L Q tail g.0 w l g.1 one (omega (arith, b))
-        (omega (arith, h)) (inl (ap (λ x. is_of x (get_or L i 0)) (sym (own_is g.0 g.1)) ∙ kind))
+    due_kind kind = let g = due_going due.inside due.least in
+        due_settles B side k mid i done E C L Q tail g.0 w due.inside g.1 due.open_
+        (let b = due.least in omega (arith, b)) (let h = due.most in omega (arith, h)) (inl (ap (λ x. is_of x (get_or L i 0)) (sym (due.own_is g.0 g.1)) ∙ kind))
 
     pub due_waits : is_of own (get_or L i 0) ≡ false → 0 < get_or C i 0 →
         Work B side k mid (bar_at k (i + 1)) done E C L Q tail
     due_waits kind pos = due_skips B side k mid i done E C L Q tail w (λ c n _ which _. elim which [
       | inl e ↦
-          absurd (true≢false (sym e ∙ (ap (λ x. is_of x (get_or L i 0)) (sym (own_is c n)) ∙ kind)))
+          absurd (true≢false (sym e ∙ (ap (λ x. is_of x (get_or L i 0)) (sym (due.own_is c n)) ∙ kind)))
       | inr z ↦ absurd (omega (arith, z, pos))
     ])
 
     pub due_last : is_of own (get_or L i 0) ≡ false → get_or C i 0 ≤ 0 →
         Work B side k mid (bar_at k (i + 1)) done (set E i (get_or L i 0)) C L (set Q tail i)
         (tail + 1)
-    due_last kind zero = let g = due_going l b in
+    due_last kind zero = let g = due_going due.inside due.least in
         let other : is_of (not own) (get_or L i 0) ≡ true =
-        elim (of_some own (get_or L i 0) (omega (arith, b)))
+        elim (of_some own (get_or L i 0) (let b = due.least in omega (arith, b)))
         [ inl t ↦ absurd (true≢false (sym t ∙ kind)) | inr t ↦ t ] in
-        due_settles B side k mid i done E C L Q tail g.0 w l g.1 one (omega (arith, b))
-        (omega (arith, h))
+        due_settles B side k mid i done E C L Q tail g.0 w due.inside g.1 due.open_
+        (let b = due.least in omega (arith, b)) (let h = due.most in omega (arith, h))
         (inr (
-          ap (λ x. is_of (not x) (get_or L i 0)) (sym (own_is g.0 g.1)) ∙ other,
+          ap (λ x. is_of (not x) (get_or L i 0)) (sym (due.own_is g.0 g.1)) ∙ other,
           omega (arith, zero),
         ))

@@ -10,7 +10,7 @@ use Rattle.frz_arena.specs.declared.node.Node.TheVariants.{Going}
 use Rattle.frz_retro.specs.Graphs.{Arm, mover_of}
 use Rattle.frz_unmove.specs.declared.preds.Pred.{Pred}
 use Rattle.frz_retro.proofs.CodeFacts.{of_some}
-use Rattle.frz_retro.proofs.Laws.{mover_is}
+use Rattle.frz_retro.proofs.Laws.{own_is}
 use Rattle.frz_retro.proofs.Meetings.{going_at, meet_uncounted, meet_decides, meet_last, meet_less, meet_waits}
 use Rattle.frz_retro.proofs.WorkFacts.{read_back}
 
@@ -25,10 +25,10 @@ pub told_from : {B : Shape} {side : Colour} {p : Pred} {own counted : Bool} {mov
     IsGraph B → mover_of (B.arena.node p.number) ≡ Some mover → own ≡ same_colour mover side →
     ((a : Arm) → In a (B.arena.arms p.number) → a.mv ≡ p.mv → counted ≡ counts_for own a) →
     Told B side p own counted
-told_from {B} {side} g moves own_is counted_is = record {
+told_from {side = side} g moves own counted = record {
   graph = g;
-  own_is = λ c n. own_is ∙ ap (λ x. same_colour x side) (mover_is moves c n);
-  counted_is = counted_is;
+  own_is = own_is side moves own;
+  counted_is = counted;
 }
 
 -- an open number that does not settle by q, to which it has a counted arm

@@ -1,9 +1,10 @@
 -- What the laws of a graph give the solver.
-use Rattle.std.proofs.Common.{◌≡◌, ◌↔◌, ℕ, zero, suc, ◌<◌, List, [], ◌∷◌, length, get_or, Some, refl, sym, ◌∙◌, ap, inl, inr, arith}
+use Rattle.std.proofs.Common.{◌≡◌, ◌↔◌, ℕ, Bool, zero, suc, ◌<◌, List, [], ◌∷◌, length, get_or, Some, refl, sym, ◌∙◌, ap, inl, inr, arith}
 use Rattle.std.specs.List.{Contains, slice_get}
 use Rattle.std.proofs.lemmas.Bool.{cases_lt}
 use Rattle.std.proofs.lemmas.Option.{same_Some, slice_get_within, get_or_from_slice_get}
 use Rattle.frz_board.specs.declared.man.Colour.{Colour}
+use Rattle.frz_board.specs.Men.{same_colour}
 use Rattle.frz_board.specs.Moving.{Step}
 use Rattle.frz_sets.specs.declared.exit.Value.{Value}
 use Rattle.frz_arena.specs.Arena.{Arena, IsArm}
@@ -102,5 +103,9 @@ are_preds {arena} {size} {q} {pairs} f all once = record {
       | inr l ↦ absurd (let e = f.numbered.past i l in cc)
     ]
 
-pub mover_is : {n : Node} {m : Colour} → mover_of n ≡ Some m → (c : Colour) → n ≡ Going c → m ≡ c
-mover_is {n} {m} e c g = let s : Some c ≡ Some m = sym (ap mover_of g) ∙ e in sym (same_Some c m s)
+-- whether the mover of a number is the side
+pub own_is : {n : Node} {m : Colour} {own : Bool} (side : Colour) → mover_of n ≡ Some m →
+    own ≡ same_colour m side → (c : Colour) → n ≡ Going c → own ≡ same_colour c side
+own_is {m = m} side moves own c n =
+    let s : Some c ≡ Some m = sym (ap mover_of n) ∙ moves in
+    own ∙ ap (λ x. same_colour x side) (sym (same_Some c m s))

@@ -1,11 +1,25 @@
-use Rattle.std.proofs.Common.{◌+◌, sym, ◌∙◌, ap, subst, arith}
-use Rattle.frz_board.specs.Men.{same_colour}
+use Rattle.std.proofs.Common.{sym, ◌∙◌, ap, arith}
 use Rattle.frz_retro.specs.Kinds.{is_of}
-use Rattle.frz_retro.specs.Tallies.{InPass, settled}
-use Rattle.frz_retro.proofs.DueNumbers.{due_settled, due_early, due_later, due_kind, due_waits, due_last}
-use Rattle.frz_retro.proofs.Laws.{mover_is}
+use Rattle.frz_retro.specs.Shape.{shape_of}
+use Rattle.frz_retro.proofs.DueNumbers.{IsDue, due_settled, due_early, due_later, due_kind, due_waits, due_last}
+use Rattle.frz_retro.proofs.Laws.{own_is}
 use Rattle.frz_retro.proofs.WorkFacts.{room_for}
+use Rattle.frz_retro.proofs.due.settle_if_due.Given.{Over}
 use Rattle.frz_retro.proofs.due.settle_if_due.Goals as goal
+use Rattle.frz_retro.proofs.due.settle_if_due.Goals.{After-is_same-own}
+
+-- the number is due
+due : (g : Over) (c : After-is_same-own g) →
+    IsDue (shape_of (g.G.NumberedGame.arena c.args.graph.now)
+    (g.G.NumberedGame.count c.args.graph.now)) c.args.side c.args.k c.args.tally.now.codes
+    c.args.tally.now.later c.args.i c.is_same-own.result
+due g c = record {
+  own_is = own_is c.args.side c.mover.ensures c.is_same-own.ensures;
+  inside = c.requires.inside;
+  open_ = sym c.code.ensures ∙ c.if-code-ne1.false;
+  least = let e = c.later-code.ensures in let h = c.if-code-k.false in omega (arith, e, h);
+  most = let e = c.later-code.ensures in let h = c.if-code-k-2.false in omega (arith, e, h);
+}
 
 pub returns-then-code-ne1-clause-kept : goal.returns-then-code-ne1-clause-kept
 returns-then-code-ne1-clause-kept g c mid done w =
@@ -27,24 +41,16 @@ settle-requires-clause-room g c =
 
 pub returns-then-is_kind-clause-kept : goal.returns-then-is_kind-clause-kept
 returns-then-is_kind-clause-kept g c mid done w =
-    subst (InPass (g.G.NumberedGame.arena c.args.graph.now)
-    (g.G.NumberedGame.count c.args.graph.now) c.args.side c.args.k (c.args.i + 1) mid done)
-    (sym (c.settle.ensures ∙ ap (settled c.args.tally.now c.args.i) c.later-code.ensures))
-    (due_kind c.args.i w c.is_same-own.result
-    (λ d n. c.is_same-own.ensures ∙ ap (λ x. same_colour x c.args.side)
-    (mover_is c.mover.ensures d n)) c.requires.inside (sym c.code.ensures ∙ c.if-code-ne1.false)
-    (let e = c.later-code.ensures in let h = c.if-code-k.false in omega (arith, e, h))
-    (let e = c.later-code.ensures in let h = c.if-code-k-2.false in omega (arith, e, h))
+    let at = goal.at.returns-then-is_kind-clause-kept g c in
+    rw (c.settle.ensures, c.later-code.ensures)
+    (due_kind c.args.i w (due g at.After-is_same-own)
     (ap (is_of c.is_same-own.result) (sym c.later-code.ensures)
     ∙ (sym c.is_kind.ensures ∙ c.if-is_kind.true)))
 
 pub returns-then-count-gt0-clause-kept : goal.returns-then-count-gt0-clause-kept
 returns-then-count-gt0-clause-kept g c mid done w =
-    due_waits c.args.i w c.is_same-own.result
-    (λ d n. c.is_same-own.ensures ∙ ap (λ x. same_colour x c.args.side)
-    (mover_is c.mover.ensures d n)) c.requires.inside (sym c.code.ensures ∙ c.if-code-ne1.false)
-    (let e = c.later-code.ensures in let h = c.if-code-k.false in omega (arith, e, h))
-    (let e = c.later-code.ensures in let h = c.if-code-k-2.false in omega (arith, e, h))
+    let at = goal.at.returns-then-count-gt0-clause-kept g c in
+    due_waits c.args.i w (due g at.After-is_same-own)
     (ap (is_of c.is_same-own.result) (sym c.later-code.ensures)
     ∙ (sym c.is_kind.ensures ∙ c.if-is_kind.false))
     (let e = c.count.ensures in let h = c.if-count-gt0.true in omega (arith, e, h))
@@ -55,14 +61,9 @@ settle-requires-2-clause-room g c =
 
 pub returns-clause-kept : goal.returns-clause-kept
 returns-clause-kept g c mid done w =
-    subst (InPass (g.G.NumberedGame.arena c.args.graph.now)
-    (g.G.NumberedGame.count c.args.graph.now) c.args.side c.args.k (c.args.i + 1) mid done)
-    (sym (c.settle-2.ensures ∙ ap (settled c.args.tally.now c.args.i) c.later-code.ensures))
-    (due_last c.args.i w c.is_same-own.result
-    (λ d n. c.is_same-own.ensures ∙ ap (λ x. same_colour x c.args.side)
-    (mover_is c.mover.ensures d n)) c.requires.inside (sym c.code.ensures ∙ c.if-code-ne1.false)
-    (let e = c.later-code.ensures in let h = c.if-code-k.false in omega (arith, e, h))
-    (let e = c.later-code.ensures in let h = c.if-code-k-2.false in omega (arith, e, h))
+    let at = goal.at.returns-clause-kept g c in
+    rw (c.settle-2.ensures, c.later-code.ensures)
+    (due_last c.args.i w (due g at.After-is_same-own)
     (ap (is_of c.is_same-own.result) (sym c.later-code.ensures)
     ∙ (sym c.is_kind.ensures ∙ c.if-is_kind.false))
     (let e = c.count.ensures in let h = c.if-count-gt0.false in omega (arith, e, h)))
