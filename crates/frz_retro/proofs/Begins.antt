@@ -7,7 +7,7 @@ use Rattle.frz_retro.specs.Shape.{Shape}
 use Rattle.frz_retro.specs.Work.{ones, Queue, Sized, Begun}
 use Rattle.frz_retro.specs.Beginning.{IsBegun, Opens, start_of, later_of}
 use Rattle.frz_board.specs.declared.man.Colour.{Colour}
-use Rattle.frz_arena.specs.declared.node.Node.TheVariants.{Broken, Mate, Stalemate, Going}
+use Rattle.frz_arena.specs.declared.node.Node.TheVariants.{Broken, Mate, Going}
 use Rattle.frz_retro.proofs.WorkFacts.{ones_set, within, queue_keeps, room_for}
 use Rattle.frz_retro.proofs.Starts.{opens_from, fails_from}
 
@@ -111,12 +111,6 @@ module _ {B : Shape} {side : Colour} {E C L Q : List ℕ} {tail : ℕ} (n : ℕ)
         queue = s.queue;
       })
 
-  pub begins_stale : (c : Colour) → B.arena.node n ≡ Stalemate c → Begun B side (n + 1) E C L Q tail
-  begins_stale c e = begins E C L Q tail (λ _ _. refl) (λ _ _. refl) (λ _ _. refl)
-      (subst (λ x. IsBegun side x (B.arena.arms n) (get_or E n 0) (get_or C n 0) (get_or L n 0))
-      (sym e) is_one)
-      (let y = is_one in omega (arith, y)) (λ _. none_later) b.queue b.sized
-
   begins_code : (code : ℕ) → 2 ≤ code → code < 4 →
       IsBegun side (B.arena.node n) (B.arena.arms n) code (get_or C n 0) (get_or L n 0) →
       Begun B side (n + 1) (set E n code) C L (set Q tail n) (tail + 1)
@@ -184,16 +178,6 @@ module _ {B : Shape} {side : Colour} {E C L Q : List ℕ} {tail : ℕ} (n : ℕ)
         later = length-set L n (later_of (start_of own side (B.arena.arms n))) ∙ s.later;
         queue = s.queue;
       })
-
--- the lists as a call leaves them
-pub begun_as : (B : Shape) (side : Colour) (n : ℕ) (E F C D L M Q R : List ℕ) (t u : ℕ) → F ≡ E →
-    D ≡ C → M ≡ L → R ≡ Q → u ≡ t → Begun B side n E C L Q t → Begun B side n F D M R u
-begun_as B side n E F C D L M Q R t u e f g h i w =
-    subst (λ x. Begun B side n x D M R u) (sym e)
-    (subst (λ x. Begun B side n E x M R u) (sym f)
-    (subst (λ x. Begun B side n E C x R u) (sym g)
-    (subst (λ x. Begun B side n E C L x u) (sym h)
-    (subst (λ x. Begun B side n E C L Q x) (sym i) w))))
 
 ones_le : (E : List ℕ) → ones E ≤ length E
 ones_le [] = omega arith

@@ -6,7 +6,7 @@ use Rattle.frz_retro.specs.Kinds.{is_of}
 use Rattle.frz_retro.specs.Shape.{Shape}
 use Rattle.frz_retro.specs.Work.{Work, bar_at}
 use Rattle.frz_board.specs.declared.man.Colour.{Colour}
-use Rattle.frz_arena.specs.declared.node.Node.TheVariants.{Broken, Going}
+use Rattle.frz_arena.specs.declared.node.Node.TheVariants.{Going}
 use Rattle.frz_retro.proofs.CodeFacts.{of_some}
 use Rattle.frz_retro.proofs.PassToPass.{node_cases}
 use Rattle.frz_retro.proofs.DueSteps.{due_skips, due_settles}
@@ -36,9 +36,6 @@ module _ {B : Shape} {side : Colour} {k mid : ℕ} {done : ℕ → ℕ → Bool}
   due_going l b =
       elim (node_cases (B.arena.node i))
       [ inl g ↦ g | inr h ↦ let z = w.ended i l h in absurd (omega (arith, z, b)) ]
-
-  pub due_whole : i < B.size → 2 * k + 2 ≤ get_or L i 0 → B.arena.node i ≢ Broken
-  due_whole l b e = let g = due_going l b in cc (g.1)
 
   module _ {own : Bool} (due : IsDue B side k E L i own) where
     pub due_kind : is_of own (get_or L i 0) ≡ true →

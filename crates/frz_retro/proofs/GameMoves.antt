@@ -70,9 +70,6 @@ module _ (known : Known) (rules : RuleLines) (value : Board → Value) where
   name : Board → ℕ
   name = name_in (numbers_by rules.groups)
 
-  arm_by : Board → Step → Arm
-  arm_by p m = named (name_in (numbers_by rules.groups)) (games.arm_of (game_of rules value) p m)
-
   named_by : (p : Board) → Member rules.groups p →
       name_in (numbers_by rules.groups) p ≡ Num rules.groups p
   named_by p h = ap (λ o. name_by (size_of rules.groups) o) (known.number rules.groups p h)
