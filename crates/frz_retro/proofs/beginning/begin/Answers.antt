@@ -1,11 +1,11 @@
-use Rattle.std.proofs.Common.{◌≡◌, ◌+◌, sym, ◌∙◌, ap, ap₂, subst}
-use Rattle.frz_retro.specs.Beginning.{start_of, later_of}
+use Rattle.std.proofs.Common.{◌≡◌, sym, ◌∙◌, ap, subst}
+use Rattle.frz_retro.specs.Beginning.{start_of}
 use Rattle.frz_retro.specs.Shape.{In}
-use Rattle.frz_retro.specs.Tallies.{HasBegun, opened, settled}
-use Rattle.frz_retro.specs.declared.start.Start.{Start}
 use Rattle.frz_retro.proofs.Begins.{has_room, begins_broken, begins_mate, begins_failed, begins_open}
 use Rattle.frz_retro.proofs.Laws.{is_graph}
+use Rattle.frz_retro.proofs.beginning.begin.Given.{Over}
 use Rattle.frz_retro.proofs.beginning.begin.Goals as goal
+use Rattle.frz_retro.proofs.beginning.begin.Goals.{After-start_of-start}
 
 pub settle-requires-clause-room : goal.settle-requires-clause-room
 settle-requires-clause-room g c = has_room c.args.i c.requires.begun c.requires.inside
@@ -21,41 +21,33 @@ start_of-start-requires-clause-short g c a i =
 
 pub returns-in-Broken-clause-begun : goal.returns-in-Broken-clause-begun
 returns-in-Broken-clause-begun g c =
-    subst (HasBegun (g.G.NumberedGame.arena c.args.graph.now)
-    (g.G.NumberedGame.count c.args.graph.now) c.args.side (c.args.i + 1)) (sym c.set_broken.ensures)
+    rw c.set_broken.ensures
     (begins_broken c.args.i c.requires.begun c.requires.inside (sym c.in-Broken.ensures.node))
 
 pub returns-in-Mate-clause-begun : goal.returns-in-Mate-clause-begun
 returns-in-Mate-clause-begun g c =
-    subst (HasBegun (g.G.NumberedGame.arena c.args.graph.now)
-    (g.G.NumberedGame.count c.args.graph.now) c.args.side (c.args.i + 1))
-    (sym (c.settle.ensures ∙ ap (settled c.args.tally.now c.args.i) c.mate_code.ensures))
+    rw (c.settle.ensures, c.mate_code.ensures)
     (begins_mate c.args.i c.requires.begun c.requires.inside c.in-Mate.c
     (sym c.in-Mate.ensures.node))
 
+-- what the number's arms say
+said : (g : Over) (c : After-start_of-start g) →
+    c.start_of-start.result
+    ≡ start_of c.is_same.result c.args.side ((g.G.NumberedGame.arena c.args.graph.now).arms c.args.i)
+said g c =
+    c.start_of-start.ensures.value
+    ∙ ap (start_of c.is_same.result c.args.side) (c.as_slice.ensures.value ∙ c.nexts_by.ensures.arms)
+
 pub returns-then-start-clause-begun : goal.returns-then-start-clause-begun
 returns-then-start-clause-begun g c =
-    let arms = (g.G.NumberedGame.arena c.args.graph.now).arms c.args.i in
-    let said : c.start_of-start.result ≡ start_of c.is_same.result c.args.side arms =
-    c.start_of-start.ensures.value ∙ ap (start_of c.is_same.result c.args.side)
-    (c.as_slice.ensures.value ∙ c.nexts_by.ensures.arms) in
-    subst (HasBegun (g.G.NumberedGame.arena c.args.graph.now)
-    (g.G.NumberedGame.count c.args.graph.now) c.args.side (c.args.i + 1))
-    (sym (c.set_open.ensures ∙ ap₂ (opened c.args.tally.now c.args.i)
-    (ap (λ (s : Start). s.count) said) (c.later_of.ensures.value ∙ ap later_of said)))
+    let start = said g (goal.at.returns-then-start-clause-begun g c).After-start_of-start in
+    rw (c.set_open.ensures, c.later_of.ensures.value, start)
     (begins_open c.args.i c.requires.begun c.requires.inside c.in-Going.c c.is_same.result
-    (sym c.in-Going.ensures.node) c.is_same.ensures
-    (sym (ap (λ (s : Start). s.any) said) ∙ c.if-start.true))
+    (sym c.in-Going.ensures.node) c.is_same.ensures (rw start at c.if-start.true))
 
 pub returns-else-start-clause-begun : goal.returns-else-start-clause-begun
 returns-else-start-clause-begun g c =
-    let arms = (g.G.NumberedGame.arena c.args.graph.now).arms c.args.i in
-    let said : c.start_of-start.result ≡ start_of c.is_same.result c.args.side arms =
-    c.start_of-start.ensures.value ∙ ap (start_of c.is_same.result c.args.side)
-    (c.as_slice.ensures.value ∙ c.nexts_by.ensures.arms) in
-    subst (HasBegun (g.G.NumberedGame.arena c.args.graph.now)
-    (g.G.NumberedGame.count c.args.graph.now) c.args.side (c.args.i + 1))
-    (sym c.settle-else-start.ensures)
+    let start = said g (goal.at.returns-else-start-clause-begun g c).After-start_of-start in
+    rw c.settle-else-start.ensures
     (begins_failed c.args.i c.requires.begun c.requires.inside c.in-Going.c c.is_same.result
-    (sym c.in-Going.ensures.node) c.is_same.ensures
-    (sym (ap (λ (s : Start). s.any) said) ∙ c.if-start.false))
+    (sym c.in-Going.ensures.node) c.is_same.ensures (rw start at c.if-start.false))
