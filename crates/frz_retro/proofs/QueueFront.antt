@@ -32,11 +32,12 @@ done_by_same Q R (suc h) q e =
     (done_by_same Q R h q (λ t l. e t (omega (arith, l))))
 
 -- the number at this place of the queue is next
-pub coming_from : (B : Shape) (side : Colour) (k mid h : ℕ) (E C L Q : List ℕ) (tail : ℕ)
-    (pairs : List Pred) → Work B side k mid (bar_at k B.size) (λ _ q. done_by Q h q) E C L Q tail →
-    h < mid → ArePreds B (get_or Q h 0) pairs →
+pub coming_from : {B : Shape} {side : Colour} {k mid : ℕ} {E C L Q : List ℕ} {tail : ℕ}
+    {pairs : List Pred} (h : ℕ) →
+    Work B side k mid (bar_at k B.size) (λ _ q. done_by Q h q) E C L Q tail → h < mid →
+    ArePreds B (get_or Q h 0) pairs →
     Coming B side k mid (λ _ q. done_by Q h q) E C L Q tail (get_or Q h 0) pairs
-coming_from B side k mid h E C L Q tail pairs w l p =
+coming_from {mid = mid} {Q = Q} {tail = tail} h w l p =
     let m = w.within in
     record {
       work = w;
@@ -50,11 +51,12 @@ coming_from B side k mid h E C L Q tail pairs w l p =
     }
 
 -- then it is done too
-pub came : (B : Shape) (side : Colour) (k mid h : ℕ) (bar : ℕ → ℕ) (E C L Q R : List ℕ) (tail : ℕ) →
+pub came : {B : Shape} {side : Colour} {k mid : ℕ} {bar : ℕ → ℕ} {E C L R : List ℕ} {tail : ℕ}
+    (h : ℕ) (Q : List ℕ) →
     Work B side k mid bar (λ _ r. done_by Q h r || (get_or Q h 0 == r)) E C L R tail →
     ((t : ℕ) → t < h + 1 → get_or R t 0 ≡ get_or Q t 0) →
     Work B side k mid bar (λ _ r. done_by R (h + 1) r) E C L R tail
-came B side k mid h bar E C L Q R tail w same =
+came {B} {side} {k} {mid} {bar} {E} {C} {L} {R} {tail} h Q w same =
     work_done B side k mid bar (λ _ r. done_by Q h r || (get_or Q h 0 == r))
     (λ _ r. done_by R (h + 1) r) E C L R tail w (λ i r.
     ap (λ (x : ℕ). done_by R x r) (add-one h)

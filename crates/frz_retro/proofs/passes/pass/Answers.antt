@@ -1,12 +1,14 @@
-use Rattle.std.proofs.Common.{◌≡◌, ◌<◌, ◌||◌, ◌==◌, get_or, refl, sym, subst, arith}
-use Rattle.frz_retro.specs.Shape.{shape_of, ArePreds}
+use Rattle.std.proofs.Common.{◌≡◌, ◌<◌, ◌||◌, ◌==◌, refl, subst, arith}
+use Rattle.frz_retro.specs.Shape.{shape_of}
 use Rattle.frz_retro.specs.Tallies.{AreComing, InPass}
 use Rattle.frz_retro.specs.Work.{bar_at, done_by, done_in}
 use Rattle.frz_retro.proofs.Laws.{are_preds}
 use Rattle.frz_retro.proofs.WorkFacts.{work_done}
 use Rattle.frz_retro.proofs.QueueFront.{done_by_same, coming_from, came}
 use Rattle.frz_retro.proofs.Tallies.{grows_on}
+use Rattle.frz_retro.proofs.passes.pass.Given.{Over}
 use Rattle.frz_retro.proofs.passes.pass.Goals as goal
+use Rattle.frz_retro.proofs.passes.pass.Goals.{After-items}
 
 pub loop-at-init : goal.loop-at-init
 loop-at-init g c =
@@ -26,69 +28,41 @@ loop-at-init g c =
       cost = omega arith;
     }
 
+within : (g : Over) (c : After-items g) → c.loop-at.at < c.args.tally.now.tail
+within g c = let e = c.tail-end.ensures in let h = c.loop-at-test.true in omega (arith, e, h)
+
+-- the number at this place of the queue is met next
+coming : (g : Over) (c : After-items g) →
+    AreComing (g.G.NumberedGame.arena c.args.graph.now) (g.G.NumberedGame.count c.args.graph.now)
+    c.args.side c.args.k c.args.tally.now.tail (done_in c.loop-at.tally.queue c.loop-at.at)
+    c.loop-at.tally c.queued-q.result c.items.result.now
+coming g c =
+    rw (c.queued-q.ensures, c.items.ensures)
+    (coming_from c.loop-at.at c.loop-at.invariant.kept (within g c)
+    (rw c.queued-q.ensures at (are_preds
+    (g.met.G.NumberedGame.finite c.args.graph.now c.requires.sound) c.preds.ensures.all
+    c.preds.ensures.once)))
+
 pub go_through-requires-clause-coming : goal.go_through-requires-clause-coming
 go_through-requires-clause-coming g c =
-    let t = c.loop-at.tally in
-    let q : c.queued-q.result ≡ get_or t.queue c.loop-at.at 0 = c.queued-q.ensures in
-    let within : c.loop-at.at < c.args.tally.now.tail = let e = c.tail-end.ensures in
-    let h = c.loop-at-test.true in omega (arith, e, h) in (
-      c.args.k,
-      c.args.tally.now.tail,
-      done_in t.queue c.loop-at.at,
-      (subst (λ r. AreComing (g.G.NumberedGame.arena c.args.graph.now)
-          (g.G.NumberedGame.count c.args.graph.now) c.args.side c.args.k c.args.tally.now.tail
-          (done_in t.queue c.loop-at.at) t r c.items.result.now) (sym q)
-          (coming_from (shape_of (g.G.NumberedGame.arena c.args.graph.now)
-          (g.G.NumberedGame.count c.args.graph.now)) c.args.side c.args.k c.args.tally.now.tail
-          c.loop-at.at t.codes t.counts t.later t.queue t.tail c.items.result.now
-          c.loop-at.invariant.kept within
-          (subst (λ r. ArePreds
-          (shape_of (g.G.NumberedGame.arena c.args.graph.now)
-          (g.G.NumberedGame.count c.args.graph.now)) r c.items.result.now) q
-          (subst (ArePreds
-          (shape_of (g.G.NumberedGame.arena c.args.graph.now)
-          (g.G.NumberedGame.count c.args.graph.now)) c.queued-q.result) (sym c.items.ensures)
-          (are_preds (g.met.G.NumberedGame.finite c.args.graph.now c.requires.sound)
-          c.preds.ensures.all c.preds.ensures.once))))),
-    )
+    let at = (goal.at.go_through-requires-clause-coming g c).After-items in
+    (c.args.k, c.args.tally.now.tail, done_in c.loop-at.tally.queue c.loop-at.at, coming g at)
 
 pub loop-at-preserved : goal.loop-at-preserved
 loop-at-preserved g c =
+    let at = (goal.at.loop-at-preserved g c).After-items in
     let t = c.loop-at.tally in
     let u = c.go_through.new.tally in
-    let q : c.queued-q.result ≡ get_or t.queue c.loop-at.at 0 = c.queued-q.ensures in
-    let within : c.loop-at.at < c.args.tally.now.tail = let e = c.tail-end.ensures in
-    let h = c.loop-at-test.true in omega (arith, e, h) in
     let grew = c.loop-at.invariant.queue in
     record {
       kept =
           let more = c.go_through.ensures.kept c.args.k c.args.tally.now.tail
           (done_in t.queue c.loop-at.at)
-          (λ _ r. done_by t.queue c.loop-at.at r || (c.queued-q.result == r))
-          (subst (λ r. AreComing (g.G.NumberedGame.arena c.args.graph.now)
-          (g.G.NumberedGame.count c.args.graph.now) c.args.side c.args.k c.args.tally.now.tail
-          (done_in t.queue c.loop-at.at) t r c.items.result.now) (sym q)
-          (coming_from (shape_of (g.G.NumberedGame.arena c.args.graph.now)
-          (g.G.NumberedGame.count c.args.graph.now)) c.args.side c.args.k c.args.tally.now.tail
-          c.loop-at.at t.codes t.counts t.later t.queue t.tail c.items.result.now
-          c.loop-at.invariant.kept within
-          (subst (λ r. ArePreds
-          (shape_of (g.G.NumberedGame.arena c.args.graph.now)
-          (g.G.NumberedGame.count c.args.graph.now)) r c.items.result.now) q
-          (subst (ArePreds
-          (shape_of (g.G.NumberedGame.arena c.args.graph.now)
-          (g.G.NumberedGame.count c.args.graph.now)) c.queued-q.result) (sym c.items.ensures)
-          (are_preds (g.met.G.NumberedGame.finite c.args.graph.now c.requires.sound)
-          c.preds.ensures.all c.preds.ensures.once))))) (λ i r. refl) in
-          came (shape_of (g.G.NumberedGame.arena c.args.graph.now)
-          (g.G.NumberedGame.count c.args.graph.now)) c.args.side c.args.k c.args.tally.now.tail
-          c.loop-at.at (bar_at c.args.k (g.G.NumberedGame.count c.args.graph.now)) u.codes u.counts
-          u.later t.queue u.queue u.tail
-          (subst (λ x. InPass (g.G.NumberedGame.arena c.args.graph.now)
-          (g.G.NumberedGame.count c.args.graph.now) c.args.side c.args.k
-          (g.G.NumberedGame.count c.args.graph.now) c.args.tally.now.tail
-          (λ _ r. done_by t.queue c.loop-at.at r || (x == r)) u) q more)
-          (λ j h. let x = grew.1 in c.go_through.ensures.queue.2 j (omega (arith, h, x, within)));
+          (λ _ r. done_by t.queue c.loop-at.at r || (c.queued-q.result == r)) (coming g at)
+          (λ i r. refl) in
+          came c.loop-at.at t.queue (rw c.queued-q.ensures at more)
+          (λ j h. let x = grew.1 in let l = within g at in
+          c.go_through.ensures.queue.2 j (omega (arith, h, x, l)));
       queue = grows_on c.args.tally.now t u grew c.go_through.ensures.queue;
       cost = let x = c.loop-at.invariant.cost in let y = c.preds.ensures.step in
           let h = c.loop-at.auto.at in omega (arith, x, y, h);
