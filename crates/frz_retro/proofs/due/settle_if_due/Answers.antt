@@ -1,5 +1,4 @@
-use Rattle.std.proofs.Common.{sym, ◌∙◌, ap, arith}
-use Rattle.frz_retro.specs.Kinds.{is_of}
+use Rattle.std.proofs.Common.{sym, ◌∙◌, arith}
 use Rattle.frz_retro.specs.Shape.{shape_of}
 use Rattle.frz_retro.proofs.DueNumbers.{IsDue, due_settled, due_early, due_later, due_kind, due_waits, due_last}
 use Rattle.frz_retro.proofs.Laws.{own_is}
@@ -44,15 +43,13 @@ returns-then-is_kind-clause-kept g c mid done w =
     let at = goal.at.returns-then-is_kind-clause-kept g c in
     rw (c.settle.ensures, c.later-code.ensures)
     (due_kind c.args.i w (due g at.After-is_same-own)
-    (ap (is_of c.is_same-own.result) (sym c.later-code.ensures)
-    ∙ (sym c.is_kind.ensures ∙ c.if-is_kind.true)))
+    (rw (c.is_kind.ensures, c.later-code.ensures) at c.if-is_kind.true))
 
 pub returns-then-count-gt0-clause-kept : goal.returns-then-count-gt0-clause-kept
 returns-then-count-gt0-clause-kept g c mid done w =
     let at = goal.at.returns-then-count-gt0-clause-kept g c in
     due_waits c.args.i w (due g at.After-is_same-own)
-    (ap (is_of c.is_same-own.result) (sym c.later-code.ensures)
-    ∙ (sym c.is_kind.ensures ∙ c.if-is_kind.false))
+    (rw (c.is_kind.ensures, c.later-code.ensures) at c.if-is_kind.false)
     (let e = c.count.ensures in let h = c.if-count-gt0.true in omega (arith, e, h))
 
 pub settle-requires-2-clause-room : goal.settle-requires-2-clause-room
@@ -64,6 +61,5 @@ returns-clause-kept g c mid done w =
     let at = goal.at.returns-clause-kept g c in
     rw (c.settle-2.ensures, c.later-code.ensures)
     (due_last c.args.i w (due g at.After-is_same-own)
-    (ap (is_of c.is_same-own.result) (sym c.later-code.ensures)
-    ∙ (sym c.is_kind.ensures ∙ c.if-is_kind.false))
+    (rw (c.is_kind.ensures, c.later-code.ensures) at c.if-is_kind.false)
     (let e = c.count.ensures in let h = c.if-count-gt0.false in omega (arith, e, h)))

@@ -1,5 +1,4 @@
-use Rattle.std.proofs.Common.{sym, ◌∙◌, ap, arith}
-use Rattle.frz_retro.specs.Kinds.{is_of}
+use Rattle.std.proofs.Common.{sym, ◌∙◌, arith}
 use Rattle.frz_retro.specs.Shape.{shape_of}
 use Rattle.frz_retro.proofs.Exits.{Told, told_from, Waits, exit_uncounted, exit_decides, exit_waits, exit_less, exit_last}
 use Rattle.frz_retro.proofs.Laws.{is_graph}
@@ -26,8 +25,7 @@ waits : (g : Over) (c : Else-is_kind g) →
 waits g c = record {
   counts = c.if-not-counted.false;
   open_ = sym c.code.ensures ∙ c.if-code-ne1.false;
-  other = ap (is_of c.is_same-own.result) (sym c.code-code.ensures)
-      ∙ (sym c.is_kind.ensures ∙ c.if-is_kind.false);
+  other = rw (c.is_kind.ensures, c.code-code.ensures) at c.if-is_kind.false;
 }
 
 pub returns-then-code-ne1-clause-kept : goal.returns-then-code-ne1-clause-kept
@@ -53,8 +51,7 @@ returns-then-is_kind-clause-kept g c k mid done more m t =
     rw (c.settle.ensures, c.code-code.ensures)
     (exit_decides m (told g at.After-is_counted-counted) t c.if-not-counted.false
     (sym c.code.ensures ∙ c.if-code-ne1.false)
-    (ap (is_of c.is_same-own.result) (sym c.code-code.ensures)
-    ∙ (sym c.is_kind.ensures ∙ c.if-is_kind.true)))
+    (rw (c.is_kind.ensures, c.code-code.ensures) at c.if-is_kind.true))
 
 pub count_down-requires-clause-some : goal.count_down-requires-clause-some
 count_down-requires-clause-some g c =
