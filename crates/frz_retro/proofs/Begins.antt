@@ -8,7 +8,7 @@ use Rattle.frz_retro.specs.Work.{ones, Queue, Sized, Begun}
 use Rattle.frz_retro.specs.Beginning.{IsBegun, Opens, start_of, later_of}
 use Rattle.frz_board.specs.declared.man.Colour.{Colour}
 use Rattle.frz_arena.specs.declared.node.Node.TheVariants.{Broken, Mate, Going}
-use Rattle.frz_retro.proofs.WorkFacts.{ones_set, within, queue_keeps, room_for}
+use Rattle.frz_retro.proofs.WorkFacts.{ones_set, within, queue_keeps, room_for, sized_keeps}
 use Rattle.frz_retro.proofs.Starts.{opens_from, fails_from}
 
 -- an open number breaks
@@ -120,13 +120,7 @@ module _ {B : Shape} {side : Colour} {E C L Q : List ℕ} {tail : ℕ} (n : ℕ)
       (get_or L n 0)) (sym (at_code code)) here)
       (let y = at_code code in omega (arith, y, few)) (λ _. none_later)
       (queue_keeps 0 0 E Q tail n code b.queue (omega arith) is_one (omega (arith, low)))
-      (let s = b.sized in
-      record {
-        codes = length-set E n code ∙ s.codes;
-        counts = s.counts;
-        later = s.later;
-        queue = length-set Q tail n ∙ s.queue;
-      })
+      (sized_keeps n code tail b.sized)
 
   pub begins_mate : (c : Colour) → B.arena.node n ≡ Mate c →
       Begun B side (n + 1) (set E n (cond (same_colour c side) 3 2)) C L (set Q tail n) (tail + 1)

@@ -1,6 +1,6 @@
 -- A number that is due in a pass, and one that is not.
-use Rattle.std.proofs.Common.{◌≡◌, ◌≢◌, ℕ, ◌+◌, ◌*◌, ◌<◌, ◌≤◌, ◌⊎◌, Bool, true, not, nat_lt, List, get_or, set, sym, ◌∙◌, ap, subst, inl, inr, arith, get_or-set_same}
-use Rattle.std.proofs.lemmas.Bool.{cases_eq, cases_lt, lt-ltb, le-ltb, cond-true, cond-false}
+use Rattle.std.proofs.Common.{◌≡◌, ◌≢◌, ℕ, ◌+◌, ◌*◌, ◌<◌, ◌≤◌, ◌⊎◌, Bool, true, not, List, get_or, set, refl, sym, ◌∙◌, ap, subst, inl, inr, arith, get_or-set_same}
+use Rattle.std.proofs.lemmas.Bool.{cases_eq, cases_lt}
 use Rattle.frz_board.specs.Men.{same_colour}
 use Rattle.frz_retro.specs.Kinds.{is_of}
 use Rattle.frz_graph.specs.EntryCodes.{arm_code}
@@ -10,17 +10,15 @@ use Rattle.frz_retro.specs.Work.{bar_at, Work}
 use Rattle.frz_board.specs.declared.man.Colour.{Colour}
 use Rattle.frz_arena.specs.declared.node.Node.TheVariants.{Going}
 use Rattle.frz_retro.proofs.StateFacts.{bar_keeps}
-use Rattle.frz_retro.proofs.WorkFacts.{bar_high, bar_low, within, work_settles}
+use Rattle.frz_retro.proofs.WorkFacts.{bar_of, bar_past, bar_within, within, work_by, work_settles}
 use Rattle.frz_retro.proofs.Choices.{due_decided, due_exhausted}
 
 bar_more : (k i j : ℕ) → j ≢ i → bar_at k (i + 1) j ≡ bar_at k i j
 bar_more k i j n = elim (cases_lt j i) [
   | inl l ↦
-      cond-true (nat_lt j (i + 1)) (4 + 2 * k) (2 + 2 * k) (lt-ltb j (i + 1) (omega (arith, l)))
-      ∙ sym (cond-true (nat_lt j i) (4 + 2 * k) (2 + 2 * k) (lt-ltb j i l))
+      bar_of k (i + 1) j (omega (arith, l)) ∙ sym (bar_of k i j l)
   | inr l ↦
-      cond-false (nat_lt j (i + 1)) (4 + 2 * k) (2 + 2 * k) (le-ltb j (i + 1) (omega (arith, l, n)))
-      ∙ sym (cond-false (nat_lt j i) (4 + 2 * k) (2 + 2 * k) (le-ltb j i l))
+      bar_past k (i + 1) j (omega (arith, l, n)) ∙ sym (bar_past k i j l)
 ]
 
 -- a number that is not due in this pass
@@ -30,28 +28,22 @@ pub due_skips : (B : Shape) (side : Colour) (k mid i : ℕ) (done : ℕ → ℕ 
     → (is_of (same_colour c side) (get_or L i 0) ≡ true) ⊎ (get_or C i 0 ≡ 0)
     → 2 + 2 * k ≤ get_or L i 0 → 4 + 2 * k ≤ get_or L i 0)
     → Work B side k mid (bar_at k (i + 1)) done E C L Q tail
-due_skips B side k mid i done E C L Q tail w h = record {
-  state =
-      bar_keeps B side k (bar_at k i) (bar_at k (i + 1)) done E C L w.state
-      (λ j c l n one kind b. elim (cases_eq j i) [
-        | inr d ↦ let e = bar_more k i j d in omega (arith, e, b)
-        | inl e ↦ let high = bar_high k i j in let low = bar_low k (i + 1) j in
-            let y : 4 + 2 * k ≤ get_or L j 0 = subst (λ (x : ℕ). 4 + 2 * k ≤ get_or L x 0) (sym e)
-            (h c (sym (ap B.arena.node e) ∙ n) (ap (λ (x : ℕ). get_or E x 0) (sym e) ∙ one)
-            (elim kind [
-              | inl y ↦ inl
-                  (ap (λ (x : ℕ). is_of (same_colour c side) (get_or L x 0)) (sym e) ∙ y)
-              | inr y ↦ inr (ap (λ (x : ℕ). get_or C x 0) (sym e) ∙ y)
-            ])
-            (subst (λ (x : ℕ). 2 + 2 * k ≤ get_or L x 0) e (omega (arith, high, b)))) in
-            omega (arith, low, y)
-      ]);
-  queue = w.queue;
-  sized = w.sized;
-  passes = w.passes;
-  within = w.within;
-  ended = w.ended;
-}
+due_skips B side k mid i done E C L Q tail w h =
+    work_by w
+    (bar_keeps B side k (bar_at k i) (bar_at k (i + 1)) done E C L w.state
+    (λ j c l n one kind b. elim (cases_eq j i) [
+      | inr d ↦ let e = bar_more k i j d in omega (arith, e, b)
+      | inl e ↦ let high = (bar_within k i j).0 in let low = (bar_within k (i + 1) j).1 in
+          let y : 4 + 2 * k ≤ get_or L j 0 = subst (λ (x : ℕ). 4 + 2 * k ≤ get_or L x 0) (sym e)
+          (h c (sym (ap B.arena.node e) ∙ n) (ap (λ (x : ℕ). get_or E x 0) (sym e) ∙ one)
+          (elim kind [
+            | inl y ↦ inl
+                (ap (λ (x : ℕ). is_of (same_colour c side) (get_or L x 0)) (sym e) ∙ y)
+            | inr y ↦ inr (ap (λ (x : ℕ). get_or C x 0) (sym e) ∙ y)
+          ])
+          (subst (λ (x : ℕ). 2 + 2 * k ≤ get_or L x 0) e (omega (arith, high, b)))) in
+          omega (arith, low, y)
+    ])) refl
 
 -- a number whose due pass is this one
 pub due_settles : (B : Shape) (side : Colour) (k mid i : ℕ) (done : ℕ → ℕ → Bool) (E C L Q : List ℕ)
@@ -69,7 +61,7 @@ due_settles B side k mid i done E C L Q tail c w l n one least most kind =
     elim kind [
       | inl y ↦
           inl (due_decided (same_colour c side) side (B.arena.arms i) (done i) (bar_at k i i) E
-          (get_or C i 0) code k o (w.state.high i) (bar_high k i i) y most)
+          (get_or C i 0) code k o (w.state.high i) ((bar_within k i i).0) y most)
       | inr y ↦
           inr (due_exhausted (same_colour c side) side (B.arena.arms i) (done i) (bar_at k i i) E
           (get_or C i 0) code k o (λ q t. (w.state.low i q t).1) y.1 y.0 least)
@@ -85,14 +77,8 @@ pub due_over : {B : Shape} {side : Colour} {k mid : ℕ} {done : ℕ → ℕ →
     {tail : ℕ} (s : ℕ) → Work B side k mid (bar_at k 0) done E C L Q tail →
     ((i : ℕ) → i < B.size → get_or L i 0 < 2 + 2 * k) →
     Work B side k mid (bar_at k s) done E C L Q tail
-due_over {B} {side} {k} {mid} {done} {E} {C} {L} {Q} {tail} s w h = record {
-  state =
-      bar_keeps B side k (bar_at k 0) (bar_at k s) done E C L w.state
-      (λ i c l _ _ _ b. let y = bar_high k 0 i in let z = h i l in
-      absurd (omega (arith, b, y, z)));
-  queue = w.queue;
-  sized = w.sized;
-  passes = w.passes;
-  within = w.within;
-  ended = w.ended;
-}
+due_over {B} {side} {k} {mid} {done} {E} {C} {L} {Q} {tail} s w h =
+    work_by w
+    (bar_keeps B side k (bar_at k 0) (bar_at k s) done E C L w.state
+    (λ i c l _ _ _ b. let y = (bar_within k 0 i).0 in let z = h i l in
+    absurd (omega (arith, b, y, z)))) refl

@@ -10,7 +10,7 @@ use Rattle.frz_board.specs.declared.man.Colour.{Colour}
 use Rattle.frz_arena.specs.declared.node.Node.TheVariants.{Going}
 use Rattle.frz_unmove.specs.declared.preds.Pred.{Pred}
 use Rattle.frz_retro.proofs.StateFacts.{meet_keeps}
-use Rattle.frz_retro.proofs.WorkFacts.{bar_high, bar_low, within, work_settles}
+use Rattle.frz_retro.proofs.WorkFacts.{bar_within, within, work_by, work_settles}
 use Rattle.frz_retro.proofs.Choices.{decided_by}
 use Rattle.frz_retro.proofs.OpenNumbers.{exhausted_by, met_open, one_less, uncounted_open}
 
@@ -30,21 +30,9 @@ work_meets : (B : Shape) (side : Colour) (k mid : ℕ) (done more : ℕ → ℕ 
     (bar_at k B.size p.number) E (get_or D p.number 0) (get_or L p.number 0))
     → Work B side k mid (bar_at k B.size) more E D L Q tail
 work_meets B side k mid done more E C D L Q tail q p m t counts long new =
-    let w = m.work in
-    record {
-      state = meet_keeps B side k (bar_at k B.size) done more E C D L p.number q w.state t.others
-          t.same t.now m.settled m.old counts (λ c _ n x. new c n x);
-      queue = w.queue;
-      sized = record {
-        codes = w.sized.codes;
-        counts = long ∙ w.sized.counts;
-        later = w.sized.later;
-        queue = w.sized.queue;
-      };
-      passes = w.passes;
-      within = w.within;
-      ended = w.ended;
-    }
+    work_by m.work
+    (meet_keeps B side k (bar_at k B.size) done more E C D L p.number q m.work.state t.others t.same
+    t.now m.settled m.old counts (λ c _ n x. new c n x)) long
 
 -- after i settled, it still is to meet q
 meeting_stays : (B : Shape) (side : Colour) (k mid : ℕ) (done : ℕ → ℕ → Bool) (E C L Q : List ℕ)
@@ -127,7 +115,7 @@ meet_decides B side k mid done more E C L Q tail q p m t c n one counted kind =
     let code = get_or E q 0 + 2 in
     let d = decided_by (same_colour c side) side (B.arena.arms p.number) (done p.number)
     (bar_at k B.size p.number) E (get_or C p.number 0) (get_or L p.number 0) k m.leads.arm q
-    o.open_ o.high (bar_high k B.size p.number) m.leads.there counted m.leads.inside kind
+    o.open_ o.high (bar_within k B.size p.number).0 m.leads.there counted m.leads.inside kind
     m.old in
     let w = work_settles B side k mid (bar_at k B.size) done E C L Q tail p.number c code m.work
     m.inside n one (omega (arith, there)) (omega (arith, old)) (inl d) in
@@ -190,7 +178,7 @@ meet_less B side k mid done more E C L Q tail q p g m t c n one counted kind x l
     (met_open (same_colour c side) side (B.arena.arms p.number) (done p.number) (more p.number)
     (bar_at k B.size p.number) E (get_or C p.number 0) (get_or L p.number 0) k m.leads.arm q o.open_
     (g.apart p.number) m.leads.there counted m.leads.inside t.same kind m.before t.now o.there
-    (bar_low k B.size p.number) x less late)))
+    (bar_within k B.size p.number).1 x less late)))
 
 -- an open number that meets one of the settling kind waits for it
 pub meet_waits : (B : Shape) (side : Colour) (k mid : ℕ) (done : ℕ → ℕ → Bool) (E C L Q : List ℕ)

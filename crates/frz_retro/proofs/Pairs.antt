@@ -9,7 +9,7 @@ use Rattle.frz_board.specs.declared.man.Colour.{Colour}
 use Rattle.frz_arena.specs.declared.arm.Next.TheVariants.{Inside}
 use Rattle.frz_unmove.specs.declared.preds.Pred.{Pred}
 use Rattle.frz_retro.proofs.StateFacts.{done_same}
-use Rattle.frz_retro.proofs.WorkFacts.{work_done}
+use Rattle.frz_retro.proofs.WorkFacts.{work_by, work_done}
 
 -- parts of a list
 pub in_drop : (n : ℕ) (xs : List Pred) (x : Pred) → In x (drop n xs) → In x xs
@@ -39,33 +39,28 @@ pub through_begins : (B : Shape) (side : Colour) (k mid : ℕ) (done : ℕ → �
     Coming B side k mid done E C L Q tail q pairs → Work B side k mid (bar_at k B.size)
     (done_mid done q pairs) E C L Q tail
 through_begins B side k mid done E C L Q tail q pairs m =
-    let w = m.work in let settled = m.settled in let old = m.old in record {
-      state = done_same B side k (bar_at k B.size) done (done_mid done q pairs) E C L w.state
-          (λ i a r l j n. elim (cases_eq r q) [
-            | inl e ↦
-                let any = any_pred (λ p. p.number == i) pairs (record { number = i; mv = a.mv })
-                (m.preds.whole i a j (n ∙ ap Inside e)) (eq-eqb i i refl) in
-                or_false (done i r) ((q == r) && not (list_any (λ p. p.number == i) pairs))
-                (and_right (q == r) (not (list_any (λ p. p.number == i) pairs)) (ap not any))
-            | inr e ↦ mid_other done q pairs i r e
-          ])
-          (λ i r t. elim (or_cases (done i r)
-          ((q == r) && not (list_any (λ p. p.number == i) pairs)) t) [
-            | inl e ↦ w.state.low i r e
-            | inr e ↦
-                let s = eqb-true q r
-                (and_parts (q == r) (not (list_any (λ p. p.number == i) pairs)) e).0 in
-                let y = ap (λ (x : ℕ). get_or E x 0) s in
-                (omega (arith, y, settled), omega (arith, y, old))
-          ])
-          (λ i r t. w.state.high i r
-          (or_parts (done i r) ((q == r) && not (list_any (λ p. p.number == i) pairs)) t).0);
-      queue = w.queue;
-      sized = w.sized;
-      passes = w.passes;
-      within = w.within;
-      ended = w.ended;
-    }
+    let w = m.work in let settled = m.settled in let old = m.old in
+    work_by w
+    (done_same B side k (bar_at k B.size) done (done_mid done q pairs) E C L w.state
+    (λ i a r l j n. elim (cases_eq r q) [
+      | inl e ↦
+          let any = any_pred (λ p. p.number == i) pairs (record { number = i; mv = a.mv })
+          (m.preds.whole i a j (n ∙ ap Inside e)) (eq-eqb i i refl) in
+          or_false (done i r) ((q == r) && not (list_any (λ p. p.number == i) pairs))
+          (and_right (q == r) (not (list_any (λ p. p.number == i) pairs)) (ap not any))
+      | inr e ↦ mid_other done q pairs i r e
+    ])
+    (λ i r t. elim (or_cases (done i r)
+    ((q == r) && not (list_any (λ p. p.number == i) pairs)) t) [
+      | inl e ↦ w.state.low i r e
+      | inr e ↦
+          let s = eqb-true q r
+          (and_parts (q == r) (not (list_any (λ p. p.number == i) pairs)) e).0 in
+          let y = ap (λ (x : ℕ). get_or E x 0) s in
+          (omega (arith, y, settled), omega (arith, y, old))
+    ])
+    (λ i r t. w.state.high i r
+    (or_parts (done i r) ((q == r) && not (list_any (λ p. p.number == i) pairs)) t).0)) refl
   where
     any_pred : (test : Pred → Bool) (xs : List Pred) (p : Pred) → In p xs → test p ≡ true →
         list_any test xs ≡ true

@@ -1,6 +1,6 @@
 -- From pass to pass, from the first to the last.
-use Rattle.std.proofs.Common.{◌≡◌, ◌≢◌, ℕ, ◌+◌, ◌*◌, ◌<◌, ◌≤◌, ◌⊎◌, Bool, nat_lt, List, get_or, slice_index, refl, sym, ◌∙◌, ap, inl, inr, arith, ◌^◌}
-use Rattle.std.proofs.lemmas.Bool.{cases_eq, cases_lt, le-ltb, cond-false, true≢false}
+use Rattle.std.proofs.Common.{◌≡◌, ◌≢◌, ℕ, ◌+◌, ◌*◌, ◌<◌, ◌≤◌, ◌⊎◌, Bool, List, get_or, slice_index, refl, sym, ◌∙◌, ap, inl, inr, arith, ◌^◌}
+use Rattle.std.proofs.lemmas.Bool.{cases_eq, cases_lt, true≢false}
 use Rattle.frz_board.specs.Men.{same_colour}
 use Rattle.frz_arena.specs.LocalCodes.{local_code, node_code, free_codes, all_codes}
 use Rattle.frz_retro.specs.Shape.{Shape, end_code}
@@ -10,7 +10,7 @@ use Rattle.frz_board.specs.declared.man.Colour.{Colour}
 use Rattle.frz_arena.specs.declared.node.Node.{Node}
 use Rattle.frz_arena.specs.declared.node.Node.TheVariants.{Broken, Mate, Stalemate, Going}
 use Rattle.frz_retro.proofs.StateFacts.{bar_keeps, pass_keeps}
-use Rattle.frz_retro.proofs.WorkFacts.{bar_of}
+use Rattle.frz_retro.proofs.WorkFacts.{bar_of, bar_past}
 use Rattle.frz_retro.proofs.Starts.{begun_state}
 use Rattle.frz_retro.proofs.OpenNumbers.{open_holds}
 use Rattle.frz_retro.proofs.QueueFront.{done_from}
@@ -53,8 +53,7 @@ pass_begins B side k head E C L Q tail w few = record {
             let z = ap (λ (x : ℕ). get_or E x 0) t.2 in
             omega (arith, y, z)
       ]))
-      (λ i c l _ _ _ b. let e = bar_of k B.size i l in let f = cond-false (nat_lt i 0)
-      (4 + 2 * (k + 1)) (2 + 2 * (k + 1)) (le-ltb i 0 (omega arith)) in omega (arith, e, b, f));
+      (λ i c l _ _ _ b. let e = bar_of k B.size i l in let f = bar_past (k + 1) 0 i (omega arith) in omega (arith, e, b, f));
   queue = record {
     room = w.queue.room;
     each = w.queue.each;

@@ -1,11 +1,11 @@
 -- What a step keeps of the lists.
-use Rattle.std.proofs.Common.{◌≡◌, ◌≢◌, ℕ, zero, suc, ◌+◌, ◌*◌, ◌<◌, ◌≤◌, ◌⊎◌, Bool, cond, nat_lt, List, [], ◌∷◌, get_or, set, length, sym, ◌∙◌, ap, inl, inr, arith, get_or-set_same, get_or-set_other, length-set}
+use Rattle.std.proofs.Common.{◌≡◌, ◌≢◌, ℕ, zero, suc, ◌+◌, ◌*◌, ◌<◌, ◌≤◌, ◌⊎◌, Bool, cond, nat_lt, List, [], ◌∷◌, get_or, set, length, refl, sym, ◌∙◌, ap, inl, inr, arith, get_or-set_same, get_or-set_other, length-set}
 use Rattle.std.proofs.lemmas.Bool.{cases_eq, cases_lt, lt-ltb, le-ltb, cond-true, cond-false, eq-eqb, ne_eqb}
 use Rattle.std.proofs.lemmas.List.{get_or_past}
 use Rattle.frz_board.specs.Men.{same_colour}
 use Rattle.frz_graph.specs.EntryCodes.{arm_code}
 use Rattle.frz_retro.specs.Shape.{Shape}
-use Rattle.frz_retro.specs.State.{IsSettled}
+use Rattle.frz_retro.specs.State.{IsSettled, State}
 use Rattle.frz_retro.specs.Work.{ones, Queue, bar_at, Sized, Work}
 use Rattle.frz_board.specs.declared.man.Colour.{Colour}
 use Rattle.frz_arena.specs.declared.node.Node.TheVariants.{Going}
@@ -98,9 +98,9 @@ queue_keeps k mid E Q tail i c u m one long =
       ];
     }
 
-pub sized_keeps : (n : ℕ) (E C L Q : List ℕ) (i c t : ℕ) → Sized n E C L Q →
+pub sized_keeps : {n : ℕ} {E C L Q : List ℕ} (i c t : ℕ) → Sized n E C L Q →
     Sized n (set E i c) C L (set Q t i)
-sized_keeps n E C L Q i c t s =
+sized_keeps {E = E} {Q = Q} i c t s =
     record {
       codes = length-set E i c ∙ s.codes;
       counts = s.counts;
@@ -120,9 +120,28 @@ work_settles B side k mid bar done E C L Q tail i c code w in_size node one leas
       settle_keeps B side k bar done E C L i c code w.state in_size
       (within E i (omega (arith, one))) node one least most h;
   queue = queue_keeps k mid E Q tail i code w.queue w.within one least;
-  sized = sized_keeps B.size E C L Q i code tail w.sized;
+  sized = sized_keeps i code tail w.sized;
   passes = w.passes;
   within = let y = w.within in omega (arith, y);
+  ended = w.ended;
+}
+
+-- other facts on the numbers, by the same codes and the same queue
+pub work_by : {B : Shape} {side : Colour} {k mid : ℕ} {bar other : ℕ → ℕ} {done more : ℕ → ℕ → Bool}
+    {E C D L Q : List ℕ} {tail : ℕ} → Work B side k mid bar done E C L Q tail →
+    State B side k other more E D L → length D ≡ length C →
+    Work B side k mid other more E D L Q tail
+work_by w s long = record {
+  state = s;
+  queue = w.queue;
+  sized = record {
+    codes = w.sized.codes;
+    counts = long ∙ w.sized.counts;
+    later = w.sized.later;
+    queue = w.sized.queue;
+  };
+  passes = w.passes;
+  within = w.within;
   ended = w.ended;
 }
 
@@ -130,39 +149,22 @@ work_settles B side k mid bar done E C L Q tail i c code w in_size node one leas
 pub work_done : (B : Shape) (side : Colour) (k mid : ℕ) (bar : ℕ → ℕ) (done more : ℕ → ℕ → Bool)
     (E C L Q : List ℕ) (tail : ℕ) → Work B side k mid bar done E C L Q tail →
     ((i q : ℕ) → more i q ≡ done i q) → Work B side k mid bar more E C L Q tail
-work_done B side k mid bar done more E C L Q tail w h = record {
-  state =
-      done_same B side k bar done more E C L w.state (λ i a q _ _ _. h i q)
-      (λ i q t. w.state.low i q (sym (h i q) ∙ t)) (λ i q t. w.state.high i q (sym (h i q) ∙ t));
-  queue = w.queue;
-  sized = w.sized;
-  passes = w.passes;
-  within = w.within;
-  ended = w.ended;
-}
-
-pub bar_high : (k s i : ℕ) → 2 + 2 * k ≤ bar_at k s i
-bar_high k s i = elim (cases_lt i s) [
-  | inl l ↦
-      let e = cond-true (nat_lt i s) (4 + 2 * k) (2 + 2 * k) (lt-ltb i s l) in
-      omega (arith, e)
-  | inr l ↦
-      let e = cond-false (nat_lt i s) (4 + 2 * k) (2 + 2 * k) (le-ltb i s l) in
-      omega (arith, e)
-]
-
-pub bar_low : (k s i : ℕ) → bar_at k s i ≤ 4 + 2 * k
-bar_low k s i = elim (cases_lt i s) [
-  | inl l ↦
-      let e = cond-true (nat_lt i s) (4 + 2 * k) (2 + 2 * k) (lt-ltb i s l) in
-      omega (arith, e)
-  | inr l ↦
-      let e = cond-false (nat_lt i s) (4 + 2 * k) (2 + 2 * k) (le-ltb i s l) in
-      omega (arith, e)
-]
+work_done B side k mid bar done more E C L Q tail w h =
+    work_by w
+    (done_same B side k bar done more E C L w.state (λ i a q _ _ _. h i q)
+    (λ i q t. w.state.low i q (sym (h i q) ∙ t)) (λ i q t. w.state.high i q (sym (h i q) ∙ t))) refl
 
 pub bar_of : (k s i : ℕ) → i < s → bar_at k s i ≡ 4 + 2 * k
 bar_of k s i l = cond-true (nat_lt i s) (4 + 2 * k) (2 + 2 * k) (lt-ltb i s l)
+
+pub bar_past : (k s i : ℕ) → s ≤ i → bar_at k s i ≡ 2 + 2 * k
+bar_past k s i l = cond-false (nat_lt i s) (4 + 2 * k) (2 + 2 * k) (le-ltb i s l)
+
+pub bar_within : (k s i : ℕ) → (2 + 2 * k ≤ bar_at k s i) × (bar_at k s i ≤ 4 + 2 * k)
+bar_within k s i = elim (cases_lt i s) [
+  | inl l ↦ let e = bar_of k s i l in (omega (arith, e), omega (arith, e))
+  | inr l ↦ let e = bar_past k s i l in (omega (arith, e), omega (arith, e))
+]
 
 pub ones_pos : (E : List ℕ) (i : ℕ) → get_or E i 0 ≡ 1 → 0 < ones E
 ones_pos [] i e = absurd (omega (arith, e))
