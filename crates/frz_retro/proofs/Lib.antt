@@ -13,9 +13,8 @@ pub mod Says
 pub mod Starts
 pub mod WorkFacts
 pub mod Tallies
-pub mod Meetings
-pub mod Exits
 pub mod Pairs
+pub mod Meetings
 pub mod QueueFront
 pub mod PassToPass
 pub mod DueSteps

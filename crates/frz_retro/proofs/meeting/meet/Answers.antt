@@ -1,8 +1,7 @@
 use Rattle.std.proofs.Common.{sym, ◌∙◌, arith}
 use Rattle.frz_retro.specs.Shape.{shape_of}
-use Rattle.frz_retro.proofs.Exits.{Told, told_from, Waits, exit_uncounted, exit_decides, exit_waits, exit_less, exit_last}
 use Rattle.frz_retro.proofs.Laws.{is_graph}
-use Rattle.frz_retro.proofs.Meetings.{meet_settled}
+use Rattle.frz_retro.proofs.Meetings.{Told, told_from, Waits, meet_settled, meet_uncounted, meet_decides, meet_waits, meet_less, meet_last}
 use Rattle.frz_retro.proofs.WorkFacts.{room_for}
 use Rattle.frz_retro.proofs.meeting.meet.Given.{Over}
 use Rattle.frz_retro.proofs.meeting.meet.Goals as goal
@@ -30,15 +29,12 @@ waits g c = record {
 
 pub returns-then-code-ne1-clause-kept : goal.returns-then-code-ne1-clause-kept
 returns-then-code-ne1-clause-kept g c k mid done more m t =
-    let u = c.args.tally.now in
-    meet_settled (shape_of (g.G.NumberedGame.arena c.args.graph.now)
-    (g.G.NumberedGame.count c.args.graph.now)) c.args.side k mid done more u.codes u.counts u.later
-    u.queue u.tail c.args.q c.args.pred.now m t (λ e. c.if-code-ne1.true (c.code.ensures ∙ e))
+    meet_settled m t (λ e. c.if-code-ne1.true (c.code.ensures ∙ e))
 
 pub returns-then-not-counted-clause-kept : goal.returns-then-not-counted-clause-kept
 returns-then-not-counted-clause-kept g c k mid done more m t =
     let at = goal.at.returns-then-not-counted-clause-kept g c in
-    exit_uncounted m (told g at.After-is_counted-counted) t c.if-not-counted.true
+    meet_uncounted m (told g at.After-is_counted-counted) t c.if-not-counted.true
 
 pub settle-requires-clause-room : goal.settle-requires-clause-room
 settle-requires-clause-room g c =
@@ -49,14 +45,14 @@ pub returns-then-is_kind-clause-kept : goal.returns-then-is_kind-clause-kept
 returns-then-is_kind-clause-kept g c k mid done more m t =
     let at = goal.at.returns-then-is_kind-clause-kept g c in
     rw (c.settle.ensures, c.code-code.ensures)
-    (exit_decides m (told g at.After-is_counted-counted) t c.if-not-counted.false
+    (meet_decides m (told g at.After-is_counted-counted) t c.if-not-counted.false
     (sym c.code.ensures ∙ c.if-code-ne1.false)
     (rw (c.is_kind.ensures, c.code-code.ensures) at c.if-is_kind.true))
 
 pub count_down-requires-clause-some : goal.count_down-requires-clause-some
 count_down-requires-clause-some g c =
     let at = goal.at.count_down-requires-clause-some g c in
-    exit_waits c.requires.meeting.3 (told g at.After-is_counted-counted) (waits g at.Else-is_kind)
+    meet_waits c.requires.meeting.3 (told g at.After-is_counted-counted) (waits g at.Else-is_kind)
 
 pub returns-then-count-gt0-clause-kept : goal.returns-then-count-gt0-clause-kept
 returns-then-count-gt0-clause-kept g c k mid done more m t =
@@ -64,7 +60,7 @@ returns-then-count-gt0-clause-kept g c k mid done more m t =
     let e = rw c.count_down.ensures at c.count.ensures in
     let h = c.if-count-gt0.true in
     rw c.count_down.ensures
-    (exit_less m (told g at.After-is_counted-counted) (waits g at.Else-is_kind) t
+    (meet_less m (told g at.After-is_counted-counted) (waits g at.Else-is_kind) t
     (λ z. absurd (omega (arith, e, h, z))))
 
 pub returns-then-later-code-clause-kept : goal.returns-then-later-code-clause-kept
@@ -74,7 +70,7 @@ returns-then-later-code-clause-kept g c k mid done more m t =
     let f = c.code-code.ensures in
     let h = c.if-later-code.true in
     rw c.count_down.ensures
-    (exit_less m (told g at.After-is_counted-counted) (waits g at.Else-is_kind) t
+    (meet_less m (told g at.After-is_counted-counted) (waits g at.Else-is_kind) t
     (λ _. omega (arith, e, f, h)))
 
 pub settle-requires-2-clause-room : goal.settle-requires-2-clause-room
@@ -92,5 +88,5 @@ returns-clause-kept g c k mid done more m t =
     let f = c.code-code.ensures in
     let h = c.if-later-code.false in
     rw (c.settle-2.ensures, c.count_down.ensures, c.code-code.ensures)
-    (exit_last m (told g at.After-is_counted-counted) (waits g at.Else-is_kind) t
+    (meet_last m (told g at.After-is_counted-counted) (waits g at.Else-is_kind) t
     (omega (arith, a, b)) (omega (arith, e, f, h)))
