@@ -12,9 +12,9 @@ use Rattle.frz_retro.proofs.WorkFacts.{ones_set, within, queue_keeps, room_for, 
 use Rattle.frz_retro.proofs.Starts.{opens_from, fails_from}
 
 -- an open number breaks
-queue_breaks : (k mid : ℕ) (E Q : List ℕ) (tail i : ℕ) → Queue k mid E Q tail → mid ≤ tail →
+queue_breaks : {k mid : ℕ} {E Q : List ℕ} {tail : ℕ} (i : ℕ) → Queue k mid E Q tail → mid ≤ tail →
     get_or E i 0 ≡ 1 → Queue k mid (set E i 0) Q tail
-queue_breaks k mid E Q tail i u m one =
+queue_breaks {E = E} {Q = Q} i u m one =
     let F = set E i 0 in
     let in_list = within E i (omega (arith, one)) in
     let fewer = ones_set E i 0 one (λ e. omega (arith, e)) in
@@ -102,7 +102,7 @@ module _ {B : Shape} {side : Colour} {E C L Q : List ℕ} {tail : ℕ} (n : ℕ)
       (subst (λ x. IsBegun side x (B.arena.arms n) (get_or (set E n 0) n 0) (get_or C n 0)
       (get_or L n 0)) (sym e) (at_code 0))
       (let y = at_code 0 in omega (arith, y)) (λ _. none_later)
-      (queue_breaks 0 0 E Q tail n b.queue (omega arith) is_one)
+      (queue_breaks n b.queue (omega arith) is_one)
       (let s = b.sized in
       record {
         codes = length-set E n 0 ∙ s.codes;
@@ -119,7 +119,7 @@ module _ {B : Shape} {side : Colour} {E C L Q : List ℕ} {tail : ℕ} (n : ℕ)
       (subst (λ (x : ℕ). IsBegun side (B.arena.node n) (B.arena.arms n) x (get_or C n 0)
       (get_or L n 0)) (sym (at_code code)) here)
       (let y = at_code code in omega (arith, y, few)) (λ _. none_later)
-      (queue_keeps 0 0 E Q tail n code b.queue (omega arith) is_one (omega (arith, low)))
+      (queue_keeps n code b.queue (omega arith) is_one (omega (arith, low)))
       (sized_keeps n code tail b.sized)
 
   pub begins_mate : (c : Colour) → B.arena.node n ≡ Mate c →

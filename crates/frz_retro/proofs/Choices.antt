@@ -21,11 +21,11 @@ pub not_settling : (own : Bool) (c : ℕ) → is_of (not own) c ≡ true → is_
 not_settling own c h e = of_one own c e h
 
 -- what the exits give is of the kind of an exit
-pub later_kind : (own w : Bool) (side : Colour) (arms : List Arm) (later : ℕ) →
+pub later_kind : {own : Bool} {side : Colour} {arms : List Arm} {later : ℕ} (w : Bool) →
     IsLater own side arms later → is_of w later ≡ true →
     (a : Arm) × (v : Value) × In a arms × (counts_for own a ≡ true) × (a.next ≡ Outside v)
     × (is_of w (value_code side v) ≡ true) × (later ≡ value_code side v + 2)
-later_kind own w side arms later l h = elim l.met [
+later_kind {own} {side} {arms} {later} w l h = elim l.met [
   | inl z ↦ let low = of_low w later h in absurd (omega (arith, z, low))
   | inr m ↦ elim (of_some w (value_code side m.1) m.5) [
     | inl k ↦ (m.0, m.1, m.2, m.3, m.4, k, m.6)
@@ -43,11 +43,11 @@ waits_exit own d side E a v c n k =
     (ap not (ap (is_off own d side E) n ∙ of_not own (value_code side v) k))
 
 -- with nothing to wait for, no exit decides
-pub no_deciding : (own : Bool) (d : ℕ → Bool) (side : Colour) (E : List ℕ) (arms : List Arm)
-    (later : ℕ) → IsLater own side arms later → how_many (waits own d side E) arms ≡ 0 →
+pub no_deciding : {own : Bool} {side : Colour} {arms : List Arm} {later : ℕ} (d : ℕ → Bool)
+    (E : List ℕ) → IsLater own side arms later → how_many (waits own d side E) arms ≡ 0 →
     is_of own later ≡ true → ⊥
-no_deciding own d side E arms later l z h =
-    let m = later_kind own own side arms later l h in
+no_deciding {own} {side} {arms} d E l z h =
+    let m = later_kind own l h in
     true≢false (sym (waits_exit own d side E m.0 m.1 m.3 m.4 m.5) ∙ count_zero (waits own d side E)
     arms m.0 z m.2)
 
@@ -60,12 +60,12 @@ off_from own d side E a c w =
 
 -- where no arm waits: each is of the settling kind, inside ones done, exits within what the exits
 -- give
-pub all_off : (own : Bool) (side : Colour) (arms : List Arm) (d : ℕ → Bool) (E : List ℕ)
-    (later m k : ℕ) → IsLater own side arms later → how_many (waits own d side E) arms ≡ 0 →
+pub all_off : {own : Bool} {side : Colour} {arms : List Arm} {later : ℕ} (d : ℕ → Bool) (E : List ℕ)
+    (m k : ℕ) → IsLater own side arms later → how_many (waits own d side E) arms ≡ 0 →
     ((p : ℕ) → d p ≡ true → get_or E p 0 < 2 + 2 * k) → 2 * k ≤ m → is_of (not own) m ≡ true →
     later ≤ m + 2 → (b : Arm) → In b arms → counts_for own b ≡ true →
     (is_of (not own) (arm_code side E b) ≡ true) × (arm_code side E b ≤ m)
-all_off own side arms d E later m k l z low high kind short b i c =
+all_off {own} {side} {arms} d E m k l z low high kind short b i c =
     let off = off_from own d side E b c (count_zero (waits own d side E) arms b z i) in
     let P : Next → Type 0 = λ n. (is_of (not own) (next_code side E n) ≡ true)
     × (next_code side E n ≤ m) in
@@ -77,7 +77,7 @@ all_off own side arms d E later m k l z low high kind short b i c =
       | inr v ↦ subst P (sym v.1) (let kind_v = sym (ap (is_off own d side E) v.1) ∙ off in (
         kind_v,
         elim (l.settling b i c v.0 v.1 kind_v) [
-          | inl e ↦ absurd (no_deciding own d side E arms later l z e)
+          | inl e ↦ absurd (no_deciding d E l z e)
           | inr e ↦ omega (arith, e, short)
         ],
       ))
@@ -85,12 +85,12 @@ all_off own side arms d E later m k l z low high kind short b i c =
 
 -- where inside arms that are not done are no earlier than pass k, an arm of the deciding kind and
 -- plies below k + 1 is the least
-pub least_of_all : (own : Bool) (side : Colour) (arms : List Arm) (d : ℕ → Bool) (bar : ℕ)
-    (E : List ℕ) (count later m k : ℕ) → IsOpen own side arms d bar E count later →
+pub least_of_all : {own : Bool} {side : Colour} {arms : List Arm} {d : ℕ → Bool} {bar : ℕ}
+    {E : List ℕ} {count later : ℕ} (m k : ℕ) → IsOpen own side arms d bar E count later →
     ((p : ℕ) → d p ≡ false → 2 ≤ get_or E p 0 → 2 * k ≤ get_or E p 0) → 2 + 2 * k ≤ bar →
     is_of own m ≡ true → m < 2 + 2 * k → (b : Arm) → In b arms → counts_for own b ≡ true →
     is_of own (arm_code side E b) ≡ true → m ≤ arm_code side E b
-least_of_all own side arms d bar E count later m k o high above kind short b i c e =
+least_of_all {own} {side} {arms} {d} {bar} {E} m k o high above kind short b i c e =
     let P : Next → Type 0 = λ n. m ≤ next_code side E n in
     elim (next_cases b.next) [
       | inl q ↦ subst P (sym q.1)
@@ -108,12 +108,13 @@ least_of_all own side arms d bar E count later m k o high above kind short b i c
     ]
 
 -- a number that meets one of the deciding kind
-pub decided_by : (own : Bool) (side : Colour) (arms : List Arm) (d : ℕ → Bool) (bar : ℕ)
-    (E : List ℕ) (count later k : ℕ) (a : Arm) (q : ℕ) → IsOpen own side arms d bar E count later →
+pub decided_by : {own : Bool} {side : Colour} {arms : List Arm} {d : ℕ → Bool} {bar : ℕ}
+    {E : List ℕ} {count later : ℕ} (k : ℕ) (a : Arm) (q : ℕ) →
+    IsOpen own side arms d bar E count later →
     ((p : ℕ) → d p ≡ false → 2 ≤ get_or E p 0 → 2 * k ≤ get_or E p 0) → 2 + 2 * k ≤ bar →
     In a arms → counts_for own a ≡ true → a.next ≡ Inside q → is_of own (get_or E q 0) ≡ true →
     get_or E q 0 < 2 + 2 * k → Decided own (arm_code side E) arms (get_or E q 0 + 2)
-decided_by own side arms d bar E count later k a q o high above i c n kind short =
+decided_by {own} {side} {arms} {d} {bar} {E} k a q o high above i c n kind short =
     let same : get_or E q 0 ≡ arm_code side E a = sym (ap (next_code side E) n) in
     record {
       arm = a;
@@ -121,19 +122,18 @@ decided_by own side arms d bar E count later k a q o high above i c n kind short
       counted = c;
       kind = sym (ap (is_of own) same) ∙ kind;
       least = λ b j cb e.
-          let l = least_of_all own side arms d bar E count later (get_or E q 0) k o high above kind
-          short b j cb e in
+          let l = least_of_all (get_or E q 0) k o high above kind short b j cb e in
           omega (arith, l, same);
       code = ap (λ (x : ℕ). x + 2) same;
     }
 
 -- a number whose due pass has come
-pub due_decided : (own : Bool) (side : Colour) (arms : List Arm) (d : ℕ → Bool) (bar : ℕ)
-    (E : List ℕ) (count later k : ℕ) → IsOpen own side arms d bar E count later →
+pub due_decided : {own : Bool} {side : Colour} {arms : List Arm} {d : ℕ → Bool} {bar : ℕ}
+    {E : List ℕ} {count later : ℕ} (k : ℕ) → IsOpen own side arms d bar E count later →
     ((p : ℕ) → d p ≡ false → 2 ≤ get_or E p 0 → 2 * k ≤ get_or E p 0) → 2 + 2 * k ≤ bar →
     is_of own later ≡ true → later < 4 + 2 * k → Decided own (arm_code side E) arms later
-due_decided own side arms d bar E count later k o high above kind short =
-    let m = later_kind own own side arms later o.exits kind in
+due_decided {own} {side} {arms} {d} {bar} {E} k o high above kind short =
+    let m = later_kind own o.exits kind in
     let same : value_code side m.1 ≡ arm_code side E m.0 = sym (ap (next_code side E) m.4) in
     let code = m.6 in
     record {
@@ -142,23 +142,23 @@ due_decided own side arms d bar E count later k o high above kind short =
       counted = m.3;
       kind = sym (ap (is_of own) same) ∙ m.5;
       least = λ b j cb e.
-          let l = least_of_all own side arms d bar E count later (value_code side m.1) k o high
-          above m.5 (omega (arith, code, short)) b j cb e in
+          let l = least_of_all (value_code side m.1) k o high above m.5
+          (omega (arith, code, short)) b j cb e in
           omega (arith, l, same);
       code = m.6 ∙ ap (λ (x : ℕ). x + 2) same;
     }
 
-pub due_exhausted : (own : Bool) (side : Colour) (arms : List Arm) (d : ℕ → Bool) (bar : ℕ)
-    (E : List ℕ) (count later k : ℕ) → IsOpen own side arms d bar E count later →
+pub due_exhausted : {own : Bool} {side : Colour} {arms : List Arm} {d : ℕ → Bool} {bar : ℕ}
+    {E : List ℕ} {count later : ℕ} (k : ℕ) → IsOpen own side arms d bar E count later →
     ((p : ℕ) → d p ≡ true → get_or E p 0 < 2 + 2 * k) → count ≡ 0 → is_of (not own) later ≡ true →
     2 + 2 * k ≤ later → Exhausted own (arm_code side E) arms later
-due_exhausted own side arms d bar E count later k o low zero kind long =
-    let m = later_kind own (not own) side arms later o.exits kind in
+due_exhausted {own} {side} {arms} {d} {bar} {E} k o low zero kind long =
+    let m = later_kind (not own) o.exits kind in
     let code = m.6 in
     record {
       most = value_code side m.1;
-      each = all_off own side arms d E later (value_code side m.1) k o.exits (sym o.counter ∙ zero)
-          low (omega (arith, code, long)) m.5 (omega (arith, code));
+      each = all_off d E (value_code side m.1) k o.exits (sym o.counter ∙ zero) low
+          (omega (arith, code, long)) m.5 (omega (arith, code));
       reached = inr (m.0, m.2, m.3, ap (next_code side E) m.4);
       code = m.6;
     }

@@ -23,14 +23,14 @@ pub record IsDue (B : Shape) (side : Colour) (k : ℕ) (E L : List ℕ) (i : ℕ
 module _ {B : Shape} {side : Colour} {k mid : ℕ} {done : ℕ → ℕ → Bool} {E C L Q : List ℕ} {tail : ℕ}
     (i : ℕ) (w : Work B side k mid (bar_at k i) done E C L Q tail) where
   pub due_settled : get_or E i 0 ≢ 1 → Work B side k mid (bar_at k (i + 1)) done E C L Q tail
-  due_settled isnt = due_skips B side k mid i done E C L Q tail w (λ c n one. absurd (isnt one))
+  due_settled isnt = due_skips i w (λ c n one. absurd (isnt one))
 
   pub due_early : get_or L i 0 < 2 * k + 2 → Work B side k mid (bar_at k (i + 1)) done E C L Q tail
   due_early l =
-      due_skips B side k mid i done E C L Q tail w (λ c n one kind b. absurd (omega (arith, l, b)))
+      due_skips i w (λ c n one kind b. absurd (omega (arith, l, b)))
 
   pub due_later : 2 * k + 4 ≤ get_or L i 0 → Work B side k mid (bar_at k (i + 1)) done E C L Q tail
-  due_later l = due_skips B side k mid i done E C L Q tail w (λ c n one kind b. omega (arith, l))
+  due_later l = due_skips i w (λ c n one kind b. omega (arith, l))
 
   pub due_going : i < B.size → 2 * k + 2 ≤ get_or L i 0 → (c : Colour) × (B.arena.node i ≡ Going c)
   due_going l b =
@@ -42,14 +42,16 @@ module _ {B : Shape} {side : Colour} {k mid : ℕ} {done : ℕ → ℕ → Bool}
         Work B side k mid (bar_at k (i + 1)) done (set E i (get_or L i 0)) C L (set Q tail i)
         (tail + 1)
     due_kind kind = let g = due_going due.inside due.least in
-        due_settles B side k mid i done E C L Q tail g.0 w due.inside g.1 due.open_
-        (let b = due.least in omega (arith, b)) (let h = due.most in omega (arith, h)) (inl (ap (λ x. is_of x (get_or L i 0)) (sym (due.own_is g.0 g.1)) ∙ kind))
+        due_settles i g.0 w due.inside g.1 due.open_
+        (let b = due.least in omega (arith, b)) (let h = due.most in omega (arith, h))
+        (inl (ap (λ x. is_of x (get_or L i 0)) (sym (due.own_is g.0 g.1)) ∙ kind))
 
     pub due_waits : is_of own (get_or L i 0) ≡ false → 0 < get_or C i 0 →
         Work B side k mid (bar_at k (i + 1)) done E C L Q tail
-    due_waits kind pos = due_skips B side k mid i done E C L Q tail w (λ c n _ which _. elim which [
+    due_waits kind pos = due_skips i w (λ c n _ which _. elim which [
       | inl e ↦
-          absurd (true≢false (sym e ∙ (ap (λ x. is_of x (get_or L i 0)) (sym (due.own_is c n)) ∙ kind)))
+          absurd (true≢false
+          (sym e ∙ (ap (λ x. is_of x (get_or L i 0)) (sym (due.own_is c n)) ∙ kind)))
       | inr z ↦ absurd (omega (arith, z, pos))
     ])
 
@@ -60,7 +62,7 @@ module _ {B : Shape} {side : Colour} {k mid : ℕ} {done : ℕ → ℕ → Bool}
         let other : is_of (not own) (get_or L i 0) ≡ true =
         elim (of_some own (get_or L i 0) (let b = due.least in omega (arith, b)))
         [ inl t ↦ absurd (true≢false (sym t ∙ kind)) | inr t ↦ t ] in
-        due_settles B side k mid i done E C L Q tail g.0 w due.inside g.1 due.open_
+        due_settles i g.0 w due.inside g.1 due.open_
         (let b = due.least in omega (arith, b)) (let h = due.most in omega (arith, h))
         (inr (
           ap (λ x. is_of (not x) (get_or L i 0)) (sym (due.own_is g.0 g.1)) ∙ other,

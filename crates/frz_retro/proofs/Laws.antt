@@ -59,7 +59,7 @@ short lags (Outside v) h = h v refl
 
 pub is_graph : {arena : Arena Step ℕ Value} {size : ℕ} → IsFinite arena size →
     HasDifferentArms arena → IsGraph (shape_of arena size)
-is_graph {arena} {size} f d = record {
+is_graph {arena} f d = record {
   few = f.few;
   others = λ i a h. f.going i a (contains_in (arena.arms i) a h);
   apart = λ i. differ (arena.arms i) (λ q k l a b e g x y. d i k l q (a, e, x) (b, g, y));

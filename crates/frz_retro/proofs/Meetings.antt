@@ -54,7 +54,7 @@ module _ {B : Shape} {side : Colour} {k mid : ℕ} {done more : ℕ → ℕ → 
       → Work B side k mid (bar_at k B.size) more E D L Q tail
   meets D counts long new =
       work_by m.work
-      (meet_keeps B side k (bar_at k B.size) done more E C D L p.number q m.work.state t.others
+      (meet_keeps p.number q m.work.state t.others
       t.same t.now m.settled m.old counts (λ c _ n x. new c n x)) long
 
   pub meet_settled : get_or E p.number 0 ≢ 1 →
@@ -124,8 +124,8 @@ module _ {B : Shape} {side : Colour} {k mid : ℕ} {done : ℕ → ℕ → Bool}
       (set Q tail p.number) (tail + 1)
   settles D t counts long one d =
       let l = late in let old = m.old in
-      let w = work_settles B side k mid (bar_at k B.size) done E C L Q tail p.number going.0
-      (get_or E q 0 + 2) m.work m.inside going.1 one (omega (arith, l)) (omega (arith, old))
+      let w = work_settles p.number going.0 (get_or E q 0 + 2) m.work m.inside going.1 one
+      (omega (arith, l)) (omega (arith, old))
       (subst (λ w. IsSettled w (arm_code side E) (B.arena.arms p.number) (get_or E q 0 + 2))
       (told.own_is going.0 going.1) d) in
       meets (meeting_stays (get_or E q 0 + 2) m one w) t D counts long (λ _ _ e.
@@ -135,20 +135,17 @@ module _ {B : Shape} {side : Colour} {k mid : ℕ} {done : ℕ → ℕ → Bool}
   pub meet_uncounted : {more : ℕ → ℕ → Bool} → Meets done more p.number q → counted ≡ false →
       Work B side k mid (bar_at k B.size) more E C L Q tail
   meet_uncounted {more} t e = meets_open C t (λ j n. refl) refl (λ one.
-      uncounted_open own side (B.arena.arms p.number) (done p.number) (more p.number)
-      (bar_at k B.size p.number) E (get_or C p.number 0) (get_or L p.number 0) m.leads.arm q
-      (opened one) (told.graph.apart p.number) m.leads.there (counts_as false e) m.leads.inside
-      t.same)
+      uncounted_open (more p.number) m.leads.arm q (opened one) (told.graph.apart p.number)
+      m.leads.there (counts_as false e) m.leads.inside t.same)
 
   pub meet_decides : {more : ℕ → ℕ → Bool} → Meets done more p.number q → counted ≡ true →
       get_or E p.number 0 ≡ 1 → is_of own (get_or E q 0) ≡ true →
       Work B side k mid (bar_at k B.size) more (set E p.number (get_or E q 0 + 2)) C L
       (set Q tail p.number) (tail + 1)
   meet_decides t e one kind =
-      settles C t (λ j n. refl) refl one (inl (decided_by own side (B.arena.arms p.number)
-      (done p.number) (bar_at k B.size p.number) E (get_or C p.number 0) (get_or L p.number 0) k
-      m.leads.arm q (opened one) (m.work.state.high p.number) (bar_within k B.size p.number).0
-      m.leads.there (counts_as true e) m.leads.inside kind m.old))
+      settles C t (λ j n. refl) refl one
+      (inl (decided_by k m.leads.arm q (opened one) (m.work.state.high p.number)
+      (bar_within k B.size p.number).0 m.leads.there (counts_as true e) m.leads.inside kind m.old))
 
   module _ (w : Waits own counted E p.number q) where
     other : is_of (not own) (get_or E q 0) ≡ true
@@ -182,10 +179,8 @@ module _ {B : Shape} {side : Colour} {k mid : ℕ} {done : ℕ → ℕ → Bool}
     meet_less {more} t later =
         let some = meet_waits in let e = left in
         meets_open less t others (length-set C p.number (get_or C p.number 0 - 1)) (λ one.
-        met_open own side (B.arena.arms p.number) (done p.number) (more p.number)
-        (bar_at k B.size p.number) E (get_or C p.number 0) (get_or L p.number 0) k m.leads.arm q
-        (opened one) (told.graph.apart p.number) m.leads.there (counts_as true w.counts)
-        m.leads.inside t.same other m.before t.now late (bar_within k B.size p.number).1
+        met_open (more p.number) k m.leads.arm q (opened one) (told.graph.apart p.number)
+        m.leads.there (counts_as true w.counts) m.leads.inside t.same other m.before t.now late (bar_within k B.size p.number).1
         (get_or less p.number 0) (omega (arith, some, e)) later)
 
     pub meet_last : {more : ℕ → ℕ → Bool} → Meets done more p.number q →
@@ -200,7 +195,6 @@ module _ {B : Shape} {side : Colour} {k mid : ℕ} {done : ℕ → ℕ → Bool}
           | inr s ↦ (m.work.state.low p.number r (sym (t.same r s) ∙ x)).1
         ] in
         settles less t others (length-set C p.number (get_or C p.number 0 - 1)) w.open_
-        (inr (exhausted_by own side (B.arena.arms p.number) (done p.number) (more p.number)
-        (bar_at k B.size p.number) E (get_or C p.number 0) (get_or L p.number 0) k m.leads.arm q
+        (inr (exhausted_by (more p.number) k m.leads.arm q
         (opened w.open_) (told.graph.apart p.number) m.leads.there (counts_as true w.counts)
         m.leads.inside t.same other m.before t.now low late (omega (arith, some, e, zero)) short))

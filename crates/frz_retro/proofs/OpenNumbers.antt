@@ -57,32 +57,35 @@ none_less own side arms d e E a q apart i n h c =
     let x = ap one was in let y = ap one now in omega (arith, change, x, y)
 
 -- the last arm that a number waited for
-pub exhausted_by : (own : Bool) (side : Colour) (arms : List Arm) (d e : ℕ → Bool) (bar : ℕ)
-    (E : List ℕ) (count later k : ℕ) (a : Arm) (q : ℕ) → IsOpen own side arms d bar E count later →
-    Apart Differ arms → In a arms → counts_for own a ≡ true → a.next ≡ Inside q →
-    ((p : ℕ) → p ≢ q → e p ≡ d p) → is_of (not own) (get_or E q 0) ≡ true → d q ≡ false →
-    e q ≡ true → ((p : ℕ) → e p ≡ true → get_or E p 0 < 2 + 2 * k) → 2 * k ≤ get_or E q 0 →
-    count ≡ 1 → later ≤ get_or E q 0 + 2 → Exhausted own (arm_code side E) arms (get_or E q 0 + 2)
-exhausted_by own side arms d e bar E count later k a q o apart i c n h kind before after low high
+pub exhausted_by : {own : Bool} {side : Colour} {arms : List Arm} {d : ℕ → Bool} {bar : ℕ}
+    {E : List ℕ} {count later : ℕ} (e : ℕ → Bool) (k : ℕ) (a : Arm) (q : ℕ) →
+    IsOpen own side arms d bar E count later → Apart Differ arms → In a arms →
+    counts_for own a ≡ true → a.next ≡ Inside q → ((p : ℕ) → p ≢ q → e p ≡ d p) →
+    is_of (not own) (get_or E q 0) ≡ true → d q ≡ false → e q ≡ true →
+    ((p : ℕ) → e p ≡ true → get_or E p 0 < 2 + 2 * k) → 2 * k ≤ get_or E q 0 → count ≡ 1 →
+    later ≤ get_or E q 0 + 2 → Exhausted own (arm_code side E) arms (get_or E q 0 + 2)
+exhausted_by {own} {side} {arms} {d} {bar} {E} e k a q o apart i c n h kind before after low high
     last short =
     let less = one_less own side arms d e E a q apart i n h c kind before after in
     let counter = o.counter in
     record {
       most = get_or E q 0;
-      each = all_off own side arms e E later (get_or E q 0) k o.exits
+      each = all_off e E (get_or E q 0) k o.exits
           (omega (arith, less, counter, last)) low high kind short;
       reached = inr (a, i, c, ap (next_code side E) n);
       code = refl;
     }
 
 -- a number that has met one that doesn't settle it stays open
-pub met_open : (own : Bool) (side : Colour) (arms : List Arm) (d e : ℕ → Bool) (bar : ℕ)
-    (E : List ℕ) (count later k : ℕ) (a : Arm) (q : ℕ) → IsOpen own side arms d bar E count later →
-    Apart Differ arms → In a arms → counts_for own a ≡ true → a.next ≡ Inside q →
-    ((p : ℕ) → p ≢ q → e p ≡ d p) → is_of (not own) (get_or E q 0) ≡ true → d q ≡ false →
-    e q ≡ true → 2 * k ≤ get_or E q 0 → bar ≤ 4 + 2 * k → (rest : ℕ) → count ≡ rest + 1 →
-    (rest ≡ 0 → get_or E q 0 + 2 < later) → IsOpen own side arms e bar E rest later
-met_open own side arms d e bar E count later k a q o apart i c n h kind before after high bound rest
+pub met_open : {own : Bool} {side : Colour} {arms : List Arm} {d : ℕ → Bool} {bar : ℕ} {E : List ℕ}
+    {count later : ℕ} (e : ℕ → Bool) (k : ℕ) (a : Arm) (q : ℕ) →
+    IsOpen own side arms d bar E count later → Apart Differ arms → In a arms →
+    counts_for own a ≡ true → a.next ≡ Inside q → ((p : ℕ) → p ≢ q → e p ≡ d p) →
+    is_of (not own) (get_or E q 0) ≡ true → d q ≡ false → e q ≡ true → 2 * k ≤ get_or E q 0 →
+    bar ≤ 4 + 2 * k → (rest : ℕ) → count ≡ rest + 1 → (rest ≡ 0 → get_or E q 0 + 2 < later) →
+    IsOpen own side arms e bar E rest later
+met_open {own} {side} {arms} {d} {bar} {E} {count} {later} e k a q o apart i c n h kind before after
+    high bound rest
     sum late =
     let less = one_less own side arms d e E a q apart i n h c kind before after in
     let counter = o.counter in
@@ -102,7 +105,7 @@ met_open own side arms d e bar E count later k a q o apart i c n h kind before a
       due = o.due;
       last = λ z. elim (cases_lt later (4 + 2 * k)) [
         | inl lt ↦ let l = late z in elim (of_some own later (omega (arith, l))) [
-          | inl y ↦ absurd (no_deciding own e side E arms later o.exits (sym left ∙ z) y)
+          | inl y ↦ absurd (no_deciding e E o.exits (sym left ∙ z) y)
           | inr y ↦
               let x = of_order (not own) (k + 1) later (get_or E q 0 + 2) y
               (of_more (not own) (get_or E q 0) kind) (omega (arith, lt))
@@ -114,11 +117,12 @@ met_open own side arms d e bar E count later k a q o apart i c n h kind before a
     }
 
 -- nor does an arm that doesn't count
-pub uncounted_open : (own : Bool) (side : Colour) (arms : List Arm) (d e : ℕ → Bool) (bar : ℕ)
-    (E : List ℕ) (count later : ℕ) (a : Arm) (q : ℕ) → IsOpen own side arms d bar E count later →
-    Apart Differ arms → In a arms → counts_for own a ≡ false → a.next ≡ Inside q →
-    ((p : ℕ) → p ≢ q → e p ≡ d p) → IsOpen own side arms e bar E count later
-uncounted_open own side arms d e bar E count later a q o apart i c n h = record {
+pub uncounted_open : {own : Bool} {side : Colour} {arms : List Arm} {d : ℕ → Bool} {bar : ℕ}
+    {E : List ℕ} {count later : ℕ} (e : ℕ → Bool) (a : Arm) (q : ℕ) →
+    IsOpen own side arms d bar E count later → Apart Differ arms → In a arms →
+    counts_for own a ≡ false → a.next ≡ Inside q → ((p : ℕ) → p ≢ q → e p ≡ d p) →
+    IsOpen own side arms e bar E count later
+uncounted_open {own} {side} {arms} {d} {bar} {E} e a q o apart i c n h = record {
   counter = o.counter ∙ none_less own side arms d e E a q apart i n h c;
   undecided = λ b j cb p m t. elim (cases_eq p q) [
     | inl s ↦
@@ -132,10 +136,10 @@ uncounted_open own side arms d e bar E count later a q o apart i c n h = record 
 }
 
 -- At the end an open number holds.
-pub open_holds : (own : Bool) (side : Colour) (arms : List Arm) (d : ℕ → Bool) (bar : ℕ)
-    (E : List ℕ) (count later : ℕ) → IsOpen own side arms d bar E count later →
+pub open_holds : {own : Bool} {side : Colour} {arms : List Arm} {d : ℕ → Bool} {bar : ℕ}
+    {E : List ℕ} {count later : ℕ} → IsOpen own side arms d bar E count later →
     ((q : ℕ) → 2 ≤ get_or E q 0 → d q ≡ true) → later < bar → Held own (arm_code side E) arms
-open_holds own side arms d bar E count later o done short =
+open_holds {own} {side} {arms} {d} {bar} {E} o done short =
     let none : (a : Arm) → In a arms → counts_for own a ≡ true
     → is_of own (arm_code side E a) ≡ false =
     λ a i c. elim (cases_Bool (is_of own (arm_code side E a))) [

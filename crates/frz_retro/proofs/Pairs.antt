@@ -34,14 +34,14 @@ mid_other done q rest i r n =
     (and_left (q == r) (not (list_any (λ p. p.number == i) rest)) (ne_eqb q r (λ e. n (sym e))))
 
 -- before the first pair
-pub through_begins : (B : Shape) (side : Colour) (k mid : ℕ) (done : ℕ → ℕ → Bool)
-    (E C L Q : List ℕ) (tail q : ℕ) (pairs : List Pred) →
-    Coming B side k mid done E C L Q tail q pairs → Work B side k mid (bar_at k B.size)
-    (done_mid done q pairs) E C L Q tail
-through_begins B side k mid done E C L Q tail q pairs m =
+pub through_begins : {B : Shape} {side : Colour} {k mid : ℕ} {done : ℕ → ℕ → Bool}
+    {E C L Q : List ℕ} {tail q : ℕ} {pairs : List Pred} →
+    Coming B side k mid done E C L Q tail q pairs →
+    Work B side k mid (bar_at k B.size) (done_mid done q pairs) E C L Q tail
+through_begins {done = done} {E = E} {q = q} {pairs = pairs} m =
     let w = m.work in let settled = m.settled in let old = m.old in
     work_by w
-    (done_same B side k (bar_at k B.size) done (done_mid done q pairs) E C L w.state
+    (done_same w.state
     (λ i a r l j n. elim (cases_eq r q) [
       | inl e ↦
           let any = any_pred (λ p. p.number == i) pairs (record { number = i; mv = a.mv })
@@ -70,11 +70,10 @@ through_begins B side k mid done E C L Q tail q pairs m =
         or_right (test x) (list_any test xs) (any_pred test xs p t e)
 
 -- at a pair: what it finds, and what it adds
-pub through_meets : (B : Shape) (side : Colour) (k mid : ℕ) (done : ℕ → ℕ → Bool) (E C L Q : List ℕ)
-    (tail q : ℕ) (pairs : List Pred) (p : Pred) (rest : List Pred) →
+pub through_meets : (done : ℕ → ℕ → Bool) (q : ℕ) (p : Pred) (rest : List Pred) →
     Apart (λ p r. p.number ≢ r.number) (p ∷ rest) → ((i : ℕ) → done i q ≡ false) →
     Meets (done_mid done q (p ∷ rest)) (done_mid done q rest) p.number q
-through_meets B side k mid done E C L Q tail q pairs p rest apart before = record {
+through_meets done q p rest apart before = record {
   others =
       λ j r n. ap (λ (b : Bool). done j r || ((q == r) && not b))
       (sym (or_fore (p.number == j) (list_any (λ x. x.number == j) rest)
@@ -96,13 +95,13 @@ through_meets B side k mid done E C L Q tail q pairs p rest apart before = recor
     no_pred test (x ∷ xs) f =
         or_from (test x) (list_any test xs) (f x (inl refl)) (no_pred test xs (λ y i. f y (inr i)))
 
-pub through_meeting : (B : Shape) (side : Colour) (k mid : ℕ) (done : ℕ → ℕ → Bool)
-    (E C L Q : List ℕ) (tail q : ℕ) (pairs : List Pred) (p : Pred) (rest : List Pred) →
-    ArePreds B q pairs → ((r : Pred) → In r (p ∷ rest) → In r pairs) →
-    ((i : ℕ) → done i q ≡ false) → 2 ≤ get_or E q 0 → get_or E q 0 < 2 + 2 * k →
+pub through_meeting : {B : Shape} {side : Colour} {k mid : ℕ} {E C L Q : List ℕ} {tail q : ℕ}
+    {pairs : List Pred} (done : ℕ → ℕ → Bool) (p : Pred) (rest : List Pred) → ArePreds B q pairs →
+    ((r : Pred) → In r (p ∷ rest) → In r pairs) → ((i : ℕ) → done i q ≡ false) → 2 ≤ get_or E q 0 →
+    get_or E q 0 < 2 + 2 * k →
     Work B side k mid (bar_at k B.size) (done_mid done q (p ∷ rest)) E C L Q tail →
     Meeting B side k mid (done_mid done q (p ∷ rest)) E C L Q tail q p
-through_meeting B side k mid done E C L Q tail q pairs p rest h among before settled old w =
+through_meeting {q = q} done p rest h among before settled old w =
     let s = h.sound p (among p (inl refl)) in
     record {
       work = w;
@@ -120,11 +119,12 @@ through_meeting B side k mid done E C L Q tail q pairs p rest h among before set
     }
 
 -- after the last pair
-pub through_ends : (B : Shape) (side : Colour) (k mid : ℕ) (bar : ℕ → ℕ) (done more : ℕ → ℕ → Bool)
-    (E C L Q : List ℕ) (tail q : ℕ) → Work B side k mid bar (done_mid done q []) E C L Q tail →
+pub through_ends : {B : Shape} {side : Colour} {k mid : ℕ} {bar : ℕ → ℕ} {more : ℕ → ℕ → Bool}
+    {E C L Q : List ℕ} {tail : ℕ} (done : ℕ → ℕ → Bool) (q : ℕ) →
+    Work B side k mid bar (done_mid done q []) E C L Q tail →
     ((i r : ℕ) → more i r ≡ (done i r || (q == r))) → Work B side k mid bar more E C L Q tail
-through_ends B side k mid bar done more E C L Q tail q w h =
-    work_done B side k mid bar (done_mid done q []) more E C L Q tail w
+through_ends done q w h =
+    work_done w
     (λ i r. h i r ∙ ap (λ (b : Bool). done i r || b) (sym (and_true (q == r))))
   where
     and_true : (b : Bool) → (b && true) ≡ b
@@ -145,8 +145,8 @@ through_at {B} {side} {k} {mid} {done} {E} {C} {L} {Q} {tail} {q} {pairs} {F} {D
     let W : List Pred → Type 0 = λ xs. Work B side k mid (bar_at k B.size) (done_mid done q xs) F D
     M R end in
     let settled = m.settled in let old = m.old in
-    subst P (sym e) (through_meeting B side k mid done F D M R end q pairs (get_or pairs j d)
-    (drop (j + 1) pairs) m.preds (λ r i. in_drop j pairs r (subst (λ xs. In r xs) (sym e) i))
+    subst P (sym e) (through_meeting done (get_or pairs j d) (drop (j + 1) pairs) m.preds
+    (λ r i. in_drop j pairs r (subst (λ xs. In r xs) (sym e) i))
     m.before (omega (arith, same, settled)) (omega (arith, same, old)) (subst W e w))
 
 pub through_more : {B : Shape} {side : Colour} {k mid : ℕ} {done : ℕ → ℕ → Bool} {E C L Q : List ℕ}
@@ -154,11 +154,10 @@ pub through_more : {B : Shape} {side : Colour} {k mid : ℕ} {done : ℕ → ℕ
     Coming B side k mid done E C L Q tail q pairs → j < length pairs →
     Meets (done_mid done q (drop j pairs)) (done_mid done q (drop (j + 1) pairs))
     (get_or pairs j d).number q
-through_more {B} {side} {k} {mid} {done} {E} {C} {L} {Q} {tail} {q} {pairs} j d m l =
+through_more {done = done} {q = q} {pairs = pairs} j d m l =
     let e = drop_more pairs j d l in
     let P : List Pred → Type 0 = λ xs. Meets (done_mid done q xs)
     (done_mid done q (drop (j + 1) pairs)) (get_or pairs j d).number q in
-    subst P (sym e) (through_meets B side k mid done E C L Q tail q pairs (get_or pairs j d)
-    (drop (j + 1) pairs)
+    subst P (sym e) (through_meets done q (get_or pairs j d) (drop (j + 1) pairs)
     (subst (λ xs. Apart (λ p r. p.number ≢ r.number) xs) e (apart_drop j pairs m.preds.once))
     m.before)

@@ -1,7 +1,6 @@
 -- From pass to pass, from the first to the last.
 use Rattle.std.proofs.Common.{◌≡◌, ◌≢◌, ℕ, ◌+◌, ◌*◌, ◌<◌, ◌≤◌, ◌⊎◌, Bool, List, get_or, slice_index, refl, sym, ◌∙◌, ap, inl, inr, arith, ◌^◌}
 use Rattle.std.proofs.lemmas.Bool.{cases_eq, cases_lt, true≢false}
-use Rattle.frz_board.specs.Men.{same_colour}
 use Rattle.frz_arena.specs.LocalCodes.{local_code, node_code, free_codes, all_codes}
 use Rattle.frz_retro.specs.Shape.{Shape, end_code}
 use Rattle.frz_retro.specs.State.{GivesLocalCodes}
@@ -16,13 +15,12 @@ use Rattle.frz_retro.proofs.OpenNumbers.{open_holds}
 use Rattle.frz_retro.proofs.QueueFront.{done_from}
 
 -- before the first pass
-pub first_work : (B : Shape) (side : Colour) (E C L Q : List ℕ) (tail : ℕ) →
+pub first_work : {B : Shape} {side : Colour} {E C L Q : List ℕ} {tail : ℕ} →
     Begun B side B.size E C L Q tail →
     Work B side 0 0 (bar_at 0 B.size) (λ _ q. done_by Q 0 q) E C L Q tail
-first_work B side E C L Q tail b = record {
+first_work {B} {side} {E} {C} {L} b = record {
   state =
-      bar_keeps B side 0 (λ _. 4) (bar_at 0 B.size) (λ _ q. done_by Q 0 q) E C L
-      (begun_state B side E C L b.begun b.few)
+      bar_keeps (begun_state B side E C L b.begun b.few)
       (λ i c l n one kind y. let e = bar_of 0 B.size i l in omega (arith, e, y));
   queue = b.queue;
   sized = b.sized;
@@ -38,13 +36,12 @@ pub few_passes : {B : Shape} {side : Colour} {k mid : ℕ} {bar : ℕ → ℕ} {
 few_passes w = let r = w.queue.room in let s = w.sized.queue in (w.within, omega (arith, r, s))
 
 -- the next pass begins
-pub pass_begins : (B : Shape) (side : Colour) (k head : ℕ) (E C L Q : List ℕ) (tail : ℕ) →
+pub pass_begins : {B : Shape} {side : Colour} {k : ℕ} {E C L Q : List ℕ} {tail : ℕ} (head : ℕ) →
     Work B side k head (bar_at k B.size) (λ _ q. done_by Q head q) E C L Q tail → k + 1 < 2 ^ 29 →
     Work B side (k + 1) tail (bar_at (k + 1) 0) (λ _ q. done_by Q head q) E C L Q tail
-pass_begins B side k head E C L Q tail w few = record {
+pass_begins {B} {side} {k} {E} {C} {L} {Q} head w few = record {
   state =
-      bar_keeps B side (k + 1) (bar_at k B.size) (bar_at (k + 1) 0) (λ _ q. done_by Q head q) E C L
-      (pass_keeps B side k (bar_at k B.size) (λ _ q. done_by Q head q) E C L w.state (λ i q f h.
+      bar_keeps (pass_keeps w.state (λ i q f h.
       let t = w.queue.found q h in
       elim (cases_lt t.0 head) [
         | inl l ↦ absurd (true≢false (sym (done_from Q head t.0 q l t.2) ∙ f))
@@ -53,7 +50,8 @@ pass_begins B side k head E C L Q tail w few = record {
             let z = ap (λ (x : ℕ). get_or E x 0) t.2 in
             omega (arith, y, z)
       ]))
-      (λ i c l _ _ _ b. let e = bar_of k B.size i l in let f = bar_past (k + 1) 0 i (omega arith) in omega (arith, e, b, f));
+      (λ i c l _ _ _ b. let e = bar_of k B.size i l in let f = bar_past (k + 1) 0 i (omega arith) in
+      omega (arith, e, b, f));
   queue = record {
     room = w.queue.room;
     each = w.queue.each;
@@ -82,12 +80,12 @@ end_local side (Stalemate c) free all h = refl
 end_local side (Going c) free all h = absurd (h c refl)
 
 -- Where all is done and no due pass is left, each entry is its local code.
-pub all_local : (B : Shape) (side : Colour) (k mid head : ℕ) (E C L Q : List ℕ) (tail : ℕ) →
+pub all_local : {B : Shape} {side : Colour} {k mid : ℕ} {E C L Q : List ℕ} {tail : ℕ} (head : ℕ) →
     GivesLocalCodes B.arena side E →
     Work B side k mid (bar_at k B.size) (λ _ q. done_by Q head q) E C L Q tail → tail ≤ head →
     ((i : ℕ) → i < B.size → get_or L i 0 < 4 + 2 * k) → (i : ℕ) → i < B.size →
     get_or E i 0 ≡ local_code B.arena side (λ k. slice_index E k) i
-all_local B side k mid head E C L Q tail gives w all none i l =
+all_local {B} {side} {k} {mid} {E} {C} {L} {Q} head gives w all none i l =
     let s = w.state in
     elim (node_cases (B.arena.node i)) [
       | inr h ↦
@@ -98,8 +96,7 @@ all_local B side k mid head E C L Q tail gives w all none i l =
         | inr h ↦ sym (gives.settled i g.0 (get_or E i 0) g.1 (s.settled i g.0 l g.1 h))
         | inl h ↦
             h ∙ sym (gives.held i g.0 g.1
-            (open_holds (same_colour g.0 side) side (B.arena.arms i) (done_by Q head)
-            (bar_at k B.size i) E (get_or C i 0) (get_or L i 0) (s.going i g.0 l g.1 h)
+            (open_holds (s.going i g.0 l g.1 h)
             (λ q y. let t = w.queue.found q y in let x = t.1 in
             done_from Q head t.0 q (omega (arith, x, all)) t.2)
             (let b = bar_of k B.size i l in let y = none i l in omega (arith, b, y))))

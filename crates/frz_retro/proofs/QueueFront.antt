@@ -37,7 +37,7 @@ pub coming_from : {B : Shape} {side : Colour} {k mid : ℕ} {E C L Q : List ℕ}
     Work B side k mid (bar_at k B.size) (λ _ q. done_by Q h q) E C L Q tail → h < mid →
     ArePreds B (get_or Q h 0) pairs →
     Coming B side k mid (λ _ q. done_by Q h q) E C L Q tail (get_or Q h 0) pairs
-coming_from {mid = mid} {Q = Q} {tail = tail} h w l p =
+coming_from {Q = Q} h w l p =
     let m = w.within in
     record {
       work = w;
@@ -56,9 +56,8 @@ pub came : {B : Shape} {side : Colour} {k mid : ℕ} {bar : ℕ → ℕ} {E C L 
     Work B side k mid bar (λ _ r. done_by Q h r || (get_or Q h 0 == r)) E C L R tail →
     ((t : ℕ) → t < h + 1 → get_or R t 0 ≡ get_or Q t 0) →
     Work B side k mid bar (λ _ r. done_by R (h + 1) r) E C L R tail
-came {B} {side} {k} {mid} {bar} {E} {C} {L} {R} {tail} h Q w same =
-    work_done B side k mid bar (λ _ r. done_by Q h r || (get_or Q h 0 == r))
-    (λ _ r. done_by R (h + 1) r) E C L R tail w (λ i r.
+came {R = R} h Q w same =
+    work_done w (λ i r.
     ap (λ (x : ℕ). done_by R x r) (add-one h)
     ∙ (done_by_same Q R (suc h) r (λ t l. same t (omega (arith, l))) ∙ or_comm (get_or Q h 0 == r)
     (done_by Q h r)))

@@ -50,7 +50,7 @@ stays : {kind own : Bool} {side : Colour} {arms : List Arm} {a : Arm} {P : ℕ �
     Bounds kind own side arms P c →
     ((v : Value) → counts_for own a ≡ true → a.next ≡ Outside v
     → is_of kind (value_code side v) ≡ true → ⊥) → Bounds kind own side (a ∷ arms) P c
-stays {kind} {own} h none = record {
+stays {own = own} h none = record {
   within = λ b i n v x k. elim i [
     | inl z ↦ absurd (none v (ap (counts_for own) z ∙ n) (ap (λ (y : Arm). y.next) z ∙ x) k)
     | inr j ↦ h.within b j n v x k

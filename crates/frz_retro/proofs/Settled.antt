@@ -32,9 +32,9 @@ pub record Rules (own : Bool) (f : Arm → ℕ) (arms : List Arm) (code : ℕ) :
 
 pub settled_by : {own : Bool} {f : Arm → ℕ} {arms : List Arm} {code c : ℕ} → Rules own f arms code →
     IsSettled own f arms c → code ≡ c
-settled_by {own} {f} {arms} {code} {c} r (inl d) =
+settled_by r (inl d) =
     r.decided d.arm d.there d.counted d.kind d.least ∙ sym d.code
-settled_by {own} {f} {arms} {code} {c} r (inr e) = elim e.reached [
+settled_by {own} {f} {arms} r (inr e) = elim e.reached [
   | inl one ↦
       let uncounted : (a : Arm) → In a arms
       → counts_for own a ≡ false = λ a i. elim (cases_Bool (counts_for own a)) [

@@ -145,7 +145,7 @@ begun_state B side E C L begun few = record {
         (λ a _. waits_same own (λ _. false) (λ _. false) side [] E a
         (λ q _. (refl, λ t. absurd (false≢true t))))) in
         let due : is_of own (get_or L i 0) ≡ true → 4 ≤ get_or L i 0 = λ k.
-        let m = later_kind own own side (B.arena.arms i) (get_or L i 0) o.exits k in
+        let m = later_kind own o.exits k in
         let low = of_low own (value_code side m.1) m.5 in let e = m.6 in
         omega (arith, low, e) in
         record {

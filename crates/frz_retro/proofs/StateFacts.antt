@@ -54,12 +54,12 @@ settled_stays own f g arms c h (inr d) =
     })
 
 -- An open number stays so where nothing changes at what its arms lead to.
-pub open_stays : (own : Bool) (side : Colour) (arms : List Arm) (d e : ℕ → Bool) (bar : ℕ)
-    (E F : List ℕ) (count later : ℕ) →
+pub open_stays : {own : Bool} {side : Colour} {arms : List Arm} {d : ℕ → Bool} {bar : ℕ}
+    {E : List ℕ} {count later : ℕ} (e : ℕ → Bool) (F : List ℕ) →
     ((a : Arm) → In a arms → (q : ℕ) → a.next ≡ Inside q → (e q ≡ d q)
-    × (d q ≡ true → get_or F q 0 ≡ get_or E q 0)) → IsOpen own side arms d bar E count later
-    → IsOpen own side arms e bar F count later
-open_stays own side arms d e bar E F count later h o = record {
+    × (d q ≡ true → get_or F q 0 ≡ get_or E q 0)) → IsOpen own side arms d bar E count later →
+    IsOpen own side arms e bar F count later
+open_stays {own} {side} {arms} {d} {bar} {E} e F h o = record {
   counter =
       o.counter
       ∙ sym (count_same (waits own d side E) (waits own e side F) arms
@@ -88,12 +88,12 @@ new_code side E i code c (Inside q) l o h = elim (cases_eq q i) [
 ]
 
 -- One open number settles with plies k.
-pub settle_keeps : (B : Shape) (side : Colour) (k : ℕ) (bar : ℕ → ℕ) (done : ℕ → ℕ → Bool)
-    (E C L : List ℕ) (i : ℕ) (c : Colour) (code : ℕ) → State B side k bar done E C L → i < B.size →
+pub settle_keeps : {B : Shape} {side : Colour} {k : ℕ} {bar : ℕ → ℕ} {done : ℕ → ℕ → Bool}
+    {E C L : List ℕ} (i : ℕ) (c : Colour) (code : ℕ) → State B side k bar done E C L → i < B.size →
     i < length E → B.arena.node i ≡ Going c → get_or E i 0 ≡ 1 → 2 + 2 * k ≤ code →
     code < 4 + 2 * k → IsSettled (same_colour c side) (arm_code side E) (B.arena.arms i) code →
     State B side k bar done (set E i code) C L
-settle_keeps B side k bar done E C L i c code s in_size in_list node one least most h =
+settle_keeps {B} {side} {k} {bar} {done} {E} i c code s in_size in_list node one least most h =
     let F = set E i code in
     let at : get_or F i 0 ≡ code = get_or-set_same E i code 0 in_list in
     let else_ : (j : ℕ) → j ≢ i → get_or F j 0 ≡ get_or E j 0 = λ j n. get_or-set_other E i j code 0
@@ -132,8 +132,7 @@ settle_keeps B side k bar done E C L i c code s in_size in_list node one least m
       going = λ j d l n x. elim (cases j) [
         | inl w ↦ let y = w.1 in absurd (omega (arith, y, x, least))
         | inr w ↦
-            open_stays (same_colour d side) side (B.arena.arms j) (done j) (done j) (bar j) E F
-            (get_or C j 0) (get_or L j 0)
+            open_stays (done j) F
             (λ a _ q _. (
               refl,
               λ t. elim (cases q) [
@@ -161,35 +160,36 @@ settle_keeps B side k bar done E C L i c code s in_size in_list node one least m
     same_going e = cc
 
 -- where done changes only at pairs that no arm is
-pub done_same : (B : Shape) (side : Colour) (k : ℕ) (bar : ℕ → ℕ) (done more : ℕ → ℕ → Bool)
-    (E C L : List ℕ) → State B side k bar done E C L →
+pub done_same : {B : Shape} {side : Colour} {k : ℕ} {bar : ℕ → ℕ} {done more : ℕ → ℕ → Bool}
+    {E C L : List ℕ} → State B side k bar done E C L →
     ((i : ℕ) (a : Arm) (q : ℕ) → i < B.size → In a (B.arena.arms i) → a.next ≡ Inside q
-    → more i q ≡ done i q)
-    → ((i q : ℕ) → more i q ≡ true → (2 ≤ get_or E q 0) × (get_or E q 0 < 2 + 2 * k))
-    → ((i q : ℕ) → more i q ≡ false → 2 ≤ get_or E q 0 → 2 * k ≤ get_or E q 0)
-    → State B side k bar more E C L
-done_same B side k bar done more E C L s h low high = record {
+    → more i q ≡ done i q) →
+    ((i q : ℕ) → more i q ≡ true → (2 ≤ get_or E q 0) × (get_or E q 0 < 2 + 2 * k)) →
+    ((i q : ℕ) → more i q ≡ false → 2 ≤ get_or E q 0 → 2 * k ≤ get_or E q 0) →
+    State B side k bar more E C L
+done_same {more = more} {E = E} s h low high = record {
   ends = s.ends;
   settled = s.settled;
   going =
-      λ i c l n x. open_stays (same_colour c side) side (B.arena.arms i) (done i) (more i)
-      (bar i) E E (get_or C i 0) (get_or L i 0) (λ a j q y. (h i a q l j y, λ _. refl))
-      (s.going i c l n x);
+      λ i c l n x.
+      open_stays (more i) E (λ a j q y. (h i a q l j y, λ _. refl)) (s.going i c l n x);
   low = low;
   high = high;
   most = s.most;
 }
 
 -- the number i has met q
-pub meet_keeps : (B : Shape) (side : Colour) (k : ℕ) (bar : ℕ → ℕ) (done more : ℕ → ℕ → Bool)
-    (E C D L : List ℕ) (i q : ℕ) → State B side k bar done E C L →
+pub meet_keeps : {B : Shape} {side : Colour} {k : ℕ} {bar : ℕ → ℕ} {done more : ℕ → ℕ → Bool}
+    {E C D L : List ℕ} (i q : ℕ) → State B side k bar done E C L →
     ((j p : ℕ) → j ≢ i → more j p ≡ done j p) → ((p : ℕ) → p ≢ q → more i p ≡ done i p) →
     more i q ≡ true → 2 ≤ get_or E q 0 → get_or E q 0 < 2 + 2 * k →
     ((j : ℕ) → j ≢ i → get_or D j 0 ≡ get_or C j 0) →
     ((c : Colour) → i < B.size → B.arena.node i ≡ Going c → get_or E i 0 ≡ 1
     → IsOpen (same_colour c side) side (B.arena.arms i) (more i) (bar i) E (get_or D i 0)
-    (get_or L i 0)) → State B side k bar more E D L
-meet_keeps B side k bar done more E C D L i q s other one now two few counts new =
+    (get_or L i 0)) →
+    State B side k bar more E D L
+meet_keeps {B} {side} {k} {bar} {done} {more} {E} {C} {D} {L} i q s other one now two few
+    counts new =
     let cases : (j p : ℕ) → (more j p ≡ done j p) ⊎ ((j ≡ i) × (p ≡ q)) =
     λ j p. elim (cases_eq j i) [
       | inl e ↦ elim (cases_eq p q) [
@@ -212,8 +212,7 @@ meet_keeps B side k bar done more E C D L i q s other one now two few counts new
             let P : ℕ → Type 0 = λ y. IsOpen (same_colour c side) side (B.arena.arms j) (more j)
             (bar j) E y (get_or L j 0) in
             subst P (sym (counts j n'))
-            (open_stays (same_colour c side) side (B.arena.arms j) (done j) (more j) (bar j) E E
-            (get_or C j 0) (get_or L j 0) (λ a _ p _. (other j p n', λ _. refl))
+            (open_stays (more j) E (λ a _ p _. (other j p n', λ _. refl))
             (s.going j c l n x))
       ];
       low = λ j p t. elim (cases j p) [
@@ -231,12 +230,12 @@ meet_keeps B side k bar done more E C D L i q s other one now two few counts new
     }
 
 -- the due pass of a number is later
-pub bar_keeps : (B : Shape) (side : Colour) (k : ℕ) (bar higher : ℕ → ℕ) (done : ℕ → ℕ → Bool)
-    (E C L : List ℕ) → State B side k bar done E C L →
+pub bar_keeps : {B : Shape} {side : Colour} {k : ℕ} {bar higher : ℕ → ℕ} {done : ℕ → ℕ → Bool}
+    {E C L : List ℕ} → State B side k bar done E C L →
     ((i : ℕ) (c : Colour) → i < B.size → B.arena.node i ≡ Going c → get_or E i 0 ≡ 1
     → (is_of (same_colour c side) (get_or L i 0) ≡ true) ⊎ (get_or C i 0 ≡ 0) → bar i ≤ get_or L i 0
     → higher i ≤ get_or L i 0) → State B side k higher done E C L
-bar_keeps B side k bar higher done E C L s h = record {
+bar_keeps s h = record {
   ends = s.ends;
   settled = s.settled;
   going = λ i c l n x. let o = s.going i c l n x in record {
@@ -252,11 +251,11 @@ bar_keeps B side k bar higher done E C L s h = record {
 }
 
 -- the next pass
-pub pass_keeps : (B : Shape) (side : Colour) (k : ℕ) (bar : ℕ → ℕ) (done : ℕ → ℕ → Bool)
-    (E C L : List ℕ) → State B side k bar done E C L →
+pub pass_keeps : {B : Shape} {side : Colour} {k : ℕ} {bar : ℕ → ℕ} {done : ℕ → ℕ → Bool}
+    {E C L : List ℕ} → State B side k bar done E C L →
     ((i q : ℕ) → done i q ≡ false → 2 ≤ get_or E q 0 → 2 + 2 * k ≤ get_or E q 0) →
     State B side (k + 1) bar done E C L
-pass_keeps B side k bar done E C L s h = record {
+pass_keeps s h = record {
   ends = s.ends;
   settled = s.settled;
   going = s.going;

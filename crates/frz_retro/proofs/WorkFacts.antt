@@ -28,9 +28,10 @@ within E i h =
     [ inl l ↦ l | inr l ↦ let z = get_or_past E i 0 l in absurd (omega (arith, z, h)) ]
 
 -- one open number settles
-pub queue_keeps : (k mid : ℕ) (E Q : List ℕ) (tail i c : ℕ) → Queue k mid E Q tail → mid ≤ tail →
-    get_or E i 0 ≡ 1 → 2 + 2 * k ≤ c → Queue k mid (set E i c) (set Q tail i) (tail + 1)
-queue_keeps k mid E Q tail i c u m one long =
+pub queue_keeps : {k mid : ℕ} {E Q : List ℕ} {tail : ℕ} (i c : ℕ) → Queue k mid E Q tail →
+    mid ≤ tail → get_or E i 0 ≡ 1 → 2 + 2 * k ≤ c →
+    Queue k mid (set E i c) (set Q tail i) (tail + 1)
+queue_keeps {k} {mid} {E} {Q} {tail} i c u m one long =
     let F = set E i c in
     let R = set Q tail i in
     let fewer = ones_set E i c one (λ e. omega (arith, e, long)) in
@@ -109,17 +110,16 @@ sized_keeps {E = E} {Q = Q} i c t s =
     }
 
 -- a number of the graph settles
-pub work_settles : (B : Shape) (side : Colour) (k mid : ℕ) (bar : ℕ → ℕ) (done : ℕ → ℕ → Bool)
-    (E C L Q : List ℕ) (tail i : ℕ) (c : Colour) (code : ℕ) →
+pub work_settles : {B : Shape} {side : Colour} {k mid : ℕ} {bar : ℕ → ℕ} {done : ℕ → ℕ → Bool}
+    {E C L Q : List ℕ} {tail : ℕ} (i : ℕ) (c : Colour) (code : ℕ) →
     Work B side k mid bar done E C L Q tail → i < B.size → B.arena.node i ≡ Going c →
-    get_or E i 0 ≡ 1 → 2 + 2 * k ≤ code → code < 4 + 2 * k → IsSettled (same_colour c side)
-    (arm_code side E) (B.arena.arms i) code →
+    get_or E i 0 ≡ 1 → 2 + 2 * k ≤ code → code < 4 + 2 * k →
+    IsSettled (same_colour c side) (arm_code side E) (B.arena.arms i) code →
     Work B side k mid bar done (set E i code) C L (set Q tail i) (tail + 1)
-work_settles B side k mid bar done E C L Q tail i c code w in_size node one least most h = record {
+work_settles {E = E} {tail = tail} i c code w in_size node one least most h = record {
   state =
-      settle_keeps B side k bar done E C L i c code w.state in_size
-      (within E i (omega (arith, one))) node one least most h;
-  queue = queue_keeps k mid E Q tail i code w.queue w.within one least;
+      settle_keeps i c code w.state in_size (within E i (omega (arith, one))) node one least most h;
+  queue = queue_keeps i code w.queue w.within one least;
   sized = sized_keeps i code tail w.sized;
   passes = w.passes;
   within = let y = w.within in omega (arith, y);
@@ -146,12 +146,12 @@ work_by w s long = record {
 }
 
 -- other facts on what is done
-pub work_done : (B : Shape) (side : Colour) (k mid : ℕ) (bar : ℕ → ℕ) (done more : ℕ → ℕ → Bool)
-    (E C L Q : List ℕ) (tail : ℕ) → Work B side k mid bar done E C L Q tail →
+pub work_done : {B : Shape} {side : Colour} {k mid : ℕ} {bar : ℕ → ℕ} {done more : ℕ → ℕ → Bool}
+    {E C L Q : List ℕ} {tail : ℕ} → Work B side k mid bar done E C L Q tail →
     ((i q : ℕ) → more i q ≡ done i q) → Work B side k mid bar more E C L Q tail
-work_done B side k mid bar done more E C L Q tail w h =
+work_done w h =
     work_by w
-    (done_same B side k bar done more E C L w.state (λ i a q _ _ _. h i q)
+    (done_same w.state (λ i a q _ _ _. h i q)
     (λ i q t. w.state.low i q (sym (h i q) ∙ t)) (λ i q t. w.state.high i q (sym (h i q) ∙ t))) refl
 
 pub bar_of : (k s i : ℕ) → i < s → bar_at k s i ≡ 4 + 2 * k

@@ -33,10 +33,12 @@ returns-in-Mate-clause-begun g c =
 -- what the number's arms say
 said : (g : Over) (c : After-start_of-start g) →
     c.start_of-start.result
-    ≡ start_of c.is_same.result c.args.side ((g.G.NumberedGame.arena c.args.graph.now).arms c.args.i)
+    ≡ start_of c.is_same.result c.args.side
+    ((g.G.NumberedGame.arena c.args.graph.now).arms c.args.i)
 said g c =
     c.start_of-start.ensures.value
-    ∙ ap (start_of c.is_same.result c.args.side) (c.as_slice.ensures.value ∙ c.nexts_by.ensures.arms)
+    ∙ ap (start_of c.is_same.result c.args.side)
+    (c.as_slice.ensures.value ∙ c.nexts_by.ensures.arms)
 
 pub returns-then-start-clause-begun : goal.returns-then-start-clause-begun
 returns-then-start-clause-begun g c =

@@ -1,9 +1,8 @@
 use Rattle.std.proofs.Common.{◌+◌, drop, refl, sym, ◌∙◌, subst, arith}
 use Rattle.std.proofs.lemmas.List.{drop_all}
 use Rattle.frz_unmove.specs.declared.preds.Pred.{Pred}
-use Rattle.frz_retro.specs.Shape.{shape_of}
 use Rattle.frz_retro.specs.Tallies.{InPass, IsMeeting}
-use Rattle.frz_retro.specs.Work.{Meets, bar_at, done_mid}
+use Rattle.frz_retro.specs.Work.{Meets, done_mid}
 use Rattle.frz_retro.proofs.Pairs.{through_begins, through_at, through_more, through_ends}
 use Rattle.frz_retro.proofs.Tallies.{grows_on}
 use Rattle.frz_retro.proofs.meeting.go_through.Goals as goal
@@ -11,9 +10,7 @@ use Rattle.frz_retro.proofs.meeting.go_through.Goals as goal
 pub loop-pred-init : goal.loop-pred-init
 loop-pred-init g c = let t = c.args.tally.now in record {
   kept =
-      λ k mid done m. through_begins
-      (shape_of (g.G.NumberedGame.arena c.args.graph.now) (g.G.NumberedGame.count c.args.graph.now))
-      c.args.side k mid done t.codes t.counts t.later t.queue t.tail c.args.q c.args.preds.now m;
+      λ k mid done m. through_begins m;
   settled = λ r h. refl;
   queue = (refl, omega arith, λ j l. refl);
 }
@@ -58,10 +55,7 @@ loop-pred-preserved g c = record {
 pub returns-clause-kept : goal.returns-clause-kept
 returns-clause-kept g c k mid done more m h =
     let t = c.loop-pred.tally in
-    through_ends (shape_of (g.G.NumberedGame.arena c.args.graph.now)
-    (g.G.NumberedGame.count c.args.graph.now)) c.args.side k mid
-    (bar_at k (g.G.NumberedGame.count c.args.graph.now)) done more t.codes t.counts t.later t.queue
-    t.tail c.args.q
+    through_ends done c.args.q
     (subst (λ xs. InPass (g.G.NumberedGame.arena c.args.graph.now)
     (g.G.NumberedGame.count c.args.graph.now) c.args.side k
     (g.G.NumberedGame.count c.args.graph.now) mid (done_mid done c.args.q xs) t)

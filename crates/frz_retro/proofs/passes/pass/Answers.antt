@@ -1,7 +1,6 @@
 use Rattle.std.proofs.Common.{◌≡◌, ◌<◌, ◌||◌, ◌==◌, refl, subst, arith}
-use Rattle.frz_retro.specs.Shape.{shape_of}
 use Rattle.frz_retro.specs.Tallies.{AreComing, InPass}
-use Rattle.frz_retro.specs.Work.{bar_at, done_by, done_in}
+use Rattle.frz_retro.specs.Work.{done_by, done_in}
 use Rattle.frz_retro.proofs.Laws.{are_preds}
 use Rattle.frz_retro.proofs.WorkFacts.{work_done}
 use Rattle.frz_retro.proofs.QueueFront.{done_by_same, coming_from, came}
@@ -16,10 +15,7 @@ loop-at-init g c =
     let u = c.settle_late.new.tally in
     record {
       kept =
-          work_done (shape_of (g.G.NumberedGame.arena c.args.graph.now)
-          (g.G.NumberedGame.count c.args.graph.now)) c.args.side c.args.k t.tail
-          (bar_at c.args.k (g.G.NumberedGame.count c.args.graph.now)) (done_in t.queue c.args.head)
-          (done_in u.queue c.args.head) u.codes u.counts u.later u.queue u.tail
+          work_done
           (c.settle_late.ensures.kept t.tail (done_in t.queue c.args.head) c.requires.work)
           (λ i q. done_by_same t.queue u.queue c.args.head q
           (λ j l. let h = c.requires.head in c.settle_late.ensures.queue.2 j

@@ -1,5 +1,4 @@
 use Rattle.std.proofs.Common.{◌+◌, get_or, List, ℕ, sym, ◌∙◌, ap, refl, subst, arith}
-use Rattle.frz_retro.specs.Shape.{shape_of}
 use Rattle.frz_retro.specs.Tallies.{InPass}
 use Rattle.frz_retro.specs.Work.{done_in}
 use Rattle.frz_retro.proofs.PassToPass.{first_work, pass_begins, all_local, few_passes}
@@ -9,8 +8,7 @@ use Rattle.frz_retro.proofs.passes.passes.Goals.{then-head-tail, else-head-tail+
 pub passes-init : goal.passes-init
 passes-init g c = let t = c.args.tally.now in record {
   kept =
-      first_work (shape_of (g.G.NumberedGame.arena c.args.graph.now)
-      (g.G.NumberedGame.count c.args.graph.now)) c.args.side t.codes t.counts t.later t.queue t.tail
+      first_work
       c.requires.begun;
   tail = c.tail-tail.ensures;
   exits = refl;
@@ -26,9 +24,7 @@ pass-requires-clause-work g c =
     let f = few_passes w in
     let small = (g.met.G.NumberedGame.finite c.args.graph.now c.requires.sound).few in
     let early = c.passes.invariant.early in
-    pass_begins (shape_of (g.G.NumberedGame.arena c.args.graph.now)
-    (g.G.NumberedGame.count c.args.graph.now)) c.args.side c.passes.k c.passes.head t.codes t.counts
-    t.later t.queue t.tail w (omega (arith, f.0, f.1, small, early))
+    pass_begins c.passes.head w (omega (arith, f.0, f.1, small, early))
 
 pub pass-requires-clause-last : goal.pass-requires-clause-last
 pass-requires-clause-last g c i l =
@@ -70,9 +66,7 @@ returns-clause-exact g c =
     record {
       many = w.sized.codes;
       local =
-          all_local (shape_of (g.G.NumberedGame.arena c.args.graph.now)
-          (g.G.NumberedGame.count c.args.graph.now)) c.args.side c.passes.k c.passes.head
-          c.passes.head t.codes t.counts t.later t.queue t.tail
+          all_local c.passes.head
           (c.local_codes.ensures (g.G.NumberedGame.arena c.args.graph.now)
           (g.G.NumberedGame.count c.args.graph.now)
           (g.met.G.NumberedGame.finite c.args.graph.now c.requires.sound) c.args.side t.codes) w
