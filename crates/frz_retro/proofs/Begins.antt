@@ -182,10 +182,10 @@ ones_le (x ∷ E) = let h = ones_le E in let o = one_le (eqb x 1) in omega (arit
     one_le false = omega arith
 
 -- before the first number begins
-pub begun_none : (B : Shape) (side : Colour) (E C L Q : List ℕ) → Sized B.size E C L Q →
+pub begun_none : {B : Shape} {side : Colour} {E C L Q : List ℕ} → Sized B.size E C L Q →
     ((i : ℕ) → i < B.size → get_or E i 0 ≡ 1) → ((i : ℕ) → i < B.size → get_or L i 0 ≡ 0) →
     Begun B side 0 E C L Q 0
-begun_none B side E C L Q s e l =
+begun_none {E = E} s e l =
     let le = s.codes in let lq = s.queue in
     let few : (q : ℕ) → get_or E q 0 < 2 = λ q. elim (cases_lt q (length E)) [
       | inl h ↦ let y = e q (omega (arith, h, le)) in omega (arith, y)

@@ -180,8 +180,8 @@ module _ {B : Shape} {side : Colour} {k mid : ℕ} {done : ℕ → ℕ → Bool}
         let some = meet_waits in let e = left in
         meets_open less t others (length-set C p.number (get_or C p.number 0 - 1)) (λ one.
         met_open (more p.number) k m.leads.arm q (opened one) (told.graph.apart p.number)
-        m.leads.there (counts_as true w.counts) m.leads.inside t.same other m.before t.now late (bar_within k B.size p.number).1
-        (get_or less p.number 0) (omega (arith, some, e)) later)
+        m.leads.there (counts_as true w.counts) m.leads.inside t.same other m.before t.now late
+        (bar_within k B.size p.number).1 (get_or less p.number 0) (omega (arith, some, e)) later)
 
     pub meet_last : {more : ℕ → ℕ → Bool} → Meets done more p.number q →
         get_or less p.number 0 ≤ 0 → get_or L p.number 0 ≤ get_or E q 0 + 2 →
@@ -195,6 +195,6 @@ module _ {B : Shape} {side : Colour} {k mid : ℕ} {done : ℕ → ℕ → Bool}
           | inr s ↦ (m.work.state.low p.number r (sym (t.same r s) ∙ x)).1
         ] in
         settles less t others (length-set C p.number (get_or C p.number 0 - 1)) w.open_
-        (inr (exhausted_by (more p.number) k m.leads.arm q
-        (opened w.open_) (told.graph.apart p.number) m.leads.there (counts_as true w.counts)
-        m.leads.inside t.same other m.before t.now low late (omega (arith, some, e, zero)) short))
+        (inr (exhausted_by (more p.number) k m.leads.arm q (opened w.open_)
+        (told.graph.apart p.number) m.leads.there (counts_as true w.counts) m.leads.inside t.same
+        other m.before t.now low late (omega (arith, some, e, zero)) short))

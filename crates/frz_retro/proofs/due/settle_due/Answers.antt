@@ -1,5 +1,4 @@
-use Rattle.std.proofs.Common.{◌≡◌, arith, subst}
-use Rattle.frz_retro.specs.Tallies.{LooksAt}
+use Rattle.std.proofs.Common.{◌≡◌, arith}
 use Rattle.frz_retro.proofs.Tallies.{grows_on}
 use Rattle.frz_retro.proofs.due.settle_due.Goals as goal
 
@@ -21,6 +20,4 @@ returns-clause-kept g c =
     let e : c.loop-i.i ≡ g.G.NumberedGame.count c.args.graph.now =
     let a = c.size-i-end.ensures in let b = c.loop-i.auto.i-end in let d = c.loop-i-test.false in
     omega (arith, a, b, d) in
-    subst (λ n. LooksAt (g.G.NumberedGame.arena c.args.graph.now)
-    (g.G.NumberedGame.count c.args.graph.now) c.args.side c.args.k 0 n c.args.tally.now
-    c.loop-i.tally) e c.loop-i.invariant.kept
+    rw e at c.loop-i.invariant.kept

@@ -1,16 +1,13 @@
-use Rattle.std.proofs.Common.{◌+◌, drop, refl, sym, ◌∙◌, subst, arith}
+use Rattle.std.proofs.Common.{◌+◌, drop, refl, ◌∙◌, arith}
 use Rattle.std.proofs.lemmas.List.{drop_all}
-use Rattle.frz_unmove.specs.declared.preds.Pred.{Pred}
-use Rattle.frz_retro.specs.Tallies.{InPass, IsMeeting}
-use Rattle.frz_retro.specs.Work.{Meets, done_mid}
+use Rattle.frz_retro.specs.Work.{done_mid}
 use Rattle.frz_retro.proofs.Pairs.{through_begins, through_at, through_more, through_ends}
 use Rattle.frz_retro.proofs.Tallies.{grows_on}
 use Rattle.frz_retro.proofs.meeting.go_through.Goals as goal
 
 pub loop-pred-init : goal.loop-pred-init
 loop-pred-init g c = let t = c.args.tally.now in record {
-  kept =
-      λ k mid done m. through_begins m;
+  kept = λ k mid done m. through_begins m;
   settled = λ r h. refl;
   queue = (refl, omega arith, λ j l. refl);
 }
@@ -22,10 +19,7 @@ meet-requires-clause-meeting g c =
       r.0,
       r.1,
       done,
-      subst (IsMeeting (g.G.NumberedGame.arena c.args.graph.now)
-          (g.G.NumberedGame.count c.args.graph.now) c.args.side r.0 r.1 done c.loop-pred.tally
-          c.args.q)
-          (sym c.pred-item.is)
+      rw c.pred-item.is
           (through_at c.loop-pred.pred-index c.pred-item.result r.3 c.loop-pred-test.true
           (c.loop-pred.invariant.settled c.args.q r.3.settled)
           (c.loop-pred.invariant.kept r.0 r.1 r.2 r.3)),
@@ -37,12 +31,10 @@ loop-pred-preserved g c = record {
       let before = done_mid done c.args.q (drop c.loop-pred.pred-index c.args.preds.now) in
       let after = done_mid done c.args.q (drop (c.loop-pred.pred-index + 1) c.args.preds.now) in
       c.meet.ensures.kept k mid before after
-      (subst (IsMeeting (g.G.NumberedGame.arena c.args.graph.now)
-      (g.G.NumberedGame.count c.args.graph.now) c.args.side k mid before c.loop-pred.tally c.args.q)
-      (sym c.pred-item.is)
+      (rw c.pred-item.is
       (through_at c.loop-pred.pred-index c.pred-item.result m c.loop-pred-test.true
       (c.loop-pred.invariant.settled c.args.q m.settled) (c.loop-pred.invariant.kept k mid done m)))
-      (subst (λ (p : Pred). Meets before after p.number c.args.q) (sym c.pred-item.is)
+      (rw c.pred-item.is
       (through_more c.loop-pred.pred-index c.pred-item.result m c.loop-pred-test.true));
   settled =
       λ r h. let e =
@@ -54,10 +46,6 @@ loop-pred-preserved g c = record {
 
 pub returns-clause-kept : goal.returns-clause-kept
 returns-clause-kept g c k mid done more m h =
-    let t = c.loop-pred.tally in
     through_ends done c.args.q
-    (subst (λ xs. InPass (g.G.NumberedGame.arena c.args.graph.now)
-    (g.G.NumberedGame.count c.args.graph.now) c.args.side k
-    (g.G.NumberedGame.count c.args.graph.now) mid (done_mid done c.args.q xs) t)
-    (drop_all c.loop-pred.pred-index c.args.preds.now c.loop-pred-test.false)
-    (c.loop-pred.invariant.kept k mid done m)) h
+    (rw (drop_all c.loop-pred.pred-index c.args.preds.now c.loop-pred-test.false)
+    at (c.loop-pred.invariant.kept k mid done m)) h

@@ -1,5 +1,5 @@
-use Rattle.std.proofs.Common.{◌≡◌, ◌<◌, ◌||◌, ◌==◌, refl, subst, arith}
-use Rattle.frz_retro.specs.Tallies.{AreComing, InPass}
+use Rattle.std.proofs.Common.{◌≡◌, ◌<◌, ◌||◌, ◌==◌, refl, arith}
+use Rattle.frz_retro.specs.Tallies.{AreComing}
 use Rattle.frz_retro.specs.Work.{done_by, done_in}
 use Rattle.frz_retro.proofs.Laws.{are_preds}
 use Rattle.frz_retro.proofs.WorkFacts.{work_done}
@@ -69,7 +69,4 @@ returns-clause-kept g c =
     let e : c.loop-at.at ≡ c.args.tally.now.tail = let h = c.requires.head in
     let t = c.tail-end.ensures in let a = c.loop-at.auto.at-end in
     let b = c.loop-at-test.false in omega (arith, h, t, a, b) in
-    subst (λ n. InPass (g.G.NumberedGame.arena c.args.graph.now)
-    (g.G.NumberedGame.count c.args.graph.now) c.args.side c.args.k
-    (g.G.NumberedGame.count c.args.graph.now) c.args.tally.now.tail
-    (done_in c.loop-at.tally.queue n) c.loop-at.tally) e c.loop-at.invariant.kept
+    rw e at c.loop-at.invariant.kept

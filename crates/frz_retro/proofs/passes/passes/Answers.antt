@@ -1,15 +1,11 @@
-use Rattle.std.proofs.Common.{◌+◌, get_or, List, ℕ, sym, ◌∙◌, ap, refl, subst, arith}
-use Rattle.frz_retro.specs.Tallies.{InPass}
-use Rattle.frz_retro.specs.Work.{done_in}
+use Rattle.std.proofs.Common.{get_or, List, ℕ, ◌∙◌, ap, refl, arith}
 use Rattle.frz_retro.proofs.PassToPass.{first_work, pass_begins, all_local, few_passes}
 use Rattle.frz_retro.proofs.passes.passes.Goals as goal
 use Rattle.frz_retro.proofs.passes.passes.Goals.{then-head-tail, else-head-tail+then-k-last}
 
 pub passes-init : goal.passes-init
 passes-init g c = let t = c.args.tally.now in record {
-  kept =
-      first_work
-      c.requires.begun;
+  kept = first_work c.requires.begun;
   tail = c.tail-tail.ensures;
   exits = refl;
   early = omega arith;
@@ -39,11 +35,7 @@ passes-preserved g c =
     let f = few_passes i.kept in
     let cost = c.pass.ensures.cost in
     record {
-      kept =
-          subst (λ n. InPass (g.G.NumberedGame.arena c.args.graph.now)
-          (g.G.NumberedGame.count c.args.graph.now) c.args.side (c.passes.k + 1)
-          (g.G.NumberedGame.count c.args.graph.now) n (done_in c.pass.new.tally.queue n)
-          c.pass.new.tally) (sym e) c.pass.ensures.kept;
+      kept = rw e c.pass.ensures.kept;
       tail = c.tail-tail-in-passes.ensures;
       exits = c.pass.ensures.exits ∙ i.exits;
       early =
