@@ -8,7 +8,7 @@ use Rattle.frz_retro.specs.Work.{ones, Queue, Sized, Begun}
 use Rattle.frz_retro.specs.Beginning.{IsBegun, Opens, start_of, later_of}
 use Rattle.frz_board.specs.declared.man.Colour.{Colour}
 use Rattle.frz_arena.specs.declared.node.Node.TheVariants.{Broken, Mate, Going}
-use Rattle.frz_retro.proofs.WorkFacts.{ones_set, within, queue_keeps, room_for, sized_keeps}
+use Rattle.frz_retro.proofs.WorkFacts.{ones_set, read_back, queue_keeps, room_for, sized_keeps}
 use Rattle.frz_retro.proofs.Starts.{opens_from, fails_from}
 
 -- an open number breaks
@@ -16,9 +16,8 @@ queue_breaks : {k mid : ℕ} {E Q : List ℕ} {tail : ℕ} (i : ℕ) → Queue k
     get_or E i 0 ≡ 1 → Queue k mid (set E i 0) Q tail
 queue_breaks {E = E} {Q = Q} i u m one =
     let F = set E i 0 in
-    let in_list = within E i (omega (arith, one)) in
     let fewer = ones_set E i 0 one (λ e. omega (arith, e)) in
-    let at : get_or F i 0 ≡ 0 = get_or-set_same E i 0 0 in_list in
+    let at : get_or F i 0 ≡ 0 = read_back E i 0 (omega (arith, one)) in
     let stays : (q : ℕ) → 2 ≤ get_or E q 0
     → get_or F q 0 ≡ get_or E q 0 =
     λ q h. get_or-set_other E i q 0 0
@@ -95,7 +94,7 @@ module _ {B : Shape} {side : Colour} {E C L Q : List ℕ} {tail : ℕ} (n : ℕ)
   other xs x j h = get_or-set_other xs n j x 0 h
 
   at_code : (x : ℕ) → get_or (set E n x) n 0 ≡ x
-  at_code x = get_or-set_same E n x 0 (within E n (omega (arith, is_one)))
+  at_code x = read_back E n x (omega (arith, is_one))
 
   pub begins_broken : B.arena.node n ≡ Broken → Begun B side (n + 1) (set E n 0) C L Q tail
   begins_broken e = begins (set E n 0) C L Q tail (other E 0) (λ _ _. refl) (λ _ _. refl)

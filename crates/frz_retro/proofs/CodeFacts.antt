@@ -1,6 +1,6 @@
 -- Wins and failures among the codes.
-use Rattle.std.proofs.Common.{◌≡◌, ℕ, ◌+◌, ◌*◌, ◌%◌, ◌<◌, ◌≤◌, ◌⊎◌, Bool, true, false, not, ◌==◌, nat_lt, inl, inr, arith, eqb-true, ltb-true}
-use Rattle.std.proofs.lemmas.Bool.{and_parts, and_from, lt-ltb, eq-eqb, false_from_ne_true, cases_eq}
+use Rattle.std.proofs.Common.{◌≡◌, ℕ, ◌+◌, ◌*◌, ◌%◌, ◌<◌, ◌≤◌, ◌⊎◌, Bool, true, false, not, ◌==◌, nat_lt, sym, ◌∙◌, inl, inr, arith, eqb-true, ltb-true}
+use Rattle.std.proofs.lemmas.Bool.{and_parts, and_from, lt-ltb, eq-eqb, false_from_ne_true, cases_eq, true≢false}
 use Rattle.frz_arena.specs.Codes.{is_win, is_failure}
 use Rattle.frz_retro.specs.Kinds.{is_of}
 
@@ -46,6 +46,10 @@ parity c = elim (cases_eq (c % 2) 0) [ inl e ↦ inl e | inr n ↦ inr (omega (a
 pub of_some : (w : Bool) (c : ℕ) → 2 ≤ c → (is_of w c ≡ true) ⊎ (is_of (not w) c ≡ true)
 of_some true c h = elim (parity c) [ inl e ↦ inl (of_even c h e) | inr e ↦ inr (of_odd c h e) ]
 of_some false c h = elim (parity c) [ inl e ↦ inr (of_even c h e) | inr e ↦ inl (of_odd c h e) ]
+
+pub of_other : (w : Bool) (c : ℕ) → 2 ≤ c → is_of w c ≡ false → is_of (not w) c ≡ true
+of_other w c h e =
+    elim (of_some w c h) [ inl t ↦ absurd (true≢false (sym t ∙ e)) | inr t ↦ t ]
 
 -- the same after two plies
 pub of_more : (w : Bool) (c : ℕ) → is_of w c ≡ true → is_of w (c + 2) ≡ true

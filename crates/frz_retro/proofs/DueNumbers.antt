@@ -7,7 +7,7 @@ use Rattle.frz_retro.specs.Shape.{Shape}
 use Rattle.frz_retro.specs.Work.{Work, bar_at}
 use Rattle.frz_board.specs.declared.man.Colour.{Colour}
 use Rattle.frz_arena.specs.declared.node.Node.TheVariants.{Going}
-use Rattle.frz_retro.proofs.CodeFacts.{of_some}
+use Rattle.frz_retro.proofs.CodeFacts.{of_other}
 use Rattle.frz_retro.proofs.PassToPass.{node_cases}
 use Rattle.frz_retro.proofs.DueSteps.{due_skips, due_settles}
 
@@ -59,9 +59,7 @@ module _ {B : Shape} {side : Colour} {k mid : ℕ} {done : ℕ → ℕ → Bool}
         Work B side k mid (bar_at k (i + 1)) done (set E i (get_or L i 0)) C L (set Q tail i)
         (tail + 1)
     due_last kind zero = let g = due_going due.inside due.least in
-        let other : is_of (not own) (get_or L i 0) ≡ true =
-        elim (of_some own (get_or L i 0) (let b = due.least in omega (arith, b)))
-        [ inl t ↦ absurd (true≢false (sym t ∙ kind)) | inr t ↦ t ] in
+        let other = of_other own (get_or L i 0) (let b = due.least in omega (arith, b)) kind in
         due_settles i g.0 w due.inside g.1 due.open_
         (let b = due.least in omega (arith, b)) (let h = due.most in omega (arith, h))
         (inr (

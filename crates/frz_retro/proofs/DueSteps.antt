@@ -1,5 +1,5 @@
 -- A number that is due in a pass, and one that is not.
-use Rattle.std.proofs.Common.{◌≡◌, ◌≢◌, ℕ, ◌+◌, ◌*◌, ◌<◌, ◌≤◌, ◌⊎◌, Bool, true, not, List, get_or, set, refl, sym, ◌∙◌, ap, subst, inl, inr, arith, get_or-set_same}
+use Rattle.std.proofs.Common.{◌≡◌, ◌≢◌, ℕ, ◌+◌, ◌*◌, ◌<◌, ◌≤◌, ◌⊎◌, Bool, true, not, List, get_or, set, refl, sym, ◌∙◌, ap, subst, inl, inr, arith}
 use Rattle.std.proofs.lemmas.Bool.{cases_eq, cases_lt}
 use Rattle.frz_board.specs.Men.{same_colour}
 use Rattle.frz_retro.specs.Kinds.{is_of}
@@ -10,7 +10,7 @@ use Rattle.frz_retro.specs.Work.{bar_at, Work}
 use Rattle.frz_board.specs.declared.man.Colour.{Colour}
 use Rattle.frz_arena.specs.declared.node.Node.TheVariants.{Going}
 use Rattle.frz_retro.proofs.StateFacts.{bar_keeps}
-use Rattle.frz_retro.proofs.WorkFacts.{bar_of, bar_past, bar_within, within, work_by, work_settles}
+use Rattle.frz_retro.proofs.WorkFacts.{bar_of, bar_past, bar_within, read_back, work_by, work_settles}
 use Rattle.frz_retro.proofs.Choices.{due_decided, due_exhausted}
 
 bar_more : (k i j : ℕ) → j ≢ i → bar_at k (i + 1) j ≡ bar_at k i j
@@ -60,8 +60,8 @@ due_settles {B} {side} {k} {mid} {done} {E} {C} {L} i c w l n one least most kin
       | inr y ↦ inr (due_exhausted k o (λ q t. (w.state.low i q t).1) y.1 y.0 least)
     ] in
     due_skips i (work_settles i c code w l n one least most settled)
-    (λ d m e. let in_list = within E i (omega (arith, one)) in
-    let y = get_or-set_same E i code 0 in_list in absurd (omega (arith, y, e, least)))
+    (λ d m e. let y = read_back E i code (omega (arith, one)) in
+    absurd (omega (arith, y, e, least)))
 
 -- a pass after the last due one
 pub due_over : {B : Shape} {side : Colour} {k mid : ℕ} {done : ℕ → ℕ → Bool} {E C L Q : List ℕ}

@@ -1,6 +1,6 @@
 -- What a meeting keeps of the lists: each way on from a pair.
-use Rattle.std.proofs.Common.{◌≡◌, ◌≢◌, ℕ, ◌+◌, ◌-◌, ◌*◌, ◌<◌, ◌≤◌, ◌==◌, Bool, true, false, not, ◌||◌, List, get_or, set, length, refl, sym, ◌∙◌, ap, subst, inl, inr, arith, get_or-set_same, get_or-set_other, length-set, Some}
-use Rattle.std.proofs.lemmas.Bool.{cases_eq, or_right, eq-eqb, ne_eqb, true≢false}
+use Rattle.std.proofs.Common.{◌≡◌, ◌≢◌, ℕ, ◌+◌, ◌-◌, ◌*◌, ◌<◌, ◌≤◌, ◌==◌, Bool, true, false, not, ◌||◌, List, get_or, set, length, refl, sym, ◌∙◌, ap, subst, inl, inr, arith, get_or-set_other, length-set, Some}
+use Rattle.std.proofs.lemmas.Bool.{cases_eq, or_right, eq-eqb, ne_eqb}
 use Rattle.frz_board.specs.Men.{same_colour}
 use Rattle.frz_graph.specs.EntryCodes.{arm_code}
 use Rattle.frz_retro.specs.Graphs.{Arm, mover_of}
@@ -11,11 +11,11 @@ use Rattle.frz_retro.specs.Work.{bar_at, Work, Meeting, Meets}
 use Rattle.frz_board.specs.declared.man.Colour.{Colour}
 use Rattle.frz_arena.specs.declared.node.Node.TheVariants.{Going}
 use Rattle.frz_unmove.specs.declared.preds.Pred.{Pred}
-use Rattle.frz_retro.proofs.CodeFacts.{of_some}
+use Rattle.frz_retro.proofs.CodeFacts.{of_other}
 use Rattle.frz_retro.proofs.Laws.{own_is}
 use Rattle.frz_retro.proofs.Pairs.{or_false}
 use Rattle.frz_retro.proofs.StateFacts.{meet_keeps}
-use Rattle.frz_retro.proofs.WorkFacts.{bar_within, within, work_by, work_settles, read_back}
+use Rattle.frz_retro.proofs.WorkFacts.{bar_within, work_by, work_settles, read_back}
 use Rattle.frz_retro.proofs.Choices.{decided_by}
 use Rattle.frz_retro.proofs.OpenNumbers.{exhausted_by, met_open, one_less, uncounted_open}
 
@@ -129,8 +129,8 @@ module _ {B : Shape} {side : Colour} {k mid : ℕ} {done : ℕ → ℕ → Bool}
       (subst (λ w. IsSettled w (arm_code side E) (B.arena.arms p.number) (get_or E q 0 + 2))
       (told.own_is going.0 going.1) d) in
       meets (meeting_stays (get_or E q 0 + 2) m one w) t D counts long (λ _ _ e.
-      let y = get_or-set_same E p.number (get_or E q 0 + 2) 0
-      (within E p.number (omega (arith, one))) in absurd (omega (arith, y, e)))
+      let y = read_back E p.number (get_or E q 0 + 2) (omega (arith, one)) in
+      absurd (omega (arith, y, e)))
 
   pub meet_uncounted : {more : ℕ → ℕ → Bool} → Meets done more p.number q → counted ≡ false →
       Work B side k mid (bar_at k B.size) more E C L Q tail
@@ -149,9 +149,7 @@ module _ {B : Shape} {side : Colour} {k mid : ℕ} {done : ℕ → ℕ → Bool}
 
   module _ (w : Waits own counted E p.number q) where
     other : is_of (not own) (get_or E q 0) ≡ true
-    other =
-        elim (of_some own (get_or E q 0) m.settled)
-        [ inl t ↦ absurd (true≢false (sym t ∙ w.other)) | inr t ↦ t ]
+    other = of_other own (get_or E q 0) m.settled w.other
 
     pub meet_waits : 0 < get_or C p.number 0
     meet_waits =

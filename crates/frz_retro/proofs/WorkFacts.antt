@@ -27,6 +27,10 @@ within E i h =
     elim (cases_lt i (length E))
     [ inl l ↦ l | inr l ↦ let z = get_or_past E i 0 l in absurd (omega (arith, z, h)) ]
 
+-- what was written is read
+pub read_back : (C : List ℕ) (i x : ℕ) → 0 < get_or C i 0 → get_or (set C i x) i 0 ≡ x
+read_back C i x h = get_or-set_same C i x 0 (within C i h)
+
 -- one open number settles
 pub queue_keeps : {k mid : ℕ} {E Q : List ℕ} {tail : ℕ} (i c : ℕ) → Queue k mid E Q tail →
     mid ≤ tail → get_or E i 0 ≡ 1 → 2 + 2 * k ≤ c →
@@ -37,8 +41,7 @@ queue_keeps {k} {mid} {E} {Q} {tail} i c u m one long =
     let fewer = ones_set E i c one (λ e. omega (arith, e, long)) in
     let room = u.room in
     let here : tail < length Q = omega (arith, fewer, room) in
-    let in_list = within E i (omega (arith, one)) in
-    let at : get_or F i 0 ≡ c = get_or-set_same E i c 0 in_list in
+    let at : get_or F i 0 ≡ c = read_back E i c (omega (arith, one)) in
     let front : (t : ℕ) → t < tail → get_or R t 0 ≡ get_or Q t 0 = λ t l. get_or-set_other Q tail t
     i 0 (λ e. omega (arith, e, l)) in
     let back : get_or R tail 0 ≡ i = get_or-set_same Q tail i 0 here in
@@ -175,7 +178,3 @@ ones_pos (x ∷ E) (suc i) e = let h = ones_pos E i e in omega (arith, h)
 pub room_for : {k mid : ℕ} {E Q : List ℕ} {tail : ℕ} (i : ℕ) → Queue k mid E Q tail →
     get_or E i 0 ≡ 1 → tail < length Q
 room_for {E = E} i u e = let p = ones_pos E i e in let r = u.room in omega (arith, p, r)
-
--- what was written is read
-pub read_back : (C : List ℕ) (i x : ℕ) → 0 < get_or C i 0 → get_or (set C i x) i 0 ≡ x
-read_back C i x h = get_or-set_same C i x 0 (within C i h)
