@@ -1,5 +1,5 @@
 -- Wins and failures among the codes.
-use Rattle.std.proofs.Common.{◌≡◌, ℕ, ◌+◌, ◌*◌, ◌%◌, ◌<◌, ◌≤◌, ◌⊎◌, Bool, true, false, not, ◌==◌, nat_lt, sym, ◌∙◌, inl, inr, arith, eqb-true, ltb-true}
+use Rattle.std.proofs.Common.{◌≡◌, ℕ, ◌+◌, ◌*◌, ◌%◌, ◌<◌, ◌≤◌, ◌⊎◌, Bool, true, false, not, ◌==◌, nat_lt, refl, sym, ◌∙◌, inl, inr, arith, eqb-true, ltb-true}
 use Rattle.std.proofs.lemmas.Bool.{and_parts, and_from, lt-ltb, eq-eqb, false_from_ne_true, cases_eq, true≢false}
 use Rattle.frz_arena.specs.Codes.{is_win, is_failure}
 use Rattle.frz_retro.specs.Kinds.{is_of}
@@ -63,18 +63,10 @@ of_order true k c d h e x y = let a = even_of c h in let b = even_of d e in omeg
 of_order false k c d h e x y = let a = odd_of c h in let b = odd_of d e in omega (arith, a, b)
 
 -- by the words of the codes
-pub as_win : (c : ℕ) (b : Bool) → is_of true c ≡ b → is_win c ≡ b
+pub win_is : (c : ℕ) → is_win c ≡ is_of true c
 unfolding is_of
-as_win c b e = e
+win_is c = refl
 
-pub of_win : (c : ℕ) (b : Bool) → is_win c ≡ b → is_of true c ≡ b
+pub failure_is : (c : ℕ) → is_failure c ≡ is_of false c
 unfolding is_of
-of_win c b e = e
-
-pub as_failure : (c : ℕ) (b : Bool) → is_of false c ≡ b → is_failure c ≡ b
-unfolding is_of
-as_failure c b e = e
-
-pub of_failure : (c : ℕ) (b : Bool) → is_failure c ≡ b → is_of false c ≡ b
-unfolding is_of
-of_failure c b e = e
+failure_is c = refl

@@ -6,7 +6,7 @@ use Rattle.frz_arena.specs.LocalCodes as local
 use Rattle.frz_graph.specs.EntryCodes.{arm_code}
 use Rattle.frz_retro.specs.Graphs.{Arm}
 use Rattle.frz_retro.specs.Kinds.{is_of}
-use Rattle.frz_retro.proofs.CodeFacts.{as_win, of_win, as_failure, of_failure}
+use Rattle.frz_retro.proofs.CodeFacts.{win_is, failure_is}
 use Rattle.frz_retro.proofs.Laws.{contains_in, in_contains}
 use Rattle.frz_retro.proofs.Settled.{Rules, settled_by, held_by, by_turn, nothing_in, same_code}
 use Rattle.frz_retro.proofs.StateFacts.{settled_stays}
@@ -39,15 +39,15 @@ returns c arena size finite side E = record {
         Rules true f (arena.arms i) (local.local_code arena side entry i)
     own i n = record {
       decided = λ a j k t least. c.own_codes.ensures.win arena side entry i n a
-          (contains_in (arena.arms i) a j) k (as_win (f a) true t)
-          (λ b m free t'. least b (in_contains (arena.arms i) b m) free (of_win (f b) true t'));
+          (contains_in (arena.arms i) a j) k (win_is (f a) ∙ t)
+          (λ b m free t'. least b (in_contains (arena.arms i) b m) free (sym (win_is (f b)) ∙ t'));
       exhausted = λ a j k each. c.own_codes.ensures.failure arena side entry i n a
           (contains_in (arena.arms i) a j) k
           (λ b m free. let e = each b (in_contains (arena.arms i) b m) free in
-          (as_failure (f b) true e.0, e.1));
+          (failure_is (f b) ∙ e.0, e.1));
       held = λ a j k t none. c.own_codes.ensures.hold arena side entry i n a
-          (contains_in (arena.arms i) a j) k (as_failure (f a) false t)
-          (λ b m free. as_win (f b) false (none b (in_contains (arena.arms i) b m) free));
+          (contains_in (arena.arms i) a j) k (failure_is (f a) ∙ t)
+          (λ b m free. win_is (f b) ∙ none b (in_contains (arena.arms i) b m) free);
       none = λ h. c.own_codes.ensures.none arena side entry i n
           (λ a m free. true≢false (sym free ∙ h a (in_contains (arena.arms i) a m)));
     }
@@ -56,15 +56,15 @@ returns c arena size finite side E = record {
         Rules false f (arena.arms i) (local.local_code arena side entry i)
     opponent i n = record {
       decided = λ a j k t least. c.opponent_codes.ensures.failure arena side entry i n a
-          (contains_in (arena.arms i) a j) (as_failure (f a) true t)
-          (λ b m t'. least b (in_contains (arena.arms i) b m) refl (of_failure (f b) true t'));
+          (contains_in (arena.arms i) a j) (failure_is (f a) ∙ t)
+          (λ b m t'. least b (in_contains (arena.arms i) b m) refl (sym (failure_is (f b)) ∙ t'));
       exhausted = λ a j k each. c.opponent_codes.ensures.win arena side entry i n a
           (contains_in (arena.arms i) a j)
           (λ b m. let e = each b (in_contains (arena.arms i) b m) refl in
-          (as_win (f b) true e.0, e.1));
+          (win_is (f b) ∙ e.0, e.1));
       held = λ a j k t none. c.opponent_codes.ensures.hold arena side entry i n a
-          (contains_in (arena.arms i) a j) (as_win (f a) false t)
-          (λ b m. as_failure (f b) false (none b (in_contains (arena.arms i) b m) refl));
+          (contains_in (arena.arms i) a j) (win_is (f a) ∙ t)
+          (λ b m. failure_is (f b) ∙ none b (in_contains (arena.arms i) b m) refl);
       none = λ h. absurd (finite.lawful.goes_on i (other_of side) n
           (nothing_in (arena.arms i) (λ a j. true≢false (h a j))));
     }
