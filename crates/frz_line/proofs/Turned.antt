@@ -385,31 +385,21 @@ turn_wrote one fills known arena size finite side spot arms cs are (dues.Ply m) 
           (dues.Ply m) e) h.0 h.1 a h.3 h.4 result old new h.5) codes_told,
     )
 
--- the store stopped a turn before anything was written
+-- the store stopped a turn before anything was written, by a fault that leaves a line unfinished
 stopped_before : (known : Option (List ℕ)) (arena : Arena Step ℕ Value) (side : Colour)
     (spot : Spot) (fault : LineFault) (result : Result Turn LineFault) (out : SinkTold)
-    → (fault ≡ faults.Store) ⊎ (fault ≡ faults.NoMemory) → result ≡ Err fault → (text : List ℕ)
-    × IsLines text × WroteBy result text out out
-    × IfSome known (λ kept. GoesBy arena side kept spot text result)
-stopped_before known arena side spot fault result out (inl s) e =
-    let r : result ≡ Err faults.Store = e ∙ ap Err s in
-    stop_wrote known arena side spot result out out faults.Store (took_nothing out) r
-    (every known (λ kept. GoesBy arena side kept spot [] result) (λ kept agrees plies end w. (
-      rest_text side spot plies (told side end),
+    → WroteBy {T = Turn} (Err fault) [] out out
+    → ((answer : Result LineEnd LineFault) (rest : List ℕ) → IsUnfinished answer rest
+    → Finishes (Err fault) answer rest) → result ≡ Err fault → (text : List ℕ) × IsLines text
+    × WroteBy result text out out × IfSome known (λ kept. GoesBy arena side kept spot text result)
+stopped_before known arena side spot fault result out wrote leaves e =
+    stop_wrote known arena side spot result out out fault wrote e
+    (every known (λ kept. GoesBy arena side kept spot [] result) (λ kept agrees plies end w.
+    let rest = rest_text side spot plies (told side end) in (
+      rest,
       refl,
-      subst (λ (z : Result Turn LineFault). Leaves arena side kept spot plies end
-          (rest_text side spot plies (told side end)) z) (sym r)
-          (rest_unfinished side spot plies (told side end)),
-    )))
-stopped_before known arena side spot fault result out (inr s) e =
-    let r : result ≡ Err faults.NoMemory = e ∙ ap Err s in
-    stop_wrote known arena side spot result out out faults.NoMemory (took_nothing out) r
-    (every known (λ kept. GoesBy arena side kept spot [] result) (λ kept agrees plies end w. (
-      rest_text side spot plies (told side end),
-      refl,
-      subst (λ (z : Result Turn LineFault). Leaves arena side kept spot plies end
-          (rest_text side spot plies (told side end)) z) (sym r)
-          (rest_unfinished side spot plies (told side end)),
+      subst (λ (z : Result Turn LineFault). Leaves arena side kept spot plies end rest z) (sym e)
+          (leaves (told side end) rest (rest_unfinished side spot plies (told side end))),
     )))
 
 pub stopped_by : (known : Option (List ℕ)) (arena : Arena Step ℕ Value) (side : Colour)
@@ -418,6 +408,8 @@ pub stopped_by : (known : Option (List ℕ)) (arena : Arena Step ℕ Value) (sid
     × WroteBy result text out out × IfSome known (λ kept. GoesBy arena side kept spot text result)
 stopped_by known arena side spot fault (Ok turn) out h = absurd h
 stopped_by known arena side spot Failed (Err e) out h =
-    stopped_before known arena side spot e (Err e) out (inl h) refl
+    stopped_before known arena side spot faults.Store (Err e) out (took_nothing out)
+    (λ answer rest left. left) (ap Err h)
 stopped_by known arena side spot NoMemory (Err e) out h =
-    stopped_before known arena side spot e (Err e) out (inr h) refl
+    stopped_before known arena side spot faults.NoMemory (Err e) out (took_nothing out)
+    (λ answer rest left. left) (ap Err h)

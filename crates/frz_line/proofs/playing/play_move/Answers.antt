@@ -16,17 +16,15 @@ use Rattle.frz_line.proofs.playing.play_move.Goals as goal
 pub bounds-deref-place : goal.bounds-deref-place
 bounds-deref-place g c =
     let lists = c.args.lists.now in
-    let h = (found_code c.is_same.result lists.nexts.items lists.codes.items
-    (is_win c.args.spot.code) c.args.spot.code c.place_for-place.result
-    c.place_for-place.ensures.0 c.requires.many c.place_for-place.ensures.1).0 in
+    let h = (found_code c.is_same.result lists.nexts.items lists.codes.items _ _ _ _
+    c.requires.many c.place_for-place.ensures.1).0 in
     omega (arith, h, ap length c.deref.ensures.0)
 
 pub bounds-deref-place-2 : goal.bounds-deref-place-2
 bounds-deref-place-2 g c =
     let lists = c.args.lists.now in
-    let h = (found_code c.is_same.result lists.nexts.items lists.codes.items
-    (is_win c.args.spot.code) c.args.spot.code c.place_for-place.result
-    c.place_for-place.ensures.0 c.requires.many c.place_for-place.ensures.1).0 in
+    let h = (found_code c.is_same.result lists.nexts.items lists.codes.items _ _ _ _
+    c.requires.many c.place_for-place.ensures.1).0 in
     let many = c.requires.many in
     omega (arith, h, many, ap length c.deref-2.ensures.0)
 
@@ -62,18 +60,16 @@ returns g c =
 pub offset_bounds-deref-place : goal.offset_bounds-deref-place
 offset_bounds-deref-place g c =
     let lists = c.args.lists.now in
-    let h = (found_code c.is_same.result lists.nexts.items lists.codes.items
-    (is_win c.args.spot.code) c.args.spot.code c.place_for-place.result
-    c.place_for-place.ensures.0 c.requires.many c.place_for-place.ensures.1).0 in
+    let h = (found_code c.is_same.result lists.nexts.items lists.codes.items _ _ _ _
+    c.requires.many c.place_for-place.ensures.1).0 in
     let few = c.deref.type_inv.1 in
     omega (arith, h, few, ap length c.deref.ensures.0)
 
 pub offset_bounds-deref-place-2 : goal.offset_bounds-deref-place-2
 offset_bounds-deref-place-2 g c =
     let lists = c.args.lists.now in
-    let h = (found_code c.is_same.result lists.nexts.items lists.codes.items
-    (is_win c.args.spot.code) c.args.spot.code c.place_for-place.result
-    c.place_for-place.ensures.0 c.requires.many c.place_for-place.ensures.1).0 in
+    let h = (found_code c.is_same.result lists.nexts.items lists.codes.items _ _ _ _
+    c.requires.many c.place_for-place.ensures.1).0 in
     let many = c.requires.many in
     let few = c.deref-2.type_inv.1 in
     omega (arith, h, many, few, ap length c.deref-2.ensures.0)
