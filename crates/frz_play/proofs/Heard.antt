@@ -22,8 +22,8 @@ use Rattle.frz_play.specs.declared.hearing.Why.{Why}
 use Rattle.frz_play.specs.declared.line.NextLine.{NextLine}
 use Rattle.frz_play.specs.declared.line.NextLine.TheVariants.{Nothing, Whole, Last, TooLong}
 use Rattle.frz_play.specs.declared.hearing.Why.TheVariants.{Ended, Limit}
-use Rattle.frz_play.specs.Faults.{TookBytes}
-use Rattle.frz_play.specs.Hearing.{HasEnded, IsOneLine, TookTooLong, GaveLine, MayFollow, StaysEnded, EndsWith, HearsLine, Hears, after_line, no_line, left_by, refuse}
+use Rattle.frz_play.specs.Faults.{TookBytes, WroteBy}
+use Rattle.frz_play.specs.Hearing.{HasEnded, IsOneLine, TookTooLong, GaveLine, MayFollow, StaysEnded, EndsWith, HearsLine, Hears, IsHeard, LeavesFewer, MayFail, after_line, no_line, left_by, refuse}
 use Rattle.frz_play.specs.Reading.{Input, Halt, halted, place_said, refuse_one, reply_or, reads}
 use Rattle.frz_play.specs.Texts.{refused_text}
 use Rattle.frz_play.proofs.Reading.{reads_line, reads_too_long, reads_behind, reads_front, refuse_inside, refuse_reply, refuse_stop}
@@ -208,128 +208,123 @@ stays_on old now next first more h k = λ e.
     let b = k a.1 in
     (both_empty first more a.0 b.0, b.1)
 
-module _ (arms : List (Arm Step ℕ Value)) (old now next : Reader) (source mid left : SourceTold)
-    (out taken : SinkTold) (far : HearsOn arms old now source mid out taken) (line : List ℕ) where
+module _ {arms : List (Arm Step ℕ Value)} {old now : Reader} {source mid : SourceTold}
+    {out taken : SinkTold} (far : HearsOn arms old now source mid out taken) where
   -- what the next line gives, behind what was refused
-  behind : (bytes rest : List ℕ) (answer : Answer Input Halt) → StaysEnded now next bytes
-      → MayFollow next rest → reads arms now.more (bytes ++ rest) ≡ answer
+  behind : (next : Reader) (bytes rest : List ℕ) (answer : Answer Input Halt)
+      → StaysEnded now next bytes → MayFollow next rest
+      → reads arms now.more (bytes ++ rest) ≡ answer
       → reads arms old.more ((far.bytes ++ bytes) ++ rest) ≡ refuse far.refused answer
-  behind bytes rest answer stays may is =
+  behind next bytes rest answer stays may is =
       ap (λ (l : List ℕ). reads arms old.more l) (append_assoc far.bytes bytes rest)
       ∙ (far.on (bytes ++ rest) (λ e. let s = stays e in both_empty bytes rest s.0 (may s.1))
       ∙ ap (refuse far.refused) is)
 
-  -- there is no line
-  pub hears_stop : (why : Why) → HearsLine now next (Ok (Some why)) line mid left
-      → Hears arms old next (Ok (heard.Stop why)) source left out taken
-  hears_stop why h = record {
-    refused = far.refused;
-    bytes = far.bytes ++ h.bytes;
-    wrote = far.wrote;
-    took = took_on far.bytes h.bytes source mid left far.took h.took;
-    ended = h.ended;
-    stays = stays_on old now next far.bytes h.bytes far.stays h.stays;
-    fewer = (let a = far.few in let b = h.fewer in omega (arith, a, b));
-    fails = λ f e. absurd (cc);
-    heard = λ rest may. behind h.bytes rest
-        (Stop (halted why) (record { left = rest; more = next.more })) h.stays may
-        (h.heard arms rest may)
-        ∙ refuse_stop far.refused (halted why) (record { left = rest; more = next.more }) refl;
-  }
+  module _ {next : Reader} {left : SourceTold} {line : List ℕ} where
+    -- what was heard with the next line, behind so many refused ones
+    heard_with : {said : Result (Option Why) Failed} {result : Result Heard PlayFault}
+        {new : SinkTold} (n : ℕ) (h : HearsLine now next said line mid left)
+        → WroteBy result (refused_text n) out new → LeavesFewer result old.more next.more
+        → ((fault : PlayFault) → result ≡ Err fault → MayFail fault)
+        → ((rest : List ℕ) → MayFollow next rest
+        → IsHeard (reads arms old.more ((far.bytes ++ h.bytes) ++ rest)) n result
+        (record { left = rest; more = next.more })) → Hears arms old next result source left out new
+    heard_with n h wrote fewer fails heard = record {
+      refused = n;
+      bytes = far.bytes ++ h.bytes;
+      wrote = wrote;
+      took = took_on far.bytes h.bytes source mid left far.took h.took;
+      ended = h.ended;
+      stays = stays_on old now next far.bytes h.bytes far.stays h.stays;
+      fewer = fewer;
+      fails = fails;
+      heard = heard;
+    }
 
-  -- the input failed
-  pub hears_fault : (fault : Failed) → HearsLine now next (Err fault) line mid left
-      → Hears arms old next (Err plays.Input) source left out taken
-  hears_fault fault h = record {
-    refused = far.refused;
-    bytes = far.bytes ++ h.bytes;
-    wrote = far.wrote;
-    took = took_on far.bytes h.bytes source mid left far.took h.took;
-    ended = h.ended;
-    stays = stays_on old now next far.bytes h.bytes far.stays h.stays;
-    fewer = (let a = far.few in let b = h.fewer in omega (arith, a, b));
-    fails = λ f e. inl (let x = e in cc);
-    heard = λ rest may. (
-      reads arms now.more (h.bytes ++ rest),
-      behind h.bytes rest (reads arms now.more (h.bytes ++ rest)) h.stays may refl,
-      h.heard arms rest may,
-    );
-  }
+    -- there is no line
+    pub hears_stop : {why : Why} → HearsLine now next (Ok (Some why)) line mid left
+        → Hears arms old next (Ok (heard.Stop why)) source left out taken
+    hears_stop {why} h =
+        heard_with far.refused h far.wrote
+        (let a = far.few in let b = h.fewer in omega (arith, a, b)) (λ f e. absurd (cc))
+        (λ rest may. let last : Input = record { left = rest; more = next.more } in
+        behind next h.bytes rest (Stop (halted why) last) h.stays may (h.heard arms rest may)
+        ∙ refuse_stop far.refused (halted why) last refl)
 
-  -- the line says a move
-  pub hears_reply : (place : ℕ) → place_said arms line ≡ Some place
-      → HearsLine now next (Ok None) line mid left
-      → Hears arms old next (Ok (heard.Reply place)) source left out taken
-  hears_reply place said h = record {
-    refused = far.refused;
-    bytes = far.bytes ++ h.bytes;
-    wrote = far.wrote;
-    took = took_on far.bytes h.bytes source mid left far.took h.took;
-    ended = h.ended;
-    stays = stays_on old now next far.bytes h.bytes far.stays h.stays;
-    fewer = (let a = far.few in let b = h.fewer in omega (arith, a, b));
-    fails = λ f e. absurd (cc);
-    heard = λ rest may. behind h.bytes rest
-        (Reply 0 place (record { left = rest; more = next.more })) h.stays may
+    -- the input failed
+    pub hears_fault : {fault : Failed} → HearsLine now next (Err fault) line mid left
+        → Hears arms old next (Err plays.Input) source left out taken
+    hears_fault h =
+        heard_with far.refused h far.wrote
+        (let a = far.few in let b = h.fewer in omega (arith, a, b)) (λ f e. inl (let x = e in cc))
+        (λ rest may. let later = reads arms now.more (h.bytes ++ rest) in
+        (later, behind next h.bytes rest later h.stays may refl, h.heard arms rest may))
+
+    -- the line says a move
+    pub hears_reply : {place : ℕ} → place_said arms line ≡ Some place
+        → HearsLine now next (Ok None) line mid left
+        → Hears arms old next (Ok (heard.Reply place)) source left out taken
+    hears_reply {place} said h =
+        heard_with far.refused h far.wrote
+        (let a = far.few in let b = h.fewer in omega (arith, a, b)) (λ f e. absurd (cc))
+        (λ rest may. let last : Input = record { left = rest; more = next.more } in
+        behind next h.bytes rest (Reply 0 place last) h.stays may
+        (h.heard arms rest may
+        ∙ ap (λ (o : Option ℕ). reply_or o last (reads arms next.more rest)) said)
+        ∙ refuse_reply far.refused place last)
+
+    refused_here : place_said arms line ≡ None → (h : HearsLine now next (Ok None) line mid left)
+        → (rest : List ℕ) → MayFollow next rest
+        → reads arms old.more ((far.bytes ++ h.bytes) ++ rest)
+        ≡ refuse (suc far.refused) (reads arms next.more rest)
+    refused_here none h rest may =
+        behind next h.bytes rest (refuse_one (reads arms next.more rest)) h.stays may
         (h.heard arms rest may
         ∙ ap (λ (o : Option ℕ). reply_or o (record { left = rest; more = next.more })
-        (reads arms next.more rest)) said)
-        ∙ refuse_reply far.refused place (record { left = rest; more = next.more });
-  }
+        (reads arms next.more rest)) none)
+        ∙ refuse_inside far.refused (reads arms next.more rest)
 
-  refused_here : place_said arms line ≡ None → (h : HearsLine now next (Ok None) line mid left)
-      → (rest : List ℕ) → MayFollow next rest → reads arms old.more ((far.bytes ++ h.bytes) ++ rest)
-      ≡ refuse (suc far.refused) (reads arms next.more rest)
-  refused_here none h rest may =
-      behind h.bytes rest (refuse_one (reads arms next.more rest)) h.stays may
-      (h.heard arms rest may
-      ∙ ap (λ (o : Option ℕ). reply_or o (record { left = rest; more = next.more })
-      (reads arms next.more rest)) none)
-      ∙ refuse_inside far.refused (reads arms next.more rest)
+    -- the line is refused
+    pub hears_refused : {new : SinkTold} → place_said arms line ≡ None
+        → HearsLine now next (Ok None) line mid left → TookText (codes "illegal\n") taken new
+        → HearsOn arms old next source left out new
+    hears_refused {new} none h wrote = record {
+      refused = suc far.refused;
+      bytes = far.bytes ++ h.bytes;
+      wrote = took_behind (refused_text far.refused) (codes "illegal\n")
+          (refused_text (suc far.refused)) out taken new far.wrote (one_refused far.refused) wrote;
+      took = took_on far.bytes h.bytes source mid left far.took h.took;
+      ended = h.ended;
+      stays = stays_on old now next far.bytes h.bytes far.stays h.stays;
+      few = (let a = far.few in let b = h.fewer in omega (arith, a, b));
+      on = refused_here none h;
+    }
 
-  -- the line is refused
-  pub hears_refused : (new : SinkTold) → place_said arms line ≡ None
-      → HearsLine now next (Ok None) line mid left → TookText (codes "illegal\n") taken new
-      → HearsOn arms old next source left out new
-  hears_refused new none h wrote = record {
-    refused = suc far.refused;
-    bytes = far.bytes ++ h.bytes;
-    wrote = took_behind (refused_text far.refused) (codes "illegal\n")
-        (refused_text (suc far.refused)) out taken new far.wrote (one_refused far.refused) wrote;
-    took = took_on far.bytes h.bytes source mid left far.took h.took;
-    ended = h.ended;
-    stays = stays_on old now next far.bytes h.bytes far.stays h.stays;
-    few = (let a = far.few in let b = h.fewer in omega (arith, a, b));
-    on = refused_here none h;
-  }
-
-  -- the sink failed then
-  pub hears_failed : (new : SinkTold) → place_said arms line ≡ None
-      → HearsLine now next (Ok None) line mid left → FailedWithin (codes "illegal\n") taken new
-      → Hears arms old next (Err (plays.Line faults.Output)) source left out new
-  hears_failed new none h failed = record {
-    refused = suc far.refused;
-    bytes = far.bytes ++ h.bytes;
-    wrote = failed_behind (refused_text far.refused) (codes "illegal\n")
-        (refused_text (suc far.refused)) out taken new far.wrote (one_refused far.refused) failed;
-    took = took_on far.bytes h.bytes source mid left far.took h.took;
-    ended = h.ended;
-    stays = stays_on old now next far.bytes h.bytes far.stays h.stays;
-    fewer = (let a = far.few in let b = h.fewer in omega (arith, a, b));
-    fails = λ f e. inr (let x = e in cc);
-    heard = λ rest may. (
-      reads arms next.more rest,
-      refused_here none h rest may,
-      reads_front arms next.more rest,
-    );
-  }
+    -- the sink failed then
+    pub hears_failed : {new : SinkTold} → place_said arms line ≡ None
+        → HearsLine now next (Ok None) line mid left → FailedWithin (codes "illegal\n") taken new
+        → Hears arms old next (Err (plays.Line faults.Output)) source left out new
+    hears_failed {new} none h failed =
+        heard_with (suc far.refused) h
+        (failed_behind (refused_text far.refused) (codes "illegal\n")
+        (refused_text (suc far.refused)) out taken new far.wrote (one_refused far.refused) failed)
+        (let a = far.few in let b = h.fewer in omega (arith, a, b)) (λ f e. inr (let x = e in cc))
+        (λ rest may. let later = reads arms next.more rest in
+        (later, refused_here none h rest may, reads_front arms next.more rest))
 
 -- the same, whatever was to be answered
-pub hears_fails : (arms : List (Arm Step ℕ Value)) (old next : Reader) (source left : SourceTold)
-    (out new : SinkTold) (result : Result Heard PlayFault)
+pub hears_fails : {arms : List (Arm Step ℕ Value)} {old next : Reader} {source left : SourceTold}
+    {out new : SinkTold} {result : Result Heard PlayFault}
     → IsErrAnd result (λ e. e ≡ plays.Line faults.Output)
     → Hears arms old next (Err (plays.Line faults.Output)) source left out new
     → Hears arms old next result source left out new
-hears_fails arms old next source left out new (Ok x) e h = absurd e
-hears_fails arms old next source left out new (Err fault) e h =
+hears_fails {result = Ok x} e h = absurd e
+hears_fails {arms} {old} {next} {source} {left} {out} {new} {result = Err fault} e h =
     subst (λ (f : PlayFault). Hears arms old next (Err f) source left out new) (sym e) h
+
+-- a line is heard as what is known of why it is none
+pub heard_as : {old new : Reader} {line : List ℕ} {source left : SourceTold} {why known : Option Why}
+    → why ≡ known → HearsLine old new (Ok why) line source left
+    → HearsLine old new (Ok known) line source left
+heard_as {old} {new} {line} {source} {left} e h =
+    subst (λ (o : Option Why). HearsLine old new (Ok o) line source left) e h

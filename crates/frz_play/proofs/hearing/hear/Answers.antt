@@ -1,9 +1,7 @@
-use Rattle.std.proofs.Common.{Ok, Option, refl, sym, ap, subst, ◌∙◌}
+use Rattle.std.proofs.Common.{refl, sym, ap, ◌∙◌}
 use Rattle.frz_store.specs.Told.{source_of, sink_of}
-use Rattle.frz_play.specs.declared.hearing.Why.{Why}
-use Rattle.frz_play.specs.Hearing.{HearsLine}
 use Rattle.frz_play.specs.Reading.{place_said}
-use Rattle.frz_play.proofs.Heard.{hears_start, hears_stop, hears_fault, hears_reply, hears_refused, hears_failed, hears_fails}
+use Rattle.frz_play.proofs.Heard.{hears_start, hears_stop, hears_fault, hears_reply, hears_refused, hears_failed, hears_fails, heard_as}
 use Rattle.frz_play.proofs.hearing.hear.Goals as goal
 
 pub lines-init : goal.lines-init
@@ -15,65 +13,33 @@ lines-init g c = record {
 
 pub returns-in_default-clause-heard : goal.returns-in_default-clause-heard
 returns-in_default-clause-heard g c =
-    hears_fault c.args.list.now.items c.args.reader.now c.lines.reader c.next_line.new.reader
-    (source_of g.I.Source c.args.input.now) (source_of g.I.Source c.lines.input)
-    (source_of g.I.Source c.next_line.new.input) (sink_of g.O.Sink c.args.out.now)
-    (sink_of g.O.Sink c.lines.out) c.lines.invariant.far c.next_line.new.line.items
-    c.in_default.field-0 c.in_default.ensures.heard
+    hears_fault c.lines.invariant.far c.in_default.ensures.heard
 
 pub returns-in-Some-clause-heard : goal.returns-in-Some-clause-heard
 returns-in-Some-clause-heard g c =
-    hears_stop c.args.list.now.items c.args.reader.now c.lines.reader c.next_line.new.reader
-    (source_of g.I.Source c.args.input.now) (source_of g.I.Source c.lines.input)
-    (source_of g.I.Source c.next_line.new.input) (sink_of g.O.Sink c.args.out.now)
-    (sink_of g.O.Sink c.lines.out) c.lines.invariant.far c.next_line.new.line.items c.in-Some.why
-    (subst (λ (o : Option Why). HearsLine c.lines.reader c.next_line.new.reader
-    (Ok o) c.next_line.new.line.items (source_of g.I.Source c.lines.input)
-    (source_of g.I.Source c.next_line.new.input)) c.in-Some.is c.in-Ok.ensures.heard)
+    hears_stop c.lines.invariant.far (heard_as c.in-Some.is c.in-Ok.ensures.heard)
 
 pub returns-in-Some-place_of-clause-heard : goal.returns-in-Some-place_of-clause-heard
 returns-in-Some-place_of-clause-heard g c =
-    hears_reply c.args.list.now.items c.args.reader.now c.lines.reader c.next_line.new.reader
-    (source_of g.I.Source c.args.input.now) (source_of g.I.Source c.lines.input)
-    (source_of g.I.Source c.next_line.new.input) (sink_of g.O.Sink c.args.out.now)
-    (sink_of g.O.Sink c.lines.out) c.lines.invariant.far c.next_line.new.line.items
-    c.in-Some-place_of.place
+    hears_reply c.lines.invariant.far
     (ap (place_said c.args.list.now.items) (sym c.as_slice.ensures.value)
     ∙ (sym c.place_of.ensures.place ∙ c.in-Some-place_of.is))
-    (subst (λ (o : Option Why). HearsLine c.lines.reader c.next_line.new.reader
-    (Ok o) c.next_line.new.line.items (source_of g.I.Source c.lines.input)
-    (source_of g.I.Source c.next_line.new.input)) c.in_default-next.is c.in-Ok.ensures.heard)
+    (heard_as c.in_default-next.is c.in-Ok.ensures.heard)
 
 pub lines-preserved : goal.lines-preserved
 lines-preserved g c = record {
-  far = hears_refused c.args.list.now.items c.args.reader.now c.lines.reader c.next_line.new.reader
-      (source_of g.I.Source c.args.input.now) (source_of g.I.Source c.lines.input)
-      (source_of g.I.Source c.next_line.new.input) (sink_of g.O.Sink c.args.out.now)
-      (sink_of g.O.Sink c.lines.out) c.lines.invariant.far c.next_line.new.line.items
-      (sink_of g.O.Sink c.write_refused.new.out)
+  far = hears_refused c.lines.invariant.far
       (ap (place_said c.args.list.now.items) (sym c.as_slice.ensures.value)
       ∙ (sym c.place_of.ensures.place ∙ c.in_default-place_of.is))
-      (subst (λ (o : Option Why). HearsLine c.lines.reader c.next_line.new.reader
-      (Ok o) c.next_line.new.line.items (source_of g.I.Source c.lines.input)
-      (source_of g.I.Source c.next_line.new.input)) c.in_default-next.is c.in-Ok.ensures.heard)
+      (heard_as c.in_default-next.is c.in-Ok.ensures.heard)
       c.in_ok-write_refused.ensures.ok;
   faults = c.in-Ok.ensures.cause.fine ∙ c.lines.invariant.faults;
 }
 
 pub returns-in_err-write_refused-clause-heard : goal.returns-in_err-write_refused-clause-heard
 returns-in_err-write_refused-clause-heard g c =
-    hears_fails c.args.list.now.items c.args.reader.now c.next_line.new.reader
-    (source_of g.I.Source c.args.input.now) (source_of g.I.Source c.next_line.new.input)
-    (sink_of g.O.Sink c.args.out.now) (sink_of g.O.Sink c.write_refused.new.out)
-    c.from_residual.result c.from_residual.ensures.1
-    (hears_failed c.args.list.now.items c.args.reader.now c.lines.reader c.next_line.new.reader
-    (source_of g.I.Source c.args.input.now) (source_of g.I.Source c.lines.input)
-    (source_of g.I.Source c.next_line.new.input) (sink_of g.O.Sink c.args.out.now)
-    (sink_of g.O.Sink c.lines.out) c.lines.invariant.far c.next_line.new.line.items
-    (sink_of g.O.Sink c.write_refused.new.out)
+    hears_fails c.from_residual.ensures.1
+    (hears_failed c.lines.invariant.far
     (ap (place_said c.args.list.now.items) (sym c.as_slice.ensures.value)
     ∙ (sym c.place_of.ensures.place ∙ c.in_default-place_of.is))
-    (subst (λ (o : Option Why). HearsLine c.lines.reader c.next_line.new.reader
-    (Ok o) c.next_line.new.line.items (source_of g.I.Source c.lines.input)
-    (source_of g.I.Source c.next_line.new.input)) c.in_default-next.is c.in-Ok.ensures.heard)
-    c.in_err-write_refused.ensures.failed)
+    (heard_as c.in_default-next.is c.in-Ok.ensures.heard) c.in_err-write_refused.ensures.failed)
