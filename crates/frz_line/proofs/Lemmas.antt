@@ -9,8 +9,9 @@ pub use Rattle.frz_line.proofs.Goings.{
   stage_due,
   stage_told,
 }
+pub use Rattle.frz_line.proofs.Kept.{code_kept, told_before, told_by_table}
 pub use Rattle.frz_line.proofs.Options.{both, every, some_of}
-pub use Rattle.frz_line.proofs.Played.{fine_behind, quiet_behind}
+pub use Rattle.frz_line.proofs.Played.{fine_behind, quiet_behind, quiet_here}
 pub use Rattle.frz_line.proofs.Seen.{move_there, next_code_is}
 pub use Rattle.frz_line.proofs.Spending.{
   at_one,
@@ -22,7 +23,7 @@ pub use Rattle.frz_line.proofs.Spending.{
   spends_last,
   spends_on,
 }
-pub use Rattle.frz_line.proofs.Starting.{code_kept}
+pub use Rattle.frz_line.proofs.Starting.{start_inside}
 pub use Rattle.frz_line.proofs.TextLines.{as_lines, ends_arm, ends_behind, lines_behind}
 pub use Rattle.frz_line.proofs.Turned.{unfinished}
 pub use Rattle.frz_line.proofs.Turning.{PlyDue, never_failing, ply_due, still_early}

@@ -1,6 +1,7 @@
 mod Choices
 mod Chosen
 mod Goings
+mod Kept
 mod Options
 mod Played
 mod Seen

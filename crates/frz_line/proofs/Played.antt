@@ -111,29 +111,6 @@ after_ply arena side kept start code spot next numbers text more e comes goes =
           (way_numbers (Inside start) plies) l.came g.2.1.2 g.2.1.3;
     }
 
-pub next_far : (known : Option (List ℕ)) (arena : Arena Step ℕ Value) (side : Colour)
-    (start code : ℕ) (spot next : Spot) (old mid new : SinkTold) (before middle now : Spent)
-    → SoFar known arena side start code spot old mid before middle
-    → SpendsAt arena 0 (spot.number ∷ []) middle now → next.played ≡ spot.played + 1
-    → (more : List ℕ) → IsLines more → TookText more mid new
-    → IfSome known (λ kept. GoesBy arena side kept spot more (Ok (On next.number next.code)))
-    → SoFar known arena side start code next old new before now
-next_far known arena side start code spot next old mid new before middle now far few e more lines
-    took goes = record {
-      text = far.text ++ more;
-      numbers = far.numbers ++ spot.number ∷ [];
-      lines = lines_behind far.text more far.lines lines;
-      took = took_behind far.text more (far.text ++ more) old mid new far.took refl took;
-      spent = spends_on arena far.numbers (spot.number ∷ []) before middle now far.spent few;
-      comes = both known (λ kept. ComeBy arena side kept start code spot far.numbers far.text)
-          (λ kept. GoesBy arena side kept spot more (Ok (On next.number next.code)))
-          (λ kept. ComeBy arena side kept start code next (far.numbers ++ spot.number ∷ [])
-          (far.text ++ more))
-          (λ kept c g. after_ply arena side kept start code spot next far.numbers far.text more e c
-          g)
-          far.comes goes;
-    }
-
 -- a turn as the line's last: with its end, or with a fault
 abbrev pub AtEnd : Arena Step ℕ Value → Colour → List ℕ → Spot → (more : List ℕ)
     → Result LineEnd LineFault → Type 0
@@ -182,25 +159,16 @@ wrote_after text more (Err faults.Output) old mid new t w =
 wrote_after text more (Err faults.NoMemory) old mid new t w =
     took_behind text more (text ++ more) old mid new t refl w
 
-pub last_far : (known : Option (List ℕ)) (arena : Arena Step ℕ Value) (side : Colour)
-    (start code : ℕ) (spot : Spot) (old mid new : SinkTold) (before middle now : Spent)
-    → SoFar known arena side start code spot old mid before middle
-    → SpendsAt arena 0 (spot.number ∷ []) middle now
-    → (result : Result LineEnd LineFault) (more : List ℕ) → IsLines more
-    → WroteBy result more mid new → IfSome known (λ kept. AtEnd arena side kept spot more result)
+-- a fault that was answered
+fault_wrote : (known : Option (List ℕ)) (arena : Arena Step ℕ Value) (side : Colour)
+    (start code : ℕ) (old new : SinkTold) (before now : Spent) (fault : LineFault)
+    (result : Result LineEnd LineFault) → IsErrAnd result (λ e. e ≡ fault)
+    → LineWrote known arena side start code (Err fault) old new before now
     → LineWrote known arena side start code result old new before now
-last_far known arena side start code spot old mid new before middle now far n result more lines
-    wrote ends = (
-      far.text ++ more,
-      lines_behind far.text more far.lines lines,
-      wrote_after far.text more result old mid new far.took wrote,
-      both known (λ kept. ComeBy arena side kept start code spot far.numbers far.text)
-          (λ kept. AtEnd arena side kept spot more result)
-          (λ kept. Plays arena side kept start code (far.text ++ more) result before now)
-          (λ kept c g. played_out arena side kept start code spot far.numbers far.text more result
-          before
-          middle now far.spent n c g) far.comes ends,
-    )
+fault_wrote known arena side start code old new before now fault (Ok end) h w = absurd h
+fault_wrote known arena side start code old new before now fault (Err e) h w =
+    subst (λ (f : LineFault). LineWrote known arena side start code (Err f) old new before now)
+    (sym h) w
 
 wrote_same : (fault : LineFault) (more : List ℕ) (old new : SinkTold)
     → WroteBy {T = Turn} (Err fault) more old new → WroteBy {T = LineEnd} (Err fault) more old new
@@ -211,40 +179,77 @@ wrote_same faults.Store more old new w = w
 wrote_same faults.Output more old new w = w
 wrote_same faults.NoMemory more old new w = w
 
--- the line's end, and a fault on its way
-pub over_far : (known : Option (List ℕ)) (arena : Arena Step ℕ Value) (side : Colour)
-    (start code : ℕ) (spot : Spot) (old mid new : SinkTold) (before middle now : Spent)
-    → SoFar known arena side start code spot old mid before middle
-    → SpendsAt arena 0 (spot.number ∷ []) middle now → (last : LineEnd) (more : List ℕ)
-    → IsLines more → TookText more mid new
-    → IfSome known (λ kept. GoesBy arena side kept spot more (Ok (Over last)))
-    → LineWrote known arena side start code (Ok last) old new before now
-over_far known arena side start code spot old mid new before middle now far n last more lines took
-    goes =
-    last_far known arena side start code spot old mid new before middle now far n (Ok last) more
-    lines took goes
+-- one turn more
+module _ {known : Option (List ℕ)} {arena : Arena Step ℕ Value} {side : Colour} {start code : ℕ}
+    {spot : Spot} {old mid : SinkTold} (new : SinkTold) {before middle now : Spent}
+    (far : SoFar known arena side start code spot old mid before middle)
+    (few : SpendsAt arena 0 (spot.number ∷ []) middle now) (more : List ℕ) (lines : IsLines more)
+  where
+    -- a ply was played
+    pub next_far : {turn : Turn} {number read : ℕ} → turn ≡ On number read → TookText more mid new
+        → IfSome known (λ kept. GoesBy arena side kept spot more (Ok turn))
+        → SoFar known arena side start code
+        (record { number = number; code = read; played = spot.played + 1 }) old new before now
+    next_far {turn} {number} {read} on took goes =
+        let next : Spot = record { number = number; code = read; played = spot.played + 1 } in
+        record {
+          text = far.text ++ more;
+          numbers = far.numbers ++ spot.number ∷ [];
+          lines = lines_behind far.text more far.lines lines;
+          took = took_behind far.text more (far.text ++ more) old mid new far.took refl took;
+          spent = spends_on arena far.numbers (spot.number ∷ []) before middle now far.spent few;
+          comes = both known (λ kept. ComeBy arena side kept start code spot far.numbers far.text)
+              (λ kept. GoesBy arena side kept spot more (Ok turn))
+              (λ kept. ComeBy arena side kept start code next (far.numbers ++ spot.number ∷ [])
+              (far.text ++ more))
+              (λ kept c g.
+              after_ply arena side kept start code spot next far.numbers far.text more refl c
+              (subst (λ (t : Turn). GoesBy arena side kept spot more (Ok t)) on g)) far.comes goes;
+        }
 
-pub fault_far : (known : Option (List ℕ)) (arena : Arena Step ℕ Value) (side : Colour)
-    (start code : ℕ) (spot : Spot) (old mid new : SinkTold) (before middle now : Spent)
-    → SoFar known arena side start code spot old mid before middle
-    → SpendsAt arena 0 (spot.number ∷ []) middle now → (fault : LineFault) (more : List ℕ)
-    → IsLines more → WroteBy {T = Turn} (Err fault) more mid new
-    → IfSome known (λ kept. GoesBy arena side kept spot more (Err fault))
-    → LineWrote known arena side start code (Err fault) old new before now
-fault_far known arena side start code spot old mid new before middle now far n fault more lines
-    wrote goes =
-    last_far known arena side start code spot old mid new before middle now far n (Err fault) more
-    lines (wrote_same fault more mid new wrote) goes
+    last_far : (result : Result LineEnd LineFault) → WroteBy result more mid new
+        → IfSome known (λ kept. AtEnd arena side kept spot more result)
+        → LineWrote known arena side start code result old new before now
+    last_far result wrote ends = (
+      far.text ++ more,
+      lines_behind far.text more far.lines lines,
+      wrote_after far.text more result old mid new far.took wrote,
+      both known (λ kept. ComeBy arena side kept start code spot far.numbers far.text)
+          (λ kept. AtEnd arena side kept spot more result)
+          (λ kept. Plays arena side kept start code (far.text ++ more) result before now)
+          (λ kept c g. played_out arena side kept start code spot far.numbers far.text more result
+          before middle now far.spent few c g) far.comes ends,
+    )
 
-pub fault_wrote : (known : Option (List ℕ)) (arena : Arena Step ℕ Value) (side : Colour)
-    (start code : ℕ) (old new : SinkTold) (before now : Spent) (fault : LineFault)
-    (result : Result LineEnd LineFault) → IsErrAnd result (λ e. e ≡ fault)
-    → LineWrote known arena side start code (Err fault) old new before now
-    → LineWrote known arena side start code result old new before now
-fault_wrote known arena side start code old new before now fault (Ok end) h w = absurd h
-fault_wrote known arena side start code old new before now fault (Err e) h w =
-    subst (λ (f : LineFault). LineWrote known arena side start code (Err f) old new before now)
-    (sym h) w
+    -- the line's end
+    pub over_far : {turn : Turn} {last : LineEnd} → turn ≡ Over last → TookText more mid new
+        → IfSome known (λ kept. GoesBy arena side kept spot more (Ok turn))
+        → LineWrote known arena side start code (Ok last) old new before now
+    over_far {turn} {last} over took goes =
+        last_far (Ok last) took
+        (subst (λ (t : Turn). IfSome known (λ kept. GoesBy arena side kept spot more (Ok t))) over
+        goes)
+
+    -- a fault on its way
+    pub fault_far : (fault : LineFault) (result : Result LineEnd LineFault)
+        → IsErrAnd result (λ e. e ≡ fault) → WroteBy {T = Turn} (Err fault) more mid new
+        → IfSome known (λ kept. GoesBy arena side kept spot more (Err fault))
+        → LineWrote known arena side start code result old new before now
+    fault_far fault result is wrote goes =
+        fault_wrote known arena side start code old new before now fault result is
+        (last_far (Err fault) (wrote_same fault more mid new wrote) goes)
+
+-- the store was not called
+pub quiet_here : (store : StoreTold) → StoreQuiet store store
+quiet_here store = record {
+  unwritten = record { files = refl; last = refl; room = refl };
+  later = record {
+    asked = omega arith;
+    calls = omega arith;
+    faults = omega arith;
+    wants = omega arith;
+  };
+}
 
 -- the store was called twice
 pub quiet_behind : (old mid new : StoreTold) → StoreQuiet old mid → StoreQuiet mid new

@@ -24,11 +24,11 @@ reads_one arena number = sum_by-cons (λ n. arms_reads (arena.arms n)) number []
 pub nothing_spent : (arena : Arena Step ℕ Value) (at : Spent) → SpendsAt arena 0 [] at at
 nothing_spent arena at = record { stepped = omega arith; called = omega arith; asked = omega arith }
 
-pub at_one : (arena : Arena Step ℕ Value) (number : ℕ) (before now : Spent)
+pub at_one : (arena : Arena Step ℕ Value) (number : ℕ) {before now : Spent}
     → now.asked ≤ before.asked + 4 * arms_reads (arena.arms number)
     → now.calls ≤ before.calls + arms_reads (arena.arms number)
     → now.steps ≤ before.steps + 1 → SpendsAt arena 0 (number ∷ []) before now
-at_one arena number before now asked calls step =
+at_one arena number asked calls step =
     let one = reads_one arena number in
     record {
       stepped = omega (arith, step);

@@ -1,13 +1,11 @@
 -- A line from the number of a position.
-use Rattle.std.proofs.Common.{◌≡◌, ℕ, inl, List, [], Option, Some, None, IfSome, Result, Ok, Err, refl, sym, subst, ap, ◌∙◌}
-use Rattle.std.specs.Prelude.{slice_get, slice_index}
-use Rattle.std.specs.Option.{option_map}
+use Rattle.std.proofs.Common.{◌≡◌, ◌<◌, ℕ, inl, List, [], Option, Some, IfSome, Result, Ok, Err, refl, sym, subst, ap, ◌∙◌}
+use Rattle.std.specs.Prelude.{slice_index}
 use Rattle.std.specs.Result.{IsErrAnd}
-use Rattle.std.proofs.lemmas.Option.{get_or_from_slice_get}
 use Rattle.frz_board.specs.declared.man.Colour.{Colour}
 use Rattle.frz_board.specs.Boards.{Board}
-use Rattle.frz_sets.specs.Views.{RuleLines}
-use Rattle.frz_store.specs.Files.{Files}
+use Rattle.frz_sets.specs.Sets.{size_of}
+use Rattle.frz_sets.specs.Views.{RuleLines, GroupLine}
 use Rattle.frz_store.specs.Told.{SinkTold}
 use Rattle.frz_store.specs.declared.outside.StoreFault.{StoreFault}
 use Rattle.frz_store.specs.declared.outside.StoreFault.TheVariants.{Failed, NoMemory}
@@ -16,10 +14,10 @@ use Rattle.frz_answer.specs.World.{Spent}
 use Rattle.frz_arena.specs.declared.arm.Next.TheVariants.{Inside}
 use Rattle.frz_answer.proofs.Lemmas.{took_nothing}
 use Rattle.frz_exits.specs.Books.{value_by}
-use Rattle.frz_game.specs.Games.{graph_by}
+use Rattle.frz_arena.specs.Names.{IsNumbering}
+use Rattle.frz_game.specs.Games.{arena_by, graph_by}
+use Rattle.frz_game.specs.Numbers.{number_of, numbers_by}
 use Rattle.frz_index.specs.Members.{Member, Num}
-use Rattle.frz_table.specs.Layout.{codes_at}
-use Rattle.frz_table.specs.Tables.{Table, table_size}
 use Rattle.frz_line.specs.declared.end.LineEnd.{LineEnd}
 use Rattle.frz_line.specs.declared.end.LineFault.{LineFault}
 use Rattle.frz_line.specs.declared.end.LineFault.TheVariants as faults
@@ -27,13 +25,21 @@ use Rattle.frz_line.specs.BestLine.{TellsLine}
 use Rattle.frz_line.specs.Costs.{way_numbers, Spends, SpendsAt}
 use Rattle.frz_line.specs.Ends.{told, IsUnfinished, Finishes}
 use Rattle.frz_line.specs.Faults.{WroteBy, fault_of}
-use Rattle.frz_line.specs.Kept.{told_codes}
 use Rattle.frz_line.specs.Lines.{GoesOn}
 use Rattle.frz_line.specs.Texts.{start_line, line_text}
 use Rattle.frz_line.specs.Turns.{Plays}
 use Rattle.frz_line.proofs.Options.{both, every}
 use Rattle.frz_line.proofs.Spending.{read_alone, read_first}
 use Rattle.frz_line.proofs.Turned.{unfinished}
+
+-- the number of a position is within the size of its set
+pub start_inside : (rules : RuleLines) (p : Board) {set : List GroupLine} {found : Option ℕ}
+    {start : ℕ} → IsNumbering (numbers_by rules.groups) (arena_by rules (value_by rules))
+    → set ≡ rules.groups → found ≡ number_of set p → found ≡ Some start
+    → start < size_of rules.groups
+start_inside rules p {start = start} numbering same is there =
+    numbering.in_size p start
+    (subst (λ (z : List GroupLine). number_of z p ≡ Some start) same (sym is ∙ there))
 
 -- what was written of the line
 abbrev pub WroteLine : Option (List ℕ) → RuleLines → Colour → Board → Result LineEnd LineFault
@@ -70,28 +76,19 @@ whole_left rules side codes p result before now l stops = λ member plies end w.
           before now l,
     )
 
--- the code of the start was not read
+-- the code of the start was not read, for a fault that leaves a line unfinished
 unread : (known : Option (List ℕ)) (rules : RuleLines) (side : Colour) (p : Board) (out : SinkTold)
-    (before now : Spent) → Spends 1 0 before now → (fault : StoreFault) (f : LineFault)
-    → f ≡ fault_of fault → WroteLine known rules side p (Err f) out out before now
-unread known rules side p out before now l Failed f e =
-    subst (λ (z : LineFault). WroteLine known rules side p (Err z) out out before now) (sym e) (
-      [],
-      inl refl,
-      took_nothing out,
-      every known (λ codes. TellsLine rules side codes p [] (Err faults.Store) before now)
-          (λ codes. whole_left rules side codes p (Err faults.Store) before now l
-          (λ answer rest left. left)),
-    )
-unread known rules side p out before now l NoMemory f e =
-    subst (λ (z : LineFault). WroteLine known rules side p (Err z) out out before now) (sym e) (
-      [],
-      inl refl,
-      took_nothing out,
-      every known (λ codes. TellsLine rules side codes p [] (Err faults.NoMemory) before now)
-          (λ codes. whole_left rules side codes p (Err faults.NoMemory) before now l
-          (λ answer rest left. left)),
-    )
+    (before now : Spent) → Spends 1 0 before now → (fault : LineFault)
+    → WroteBy {T = LineEnd} (Err fault) [] out out
+    → ((answer : Result LineEnd LineFault) (rest : List ℕ) → IsUnfinished answer rest
+    → Finishes (Err fault) answer rest) → WroteLine known rules side p (Err fault) out out before now
+unread known rules side p out before now l fault wrote leaves = (
+  [],
+  inl refl,
+  wrote,
+  every known (λ codes. TellsLine rules side codes p [] (Err fault) before now)
+      (λ codes. whole_left rules side codes p (Err fault) before now l leaves),
+)
 
 pub start_unread : (known : Option (List ℕ)) (rules : RuleLines) (side : Colour) (p : Board)
     (out : SinkTold) (before now : Spent) → Spends 1 0 before now
@@ -100,22 +97,17 @@ pub start_unread : (known : Option (List ℕ)) (rules : RuleLines) (side : Colou
     → WroteLine known rules side p result out out before now
 start_unread known rules side p out before now l fault (Ok end) h = absurd h
 start_unread known rules side p out before now l fault (Err f) h =
-    unread known rules side p out before now l fault f h
-
-code_in : (f : List ℕ → List ℕ) (start code : ℕ) (o : Option (List ℕ))
-    → IfSome o (λ bytes. slice_get (f bytes) start ≡ Some code)
-    → IfSome (option_map f o) (λ codes. slice_index codes start ≡ code)
-code_in f start code None h = tt
-code_in f start code (Some bytes) h = get_or_from_slice_get (f bytes) start code 0 h
-
--- the code that was read is the one of the file
-pub code_kept : (table : Table) (side : Colour) (files : Option Files) (start code : ℕ)
-    → IfSome files (λ m. IfSome (m table.name)
-    (λ bytes. slice_get (codes_at side table.text (table_size table) bytes) start ≡ Some code))
-    → IfSome (told_codes table side files) (λ codes. slice_index codes start ≡ code)
-code_kept table side None start code h = tt
-code_kept table side (Some m) start code h =
-    code_in (codes_at side table.text (table_size table)) start code (m table.name) h
+    subst (λ (z : LineFault). WroteLine known rules side p (Err z) out out before now) (sym h)
+    (by_fault fault)
+  where
+    by_fault : (fault : StoreFault)
+        → WroteLine known rules side p (Err (fault_of fault)) out out before now
+    by_fault Failed =
+        unread known rules side p out before now l faults.Store (took_nothing out)
+        (λ answer rest left. left)
+    by_fault NoMemory =
+        unread known rules side p out before now l faults.NoMemory (took_nothing out)
+        (λ answer rest left. left)
 
 tells : (rules : RuleLines) (side : Colour) (codes : List ℕ) (p : Board) (text : List ℕ)
     (result : Result LineEnd LineFault) (before mid now : Spent) (start code : ℕ)

@@ -1,5 +1,5 @@
 -- A session as far as it was played.
-use Rattle.std.proofs.Common.{◌≡◌, ◌+◌, ◌==◌, ◌++◌, ℕ, suc, inl, true, false, List, [], ◌∷◌, Option, refl, sym, subst, ap, ◌∙◌, arith, Result, Ok, Err, IfSome, append_assoc}
+use Rattle.std.proofs.Common.{◌≡◌, ◌==◌, ◌++◌, ℕ, suc, inl, true, false, List, [], ◌∷◌, Option, refl, sym, subst, ap, ◌∙◌, arith, Result, Ok, Err, IfSome, append_assoc}
 use Rattle.std.specs.Prelude.{slice_index}
 use Rattle.std.specs.Result.{IsErrAnd}
 use Rattle.std.proofs.lemmas.Bool.Decides.{nat_tests}
@@ -21,7 +21,7 @@ use Rattle.frz_play.specs.declared.end.TheConstants.{MOST_LINES}
 use Rattle.frz_play.specs.declared.hearing.Reader.{Reader}
 use Rattle.frz_play.specs.declared.playing.Spot.{Spot}
 use Rattle.frz_play.specs.declared.playing.Turn.{Turn}
-use Rattle.frz_play.specs.declared.playing.Turn.TheVariants.{On}
+use Rattle.frz_play.specs.declared.playing.Turn.TheVariants.{Over, On}
 use Rattle.frz_play.specs.Ends.{Finishes}
 use Rattle.frz_play.specs.Faults.{WroteBy, TookBytes}
 use Rattle.frz_play.specs.Hearing.{HasEnded, MayFollow, StaysEnded}
@@ -123,37 +123,6 @@ after_ply arena side kept start code spot old new played number read numbers byt
           (way_numbers (Inside start) plies) l.came g.2.1.2 g.2.1.3;
     }
 
-pub next_far : (told : Option (List ℕ)) (arena : Arena Step ℕ Value) (side : Colour)
-    (start code : ℕ) (spot : Spot) (old new : Reader) (number read : ℕ)
-    (source mid left : SourceTold) (out between taken : SinkTold) (before now after : Spent)
-    → SoFar told arena side start code spot old source mid out between before now
-    → SpendsAt arena 0 (spot.number ∷ []) now after → (next more : List ℕ) → IsLines next
-    → TookText next between taken → TookBytes more mid left → StaysEnded old new more
-    → IfSome told (λ kept. GoesBy arena side kept spot old new more next (Ok (On number read)))
-    → SoFar told arena side start code (record { number = number; code = read; is_start = false })
-    new source left out taken before after
-next_far told arena side start code spot old new number read source mid left out between taken
-    before now after far few next more lines wrote took stays goes = record {
-      text = far.text ++ next;
-      bytes = far.bytes ++ more;
-      lines = lines_behind far.text next far.lines lines;
-      wrote = took_behind far.text next (far.text ++ next) out between taken far.wrote refl wrote;
-      took = took_on far.bytes more source mid left far.took took;
-      played = suc far.played;
-      count = later_count far.played;
-      numbers = far.numbers ++ spot.number ∷ [];
-      spent = spends_on arena far.numbers (spot.number ∷ []) before now after far.spent few;
-      comes = both told (λ kept. ComeBy arena side kept start code spot old far.played far.numbers
-          far.bytes far.text)
-          (λ kept. GoesBy arena side kept spot old new more next (Ok (On number read)))
-          (λ kept. ComeBy arena side kept start code
-          (record { number = number; code = read; is_start = false }) new (suc far.played)
-          (far.numbers ++ spot.number ∷ []) (far.bytes ++ more) (far.text ++ next)) (λ kept c g.
-          after_ply arena side kept start code spot old new far.played number read far.numbers
-          far.bytes
-          more far.text next far.count stays c g) far.comes goes;
-    }
-
 left_over : (arena : Arena Step ℕ Value) (side : Colour) (kept : List ℕ) (played : ℕ) (left : Input)
     (plies : List SessionPly) (end : EndOfSession) (last : Input) (rest : List ℕ)
     (answer : Result SessionEnd PlayFault) → Leaves arena side kept played left plies end last rest
@@ -213,36 +182,8 @@ over_wrote : (answer : Result SessionEnd PlayFault) (text : List ℕ) (old new :
 over_wrote (Ok answer) text old new w = w
 over_wrote (Err fault) text old new w = same_wrote Turn SessionEnd fault text old new w
 
-pub last_far : (told : Option (List ℕ)) (arena : Arena Step ℕ Value) (side : Colour)
-    (start code : ℕ) (spot : Spot) (old new : Reader) (source mid left : SourceTold)
-    (out between taken : SinkTold) (before now after : Spent)
-    → SoFar told arena side start code spot old source mid out between before now
-    → SpendsAt arena 0 (spot.number ∷ []) now after → (new.ended ≡ true → HasEnded left)
-    → (answer : Result SessionEnd PlayFault) (next more : List ℕ) → IsLines next
-    → WroteBy (turn_over answer) next between taken → TookBytes more mid left
-    → StaysEnded old new more
-    → IfSome told (λ kept. GoesBy arena side kept spot old new more next (turn_over answer))
-    → SessionWrote told arena side start code answer source left out taken before after
-last_far told arena side start code spot old new source mid left out between taken before now after
-    far few has answer next more lines wrote took stays goes =
-    let all = took_on far.bytes more source mid left far.took took in (
-      far.text ++ next,
-      far.bytes ++ more,
-      lines_behind far.text next far.lines lines,
-      wrote_after far.text next answer out between taken far.wrote
-          (over_wrote answer next between taken wrote),
-      all,
-      both told (λ kept. ComeBy arena side kept start code spot old far.played far.numbers far.bytes
-          far.text) (λ kept. GoesBy arena side kept spot old new more next (turn_over answer))
-          (λ kept. Plays arena side kept start code source (far.bytes ++ more) (far.text ++ next)
-          answer
-          before after) (λ kept c g.
-          played_out arena side kept start code spot old new far.played far.numbers far.bytes more
-          far.text next answer before now after source left far.count far.spent few stays all has c
-          g) far.comes goes,
-    )
-
-pub fault_wrote : (told : Option (List ℕ)) (arena : Arena Step ℕ Value) (side : Colour)
+-- a fault that was answered
+fault_wrote : (told : Option (List ℕ)) (arena : Arena Step ℕ Value) (side : Colour)
     (start code : ℕ) (source left : SourceTold) (out taken : SinkTold) (before now : Spent)
     (fault : PlayFault) (result : Result SessionEnd PlayFault) → IsErrAnd result (λ e. e ≡ fault)
     → SessionWrote told arena side start code (Err fault) source left out taken before now
@@ -252,3 +193,81 @@ fault_wrote told arena side start code source left out taken before now fault (O
 fault_wrote told arena side start code source left out taken before now fault (Err e) h w =
     subst (λ (f : PlayFault). SessionWrote told arena side start code (Err f) source left out taken
     before now) (sym h) w
+
+-- one turn more, which left the reader so
+module _ {told : Option (List ℕ)} {arena : Arena Step ℕ Value} {side : Colour} {start code : ℕ}
+    {spot : Spot} {old : Reader} (new : Reader) {source mid left : SourceTold}
+    {out between : SinkTold} (taken : SinkTold) {before now after : Spent}
+    (far : SoFar told arena side start code spot old source mid out between before now)
+    (few : SpendsAt arena 0 (spot.number ∷ []) now after) (next more : List ℕ) (lines : IsLines next)
+    (took : TookBytes more mid left) (stays : StaysEnded old new more) where
+  -- a ply was played
+  pub next_far : {turn : Turn} {number read : ℕ} → turn ≡ On number read
+      → TookText next between taken
+      → IfSome told (λ kept. GoesBy arena side kept spot old new more next (Ok turn))
+      → SoFar told arena side start code
+      (record { number = number; code = read; is_start = false }) new source left out taken before
+      after
+  next_far {turn} {number} {read} on wrote goes = record {
+    text = far.text ++ next;
+    bytes = far.bytes ++ more;
+    lines = lines_behind far.text next far.lines lines;
+    wrote = took_behind far.text next (far.text ++ next) out between taken far.wrote refl wrote;
+    took = took_on far.bytes more source mid left far.took took;
+    played = suc far.played;
+    count = later_count far.played;
+    numbers = far.numbers ++ spot.number ∷ [];
+    spent = spends_on arena far.numbers (spot.number ∷ []) before now after far.spent few;
+    comes = both told (λ kept. ComeBy arena side kept start code spot old far.played far.numbers
+        far.bytes far.text)
+        (λ kept. GoesBy arena side kept spot old new more next (Ok turn))
+        (λ kept. ComeBy arena side kept start code
+        (record { number = number; code = read; is_start = false }) new (suc far.played)
+        (far.numbers ++ spot.number ∷ []) (far.bytes ++ more) (far.text ++ next)) (λ kept c g.
+        after_ply arena side kept start code spot old new far.played number read far.numbers
+        far.bytes more far.text next far.count stays c
+        (subst (λ (t : Turn). GoesBy arena side kept spot old new more next (Ok t)) on g))
+        far.comes goes;
+  }
+
+  last_far : (answer : Result SessionEnd PlayFault) → (new.ended ≡ true → HasEnded left)
+      → WroteBy (turn_over answer) next between taken
+      → IfSome told (λ kept. GoesBy arena side kept spot old new more next (turn_over answer))
+      → SessionWrote told arena side start code answer source left out taken before after
+  last_far answer has wrote goes =
+      let all = took_on far.bytes more source mid left far.took took in (
+        far.text ++ next,
+        far.bytes ++ more,
+        lines_behind far.text next far.lines lines,
+        wrote_after far.text next answer out between taken far.wrote
+            (over_wrote answer next between taken wrote),
+        all,
+        both told (λ kept. ComeBy arena side kept start code spot old far.played far.numbers
+            far.bytes far.text)
+            (λ kept. GoesBy arena side kept spot old new more next (turn_over answer))
+            (λ kept. Plays arena side kept start code source (far.bytes ++ more) (far.text ++ next)
+            answer before after) (λ kept c g.
+            played_out arena side kept start code spot old new far.played far.numbers far.bytes more
+            far.text next answer before now after source left far.count far.spent few stays all has
+            c g) far.comes goes,
+      )
+
+  -- the session's end
+  pub over_far : {turn : Turn} {end : SessionEnd} → turn ≡ Over end
+      → (new.ended ≡ true → HasEnded left) → TookText next between taken
+      → IfSome told (λ kept. GoesBy arena side kept spot old new more next (Ok turn))
+      → SessionWrote told arena side start code (Ok end) source left out taken before after
+  over_far {turn} {end} over has wrote goes =
+      last_far (Ok end) has wrote
+      (subst (λ (t : Turn). IfSome told (λ kept. GoesBy arena side kept spot old new more next
+      (Ok t))) over goes)
+
+  -- a fault on its way
+  pub fault_far : (fault : PlayFault) (result : Result SessionEnd PlayFault)
+      → IsErrAnd result (λ e. e ≡ fault) → (new.ended ≡ true → HasEnded left)
+      → WroteBy {T = Turn} (Err fault) next between taken
+      → IfSome told (λ kept. GoesBy arena side kept spot old new more next (Err fault))
+      → SessionWrote told arena side start code result source left out taken before after
+  fault_far fault result is has wrote goes =
+      fault_wrote told arena side start code source left out taken before after fault result is
+      (last_far (Err fault) has wrote goes)

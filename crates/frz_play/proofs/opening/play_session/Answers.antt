@@ -1,19 +1,18 @@
-use Rattle.std.proofs.Common.{◌≡◌, ◌<◌, List, Option, Some, IfSome, sym, subst, ◌∙◌}
+use Rattle.std.proofs.Common.{◌≡◌, ◌<◌, List, sym, subst}
 use Rattle.frz_board.specs.Boards.{Board}
 use Rattle.frz_sets.specs.declared.exit.Value.{Value}
 use Rattle.frz_sets.specs.Sets.{size_of}
 use Rattle.frz_sets.specs.Sound.{IsSound}
 use Rattle.frz_sets.specs.Views.{RuleLines, GroupLine}
-use Rattle.frz_store.specs.Files.{Files}
 use Rattle.frz_store.specs.Told.{store_of, source_of, sink_of}
 use Rattle.frz_exits.specs.Books.{value_by}
-use Rattle.frz_game.specs.Games.{game_of, graph_by}
-use Rattle.frz_game.specs.Numbers.{number_of, numbers_by}
+use Rattle.frz_game.specs.Games.{game_of}
+use Rattle.frz_game.specs.Numbers.{numbers_by}
 use Rattle.frz_game.proofs.Lemmas.{finite}
 use Rattle.frz_index.specs.Members.{Member, Num}
 use Rattle.frz_answer.specs.World.{spent_by}
 use Rattle.frz_line.specs.Kept.{told_codes}
-use Rattle.frz_line.proofs.Lemmas.{code_kept, code_read}
+use Rattle.frz_line.proofs.Lemmas.{code_kept, code_read, start_inside, told_by_table}
 use Rattle.frz_play.specs.Turns.{Plays}
 use Rattle.frz_play.proofs.Alternating.{turn_after}
 use Rattle.frz_play.proofs.Starting.{nothing_told, start_unread, session_told}
@@ -31,10 +30,8 @@ returns-in_default-clause-played g c =
 pub entry-requires-clause-number : goal.entry-requires-clause-number
 entry-requires-clause-number g c =
     let rules = c.args.table.now.rules in
-    let there : number_of rules.groups c.args.p.now ≡ Some c.in-Some.start = subst
-    (λ (z : List GroupLine). number_of z c.args.p.now ≡ Some c.in-Some.start) c.set.ensures
-    (sym c.number.ensures.function ∙ c.in-Some.is) in
-    (c.numbered.ensures.numbering rules (value_by rules)).in_size c.args.p.now c.in-Some.start there
+    start_inside rules c.args.p.now (c.numbered.ensures.numbering rules (value_by rules))
+    c.set.ensures c.number.ensures.function c.in-Some.is
 
 pub returns-in_err-code-clause-played : goal.returns-in_err-code-clause-played
 returns-in_err-code-clause-played g c =
@@ -64,45 +61,30 @@ play_from-requires-clause-turns g c =
 pub play_from-requires-clause-inside : goal.play_from-requires-clause-inside
 play_from-requires-clause-inside g c =
     let rules = c.args.table.now.rules in
-    let there : number_of rules.groups c.args.p.now ≡ Some c.in-Some.start = subst
-    (λ (z : List GroupLine). number_of z c.args.p.now ≡ Some c.in-Some.start) c.set.ensures
-    (sym c.number.ensures.function ∙ c.in-Some.is) in
     subst (λ (r : RuleLines). c.in-Some.start < size_of r.groups) (sym c.rules-rules.ensures.rules)
-    ((c.numbered.ensures.numbering rules (value_by rules)).in_size c.args.p.now c.in-Some.start
-    there)
+    (start_inside rules c.args.p.now (c.numbered.ensures.numbering rules (value_by rules))
+    c.set.ensures c.number.ensures.function c.in-Some.is)
 
 pub returns-clause-played : goal.returns-clause-played
 returns-clause-played g c =
-    let rules = c.args.table.now.rules in
+    let table = c.args.table.now in
+    let side = c.args.side in
     let files = g.S.Store.files c.args.store.now in
-    let told = told_codes c.args.table.now c.args.side files in
     let source = source_of g.I.Source c.args.input.now in
     let start = c.in-Some.start in
-    let before = spent_by (store_of g.S.Store c.entry.new.store) c.args.steps.now in
+    let code = c.in_ok-code.code in
+    let before = spent_by (store_of g.S.Store c.args.store.now) c.args.steps.now in
+    let mid = spent_by (store_of g.S.Store c.entry.new.store) c.args.steps.now in
     let now = spent_by (store_of g.S.Store c.play_from.new.store) c.play_from.new.steps in
-    let is : start ≡ Num rules.groups c.args.p.now = subst
-    (λ (z : List GroupLine). start ≡ Num z c.args.p.now) c.set.ensures
-    c.in-Some.ensures.number in
     let w = c.play_from.ensures.wrote in
-    let here = subst (λ (f : Option Files). IfSome (told_codes c.args.table.now c.args.side f)
-    (λ codes. Plays (graph_by c.rules-rules.result.now
-    (λ q. value_by c.new-book.result.rules.now q)) c.args.side codes start c.in_ok-code.code
-    source w.1 w.0 c.play_from.result before now)) c.in_ok-code.ensures.quiet.unwritten.files
-    w.5 in
-    let by_rules = subst
-    (λ (r : RuleLines). IfSome told
-    (λ codes. Plays (graph_by c.rules-rules.result.now (λ q. value_by r q)) c.args.side codes
-    start c.in_ok-code.code source w.1 w.0 c.play_from.result before now)) c.new-book.ensures
-    here in
-    let plays = subst (λ (r : RuleLines). IfSome told
-    (λ codes. Plays (graph_by r (λ q. value_by r q)) c.args.side codes start c.in_ok-code.code
-    source w.1 w.0 c.play_from.result before now)) c.rules-rules.ensures.rules by_rules in
-    session_told told rules c.args.side c.args.p.now c.play_from.result source
-    (source_of g.I.Source c.play_from.new.input) (sink_of g.O.Sink c.args.out.now)
-    (sink_of g.O.Sink c.play_from.new.out)
-    (spent_by (store_of g.S.Store c.args.store.now) c.args.steps.now) before now start
-    c.in_ok-code.code is
+    session_told (told_codes table side files) table.rules side c.args.p.now c.play_from.result
+    source (source_of g.I.Source c.play_from.new.input) (sink_of g.O.Sink c.args.out.now)
+    (sink_of g.O.Sink c.play_from.new.out) before mid now start code
+    (subst (λ (z : List GroupLine). start ≡ Num z c.args.p.now) c.set.ensures
+    c.in-Some.ensures.number)
     (code_read (store_of g.S.Store c.args.store.now) (store_of g.S.Store c.entry.new.store)
     c.args.steps.now c.in_ok-code.ensures.asked c.in_ok-code.ensures.calls)
-    (code_kept c.args.table.now c.args.side files start c.in_ok-code.code c.in_ok-code.ensures.code)
-    w.0 w.1 w.2 w.3 w.4 plays
+    (code_kept table side files start code c.in_ok-code.ensures.code) w.0 w.1 w.2 w.3 w.4
+    (told_by_table table side
+    (λ arena codes. Plays arena side codes start code source w.1 w.0 c.play_from.result mid now)
+    c.in_ok-code.ensures.quiet.unwritten.files c.new-book.ensures c.rules-rules.ensures.rules w.5)
