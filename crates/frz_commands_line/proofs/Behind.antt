@@ -13,7 +13,8 @@ use Rattle.frz_answer.specs.World.{World, Agrees, Quiet, spent}
 use Rattle.frz_answer.specs.Answers.{Answer, behind, held, IsLines}
 use Rattle.frz_answer.specs.Jobs.{Job, Sees}
 use Rattle.frz_answer.specs.Ends.{WritesOnly, Ran}
-use Rattle.frz_answer.proofs.Lemmas.{IsStage, as_given, follows, text_came}
+use Rattle.frz_answer.proofs.Lemmas.{as_given, follows, text_came}
+use Rattle.frz_commands_line.proofs.Stages.{is_part}
 
 -- what is left to do of a job behind this text
 abbrev pub rest_of : Job → List ℕ → Job
@@ -23,19 +24,6 @@ rest_of job text = record job {
   costs = λ files input a. job.costs files input (behind text 0 a);
 }
 
-is_rest : (job : Job) (text : List ℕ) → subset job.statuses job.statuses ≡ true
-    → IsStage (rest_of job text) job
-is_rest job text all = record {
-  statuses = all;
-  store = λ h. h;
-  reads = λ h. h;
-  sees = λ w h. h;
-  input = λ h. h;
-  memory = λ h. h;
-  speaks = λ h. h;
-  writes = refl;
-}
-
 -- the rest was done behind these lines
 pub behind_lines : (job : Job) (text : List ℕ) (end : End) (old : World) (out : SinkTold)
     (new : World) → TookText text old.out out → IsLines text
@@ -43,7 +31,7 @@ pub behind_lines : (job : Job) (text : List ℕ) (end : End) (old : World) (out 
     → Ran (rest_of job text) end (record old { out = out }) new → Ran job end old new
 behind_lines job text end old out new took lines speaks all ran =
     follows (rest_of job text) job text [] old (record old { out = out }) new
-    (text_came text old out took) lines speaks (is_rest job text all) end (λ _. refl)
+    (text_came text old out took) lines speaks (is_part job job.statuses all) end (λ _. refl)
     (λ sees files input agrees. record {
       found = as_given job files input old agrees;
       rest = input;

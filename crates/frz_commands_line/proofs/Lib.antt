@@ -2,6 +2,7 @@ mod Behind
 mod Counting
 mod Lawful
 mod LineMeans
+mod LineOpened
 mod OpeningCosts
 mod Opened
 mod Played
@@ -12,4 +13,5 @@ mod SessionOpened
 mod SessionPlayed
 mod SessionSeen
 mod SessionTexts
+mod Stages
 mod Taken

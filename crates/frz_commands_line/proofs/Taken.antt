@@ -14,8 +14,9 @@ use Rattle.frz_answer.specs.World.{World, Came, Later, spent}
 use Rattle.frz_answer.specs.Answers.{Answer, behind, held, IsLines}
 use Rattle.frz_answer.specs.Jobs.{Job, Sees}
 use Rattle.frz_answer.specs.Ends.{WritesOnly, Ran}
-use Rattle.frz_answer.proofs.Lemmas.{IsStage, Found, follows}
+use Rattle.frz_answer.proofs.Lemmas.{Found, follows}
 use Rattle.frz_store.specs.Told.{Unwritten}
+use Rattle.frz_commands_line.proofs.Stages.{is_part}
 
 -- what is left to do of a job behind this text and these bytes
 abbrev pub rest_after : Job → List ℕ → List ℕ → Job
@@ -23,19 +24,6 @@ rest_after job text bytes = record job {
   answers = λ files input a. job.answers files (bytes ++ input) (behind text (length bytes) a);
   means = λ _ _ _. ⊤;
   costs = λ files input a. job.costs files (bytes ++ input) (behind text (length bytes) a);
-}
-
-is_rest : (job : Job) (text bytes : List ℕ) → subset job.statuses job.statuses ≡ true
-    → IsStage (rest_after job text bytes) job
-is_rest job text bytes all = record {
-  statuses = all;
-  store = λ h. h;
-  reads = λ h. h;
-  sees = λ w h. h;
-  input = λ h. h;
-  memory = λ h. h;
-  speaks = λ h. h;
-  writes = refl;
 }
 
 -- an input that may be the one that is told, and begins with these bytes
@@ -72,7 +60,7 @@ pub after_lines : (job : Job) (text bytes : List ℕ) (end : End) (old mid new :
     → Ran (rest_after job text bytes) end mid new → Ran job end old new
 after_lines job text bytes end old mid new came lines speaks takes all split costs ran =
     follows (rest_after job text bytes) job text bytes old mid new came lines speaks
-    (is_rest job text bytes all) end
+    (is_part job job.statuses all) end
     (λ e. (let no : true ≡ false = sym takes ∙ e in cc))
     (λ sees files input agrees.
     let here = split sees files agrees.store in record {
