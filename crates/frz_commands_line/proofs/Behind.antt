@@ -1,19 +1,19 @@
 -- A command whose first lines are written before its end is known.
-use Rattle.std.proofs.Common.{◌≡◌, inl, refl, sym, ap, ◌∙◌, ℕ, List, [], ◌++◌, take, drop, true, IsTrue, Option, Some, None, arith, append_assoc}
+use Rattle.std.proofs.Common.{◌≡◌, ◌≤◌, inl, refl, sym, ap, ◌∙◌, ℕ, List, [], ◌++◌, take, drop, length, true, IsTrue, Option, Some, None, append_assoc}
 use Rattle.std.specs.Prelude.{⊤}
 use Rattle.std.specs.Option.{option_map}
 use Rattle.std.proofs.lemmas.List.{take-append-drop}
 use Rattle.frz_store.specs.Files.{Files}
-use Rattle.frz_store.specs.Told.{SinkTold}
+use Rattle.frz_store.specs.Told.{SinkTold, Unwritten}
 use Rattle.frz_answer.specs.declared.end.End.{End}
 use Rattle.frz_answer.specs.declared.end.End.TheVariants.{SinkFault}
 use Rattle.frz_answer.specs.Statuses.{subset}
 use Rattle.frz_answer.specs.Texts.{TookText, FailedWithin}
-use Rattle.frz_answer.specs.World.{World, Agrees, Quiet, spent}
+use Rattle.frz_answer.specs.World.{World, Agrees, Later, spent}
 use Rattle.frz_answer.specs.Answers.{Answer, behind, held, IsLines}
 use Rattle.frz_answer.specs.Jobs.{Job, Sees}
 use Rattle.frz_answer.specs.Ends.{WritesOnly, Ran}
-use Rattle.frz_answer.proofs.Lemmas.{as_given, follows, text_came}
+use Rattle.frz_answer.proofs.Lemmas.{Found, as_given, follows, text_came}
 use Rattle.frz_commands_line.proofs.Stages.{is_part}
 
 -- what is left to do of a job behind this text
@@ -41,45 +41,45 @@ behind_lines job text end old out new took lines speaks all ran =
     })
     ran
 
--- an answer of which these lines are the first
-pub record Beginning (job : Job) (text : List ℕ) (files : Files) (input : List ℕ)
+-- an answer of which these lines and bytes are the first
+pub record Beginning (job : Job) (text bytes : List ℕ) (files : Files) (input : List ℕ)
     (old mid : World) : Type 0 where
+  pub found : Found job files input old
   pub a : Answer
-  pub answer : job.answers files input a
+  pub answer : job.answers found.files found.input a
   pub rest : List ℕ
   pub begins : text ++ rest ≡ a.text
-  pub costs : job.costs files input a (spent old) (spent mid)
-
-drop_none : (o : Option (List ℕ)) → o ≡ option_map (drop 0) o
-drop_none None = refl
-drop_none (Some x) = refl
+  pub few : length bytes ≤ a.taken
+  pub costs : job.costs found.files found.input a (spent old) (spent mid)
 
 -- the sink failed within the lines
-pub cut_within : (job : Job) (text : List ℕ) (old mid : World) (out : SinkTold) → job.writes ≡ None
-    → Quiet old mid → FailedWithin text old.out out
+pub cut_within : (job : Job) (text bytes : List ℕ) (old mid : World) (out : SinkTold)
+    → job.writes ≡ None → Later old mid → Unwritten old.store mid.store
+    → mid.input.left ≡ option_map (drop (length bytes)) old.input.left
+    → FailedWithin text old.out out
     → (Sees job.needs.reads old → (files : Files) (input : List ℕ) → Agrees old files input
-    → Beginning job text files input old mid)
+    → Beginning job text bytes files input old mid)
     → Ran job SinkFault old (record mid { out = out })
-cut_within job text old mid out none quiet failed begun = record {
+cut_within job text bytes old mid out none later same left failed begun = record {
   later = record {
-    store = quiet.later.store;
-    input = quiet.later.input;
+    store = later.store;
+    input = later.input;
     out = failed.later;
-    steps = quiet.later.steps;
+    steps = later.steps;
   };
   may = failed.rose;
   lines = tt;
   only = only_quiet job.writes none;
-  unwritten = λ _. quiet.store;
+  unwritten = λ _. same;
   room = tt;
   answered = λ sees files input agrees.
       let here = begun sees files input agrees in
       let k = failed.taken.0 in record {
-        files = files;
-        input = input;
-        agrees = agrees;
-        free = λ _. refl;
-        untaken = λ _. refl;
+        files = here.found.files;
+        input = here.found.input;
+        agrees = here.found.agrees;
+        free = here.found.free;
+        untaken = here.found.untaken;
         a = here.a;
         answer = here.answer;
         leaves = record {
@@ -89,13 +89,18 @@ cut_within job text old mid out none quiet failed begun = record {
               ∙ ap (λ (l : List ℕ). l ++ here.rest) (take-append-drop k text) ∙ here.begins;
           text = failed.taken.1;
           others = record {
-            files = λ name. inl (ap (λ (o : Option Files). held o name) quiet.store.files);
-            left = (0, omega arith, quiet.left ∙ drop_none old.input.left);
+            files = λ name. inl (ap (λ (o : Option Files). held o name) same.files);
+            left = (length bytes, here.few, left);
           };
         };
         costs = here.costs;
       };
 } where
   only_quiet : (writes : Option (List ℕ)) → writes ≡ None → WritesOnly writes old.store mid.store
-  only_quiet None e = quiet.store
+  only_quiet None e = same
   only_quiet (Some name) e = cc
+
+-- no byte was taken
+pub drop_none : (o : Option (List ℕ)) → o ≡ option_map (drop 0) o
+drop_none None = refl
+drop_none (Some x) = refl

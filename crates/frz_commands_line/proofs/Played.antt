@@ -32,7 +32,7 @@ use Rattle.frz_line.specs.Texts.{line_text}
 use Rattle.frz_commands_line.specs.LineEnds.{end_status, naming_line, EndsLine}
 use Rattle.frz_commands_line.specs.LineOf.{code_at, LineComes, told_text, line_answer}
 use Rattle.frz_commands_line.specs.Lining.{lining_in}
-use Rattle.frz_commands_line.proofs.Behind.{rest_of, behind_lines, cut_within}
+use Rattle.frz_commands_line.proofs.Behind.{rest_of, behind_lines, cut_within, drop_none}
 use Rattle.frz_commands_line.proofs.Counting.{unfinished_said}
 use Rattle.frz_commands_line.proofs.OpeningCosts.{costs_inside, costs_outside}
 use Rattle.frz_commands_line.proofs.Seen.{LineThere, LineSo, by_member, lined_inside, lined_outside, line_so}
@@ -61,8 +61,9 @@ module _ (there : LineThere) (table : Table) (side : Colour) (p : Board) (store 
   abbrev played : World
   played = world left input mid now
 
-  quiet_between : Quiet between played
-  quiet_between = record {
+  -- nothing was written to the store, whatever the sink took before
+  quiet_with : (sink : SinkTold) → Quiet (world store input sink before) (world left input sink now)
+  quiet_with sink = record {
     later = record { store = quiet.later; input = omega arith; out = omega arith; steps = later };
     store = quiet.unwritten;
     left = refl;
@@ -120,7 +121,7 @@ module _ (there : LineThere) (table : Table) (side : Colour) (p : Board) (store 
     all_told result end tells took fine own said_it whole =
         behind_lines job text end old mid (world left input taken now) took lines refl refl
         (said (rest_of job text) (end_status result) (naming_line result) end between played taken
-        quiet_between (fine_store store left input mid before now fine) own said_it
+        (quiet_with mid) (fine_store store left input mid before now fine) own said_it
         (λ sees m i agrees.
         let so = so_in result tells sees m i
         (record { store = agrees.store; source = agrees.source }) in
@@ -161,7 +162,7 @@ module _ (there : LineThere) (table : Table) (side : Colour) (p : Board) (store 
         → Ran job (Stopped fault) old played
     stopped_short result fault tells took meets short =
         behind_lines job text (Stopped fault) old mid played took lines refl refl
-        (stopped (rest_of job text) fault between played quiet_between meets
+        (stopped (rest_of job text) fault between played (quiet_with mid) meets
         (λ sees m i agrees.
         let so = so_in result tells sees m i
         (record { store = agrees.store; source = agrees.source }) in
@@ -187,29 +188,20 @@ module _ (there : LineThere) (table : Table) (side : Colour) (p : Board) (store 
     cut_short : TellsIt (Err faults.Output) → FailedWithin text out mid
         → Ran job SinkFault old played
     cut_short tells failed =
-        cut_within job text old (world left input out now) mid refl
-        (record {
-          later = record {
-            store = quiet.later;
-            input = omega arith;
-            out = omega arith;
-            steps = later;
-          };
-          store = quiet.unwritten;
-          left = refl;
-          taken = refl;
-        })
-        failed
+        cut_within job text [] old (world left input out now) mid refl (quiet_with out).later
+        quiet.unwritten (drop_none input.left) failed
         (λ sees m i agrees.
         let so = so_in (Err faults.Output) tells sees m i agrees in
         let answer = told side so.end in
         let whole = rest_answer (Err faults.Output) m so in
         let a = line_answer side (code_in m) so.plies answer m in
         record {
+          found = as_given job m i old agrees;
           a = a;
           answer = is_answer inside text (Err faults.Output) m i so a refl;
           rest = so.rest ++ naming_line answer;
           begins = whole;
+          few = omega arith;
           costs = line_costs inside text (Err faults.Output) m i so a;
         })
 
@@ -220,18 +212,7 @@ module _ (there : LineThere) (table : Table) (side : Colour) (p : Board) (store 
       → Ran job end old (world left input taken now)
   outside_told end none same unwritten unstepped said_it =
       said job (status_of refusals.Outside) (refusal_line refusals.Outside) end old
-      (world left input out now) taken
-      (record {
-        later = record {
-          store = quiet.later;
-          input = omega arith;
-          out = omega arith;
-          steps = later;
-        };
-        store = quiet.unwritten;
-        left = refl;
-        taken = refl;
-      })
+      (world left input out now) taken (quiet_with out)
       (fine_store store left input out before now
       (subst (λ (s : StoreTold). StoreFine store s) (sym same)
       (record { faults = refl; wants = refl }))) refl

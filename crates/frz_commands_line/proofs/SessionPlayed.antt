@@ -40,10 +40,11 @@ use Rattle.frz_exits.specs.Books.{value_by}
 use Rattle.frz_check.specs.Kept.{kept_codes as codes_in}
 use Rattle.frz_index.specs.Members.{Num}
 use Rattle.frz_play.specs.Reading.{opened}
+use Rattle.frz_commands_line.proofs.Behind.{cut_within}
 use Rattle.frz_commands_line.proofs.OpeningCosts.{costs_inside, costs_outside}
 use Rattle.frz_commands_line.proofs.SessionSeen.{SessionThere, SessionSo, played_inside, played_outside, session_so}
 use Rattle.frz_commands_line.proofs.SessionTexts.{Answered, answered_at, never_cut}
-use Rattle.frz_commands_line.proofs.Taken.{rest_after, Split, found_in, after_lines, rest_left, cut_after}
+use Rattle.frz_commands_line.proofs.Taken.{rest_after, Split, found_in, after_lines, rest_left}
 
 -- what was written of the session and taken of the input
 abbrev pub Played : Table → Colour → Board → Option Files → Result SessionEnd PlayFault → SourceTold
@@ -306,19 +307,18 @@ module _ (there : SessionThere) (table : Table) (side : Colour) (p : Board) (sto
     cut_short : TellsIt (Err (plays.Line faults.Output)) → FailedWithin text out mid
         → Ran job SinkFault old played
     cut_short tells failed =
-        cut_after job text took old (world left gone out now) mid refl refl
+        cut_within job text took old (world left gone out now) mid refl
         (record { store = quiet.later; input = fell; out = omega arith; steps = later })
         quiet.unwritten bytes.behind failed
-        (λ sees m agrees.
+        (λ sees m i agrees.
         let result : Result SessionEnd PlayFault = Err (plays.Line faults.Output) in
-        let so = so_in result tells sees m agrees in
+        let so = so_in result tells sees m agrees.store in
         let final = answer_in result m so in
         let answer = final.answer in
         let a = session_answer side (code_in m) so.input so.plies so.end so.left answer m in
         let many = many_taken result m so in
         record {
-          input = so.input;
-          may = so.may;
+          found = found_in job m i old so.input refl agrees.store so.may;
           a = a;
           answer = is_answer result m so answer final.tells a refl;
           rest = so.of.rest ++ session_naming answer;

@@ -1,21 +1,16 @@
 -- A command that writes lines and takes input before its end is known.
-use Rattle.std.proofs.Common.{◌≡◌, inl, refl, sym, ap, subst, ◌∙◌, ℕ, ◌≤◌, List, ◌++◌, take, drop, length, Bool, true, false, IsTrue, Option, Some, None, append_assoc}
+use Rattle.std.proofs.Common.{◌≡◌, refl, sym, ap, subst, ◌∙◌, ℕ, List, ◌++◌, drop, length, Bool, true, false, IsTrue, Option, Some, None}
 use Rattle.std.specs.Prelude.{IfSome, ⊤}
 use Rattle.std.specs.Option.{option_map}
 use Rattle.std.proofs.Math.Seq.{drop-append_seam}
-use Rattle.std.proofs.lemmas.List.{take-append-drop}
 use Rattle.frz_store.specs.Files.{Files}
-use Rattle.frz_store.specs.Told.{SinkTold}
 use Rattle.frz_answer.specs.declared.end.End.{End}
-use Rattle.frz_answer.specs.declared.end.End.TheVariants.{SinkFault}
 use Rattle.frz_answer.specs.Statuses.{subset}
-use Rattle.frz_answer.specs.Texts.{FailedWithin}
-use Rattle.frz_answer.specs.World.{World, Came, Later, spent}
-use Rattle.frz_answer.specs.Answers.{Answer, behind, held, IsLines}
+use Rattle.frz_answer.specs.World.{World, Came, spent}
+use Rattle.frz_answer.specs.Answers.{Answer, behind, IsLines}
 use Rattle.frz_answer.specs.Jobs.{Job, Sees}
-use Rattle.frz_answer.specs.Ends.{WritesOnly, Ran}
+use Rattle.frz_answer.specs.Ends.{Ran}
 use Rattle.frz_answer.proofs.Lemmas.{Found, follows}
-use Rattle.frz_store.specs.Told.{Unwritten}
 use Rattle.frz_commands_line.proofs.Stages.{is_part}
 
 -- what is left to do of a job behind this text and these bytes
@@ -81,64 +76,3 @@ rest_left bytes rest input None mid split e h =
 rest_left bytes rest input (Some left) mid split e h =
     subst (λ (o : Option (List ℕ)). IfSome o (λ told. told ≡ rest)) (sym e)
     (ap (drop (length bytes)) (h ∙ sym split) ∙ drop-append_seam bytes rest)
-
--- an answer of which these lines and bytes are the first
-pub record Begins (job : Job) (text bytes : List ℕ) (files : Files) (old mid : World) : Type 0 where
-  pub input : List ℕ
-  pub may : IfSome old.input.left (λ told. told ≡ input)
-  pub a : Answer
-  pub answer : job.answers files input a
-  pub rest : List ℕ
-  pub begins : text ++ rest ≡ a.text
-  pub few : length bytes ≤ a.taken
-  pub costs : job.costs files input a (spent old) (spent mid)
-
--- the sink failed within the lines
-pub cut_after : (job : Job) (text bytes : List ℕ) (old mid : World) (out : SinkTold)
-    → job.writes ≡ None → IsTrue job.needs.input
-    → Later old mid → Unwritten old.store mid.store
-    → mid.input.left ≡ option_map (drop (length bytes)) old.input.left
-    → FailedWithin text old.out out
-    → (Sees job.needs.reads old → (files : Files) → IfSome old.store.files (λ told. told ≡ files)
-    → Begins job text bytes files old mid)
-    → Ran job SinkFault old (record mid { out = out })
-cut_after job text bytes old mid out none takes later same left failed begun = record {
-  later = record {
-    store = later.store;
-    input = later.input;
-    out = failed.later;
-    steps = later.steps;
-  };
-  may = failed.rose;
-  lines = tt;
-  only = only_quiet job.writes none;
-  unwritten = λ _. same;
-  room = tt;
-  answered = λ sees files input agrees.
-      let here = begun sees files agrees.store in
-      let found = found_in job files input old here.input takes agrees.store here.may in
-      let k = failed.taken.0 in record {
-        files = found.files;
-        input = found.input;
-        agrees = found.agrees;
-        free = found.free;
-        untaken = found.untaken;
-        a = here.a;
-        answer = here.answer;
-        leaves = record {
-          written = take k text;
-          rest = drop k text ++ here.rest;
-          begins = sym (append_assoc (take k text) (drop k text) here.rest)
-              ∙ ap (λ (l : List ℕ). l ++ here.rest) (take-append-drop k text) ∙ here.begins;
-          text = failed.taken.1;
-          others = record {
-            files = λ name. inl (ap (λ (o : Option Files). held o name) same.files);
-            left = (length bytes, here.few, left);
-          };
-        };
-        costs = here.costs;
-      };
-} where
-  only_quiet : (writes : Option (List ℕ)) → writes ≡ None → WritesOnly writes old.store mid.store
-  only_quiet None e = same
-  only_quiet (Some name) e = cc
