@@ -3,6 +3,7 @@ mod Counting
 mod Lawful
 mod LineMeans
 mod LineOpened
+mod Meaning
 mod OpeningCosts
 mod Opened
 mod Played

@@ -1,7 +1,6 @@
 -- What the answers of `line` mean.
-use Rattle.std.proofs.Common.{◌≡◌, inl, inr, ℕ, ◌+◌, ◌*◌, ◌≤◌, List, [], length, Bool, Result, true, false, Option, Some, None, Ok, Err, refl, sym, ap, subst, ◌∙◌}
-use Rattle.std.specs.Prelude.{MatchBool, slice_index}
-use Rattle.std.specs.Option.{unwrap_or}
+use Rattle.std.proofs.Common.{◌≡◌, inl, inr, ℕ, ◌+◌, ◌*◌, ◌≤◌, List, length, Result, Some, Ok, Err, refl, sym, ap, subst, ◌∙◌}
+use Rattle.std.specs.Prelude.{slice_index}
 use Rattle.frz_board.specs.declared.man.Colour.{Colour}
 use Rattle.frz_board.specs.Boards.{Board}
 use Rattle.frz_sets.specs.declared.exit.Value.{Value}
@@ -12,16 +11,13 @@ use Rattle.frz_exits.specs.Books.{value_by}
 use Rattle.frz_exits.specs.Values.{lag_of}
 use Rattle.frz_exits.proofs.Lemmas.{small_values}
 use Rattle.frz_index.specs.Members.{Member, Num}
-use Rattle.frz_index.proofs.Lemmas.{member_of, of_member}
 use Rattle.frz_arena.specs.WayEnds.{Wrong, NoBound, Mated, Stalemated, Exit, Cut, Stopped, EndsWon, EndsDrawn}
 use Rattle.frz_game.specs.Bounds.{IsTableOf}
 use Rattle.frz_game.specs.Games.{graph_by}
-use Rattle.frz_game.specs.Numbers.{is_member}
 use Rattle.frz_game.specs.SmallLags.{HasSmallLags}
 use Rattle.frz_game.proofs.Lemmas.{bound_means, plies_few, stored_bound}
-use Rattle.frz_store.specs.Files.{Files}
+use Rattle.frz_store.specs.Files.{Files, bytes_at}
 use Rattle.frz_table.specs.declared.fault.TableFault.{TableFault}
-use Rattle.frz_table.specs.declared.fault.TableFault.TheVariants as table
 use Rattle.frz_table.specs.declared.kind.FileKind.TheVariants.{Plain}
 use Rattle.frz_table.specs.Layout.{magic_of}
 use Rattle.frz_table.specs.Opening.{Contents, opened, table_format}
@@ -32,11 +28,7 @@ use Rattle.frz_check.proofs.Lemmas.{one_file_holds}
 use Rattle.frz_answer.specs.declared.status.Status.{Status}
 use Rattle.frz_answer.specs.declared.status.Status.TheVariants as statuses
 use Rattle.frz_answer.specs.Answers.{Answer, says}
-use Rattle.frz_prelude.specs.Refusals.{status_of, refusal_line}
-use Rattle.frz_prelude.specs.TableCauses.{table_line}
-use Rattle.frz_prelude.specs.TableFiles.{TellsTableFault}
-use Rattle.frz_prelude.specs.declared.refused.Refused.TheVariants as refusals
-use Rattle.frz_prelude.proofs.Lemmas.{IsOfBytes, of_bytes, opened_missing}
+use Rattle.frz_prelude.specs.TableFiles.{OpensAs}
 use Rattle.frz_line.specs.declared.end.LineEnd.{LineEnd}
 use Rattle.frz_line.specs.declared.end.LineEnd.TheVariants as ends
 use Rattle.frz_line.specs.declared.end.TheConstants.{MOST_PLIES}
@@ -45,6 +37,7 @@ use Rattle.frz_line.specs.Lines.{LinePly, EndOfLine, IsLine}
 use Rattle.frz_commands_line.specs.LineEnds.{end_status}
 use Rattle.frz_commands_line.specs.LineOf.{code_at, told_text, IsLined, IsLinedBy, IsLinedAt}
 use Rattle.frz_commands_line.specs.LineMeaning.{KeepsWin, KeepsHold, KeepsBound, HasLine, start_code, MeansStatus, MeansLine}
+use Rattle.frz_commands_line.proofs.Meaning.{ByOpening, means_by}
 
 -- what the laws say of all lines
 pub record LineLaws : Type 0 where
@@ -196,86 +189,32 @@ module _ (laws : LineLaws) (name : List ℕ) (side : Colour) (p : Board) (files 
       subst (λ (x : Answer). MeansLine name side p files x) (sym e)
       (record { same = refl; untaken = refl; says = means })
 
-  fault_told : (bytes : List ℕ) → files name ≡ Some bytes → (fault : TableFault)
-      → opened (table_format Plain) (Some bytes) ≡ Err fault
-      → TellsTableFault name files (table_line fault)
-  fault_told bytes there fault e =
-      record { bytes = bytes; there = there; fault = fault; refused = e; told = refl }
+  lined_means : (a : Answer) (bytes : List ℕ) (contents : Contents)
+      → OpensAs name files bytes contents → Member contents.rules.groups p
+      → IsLined contents bytes side p files a → MeansLine name side p files a
+  lined_means a bytes contents open_file inside lined =
+      let has : HasLine name side p files = record {
+        bytes = bytes;
+        contents = contents;
+        open_file = open_file;
+        inside = inside;
+        plies = lined.plies;
+        end = lined.end;
+        line = lined.line;
+      } in
+      means_so a (end_status (told side lined.end))
+      (told_text side (start_code has) lined.plies (told side lined.end)) lined.told
+      (says_end has lined.end refl)
 
-  refused_says : (bytes : List ℕ) → files name ≡ Some bytes → (fault : TableFault)
-      → opened (table_format Plain) (Some bytes) ≡ Err fault → IsOfBytes fault
-      → MeansStatus name side p files (status_of (refusals.Table fault))
-      (refusal_line (refusals.Table fault))
-  refused_says bytes there table.Missing e of = absurd of
-  refused_says bytes there table.Magic e of = fault_told bytes there table.Magic e
-  refused_says bytes there (table.Truncated length due) e of =
-      fault_told bytes there (table.Truncated length due) e
-  refused_says bytes there (table.Extra length due) e of =
-      fault_told bytes there (table.Extra length due) e
-  refused_says bytes there (table.Rules fault) e of = fault_told bytes there (table.Rules fault) e
-  refused_says bytes there (table.Size kept due) e of =
-      fault_told bytes there (table.Size kept due) e
-  refused_says bytes there table.Failed e of = absurd of
-  refused_says bytes there table.NoMemory e of = absurd of
+  lined_so : (a : Answer) (x : Result Contents TableFault) (bytes : List ℕ)
+      → IsLinedBy x bytes side p files a
+      → ByOpening p files a (λ contents bytes. IsLined contents bytes side p files a) x bytes
+  lined_so a (Ok contents) bytes h = h
+  lined_so a (Err fault) bytes h = h
 
-  module _ (bytes : List ℕ) (there : files name ≡ Some bytes) (contents : Contents)
-      (opens : opened (table_format Plain) (Some bytes) ≡ Ok contents) (a : Answer) where
-    lined_means : Member contents.rules.groups p → IsLined contents bytes side p files a
-        → MeansLine name side p files a
-    lined_means inside lined =
-        let has : HasLine name side p files = record {
-          bytes = bytes;
-          contents = contents;
-          open_file = record { there = there; opens = opens };
-          inside = inside;
-          plies = lined.plies;
-          end = lined.end;
-          line = lined.line;
-        } in
-        means_so a (end_status (told side lined.end))
-        (told_text side (start_code has) lined.plies (told side lined.end)) lined.told
-        (says_end has lined.end refl)
-
-    outside_means : (Member contents.rules.groups p → ⊥)
-        → a ≡ says (status_of refusals.Outside) (refusal_line refusals.Outside) files
-        → MeansLine name side p files a
-    outside_means none e =
-        means_so a statuses.Outside (refusal_line refusals.Outside) e
-        (inl (record {
-          bytes = bytes;
-          contents = contents;
-          open_file = record { there = there; opens = opens };
-          outside = none;
-          told = refl;
-        }))
-
-    by_test : (b : Bool) → is_member contents.rules.groups p ≡ b
-        → MatchBool b (IsLined contents bytes side p files a)
-        (a ≡ says (status_of refusals.Outside) (refusal_line refusals.Outside) files)
-        → MeansLine name side p files a
-    by_test true e h = lined_means (member_of contents.rules.groups p e) h
-    by_test false e h = outside_means
-        (λ inside. let no : false ≡ true = sym e ∙ of_member contents.rules.groups p inside in cc) h
-
-  by_opening : (bytes : List ℕ) → files name ≡ Some bytes → (x : Result Contents TableFault)
-      → opened (table_format Plain) (Some bytes) ≡ x
-      → (a : Answer) → IsLinedBy x bytes side p files a → MeansLine name side p files a
-  by_opening bytes there (Ok contents) opens a h =
-      by_test bytes there contents opens a (is_member contents.rules.groups p) refl h
-  by_opening bytes there (Err fault) e a h =
-      means_so a (status_of (refusals.Table fault)) (refusal_line (refusals.Table fault)) h
-      (refused_says bytes there fault e (of_bytes (table_format Plain) bytes fault e))
-
-  by_file : (held : Option (List ℕ)) → files name ≡ held → (a : Answer)
-      → IsLinedBy (opened (table_format Plain) held) (unwrap_or held []) side p files a
-      → MeansLine name side p files a
-  by_file None e a h =
-      means_so a statuses.Missing (table_line table.Missing)
-      (subst (λ (x : Result Contents TableFault). IsLinedBy x [] side p files a)
-      (opened_missing (table_format Plain)) h) e
-  by_file (Some bytes) e a h =
-      by_opening bytes e (opened (table_format Plain) (Some bytes)) refl a h
-
-pub line_means : LineLaws → (name : List ℕ) (side : Colour) (p : Board) (files : Files) (a : Answer)
-    → IsLinedAt name side p files a → MeansLine name side p files a
-line_means laws name side p files a h = by_file laws name side p files (files name) refl a h
+  pub line_means : (a : Answer) → IsLinedAt name side p files a → MeansLine name side p files a
+  line_means a h =
+      means_by name p files a (λ contents bytes. IsLined contents bytes side p files a)
+      (MeansStatus name side p files) (means_so a) (λ text e. e) (λ text e. e) (λ text e. inl e)
+      (lined_means a) (files name) refl
+      (lined_so a (opened (table_format Plain) (files name)) (bytes_at files name) h)

@@ -15,7 +15,7 @@ use Rattle.frz_answer.specs.declared.end.End.{End}
 use Rattle.frz_answer.specs.declared.status.Status.{Status}
 use Rattle.frz_answer.specs.declared.status.Status.TheVariants as statuses
 use Rattle.frz_answer.specs.Statuses.{OneOf, subset}
-use Rattle.frz_answer.specs.World.{World, world, Agrees, spent, spent_by}
+use Rattle.frz_answer.specs.World.{World, world, spent, spent_by}
 use Rattle.frz_answer.specs.Answers.{Answer, says, SomeAnswer}
 use Rattle.frz_answer.specs.Jobs.{Job, Reads, Again, Sees}
 use Rattle.frz_answer.specs.Ends.{Ran}

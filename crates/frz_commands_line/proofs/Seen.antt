@@ -1,5 +1,5 @@
 -- What is known of a line that was played, by the file that the store tells.
-use Rattle.std.proofs.Common.{◌≡◌, refl, sym, subst, ◌∙◌, ℕ, ◌+◌, List, [], ◌++◌, Bool, true, false, Option, Some, None, Result, IfSome}
+use Rattle.std.proofs.Common.{◌≡◌, refl, sym, subst, ◌∙◌, ℕ, List, [], ◌++◌, Bool, true, false, Option, Some, None, Result, IfSome}
 use Rattle.std.specs.Prelude.{IsSome, IsSomeAnd, MatchBool}
 use Rattle.std.specs.Option.{option_map, unwrap_or}
 use Rattle.frz_board.specs.declared.man.Colour.{Colour}

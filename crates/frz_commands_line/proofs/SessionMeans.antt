@@ -1,8 +1,7 @@
 -- What the answers of `play` mean.
-use Rattle.std.proofs.Common.{◌≡◌, inl, inr, ℕ, ◌+◌, ◌-◌, ◌*◌, ◌≤◌, List, [], length, Bool, Result, true, false, Option, Some, None, Ok, Err, refl, sym, ap, subst, ◌∙◌, arith}
-use Rattle.std.specs.Prelude.{MatchBool, slice_index, slice_get}
+use Rattle.std.proofs.Common.{◌≡◌, inl, inr, ℕ, ◌+◌, ◌-◌, ◌*◌, ◌≤◌, List, length, Result, Some, Ok, Err, refl, sym, ap, subst, ◌∙◌, arith}
+use Rattle.std.specs.Prelude.{slice_index, slice_get}
 use Rattle.std.specs.List.{Contains}
-use Rattle.std.specs.Option.{unwrap_or}
 use Rattle.frz_board.specs.declared.man.Colour.{Colour}
 use Rattle.frz_board.specs.Boards.{Board}
 use Rattle.frz_board.specs.Men.{other_of}
@@ -14,27 +13,20 @@ use Rattle.frz_sets.specs.Views.{RuleLines}
 use Rattle.frz_exits.specs.Books.{value_by}
 use Rattle.frz_exits.specs.Values.{lag_of}
 use Rattle.frz_index.specs.Members.{Member, Num}
-use Rattle.frz_index.proofs.Lemmas.{member_of, of_member}
 use Rattle.frz_arena.specs.Chess.{NeverForcesMate}
 use Rattle.frz_arena.specs.WayEnds.{Wrong, NoBound, Mated, Stalemated, Exit, Cut, Stopped, EndsWon, EndsHeld}
 use Rattle.frz_game.specs.Bounds.{IsTableOf}
 use Rattle.frz_game.specs.Games.{chess, graph_by}
-use Rattle.frz_game.specs.Numbers.{is_member, position_at}
+use Rattle.frz_game.specs.Numbers.{position_at}
 use Rattle.frz_game.specs.Values.{AreTrueExits}
-use Rattle.frz_store.specs.Files.{Files}
+use Rattle.frz_store.specs.Files.{Files, bytes_at}
 use Rattle.frz_table.specs.declared.fault.TableFault.{TableFault}
-use Rattle.frz_table.specs.declared.fault.TableFault.TheVariants as table
 use Rattle.frz_table.specs.declared.kind.FileKind.TheVariants.{Plain}
 use Rattle.frz_table.specs.Opening.{Contents, opened, table_format}
 use Rattle.frz_check.specs.Kept.{kept_codes}
 use Rattle.frz_answer.specs.declared.status.Status.{Status}
-use Rattle.frz_answer.specs.declared.status.Status.TheVariants as statuses
 use Rattle.frz_answer.specs.Answers.{Answer, says}
-use Rattle.frz_prelude.specs.Refusals.{status_of, refusal_line}
-use Rattle.frz_prelude.specs.TableCauses.{table_line}
-use Rattle.frz_prelude.specs.TableFiles.{TellsTableFault}
-use Rattle.frz_prelude.specs.declared.refused.Refused.TheVariants as refusals
-use Rattle.frz_prelude.proofs.Lemmas.{IsOfBytes, of_bytes, opened_missing}
+use Rattle.frz_prelude.specs.TableFiles.{OpensAs}
 use Rattle.frz_line.specs.declared.end.LineFault.TheVariants as faults
 use Rattle.frz_play.specs.declared.end.PlayFault.{PlayFault}
 use Rattle.frz_play.specs.declared.end.PlayFault.TheVariants as plays
@@ -49,6 +41,7 @@ use Rattle.frz_commands_line.specs.SessionEnds.{session_status}
 use Rattle.frz_commands_line.specs.SessionOf.{played_text, IsPlayed, IsPlayedBy, IsPlayedAt}
 use Rattle.frz_commands_line.specs.SessionMeaning.{PlaysWin, PlaysHold, IsSafe, HasSession, start_code, IsExactFile, MeansStatus, MeansPlay}
 use Rattle.frz_commands_line.proofs.LineMeans.{table_kept, bound_kept}
+use Rattle.frz_commands_line.proofs.Meaning.{ByOpening, means_by}
 
 -- what the laws say of all sessions
 pub record SessionLaws : Type 0 where
@@ -220,91 +213,36 @@ module _ (laws : SessionLaws) (name : List ℕ) (side : Colour) (p : Board) (fil
       subst (λ (x : Answer). MeansPlay name side p files input x) (sym e)
       (record { same = refl; few = few; says = means })
 
-  fault_told : (bytes : List ℕ) → files name ≡ Some bytes → (fault : TableFault)
-      → opened (table_format Plain) (Some bytes) ≡ Err fault
-      → TellsTableFault name files (table_line fault)
-  fault_told bytes there fault e =
-      record { bytes = bytes; there = there; fault = fault; refused = e; told = refl }
+  played_means : (a : Answer) (bytes : List ℕ) (contents : Contents)
+      → OpensAs name files bytes contents → Member contents.rules.groups p
+      → IsPlayed contents bytes side p files input a → MeansPlay name side p files input a
+  played_means a bytes contents open_file inside played =
+      let has : HasSession name side p files input = record {
+        bytes = bytes;
+        contents = contents;
+        open_file = open_file;
+        inside = inside;
+        plies = played.plies;
+        end = played.end;
+        left = played.left;
+        session = played.session;
+      } in
+      means_so a (session_status played.answer)
+      (played_text side (start_code has) played.plies played.end played.answer)
+      (length input - length played.left.left) (omega arith) played.told
+      (says_end has played.end refl played.answer played.tells)
 
-  refused_says : (bytes : List ℕ) → files name ≡ Some bytes → (fault : TableFault)
-      → opened (table_format Plain) (Some bytes) ≡ Err fault → IsOfBytes fault
-      → MeansStatus name side p files input (status_of (refusals.Table fault))
-      (refusal_line (refusals.Table fault))
-  refused_says bytes there table.Missing e of = absurd of
-  refused_says bytes there table.Magic e of = fault_told bytes there table.Magic e
-  refused_says bytes there (table.Truncated length due) e of =
-      fault_told bytes there (table.Truncated length due) e
-  refused_says bytes there (table.Extra length due) e of =
-      fault_told bytes there (table.Extra length due) e
-  refused_says bytes there (table.Rules fault) e of = fault_told bytes there (table.Rules fault) e
-  refused_says bytes there (table.Size kept due) e of =
-      fault_told bytes there (table.Size kept due) e
-  refused_says bytes there table.Failed e of = absurd of
-  refused_says bytes there table.NoMemory e of = absurd of
+  played_so : (a : Answer) (x : Result Contents TableFault) (bytes : List ℕ)
+      → IsPlayedBy x bytes side p files input a
+      → ByOpening p files a (λ contents bytes. IsPlayed contents bytes side p files input a) x bytes
+  played_so a (Ok contents) bytes h = h
+  played_so a (Err fault) bytes h = h
 
-  module _ (bytes : List ℕ) (there : files name ≡ Some bytes) (contents : Contents)
-      (opens : opened (table_format Plain) (Some bytes) ≡ Ok contents) (a : Answer) where
-    played_means : Member contents.rules.groups p → IsPlayed contents bytes side p files input a
-        → MeansPlay name side p files input a
-    played_means inside played =
-        let has : HasSession name side p files input = record {
-          bytes = bytes;
-          contents = contents;
-          open_file = record { there = there; opens = opens };
-          inside = inside;
-          plies = played.plies;
-          end = played.end;
-          left = played.left;
-          session = played.session;
-        } in
-        means_so a (session_status played.answer)
-        (played_text side (start_code has) played.plies played.end played.answer)
-        (length input - length played.left.left) (omega arith) played.told
-        (says_end has played.end refl played.answer played.tells)
-
-    outside_means : (Member contents.rules.groups p → ⊥)
-        → a ≡ says (status_of refusals.Outside) (refusal_line refusals.Outside) files
-        → MeansPlay name side p files input a
-    outside_means none e =
-        means_so a statuses.Outside (refusal_line refusals.Outside) 0 (omega arith) e
-        (inl (record {
-          bytes = bytes;
-          contents = contents;
-          open_file = record { there = there; opens = opens };
-          outside = none;
-          told = refl;
-        }))
-
-    by_test : (b : Bool) → is_member contents.rules.groups p ≡ b
-        → MatchBool b (IsPlayed contents bytes side p files input a)
-        (a ≡ says (status_of refusals.Outside) (refusal_line refusals.Outside) files)
-        → MeansPlay name side p files input a
-    by_test true e h = played_means (member_of contents.rules.groups p e) h
-    by_test false e h = outside_means
-        (λ inside. let no : false ≡ true = sym e ∙ of_member contents.rules.groups p inside in cc) h
-
-  by_opening : (bytes : List ℕ) → files name ≡ Some bytes → (x : Result Contents TableFault)
-      → opened (table_format Plain) (Some bytes) ≡ x
-      → (a : Answer) → IsPlayedBy x bytes side p files input a → MeansPlay name side p files input a
-  by_opening bytes there (Ok contents) opens a h =
-      by_test bytes there contents opens a (is_member contents.rules.groups p) refl h
-  by_opening bytes there (Err fault) e a h =
-      means_so a (status_of (refusals.Table fault)) (refusal_line (refusals.Table fault)) 0
-      (omega arith) h (refused_says bytes there fault e
-      (of_bytes (table_format Plain) bytes fault e))
-
-  by_file : (held : Option (List ℕ)) → files name ≡ held → (a : Answer)
-      → IsPlayedBy (opened (table_format Plain) held) (unwrap_or held []) side p files input a
+  pub play_means : (a : Answer) → IsPlayedAt name side p files input a
       → MeansPlay name side p files input a
-  by_file None e a h =
-      means_so a statuses.Missing (table_line table.Missing) 0 (omega arith)
-      (subst (λ (x : Result Contents TableFault). IsPlayedBy x [] side p files input a)
-      (opened_missing (table_format Plain)) h) e
-  by_file (Some bytes) e a h =
-      by_opening bytes e (opened (table_format Plain) (Some bytes)) refl a h
-
-pub play_means : SessionLaws → (name : List ℕ) (side : Colour) (p : Board) (files : Files)
-    (input : List ℕ) (a : Answer) → IsPlayedAt name side p files input a
-    → MeansPlay name side p files input a
-play_means laws name side p files input a h =
-    by_file laws name side p files input (files name) refl a h
+  play_means a h =
+      means_by name p files a (λ contents bytes. IsPlayed contents bytes side p files input a)
+      (MeansStatus name side p files input)
+      (λ status text e means. means_so a status text 0 (omega arith) e means) (λ text e. e)
+      (λ text e. e) (λ text e. inl e) (played_means a) (files name) refl
+      (played_so a (opened (table_format Plain) (files name)) (bytes_at files name) h)

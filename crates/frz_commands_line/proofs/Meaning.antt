@@ -1,0 +1,92 @@
+-- What an answer means that goes by how a table file opens.
+use Rattle.std.proofs.Common.{◌≡◌, ℕ, List, [], Bool, true, false, Option, Some, None, Result, Ok, Err, refl, sym, subst, ◌∙◌}
+use Rattle.std.specs.Prelude.{MatchBool}
+use Rattle.std.specs.Option.{unwrap_or}
+use Rattle.frz_board.specs.Boards.{Board}
+use Rattle.frz_index.specs.Members.{Member}
+use Rattle.frz_index.proofs.Lemmas.{member_of, of_member}
+use Rattle.frz_game.specs.Numbers.{is_member}
+use Rattle.frz_store.specs.Files.{Files}
+use Rattle.frz_table.specs.declared.fault.TableFault.{TableFault}
+use Rattle.frz_table.specs.declared.fault.TableFault.TheVariants as table
+use Rattle.frz_table.specs.declared.kind.FileKind.TheVariants.{Plain}
+use Rattle.frz_table.specs.Opening.{Contents, opened, table_format}
+use Rattle.frz_answer.specs.declared.status.Status.{Status}
+use Rattle.frz_answer.specs.declared.status.Status.TheVariants as statuses
+use Rattle.frz_answer.specs.Answers.{Answer, says}
+use Rattle.frz_prelude.specs.Refusals.{status_of, refusal_line}
+use Rattle.frz_prelude.specs.TableCauses.{table_line}
+use Rattle.frz_prelude.specs.TableFiles.{OpensAs, TellsTableFault}
+use Rattle.frz_prelude.specs.declared.refused.Refused.TheVariants as refusals
+use Rattle.frz_prelude.proofs.Lemmas.{IsOfBytes, of_bytes, opened_missing}
+use Rattle.frz_commands_line.specs.LineMeaning.{TellsOutside}
+
+-- the status of bytes that are refused
+own_status : (fault : TableFault) → IsOfBytes fault
+    → status_of (refusals.Table fault) ≡ statuses.Table
+own_status table.Missing of = absurd of
+own_status table.Magic of = refl
+own_status (table.Truncated length due) of = refl
+own_status (table.Extra length due) of = refl
+own_status (table.Rules fault) of = refl
+own_status (table.Size kept due) of = refl
+own_status table.Failed of = absurd of
+own_status table.NoMemory of = absurd of
+
+-- what a command answers by how the file opens, and at a position of its set
+module _ (p : Board) (files : Files) (a : Answer) (Inside : Contents → (bytes : List ℕ) → Type 0)
+  where
+    abbrev ByMember : Contents → List ℕ → Bool → Type 0
+    ByMember contents bytes b = MatchBool b (Inside contents bytes)
+        (a ≡ says (status_of refusals.Outside) (refusal_line refusals.Outside) files)
+
+    abbrev pub ByOpening : Result Contents TableFault → List ℕ → Type 0
+    ByOpening (Ok contents) bytes = ByMember contents bytes (is_member contents.rules.groups p)
+    ByOpening (Err fault) bytes =
+        a ≡ says (status_of (refusals.Table fault)) (refusal_line (refusals.Table fault)) files
+
+-- what an answer means by its status
+module _ (name : List ℕ) (p : Board) (files : Files) (a : Answer)
+    (Inside : Contents → (bytes : List ℕ) → Type 0) (Says : Status → List ℕ → Type 0)
+    {Meaning : Type 0}
+    (so : (status : Status) (text : List ℕ) → a ≡ says status text files → Says status text
+    → Meaning)
+    (missing : (text : List ℕ) → files name ≡ None → Says statuses.Missing text)
+    (refused : (text : List ℕ) → TellsTableFault name files text → Says statuses.Table text)
+    (outside : (text : List ℕ) → TellsOutside name p files text → Says statuses.Outside text)
+    (inside : (bytes : List ℕ) (contents : Contents) → OpensAs name files bytes contents
+    → Member contents.rules.groups p → Inside contents bytes → Meaning) where
+  by_member : (bytes : List ℕ) (contents : Contents) → OpensAs name files bytes contents
+      → (b : Bool) → is_member contents.rules.groups p ≡ b → ByMember p files a Inside contents bytes b → Meaning
+  by_member bytes contents open_file true e h =
+      inside bytes contents open_file (member_of contents.rules.groups p e) h
+  by_member bytes contents open_file false e h =
+      so statuses.Outside (refusal_line refusals.Outside) h
+      (outside (refusal_line refusals.Outside) (record {
+        bytes = bytes;
+        contents = contents;
+        open_file = open_file;
+        outside = λ member.
+            let no : false ≡ true = sym e ∙ of_member contents.rules.groups p member in cc;
+        told = refl;
+      }))
+
+  by_bytes : (bytes : List ℕ) → files name ≡ Some bytes → (x : Result Contents TableFault)
+      → opened (table_format Plain) (Some bytes) ≡ x → ByOpening p files a Inside x bytes → Meaning
+  by_bytes bytes there (Ok contents) opens h =
+      by_member bytes contents (record { there = there; opens = opens })
+      (is_member contents.rules.groups p) refl h
+  by_bytes bytes there (Err fault) e h =
+      so (status_of (refusals.Table fault)) (refusal_line (refusals.Table fault)) h
+      (subst (λ (s : Status). Says s (table_line fault))
+      (sym (own_status fault (of_bytes (table_format Plain) bytes fault e)))
+      (refused (table_line fault)
+      (record { bytes = bytes; there = there; fault = fault; refused = e; told = refl })))
+
+  pub means_by : (held : Option (List ℕ)) → files name ≡ held
+      → ByOpening p files a Inside (opened (table_format Plain) held) (unwrap_or held []) → Meaning
+  means_by None e h =
+      so statuses.Missing (table_line table.Missing)
+      (subst (λ (x : Result Contents TableFault). ByOpening p files a Inside x [])
+      (opened_missing (table_format Plain)) h) (missing (table_line table.Missing) e)
+  means_by (Some bytes) e h = by_bytes bytes e (opened (table_format Plain) (Some bytes)) refl h
