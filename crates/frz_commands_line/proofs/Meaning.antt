@@ -57,7 +57,8 @@ module _ (name : List ℕ) (p : Board) (files : Files) (a : Answer)
     (inside : (bytes : List ℕ) (contents : Contents) → OpensAs name files bytes contents
     → Member contents.rules.groups p → Inside contents bytes → Meaning) where
   by_member : (bytes : List ℕ) (contents : Contents) → OpensAs name files bytes contents
-      → (b : Bool) → is_member contents.rules.groups p ≡ b → ByMember p files a Inside contents bytes b → Meaning
+      → (b : Bool) → is_member contents.rules.groups p ≡ b
+      → ByMember p files a Inside contents bytes b → Meaning
   by_member bytes contents open_file true e h =
       inside bytes contents open_file (member_of contents.rules.groups p e) h
   by_member bytes contents open_file false e h =

@@ -158,8 +158,8 @@ module _ (By : Result Contents TableFault → (bytes : List ℕ) → Files → L
         (λ sees files left agrees.
         let told = known job.needs.reads old again sees in
         let costs : (a : Answer) → by_file.costs files left a (spent old) (spent new) = λ a.
-        opening_within (opened (table_format Plain) (files name)) p (comes (bytes_at files name) left)
-        (opening_calls (table_format Plain) (files name))
+        opening_within (opened (table_format Plain) (files name)) p
+        (comes (bytes_at files name) left) (opening_calls (table_format Plain) (files name))
         (16 + length (kept_text (bytes_at files name))) (spent old) (spent new) refl
         (refused_calls name store now fault files told agrees.store may)
         (of_told store.files files

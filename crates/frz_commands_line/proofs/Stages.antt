@@ -9,7 +9,8 @@ use Rattle.frz_answer.specs.Jobs.{Job}
 use Rattle.frz_answer.proofs.Lemmas.{IsStage}
 
 -- with other answers, which mean and cost something else, and none but its statuses
-pub is_part : (job : Job) (statuses : List Status) {answers means : Files → List ℕ → Answer → Type 0}
+pub is_part : (job : Job) (statuses : List Status)
+    {answers means : Files → List ℕ → Answer → Type 0}
     {costs : Files → List ℕ → Answer → Spent → Spent → Type 0}
     → subset statuses job.statuses ≡ true
     → IsStage

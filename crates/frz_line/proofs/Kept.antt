@@ -45,5 +45,6 @@ pub told_by_table : (table : Table) (side : Colour) {files now : Option Files}
     → IfSome (told_codes table side files) (P (graph_by table.rules (value_by table.rules)))
 told_by_table table side {files} {rules = rules} {book = book} P same by is h =
     subst (λ (r : RuleLines). IfSome (told_codes table side files) (P (graph_by r (value_by r)))) is
-    (subst (λ (r : RuleLines). IfSome (told_codes table side files) (P (graph_by rules (value_by r))))
-    by (told_before table side (P (graph_by rules (value_by book))) same h))
+    (subst (λ (r : RuleLines). IfSome (told_codes table side files)
+    (P (graph_by rules (value_by r)))) by
+    (told_before table side (P (graph_by rules (value_by book))) same h))

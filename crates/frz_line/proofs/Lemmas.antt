@@ -23,7 +23,7 @@ pub use Rattle.frz_line.proofs.Spending.{
   spends_last,
   spends_on,
 }
-pub use Rattle.frz_line.proofs.Starting.{start_inside}
+pub use Rattle.frz_line.proofs.Starting.{no_member, start_inside}
 pub use Rattle.frz_line.proofs.TextLines.{as_lines, ends_arm, ends_behind, lines_behind}
 pub use Rattle.frz_line.proofs.Turned.{unfinished}
 pub use Rattle.frz_line.proofs.Turning.{PlyDue, never_failing, ply_due, still_early}

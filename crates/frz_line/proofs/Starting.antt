@@ -1,6 +1,6 @@
 -- A line from the number of a position.
-use Rattle.std.proofs.Common.{◌≡◌, ◌<◌, ℕ, inl, List, [], Option, Some, IfSome, Result, Ok, Err, refl, sym, subst, ap, ◌∙◌}
-use Rattle.std.specs.Prelude.{slice_index}
+use Rattle.std.proofs.Common.{◌≡◌, ◌<◌, ℕ, inl, List, [], Option, Some, None, IfSome, Result, Ok, Err, refl, sym, subst, ap, ◌∙◌}
+use Rattle.std.specs.Prelude.{slice_index, ◌↔◌, IsSome}
 use Rattle.std.specs.Result.{IsErrAnd}
 use Rattle.frz_board.specs.declared.man.Colour.{Colour}
 use Rattle.frz_board.specs.Boards.{Board}
@@ -40,6 +40,12 @@ pub start_inside : (rules : RuleLines) (p : Board) {set : List GroupLine} {found
 start_inside rules p {start = start} numbering same is there =
     numbering.in_size p start
     (subst (λ (z : List GroupLine). number_of z p ≡ Some start) same (sym is ∙ there))
+
+-- a position that has no number is not in its set
+pub no_member : {set groups : List GroupLine} (p : Board) → set ≡ groups
+    → IsSome {T = ℕ} None ↔ Member set p → Member groups p → ⊥
+no_member p same is member =
+    (let no = is.1 (subst (λ (z : List GroupLine). Member z p) (sym same) member) in cc)
 
 -- what was written of the line
 abbrev pub WroteLine : Option (List ℕ) → RuleLines → Colour → Board → Result LineEnd LineFault
@@ -81,7 +87,8 @@ unread : (known : Option (List ℕ)) (rules : RuleLines) (side : Colour) (p : Bo
     (before now : Spent) → Spends 1 0 before now → (fault : LineFault)
     → WroteBy {T = LineEnd} (Err fault) [] out out
     → ((answer : Result LineEnd LineFault) (rest : List ℕ) → IsUnfinished answer rest
-    → Finishes (Err fault) answer rest) → WroteLine known rules side p (Err fault) out out before now
+    → Finishes (Err fault) answer rest)
+    → WroteLine known rules side p (Err fault) out out before now
 unread known rules side p out before now l fault wrote leaves = (
   [],
   inl refl,

@@ -106,30 +106,31 @@ if_answers P turn text result old new p (inl a) =
 if_answers P turn text result old new p (inr a) =
     subst (λ (z : Result Turn LineFault). IfOk z P) (sym a.0) tt
 
-pub turn_next : (arena : Arena Step ℕ Value) (size : ℕ) → IsFinite arena size
-    → (side : Colour) (spot : Spot) (arms : List (Arm Step ℕ Value)) (cs : List ℕ)
+pub turn_next : {arena : Arena Step ℕ Value} {size : ℕ} → IsFinite arena size
+    → (side : Colour) (spot : Spot) {arms : List (Arm Step ℕ Value)} (cs : List ℕ)
     → arms ≡ arena.arms spot.number → length cs ≡ length arms → (spot.played ≡ 0)
     ⊎ (is_failure spot.code ≡ false) → (due : Due)
     → due ≡ due_by (spot.played == 0) (nat_le MOST_PLIES spot.played) spot.code
     (node_code side (arena.node spot.number) (free_among arms cs) cs) (arena.node spot.number)
     → (result : Result Turn LineFault) (old new : SinkTold)
     → IsPlayed side spot due arms cs result old new → IfOk result (TurnsTo size spot)
-turn_next arena size finite side spot arms cs are many stands (dues.Wrong given) e result old new
+turn_next {arena} {size} finite side spot cs are many stands (dues.Wrong given) e result old new
     h =
     subst (λ (z : Result Turn LineFault). IfOk z (TurnsTo size spot)) (sym h.0) tt
-turn_next arena size finite side spot arms cs are many stands dues.NoBound e result old new h =
+turn_next {arena} {size} finite side spot cs are many stands dues.NoBound e result old new h =
     subst (λ (z : Result Turn LineFault). IfOk z (TurnsTo size spot)) (sym h.0) tt
-turn_next arena size finite side spot arms cs are many stands (dues.Mate m) e result old new h =
+turn_next {arena} {size} finite side spot cs are many stands (dues.Mate m) e result old new h =
     if_answers (TurnsTo size spot) (Over ends.Mate) (over_text side spot ends.Mate) result old new
     tt h
-turn_next arena size finite side spot arms cs are many stands (dues.Stalemate m) e result old new
+turn_next {arena} {size} finite side spot cs are many stands (dues.Stalemate m) e result old new
     h =
     if_answers (TurnsTo size spot) (Over ends.Stalemate) (over_text side spot ends.Stalemate) result
     old new tt h
-turn_next arena size finite side spot arms cs are many stands dues.Cut e result old new h =
+turn_next {arena} {size} finite side spot cs are many stands dues.Cut e result old new h =
     if_answers (TurnsTo size spot) (Over ends.Cut) (over_text side spot ends.Cut) result old new tt
     h
-turn_next arena size finite side spot arms cs are many stands (dues.Ply m) e result old new h =
+turn_next {arena} {size} finite side spot {arms} cs are many stands (dues.Ply m) e result old new
+    h =
     let place = h.0 in
     let x = h.1 in
     let a = h.2 in
@@ -325,65 +326,61 @@ over_wrote fills known arena size finite side spot arms cs are due e codes_told 
           ∙ stops) whole (leaves kept)) codes_told,
     )
 
-pub turn_wrote : AsksForOne → FillsLocal → (known : Option (List ℕ)) (arena : Arena Step ℕ Value)
-    (size : ℕ) → IsFinite arena size
-    → (side : Colour) (spot : Spot) (arms : List (Arm Step ℕ Value)) (cs : List ℕ)
-    → arms ≡ arena.arms spot.number → (due : Due)
-    → due ≡ due_by (spot.played == 0) (nat_le MOST_PLIES spot.played) spot.code
-    (node_code side (arena.node spot.number) (free_among arms cs) cs) (arena.node spot.number)
-    → IfSome known (λ kept. cs ≡ map (arm_code side kept) arms)
-    → (result : Result Turn LineFault) (old new : SinkTold)
-    → IsPlayed side spot due arms cs result old new → (text : List ℕ) × IsLines text
-    × WroteBy result text old new × IfSome known (λ kept. GoesBy arena side kept spot text result)
-turn_wrote one fills known arena size finite side spot arms cs are (dues.Wrong given) e codes_told
-    result old new h =
-    let w : WrongEntry =
-    record { side = side; number = spot.number; kept = spot.code; given = given } in
-    let f : EndOfLine = Wrong spot.number spot.code given in
-    stop_wrote known arena side spot result old new (faults.Wrong w) h.1 h.0
-    (some_of known (λ kept. cs ≡ map (arm_code side kept) arms)
-    (λ kept. GoesBy arena side kept spot [] result) (λ kept same.
-    over_goes arena side kept spot [] result f
-    (λ agrees. line_stage fills arena size finite side spot arms cs kept are same agrees
-    (dues.Wrong given) e) (none_text (spot.played == 0))
-    (subst (λ (z : Result Turn LineFault). Leaves arena side kept spot [] f [] z) (sym h.0)
-    (refl, refl))) codes_told)
-turn_wrote one fills known arena size finite side spot arms cs are dues.NoBound e codes_told result
-    old new h =
-    let f : EndOfLine = NoBound in
-    stop_wrote known arena side spot result old new faults.NoBound h.1 h.0
-    (some_of known (λ kept. cs ≡ map (arm_code side kept) arms)
-    (λ kept. GoesBy arena side kept spot [] result) (λ kept same.
-    over_goes arena side kept spot [] result f
-    (λ agrees. line_stage fills arena size finite side spot arms cs kept are same agrees
-    dues.NoBound e) (none_text (spot.played == 0))
-    (subst (λ (z : Result Turn LineFault). Leaves arena side kept spot [] f [] z) (sym h.0)
-    (refl, refl))) codes_told)
-turn_wrote one fills known arena size finite side spot arms cs are (dues.Mate m) e codes_told result
-    old new h =
-    over_wrote fills known arena size finite side spot arms cs are (dues.Mate m) e codes_told
-    (Mated m) ends.Mate refl refl result old new h
-turn_wrote one fills known arena size finite side spot arms cs are (dues.Stalemate m) e codes_told
-    result old new h =
-    over_wrote fills known arena size finite side spot arms cs are (dues.Stalemate m) e codes_told
-    (Stalemated m) ends.Stalemate refl refl result old new h
-turn_wrote one fills known arena size finite side spot arms cs are dues.Cut e codes_told result old
-    new h =
-    over_wrote fills known arena size finite side spot arms cs are dues.Cut e codes_told Cut
-    ends.Cut refl refl result old new h
-turn_wrote one fills known arena size finite side spot arms cs are (dues.Ply m) e codes_told result
-    old new h =
-    let a = h.2 in
-    let text = moved_text side spot a in (
-      text,
-      as_lines text (ends_behind (first_line side spot) (arm_text a) (ends_arm a)),
-      by_answers (turn_of a.next h.1.code) text result old new h.5,
-      some_of known (λ kept. cs ≡ map (arm_code side kept) arms)
-          (λ kept. GoesBy arena side kept spot text result) (λ kept same.
-          ply_goes one arena size finite side m spot arms cs kept are same
-          (λ agrees. line_stage fills arena size finite side spot arms cs kept are same agrees
-          (dues.Ply m) e) h.0 h.1 a h.3 h.4 result old new h.5) codes_told,
-    )
+-- what a turn wrote, by what was due
+module _ (one : AsksForOne) (fills : FillsLocal) (known : Option (List ℕ))
+    {arena : Arena Step ℕ Value} {size : ℕ} (finite : IsFinite arena size) (side : Colour)
+    (spot : Spot) {arms : List (Arm Step ℕ Value)} (cs : List ℕ)
+    (are : arms ≡ arena.arms spot.number) where
+  pub turn_wrote : (due : Due)
+      → due ≡ due_by (spot.played == 0) (nat_le MOST_PLIES spot.played) spot.code
+      (node_code side (arena.node spot.number) (free_among arms cs) cs) (arena.node spot.number)
+      → IfSome known (λ kept. cs ≡ map (arm_code side kept) arms)
+      → (result : Result Turn LineFault) (old new : SinkTold)
+      → IsPlayed side spot due arms cs result old new → (text : List ℕ) × IsLines text
+      × WroteBy result text old new × IfSome known (λ kept. GoesBy arena side kept spot text result)
+  turn_wrote (dues.Wrong given) e codes_told result old new h =
+      let w : WrongEntry =
+      record { side = side; number = spot.number; kept = spot.code; given = given } in
+      let f : EndOfLine = Wrong spot.number spot.code given in
+      stop_wrote known arena side spot result old new (faults.Wrong w) h.1 h.0
+      (some_of known (λ kept. cs ≡ map (arm_code side kept) arms)
+      (λ kept. GoesBy arena side kept spot [] result) (λ kept same.
+      over_goes arena side kept spot [] result f
+      (λ agrees. line_stage fills arena size finite side spot arms cs kept are same agrees
+      (dues.Wrong given) e) (none_text (spot.played == 0))
+      (subst (λ (z : Result Turn LineFault). Leaves arena side kept spot [] f [] z) (sym h.0)
+      (refl, refl))) codes_told)
+  turn_wrote dues.NoBound e codes_told result old new h =
+      let f : EndOfLine = NoBound in
+      stop_wrote known arena side spot result old new faults.NoBound h.1 h.0
+      (some_of known (λ kept. cs ≡ map (arm_code side kept) arms)
+      (λ kept. GoesBy arena side kept spot [] result) (λ kept same.
+      over_goes arena side kept spot [] result f
+      (λ agrees. line_stage fills arena size finite side spot arms cs kept are same agrees
+      dues.NoBound e) (none_text (spot.played == 0))
+      (subst (λ (z : Result Turn LineFault). Leaves arena side kept spot [] f [] z) (sym h.0)
+      (refl, refl))) codes_told)
+  turn_wrote (dues.Mate m) e codes_told result old new h =
+      over_wrote fills known arena size finite side spot arms cs are (dues.Mate m) e codes_told
+      (Mated m) ends.Mate refl refl result old new h
+  turn_wrote (dues.Stalemate m) e codes_told result old new h =
+      over_wrote fills known arena size finite side spot arms cs are (dues.Stalemate m) e codes_told
+      (Stalemated m) ends.Stalemate refl refl result old new h
+  turn_wrote dues.Cut e codes_told result old new h =
+      over_wrote fills known arena size finite side spot arms cs are dues.Cut e codes_told Cut
+      ends.Cut refl refl result old new h
+  turn_wrote (dues.Ply m) e codes_told result old new h =
+      let a = h.2 in
+      let text = moved_text side spot a in (
+        text,
+        as_lines text (ends_behind (first_line side spot) (arm_text a) (ends_arm a)),
+        by_answers (turn_of a.next h.1.code) text result old new h.5,
+        some_of known (λ kept. cs ≡ map (arm_code side kept) arms)
+            (λ kept. GoesBy arena side kept spot text result) (λ kept same.
+            ply_goes one arena size finite side m spot arms cs kept are same
+            (λ agrees. line_stage fills arena size finite side spot arms cs kept are same agrees
+            (dues.Ply m) e) h.0 h.1 a h.3 h.4 result old new h.5) codes_told,
+      )
 
 -- the store stopped a turn before anything was written, by a fault that leaves a line unfinished
 stopped_before : (known : Option (List ℕ)) (arena : Arena Step ℕ Value) (side : Colour)

@@ -84,19 +84,19 @@ pub still_early : (kept k most : ℕ) → ((kept == 1) && nat_le most k) ≡ fal
 still_early kept k most f e = grind (arith, nat_tests)
 
 -- where a ply is due the code asks for a move
-pub has_move : (arena : Arena Step ℕ Value) (size : ℕ) → IsFinite arena size
-    → (side : Colour) (spot : Spot) (arms : List (Arm Step ℕ Value)) (cs : List ℕ)
+pub has_move : {arena : Arena Step ℕ Value} {size : ℕ} → IsFinite arena size
+    → (side : Colour) (spot : Spot) {arms : List (Arm Step ℕ Value)} (cs : List ℕ)
     → arms ≡ arena.arms spot.number → length cs ≡ length arms → (spot.played ≡ 0)
     ⊎ (is_failure spot.code ≡ false) → (is_late : Bool) (due : Due)
     → due ≡ due_by (spot.played == 0) is_late spot.code
     (node_code side (arena.node spot.number) (free_among arms cs) cs) (arena.node spot.number)
     → HasMove side spot due arms cs
-has_move arena size finite side spot arms cs are many stands is_late (dues.Wrong given) e = tt
-has_move arena size finite side spot arms cs are many stands is_late dues.NoBound e = tt
-has_move arena size finite side spot arms cs are many stands is_late (dues.Mate m) e = tt
-has_move arena size finite side spot arms cs are many stands is_late (dues.Stalemate m) e = tt
-has_move arena size finite side spot arms cs are many stands is_late dues.Cut e = tt
-has_move arena size finite side spot arms cs are many stands is_late (dues.Ply m) e =
+has_move finite side spot cs are many stands is_late (dues.Wrong given) e = tt
+has_move finite side spot cs are many stands is_late dues.NoBound e = tt
+has_move finite side spot cs are many stands is_late (dues.Mate m) e = tt
+has_move finite side spot cs are many stands is_late (dues.Stalemate m) e = tt
+has_move finite side spot cs are many stands is_late dues.Cut e = tt
+has_move {arena} finite side spot {arms} cs are many stands is_late (dues.Ply m) e =
     let d = ply_due (spot.played == 0) is_late spot.code
     (node_code side (arena.node spot.number) (free_among arms cs) cs) (arena.node spot.number) m
     (sym e) in

@@ -323,8 +323,8 @@ hears_fails {arms} {old} {next} {source} {left} {out} {new} {result = Err fault}
     subst (λ (f : PlayFault). Hears arms old next (Err f) source left out new) (sym e) h
 
 -- a line is heard as what is known of why it is none
-pub heard_as : {old new : Reader} {line : List ℕ} {source left : SourceTold} {why known : Option Why}
-    → why ≡ known → HearsLine old new (Ok why) line source left
+pub heard_as : {old new : Reader} {line : List ℕ} {source left : SourceTold}
+    {why known : Option Why} → why ≡ known → HearsLine old new (Ok why) line source left
     → HearsLine old new (Ok known) line source left
 heard_as {old} {new} {line} {source} {left} e h =
     subst (λ (o : Option Why). HearsLine old new (Ok o) line source left) e h

@@ -199,8 +199,8 @@ module _ {told : Option (List ℕ)} {arena : Arena Step ℕ Value} {side : Colou
     {spot : Spot} {old : Reader} (new : Reader) {source mid left : SourceTold}
     {out between : SinkTold} (taken : SinkTold) {before now after : Spent}
     (far : SoFar told arena side start code spot old source mid out between before now)
-    (few : SpendsAt arena 0 (spot.number ∷ []) now after) (next more : List ℕ) (lines : IsLines next)
-    (took : TookBytes more mid left) (stays : StaysEnded old new more) where
+    (few : SpendsAt arena 0 (spot.number ∷ []) now after) (next more : List ℕ)
+    (lines : IsLines next) (took : TookBytes more mid left) (stays : StaysEnded old new more) where
   -- a ply was played
   pub next_far : {turn : Turn} {number read : ℕ} → turn ≡ On number read
       → TookText next between taken

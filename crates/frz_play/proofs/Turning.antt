@@ -82,8 +82,8 @@ never_cut is_start code given node due e cut =
       | inr h ↦ absurd (cc)
     ]
 
-module _ (arena : Arena Step ℕ Value) (size : ℕ) (finite : IsFinite arena size) (side : Colour)
-    (spot : Spot) (arms : List (Arm Step ℕ Value)) (cs : List ℕ)
+module _ {arena : Arena Step ℕ Value} {size : ℕ} (finite : IsFinite arena size) (side : Colour)
+    (spot : Spot) {arms : List (Arm Step ℕ Value)} (cs : List ℕ)
     (are : arms ≡ arena.arms spot.number) (many : length cs ≡ length arms)
     (stands : (spot.is_start ≡ true) ⊎ (is_failure spot.code ≡ false)) where
   abbrev IsDue : Due → Type 0

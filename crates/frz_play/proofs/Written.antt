@@ -170,8 +170,8 @@ stopped_by told arena side spot reader fault (Err e) source out h =
     )
 
 module _ (one : AsksForOne) (fills : FillsLocal) (told : Option (List ℕ))
-    (arena : Arena Step ℕ Value) (size : ℕ) (finite : IsFinite arena size) (side : Colour)
-    (spot : Spot) (arms : List (Arm Step ℕ Value)) (cs : List ℕ)
+    {arena : Arena Step ℕ Value} {size : ℕ} (finite : IsFinite arena size) (side : Colour)
+    (spot : Spot) {arms : List (Arm Step ℕ Value)} (cs : List ℕ)
     (are : arms ≡ arena.arms spot.number)
     (codes_told : IfSome told (λ kept. cs ≡ map (arm_code side kept) arms)) where
   abbrev IsDue : Due → Type 0
@@ -255,6 +255,24 @@ module _ (one : AsksForOne) (fills : FillsLocal) (told : Option (List ℕ))
       subst (λ (z : Result Turn PlayFault). WroteBy z [] out taken) (sym e)
       (subst (λ (z : SinkTold). WroteBy {T = Turn} (Err fault) [] out z) (sym same) w)
 
+  -- what was written behind what was heard, and how the session goes on by it
+  tail_with : {old new : Reader} {heard_is : Result Heard PlayFault}
+      {result : Result Turn PlayFault} {source left : SourceTold} {out between taken : SinkTold}
+      (hears : Hears arms old new heard_is source left out between) (text : List ℕ) → IsLines text
+      → WroteBy result text out taken → ((kept : List ℕ) → cs ≡ map (arm_code side kept) arms
+      → TailBy arena side kept spot old new hears.bytes text result)
+      → Tail told arena side spot old new result source left out taken
+  tail_with {old} {new} {result = result} hears text lines wrote goes = record {
+    text = text;
+    bytes = hears.bytes;
+    lines = lines;
+    wrote = wrote;
+    took = hears.took;
+    stays = hears.stays;
+    goes = some_of told (λ kept. cs ≡ map (arm_code side kept) arms)
+        (λ kept. TailBy arena side kept spot old new hears.bytes text result) goes codes_told;
+  }
+
   -- the input has ended
   ended_by : (m : Colour) → IsDue (dues.Ply m) → same_colour m side ≡ false
       → (old new : Reader) (answer : Result SessionEnd PlayFault) (result : Result Turn PlayFault)
@@ -265,22 +283,16 @@ module _ (one : AsksForOne) (fills : FillsLocal) (told : Option (List ℕ))
       → Tail told arena side spot old new result source left out taken
   ended_by m e own old new answer result source left out between taken hears is wrote finishes =
       let text = refused_text hears.refused ++ codes "input ended\n" in
-      record {
-        text = text;
-        bytes = hears.bytes;
-        lines = lines_behind (refused_text hears.refused) (codes "input ended\n")
-            (refused_lines hears.refused) (inr (codes "input ended", refl));
-        wrote = wrote_after (refused_text hears.refused) (codes "input ended\n") result out between
-            taken hears.wrote wrote;
-        took = hears.took;
-        stays = hears.stays;
-        goes = some_of told (λ kept. cs ≡ map (arm_code side kept) arms)
-            (λ kept. TailBy arena side kept spot old new hears.bytes text result) (λ kept same.
-            subst (λ (z : Result Turn PlayFault). TailBy arena side kept spot old new hears.bytes
-            text z) (sym is)
-            (stop_tail arena side m kept spot old new own (standing (dues.Ply m) e kept same) arms
-            are source left out between Ended hears answer finishes)) codes_told;
-      }
+      tail_with hears text
+      (lines_behind (refused_text hears.refused) (codes "input ended\n")
+      (refused_lines hears.refused) (inr (codes "input ended", refl)))
+      (wrote_after (refused_text hears.refused) (codes "input ended\n") result out between taken
+      hears.wrote wrote)
+      (λ kept same.
+      subst (λ (z : Result Turn PlayFault). TailBy arena side kept spot old new hears.bytes text z)
+      (sym is)
+      (stop_tail arena side m kept spot old new own (standing (dues.Ply m) e kept same) arms are
+      source left out between Ended hears answer finishes))
 
   ended_wrote : (m : Colour) → IsDue (dues.Ply m) → same_colour m side ≡ false
       → (old new : Reader) (result : Result Turn PlayFault) (source left : SourceTold)
@@ -307,63 +319,42 @@ module _ (one : AsksForOne) (fills : FillsLocal) (told : Option (List ℕ))
   reply_wrote m e own old new (Ok (heard.Reply place)) result source left out between taken
       hears h =
       let text = refused_text hears.refused ++ moved_text (codes "reply ") h.0 in
-      record {
-        text = text;
-        bytes = hears.bytes;
-        lines = lines_behind (refused_text hears.refused) (moved_text (codes "reply ") h.0)
-            (refused_lines hears.refused) (moved_lines (codes "reply ") h.0);
-        wrote = wrote_after (refused_text hears.refused) (moved_text (codes "reply ") h.0) result
-            out between taken hears.wrote
-            (by_answers (turn_of h.0.next (get_or cs place 0)) (moved_text (codes "reply ") h.0)
-            result between taken h.2);
-        took = hears.took;
-        stays = hears.stays;
-        goes = some_of told (λ kept. cs ≡ map (arm_code side kept) arms)
-            (λ kept. TailBy arena side kept spot old new hears.bytes text result) (λ kept same.
-            reply_tail arena side m kept spot old new own (standing (dues.Ply m) e kept same) arms
-            cs are same source left out between taken place hears h.0 h.1 result h.2) codes_told;
-      }
+      tail_with hears text
+      (lines_behind (refused_text hears.refused) (moved_text (codes "reply ") h.0)
+      (refused_lines hears.refused) (moved_lines (codes "reply ") h.0))
+      (wrote_after (refused_text hears.refused) (moved_text (codes "reply ") h.0) result out between
+      taken hears.wrote
+      (by_answers (turn_of h.0.next (get_or cs place 0)) (moved_text (codes "reply ") h.0) result
+      between taken h.2))
+      (λ kept same.
+      reply_tail arena side m kept spot old new own (standing (dues.Ply m) e kept same) arms cs are
+      same source left out between taken place hears h.0 h.1 result h.2)
   reply_wrote m e own old new (Ok (heard.Stop Ended)) result source left out between taken hears h =
       ended_wrote m e own old new result source left out between taken hears h
   reply_wrote m e own old new (Ok (heard.Stop (Limit limit))) result source left out between taken
       hears h =
       let text = refused_text hears.refused in
-      record {
-        text = text;
-        bytes = hears.bytes;
-        lines = refused_lines hears.refused;
-        wrote = subst (λ (z : Result Turn PlayFault). WroteBy z text out taken) (sym h.0)
-            (subst (λ (z : SinkTold). TookText text out z) (sym h.1) hears.wrote);
-        took = hears.took;
-        stays = hears.stays;
-        goes = some_of told (λ kept. cs ≡ map (arm_code side kept) arms)
-            (λ kept. TailBy arena side kept spot old new hears.bytes text result) (λ kept same.
-            subst (λ (z : Result Turn PlayFault). TailBy arena side kept spot old new hears.bytes
-            text z) (sym h.0)
-            (subst (λ (t : List ℕ). TailBy arena side kept spot old new hears.bytes t
-            (Err (plays.Limit limit))) (append-nil text)
-            (stop_tail arena side m kept spot old new own (standing (dues.Ply m) e kept same) arms
-            are source left out between (Limit limit) hears (Err (plays.Limit limit))
-            (refl, refl, refl)))) codes_told;
-      }
+      tail_with hears text (refused_lines hears.refused)
+      (subst (λ (z : Result Turn PlayFault). WroteBy z text out taken) (sym h.0)
+      (subst (λ (z : SinkTold). TookText text out z) (sym h.1) hears.wrote))
+      (λ kept same.
+      subst (λ (z : Result Turn PlayFault). TailBy arena side kept spot old new hears.bytes text z)
+      (sym h.0)
+      (subst (λ (t : List ℕ). TailBy arena side kept spot old new hears.bytes t
+      (Err (plays.Limit limit))) (append-nil text)
+      (stop_tail arena side m kept spot old new own (standing (dues.Ply m) e kept same) arms are
+      source left out between (Limit limit) hears (Err (plays.Limit limit)) (refl, refl, refl))))
   reply_wrote m e own old new (Err fault) result source left out between taken hears h =
       let text = refused_text hears.refused in
-      record {
-        text = text;
-        bytes = hears.bytes;
-        lines = refused_lines hears.refused;
-        wrote = subst (λ (z : Result Turn PlayFault). WroteBy z text out taken) (sym h.0)
-            (subst (λ (z : SinkTold). WroteBy {T = Turn} (Err fault) text out z) (sym h.1)
-            (same_wrote Heard Turn fault text out between hears.wrote));
-        took = hears.took;
-        stays = hears.stays;
-        goes = some_of told (λ kept. cs ≡ map (arm_code side kept) arms)
-            (λ kept. TailBy arena side kept spot old new hears.bytes text result) (λ kept same.
-            subst (λ (z : Result Turn PlayFault). TailBy arena side kept spot old new hears.bytes
-            text z) (sym h.0)
-            (fault_tail arena side m kept spot own (standing (dues.Ply m) e kept same) fault
-            (hears.fails fault refl) old new arms are source left out between hears)) codes_told;
-      }
+      tail_with hears text (refused_lines hears.refused)
+      (subst (λ (z : Result Turn PlayFault). WroteBy z text out taken) (sym h.0)
+      (subst (λ (z : SinkTold). WroteBy {T = Turn} (Err fault) text out z) (sym h.1)
+      (same_wrote Heard Turn fault text out between hears.wrote)))
+      (λ kept same.
+      subst (λ (z : Result Turn PlayFault). TailBy arena side kept spot old new hears.bytes text z)
+      (sym h.0)
+      (fault_tail arena side m kept spot own (standing (dues.Ply m) e kept same) fault
+      (hears.fails fault refl) old new arms are source left out between hears))
 
   own_wrote : (m : Colour) → IsDue (dues.Ply m) → same_colour m side ≡ true
       → (old new : Reader) (result : Result Turn PlayFault) (source left : SourceTold)

@@ -6,22 +6,18 @@ use Rattle.frz_commands_line.proofs.line.line_at.Goals as goal
 
 pub returns-in-Ok : goal.returns-in-Ok
 returns-in-Ok g c = λ input.
-    let side = c.args.side in
-    let p = c.args.p.now in
-    let name = c.args.table.now in
     let e = c.in-Ok.ensures in
-    opened_ran (lined_by side p) (line_comes side p) p name (lining_at name side p) refl e.quiet
-    e.asked_told _ c.in-Ok.table refl
+    opened_ran (lined_by c.args.side c.args.p.now) (line_comes c.args.side c.args.p.now)
+    c.args.p.now c.args.table.now (lining_at c.args.table.now c.args.side c.args.p.now) refl
+    e.quiet e.asked_told _ c.in-Ok.table refl
     (record { faults = e.causes.fine; wants = e.causes.wants_fine }) e.name e.opened e.calls
     (c.line_in.ensures input)
 
 pub returns-in-Err : goal.returns-in-Err
 returns-in-Err g c = λ input.
-    let side = c.args.side in
-    let p = c.args.p.now in
-    let name = c.args.table.now in
     let e = c.in-Err.ensures in
-    refused_ran (lined_by side p) (line_comes side p) p name (lining_at name side p) refl e.quiet
-    e.asked_told c.in-Err.fault refl refl refl refl (λ bytes m i. refl)
-    (λ m i. some_at c.one_line.ensures.there name side p m) e.causes e.refused e.may_refuse
-    (rw c.from.ensures at c.end.ensures)
+    refused_ran (lined_by c.args.side c.args.p.now) (line_comes c.args.side c.args.p.now)
+    c.args.p.now c.args.table.now (lining_at c.args.table.now c.args.side c.args.p.now) refl
+    e.quiet e.asked_told c.in-Err.fault refl refl refl refl (λ bytes m i. refl)
+    (λ m i. some_at c.one_line.ensures.there c.args.table.now c.args.side c.args.p.now m)
+    e.causes e.refused e.may_refuse (rw c.from.ensures at c.end.ensures)

@@ -6,22 +6,18 @@ use Rattle.frz_commands_line.proofs.play.play_at.Goals as goal
 
 pub returns-in-Ok : goal.returns-in-Ok
 returns-in-Ok g c =
-    let side = c.args.side in
-    let p = c.args.p.now in
-    let name = c.args.table.now in
     let e = c.in-Ok.ensures in
-    opened_ran (played_by side p) (session_comes side p) p name (playing_at name side p) refl
+    opened_ran (played_by c.args.side c.args.p.now) (session_comes c.args.side c.args.p.now)
+    c.args.p.now c.args.table.now (playing_at c.args.table.now c.args.side c.args.p.now) refl
     e.quiet e.asked_told _ c.in-Ok.table refl
     (record { faults = e.causes.fine; wants = e.causes.wants_fine }) e.name e.opened e.calls
     c.play_in.ensures
 
 pub returns-in-Err : goal.returns-in-Err
 returns-in-Err g c =
-    let side = c.args.side in
-    let p = c.args.p.now in
-    let name = c.args.table.now in
     let e = c.in-Err.ensures in
-    refused_ran (played_by side p) (session_comes side p) p name (playing_at name side p) refl
+    refused_ran (played_by c.args.side c.args.p.now) (session_comes c.args.side c.args.p.now)
+    c.args.p.now c.args.table.now (playing_at c.args.table.now c.args.side c.args.p.now) refl
     e.quiet e.asked_told c.in-Err.fault refl refl refl refl (λ bytes m i. refl)
-    (λ m i. some_at c.one_session.ensures.there name side p m i) e.causes e.refused e.may_refuse
-    (rw c.from.ensures at c.end.ensures)
+    (λ m i. some_at c.one_session.ensures.there c.args.table.now c.args.side c.args.p.now m i)
+    e.causes e.refused e.may_refuse (rw c.from.ensures at c.end.ensures)

@@ -6,11 +6,11 @@ use Rattle.frz_store.specs.Told.{store_of, sink_of}
 use Rattle.frz_answer.specs.World.{spent_by}
 use Rattle.frz_exits.specs.Books.{value_by}
 use Rattle.frz_game.proofs.Lemmas.{finite}
-use Rattle.frz_index.specs.Members.{Member, Num}
+use Rattle.frz_index.specs.Members.{Num}
 use Rattle.frz_line.specs.Kept.{told_codes}
 use Rattle.frz_line.specs.Turns.{Plays}
 use Rattle.frz_line.proofs.Kept.{code_kept, told_by_table}
-use Rattle.frz_line.proofs.Starting.{nothing_told, start_inside, start_unread, line_told}
+use Rattle.frz_line.proofs.Starting.{nothing_told, no_member, start_inside, start_unread, line_told}
 use Rattle.frz_line.proofs.Spending.{code_read}
 use Rattle.frz_line.proofs.best.best_line.Goals as goal
 
@@ -19,8 +19,7 @@ returns-in_default-clause-wrote g c =
     nothing_told (told_codes c.args.table.now c.args.side (g.S.Store.files c.args.store.now))
     c.args.table.now.rules c.args.side c.args.p.now (sink_of g.O.Sink c.args.out.now)
     (spent_by (store_of g.S.Store c.args.store.now) c.args.steps.now)
-    (λ member. (let some = c.in_default.ensures.member.1
-    (subst (λ (z : List GroupLine). Member z c.args.p.now) (sym c.set.ensures) member) in cc))
+    (no_member c.args.p.now c.set.ensures c.in_default.ensures.member)
 
 pub entry-requires-clause-number : goal.entry-requires-clause-number
 entry-requires-clause-number g c =

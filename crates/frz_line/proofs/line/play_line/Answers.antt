@@ -40,7 +40,8 @@ returns-in-Over-clause-wrote g c =
     let arena = g.G.NumberedGame.arena c.args.game.now in
     let e = c.in_ok-end.ensures in
     let w = e.wrote in
-    over_far _ c.plies.invariant.far (at_one arena c.plies.spot.number e.asked e.calls e.step) w.0 w.1 c.in-Over.is w.2
+    over_far _ c.plies.invariant.far (at_one arena c.plies.spot.number e.asked e.calls e.step) w.0
+    w.1 c.in-Over.is w.2
     (told_before c.args.table.now c.args.side
     (λ codes. GoesBy arena c.args.side codes c.plies.spot w.0
     (Ok c.in_ok-end.field-0)) c.plies.invariant.quiet.unwritten.files w.3)
@@ -60,7 +61,8 @@ plies-preserved g c =
       inside = to.0;
       stands = inr (stands_on size spot number code to);
       few = few_on size spot number code c.plies.invariant.few to;
-      far = next_far _ c.plies.invariant.far (at_one arena spot.number e.asked e.calls e.step) w.0 w.1 c.in-On.is w.2
+      far = next_far _ c.plies.invariant.far (at_one arena spot.number e.asked e.calls e.step) w.0
+          w.1 c.in-On.is w.2
           (told_before c.args.table.now c.args.side
           (λ codes. GoesBy arena c.args.side codes spot w.0
           (Ok c.in_ok-end.field-0)) c.plies.invariant.quiet.unwritten.files w.3);

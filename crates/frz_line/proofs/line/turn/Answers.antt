@@ -14,30 +14,22 @@ returns-in_err-due-clause-wrote g c =
 
 pub play-requires-clause-there : goal.play-requires-clause-there
 play-requires-clause-there g c =
-    let game = c.args.game.now in
-    has_move (g.G.NumberedGame.arena game) (g.G.NumberedGame.count game)
-    (g.met.G.NumberedGame.finite game c.requires.sound) c.args.side c.args.spot
-    c.sight.new.lists.nexts.items c.sight.new.lists.codes.items
-    c.in_ok-due.ensures.arms c.in_ok-due.ensures.read c.requires.stands
-    (nat_le MOST_PLIES c.args.spot.played) c.in_ok-due.due c.in_ok-due.ensures.due
+    has_move (g.met.G.NumberedGame.finite c.args.game.now c.requires.sound) c.args.side c.args.spot
+    c.sight.new.lists.codes.items c.in_ok-due.ensures.arms c.in_ok-due.ensures.read
+    c.requires.stands (nat_le MOST_PLIES c.args.spot.played) c.in_ok-due.due c.in_ok-due.ensures.due
 
 pub returns-clause-next : goal.returns-clause-next
 returns-clause-next g c =
-    let game = c.args.game.now in
-    turn_next (g.G.NumberedGame.arena game) (g.G.NumberedGame.count game)
-    (g.met.G.NumberedGame.finite game c.requires.sound) c.args.side c.args.spot
-    c.sight.new.lists.nexts.items c.sight.new.lists.codes.items
-    c.in_ok-due.ensures.arms c.in_ok-due.ensures.read c.requires.stands c.in_ok-due.due
-    c.in_ok-due.ensures.due c.play.result (sink_of g.O.Sink c.args.out.now)
-    (sink_of g.O.Sink c.play.new.out) c.play.ensures
+    turn_next (g.met.G.NumberedGame.finite c.args.game.now c.requires.sound) c.args.side c.args.spot
+    c.sight.new.lists.codes.items c.in_ok-due.ensures.arms c.in_ok-due.ensures.read
+    c.requires.stands c.in_ok-due.due c.in_ok-due.ensures.due c.play.result
+    (sink_of g.O.Sink c.args.out.now) (sink_of g.O.Sink c.play.new.out) c.play.ensures
 
 pub returns-clause-wrote : goal.returns-clause-wrote
 returns-clause-wrote g c =
-    let game = c.args.game.now in
     turn_wrote c.arms_are_found.ensures.one c.filled.ensures
     (told_codes c.args.table.now c.args.side (g.S.Store.files c.args.store.now))
-    (g.G.NumberedGame.arena game) (g.G.NumberedGame.count game)
-    (g.met.G.NumberedGame.finite game c.requires.sound) c.args.side c.args.spot
-    c.sight.new.lists.nexts.items c.sight.new.lists.codes.items
-    c.in_ok-due.ensures.arms c.in_ok-due.due c.in_ok-due.ensures.due c.in_ok-due.ensures.codes
-    c.play.result (sink_of g.O.Sink c.args.out.now) (sink_of g.O.Sink c.play.new.out) c.play.ensures
+    (g.met.G.NumberedGame.finite c.args.game.now c.requires.sound) c.args.side c.args.spot
+    c.sight.new.lists.codes.items c.in_ok-due.ensures.arms c.in_ok-due.due c.in_ok-due.ensures.due
+    c.in_ok-due.ensures.codes c.play.result (sink_of g.O.Sink c.args.out.now)
+    (sink_of g.O.Sink c.play.new.out) c.play.ensures

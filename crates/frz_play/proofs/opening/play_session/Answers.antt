@@ -9,10 +9,10 @@ use Rattle.frz_exits.specs.Books.{value_by}
 use Rattle.frz_game.specs.Games.{game_of}
 use Rattle.frz_game.specs.Numbers.{numbers_by}
 use Rattle.frz_game.proofs.Lemmas.{finite}
-use Rattle.frz_index.specs.Members.{Member, Num}
+use Rattle.frz_index.specs.Members.{Num}
 use Rattle.frz_answer.specs.World.{spent_by}
 use Rattle.frz_line.specs.Kept.{told_codes}
-use Rattle.frz_line.proofs.Lemmas.{code_kept, code_read, start_inside, told_by_table}
+use Rattle.frz_line.proofs.Lemmas.{code_kept, code_read, no_member, start_inside, told_by_table}
 use Rattle.frz_play.specs.Turns.{Plays}
 use Rattle.frz_play.proofs.Alternating.{turn_after}
 use Rattle.frz_play.proofs.Starting.{nothing_told, start_unread, session_told}
@@ -24,8 +24,7 @@ returns-in_default-clause-played g c =
     c.args.table.now.rules c.args.side c.args.p.now (source_of g.I.Source c.args.input.now)
     (sink_of g.O.Sink c.args.out.now)
     (spent_by (store_of g.S.Store c.args.store.now) c.args.steps.now)
-    (λ member. (let some = c.in_default.ensures.member.1
-    (subst (λ (z : List GroupLine). Member z c.args.p.now) (sym c.set.ensures) member) in cc))
+    (no_member c.args.p.now c.set.ensures c.in_default.ensures.member)
 
 pub entry-requires-clause-number : goal.entry-requires-clause-number
 entry-requires-clause-number g c =

@@ -29,24 +29,24 @@ returns-in_err-end-clause-wrote g c =
     let arena = g.G.NumberedGame.arena c.args.game.now in
     let e = c.in_err-end.ensures in
     let w = e.wrote in
-    fault_far c.turn.new.reader _ c.plies.invariant.far (at_one arena c.plies.spot.number e.asked e.calls e.step) w.0 w.1 w.2
-    w.4 w.5 c.in_err-end.field-0.0 c.from_residual.result c.from_residual.ensures.1 e.still_ended w.3
+    fault_far c.turn.new.reader _ c.plies.invariant.far
+    (at_one arena c.plies.spot.number e.asked e.calls e.step) w.0 w.1 w.2 w.4 w.5
+    c.in_err-end.field-0.0 c.from_residual.result c.from_residual.ensures.1 e.still_ended w.3
     (told_before c.args.table.now c.args.side
-    (λ codes. GoesBy arena c.args.side codes c.plies.spot
-    c.plies.reader c.turn.new.reader w.1 w.0 (Err c.in_err-end.field-0.0))
-    c.plies.invariant.quiet.unwritten.files w.6)
+    (λ codes. GoesBy arena c.args.side codes c.plies.spot c.plies.reader c.turn.new.reader w.1 w.0
+    (Err c.in_err-end.field-0.0)) c.plies.invariant.quiet.unwritten.files w.6)
 
 pub returns-in-Over-clause-wrote : goal.returns-in-Over-clause-wrote
 returns-in-Over-clause-wrote g c =
     let arena = g.G.NumberedGame.arena c.args.game.now in
     let e = c.in_ok-end.ensures in
     let w = e.wrote in
-    over_far c.turn.new.reader _ c.plies.invariant.far (at_one arena c.plies.spot.number e.asked e.calls e.step) w.0 w.1 w.2
-    w.4 w.5 c.in-Over.is e.still_ended w.3
+    over_far c.turn.new.reader _ c.plies.invariant.far
+    (at_one arena c.plies.spot.number e.asked e.calls e.step) w.0 w.1 w.2 w.4 w.5 c.in-Over.is
+    e.still_ended w.3
     (told_before c.args.table.now c.args.side
-    (λ codes. GoesBy arena c.args.side codes c.plies.spot
-    c.plies.reader c.turn.new.reader w.1 w.0 (Ok c.in_ok-end.field-0))
-    c.plies.invariant.quiet.unwritten.files w.6)
+    (λ codes. GoesBy arena c.args.side codes c.plies.spot c.plies.reader c.turn.new.reader w.1 w.0
+    (Ok c.in_ok-end.field-0)) c.plies.invariant.quiet.unwritten.files w.6)
 
 pub plies-preserved : goal.plies-preserved
 plies-preserved g c =
@@ -61,8 +61,9 @@ plies-preserved g c =
       inside = to.0;
       stands = inr to.1;
       ended = e.still_ended;
-      far = next_far c.turn.new.reader _ c.plies.invariant.far (at_one arena c.plies.spot.number e.asked e.calls e.step) w.0
-          w.1 w.2 w.4 w.5 c.in-On.is w.3
+      far = next_far c.turn.new.reader _ c.plies.invariant.far
+          (at_one arena c.plies.spot.number e.asked e.calls e.step) w.0 w.1 w.2 w.4 w.5 c.in-On.is
+          w.3
           (told_before c.args.table.now c.args.side
           (λ codes. GoesBy arena c.args.side codes c.plies.spot c.plies.reader c.turn.new.reader w.1
           w.0 (Ok c.in_ok-end.field-0)) c.plies.invariant.quiet.unwritten.files w.6);

@@ -16,26 +16,20 @@ returns-in_err-due-clause-wrote g c =
 
 pub returns-in_err-write_opening-clause-wrote : goal.returns-in_err-write_opening-clause-wrote
 returns-in_err-write_opening-clause-wrote g c =
-    let game = c.args.game.now in
     opening_wrote c.arms_are_found.ensures.one c.filled.ensures
     (told_codes c.args.table.now c.args.side (g.S.Store.files c.args.store.now))
-    (g.G.NumberedGame.arena game) (g.G.NumberedGame.count game)
-    (g.met.G.NumberedGame.finite game c.requires.sound) c.args.side c.args.spot
-    c.sight.new.lists.nexts.items c.sight.new.lists.codes.items
-    c.in_ok-due.ensures.arms c.in_ok-due.ensures.codes c.in_ok-due.due c.in_ok-due.ensures.due
-    c.args.reader.now c.from_residual-in_err-write_opening.result
+    (g.met.G.NumberedGame.finite c.args.game.now c.requires.sound) c.args.side c.args.spot
+    c.sight.new.lists.codes.items c.in_ok-due.ensures.arms c.in_ok-due.ensures.codes c.in_ok-due.due
+    c.in_ok-due.ensures.due c.args.reader.now c.from_residual-in_err-write_opening.result
     (source_of g.I.Source c.args.input.now) (sink_of g.O.Sink c.args.out.now)
     (sink_of g.O.Sink c.write_opening.new.out) c.from_residual-in_err-write_opening.ensures.1
     c.in_err-write_opening.ensures.failed
 
 pub play-requires-clause-there : goal.play-requires-clause-there
 play-requires-clause-there g c =
-    let game = c.args.game.now in
-    has_move (g.G.NumberedGame.arena game) (g.G.NumberedGame.count game)
-    (g.met.G.NumberedGame.finite game c.requires.sound) c.args.side c.args.spot
-    c.sight.new.lists.nexts.items c.sight.new.lists.codes.items
-    c.in_ok-due.ensures.arms c.in_ok-due.ensures.read c.requires.stands c.in_ok-due.due
-    c.in_ok-due.ensures.due
+    has_move (g.met.G.NumberedGame.finite c.args.game.now c.requires.sound) c.args.side c.args.spot
+    c.sight.new.lists.codes.items c.in_ok-due.ensures.arms c.in_ok-due.ensures.read
+    c.requires.stands c.in_ok-due.due c.in_ok-due.ensures.due
 
 pub play-requires-clause-uncut : goal.play-requires-clause-uncut
 play-requires-clause-uncut g c =
@@ -47,29 +41,24 @@ play-requires-clause-uncut g c =
 
 pub returns-clause-next : goal.returns-clause-next
 returns-clause-next g c =
-    let game = c.args.game.now in
-    turn_next (g.G.NumberedGame.arena game) (g.G.NumberedGame.count game)
-    (g.met.G.NumberedGame.finite game c.requires.sound) c.args.side c.args.spot
-    c.sight.new.lists.nexts.items c.sight.new.lists.codes.items
-    c.in_ok-due.ensures.arms c.in_ok-due.ensures.read c.requires.stands c.requires.turns
-    c.in_ok-due.due c.in_ok-due.ensures.due c.args.reader.now c.play.new.reader c.play.result
-    (source_of g.I.Source c.args.input.now) (source_of g.I.Source c.play.new.input)
-    (sink_of g.O.Sink c.write_opening.new.out) (sink_of g.O.Sink c.play.new.out)
+    turn_next (g.met.G.NumberedGame.finite c.args.game.now c.requires.sound) c.args.side c.args.spot
+    c.sight.new.lists.codes.items c.in_ok-due.ensures.arms c.in_ok-due.ensures.read
+    c.requires.stands c.requires.turns c.in_ok-due.due c.in_ok-due.ensures.due c.args.reader.now
+    c.play.new.reader c.play.result (source_of g.I.Source c.args.input.now)
+    (source_of g.I.Source c.play.new.input) (sink_of g.O.Sink c.write_opening.new.out)
+    (sink_of g.O.Sink c.play.new.out)
     c.play.ensures.played
 
 pub returns-clause-wrote : goal.returns-clause-wrote
 returns-clause-wrote g c =
-    let game = c.args.game.now in
     turn_wrote c.arms_are_found.ensures.one c.filled.ensures
     (told_codes c.args.table.now c.args.side (g.S.Store.files c.args.store.now))
-    (g.G.NumberedGame.arena game) (g.G.NumberedGame.count game)
-    (g.met.G.NumberedGame.finite game c.requires.sound) c.args.side c.args.spot
-    c.sight.new.lists.nexts.items c.sight.new.lists.codes.items
-    c.in_ok-due.ensures.arms c.in_ok-due.ensures.codes c.in_ok-due.due c.in_ok-due.ensures.due
-    c.args.reader.now c.play.new.reader c.play.result (source_of g.I.Source c.args.input.now)
-    (source_of g.I.Source c.play.new.input) (sink_of g.O.Sink c.args.out.now)
-    (sink_of g.O.Sink c.write_opening.new.out) (sink_of g.O.Sink c.play.new.out)
-    c.in_ok-write_opening.ensures.ok c.play.ensures.played
+    (g.met.G.NumberedGame.finite c.args.game.now c.requires.sound) c.args.side c.args.spot
+    c.sight.new.lists.codes.items c.in_ok-due.ensures.arms c.in_ok-due.ensures.codes c.in_ok-due.due
+    c.in_ok-due.ensures.due c.args.reader.now c.play.new.reader c.play.result
+    (source_of g.I.Source c.args.input.now) (source_of g.I.Source c.play.new.input)
+    (sink_of g.O.Sink c.args.out.now) (sink_of g.O.Sink c.write_opening.new.out)
+    (sink_of g.O.Sink c.play.new.out) c.in_ok-write_opening.ensures.ok c.play.ensures.played
 
 pub returns-clause-still_ended : goal.returns-clause-still_ended
 returns-clause-still_ended g c =
