@@ -58,11 +58,12 @@ not_nil : (xs : List ℕ) → 1 ≤ lines_in xs → xs ≡ [] → ⊥
 not_nil [] one e = omega (arith, one)
 not_nil (x ∷ xs) one e = cc
 
-no_left : (xs ys : List ℕ) → xs ++ ys ≡ [] → xs ≡ []
+-- what is empty with something behind it is empty, and so is that
+pub no_left : (xs ys : List ℕ) → xs ++ ys ≡ [] → xs ≡ []
 no_left [] ys e = refl
 no_left (x ∷ xs) ys e = cc
 
-no_right : (xs ys : List ℕ) → xs ++ ys ≡ [] → ys ≡ []
+pub no_right : (xs ys : List ℕ) → xs ++ ys ≡ [] → ys ≡ []
 no_right [] ys e = e
 no_right (x ∷ xs) ys e = cc
 

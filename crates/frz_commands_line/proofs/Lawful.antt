@@ -21,7 +21,7 @@ use Rattle.frz_answer.specs.Ends.{Ran}
 use Rattle.frz_answer.specs.World.{World}
 use Rattle.frz_answer.specs.Jobs.{Job}
 use Rattle.frz_answer.specs.Lawful.{HasOneAnswer, IsLawful}
-use Rattle.frz_answer.specs.Words.{three_words_of}
+use Rattle.frz_answer.specs.Words.{taking, three_words_of}
 use Rattle.frz_answer.proofs.Lemmas.{one_answer, said_job, taking_lawful}
 use Rattle.frz_prelude.specs.Positions.{on_position}
 use Rattle.frz_prelude.specs.Refusals.{status_of, refusal_line}
@@ -72,6 +72,20 @@ side_lawful job None law =
     (λ _ _ _ _. tt)
 side_lawful job (Some side) law = law side
 
+-- a command of a table's name, a FEN and a side, by its job at each position
+pub words_lawful : (job : List ℕ → Colour → Board → Job)
+    → ((table : List ℕ) (side : Colour) (p : Board) → IsLawful (job table side p))
+    → (words : List (List ℕ))
+    → IsLawful (taking (λ names. on_side (λ side. on_position (job names.0 side) (fen_of names.1))
+    (side_of names.2)) (three_words_of words))
+words_lawful job lawful words =
+    taking_lawful (λ (names : List ℕ × List ℕ × List ℕ). on_side
+    (λ side. on_position (job names.0 side) (fen_of names.1)) (side_of names.2))
+    (three_words_of words)
+    (λ names. side_lawful (λ side. on_position (job names.0 side) (fen_of names.1))
+    (side_of names.2)
+    (λ side. fen_lawful (job names.0 side) (fen_of names.1) (λ p read. lawful names.0 side p)))
+
 module _ (there : LineThere) (alone : LineAlone) (laws : LineLaws) where
   one_at : (table : List ℕ) (side : Colour) (p : Board) (files : Files)
       → HasOneAnswer (λ a. IsLinedAt table side p files a)
@@ -90,14 +104,7 @@ module _ (there : LineThere) (alone : LineAlone) (laws : LineLaws) where
   }
 
   pub line_lawful : (words : List (List ℕ)) → IsLawful (line_words words)
-  line_lawful words =
-      taking_lawful (λ (names : List ℕ × List ℕ × List ℕ). on_side
-      (λ side. on_position (lining_at names.0 side) (fen_of names.1)) (side_of names.2))
-      (three_words_of words)
-      (λ names. side_lawful (λ side. on_position (lining_at names.0 side) (fen_of names.1))
-      (side_of names.2)
-      (λ side. fen_lawful (lining_at names.0 side) (fen_of names.1)
-      (λ p read. lining_lawful names.0 side p)))
+  line_lawful words = words_lawful lining_at lining_lawful words
 
 -- what was done for some side was done for an equal one
 pub as_side : (end : End) (old new : World) (job : Colour → Job) (these word : Option Colour)

@@ -40,6 +40,21 @@ pub of_told : (o : Option Files) (m : Files) (P : Files → Type 0) → IsSome o
 of_told None m P some e h = let no : false ≡ true = some in cc
 of_told (Some held) m P some e h = subst P e h
 
+-- a fact of the codes that the store tells, of those in the file
+pub of_file : (table : Table) (side : Colour) (P : List ℕ → Type 0) (o : Option Files) (m : Files)
+    → IsSome o → IfSome o (λ told. told ≡ m) → Carries o table → IfSome (told_codes table side o) P
+    → P (codes_at side table.text (table_size table) (bytes_at m table.name))
+of_file table side P None m some e carried told = let no : false ≡ true = some in cc
+of_file table side P (Some held) m some e carried told =
+    subst (λ (g : Files). P (codes_at side table.text (table_size table) (bytes_at g table.name))) e
+    (by_name (held table.name) carried told)
+  where
+    by_name : (o : Option (List ℕ)) → IsSomeAnd o (IsFileOf table)
+        → IfSome (option_map (codes_at side table.text (table_size table)) o) P
+        → P (codes_at side table.text (table_size table) (unwrap_or o []))
+    by_name None carried told = absurd carried
+    by_name (Some bytes) carried told = told
+
 -- the position is in the set, or not
 pub by_member : {A : Type 0} (groups : List GroupLine) (p : Board) → (Member groups p → A)
     → ((Member groups p → ⊥) → A) → A
@@ -91,20 +106,18 @@ pub record LineSo (contents : Contents) (bytes : List ℕ) (side : Colour) (p : 
 module _ (there : LineThere) (table : Table) (side : Colour) (p : Board) (text : List ℕ)
     (result : Result LineEnd LineFault) (before now : Spent)
     (inside : Member table.rules.groups p) where
-  abbrev codes_of : List ℕ → List ℕ
-  codes_of bytes = codes_at side table.text (table_size table) bytes
-
   abbrev Tells : List ℕ → Type 0
   Tells codes = TellsLine table.rules side codes p text result before now
 
-  in_file : (held : Option (List ℕ)) → IsSomeAnd held (IsFileOf table)
-      → IfSome (option_map codes_of held) Tells
-      → LineSo (contents_of table) (unwrap_or held []) side p text result before now
-  in_file None carried tells = absurd carried
-  in_file (Some bytes) carried tells =
-      let line = there table.rules (value_by table.rules) side (codes_of bytes)
+  pub line_so : (o : Option Files) (m : Files) → IsSome o → IfSome o (λ f. f ≡ m) → Carries o table
+      → IfSome (told_codes table side o) Tells
+      → LineSo (contents_of table) (bytes_at m table.name) side p text result before now
+  line_so o m some e carried told =
+      let line = there table.rules (value_by table.rules) side
+      (codes_at side table.text (table_size table) (bytes_at m table.name))
       (Num table.rules.groups p) in
-      let so = tells inside line.0 line.1 line.2 in
+      let tells = of_file table side Tells o m some e carried told inside in
+      let so = tells line.0 line.1 line.2 in
       let arena = graph_by table.rules (value_by table.rules) in
       record {
         plies = line.0;
@@ -114,16 +127,8 @@ module _ (there : LineThere) (table : Table) (side : Colour) (p : Board) (text :
         whole = so.1;
         finishes = so.2;
         costs = λ numbers comes. subst (λ (z : List ℕ). SpendsAt arena 1 z before now)
-            (sym comes.are) (tells inside comes.plies comes.end comes.line).3;
+            (sym comes.are) (tells comes.plies comes.end comes.line).3;
       }
-
-  pub line_so : (o : Option Files) (m : Files) → IsSome o → IfSome o (λ f. f ≡ m) → Carries o table
-      → IfSome (told_codes table side o) Tells
-      → LineSo (contents_of table) (bytes_at m table.name) side p text result before now
-  line_so None m some e carried tells = let no : false ≡ true = some in cc
-  line_so (Some f) m some e carried tells =
-      subst (λ (g : Files). LineSo (contents_of table) (bytes_at g table.name) side p text result
-      before now) e (in_file (f table.name) carried tells)
 
 -- the answer of the line
 abbrev pub answer_of : {contents : Contents} {bytes : List ℕ} {side : Colour} {p : Board}

@@ -6,7 +6,6 @@ use Rattle.frz_board.specs.Boards.{Board}
 use Rattle.frz_sets.specs.declared.exit.Value.{Value}
 use Rattle.frz_sets.specs.Views.{RuleLines}
 use Rattle.frz_exits.specs.Books.{value_by}
-use Rattle.frz_fen.specs.Reading.{fen_of}
 use Rattle.frz_arena.specs.WayEnds.{Wrong, NoBound, Mated, Stalemated, Exit, Cut, Stopped}
 use Rattle.frz_index.specs.Members.{Num}
 use Rattle.frz_game.specs.Numbers.{is_member}
@@ -17,12 +16,8 @@ use Rattle.frz_table.specs.Opening.{Contents, opened, table_format}
 use Rattle.frz_check.specs.Kept.{kept_codes}
 use Rattle.frz_answer.specs.Answers.{Answer, says}
 use Rattle.frz_answer.specs.Lawful.{HasOneAnswer, IsLawful}
-use Rattle.frz_answer.specs.Words.{three_words_of}
-use Rattle.frz_answer.proofs.Lemmas.{taking_lawful}
-use Rattle.frz_prelude.specs.Positions.{on_position}
 use Rattle.frz_prelude.specs.Refusals.{status_of, refusal_line}
 use Rattle.frz_prelude.specs.declared.refused.Refused.TheVariants as refusals
-use Rattle.frz_prelude.proofs.Lemmas.{fen_lawful}
 use Rattle.frz_play.specs.declared.end.PlayFault.{PlayFault}
 use Rattle.frz_play.specs.declared.end.SessionEnd.{SessionEnd}
 use Rattle.frz_play.specs.Ends.{Tells}
@@ -31,8 +26,7 @@ use Rattle.frz_play.specs.Sessions.{SessionPly, EndOfSession, IsSession}
 use Rattle.frz_commands_line.specs.LineOf.{code_at}
 use Rattle.frz_commands_line.specs.SessionOf.{session_answer, IsPlayed, IsPlayedBy, IsPlayedAt}
 use Rattle.frz_commands_line.specs.Playing.{playing_at, play_words}
-use Rattle.frz_commands_line.specs.Sides.{side_of, on_side}
-use Rattle.frz_commands_line.proofs.Lawful.{side_lawful}
+use Rattle.frz_commands_line.proofs.Lawful.{words_lawful}
 use Rattle.frz_commands_line.proofs.SessionMeans.{SessionLaws, play_means}
 use Rattle.frz_commands_line.proofs.SessionOpened.{some_at}
 use Rattle.frz_commands_line.proofs.SessionSeen.{SessionThere}
@@ -104,11 +98,4 @@ module _ (there : SessionThere) (alone : SessionAlone) (laws : SessionLaws) wher
   }
 
   pub play_lawful : (words : List (List ℕ)) → IsLawful (play_words words)
-  play_lawful words =
-      taking_lawful (λ (names : List ℕ × List ℕ × List ℕ). on_side
-      (λ side. on_position (playing_at names.0 side) (fen_of names.1)) (side_of names.2))
-      (three_words_of words)
-      (λ names. side_lawful (λ side. on_position (playing_at names.0 side) (fen_of names.1))
-      (side_of names.2)
-      (λ side. fen_lawful (playing_at names.0 side) (fen_of names.1)
-      (λ p read. playing_lawful names.0 side p)))
+  play_lawful words = words_lawful playing_at playing_lawful words

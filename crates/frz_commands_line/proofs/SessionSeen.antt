@@ -1,8 +1,7 @@
 -- What is known of a session that was played, by the file that
 -- the store tells and some input that may be told.
-use Rattle.std.proofs.Common.{◌≡◌, sym, subst, ℕ, List, [], true, false, Option, Some, None, Result, IfSome}
-use Rattle.std.specs.Prelude.{IsSome, IsSomeAnd, MatchBool}
-use Rattle.std.specs.Option.{option_map, unwrap_or}
+use Rattle.std.proofs.Common.{◌≡◌, sym, subst, ℕ, List, Option, Result, IfSome}
+use Rattle.std.specs.Prelude.{IsSome, MatchBool}
 use Rattle.frz_board.specs.declared.man.Colour.{Colour}
 use Rattle.frz_board.specs.Boards.{Board}
 use Rattle.frz_sets.specs.declared.exit.Value.{Value}
@@ -15,7 +14,7 @@ use Rattle.frz_store.specs.Files.{Files, bytes_at}
 use Rattle.frz_store.specs.Told.{SourceTold}
 use Rattle.frz_table.specs.Layout.{codes_at}
 use Rattle.frz_table.specs.Opening.{Contents, contents_of}
-use Rattle.frz_table.specs.Tables.{Table, Carries, IsFileOf, table_size}
+use Rattle.frz_table.specs.Tables.{Table, Carries, table_size}
 use Rattle.frz_answer.specs.World.{Spent}
 use Rattle.frz_answer.specs.Answers.{Answer, says}
 use Rattle.frz_prelude.specs.Refusals.{status_of, refusal_line}
@@ -30,7 +29,7 @@ use Rattle.frz_play.specs.Reading.{Input}
 use Rattle.frz_play.specs.Sessions.{SessionPly, EndOfSession, IsSession}
 use Rattle.frz_commands_line.specs.LineOf.{code_at}
 use Rattle.frz_commands_line.specs.SessionOf.{IsSessionBy, SessionComes, IsPlayed, IsPlayedIn}
-use Rattle.frz_commands_line.proofs.Seen.{not_member}
+use Rattle.frz_commands_line.proofs.Seen.{not_member, of_file}
 
 -- that there is a session from each number against each input
 abbrev pub SessionThere : Type 0
@@ -74,19 +73,18 @@ pub record SessionSo (contents : Contents) (bytes : List ℕ) (side : Colour) (p
 module _ (there : SessionThere) (table : Table) (side : Colour) (p : Board) (text took : List ℕ)
     (result : Result SessionEnd PlayFault) (source : SourceTold) (before now : Spent)
     (inside : Member table.rules.groups p) where
-  abbrev codes_of : List ℕ → List ℕ
-  codes_of bytes = codes_at side table.text (table_size table) bytes
-
   abbrev TellsIt : List ℕ → Type 0
   TellsIt codes = (whole : List ℕ) × MayHold source whole
       × TellsSession table.rules side codes p whole took text result before now
 
-  in_file : (held : Option (List ℕ)) → IsSomeAnd held (IsFileOf table)
-      → IfSome (option_map codes_of held) TellsIt
-      → SessionSo (contents_of table) (unwrap_or held []) side p text took result source before now
-  in_file None carried tells = absurd carried
-  in_file (Some bytes) carried tells =
-      let session = there table.rules (value_by table.rules) side (codes_of bytes)
+  pub session_so : (o : Option Files) (m : Files) → IsSome o → IfSome o (λ f. f ≡ m)
+      → Carries o table → IfSome (told_codes table side o) TellsIt
+      → SessionSo (contents_of table) (bytes_at m table.name) side p text took result source before
+      now
+  session_so o m some e carried told =
+      let tells = of_file table side TellsIt o m some e carried told in
+      let session = there table.rules (value_by table.rules) side
+      (codes_at side table.text (table_size table) (bytes_at m table.name))
       (Num table.rules.groups p) tells.0 in
       let so = tells.2 inside session.0 session.1 session.2 session.3 in
       let arena = graph_by table.rules (value_by table.rules) in
@@ -101,12 +99,3 @@ module _ (there : SessionThere) (table : Table) (side : Colour) (p : Board) (tex
         costs = λ numbers comes. subst (λ (z : List ℕ). SpendsAt arena 1 z before now)
             (sym comes.are) (tells.2 inside comes.plies comes.end comes.left comes.session).1;
       }
-
-  pub session_so : (o : Option Files) (m : Files) → IsSome o → IfSome o (λ f. f ≡ m)
-      → Carries o table → IfSome (told_codes table side o) TellsIt
-      → SessionSo (contents_of table) (bytes_at m table.name) side p text took result source before
-      now
-  session_so None m some e carried tells = let no : false ≡ true = some in cc
-  session_so (Some f) m some e carried tells =
-      subst (λ (g : Files). SessionSo (contents_of table) (bytes_at g table.name) side p text took
-      result source before now) e (in_file (f table.name) carried tells)

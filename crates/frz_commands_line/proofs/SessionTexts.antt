@@ -31,6 +31,7 @@ use Rattle.frz_play.specs.Sessions.{SessionPly, EndOfSession, session_player, Go
 use Rattle.frz_play.specs.Texts.{refused_text, plies_text, why_line, end_text, start_line}
 use Rattle.frz_commands_line.specs.SessionEnds.{session_naming}
 use Rattle.frz_commands_line.specs.SessionOf.{played_text}
+use Rattle.frz_commands_line.proofs.Counting.{no_left, no_right}
 
 -- no session is cut
 no_cut : (node : Node) (arena : Arena Step ℕ Value) (side : Colour) (codes_of : List ℕ) (k p : ℕ)
@@ -84,14 +85,6 @@ pub record Answered (side : Colour) (end : EndOfSession) : Type 0 where
   pub answer : Result SessionEnd PlayFault
   pub tells : Tells side end answer
   pub said : (rest : List ℕ) → StopsShort side end rest → rest ++ session_naming answer ≡ [] → ⊥
-
-no_left : (xs ys : List ℕ) → xs ++ ys ≡ [] → xs ≡ []
-no_left [] ys e = refl
-no_left (x ∷ xs) ys e = cc
-
-no_right : (xs ys : List ℕ) → xs ++ ys ≡ [] → ys ≡ []
-no_right [] ys e = e
-no_right (x ∷ xs) ys e = cc
 
 ended_as : (side : Colour) (end : EndOfSession) (last : SessionEnd) → Tells side end (Ok last)
     → Answered side end
