@@ -1,5 +1,5 @@
 -- How `report` ends, and that it has one answer.
-use Rattle.std.proofs.Common.{◌≡◌, inl, inr, refl, sym, ap, subst, ◌∙◌, ℕ, ◌+◌, ◌*◌, ◌≤◌, List, [], ◌∷◌, ◌++◌, drop, length, Option, Some, None, Result, Ok, Err, append-nil, arith}
+use Rattle.std.proofs.Common.{◌≡◌, inl, inr, refl, sym, ap, subst, ◌∙◌, ℕ, ◌+◌, ◌*◌, ◌≤◌, List, [], ◌++◌, drop, length, Option, Some, None, Result, Ok, Err, append-nil, arith}
 use Rattle.std.specs.Prelude.{}
 use Rattle.std.specs.Option.{option_map, unwrap_or}
 use Rattle.std.specs.Io.KnownBytes.{append_known}
@@ -20,12 +20,11 @@ use Rattle.frz_store.proofs.Lemmas.{later_store}
 use Rattle.frz_rules.specs.Text.{rules_of}
 use Rattle.frz_check.specs.Kept.{kept_codes, WithinFile}
 use Rattle.frz_check.proofs.Lemmas.{within_file}
-use Rattle.frz_answer.specs.declared.status.Status.TheVariants.{Success, Table as Refused, Missing as Absent}
+use Rattle.frz_answer.specs.declared.status.Status.TheVariants.{Success}
 use Rattle.frz_answer.specs.declared.fault.Fault.{Fault}
 use Rattle.frz_answer.specs.declared.fault.Fault.TheVariants as stops
 use Rattle.frz_answer.specs.declared.end.End.{End}
 use Rattle.frz_answer.specs.declared.end.End.TheVariants.{Done, SinkFault, Stopped}
-use Rattle.frz_answer.specs.Statuses.{OneOf}
 use Rattle.frz_answer.specs.Answers.{says, SomeAnswer, IsLines, held}
 use Rattle.frz_answer.specs.Ends.{MayMeet, Ran, Said}
 use Rattle.frz_answer.specs.Jobs.{WithinCosts}
@@ -34,13 +33,11 @@ use Rattle.frz_answer.specs.Texts.{TookText}
 use Rattle.frz_answer.specs.Words.{one_word_of}
 use Rattle.frz_answer.specs.World.{World, world, Agrees, spent}
 use Rattle.frz_answer.proofs.Lemmas.{Begun, Found, SaysAll, failed_before, fine_store, one_answer, quiet_both, said, taking_lawful, took_nothing}
-use Rattle.frz_prelude.specs.Refusals.{status_of, table_status}
+use Rattle.frz_prelude.specs.Refusals.{table_status}
 use Rattle.frz_prelude.specs.Stops.{stop_of_table}
-use Rattle.frz_prelude.specs.declared.refused.Refused.{Refused as Refusal}
-use Rattle.frz_prelude.specs.declared.stop.Stop.TheVariants as stop
 use Rattle.frz_prelude.specs.TableCauses.{table_line}
 use Rattle.frz_prelude.specs.declared.refused.Refused.TheVariants as refusals
-use Rattle.frz_prelude.proofs.Lemmas.{StopsWith, found_where, holding, refusal_own, refusal_said, stops_by}
+use Rattle.frz_prelude.proofs.Lemmas.{StopsWith, found_where, holding, refusal_said, stops_by}
 use Rattle.frz_report.specs.declared.fault.ReportFault.{ReportFault}
 use Rattle.frz_report.specs.declared.fault.ReportFault.TheVariants as faults
 use Rattle.frz_report.specs.declared.fault.Totals.{Totals}
@@ -307,11 +304,6 @@ module _ (name : List ℕ) (table : Table) (old mid new : StoreTold) (input : So
   reported (Err faults.NoMemory) cause (inl same) = unread stops.NoMemory refl same
   reported (Err faults.NoMemory) cause (inr h) = of_file (Err faults.NoMemory) cause h
 
--- what the table is refused for has a status of `report`
-pub own_refusal : (fault : TableFault) (why : Refusal) → stop_of_table fault ≡ stop.Refused why
-    → OneOf (status_of why) (Success ∷ Refused ∷ Absent ∷ [])
-own_refusal = refusal_own (Success ∷ Refused ∷ Absent ∷ []) refl refl
-
 module _ (name : List ℕ) (files : Files) (input : List ℕ) (old new : World)
     (agrees : Agrees old files input) (fault : TableFault)
     (h : MayRefuse (table_format Plain) name old.store new.store fault)
@@ -327,9 +319,9 @@ module _ (name : List ℕ) (files : Files) (input : List ℕ) (old new : World)
         asked = omega (arith, asked);
       }
 
-  refused_so : (given : TableFault) → opened (table_format Plain) h.held ≡ Err given
-      → SaysAll (reporting_at name) (table_status given) (table_line given) files input old new
-  refused_so given e =
+  refused_so : opened (table_format Plain) h.held ≡ Err fault
+      → SaysAll (reporting_at name) (table_status fault) (table_line fault) files input old new
+  refused_so e =
       let at = holding old.store.files name h.held (same_held old.store.files name h.held h.may) in
       record {
         found = found_where (reporting_at name) at.files files input old (λ x. cc) at.agrees agrees;
@@ -355,7 +347,7 @@ module _ (name : List ℕ) (files : Files) (input : List ℕ) (old new : World)
   -- the table was not opened
   pub stopped_so : StopsWith (reporting_at name) (stop_of_table fault) files input old new
   stopped_so = stops_by (reporting_at name) files input old new
-      (opened (table_format Plain) h.held) refused_so begun_so fault h.refuses
+      (opened (table_format Plain) h.held) fault refused_so begun_so h.refuses
 
 reporting_lawful : (table : List ℕ) → IsLawful (reporting_at table)
 reporting_lawful table = record {

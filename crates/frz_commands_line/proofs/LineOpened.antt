@@ -17,7 +17,7 @@ use Rattle.frz_prelude.specs.declared.refused.Refused.TheVariants as refusals
 use Rattle.frz_line.specs.Ends as ends
 use Rattle.frz_commands_line.specs.LineOf.{code_at, line_answer, LineComes, IsLined, IsLinedIn, IsLinedBy, IsLinedAt}
 use Rattle.frz_commands_line.proofs.Counting.{told_said}
-use Rattle.frz_commands_line.proofs.Opened.{some_refusal}
+use Rattle.frz_prelude.proofs.Lemmas.{some_refusal}
 use Rattle.frz_commands_line.proofs.Seen.{LineThere}
 
 abbrev pub lined_by : Colour → Board → Result Contents TableFault → List ℕ → Files → List ℕ → Answer

@@ -18,20 +18,8 @@ use Rattle.frz_prelude.specs.Refusals.{status_of, refusal_line}
 use Rattle.frz_prelude.specs.TableCauses.{table_line}
 use Rattle.frz_prelude.specs.TableFiles.{OpensAs, TellsTableFault}
 use Rattle.frz_prelude.specs.declared.refused.Refused.TheVariants as refusals
-use Rattle.frz_prelude.proofs.Lemmas.{IsOfBytes, of_bytes, opened_missing}
+use Rattle.frz_prelude.proofs.Lemmas.{opened_missing, refused_means}
 use Rattle.frz_commands_line.specs.LineMeaning.{TellsOutside}
-
--- the status of bytes that are refused
-own_status : (fault : TableFault) → IsOfBytes fault
-    → status_of (refusals.Table fault) ≡ statuses.Table
-own_status table.Missing of = absurd of
-own_status table.Magic of = refl
-own_status (table.Truncated length due) of = refl
-own_status (table.Extra length due) of = refl
-own_status (table.Rules fault) of = refl
-own_status (table.Size kept due) of = refl
-own_status table.Failed of = absurd of
-own_status table.NoMemory of = absurd of
 
 -- what a command answers by how the file opens, and at a position of its set
 module _ (p : Board) (files : Files) (a : Answer) (Inside : Contents → (bytes : List ℕ) → Type 0)
@@ -79,10 +67,7 @@ module _ (name : List ℕ) (p : Board) (files : Files) (a : Answer)
       (is_member contents.rules.groups p) refl h
   by_bytes bytes there (Err fault) e h =
       so (status_of (refusals.Table fault)) (refusal_line (refusals.Table fault)) h
-      (subst (λ (s : Status). Says s (table_line fault))
-      (sym (own_status fault (of_bytes (table_format Plain) bytes fault e)))
-      (refused (table_line fault)
-      (record { bytes = bytes; there = there; fault = fault; refused = e; told = refl })))
+      (refused_means Plain name files Says refused bytes there fault e)
 
   pub means_by : (held : Option (List ℕ)) → files name ≡ held
       → ByOpening p files a Inside (opened (table_format Plain) held) (unwrap_or held []) → Meaning

@@ -5,7 +5,7 @@ use Rattle.frz_board.specs.Boards.{Board}
 use Rattle.frz_store.specs.Files.{Files, bytes_at}
 use Rattle.frz_store.specs.Told.{StoreTold, SourceTold, SinkTold, StoreQuiet, StoreFine}
 use Rattle.frz_table.specs.declared.fault.TableFault.{TableFault}
-use Rattle.frz_table.specs.declared.fault.TableFault.TheVariants.{Missing, Magic, Truncated, Extra, Rules, Size, Failed, NoMemory}
+use Rattle.frz_table.specs.declared.fault.TableFault.TheVariants.{Missing}
 use Rattle.frz_table.specs.declared.kind.FileKind.TheVariants.{Plain}
 use Rattle.frz_table.specs.Faults.{TableCauses}
 use Rattle.frz_table.specs.Opening.{Contents, contents_of, opened, Refuses, kept_text, table_format, opening_calls}
@@ -22,50 +22,12 @@ use Rattle.frz_answer.specs.Ends.{Ran}
 use Rattle.frz_answer.proofs.Lemmas.{as_given, fine_store, quiet_store, through}
 use Rattle.frz_prelude.specs.Refusals.{status_of, refusal_line}
 use Rattle.frz_prelude.specs.Stops.{EndsBy, stop_of_table}
-use Rattle.frz_prelude.specs.declared.refused.Refused.{Refused as Refusal}
 use Rattle.frz_prelude.specs.declared.refused.Refused.TheVariants as refusals
-use Rattle.frz_prelude.specs.declared.stop.Stop.TheVariants.{Refused}
-use Rattle.frz_prelude.proofs.Lemmas.{StopsWith, ended, may_stop, refusal_said, table_cause, table_own}
+use Rattle.frz_prelude.proofs.Lemmas.{ended, may_stop, stop_own, stops_by, table_cause}
 use Rattle.frz_commands_line.specs.Costs.{CostsIn, CostsAt}
 use Rattle.frz_commands_line.proofs.OpeningCosts.{opening_within, playing_within, refused_calls}
 use Rattle.frz_commands_line.proofs.Seen.{of_told}
 use Rattle.frz_commands_line.proofs.Stages.{is_part}
-
--- how a job stops where its table was not opened: what the file is refused for is named, and a
--- fault of the store or want of memory ends it
-stops_by : (job : Job) (m : Files) (i : List ℕ) (old new : World)
-    (x : Result Contents TableFault) (fault : TableFault)
-    → (x ≡ Err fault → StopsWith job (Refused (refusals.Table fault)) m i old new)
-    → StopsWith job (stop_of_table Failed) m i old new
-    → Refuses x fault → StopsWith job (stop_of_table fault) m i old new
-stops_by job m i old new x Missing refused begun e = refused e
-stops_by job m i old new x Magic refused begun e = refused e
-stops_by job m i old new x (Truncated length due) refused begun e = refused e
-stops_by job m i old new x (Extra length due) refused begun e = refused e
-stops_by job m i old new x (Rules fault) refused begun e = refused e
-stops_by job m i old new x (Size kept due) refused begun e = refused e
-stops_by job m i old new x Failed refused begun e = begun
-stops_by job m i old new x NoMemory refused begun e = begun
-
-from_table : (fault : TableFault) (why : Refusal) → stop_of_table fault ≡ Refused why
-    → refusals.Table fault ≡ why
-from_table Missing why e = cc
-from_table Magic why e = cc
-from_table (Truncated length due) why e = cc
-from_table (Extra length due) why e = cc
-from_table (Rules fault) why e = cc
-from_table (Size kept due) why e = cc
-from_table Failed why e = cc
-from_table NoMemory why e = cc
-
--- a refusal is an answer
-pub some_refusal : (why : Refusal) (files : Files)
-    → SomeAnswer (λ a. a ≡ says (status_of why) (refusal_line why) files)
-some_refusal why files = record {
-  a = says (status_of why) (refusal_line why) files;
-  answer = refl;
-  text = refusal_said why;
-}
 
 known : (reads : Reads) (w : World) → reads ≡ Again → Sees reads w → IsSome w.store.files
 known reads w again sees = subst (λ (r : Reads). Sees r w) again sees
@@ -153,7 +115,8 @@ module _ (By : Result Contents TableFault → (bytes : List ℕ) → Files → L
         let new = world now input out steps in
         ended by_file (stop_of_table fault) end old new taken
         (quiet_store store now input out steps quiet)
-        (may_stop ℕ by_file (stop_of_table fault) store now input out steps steps calls wants own
+        (may_stop ℕ by_file (stop_of_table fault) store now input out steps steps calls wants
+        (stop_own fault job.statuses missing refused)
         (table_cause T ℕ fault store now causes)) ends
         (λ sees files left agrees.
         let told = known job.needs.reads old again sees in
@@ -179,8 +142,3 @@ module _ (By : Result Contents TableFault → (bytes : List ℕ) → Files → L
         (record { found = found; some = begun; costs = costs begun.a })
         (of_told store.files files (λ f. Refuses (opened (table_format Plain) (f name)) fault) told
         agrees.store refuses))
-      where
-        own : (why : Refusal) → stop_of_table fault ≡ Refused why
-            → OneOf (status_of why) job.statuses
-        own why e = subst (λ (w : Refusal). OneOf (status_of w) job.statuses)
-            (from_table fault why e) (table_own fault job.statuses missing refused)

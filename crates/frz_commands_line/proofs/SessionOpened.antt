@@ -19,7 +19,7 @@ use Rattle.frz_play.specs.Reading as reading
 use Rattle.frz_play.specs.Sessions.{EndOfSession, IsSession}
 use Rattle.frz_commands_line.specs.LineOf.{code_at}
 use Rattle.frz_commands_line.specs.SessionOf.{session_answer, IsPlayed, IsPlayedIn, IsPlayedBy, IsPlayedAt, SessionComes}
-use Rattle.frz_commands_line.proofs.Opened.{some_refusal}
+use Rattle.frz_prelude.proofs.Lemmas.{some_refusal}
 use Rattle.frz_commands_line.proofs.SessionSeen.{SessionThere}
 use Rattle.frz_commands_line.proofs.SessionTexts.{answered_at, never_cut, session_said}
 

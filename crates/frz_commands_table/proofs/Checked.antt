@@ -28,13 +28,11 @@ use Rattle.frz_answer.specs.Lawful.{HasOneAnswer, IsLawful}
 use Rattle.frz_answer.specs.Words.{one_word_of}
 use Rattle.frz_answer.specs.World.{World, Agrees, spent}
 use Rattle.frz_answer.proofs.Lemmas.{SaysAll, taking_lawful}
-use Rattle.frz_prelude.specs.Refusals.{status_of, table_status}
+use Rattle.frz_prelude.specs.Refusals.{table_status}
 use Rattle.frz_prelude.specs.Stops.{stop_of_table}
 use Rattle.frz_prelude.specs.TableCauses.{table_line}
-use Rattle.frz_prelude.specs.declared.refused.Refused.{Refused as Refusal}
 use Rattle.frz_prelude.specs.declared.refused.Refused.TheVariants as refusals
-use Rattle.frz_prelude.specs.declared.stop.Stop.TheVariants.{Refused}
-use Rattle.frz_prelude.proofs.Lemmas.{StopsWith, found_where, holding, refusal_own, some_refusal, stops_by}
+use Rattle.frz_prelude.proofs.Lemmas.{StopsWith, found_where, holding, some_refusal, stops_by}
 use Rattle.frz_commands_table.specs.declared.judging.Judged.{Judged}
 use Rattle.frz_commands_table.specs.Judging.{JudgesFile}
 use Rattle.frz_commands_table.specs.Checking.{verdict_status, verdict_line, IsCheckedBy, IsCheckedAt, checking_costs}
@@ -161,14 +159,14 @@ module _ (table : List ℕ) (files : Files) (input : List ℕ) (old new : World)
       h.file.within
 
   -- the table was refused
-  refused_so : (given fault : TableFault)
+  refused_so : (fault : TableFault)
       → (h : RefusesFile table old.store new.store old.steps new.steps fault)
-      → opened (table_format Plain) h.held ≡ Err given
-      → SaysAll (checking_at table) (table_status given) (table_line given) files input old new
-  refused_so given fault h e =
-      held_so (table_status given) (table_line given) h.held h.may
+      → opened (table_format Plain) h.held ≡ Err fault
+      → SaysAll (checking_at table) (table_status fault) (table_line fault) files input old new
+  refused_so fault h e =
+      held_so (table_status fault) (table_line fault) h.held h.may
       (λ m. subst (λ (x : Result Contents TableFault). IsCheckedBy x (unwrap_or h.held []) m
-      (says (table_status given) (table_line given) m)) (sym e) refl) h.within
+      (says (table_status fault) (table_line fault) m)) (sym e) refl) h.within
 
   begun_so : (fault : TableFault)
       → (h : RefusesFile table old.store new.store old.steps new.steps fault)
@@ -186,14 +184,10 @@ module _ (table : List ℕ) (files : Files) (input : List ℕ) (old new : World)
       fault
       → StopsWith (checking_at table) (stop_of_table fault) files input old new
   stopped_so fault h =
-      stops_by (checking_at table) files input old new (opened (table_format Plain) h.held)
-      (λ given. refused_so given fault h) (begun_so fault h) fault h.refuses
+      stops_by (checking_at table) files input old new (opened (table_format Plain) h.held) fault
+      (refused_so fault h) (begun_so fault h) h.refuses
 
 -- the statuses of `check`
 pub own_verdict : (v : Verdict) → OneOf (verdict_status v) (Success ∷ Wrong ∷ Table ∷ Absent ∷ [])
 own_verdict verdict.Exact = refl
 own_verdict (verdict.Wrong wrong) = refl
-
-pub own_refusal : (fault : TableFault) (why : Refusal) → stop_of_table fault ≡ Refused why
-    → OneOf (status_of why) (Success ∷ Wrong ∷ Table ∷ Absent ∷ [])
-own_refusal = refusal_own (Success ∷ Wrong ∷ Table ∷ Absent ∷ []) refl refl

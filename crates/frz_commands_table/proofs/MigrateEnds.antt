@@ -1,6 +1,6 @@
 -- How `migrate` goes on from a file that was opened and moved,
 -- and how it ends where something stopped it.
-use Rattle.std.proofs.Common.{◌≡◌, refl, sym, ap, subst, ◌∙◌, ℕ, ◌+◌, ◌*◌, ◌≤◌, List, [], ◌∷◌, length, Option, Some, Result, Ok, Err, arith}
+use Rattle.std.proofs.Common.{◌≡◌, refl, sym, ap, subst, ◌∙◌, ℕ, ◌+◌, ◌*◌, ◌≤◌, List, [], length, Option, Some, Result, Ok, Err, arith}
 use Rattle.std.specs.Prelude.{IfSome}
 use Rattle.std.specs.Option.{unwrap_or}
 use Rattle.frz_sets.specs.Sets.{size_of}
@@ -18,18 +18,15 @@ use Rattle.frz_table.specs.Possible.{MayHold}
 use Rattle.frz_table.proofs.Lemmas.{same_held}
 use Rattle.frz_build.specs.Building.{writing_calls}
 use Rattle.frz_index.specs.OldNumbers.{old_size_of}
-use Rattle.frz_answer.specs.declared.status.Status.TheVariants.{Success, Table, Missing as Absent}
-use Rattle.frz_answer.specs.Statuses.{OneOf}
+use Rattle.frz_answer.specs.declared.status.Status.TheVariants.{Success}
 use Rattle.frz_answer.specs.Answers.{Answer, says}
 use Rattle.frz_answer.specs.Jobs.{WithinCosts}
 use Rattle.frz_answer.specs.World.{World, Agrees, spent}
 use Rattle.frz_answer.proofs.Lemmas.{IsStage, SaysAll}
-use Rattle.frz_prelude.specs.Refusals.{status_of, table_status}
+use Rattle.frz_prelude.specs.Refusals.{table_status}
 use Rattle.frz_prelude.specs.Stops.{stop_of_table}
 use Rattle.frz_prelude.specs.TableCauses.{table_line}
-use Rattle.frz_prelude.specs.declared.refused.Refused.{Refused as Refusal}
-use Rattle.frz_prelude.specs.declared.stop.Stop.TheVariants.{Refused}
-use Rattle.frz_prelude.proofs.Lemmas.{found_where, holding, refusal_own, stops_by, StopsWith}
+use Rattle.frz_prelude.proofs.Lemmas.{found_where, holding, stops_by, StopsWith}
 use Rattle.frz_commands_table.specs.declared.moving.Moved.{Moved}
 use Rattle.frz_commands_table.specs.Rewriting.{MovesFile, RefusesFormer, WithinFormer, former_size}
 use Rattle.frz_commands_table.specs.Migrating.{migrated_line, IsMigratedAt, IsMigratedBy, moving_calls, migrating_costs, writing_new}
@@ -194,16 +191,16 @@ module _ (old new : List ℕ) where
   module _ (files : Files) (input : List ℕ) (before mid : World)
       (agrees : Agrees before files input) (steps : mid.steps ≡ before.steps) where
     -- the table was refused
-    refused_so : (given fault : TableFault) → (h : RefusesFormer old before.store mid.store fault)
-        → opened old_format h.held ≡ Err given
-        → SaysAll (migrating_at old new) (table_status given) (table_line given) files input before
+    refused_so : (fault : TableFault) → (h : RefusesFormer old before.store mid.store fault)
+        → opened old_format h.held ≡ Err fault
+        → SaysAll (migrating_at old new) (table_status fault) (table_line fault) files input before
         mid
-    refused_so given fault h e =
+    refused_so fault h e =
         let at = holds_old old h.held before.store mid.store h.may h.within in record {
           found = found_where (migrating_at old new) at.files files input before (λ e. cc) at.agrees
               agrees;
-          answer = answer_of h.held (Err given) at.files
-              (says (table_status given) (table_line given) at.files) at.holds e refl;
+          answer = answer_of h.held (Err fault) at.files
+              (says (table_status fault) (table_line fault) at.files) at.holds e refl;
           costs = subst (λ (o : Option (List ℕ)). WithinCosts (migrating_costs o) (spent before)
               (spent mid)) (sym at.holds) (unwritten_costs h.held before mid h.within steps);
         }
@@ -222,10 +219,5 @@ module _ (old new : List ℕ) where
     pub stopped_so : (fault : TableFault) → RefusesFormer old before.store mid.store fault
         → StopsWith (migrating_at old new) (stop_of_table fault) files input before mid
     stopped_so fault h =
-        stops_by (migrating_at old new) files input before mid (opened old_format h.held)
-        (λ given. refused_so given fault h) (begun_so fault h) fault h.refuses
-
--- the statuses of a refusal are those of `migrate`
-pub own_refusal : (fault : TableFault) (why : Refusal) → stop_of_table fault ≡ Refused why
-    → OneOf (status_of why) (Success ∷ Table ∷ Absent ∷ [])
-own_refusal = refusal_own (Success ∷ Table ∷ Absent ∷ []) refl refl
+        stops_by (migrating_at old new) files input before mid (opened old_format h.held) fault
+        (refused_so fault h) (begun_so fault h) h.refuses

@@ -12,8 +12,8 @@ pub use Rattle.frz_prelude.proofs.OpenedTables.{
 }
 pub use Rattle.frz_prelude.proofs.RefusedTables.{
   bytes_status,
-  refusal_own,
   refused_means,
+  stop_own,
   stops_by,
 }
 pub use Rattle.frz_prelude.proofs.Positions.{as_read, fen_lawful}

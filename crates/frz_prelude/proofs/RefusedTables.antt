@@ -60,30 +60,25 @@ from_table Failed why e = cc
 from_table NoMemory why e = cc
 
 -- a table is refused with the status of one that is missing, or with that of a table
-pub refusal_own : (own : List Status) → OneOf statuses.Missing own → OneOf statuses.Table own
-    → (fault : TableFault) (why : Refusal) → stop_of_table fault ≡ Refused why
+pub stop_own : (fault : TableFault) (own : List Status) → OneOf statuses.Missing own
+    → OneOf statuses.Table own → (why : Refusal) → stop_of_table fault ≡ Refused why
     → OneOf (status_of why) own
-refusal_own own missing table fault why e =
+stop_own fault own missing table why e =
     subst (λ (w : Refusal). OneOf (status_of w) own) (from_table fault why e)
     (table_own fault own missing table)
 
 -- how a job stops where its table was not opened: what the file is refused for is named, and a
 -- fault of the store or want of memory ends it
 pub stops_by : (job : Job) (files : Files) (input : List ℕ) (old new : World)
-    (given : Result Contents TableFault)
-    → ((fault : TableFault) → given ≡ Err fault
-    → StopsWith job (Refused (refusals.Table fault)) files input old new)
+    (given : Result Contents TableFault) (fault : TableFault)
+    → (given ≡ Err fault → StopsWith job (Refused (refusals.Table fault)) files input old new)
     → StopsWith job (stop_of_table Failed) files input old new
-    → (fault : TableFault) → Refuses given fault
-    → StopsWith job (stop_of_table fault) files input old new
-stops_by job files input old new given refused begun Missing e = refused Missing e
-stops_by job files input old new given refused begun Magic e = refused Magic e
-stops_by job files input old new given refused begun (Truncated length due) e =
-    refused (Truncated length due) e
-stops_by job files input old new given refused begun (Extra length due) e =
-    refused (Extra length due) e
-stops_by job files input old new given refused begun (Rules fault) e = refused (Rules fault) e
-stops_by job files input old new given refused begun (Size kept due) e =
-    refused (Size kept due) e
-stops_by job files input old new given refused begun Failed e = begun
-stops_by job files input old new given refused begun NoMemory e = begun
+    → Refuses given fault → StopsWith job (stop_of_table fault) files input old new
+stops_by job files input old new given Missing refused begun e = refused e
+stops_by job files input old new given Magic refused begun e = refused e
+stops_by job files input old new given (Truncated length due) refused begun e = refused e
+stops_by job files input old new given (Extra length due) refused begun e = refused e
+stops_by job files input old new given (Rules fault) refused begun e = refused e
+stops_by job files input old new given (Size kept due) refused begun e = refused e
+stops_by job files input old new given Failed refused begun e = begun
+stops_by job files input old new given NoMemory refused begun e = begun

@@ -2,12 +2,12 @@ use Rattle.std.proofs.Common.{refl, arith}
 use Rattle.frz_store.specs.Told.{store_of, sink_of}
 use Rattle.frz_answer.specs.World.{world}
 use Rattle.frz_prelude.specs.Stops.{stop_of_table}
-use Rattle.frz_prelude.proofs.Lemmas.{ended, may_stop, table_cause}
+use Rattle.frz_prelude.proofs.Lemmas.{ended, may_stop, stop_own, table_cause}
 use Rattle.frz_answer.proofs.Lemmas.{quiet_store}
 use Rattle.frz_table.specs.Tables.{Table}
 use Rattle.frz_report.specs.declared.fault.Totals.{Totals}
 use Rattle.frz_commands_ask.specs.Reporting.{reporting_at}
-use Rattle.frz_commands_ask.proofs.Reported.{own_refusal, reported, stopped_so}
+use Rattle.frz_commands_ask.proofs.Reported.{reported, stopped_so}
 use Rattle.frz_commands_ask.proofs.reporting.report_named.Goals as goal
 
 pub returns-in-Ok : goal.returns-in-Ok
@@ -41,7 +41,8 @@ returns-in-Err g c = λ input.
     let fault = c.in-Err.fault in
     let job = reporting_at c.args.name.now in
     ended job (stop_of_table fault) _ _ (world _ _ _ _) _ (quiet_store _ _ _ _ _ e.quiet)
-    (may_stop Totals job (stop_of_table fault) _ _ input _ _ _ refl refl (own_refusal fault)
+    (may_stop Totals job (stop_of_table fault) _ _ input _ _ _ refl refl
+    (stop_own fault job.statuses refl refl)
     (table_cause Table Totals fault _ _ e.causes))
     (rw c.from.ensures at c.end.ensures)
     (λ sees files left agrees. stopped_so _ files left _ _ agrees fault e.may_refuse (omega arith))

@@ -6,11 +6,11 @@ use Rattle.frz_table.proofs.Lemmas.{belongs}
 use Rattle.frz_answer.specs.World.{world}
 use Rattle.frz_answer.proofs.Lemmas.{fine_store, quiet_store, through}
 use Rattle.frz_prelude.specs.Stops.{stop_of_table}
-use Rattle.frz_prelude.proofs.Lemmas.{ended, found_where, may_stop, table_cause}
+use Rattle.frz_prelude.proofs.Lemmas.{ended, found_where, may_stop, stop_own, table_cause}
 use Rattle.frz_commands_table.specs.declared.moving.Moved.{Moved}
 use Rattle.frz_commands_table.specs.MigrateMeans.{migrating_at}
 use Rattle.frz_commands_table.specs.Migrating.{writing_new}
-use Rattle.frz_commands_table.proofs.MigrateEnds.{costs_at, holds_old, moved_answer, own_refusal, stopped_so, writes_stage}
+use Rattle.frz_commands_table.proofs.MigrateEnds.{costs_at, holds_old, moved_answer, stopped_so, writes_stage}
 use Rattle.frz_commands_table.proofs.migrate.migrate_at.Goals as goal
 
 pub write_new-requires-clause-short : goal.write_new-requires-clause-short
@@ -55,7 +55,8 @@ returns-in-Err g c = λ input steps.
     let fault = c.in-Err.fault in
     let job = migrating_at c.args.old.now c.args.new.now in
     ended job (stop_of_table fault) _ _ (world _ _ _ _) _ (quiet_store _ _ _ _ _ e.quiet)
-    (may_stop Moved job (stop_of_table fault) _ _ input _ steps steps refl refl (own_refusal fault)
+    (may_stop Moved job (stop_of_table fault) _ _ input _ steps steps refl refl
+    (stop_own fault job.statuses refl refl)
     (table_cause Moved Moved fault _ _ e.causes))
     (rw c.from.ensures at c.end.ensures)
     (λ sees files left agrees. stopped_so _ _ files left _ _ agrees refl fault e.refused)
