@@ -98,12 +98,12 @@ unread known rules side p out before now l fault wrote leaves = (
 )
 
 pub start_unread : (known : Option (List ℕ)) (rules : RuleLines) (side : Colour) (p : Board)
-    (out : SinkTold) (before now : Spent) → Spends 1 0 before now
+    (out : SinkTold) {before now : Spent} → Spends 1 0 before now
     → (fault : StoreFault) (result : Result LineEnd LineFault)
     → IsErrAnd result (λ e. e ≡ fault_of fault)
     → WroteLine known rules side p result out out before now
-start_unread known rules side p out before now l fault (Ok end) h = absurd h
-start_unread known rules side p out before now l fault (Err f) h =
+start_unread known rules side p out l fault (Ok end) h = absurd h
+start_unread known rules side p out {before} {now} l fault (Err f) h =
     subst (λ (z : LineFault). WroteLine known rules side p (Err z) out out before now) (sym h)
     (by_fault fault)
   where
@@ -138,14 +138,14 @@ tells rules side codes p text result before mid now start code is few agrees pla
     )
 
 pub line_told : (known : Option (List ℕ)) (rules : RuleLines) (side : Colour) (p : Board)
-    (result : Result LineEnd LineFault) (old new : SinkTold) (before mid now : Spent)
-    (start code : ℕ) → start ≡ Num rules.groups p → Spends 1 0 before mid
+    (result : Result LineEnd LineFault) (old new : SinkTold) {before mid : Spent}
+    (now : Spent) (start code : ℕ) → start ≡ Num rules.groups p → Spends 1 0 before mid
     → IfSome known (λ codes. slice_index codes start ≡ code) → (text : List ℕ) → IsLines text
     → WroteBy result text old new
     → IfSome known (λ codes. Plays (graph_by rules (value_by rules)) side codes start code text
     result mid now) → WroteLine known rules side p result old new before now
-line_told known rules side p result old new before mid now start code is few agrees text lines wrote
-    plays = (
+line_told known rules side p result old new {before} {mid} now start code is few agrees text lines
+    wrote plays = (
       text,
       lines,
       wrote,

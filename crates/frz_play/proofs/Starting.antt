@@ -101,12 +101,12 @@ store_wrote NoMemory out = took_nothing out
 
 -- the code of the start was not read
 pub start_unread : (told : Option (List ℕ)) (rules : RuleLines) (side : Colour) (p : Board)
-    (source : SourceTold) (out : SinkTold) (before now : Spent) → Spends 1 0 before now
+    (source : SourceTold) (out : SinkTold) {before now : Spent} → Spends 1 0 before now
     → (fault : StoreFault) (result : Result SessionEnd PlayFault)
     → IsErrAnd result (λ e. e ≡ plays.Line (fault_of fault))
     → WroteSession told rules side p result source source out out before now
-start_unread told rules side p source out before now few fault (Ok end) h = absurd h
-start_unread told rules side p source out before now few fault (Err f) h =
+start_unread told rules side p source out few fault (Ok end) h = absurd h
+start_unread told rules side p source out {before} {now} few fault (Err f) h =
     subst (λ (z : PlayFault). WroteSession told rules side p (Err z) source source out out before
     now) (sym h)
     (unread told rules side p source out before now few (plays.Line (fault_of fault))
@@ -137,14 +137,15 @@ tells rules side codes p source bytes text result before mid now start code is f
 
 pub session_told : (told : Option (List ℕ)) (rules : RuleLines) (side : Colour) (p : Board)
     (result : Result SessionEnd PlayFault) (source left : SourceTold) (out taken : SinkTold)
-    (before mid now : Spent) (start code : ℕ) → start ≡ Num rules.groups p → Spends 1 0 before mid
-    → IfSome told (λ codes. slice_index codes start ≡ code) → (text bytes : List ℕ) → IsLines text
+    {before mid : Spent} (now : Spent) (start code : ℕ) → start ≡ Num rules.groups p
+    → Spends 1 0 before mid → IfSome told (λ codes. slice_index codes start ≡ code)
+    → (text bytes : List ℕ) → IsLines text
     → WroteBy result text out taken → TookBytes bytes source left
     → IfSome told (λ codes. Plays (graph_by rules (value_by rules)) side codes start code source
     bytes text result mid now) → WroteSession told rules side p result source left out taken before
     now
-session_told told rules side p result source left out taken before mid now start code is few agrees
-    text bytes lines wrote took plays = (
+session_told told rules side p result source left out taken {before} {mid} now start code is few
+    agrees text bytes lines wrote took plays = (
       text,
       bytes,
       lines,

@@ -20,9 +20,7 @@ use Rattle.frz_play.proofs.opening.play_session.Goals as goal
 
 pub returns-in_default-clause-played : goal.returns-in_default-clause-played
 returns-in_default-clause-played g c =
-    nothing_told (told_codes c.args.table.now c.args.side (g.S.Store.files c.args.store.now))
-    c.args.table.now.rules c.args.side c.args.p.now (source_of g.I.Source c.args.input.now)
-    (sink_of g.O.Sink c.args.out.now)
+    nothing_told _ c.args.table.now.rules _ _ _ _
     (spent_by (store_of g.S.Store c.args.store.now) c.args.steps.now)
     (no_member c.args.p.now c.set.ensures c.in_default.ensures.member)
 
@@ -34,11 +32,7 @@ entry-requires-clause-number g c =
 
 pub returns-in_err-code-clause-played : goal.returns-in_err-code-clause-played
 returns-in_err-code-clause-played g c =
-    start_unread (told_codes c.args.table.now c.args.side (g.S.Store.files c.args.store.now))
-    c.args.table.now.rules c.args.side c.args.p.now (source_of g.I.Source c.args.input.now)
-    (sink_of g.O.Sink c.args.out.now)
-    (spent_by (store_of g.S.Store c.args.store.now) c.args.steps.now)
-    (spent_by (store_of g.S.Store c.entry.new.store) c.args.steps.now)
+    start_unread _ c.args.table.now.rules _ _ _ _
     (code_read (store_of g.S.Store c.args.store.now) (store_of g.S.Store c.entry.new.store)
     c.args.steps.now c.in_err-code.ensures.asked c.in_err-code.ensures.calls)
     c.in_err-code.field-0.0 c.from_residual.result c.from_residual.ensures.1
@@ -72,13 +66,12 @@ returns-clause-played g c =
     let source = source_of g.I.Source c.args.input.now in
     let start = c.in-Some.start in
     let code = c.in_ok-code.code in
-    let before = spent_by (store_of g.S.Store c.args.store.now) c.args.steps.now in
     let mid = spent_by (store_of g.S.Store c.entry.new.store) c.args.steps.now in
     let now = spent_by (store_of g.S.Store c.play_from.new.store) c.play_from.new.steps in
     let w = c.play_from.ensures.wrote in
     session_told (told_codes table side files) table.rules side c.args.p.now c.play_from.result
     source (source_of g.I.Source c.play_from.new.input) (sink_of g.O.Sink c.args.out.now)
-    (sink_of g.O.Sink c.play_from.new.out) before mid now start code
+    (sink_of g.O.Sink c.play_from.new.out) now start code
     (subst (λ (z : List GroupLine). start ≡ Num z c.args.p.now) c.set.ensures
     c.in-Some.ensures.number)
     (code_read (store_of g.S.Store c.args.store.now) (store_of g.S.Store c.entry.new.store)
