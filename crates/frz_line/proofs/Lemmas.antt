@@ -1,14 +1,7 @@
 -- The lemmas that the crates above use.
-pub use Rattle.frz_line.proofs.Choices.{found_at, found_code}
+pub use Rattle.frz_line.proofs.Choices.{found_code}
 pub use Rattle.frz_line.proofs.Chosen.{AsksForOne, FillsLocal, arm_found, at_in, local_code_of}
-pub use Rattle.frz_line.proofs.Goings.{
-  GoesTo,
-  moves_on,
-  over_here,
-  seen_by_codes,
-  stage_due,
-  stage_told,
-}
+pub use Rattle.frz_line.proofs.Goings.{GoesTo, over_here, stage_due, stage_told}
 pub use Rattle.frz_line.proofs.Kept.{code_kept, told_before, told_by_table}
 pub use Rattle.frz_line.proofs.Options.{both, every, some_of}
 pub use Rattle.frz_line.proofs.Played.{fine_behind, quiet_behind, quiet_here}
@@ -25,5 +18,4 @@ pub use Rattle.frz_line.proofs.Spending.{
 }
 pub use Rattle.frz_line.proofs.Starting.{no_member, start_inside}
 pub use Rattle.frz_line.proofs.TextLines.{as_lines, ends_arm, ends_behind, lines_behind}
-pub use Rattle.frz_line.proofs.Turned.{unfinished}
-pub use Rattle.frz_line.proofs.Turning.{PlyDue, never_failing, ply_due, still_early}
+pub use Rattle.frz_line.proofs.Turning.{PlyDue, never_fails, ply_due}

@@ -75,9 +75,15 @@ second false b t f = absurd (cc)
 started : (k : ℕ) → k ≡ 0 → (k == 0) ≡ true
 started k e = grind (arith, nat_tests)
 
+-- a spot where a ply is due has no failing code
+pub never_fails : (is_start : Bool) (kept : ℕ) → (is_start ≡ true) ⊎ (is_failure kept ≡ false)
+    → (is_start && is_failure kept) ≡ false → is_failure kept ≡ false
+never_fails is_start kept (inl s) f = second is_start (is_failure kept) s f
+never_fails is_start kept (inr s) f = s
+
 pub never_failing : (k kept : ℕ) → (k ≡ 0) ⊎ (is_failure kept ≡ false)
     → ((k == 0) && is_failure kept) ≡ false → is_failure kept ≡ false
-never_failing k kept (inl e) f = second (k == 0) (is_failure kept) (started k e) f
+never_failing k kept (inl e) f = never_fails (k == 0) kept (inl (started k e)) f
 never_failing k kept (inr e) f = e
 
 pub still_early : (kept k most : ℕ) → ((kept == 1) && nat_le most k) ≡ false → kept ≡ 1 → k < most

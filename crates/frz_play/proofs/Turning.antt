@@ -29,7 +29,7 @@ use Rattle.frz_line.specs.declared.due.Due.{Due}
 use Rattle.frz_line.specs.declared.due.Due.TheVariants as dues
 use Rattle.frz_line.specs.Dues.{due_by, due_on}
 use Rattle.frz_line.specs.Sights.{choices_by, IsNextCode}
-use Rattle.frz_line.proofs.Lemmas.{PlyDue, at_in, found_code, move_there, next_code_is, ply_due}
+use Rattle.frz_line.proofs.Lemmas.{PlyDue, at_in, found_code, move_there, never_fails, next_code_is, ply_due}
 use Rattle.frz_play.specs.declared.end.SessionEnd.TheVariants as ends
 use Rattle.frz_play.specs.declared.end.PlayFault.{PlayFault}
 use Rattle.frz_play.specs.declared.hearing.Heard.{Heard}
@@ -42,16 +42,6 @@ use Rattle.frz_play.specs.declared.playing.Turn.TheVariants.{Over}
 use Rattle.frz_play.specs.Hearing.{Hears}
 use Rattle.frz_play.specs.Turns.{turn_of, Answers, AfterHeard, PlaysPly, IsPlayed, HasMove, own_turn, session_left, TurnsTo}
 use Rattle.frz_play.proofs.Chosen.{other_stands}
-
-second : (a b : Bool) → a ≡ true → (a && b) ≡ false → b ≡ false
-second true b t f = f
-second false b t f = absurd (cc)
-
--- a spot where a ply is due has no failing code
-pub never_fails : (is_start : Bool) (code : ℕ) → (is_start ≡ true) ⊎ (is_failure code ≡ false)
-    → (is_start && is_failure code) ≡ false → is_failure code ≡ false
-never_fails is_start code (inl s) f = second is_start (is_failure code) s f
-never_fails is_start code (inr s) f = s
 
 if_is : (b : Bool) (x y z : Due) → (if b then x else y) ≡ z → (x ≡ z) ⊎ (y ≡ z)
 if_is true x y z h = inl h
