@@ -5,17 +5,13 @@ use Rattle.frz_board.specs.declared.man.Colour.{Colour}
 use Rattle.frz_board.specs.Boards.{Board}
 use Rattle.frz_sets.specs.declared.exit.Value.{Value}
 use Rattle.frz_sets.specs.Views.{RuleLines}
-use Rattle.frz_rules.specs.Text.{rules_of}
-use Rattle.frz_rules.proofs.Lemmas.{answer_sound}
 use Rattle.frz_exits.specs.Books.{value_by}
 use Rattle.frz_exits.specs.Values.{lag_of}
-use Rattle.frz_exits.proofs.Lemmas.{small_values}
 use Rattle.frz_index.specs.Members.{Member, Num}
 use Rattle.frz_arena.specs.WayEnds.{Wrong, NoBound, Mated, Stalemated, Exit, Cut, Stopped, EndsWon, EndsDrawn}
 use Rattle.frz_game.specs.Bounds.{IsTableOf}
 use Rattle.frz_game.specs.Games.{graph_by}
-use Rattle.frz_game.specs.SmallLags.{HasSmallLags}
-use Rattle.frz_game.proofs.Lemmas.{bound_means, plies_few, stored_bound}
+use Rattle.frz_game.proofs.Lemmas.{bound_means, stored_bound}
 use Rattle.frz_store.specs.Files.{Files, bytes_at}
 use Rattle.frz_table.specs.declared.fault.TableFault.{TableFault}
 use Rattle.frz_table.specs.declared.kind.FileKind.TheVariants.{Plain}
@@ -24,7 +20,7 @@ use Rattle.frz_table.specs.Opening.{Contents, opened, table_format}
 use Rattle.frz_table.proofs.Lemmas.{belongs}
 use Rattle.frz_check.specs.Kept.{kept_codes}
 use Rattle.frz_check.specs.OneFile.{IsOneFile}
-use Rattle.frz_check.proofs.Lemmas.{one_file_holds}
+use Rattle.frz_check.proofs.Lemmas.{file_tables}
 use Rattle.frz_answer.specs.declared.status.Status.{Status}
 use Rattle.frz_answer.specs.declared.status.Status.TheVariants as statuses
 use Rattle.frz_answer.specs.Answers.{Answer, says}
@@ -75,17 +71,10 @@ module _ (contents : Contents) (bytes : List ℕ)
     (opens : opened (table_format Plain) (Some bytes) ≡ Ok contents)
     (one : IsOneFile (magic_of Plain) contents.text contents.rules (value_by contents.rules) bytes)
     (side : Colour) where
-  accepted : rules_of contents.text ≡ Ok contents.rules
-  accepted = (belongs (table_format Plain) bytes contents opens).read
-
-  small_lags : HasSmallLags (value_by contents.rules)
-  small_lags q valid =
-      small_values contents.rules (answer_sound contents.text (Ok contents.rules) accepted) q
-
   pub table_kept : IsTableOf contents.rules (value_by contents.rules) side
       (kept_codes contents bytes side)
-  table_kept = one_file_holds Plain (value_by contents.rules) contents bytes
-      (plies_few contents.rules (value_by contents.rules) small_lags) accepted one side
+  table_kept =
+      file_tables contents bytes (belongs (table_format Plain) bytes contents opens).read one side
 
   pub bound_kept : (p : Board) → Member contents.rules.groups p
       → KeepsBound contents.rules side p (code_at contents bytes side p)

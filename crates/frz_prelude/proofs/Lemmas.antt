@@ -3,9 +3,7 @@ pub use Rattle.frz_prelude.proofs.BoundLines.{kept_bound}
 pub use Rattle.frz_prelude.proofs.Held.{Holding, holding, of_rules}
 pub use Rattle.frz_prelude.proofs.NamedRules.{read_named, refused_named, some_named}
 pub use Rattle.frz_prelude.proofs.OpenedTables.{
-  IsOfBytes,
   by_table_status,
-  of_bytes,
   opened_missing,
   table_cause,
   table_own,
