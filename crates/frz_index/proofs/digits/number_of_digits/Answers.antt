@@ -12,16 +12,6 @@ digit-requires-clause-size c =
     c.requires.numberable c.requires.weights c.loop-i-test.true c.index-groups-i.is)
     c.loop-i.invariant.left
 
-pub overflow_mul-total : goal.overflow_mul-total
-overflow_mul-total c =
-    let a = at_read c.args.groups.now c.args.weights.now c.loop-i.i c.index-groups-i.result
-    c.requires.numberable c.requires.weights c.loop-i-test.true c.index-groups-i.is in
-    let f = step_fits c.args.p.now c.args.groups.now c.loop-i.i c.loop-i.total
-    c.index-groups-i.result (slice_index c.args.weights.now c.loop-i.i) c.in_ok-digit.digit
-    c.requires.numberable a c.loop-i.invariant.left c.in_ok-digit.ensures.0
-    c.in_ok-digit.ensures.1 in
-    omega (arith, f, whole_fits c.args.groups.now c.requires.numberable)
-
 pub overflow_add-total : goal.overflow_add-total
 overflow_add-total c =
     let a = at_read c.args.groups.now c.args.weights.now c.loop-i.i c.index-groups-i.result
@@ -31,6 +21,9 @@ overflow_add-total c =
     c.requires.numberable a c.loop-i.invariant.left c.in_ok-digit.ensures.0
     c.in_ok-digit.ensures.1 in
     omega (arith, f, whole_fits c.args.groups.now c.requires.numberable)
+
+pub overflow_mul-total : goal.overflow_mul-total
+overflow_mul-total c = omega (arith, overflow_add-total c)
 
 pub loop-i-init : goal.loop-i-init
 loop-i-init c = record {
