@@ -115,22 +115,29 @@ cut_past states x k a h other = record {
       ];
 }
 
-not_more : (states : List (Kind × ℕ)) (x k m : ℕ) → IsCut states x k → IsCut states x m → m ≤ k
-not_more states x k m h g =
-    elim (cases_lt k m) [
+-- a smaller number has no later place
+pub cut_order : (states : List (Kind × ℕ)) (x y k m : ℕ) → x ≤ y → IsCut states x k →
+    IsCut states y m → k ≤ m
+cut_order states x y k m l h g =
+    elim (cases_lt m k) [
       | inl less ↦
-          let found = some_at states k (omega (arith, g.within)) in
+          let found = some_at states m (omega (arith, h.within)) in
           absurd (omega (
             arith,
-            g.before k found.0 less found.1,
-            h.from k found.0 (omega arith) found.1,
+            h.before m found.0 less found.1,
+            g.from m found.0 (omega arith) found.1,
           ))
       | inr more ↦ more
     ]
 
 -- there is one such place
 pub cut_once : (states : List (Kind × ℕ)) (x k m : ℕ) → IsCut states x k → IsCut states x m → k ≡ m
-cut_once states x k m h g = omega (arith, not_more states x k m h g, not_more states x m k g h)
+cut_once states x k m h g =
+    omega (
+      arith,
+      cut_order states x x k m (omega arith) h g,
+      cut_order states x x m k (omega arith) g h,
+    )
 
 -- where a state has the number, it stands at the place
 pub cut_at : (states : List (Kind × ℕ)) (x k j : ℕ) (s : Kind × ℕ) → AreStates states →
@@ -149,21 +156,6 @@ cut_at states x k j s a h e is =
               state_order 0 states k j found.0 s a.increasing (omega arith) found.1 e,
             ))
       ]
-    ]
-
--- a smaller number has no later place
-pub cut_order : (states : List (Kind × ℕ)) (x y k m : ℕ) → x ≤ y → IsCut states x k →
-    IsCut states y m → k ≤ m
-cut_order states x y k m l h g =
-    elim (cases_lt m k) [
-      | inl less ↦
-          let found = some_at states m (omega (arith, h.within)) in
-          absurd (omega (
-            arith,
-            h.before m found.0 less found.1,
-            g.from m found.0 (omega arith) found.1,
-          ))
-      | inr more ↦ more
     ]
 
 -- all states are below 384
