@@ -4,11 +4,12 @@ use Rattle.frz_combinations.specs.MixedRadix.{product, value}
 use Rattle.frz_sets.specs.Sets.{radix_of, targets}
 use Rattle.frz_sets.specs.Views.{GroupLine}
 use Rattle.frz_index.proofs.Bounds.{number_fits, targets_few}
-use Rattle.frz_index.proofs.Covering.{left_none, left_of, member}
+use Rattle.frz_index.proofs.Covering.{AreLeft, left_none, left_of, member}
 use Rattle.frz_index.specs.Members.{Member, Num}
 use Rattle.frz_index.specs.Places.{AreCovered, IsWithinCount, digit_of}
 use Rattle.frz_index.specs.TurnStates.{turn_among, turn_number}
 use Rattle.frz_index.proofs.set.number_in.Goals as goal
+use Rattle.frz_index.proofs.set.number_in.Goals.{After-without}
 
 pub turn_number-turn-requires : goal.turn_number-turn-requires
 turn_number-turn-requires c =
@@ -19,29 +20,31 @@ turn_number-turn-requires c =
       targets_few c.args.plan.now.groups.items,
     )
 
+-- the groups' men are covered, and the others are left
+parted : (c : After-without) → AreCovered c.args.p.now
+    c.args.plan.now.groups.items c.in_ok-digits.covered
+    × AreLeft c.args.p.now c.in_ok-digits.covered c.without.result
+parted c = (
+  subst (λ (gs : List GroupLine). AreCovered c.args.p.now gs c.in_ok-digits.covered)
+      c.deref.ensures.value c.in_ok-digits.ensures.2,
+  left_of c.args.p.now c.in_ok-digits.covered c.occupied.result c.without.result
+      c.occupied.ensures c.without.ensures,
+)
+
 pub returns-then-without-ne0 : goal.returns-then-without-ne0
 returns-then-without-ne0 c =
-    let gs = c.args.plan.now.groups.items in
-    let p = c.args.p.now in
-    let covered = subst (λ (gs : List GroupLine). AreCovered p gs c.in_ok-digits.covered)
-    c.deref.ensures.value c.in_ok-digits.ensures.2 in
-    let left = left_of p c.in_ok-digits.covered c.occupied.result c.without.result
-    c.occupied.ensures c.without.ensures in
+    let part = parted (goal.at.returns-then-without-ne0 c).After-without in
     λ m. c.if-without-ne0.true
-    (left_none gs p c.in_ok-digits.covered c.without.result c.without.type_inv covered left m)
+    (left_none c.args.plan.now.groups.items c.args.p.now c.in_ok-digits.covered c.without.result
+    c.without.type_inv part.0 part.1 m)
 
 within : (c : goal.After-turn_number-turn) → Member c.args.plan.now.groups.items c.args.p.now
 within c =
-    let gs = c.args.plan.now.groups.items in
-    let p = c.args.p.now in
-    let covered = subst (λ (gs : List GroupLine). AreCovered p gs c.in_ok-digits.covered)
-    c.deref.ensures.value c.in_ok-digits.ensures.2 in
-    let left = left_of p c.in_ok-digits.covered c.occupied.result c.without.result
-    c.occupied.ensures c.without.ensures in
-    let counts = subst (AllByRecursion (IsWithinCount p)) c.deref.ensures.value
-    c.in_ok-digits.ensures.0 in
-    member gs p c.in_ok-digits.covered c.without.result c.requires.valid covered left
-    c.if-without-ne0.false counts
+    let part = parted (goal.at.returns c).After-without in
+    member c.args.plan.now.groups.items c.args.p.now c.in_ok-digits.covered c.without.result
+    c.requires.valid part.0 part.1 c.if-without-ne0.false
+    (subst (AllByRecursion (IsWithinCount c.args.p.now)) c.deref.ensures.value
+    c.in_ok-digits.ensures.0)
 
 is_number : (c : goal.After-turn_number-turn) →
     c.turn_number-turn.result * c.args.plan.now.whole + c.in_ok-digits.digits
@@ -62,15 +65,6 @@ is_number c =
     ∙ ap (λ w. turn_number gs p.turn p.ep * w + c.in_ok-digits.digits) c.requires.plan.whole_is
     ∙ ap (λ d. turn_number gs p.turn p.ep * product (map radix_of gs) + d) digits
 
-pub overflow_mul-result : goal.overflow_mul-result
-overflow_mul-result c =
-    omega (
-      arith,
-      is_number c,
-      number_fits c.args.plan.now.groups.items c.args.p.now
-          c.requires.plan.numberable (within c),
-    )
-
 pub overflow_add-result : goal.overflow_add-result
 overflow_add-result c =
     omega (
@@ -79,6 +73,9 @@ overflow_add-result c =
       number_fits c.args.plan.now.groups.items c.args.p.now
           c.requires.plan.numberable (within c),
     )
+
+pub overflow_mul-result : goal.overflow_mul-result
+overflow_mul-result c = omega (arith, overflow_add-result c)
 
 pub returns : goal.returns
 returns c = (within c, is_number c)
