@@ -31,23 +31,14 @@ pub some_rival : (p : Board) (m n : Step) → Contains (legal_moves_of p) n → 
 unfolding has_rival
 some_rival p m n w h = any_from (is_rival p m) (legal_moves_of p) n w h
 
-pub rival_on_file : (p : Board) (m n : Step) → Contains (legal_moves_of p) n →
-    is_rival p m n ≡ true → file_of n.from ≡ file_of m.from → has_rival_on_file p m ≡ true
-unfolding has_rival_on_file
-rival_on_file p m n w h e =
-    any_from (λ (n : Step). is_rival p m n && file_of n.from == file_of m.from) (legal_moves_of p) n
-    w
-    (and_from (is_rival p m n) (file_of n.from == file_of m.from) h
-    (eq-eqb (file_of n.from) (file_of m.from) e))
-
-pub rival_on_rank : (p : Board) (m n : Step) → Contains (legal_moves_of p) n →
-    is_rival p m n ≡ true → rank_of n.from ≡ rank_of m.from → has_rival_on_rank p m ≡ true
-unfolding has_rival_on_rank
-rival_on_rank p m n w h e =
-    any_from (λ (n : Step). is_rival p m n && rank_of n.from == rank_of m.from) (legal_moves_of p) n
-    w
-    (and_from (is_rival p m n) (rank_of n.from == rank_of m.from) h
-    (eq-eqb (rank_of n.from) (rank_of m.from) e))
+-- a rival that starts on the same line, a file or a rank, passes the test of it
+pub rival_on : (line : ℕ → ℕ) (p : Board) (m n : Step) → Contains (legal_moves_of p) n →
+    is_rival p m n ≡ true → line n.from ≡ line m.from →
+    list_any (λ (n : Step). is_rival p m n && line n.from == line m.from) (legal_moves_of p) ≡ true
+rival_on line p m n w h e =
+    any_from (λ (n : Step). is_rival p m n && line n.from == line m.from) (legal_moves_of p) n w
+    (and_from (is_rival p m n) (line n.from == line m.from) h
+    (eq-eqb (line n.from) (line m.from) e))
 
 -- the part, from whether there is a rival on the file and one on the rank
 abbrev part : Bool → Bool → ℕ → List ℕ
@@ -81,8 +72,9 @@ origin_with p m h = rw h
 pub origin_tells : (p : Board) (m n : Step) → m.from < 64 → n.from < 64 →
     Contains (legal_moves_of p) m → Contains (legal_moves_of p) n → is_rival p m n ≡ true →
     is_rival p n m ≡ true → origin p m ≡ origin p n → m.from ≡ n.from
+unfolding has_rival_on_file has_rival_on_rank
 origin_tells p m n lm ln wm wn hm hn e =
     parts_tell (has_rival_on_file p m) (has_rival_on_rank p m) (has_rival_on_file p n)
     (has_rival_on_rank p n) m.from n.from lm ln
-    (λ f. rival_on_file p m n wn hm (sym f)) (λ r. rival_on_rank p m n wn hm (sym r))
+    (λ f. rival_on file_of p m n wn hm (sym f)) (λ r. rival_on rank_of p m n wn hm (sym r))
     (sym (origin_with p m (some_rival p m n wn hm)) ∙ e ∙ origin_with p n (some_rival p n m wm hn))

@@ -1,5 +1,5 @@
 -- A test of rivals passes exactly where there is one.
-use Rattle.std.proofs.Common.{◌≡◌, Bool, true, ◌&&◌, not, List, refl, ap, sym, ◌∙◌, slice_index}
+use Rattle.std.proofs.Common.{◌≡◌, ℕ, Bool, true, ◌&&◌, not, List, refl, ap, sym, ◌∙◌, slice_index}
 use Rattle.std.specs.Prelude.{◌==◌, ◌↔◌}
 use Rattle.std.specs.List.{Contains, list_any}
 use Rattle.std.proofs.lemmas.Bool.{eqb-true, and_parts}
@@ -14,7 +14,7 @@ use Rattle.frz_fide.proofs.Lemmas.{facts}
 use Rattle.frz_fide.proofs.Lemmas.{listed, only_legal}
 use Rattle.frz_san.specs.Notation.{is_rival, has_rival, has_rival_on_file, has_rival_on_rank}
 use Rattle.frz_san.specs.Rivals.{Rival}
-use Rattle.frz_san.proofs.Rivals.{rivals, some_rival, rival_on_file, rival_on_rank}
+use Rattle.frz_san.proofs.Rivals.{rivals, some_rival, rival_on}
 use Rattle.frz_san.proofs.Telling.{same_cell}
 
 member : (test : Step → Bool) (xs : List Step) → list_any test xs ≡ true →
@@ -50,26 +50,25 @@ any_in_words p m = (
   λ w. some_rival p m w.0 (listed p w.0 w.1.step w.1.legal) (passes p m w.0 w.1),
 )
 
+-- the test of a line, a file or a rank, passes exactly where a rival starts on it
+on_line : (line : ℕ → ℕ) (p : Board) (m : Step) →
+    (list_any (λ (n : Step). is_rival p m n && line n.from == line m.from) (legal_moves_of p)
+    ≡ true) ↔ ((n : Step) × Rival p m n × (line n.from ≡ line m.from))
+on_line line p m = (
+  λ h.
+      let f = member (λ (n : Step). is_rival p m n && line n.from == line m.from)
+      (legal_moves_of p) h in
+      let parts = and_parts (is_rival p m f.0) (line f.0.from == line m.from) f.2 in
+      (f.0, rival_of p m f.0 f.1 parts.0, eqb-true (line f.0.from) (line m.from) parts.1),
+  λ w. rival_on line p m w.0 (listed p w.0 w.1.step w.1.legal) (passes p m w.0 w.1) w.2,
+)
+
 pub file_in_words : (p : Board) (m : Step) →
     (has_rival_on_file p m ≡ true) ↔ ((n : Step) × Rival p m n × (file_of n.from ≡ file_of m.from))
 unfolding has_rival_on_file
-file_in_words p m = (
-  λ h.
-      let f = member (λ (n : Step). is_rival p m n && file_of n.from == file_of m.from)
-      (legal_moves_of p) h in
-      let parts = and_parts (is_rival p m f.0) (file_of f.0.from == file_of m.from) f.2 in
-      (f.0, rival_of p m f.0 f.1 parts.0, eqb-true (file_of f.0.from) (file_of m.from) parts.1),
-  λ w. rival_on_file p m w.0 (listed p w.0 w.1.step w.1.legal) (passes p m w.0 w.1) w.2,
-)
+file_in_words p m = on_line file_of p m
 
 pub rank_in_words : (p : Board) (m : Step) →
     (has_rival_on_rank p m ≡ true) ↔ ((n : Step) × Rival p m n × (rank_of n.from ≡ rank_of m.from))
 unfolding has_rival_on_rank
-rank_in_words p m = (
-  λ h.
-      let f = member (λ (n : Step). is_rival p m n && rank_of n.from == rank_of m.from)
-      (legal_moves_of p) h in
-      let parts = and_parts (is_rival p m f.0) (rank_of f.0.from == rank_of m.from) f.2 in
-      (f.0, rival_of p m f.0 f.1 parts.0, eqb-true (rank_of f.0.from) (rank_of m.from) parts.1),
-  λ w. rival_on_rank p m w.0 (listed p w.0 w.1.step w.1.legal) (passes p m w.0 w.1) w.2,
-)
+rank_in_words p m = on_line rank_of p m
