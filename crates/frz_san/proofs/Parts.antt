@@ -1,6 +1,6 @@
 -- What the parts of a text say.
 use Rattle.std.proofs.Common.{◌≡◌, ℕ, ◌<◌, Bool, true, false, List, [], ◌∷◌, ◌++◌, length, refl, ap, sym, ◌∙◌, arith, Option, None, Some, append_assoc}
-use Rattle.std.specs.Prelude.{◌==◌, if◌then◌else◌}
+use Rattle.std.specs.Prelude.{if◌then◌else◌}
 use Rattle.std.proofs.lemmas.List.{length-append}
 use Rattle.frz_board.specs.declared.man.Kind.{Kind}
 use Rattle.frz_board.specs.declared.man.Kind.TheVariants.{King, Queen, Rook, Bishop, Knight, Pawn}
@@ -70,33 +70,28 @@ pub record SamePawn (t u : Bool) (a b : ℕ) (x : Option Kind) (c d : ℕ)
   pub promo : x ≡ y
   pub from : t ≡ true → file_of a ≡ file_of c
 
+-- the square and the promotion that end a text
+same_end : (b d : ℕ) (x y : Option Kind) →
+    square_text b ++ promotion x ≡ square_text d ++ promotion y → (b ≡ d) × (x ≡ y)
+same_end b d x y e =
+    let file : file_letter b ≡ file_letter d = cc in
+    let rank : rank_digit b ≡ rank_digit d = cc in
+    let rest : promotion x ≡ promotion y = cc in
+    (same_square b d file rank, same_promotion x y rest)
+
 pub pawn_tells : (t u : Bool) (a b : ℕ) (x : Option Kind) (c d : ℕ) (y : Option Kind) → b < 64 →
     d < 64 → pawn_by t a b x ≡ pawn_by u c d y → SamePawn t u a b x c d y
 pawn_tells true true a b x c d y lb ld e =
     let first : file_letter a ≡ file_letter c = cc in
-    let file : file_letter b ≡ file_letter d = cc in
-    let rank : rank_digit b ≡ rank_digit d = cc in
-    let rest : promotion x ≡ promotion y = cc in
-    record {
-      capture = refl;
-      to = same_square b d file rank;
-      promo = same_promotion x y rest;
-      from = λ _. omega arith;
-    }
+    let end = same_end b d x y (cc) in
+    record { capture = refl; to = end.0; promo = end.1; from = λ _. omega arith }
 pawn_tells true false a b x c d y lb ld e =
     let second : 120 ≡ rank_digit d = cc in absurd (omega arith)
 pawn_tells false true a b x c d y lb ld e =
     let second : rank_digit b ≡ 120 = cc in absurd (omega arith)
 pawn_tells false false a b x c d y lb ld e =
-    let file : file_letter b ≡ file_letter d = cc in
-    let rank : rank_digit b ≡ rank_digit d = cc in
-    let rest : promotion x ≡ promotion y = cc in
-    record {
-      capture = refl;
-      to = same_square b d file rank;
-      promo = same_promotion x y rest;
-      from = λ h. absurd cc;
-    }
+    let end = same_end b d x y e in
+    record { capture = refl; to = end.0; promo = end.1; from = λ h. absurd cc }
 
 pub record SamePiece (l : ℕ) (o : List ℕ) (t : Bool) (b : ℕ) (k : ℕ) (q : List ℕ) (u : Bool)
     (d : ℕ) : Type 0 where
