@@ -8,4 +8,4 @@ pub use Rattle.frz_board.proofs.CellsOfMen.{
 }
 pub use Rattle.frz_board.proofs.WrittenCells.{set_at}
 pub use Rattle.frz_board.proofs.AttackInWords.{test_means, means_test, forward_means, means_forward}
-pub use Rattle.frz_board.proofs.NoNewCheck.{no_new_check}
+pub use Rattle.frz_board.proofs.NoNewCheck.{one_side, no_new_check}

@@ -19,7 +19,9 @@ other_side White Black h = cc
 other_side Black White h = cc
 other_side Black Black h = refl
 
-one_side : (c : Colour) (o : Option Man) → is_man_of c o ≡ true → is_man_of (other_of c) o ≡ false
+-- a man of one side is not of the other
+pub one_side : (c : Colour) (o : Option Man) → is_man_of c o ≡ true →
+    is_man_of (other_of c) o ≡ false
 one_side c None h = refl
 one_side c (Some man) h = other_side c man.colour h
 

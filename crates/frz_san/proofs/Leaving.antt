@@ -11,7 +11,7 @@ use Rattle.frz_board.specs.Men.{other_of, is_pawn, is_man_of, man_of_cell, same_
 use Rattle.frz_board.specs.Moving.{Step, IsStep}
 use Rattle.std.proofs.lemmas.Bool.{and_parts, or_cases}
 use Rattle.frz_squares.proofs.Lemmas.{either_or}
-use Rattle.frz_board.proofs.Lemmas.{cell_forth}
+use Rattle.frz_board.proofs.Lemmas.{cell_forth, one_side}
 use Rattle.frz_fide.specs.Legal.{is_legal, takes_in_passing, beside_on_file}
 use Rattle.frz_fide.specs.Valid.{IsValid}
 use Rattle.frz_fide.proofs.Lemmas.{Move, facts}
@@ -26,17 +26,6 @@ by_colour White White h = cc
 by_colour White Black h = refl
 by_colour Black White h = refl
 by_colour Black Black h = cc
-
-one_colour : (c d : Colour) → same_colour d c ≡ true → same_colour d (other_of c) ≡ false
-one_colour White White h = refl
-one_colour White Black h = cc
-one_colour Black White h = cc
-one_colour Black Black h = refl
-
--- a man of one side is not of the other
-one_side : (c : Colour) (o : Option Man) → is_man_of c o ≡ true → is_man_of (other_of c) o ≡ false
-one_side c None h = cc
-one_side c (Some x) h = one_colour c x.colour h
 
 -- a cell with a man that is not of one side is of the other
 of_other : (c : Colour) (o : Option Man) → o ≢ None → is_man_of c o ≡ false →
@@ -112,8 +101,8 @@ module _ (p : Board) (m : Step) (v : IsValid p) (step : IsStep m) (f : Move p m)
 
   clash : holds p (other_of p.turn) m.from ≡ true → ⊥
   clash h =
-      let own = ap (is_man_of (other_of p.turn)) f.on ∙ ap (λ c. same_colour c (other_of p.turn))
-      f.own ∙ one_colour p.turn p.turn (own_colour p.turn) in
+      let own = one_side p.turn (man_on p m.from)
+      (ap (is_man_of p.turn) f.on ∙ ap (λ c. same_colour c p.turn) f.own ∙ own_colour p.turn) in
       cc
 
   captured : Leaves p m → is_capture p f.man m ≡ true
