@@ -18,7 +18,7 @@ use Rattle.frz_answer.specs.Texts.{TookText, FailedWithin}
 use Rattle.frz_answer.specs.World.{World, Agrees, Later, Fine, Quiet, spent}
 use Rattle.frz_answer.specs.Answers.{Answer, says, SomeAnswer, held, NoMore}
 use Rattle.frz_answer.specs.Jobs.{Job, Sees, Never}
-use Rattle.frz_answer.specs.Ends.{MayMeet, MayHaveWritten, WritesOnly, Ran, Said}
+use Rattle.frz_answer.specs.Ends.{MayMeet, MayHaveWritten, WritesOnly, Leaves, Answered, Ran, Said}
 use Rattle.frz_answer.proofs.Telling.{agreed, drop_none, append_nothing, append_twice}
 use Rattle.frz_answer.proofs.Worlds.{only_unwritten, risen_later, given_part}
 
@@ -36,6 +36,23 @@ abbrev pub as_given : (job : Job) (files : Files) (input : List ℕ) (old : Worl
     → Agrees old files input → Found job files input old
 as_given job files input old agrees =
     record { files = files; input = input; agrees = agrees; free = λ _. refl; untaken = λ _. refl }
+
+-- an answer over what was found, of which so much was given
+pub answered_over : {job : Job} {files : Files} {input : List ℕ} {end : End} {old new : World}
+    → (found : Found job files input old) (a : Answer) → job.answers found.files found.input a
+    → Leaves end a old new → job.costs found.files found.input a (spent old) (spent new)
+    → Answered job files input end old new
+answered_over found a answer leaves costs = record {
+  files = found.files;
+  input = found.input;
+  agrees = found.agrees;
+  free = found.free;
+  untaken = found.untaken;
+  a = a;
+  answer = answer;
+  leaves = leaves;
+  costs = costs;
+}
 
 -- an answer over them with some text, of which no more was done than it says
 pub record Doing (job : Job) (files : Files) (input : List ℕ) (old new : World) : Type 0 where
@@ -63,25 +80,16 @@ stopped_doing job fault old new later meets only unwritten same doing =
       room = tt;
       answered = λ sees files input agrees.
           let here = doing sees files input agrees in
-          let a = here.some.a in record {
-            files = here.found.files;
-            input = here.found.input;
-            agrees = here.found.agrees;
-            free = here.found.free;
-            untaken = here.found.untaken;
-            a = a;
-            answer = here.some.answer;
-            leaves = record {
-              lines = [];
-              rest = a.text;
-              whole = inl refl;
-              begins = refl;
-              more = here.some.text;
-              text = text;
-              others = here.others;
-            };
-            costs = here.costs;
-          };
+          answered_over here.found here.some.a here.some.answer
+          (record {
+            lines = [];
+            rest = here.some.a.text;
+            whole = inl refl;
+            begins = refl;
+            more = here.some.text;
+            text = text;
+            others = here.others;
+          }) here.costs;
     }
 
 -- an answer over them with some text, where nothing but steps and calls was spent so far
@@ -188,27 +196,17 @@ module _ (job : Job) (status : Status) (line : List ℕ) (old mid : World) (out 
             unwritten = unwritten;
             room = room;
             answered = λ sees files input agrees.
-                let here = closes sees files input agrees in record {
-                  files = here.found.files;
-                  input = here.found.input;
-                  agrees = here.found.agrees;
-                  free = here.found.free;
-                  untaken = here.found.untaken;
-                  a = here.a;
-                  answer = here.answer;
-                  leaves = (
-                    here.status_is,
-                    record {
-                      files = here.given;
-                      left = here.left;
-                      text = done.1.taken ∙ ap (λ o. append_known o line) here.before
-                          ∙ append_twice old.out.taken here.lines line
-                          ∙ ap (append_known old.out.taken)
-                          here.text;
-                    },
-                  );
-                  costs = here.costs;
-                };
+                let here = closes sees files input agrees in
+                answered_over here.found here.a here.answer (
+                  here.status_is,
+                  record {
+                    files = here.given;
+                    left = here.left;
+                    text = done.1.taken ∙ ap (λ o. append_known o line) here.before
+                        ∙ append_twice old.out.taken here.lines line
+                        ∙ ap (append_known old.out.taken) here.text;
+                  },
+                ) here.costs;
           })
       by_end (inr cut) =
           let k = cut.1.taken.0 in
@@ -220,26 +218,17 @@ module _ (job : Job) (status : Status) (line : List ℕ) (old mid : World) (out 
             unwritten = λ none. absurd (none tt);
             room = tt;
             answered = λ sees files input agrees.
-                let here = closes sees files input agrees in record {
-                  files = here.found.files;
-                  input = here.found.input;
-                  agrees = here.found.agrees;
-                  free = here.found.free;
-                  untaken = here.found.untaken;
-                  a = here.a;
-                  answer = here.answer;
-                  leaves = record {
-                    written = here.lines ++ take k line;
-                    rest = drop k line;
-                    begins = append_assoc here.lines (take k line) (drop k line)
-                        ∙ ap (λ (l : List ℕ). here.lines ++ l) (take-append-drop k line)
-                        ∙ here.text;
-                    text = cut.1.taken.1 ∙ ap (λ o. append_known o (take k line)) here.before
-                        ∙ append_twice old.out.taken here.lines (take k line);
-                    others = no_more here.a here.given here.left;
-                  };
-                  costs = here.costs;
-                };
+                let here = closes sees files input agrees in
+                answered_over here.found here.a here.answer
+                (record {
+                  written = here.lines ++ take k line;
+                  rest = drop k line;
+                  begins = append_assoc here.lines (take k line) (drop k line)
+                      ∙ ap (λ (l : List ℕ). here.lines ++ l) (take-append-drop k line) ∙ here.text;
+                  text = cut.1.taken.1 ∙ ap (λ o. append_known o (take k line)) here.before
+                      ∙ append_twice old.out.taken here.lines (take k line);
+                  others = no_more here.a here.given here.left;
+                }) here.costs;
           })
 
 -- an answer over them that is one text, and says that no file changes

@@ -1,7 +1,16 @@
 -- The lemmas that the crates above cite.
 pub use Rattle.frz_answer.proofs.Calling.{as_taken, as_unless}
 pub use Rattle.frz_answer.proofs.Coming.{bytes_came, came_on, quiet_came, text_came}
-pub use Rattle.frz_answer.proofs.Ending.{Begun, Found, SaysAll, as_given, refused, said, stopped}
+pub use Rattle.frz_answer.proofs.Ending.{
+  Begun,
+  Found,
+  SaysAll,
+  answered_over,
+  as_given,
+  refused,
+  said,
+  stopped,
+}
 pub use Rattle.frz_answer.proofs.Finishing.{outcome}
 pub use Rattle.frz_answer.proofs.Following.{Follows, follows}
 pub use Rattle.frz_answer.proofs.Lawful.{
