@@ -1,11 +1,10 @@
 -- A text that is written piece by piece.
-use Rattle.std.proofs.Common.{◌≡◌, refl, sym, ap, ◌∙◌, ℕ, List, [], ◌++◌, take, drop, length, Option, Result, Ok, Err, arith, append_assoc, append-nil}
-use Rattle.std.proofs.Math.Seq.{take-append_seam}
-use Rattle.std.proofs.lemmas.List.{take-append-drop}
+use Rattle.std.proofs.Common.{◌≡◌, refl, sym, ap, ◌∙◌, ℕ, List, [], ◌++◌, take, length, Option, Result, Ok, Err, arith, append-nil}
 use Rattle.std.specs.Result.{IsErr}
 use Rattle.std.specs.Io.KnownBytes.{append_known}
 use Rattle.frz_store.specs.Told.{SinkTold}
 use Rattle.frz_answer.specs.Texts.{TookText, FailedWithin, WroteText}
+use Rattle.frz_store.proofs.Lemmas.{begins_whole}
 use Rattle.frz_answer.proofs.Telling.{append_nothing, append_twice}
 use Rattle.frz_answer.proofs.Worlds.{risen_later}
 
@@ -14,19 +13,12 @@ pub part_of : (old mid new : Option (List ℕ)) (written piece rest whole : List
     → mid ≡ append_known old written → written ++ (piece ++ rest) ≡ whole → (k : ℕ)
     × (new ≡ append_known mid (take k piece))
     → (j : ℕ) × (new ≡ append_known old (take j whole))
-part_of old mid new written piece rest whole before is part =
-    let front : List ℕ = written ++ take part.0 piece in
-    let all : front ++ (drop part.0 piece ++ rest) ≡ whole =
-    append_assoc written (take part.0 piece) (drop part.0 piece ++ rest)
-    ∙ ap (λ (l : List ℕ). written ++ l)
-    (sym (append_assoc (take part.0 piece) (drop part.0 piece) rest)
-    ∙ ap (λ (l : List ℕ). l ++ rest) (take-append-drop part.0 piece)) ∙ is in
-    let cut : take (length front) whole ≡ front = sym (ap (take (length front)) all)
-    ∙ take-append_seam front (drop part.0 piece ++ rest) in (
-      length front,
-      part.1 ∙ ap (λ o. append_known o (take part.0 piece)) before ∙ append_twice old written
-          (take part.0 piece) ∙ ap (append_known old) (sym cut),
-    )
+part_of old mid new written piece rest whole before is part = (
+  length (written ++ take part.0 piece),
+  part.1 ∙ ap (λ o. append_known o (take part.0 piece)) before ∙ append_twice old written
+      (take part.0 piece)
+      ∙ ap (append_known old) (sym (begins_whole written piece rest whole part.0 is)),
+)
 
 -- the sink failed within the first of two texts
 pub failed_before : (first rest text : List ℕ) (old new : SinkTold) → FailedWithin first old new

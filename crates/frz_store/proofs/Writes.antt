@@ -43,26 +43,31 @@ grew name bytes piece old mid new h files last later = record {
   later = later_store old mid new h.later later;
 }
 
+-- a part of a piece, behind what stood before it, begins the whole
+pub begins_whole : (bytes piece rest whole : List ℕ) (k : ℕ) → bytes ++ (piece ++ rest) ≡ whole
+    → take (length (bytes ++ take k piece)) whole ≡ bytes ++ take k piece
+begins_whole bytes piece rest whole k is =
+    let front : List ℕ = bytes ++ take k piece in
+    let all : front ++ (drop k piece ++ rest) ≡ whole =
+    append_assoc bytes (take k piece) (drop k piece ++ rest)
+    ∙ ap (λ (l : List ℕ). bytes ++ l)
+    (sym (append_assoc (take k piece) (drop k piece) rest)
+    ∙ ap (λ (l : List ℕ). l ++ rest) (take-append-drop k piece)) ∙ is in
+    sym (ap (take (length front)) all) ∙ take-append_seam front (drop k piece ++ rest)
+
 -- a part of a piece, behind which more was to come
 pub grew_part : (name bytes piece rest whole : List ℕ) (old mid new : StoreTold)
     → Wrote name bytes old mid → bytes ++ (piece ++ rest) ≡ whole
     → (k : ℕ) × (new.files ≡ option_map (grown mid.last (take k piece)) mid.files)
     → StoreLater mid new → WrotePart name whole old new
 grew_part name bytes piece rest whole old mid new h is part later =
-    let front : List ℕ = bytes ++ take part.0 piece in
-    let all : front ++ (drop part.0 piece ++ rest) ≡ whole =
-    append_assoc bytes (take part.0 piece) (drop part.0 piece ++ rest)
-    ∙ ap (λ (l : List ℕ). bytes ++ l)
-    (sym (append_assoc (take part.0 piece) (drop part.0 piece) rest)
-    ∙ ap (λ (l : List ℕ). l ++ rest) (take-append-drop part.0 piece)) ∙ is in
-    let cut : take (length front) whole ≡ front = sym (ap (take (length front)) all)
-    ∙ take-append_seam front (drop part.0 piece ++ rest) in
     record {
       files = inr (
-        length front,
+        length (bytes ++ take part.0 piece),
         part.1 ∙ ap (option_map (grown mid.last (take part.0 piece))) h.files ∙ grown_on name bytes
             (take part.0 piece) old.files mid.last h.last
-            ∙ ap (λ (l : List ℕ). option_map (λ m. put m name l) old.files) (sym cut),
+            ∙ ap (λ (l : List ℕ). option_map (λ m. put m name l) old.files)
+            (sym (begins_whole bytes piece rest whole part.0 is)),
       );
       later = later_store old mid new h.later later;
     }
