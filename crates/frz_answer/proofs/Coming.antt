@@ -1,7 +1,6 @@
 -- Lines that were written and input that was taken before a
 -- stage: nothing, a text, some bytes, and one behind the other.
-use Rattle.std.proofs.Common.{◌≡◌, refl, sym, ap, subst, ◌∙◌, ℕ, ◌≤◌, List, [], ◌++◌, take, drop, length, Option, Some, None, arith, length-append}
-use Rattle.std.proofs.Math.Seq.{take-add}
+use Rattle.std.proofs.Common.{◌≡◌, refl, sym, ap, ◌∙◌, ℕ, ◌≤◌, List, [], ◌++◌, take, drop, length, Option, Some, None, arith}
 use Rattle.std.proofs.lemmas.List.{length-take-le}
 use Rattle.std.specs.Prelude.{IfSome}
 use Rattle.std.specs.Option.{option_map}
@@ -10,12 +9,8 @@ use Rattle.frz_store.specs.Outside.{Took}
 use Rattle.frz_store.specs.Told.{SourceTold, SinkTold}
 use Rattle.frz_answer.specs.Texts.{TookText}
 use Rattle.frz_answer.specs.World.{World, Quiet, Fine, Came}
-use Rattle.frz_answer.proofs.Telling.{append_nothing, append_twice, drop_none, drop_twice}
+use Rattle.frz_answer.proofs.Telling.{append_nothing, append_twice, drop_none, front_none, front_twice, left_twice}
 use Rattle.frz_answer.proofs.Worlds.{later_on, later_same, fine_on, unwritten_on, unwritten_same}
-
-took_none : (o : Option (List ℕ)) → IfSome o (λ left. take (length {A = ℕ} []) left ≡ [])
-took_none None = tt
-took_none (Some left) = refl
 
 -- calls and steps alone
 pub quiet_came : (old new : World) → Quiet old new → Fine old new → Came [] [] old new
@@ -23,7 +18,7 @@ quiet_came old new quiet fine = record {
   later = quiet.later;
   fine = fine;
   store = quiet.store;
-  took = took_none old.input.left;
+  took = front_none old.input.left;
   left = quiet.left ∙ drop_none old.input.left;
   taken = quiet.taken ∙ append_nothing old.out.taken;
 }
@@ -41,7 +36,7 @@ text_came text old out took = record {
       });
   fine = record { store = record { faults = refl; wants = refl }; input = refl; out = took.faults };
   store = unwritten_same old.store;
-  took = took_none old.input.left;
+  took = front_none old.input.left;
   left = drop_none old.input.left;
   taken = took.taken;
 }
@@ -73,19 +68,6 @@ bytes_came buffer n old input within took left faults =
       taken = append_nothing old.out.taken;
     }
 
-took_twice : (first next : List ℕ) (old mid : Option (List ℕ))
-    → mid ≡ option_map (drop (length first)) old
-    → IfSome old (λ left. take (length first) left ≡ first)
-    → IfSome mid (λ left. take (length next) left ≡ next)
-    → IfSome old (λ left. take (length (first ++ next)) left ≡ first ++ next)
-took_twice first next None mid e h k = tt
-took_twice first next (Some left) mid e h k =
-    let then : take (length next) (drop (length first) left) ≡ next = subst
-    (λ (o : Option (List ℕ)). IfSome o (λ left. take (length next) left ≡ next)) e k in
-    ap (λ n. take n left) (length-append first next) ∙ take-add (length first) (length next) left
-    ∙ ap (λ (l : List ℕ). l ++ take (length next) (drop (length first) left)) h
-    ∙ ap (λ (l : List ℕ). first ++ l) then
-
 -- one behind the other
 pub came_on : (text more first next : List ℕ) (old mid new : World) → Came text first old mid
     → Came more next mid new → Came (text ++ more) (first ++ next) old new
@@ -93,9 +75,7 @@ came_on text more first next old mid new h k = record {
   later = later_on old mid new h.later k.later;
   fine = fine_on old mid new h.fine k.fine;
   store = unwritten_on old.store mid.store new.store h.store k.store;
-  took = took_twice first next old.input.left mid.input.left h.left h.took k.took;
-  left = k.left ∙ ap (option_map (drop (length next))) h.left ∙ drop_twice old.input.left
-      (length first) (length next)
-      ∙ ap (λ n. option_map (drop n) old.input.left) (sym (length-append first next));
+  took = front_twice first next old.input.left mid.input.left h.left h.took k.took;
+  left = left_twice first next old.input.left mid.input.left new.input.left h.left k.left;
   taken = k.taken ∙ ap (λ o. append_known o more) h.taken ∙ append_twice old.out.taken text more;
 }

@@ -30,7 +30,14 @@ pub use Rattle.frz_answer.proofs.Pieces.{
   wrote_behind,
 }
 pub use Rattle.frz_answer.proofs.Stages.{IsStage, Stages, through}
-pub use Rattle.frz_answer.proofs.Telling.{append_nothing, append_twice}
+pub use Rattle.frz_answer.proofs.Telling.{
+  append_nothing,
+  append_twice,
+  drop_none,
+  front_none,
+  front_twice,
+  left_twice,
+}
 pub use Rattle.frz_answer.proofs.Worlds.{
   fine_same,
   fine_steps,
