@@ -1,5 +1,5 @@
 -- The first wrong entry, found number by number.
-use Rattle.std.proofs.Common.{◌≡◌, refl, sym, ap, subst, ◌∙◌, ℕ, zero, suc, ◌+◌, ◌<◌, ◌⊎◌, inl, inr, List, length, slice_index, Option, None, Some, arith}
+use Rattle.std.proofs.Common.{◌≡◌, ◌≢◌, refl, sym, ap, subst, ◌∙◌, ℕ, zero, suc, ◌+◌, ◌<◌, ◌⊎◌, inl, inr, List, length, slice_index, Option, None, Some, arith}
 use Rattle.std.specs.List.{All}
 use Rattle.std.proofs.lemmas.Bool.{cases_eq, cases_lt}
 use Rattle.frz_board.specs.declared.man.Colour.{Colour}
@@ -98,37 +98,26 @@ pub both_long : (codes : Colour → List ℕ) (size : ℕ) → length (codes Whi
 both_long codes size white equal White = white
 both_long codes size white equal Black = sym equal ∙ white
 
+-- an entry that differs is the wrong one
+wrong_entry : {M V : Type 0} (arena : Arena M ℕ V) (codes : Colour → List ℕ) (side : Colour)
+    (number : ℕ) → kept_code codes side number ≢ given_code arena codes side number →
+    (side ≡ Black → kept_code codes White number ≡ given_code arena codes White number) →
+    (r : Option Wrong) × IsCheckedAt arena codes number r
+wrong_entry arena codes side number differs white =
+    let given = given_code arena codes side number in
+    let wrong : Wrong =
+    record { side = side; number = number; kept = kept_code codes side number; given = given } in
+    (Some wrong, wrong_there arena codes side number given wrong refl (differs, refl) white)
+
 -- both sides' entries at a number
 compared_at : {M V : Type 0} (arena : Arena M ℕ V) (codes : Colour → List ℕ) (number : ℕ) →
     (r : Option Wrong) × IsCheckedAt arena codes number r
 compared_at arena codes number =
     elim (cases_eq (kept_code codes White number) (given_code arena codes White number)) [
-      | inr differs ↦
-          (let wrong : Wrong =
-          record {
-            side = White;
-            number = number;
-            kept = kept_code codes White number;
-            given = given_code arena codes White number;
-          } in (
-            Some wrong,
-            wrong_there arena codes White number (given_code arena codes White number)
-                wrong refl (differs, refl) (λ black. absurd (cc)),
-          ))
+      | inr differs ↦ wrong_entry arena codes White number differs (λ black. absurd (cc))
       | inl white ↦ elim (cases_eq (kept_code codes Black number)
           (given_code arena codes Black number)) [
-            | inr differs ↦
-                (let wrong : Wrong =
-                record {
-                  side = Black;
-                  number = number;
-                  kept = kept_code codes Black number;
-                  given = given_code arena codes Black number;
-                } in (
-                  Some wrong,
-                  wrong_there arena codes Black number (given_code arena codes Black number)
-                      wrong refl (differs, refl) (λ black. white),
-                ))
+            | inr differs ↦ wrong_entry arena codes Black number differs (λ black. white)
             | inl black ↦ (None, agree_there arena codes number white black)
           ]
     ]
