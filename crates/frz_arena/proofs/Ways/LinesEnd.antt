@@ -14,11 +14,11 @@ use Rattle.frz_arena.specs.Chosen.{IsChosen}
 use Rattle.frz_arena.specs.WayEnds.{End, Exit}
 use Rattle.frz_arena.specs.Ways.{Player, Ply, Over, Moves, Opponent, ByCodes, ByInput, is_cut, is_line, IsTakenBy, IsPlyOf, stage, IsWay}
 use Rattle.frz_arena.proofs.LocalCodes.ChosenCodes.{win_above}
-use Rattle.frz_arena.proofs.Ways.FoundArms.{chosen_there, win_or_hold}
+use Rattle.frz_arena.proofs.Ways.FoundArms.{chosen_there}
 use Rattle.frz_arena.proofs.Ways.Stages as stages
 use Rattle.frz_arena.proofs.Ways.Stages.{IsSound, OverOrDue, over_or_due}
 use Rattle.frz_arena.proofs.Ways.WayParts.{ply_of}
-use Rattle.frz_arena.proofs.Ways.EachPly.{second_false, never_fails}
+use Rattle.frz_arena.proofs.Ways.EachPly.{stands_due, never_fails}
 use Rattle.frz_arena.proofs.Ways.KeptWays.{not_yet, line_of, either_way}
 
 -- fuel for a line: the plies of a win, or those left of a hold
@@ -99,12 +99,7 @@ due_in_line : {M N V S R : Type 0} (player : Player M N V S R) (most : ℕ) →
     player.arena.node p ≡ Going mover → (k ≡ 0) ⊎ (is_failure (player.entry p) ≡ false) →
     Due player s p mover
 due_in_line {M} {N} {V} player most o law k s p mover sound e start =
-    let f : is_failure (player.entry p) ≡ false =
-    elim start [
-      | inl z ↦ second_false (is_failure (player.entry p)) k z sound.starts
-      | inr f ↦ f
-    ] in
-    let stands = win_or_hold player.arena player.side player.entry mover p e sound.agrees f in
+    let stands = stands_due player k p mover sound e start in
     let c = chosen_there player.arena law player.side player.entry mover p e sound.agrees stands in
     let x : Ply M N V = record { from = p; place = c.0; arm = c.1; mover = mover; refused = 0 } in
     let taken = taken_in_line player (same_colour mover player.side) player.opponent most s x o refl

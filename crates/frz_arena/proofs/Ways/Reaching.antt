@@ -14,9 +14,9 @@ use Rattle.frz_arena.specs.WayEnds.{End, Exit}
 use Rattle.frz_arena.specs.Ways.{Player, Ply, Over, Moves, ByCodes, is_line, IsTaken, IsStop, IsPlyOf, stage, IsWay}
 use Rattle.frz_arena.proofs.Lists.Members.{true_or_false}
 use Rattle.frz_arena.proofs.LocalCodes.ChosenCodes.{win_above}
-use Rattle.frz_arena.proofs.Ways.FoundArms.{chosen_there, win_or_hold}
+use Rattle.frz_arena.proofs.Ways.FoundArms.{chosen_there}
 use Rattle.frz_arena.proofs.Ways.WayParts.{moving, ply_of}
-use Rattle.frz_arena.proofs.Ways.EachPly.{second_false, never_fails}
+use Rattle.frz_arena.proofs.Ways.EachPly.{stands_due, never_fails}
 use Rattle.frz_arena.proofs.Ways.KeptWays.{either_way, line_of, not_yet}
 
 -- after the plies done the way stands at q with the input s, and however it goes on from there, it
@@ -70,13 +70,7 @@ pub ply_here : {M N V S R : Type 0} (player : Player M N V S R) (input : S) (sta
     → stage player k x.from ≡ Moves x.mover → IsTaken player s x u → IsPlyOf player x
 ply_here player input start k s u x r o h =
     let m = moving player k x.from x.mover o in
-    let f : is_failure (player.entry x.from) ≡ false =
-    elim (r.stands) [
-      | inl z ↦ second_false (is_failure (player.entry x.from)) k z m.0.starts
-      | inr f ↦ f
-    ] in
-    ply_of player s u x m.0.agrees m.1
-    (win_or_hold player.arena player.side player.entry x.mover x.from m.1 m.0.agrees f) h
+    ply_of player s u x m.0.agrees m.1 (stands_due player k x.from x.mover m.0 m.1 r.stands) h
 
 -- a ply within them
 pub reaches_more : {M N V S R : Type 0} (player : Player M N V S R) (input : S) (start : N) (k : ℕ)
@@ -151,13 +145,8 @@ pub chosen_here : {M N V S R : Type 0} (player : Player M N V S R) → IsLawful 
     (i : ℕ) × (a : Arm M N V) × IsChosen player.arena player.side player.entry mover q i a
 chosen_here player law input start k s q mover r o =
     let m = moving player k q mover o in
-    let f : is_failure (player.entry q) ≡ false =
-    elim (r.stands) [
-      | inl z ↦ second_false (is_failure (player.entry q)) k z m.0.starts
-      | inr f ↦ f
-    ] in
     chosen_there player.arena law player.side player.entry mover q m.1 m.0.agrees
-    (win_or_hold player.arena player.side player.entry mover q m.1 m.0.agrees f)
+    (stands_due player k q mover m.0 m.1 r.stands)
 
 pub few_after : (most k c d : ℕ) → IsFew most k c →
     ((is_win c ≡ true) × (is_win d ≡ true) × (d + 2 ≡ c)) ⊎ ((c ≡ 1) × (d ≤ 1) × (k < most)) →

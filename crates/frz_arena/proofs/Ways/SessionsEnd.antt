@@ -18,11 +18,11 @@ use Rattle.frz_arena.specs.WayEnds.{End, Exit, Stopped}
 use Rattle.frz_arena.specs.Ways.{Player, Ply, Over, Moves, Opponent, ByCodes, ByInput, IsTakenBy, IsStopBy, stage, IsWay}
 use Rattle.frz_arena.proofs.Plies.NodeKinds.{other_differs}
 use Rattle.frz_arena.proofs.Lists.FirstOnes.{at_in}
-use Rattle.frz_arena.proofs.Ways.FoundArms.{mover_is, itself, another, chosen_there, win_or_hold}
+use Rattle.frz_arena.proofs.Ways.FoundArms.{mover_is, itself, another, chosen_there}
 use Rattle.frz_arena.proofs.Ways.Stages as stages
 use Rattle.frz_arena.proofs.Ways.Stages.{IsSound, OverOrDue, over_or_due}
 use Rattle.frz_arena.proofs.Ways.WayParts.{ply_of}
-use Rattle.frz_arena.proofs.Ways.EachPly.{second_false, never_fails}
+use Rattle.frz_arena.proofs.Ways.EachPly.{stands_due, never_fails}
 
 pub taken_own : {M N V S R : Type 0} (player : Player M N V S R) (own : Bool)
     (opponent : Opponent N S R) (s : S) (x : Ply M N V) → own ≡ true → x.refused ≡ 0
@@ -155,12 +155,7 @@ own_session : {M N V S R : Type 0} (player : Player M N V S R) → IsLawful play
     → same_colour mover player.side ≡ true → IsSound player k p → player.arena.node p ≡ Going mover
     → stage player k p ≡ Moves mover → Session player k s p
 own_session {M} {N} {V} player law alt size less k s p ih start enough mover m c sound e o =
-    let f : is_failure (player.entry p) ≡ false =
-    elim start [
-      | inl z ↦ second_false (is_failure (player.entry p)) k z sound.starts
-      | inr f ↦ f
-    ] in
-    let stands = win_or_hold player.arena player.side player.entry mover p e sound.agrees f in
+    let stands = stands_due player k p mover sound e start in
     let r = chosen_there player.arena law player.side player.entry mover p e sound.agrees stands in
     let x : Ply M N V = record { from = p; place = r.0; arm = r.1; mover = mover; refused = 0 } in
     let taken = taken_own player (same_colour mover player.side) player.opponent s x c refl r.2 in
@@ -192,12 +187,7 @@ read_session {M} {N} {V} {S} {R} player read b size input less k s p ih start mo
             );
           }
       | replies refused place t r ↦ (
-          let f : is_failure (player.entry p) ≡ false =
-          elim start [
-            | inl z ↦ second_false (is_failure (player.entry p)) k z sound.starts
-            | inr f ↦ f
-          ] in
-          let stands = win_or_hold player.arena player.side player.entry mover p e sound.agrees f in
+          let stands = stands_due player k p mover sound e start in
           let a = input.there p mover s t refused place e r in
           let x : Ply M N V = record {
             from = p;
