@@ -1,8 +1,9 @@
 -- A tally takes in one code more.
-use Rattle.std.proofs.Common.{◌≡◌, ℕ, min, max, Bool, true, false, ◌&&◌, ◌||◌, List, [], ◌∷◌, ◌++◌, refl, sym, subst, ap, ◌∙◌, arith, inl, inr, if◌then◌else◌, rules, length}
+use Rattle.std.proofs.Common.{◌≡◌, ◌<◌, ◌+◌, ℕ, min, max, take, get_or, Bool, true, false, ◌&&◌, ◌||◌, List, [], ◌∷◌, ◌++◌, refl, sym, subst, ap, ◌∙◌, arith, inl, inr, if◌then◌else◌, rules, length}
 use Rattle.std.specs.Prelude.{◌==◌}
 use Rattle.std.specs.List.{list_any, list_all, filter}
 use Rattle.std.proofs.lemmas.Grind.{common_steps}
+use Rattle.std.proofs.lemmas.List.{take_more}
 use Rattle.std.proofs.lemmas.List.Elements.{filter-append}
 use Rattle.std.proofs.lemmas.List.Folds.{list_all-append, list_any-append}
 use Rattle.frz_arena.specs.Codes.{is_win, is_failure}
@@ -91,18 +92,23 @@ tally_push sought shunned cs c t u h any least_is all greatest_is = record {
   greatest = greatest_is ∙ (rw h.greatest (sym (greatest_push cs c)));
 }
 
--- the same, with the tests as they were computed
-pub tally_with : (sought shunned : ℕ → Bool) (cs : List ℕ) (c : ℕ) (a b : Bool) → a ≡ sought c →
-    b ≡ shunned c → (t u : Tally) → IsTally sought shunned cs t
-    → u.any ≡ (t.any || a) → u.least ≡ (if a then (if t.any then min t.least c else c) else t.least)
-    → u.all ≡ (t.all && b) → u.greatest ≡ max t.greatest c
-    → IsTally sought shunned (cs ++ c ∷ []) u
-tally_with sought shunned cs c a b e f t u h any least_is all greatest_is =
-    tally_push sought shunned cs c t u h
+-- the next of the codes, with the tests as they were computed
+pub tally_next : (sought shunned : ℕ → Bool) (cs : List ℕ) (k : ℕ) (a b : Bool) → k < length cs →
+    a ≡ sought (get_or cs k 0) → b ≡ shunned (get_or cs k 0) →
+    (t u : Tally) → IsTally sought shunned (take k cs) t
+    → u.any ≡ (t.any || a)
+    → u.least ≡ (if a then (if t.any then min t.least (get_or cs k 0) else get_or cs k 0)
+    else t.least)
+    → u.all ≡ (t.all && b) → u.greatest ≡ max t.greatest (get_or cs k 0)
+    → IsTally sought shunned (take (k + 1) cs) u
+tally_next sought shunned cs k a b l e f t u h any least_is all greatest_is =
+    let c = get_or cs k 0 in
+    subst (λ xs. IsTally sought shunned xs u) (sym (take_more cs k 0 l))
+    (tally_push sought shunned (take k cs) c t u h
     (subst (λ z. u.any ≡ (t.any || z)) e any)
     (subst (λ z. u.least ≡ (if z then (if t.any then min t.least c else c) else t.least)) e
     least_is)
-    (subst (λ z. u.all ≡ (t.all && z)) f all) greatest_is
+    (subst (λ z. u.all ≡ (t.all && z)) f all) greatest_is)
 
 -- what a tally says in the end
 pub chosen_from_tally : (sought shunned : ℕ → Bool) (cs : List ℕ) (t : Tally) →

@@ -1,8 +1,8 @@
-use Rattle.std.proofs.Common.{◌≡◌, ◌∙◌, get_or, take, sym, subst}
-use Rattle.std.proofs.lemmas.List.{take_more, take_all}
+use Rattle.std.proofs.Common.{◌≡◌, ◌∙◌, take, sym, subst}
+use Rattle.std.proofs.lemmas.List.{take_all}
 use Rattle.frz_arena.specs.Codes.{is_win, is_failure}
 use Rattle.frz_arena.specs.Tallies.{IsTally}
-use Rattle.frz_arena.proofs.LocalCodes.Tallied.{tally_with, some_code, own_from_tally}
+use Rattle.frz_arena.proofs.LocalCodes.Tallied.{tally_next, some_code, own_from_tally}
 use Rattle.frz_arena.proofs.local.own_code.Goals as goal
 
 pub loop-code-init : goal.loop-code-init
@@ -11,12 +11,9 @@ loop-code-init c = c.new-tally.ensures is_win is_failure
 pub loop-code-preserved : goal.loop-code-preserved
 loop-code-preserved c =
     let e = c.with-tally.ensures in
-    subst (λ xs. IsTally is_win is_failure xs c.with-tally.result)
-    (sym (take_more c.args.free.now c.loop-code.code-index 0 c.loop-code-test.true))
-    (tally_with is_win is_failure (take c.loop-code.code-index c.args.free.now)
-    (get_or c.args.free.now c.loop-code.code-index 0) c.is_win.result c.is_failure.result
-    c.is_win.ensures c.is_failure.ensures
-    c.loop-code.tally c.with-tally.result c.loop-code.invariant e.any e.least e.all e.greatest)
+    tally_next is_win is_failure c.args.free.now c.loop-code.code-index
+    c.is_win.result c.is_failure.result c.loop-code-test.true c.is_win.ensures c.is_failure.ensures
+    c.loop-code.tally c.with-tally.result c.loop-code.invariant e.any e.least e.all e.greatest
 
 pub returns : goal.returns
 returns c =
