@@ -9,7 +9,8 @@ use Rattle.frz_arena.specs.declared.node.Node.TheVariants.{Mate, Going}
 use Rattle.frz_arena.specs.declared.arm.Arm.{Arm}
 use Rattle.frz_arena.specs.Arena.{IsArm}
 use Rattle.frz_arena.specs.Plies.{LeadsTo, IsGoodExit, WinsWithin}
-use Rattle.frz_arena.specs.Chess.{Chess, Forces}
+use Rattle.frz_arena.specs.Chess.{Chess, IsMated, OwnMoveTo, EveryReplyTo, Forces}
+use Rattle.frz_arena.specs.Exits.{IsExit}
 use Rattle.frz_arena.specs.Games.{Game, next_by, node_by, arm_of, arena_of, goal_by, goals_of}
 use Rattle.frz_arena.proofs.Plies.Later.{later}
 use Rattle.frz_arena.proofs.LocalCodes.PlyCodes.{mapped_in, from_mapped}
@@ -74,48 +75,75 @@ arm_at game p m h = mapped_in (arm_of game p) (game.chess.moves p) m h
 goal_by_class : (i : Bool) (c : Class) (lag : ℕ) → i ≡ false → c ≡ Good → goal_by i c lag ≡ Some lag
 goal_by_class i c lag e h = rw (e, h) refl
 
--- what is good at n is forced within n
-good_is_forced : {P M V : Type 0} (game : Game P M V) (side : Colour) (n : ℕ) →
-    ((q : P) → WinsWithin (arena_of game) side n q
-    → Forces game.chess (goals_of game side) side n q) → (q : P)
-    → LeadsTo (WinsWithin (arena_of game) side n) (IsGoodExit (arena_of game) side n)
-    (next_by (game.member q) q (game.value q)) → Forces game.chess (goals_of game side) side n q
-good_is_forced game side n ih q h =
-    elim (leads_by (WinsWithin (arena_of game) side n) (IsGoodExit (arena_of game) side n)
-    (game.member q) q (game.value q) h) [
-      | inl w ↦ ih q w.1
-      | inr w ↦
-          forces_later game.chess (goals_of game side) side (game.lag (game.value q)) n q w.1.1
-          (forces_goal game.chess (goals_of game side) side (game.lag (game.value q)) q
-          (goal_by_class (game.member q) (game.class (game.value q) side) (game.lag (game.value q))
-          w.0 w.1.0))
-    ]
+-- it holds of mates and of good exits, and where one's own move or each reply leads to it
+pub record HoldsOfWins {P M V : Type 0} (game : Game P M V) (side : Colour)
+    (F : ℕ → P → Type 0) : Type 0 where
+  pub mates : (p : P) → IsMated game.chess (other_of side) p → F 0 p
+  pub later : (n : ℕ) (p : P) → F n p → F (suc n) p
+  pub own : (n : ℕ) (p : P) → OwnMoveTo game.chess side (F n) p → F (suc n) p
+  pub replies : (n : ℕ) (p : P) → EveryReplyTo game.chess side (F n) p → F (suc n) p
+  pub exits : (n : ℕ) (q : P) → IsExit game q → IsGoodExit (arena_of game) side n (game.value q) →
+      F n q
+
+-- so it holds where the restricted game is won
+module _ {P M V : Type 0} (game : Game P M V) (side : Colour) (F : ℕ → P → Type 0)
+    (wins : HoldsOfWins game side F) where
+  by_arm : (n : ℕ) → ((q : P) → WinsWithin (arena_of game) side n q → F n q) → (p : P) (m : M) →
+      game.member p ≡ true → Contains (game.chess.moves p) m →
+      LeadsTo (WinsWithin (arena_of game) side n) (IsGoodExit (arena_of game) side n)
+      (arm_of game p m).next → F n (game.chess.play p m)
+  by_arm n ih p m b i h =
+      let q = game.chess.play p m in
+      elim (leads_by (WinsWithin (arena_of game) side n) (IsGoodExit (arena_of game) side n)
+      (game.member q) q (game.value q) h) [
+        | inl w ↦ ih q w.1
+        | inr w ↦ wins.exits n q
+            (record { from = p; move = m; begins = b; legal = i; ends = refl; outside = w.0 }) w.1
+      ]
+
+  pub holds_of_win : (n : ℕ) (p : P) → WinsWithin (arena_of game) side n p → F n p
+  holds_of_win zero p w =
+      let h = is_mate (game.member p) (game.chess.moves p) (game.chess.in_check p)
+      (game.chess.turn p) (other_of side) w in
+      wins.mates p (record { to_move = h.3; no_move = h.1; attacked = h.2 })
+  holds_of_win (suc n) p (inl w) = wins.later n p (holds_of_win n p w)
+  holds_of_win (suc n) p (inr (inl w)) =
+      let g = is_going (game.member p) (game.chess.moves p) (game.chess.in_check p)
+      (game.chess.turn p) side w.0 in
+      let m = move_of game p w.1.0 w.1.1 in
+      let W = WinsWithin (arena_of game) side n in
+      let Q = IsGoodExit (arena_of game) side n in
+      let h = subst (λ a. LeadsTo W Q a.next) (sym m.2) w.1.3 in
+      wins.own n p (g.2, (m.0, m.1, by_arm n (holds_of_win n) p m.0 g.0 m.1 h))
+  holds_of_win (suc n) p (inr (inr w)) =
+      let g = is_going (game.member p) (game.chess.moves p) (game.chess.in_check p)
+      (game.chess.turn p) (other_of side) w.0 in
+      wins.replies n p (
+        g.2,
+        g.1,
+        λ m i. by_arm n (holds_of_win n) p m g.0 i (w.2 (arm_of game p m) (arm_at game p m i)),
+      )
+
+-- what is forced does, where each good exit is forced within its lag
+pub forced_by_wins : {P M V : Type 0} (game : Game P M V) (goals : P → Option ℕ) (side : Colour) →
+    ((q : P) → IsExit game q → game.class (game.value q) side ≡ Good →
+    Forces game.chess goals side (game.lag (game.value q)) q) →
+    HoldsOfWins game side (Forces game.chess goals side)
+forced_by_wins game goals side exits = record {
+  mates = λ p h. inr h;
+  later = λ n p f. inl f;
+  own = λ n p f. inr (inr (inl f));
+  replies = λ n p f. inr (inr (inr f));
+  exits = λ n q x g.
+      forces_later game.chess goals side (game.lag (game.value q)) n q g.1 (exits q x g.0);
+}
 
 -- the restricted game's win is forced in chess
 pub wins_forces : {P M V : Type 0} (game : Game P M V) (side : Colour) (n : ℕ) (p : P) →
     WinsWithin (arena_of game) side n p → Forces game.chess (goals_of game side) side n p
-wins_forces game side zero p w =
-    let h = is_mate (game.member p) (game.chess.moves p) (game.chess.in_check p) (game.chess.turn p)
-    (other_of side) w in
-    inr (record { to_move = h.3; no_move = h.1; attacked = h.2 })
-wins_forces game side (suc n) p (inl w) = inl (wins_forces game side n p w)
-wins_forces game side (suc n) p (inr (inl w)) =
-    let g = is_going (game.member p) (game.chess.moves p) (game.chess.in_check p)
-    (game.chess.turn p) side w.0 in
-    let m = move_of game p w.1.0 w.1.1 in
-    let F = WinsWithin (arena_of game) side n in
-    let Q = IsGoodExit (arena_of game) side n in
-    let h = subst (λ a. LeadsTo F Q a.next) (sym m.2) w.1.3 in
-    inr (inr (inl (
-      g.2,
-      (m.0, m.1, good_is_forced game side n (wins_forces game side n) (game.chess.play p m.0) h),
-    )))
-wins_forces game side (suc n) p (inr (inr w)) =
-    let g = is_going (game.member p) (game.chess.moves p) (game.chess.in_check p)
-    (game.chess.turn p) (other_of side) w.0 in
-    inr (inr (inr (
-      g.2,
-      g.1,
-      λ m i. good_is_forced game side n (wins_forces game side n)
-          (game.chess.play p m) (w.2 (arm_of game p m) (arm_at game p m i)),
-    )))
+wins_forces game side =
+    holds_of_win game side (Forces game.chess (goals_of game side) side)
+    (forced_by_wins game (goals_of game side) side
+    (λ q x g. forces_goal game.chess (goals_of game side) side (game.lag (game.value q)) q
+    (goal_by_class (game.member q) (game.class (game.value q) side) (game.lag (game.value q))
+    x.outside g)))
