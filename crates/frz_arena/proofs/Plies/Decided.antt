@@ -80,39 +80,6 @@ pub bad_decided : {M N V : Type 0} (arena : Arena M N V) (side : Colour) (n : �
 bad_decided arena side n d (Inside q) = d q
 bad_decided arena side n d (Outside v) = is_bad (arena.class v side)
 
--- nothing moves but at a position that goes on
-still_node : {M N V : Type 0} (arena : Arena M N V) (side : Colour) (P : Next N V → Type 0) (p : N)
-    → ((mover : Colour) → arena.node p ≡ Going mover → ⊥) → MovesToGood arena side P p → ⊥
-still_node arena side P p h (inl w) = h side w.0
-still_node arena side P p h (inr w) = h (other_of side) w.0
-
-still_bad_node : {M N V : Type 0} (arena : Arena M N V) (side : Colour) (P : Next N V → Type 0)
-    (p : N) → ((mover : Colour) → arena.node p ≡ Going mover → ⊥) → MovesToBad arena side P p → ⊥
-still_bad_node arena side P p h (inl w) = h (other_of side) w.0
-still_bad_node arena side P p h (inr w) = h side w.0
-
-pub moves_decided : {M N V : Type 0} (arena : Arena M N V) → IsLawful arena →
-    (side : Colour) (P : Next N V → Type 0) → ((x : Next N V) → Decided (P x)) → (p : N) →
-    Decided (MovesToGood arena side P p)
-moves_decided {M} {N} {V} arena law side P d p =
-    elim (node_is side (arena.node p)) [
-      | broken e ↦ inr (still_node arena side P p (λ mover g. cc))
-      | mated e ↦ inr (still_node arena side P p (λ mover g. cc))
-      | mates e ↦ inr (still_node arena side P p (λ mover g. cc))
-      | stale other e ↦ inr (still_node arena side P p (λ mover g. cc))
-      | moves e ↦ elim (some_or_none (λ (a : Arm M N V). (a.free ≡ true) × P a.next)
-          (λ a. both_decided (is_true a.free) (d a.next)) (arena.arms p)) [
-            | inl r ↦ inl (inl (e, (r.0, r.1, r.2.0, r.2.1)))
-            | inr none ↦ inr
-                (elim [ inl w ↦ none w.1.0 w.1.1 (w.1.2, w.1.3) | inr w ↦ one_mover side e w.0 ])
-          ]
-      | waits e ↦ elim (each_or_not (λ (a : Arm M N V). P a.next) (λ a. d a.next) (arena.arms p)) [
-        | inl all ↦ (let a = some_arm arena law p (other_of side) e in
-            inl (inr (e, (a.0, a.1, all a.0 a.1), all)))
-        | inr r ↦ inr (elim [ inl w ↦ one_mover side w.0 e | inr w ↦ r.2 (w.2 r.0 r.1) ])
-      ]
-    ]
-
 -- a free arm has P
 Freely : {M N V : Type 0} → (Next N V → Type 0) → Arm M N V → Type 0
 Freely P a = a.free ≡ true → P a.next
@@ -135,27 +102,58 @@ unfolding Freely
 each_free_or_not {M} {N} {V} arena P d p =
     each_or_not (Freely P) (freely_decided P d) (arena.arms p)
 
-pub bad_moves_decided : {M N V : Type 0} (arena : Arena M N V) → IsLawful arena →
-    (side : Colour) (P : Next N V → Type 0) → ((x : Next N V) → Decided (P x)) → (p : N) →
-    Decided (MovesToBad arena side P p)
-bad_moves_decided {M} {N} {V} arena law side P d p =
-    elim (node_is side (arena.node p)) [
-      | broken e ↦ inr (still_bad_node arena side P p (λ mover g. cc))
-      | mated e ↦ inr (still_bad_node arena side P p (λ mover g. cc))
-      | mates e ↦ inr (still_bad_node arena side P p (λ mover g. cc))
-      | stale other e ↦ inr (still_bad_node arena side P p (λ mover g. cc))
-      | waits e ↦ elim (some_or_none (λ (a : Arm M N V). P a.next) (λ a. d a.next) (arena.arms p)) [
-        | inl r ↦ inl (inl (e, (r.0, r.1, r.2)))
-        | inr none ↦ inr (elim [ inl w ↦ none w.1.0 w.1.1 w.1.2 | inr w ↦ one_mover side w.0 e ])
+module _ {M N V : Type 0} (arena : Arena M N V) (law : IsLawful arena) (side : Colour)
+    (P : Next N V → Type 0) (d : (x : Next N V) → Decided (P x)) (p : N) where
+  -- nothing moves but at a position that goes on
+  still_node : ((mover : Colour) → arena.node p ≡ Going mover → ⊥) →
+      Decided (MovesToGood arena side P p) × Decided (MovesToBad arena side P p)
+  still_node h = (
+    inr (elim [ inl w ↦ h side w.0 | inr w ↦ h (other_of side) w.0 ]),
+    inr (elim [ inl w ↦ h (other_of side) w.0 | inr w ↦ h side w.0 ]),
+  )
+
+  pub moves_decided : Decided (MovesToGood arena side P p)
+  moves_decided =
+      elim (node_is side (arena.node p)) [
+        | broken e ↦ (still_node (λ mover g. cc)).0
+        | mated e ↦ (still_node (λ mover g. cc)).0
+        | mates e ↦ (still_node (λ mover g. cc)).0
+        | stale other e ↦ (still_node (λ mover g. cc)).0
+        | moves e ↦ elim (some_or_none (λ (a : Arm M N V). (a.free ≡ true) × P a.next)
+            (λ a. both_decided (is_true a.free) (d a.next)) (arena.arms p)) [
+              | inl r ↦ inl (inl (e, (r.0, r.1, r.2.0, r.2.1)))
+              | inr none ↦ inr
+                  (elim [ inl w ↦ none w.1.0 w.1.1 (w.1.2, w.1.3) | inr w ↦ one_mover side e w.0 ])
+            ]
+        | waits e ↦ elim (each_or_not (λ (a : Arm M N V). P a.next) (λ a. d a.next)
+            (arena.arms p)) [
+              | inl all ↦ (let a = some_arm arena law p (other_of side) e in
+                  inl (inr (e, (a.0, a.1, all a.0 a.1), all)))
+              | inr r ↦ inr (elim [ inl w ↦ one_mover side w.0 e | inr w ↦ r.2 (w.2 r.0 r.1) ])
+            ]
       ]
-      | moves e ↦ elim (passes_or_none (λ (a : Arm M N V). a.free) (arena.arms p)) [
-        | inr none ↦ inr (elim [ inl w ↦ one_mover side e w.0 | inr w ↦ none w.1.0 w.1.1 w.1.2 ])
-        | inl f ↦ elim (each_free_or_not arena P d p) [
-          | inl all ↦ inl (inr (e, (f.0, f.1, f.2, all f.0 f.1 f.2), all))
-          | inr r ↦ inr (elim [ inl w ↦ one_mover side e w.0 | inr w ↦ r.2 (w.2 r.0 r.1) ])
+
+  pub bad_moves_decided : Decided (MovesToBad arena side P p)
+  bad_moves_decided =
+      elim (node_is side (arena.node p)) [
+        | broken e ↦ (still_node (λ mover g. cc)).1
+        | mated e ↦ (still_node (λ mover g. cc)).1
+        | mates e ↦ (still_node (λ mover g. cc)).1
+        | stale other e ↦ (still_node (λ mover g. cc)).1
+        | waits e ↦ elim (some_or_none (λ (a : Arm M N V). P a.next) (λ a. d a.next)
+            (arena.arms p)) [
+              | inl r ↦ inl (inl (e, (r.0, r.1, r.2)))
+              | inr none ↦ inr
+                  (elim [ inl w ↦ none w.1.0 w.1.1 w.1.2 | inr w ↦ one_mover side w.0 e ])
+            ]
+        | moves e ↦ elim (passes_or_none (λ (a : Arm M N V). a.free) (arena.arms p)) [
+          | inr none ↦ inr (elim [ inl w ↦ one_mover side e w.0 | inr w ↦ none w.1.0 w.1.1 w.1.2 ])
+          | inl f ↦ elim (each_free_or_not arena P d p) [
+            | inl all ↦ inl (inr (e, (f.0, f.1, f.2, all f.0 f.1 f.2), all))
+            | inr r ↦ inr (elim [ inl w ↦ one_mover side e w.0 | inr w ↦ r.2 (w.2 r.0 r.1) ])
+          ]
         ]
       ]
-    ]
 
 pub wins_decided : {M N V : Type 0} (arena : Arena M N V) → IsLawful arena →
     (side : Colour) (n : ℕ) (p : N) → Decided (WinsWithin arena side n p)
