@@ -277,71 +277,55 @@ told Within Moves Tells code n split more at_once by_moves (suc m) p l w =
       | inr step ↦ by_moves m p (omega arith) step
     ]
 
-local_wins : {M N V : Type 0} (arena : Arena M N V) (side : Colour) (n : ℕ) (entry : N → ℕ) →
-    TellBefore arena side n entry →
-    (m : ℕ) (p : N) → m ≤ n → WinsWithin arena side m p
-    → IsWinWithin m (local_code arena side entry p)
-local_wins arena side n entry before =
-    told (WinsWithin arena side)
-    (λ m. MovesToGood arena side (LeadsTo (WinsWithin arena side m) (IsGoodExit arena side m)))
-    IsWinWithin (local_code arena side entry) n
-    (λ m p w. w)
-    (λ m c w. (w.0, omega (arith, w.1)))
-    (λ p w. win_at zero _ _ (sym (at_mates arena side entry p w)) (refl, omega arith))
-    (λ m p l. code_of_moves arena side entry m (WinsWithin arena side m)
-    (λ q. (before.wins m q l).0) p)
-
-local_fails : {M N V : Type 0} (arena : Arena M N V) (side : Colour) (n : ℕ) (entry : N → ℕ) →
-    TellBefore arena side n entry →
-    (m : ℕ) (p : N) → m ≤ n → FailsWithin arena side m p
-    → IsFailureWithin m (local_code arena side entry p)
-local_fails arena side n entry before =
-    told (FailsWithin arena side)
-    (λ m. MovesToBad arena side (LeadsTo (FailsWithin arena side m) (IsBadExit arena side)))
-    IsFailureWithin (local_code arena side entry) n
-    (λ m p f. f)
-    (λ m c f. (f.0, omega (arith, f.1)))
-    (λ p f. failure_at zero _ _ (sym (code_of_lost arena side entry p f)) (refl, omega arith))
-    (λ m p l. code_of_bad_moves arena side entry m (FailsWithin arena side m)
-    (λ q. (before.fails m q l).0) p)
-
-wins_local : {M N V : Type 0} (arena : Arena M N V) → IsLawful arena →
-    (side : Colour) (n : ℕ) (entry : N → ℕ) → TellBefore arena side n entry →
-    (m : ℕ) (p : N) → m ≤ n → IsWinWithin m (local_code arena side entry p)
-    → WinsWithin arena side m p
-wins_local arena law side n entry before zero p l w = mate_of_code arena law side entry p w
-wins_local arena law side n entry before (suc m) p l w =
-    elim (moves_of_code arena law side entry m (WinsWithin arena side m)
-    (λ q. (before.wins m q (omega arith)).1) p w) [
-      | inl mate ↦ wins_later arena side zero (suc m) p (omega arith) mate
-      | inr step ↦ inr step
-    ]
-
-fails_local : {M N V : Type 0} (arena : Arena M N V) → IsLawful arena →
-    (side : Colour) (n : ℕ) (entry : N → ℕ) → TellBefore arena side n entry →
-    (m : ℕ) (p : N) → m ≤ n → IsFailureWithin m (local_code arena side entry p)
-    → FailsWithin arena side m p
-fails_local arena law side n entry before zero p l f = lost_of_code arena law side entry p f
-fails_local arena law side n entry before (suc m) p l f =
-    elim (bad_moves_of_code arena law side entry m (FailsWithin arena side m)
-    (λ q. (before.fails m q (omega arith)).1) p f) [
-      | inl lost ↦ fails_at_once arena side (suc m) p lost
-      | inr step ↦ inr step
-    ]
-
 -- the local codes tell one ply more
-pub local_tells : {M N V : Type 0} (arena : Arena M N V) → IsLawful arena →
-    (side : Colour) (n : ℕ) (entry : N → ℕ) → TellBefore arena side n entry →
-    TellBefore arena side (suc n) (local_code arena side entry)
-local_tells arena law side n entry before = record {
-  wins =
-      λ m p l. (
-        local_wins arena side n entry before m p (omega arith),
-        wins_local arena law side n entry before m p (omega arith),
-      );
-  fails =
-      λ m p l. (
-        local_fails arena side n entry before m p (omega arith),
-        fails_local arena law side n entry before m p (omega arith),
-      );
-}
+module _ {M N V : Type 0} (arena : Arena M N V) (law : IsLawful arena) (side : Colour) (n : ℕ)
+    (entry : N → ℕ) (before : TellBefore arena side n entry) where
+  local_wins : (m : ℕ) (p : N) → m ≤ n → WinsWithin arena side m p
+      → IsWinWithin m (local_code arena side entry p)
+  local_wins =
+      told (WinsWithin arena side)
+      (λ m. MovesToGood arena side (LeadsTo (WinsWithin arena side m) (IsGoodExit arena side m)))
+      IsWinWithin (local_code arena side entry) n
+      (λ m p w. w)
+      (λ m c w. (w.0, omega (arith, w.1)))
+      (λ p w. win_at zero _ _ (sym (at_mates arena side entry p w)) (refl, omega arith))
+      (λ m p l. code_of_moves arena side entry m (WinsWithin arena side m)
+      (λ q. (before.wins m q l).0) p)
+
+  local_fails : (m : ℕ) (p : N) → m ≤ n → FailsWithin arena side m p
+      → IsFailureWithin m (local_code arena side entry p)
+  local_fails =
+      told (FailsWithin arena side)
+      (λ m. MovesToBad arena side (LeadsTo (FailsWithin arena side m) (IsBadExit arena side)))
+      IsFailureWithin (local_code arena side entry) n
+      (λ m p f. f)
+      (λ m c f. (f.0, omega (arith, f.1)))
+      (λ p f. failure_at zero _ _ (sym (code_of_lost arena side entry p f)) (refl, omega arith))
+      (λ m p l. code_of_bad_moves arena side entry m (FailsWithin arena side m)
+      (λ q. (before.fails m q l).0) p)
+
+  wins_local : (m : ℕ) (p : N) → m ≤ n → IsWinWithin m (local_code arena side entry p)
+      → WinsWithin arena side m p
+  wins_local zero p l w = mate_of_code arena law side entry p w
+  wins_local (suc m) p l w =
+      elim (moves_of_code arena law side entry m (WinsWithin arena side m)
+      (λ q. (before.wins m q (omega arith)).1) p w) [
+        | inl mate ↦ wins_later arena side zero (suc m) p (omega arith) mate
+        | inr step ↦ inr step
+      ]
+
+  fails_local : (m : ℕ) (p : N) → m ≤ n → IsFailureWithin m (local_code arena side entry p)
+      → FailsWithin arena side m p
+  fails_local zero p l f = lost_of_code arena law side entry p f
+  fails_local (suc m) p l f =
+      elim (bad_moves_of_code arena law side entry m (FailsWithin arena side m)
+      (λ q. (before.fails m q (omega arith)).1) p f) [
+        | inl lost ↦ fails_at_once arena side (suc m) p lost
+        | inr step ↦ inr step
+      ]
+
+  pub local_tells : TellBefore arena side (suc n) (local_code arena side entry)
+  local_tells = record {
+    wins = λ m p l. (local_wins m p (omega arith), wins_local m p (omega arith));
+    fails = λ m p l. (local_fails m p (omega arith), fails_local m p (omega arith));
+  }
