@@ -6,22 +6,20 @@ use Rattle.frz_exits.specs.Books.{value_by}
 use Rattle.frz_graph.specs.EntryCodes.{of_side}
 use Rattle.frz_game.proofs.Lemmas.{table_exact}
 use Rattle.frz_rules.specs.Text.{rules_of}
-use Rattle.frz_store.specs.Files.{Files}
 use Rattle.frz_store.specs.Told.{StoreTold}
 use Rattle.frz_table.specs.declared.fault.TableFault.{TableFault}
 use Rattle.frz_table.specs.declared.fault.TableFault.TheVariants.{Missing, Magic, Truncated, Extra, Rules, Size, Failed, NoMemory}
-use Rattle.frz_table.specs.declared.kind.FileKind.{FileKind}
 use Rattle.frz_table.specs.declared.kind.FileKind.TheVariants.{Plain}
 use Rattle.frz_table.specs.Faults.{IsOutside}
 use Rattle.frz_table.specs.Layout.{pieces_of}
 use Rattle.frz_table.specs.Opening.{Contents, Refuses, contents_of, opened, table_format}
 use Rattle.frz_table.specs.Possible.{MayHold, MayKeep, MayOpen}
 use Rattle.frz_table.specs.Tables.{Table, table_size}
-use Rattle.frz_table.proofs.Lemmas.{belongs, opens_by, read_short}
+use Rattle.frz_table.proofs.Lemmas.{belongs}
 use Rattle.frz_check.specs.declared.verdict.Verdict.{Verdict}
 use Rattle.frz_check.specs.Kept.{WithinFile, kept_codes}
 use Rattle.frz_check.specs.Verdicts.{IsVerdict}
-use Rattle.frz_check.proofs.Lemmas.{few_plies, file_not_loaded, verdict_on, within_file}
+use Rattle.frz_check.proofs.Lemmas.{few_plies, file_not_loaded, file_opens, verdict_on, within_file}
 use Rattle.frz_chain.specs.Backs.{GivesBack, IsBackJudged, IsRefusedBack, OpensBack, RefusesBack}
 use Rattle.frz_chain.specs.Books.{Back, back_with}
 use Rattle.frz_chain.specs.Causes.{back_fault}
@@ -111,23 +109,19 @@ judged_back table name white black v old mid new steps_before steps_now kept sam
     let contents : Contents = contents_of table in
     let read : rules_of table.text ≡ Ok table.rules =
     (belongs (table_format Plain) may.bytes (contents_of table) may.opens).read in
-    let opens : opened (table_format Plain) (Some kept.bytes) ≡ Ok contents =
-    subst (λ (k : FileKind). opened (table_format k) (Some kept.bytes) ≡ Ok contents) kind
-    (opens_by (table_format table.kind) kept.bytes contents
-    (record { file = kept.file; short = read_short table.text table.rules read; read = read })) in
+    let there = file_opens Plain table name kept.bytes old.files mid.files same kind named read
+    kept.may kept.file in
     record {
       bytes = kept.bytes;
-      may =
-          subst (λ (o : Option Files). MayHold o name (Some kept.bytes)) same
-          (subst (λ (n : List ℕ). MayHold mid.files n (Some kept.bytes)) named kept.may);
+      may = there.0;
       contents = contents;
-      judged = judged_bytes table white black kept.bytes v read opens (sym kept.white_is)
+      judged = judged_bytes table white black kept.bytes v read there.1 (sym kept.white_is)
           (sym kept.black_is) h;
       keeps =
           ap (λ (l : List ℕ). back_with table.rules.groups l black) (sym kept.white_is)
           ∙ ap (λ (l : List ℕ). back_with table.rules.groups (kept_codes contents kept.bytes White)
           l) (sym kept.black_is);
-      within = within_file kept.bytes contents old mid new steps_before steps_now opens asked calls
+      within = within_file kept.bytes contents old mid new steps_before steps_now there.1 asked calls
           more_asked more_calls steps;
     }
 

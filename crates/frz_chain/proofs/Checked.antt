@@ -11,7 +11,8 @@ use Rattle.frz_table.specs.Layout.{pieces_of}
 use Rattle.frz_table.specs.Opening.{Contents, Refuses, contents_of, kept_text, opened, opening_calls, table_format}
 use Rattle.frz_table.specs.Possible.{MayHold, MayOpen, MayRefuse}
 use Rattle.frz_table.specs.Tables.{Table, table_size}
-use Rattle.frz_table.proofs.Lemmas.{belongs, opened_calls, opens_by, read_short, text_kept}
+use Rattle.frz_check.proofs.Lemmas.{file_opens}
+use Rattle.frz_table.proofs.Lemmas.{belongs, opened_calls, text_kept}
 use Rattle.frz_check.specs.Kept.{ChecksTable, IsVerdictOn, WithinFile}
 use Rattle.frz_chain.specs.Backs.{IsRefusedBack, OpensBack, RefusesBack}
 use Rattle.frz_chain.specs.Books.{Back, chain_value}
@@ -214,17 +215,13 @@ checked table name back loaded back_size old mid then new steps_before steps_the
     same then_same kind named asked calls h back_sized more_asked more_calls steps told sizes =
     let contents : Contents = contents_of table in
     let read = (belongs (table_format Chained) may.bytes (contents_of table) may.opens).read in
-    let opens : opened (table_format Chained) (Some told.bytes) ≡ Ok contents =
-    subst (λ (k : FileKind). opened (table_format k) (Some told.bytes) ≡ Ok contents) kind
-    (opens_by (table_format table.kind) told.bytes contents
-    (record { file = told.file; short = read_short table.text table.rules read; read = read })) in
+    let there = file_opens Chained table name told.bytes old.files then.files (then_same ∙ same) kind
+    named read told.may told.file in
     record {
       bytes = told.bytes;
-      may =
-          subst (λ (o : Option Files). MayHold o name (Some told.bytes)) (then_same ∙ same)
-          (subst (λ (n : List ℕ). MayHold then.files n (Some told.bytes)) named told.may);
+      may = there.0;
       contents = contents;
-      opens = opens;
+      opens = there.1;
       back_bytes = h.bytes;
       back_may = subst (λ (o : Option Files). MayHold o back (Some h.bytes)) same h.may;
       back_contents = h.contents;
@@ -240,7 +237,7 @@ checked table name back loaded back_size old mid then new steps_before steps_the
           (back_sized ∙ ap (λ (b : Back). size_of b.groups) h.keeps) sizes;
       within =
           loaded_both told.bytes contents (Some h.bytes) old mid then new steps_before steps_then
-          steps_now opens
+          steps_now there.1
           (judged_exact h.bytes h.contents h.judged) asked calls h.within more_asked more_calls
           steps;
     }

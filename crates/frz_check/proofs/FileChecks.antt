@@ -1,5 +1,5 @@
 -- From an open table to the file under its name.
-use Rattle.std.proofs.Common.{◌≡◌, sym, ap, subst, ◌∙◌, ℕ, ◌+◌, ◌*◌, ◌≤◌, List, length, Option, Some, Result, Ok, Err, IfOk, IfErr, arith}
+use Rattle.std.proofs.Common.{◌≡◌, refl, sym, ap, subst, ◌∙◌, ℕ, ◌+◌, ◌*◌, ◌≤◌, List, length, Option, Some, Result, Ok, Err, IfOk, IfErr, arith}
 use Rattle.std.specs.Prelude.{slice_index}
 use Rattle.frz_board.specs.Boards.{Board}
 use Rattle.frz_board.specs.declared.man.Colour.{Colour}
@@ -17,10 +17,10 @@ use Rattle.frz_table.specs.declared.fault.TableFault.{TableFault}
 use Rattle.frz_table.specs.declared.kind.FileKind.{FileKind}
 use Rattle.frz_table.specs.declared.kind.FileKind.TheVariants.{Plain}
 use Rattle.frz_table.specs.Faults.{IsOutside}
-use Rattle.frz_table.specs.Layout.{pieces_of}
+use Rattle.frz_table.specs.Layout.{magic_of, pieces_of}
 use Rattle.frz_table.specs.Opening.{Contents, contents_of, kept_text, opened, opening_calls, table_format}
 use Rattle.frz_table.specs.Possible.{MayHold, MayKeep, MayOpen}
-use Rattle.frz_table.specs.Tables.{Table, table_size}
+use Rattle.frz_table.specs.Tables.{IsTableFile, Table, table_size}
 use Rattle.frz_table.proofs.Lemmas.{belongs, opened_calls, opens_by, outside_refuses, read_short, text_kept}
 use Rattle.frz_game.specs.Bounds.{IsTableOf}
 use Rattle.frz_game.specs.Games.{graph_by}
@@ -56,6 +56,21 @@ same_verdict rules value codes others (verdict.Wrong w) same h = record {
         subst (λ (l : List ℕ). slice_index l i ≡ local_code (graph_by rules value) side
         (λ k. slice_index l k) i) (same side) e
 
+-- the file of a table that was opened, under its name: the name may hold it, and it opens so
+pub file_opens : (kind : FileKind) (table : Table) (name bytes : List ℕ) (old now : Option Files) →
+    now ≡ old → table.kind ≡ kind → table.name ≡ name → rules_of table.text ≡ Ok table.rules →
+    MayHold now table.name (Some bytes) →
+    IsTableFile (magic_of table.kind) table.text (table_size table) bytes →
+    MayHold old name (Some bytes)
+    × (opened (table_format kind) (Some bytes) ≡ Ok (contents_of table))
+file_opens kind table name bytes old now same is_kind named read may file = (
+  subst (λ (o : Option Files). MayHold o name (Some bytes)) same
+      (subst (λ (n : List ℕ). MayHold now n (Some bytes)) named may),
+  subst (λ (k : FileKind). opened (table_format k) (Some bytes) ≡ Ok (contents_of table)) is_kind
+      (opens_by (table_format table.kind) bytes (contents_of table)
+      (record { file = file; short = read_short table.text table.rules read; read = read })),
+)
+
 -- the lists that were loaded are those in a file that the name may hold
 pub table_checked : (files : Option Files) (table : Table) (value : Board → Value)
     (white black : List ℕ) (rules : RuleLines) (white_slice black_slice : List ℕ) (v : Verdict) →
@@ -68,13 +83,8 @@ pub table_checked : (files : Option Files) (table : Table) (value : Board → Va
     → ChecksTable files table value v
 table_checked files table value white black rules white_slice black_slice v exact plies read kept
     same_rules white_is black_is h =
-    let opens : opened (table_format table.kind) (Some kept.bytes) ≡ Ok (contents_of table) =
-    opens_by (table_format table.kind) kept.bytes (contents_of table)
-    (record {
-      file = kept.file;
-      short = read_short table.text table.rules read;
-      read = read;
-    }) in
+    let opens = (file_opens table.kind table table.name kept.bytes files files refl refl refl read
+    kept.may kept.file).1 in
     record {
       bytes = kept.bytes;
       may = kept.may;
@@ -137,22 +147,18 @@ pub file_checked : (files : Option Files) (table : Table) (rules : RuleLines) (n
 file_checked files table rules name old mid new steps_before steps_now v same kind named same_rules
     read asked calls more_asked more_calls steps h =
     let contents : Contents = contents_of table in
-    let opens : opened (table_format Plain) (Some h.bytes) ≡ Ok contents =
-    subst (λ (k : FileKind). opened (table_format k) (Some h.bytes) ≡ Ok contents) kind
-    (opens_by (table_format table.kind) h.bytes contents
-    (record { file = h.file; short = read_short table.text table.rules read; read = read })) in
+    let there = file_opens Plain table name h.bytes old.files files same kind named read h.may h.file
+    in
     record {
       bytes = h.bytes;
-      may =
-          subst (λ (o : Option Files). MayHold o name (Some h.bytes)) same
-          (subst (λ (n : List ℕ). MayHold files n (Some h.bytes)) named h.may);
+      may = there.0;
       contents = contents;
-      opens = opens;
+      opens = there.1;
       told =
           subst (λ (k : FileKind). IsVerdictOn k (value_by table.rules) contents h.bytes v) kind
           (subst (λ (r : RuleLines). IsVerdictOn table.kind (value_by r) contents h.bytes v)
           same_rules h.told);
-      within = within_file h.bytes contents old mid new steps_before steps_now opens asked calls
+      within = within_file h.bytes contents old mid new steps_before steps_now there.1 asked calls
           more_asked more_calls steps;
     }
 
