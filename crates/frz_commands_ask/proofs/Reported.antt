@@ -9,17 +9,16 @@ use Rattle.frz_store.specs.Outside.{Rose}
 use Rattle.frz_store.specs.Told.{StoreTold, SourceTold, SinkTold, StoreQuiet, StoreFine}
 use Rattle.frz_table.specs.declared.fault.TableFault.{TableFault}
 use Rattle.frz_table.specs.declared.fault.TableFault.TheVariants.{NoMemory}
-use Rattle.frz_table.specs.declared.kind.FileKind.{FileKind}
 use Rattle.frz_table.specs.declared.kind.FileKind.TheVariants.{Plain}
 use Rattle.frz_table.specs.Layout.{pieces_of}
 use Rattle.frz_table.specs.Opening.{Contents, contents_of, opened, table_format}
 use Rattle.frz_table.specs.Possible.{MayHold, MayOpen, MayRefuse}
 use Rattle.frz_table.specs.Tables.{Table, IsFileOf, table_size}
-use Rattle.frz_table.proofs.Lemmas.{belongs, opens_by, read_short, same_held}
+use Rattle.frz_table.proofs.Lemmas.{belongs, same_held}
 use Rattle.frz_store.proofs.Lemmas.{later_store}
 use Rattle.frz_rules.specs.Text.{rules_of}
 use Rattle.frz_check.specs.Kept.{kept_codes, WithinFile}
-use Rattle.frz_check.proofs.Lemmas.{within_file}
+use Rattle.frz_check.proofs.Lemmas.{file_opens, within_file}
 use Rattle.frz_answer.specs.declared.status.Status.TheVariants.{Success}
 use Rattle.frz_answer.specs.declared.fault.Fault.{Fault}
 use Rattle.frz_answer.specs.declared.fault.Fault.TheVariants as stops
@@ -263,18 +262,9 @@ module _ (name : List ℕ) (table : Table) (old mid new : StoreTold) (input : So
       let read : rules_of table.text ≡ Ok table.rules =
       (belongs (table_format Plain) begun.opens.bytes (contents_of table)
       begun.opens.opens).read in
-      let opens : opened (table_format Plain) (Some bytes) ≡ Ok (contents_of table) =
-      subst (λ (k : FileKind). opened (table_format k) (Some bytes) ≡ Ok (contents_of table))
-      begun.kind
-      (opens_by (table_format table.kind) bytes (contents_of table)
-      (record { file = file; short = read_short table.text table.rules read; read = read })) in
-      record {
-        may =
-            subst (λ (o : Option Files). MayHold o name (Some bytes)) begun.opening.unwritten.files
-            (subst (λ (n : List ℕ). MayHold mid.files n (Some bytes)) begun.named may);
-        opens = opens;
-        within = within bytes opens;
-      }
+      let there = file_opens Plain table name bytes old.files mid.files begun.opening.unwritten.files
+      begun.kind begun.named read may file in
+      record { may = there.0; opens = there.1; within = within bytes there.1 }
 
   of_file : (result : Result Totals ReportFault) → StoreCause result mid new
       → WritesOfFile mid.files table result out_old out_new

@@ -1,19 +1,16 @@
 -- The verdict on an open table is one on the file of its name.
-use Rattle.std.proofs.Common.{◌≡◌, subst, ℕ, ◌+◌, ◌*◌, ◌≤◌, List, length, Option, Some, Ok}
+use Rattle.std.proofs.Common.{◌≡◌, subst, ℕ, ◌+◌, ◌*◌, ◌≤◌, List, length, Ok}
 use Rattle.frz_sets.specs.Views.{RuleLines}
 use Rattle.frz_exits.specs.Books.{value_by}
 use Rattle.frz_rules.specs.Text.{rules_of}
-use Rattle.frz_store.specs.Files.{Files}
 use Rattle.frz_store.specs.Told.{StoreTold}
 use Rattle.frz_table.specs.declared.kind.FileKind.{FileKind}
 use Rattle.frz_table.specs.declared.kind.FileKind.TheVariants.{Plain}
 use Rattle.frz_table.specs.Layout.{pieces_of}
-use Rattle.frz_table.specs.Opening.{Contents, contents_of, opened, table_format}
-use Rattle.frz_table.specs.Possible.{MayHold}
+use Rattle.frz_table.specs.Opening.{Contents, contents_of}
 use Rattle.frz_table.specs.Tables.{Table, table_size}
-use Rattle.frz_table.proofs.Lemmas.{opens_by, read_short}
 use Rattle.frz_check.specs.Kept.{ChecksTable, IsVerdictOn}
-use Rattle.frz_check.proofs.Lemmas.{within_file}
+use Rattle.frz_check.proofs.Lemmas.{file_opens, within_file}
 use Rattle.frz_commands_table.specs.declared.judging.Judged.{Judged}
 use Rattle.frz_commands_table.specs.Judging.{JudgesFile}
 
@@ -30,24 +27,20 @@ pub judged_file : (table : Table) (rules : RuleLines) (name : List ℕ) (old mid
 judged_file table rules name old mid new steps_before steps_now judged same kind named same_rules
     read asked calls more_asked more_calls steps size h =
     let contents : Contents = contents_of table in
-    let opens : opened (table_format Plain) (Some h.bytes) ≡ Ok contents =
-    subst (λ (k : FileKind). opened (table_format k) (Some h.bytes) ≡ Ok contents) kind
-    (opens_by (table_format table.kind) h.bytes contents
-    (record { file = h.file; short = read_short table.text table.rules read; read = read })) in
+    let there = file_opens Plain table name h.bytes old.files mid.files same kind named read h.may
+    h.file in
     record {
       file = record {
         bytes = h.bytes;
-        may =
-            subst (λ (o : Option Files). MayHold o name (Some h.bytes)) same
-            (subst (λ (n : List ℕ). MayHold mid.files n (Some h.bytes)) named h.may);
+        may = there.0;
         contents = contents;
-        opens = opens;
+        opens = there.1;
         told =
             subst (λ (k : FileKind). IsVerdictOn k (value_by table.rules) contents h.bytes
             judged.verdict) kind
             (subst (λ (r : RuleLines). IsVerdictOn table.kind (value_by r) contents h.bytes
             judged.verdict) same_rules h.told);
-        within = within_file h.bytes contents old mid new steps_before steps_now opens asked calls
+        within = within_file h.bytes contents old mid new steps_before steps_now there.1 asked calls
             more_asked more_calls steps;
       };
       size = size;
