@@ -1,7 +1,6 @@
 -- How `report` ends, and that it has one answer.
-use Rattle.std.proofs.Common.{◌≡◌, inl, inr, refl, sym, ap, subst, ◌∙◌, ℕ, ◌+◌, ◌*◌, ◌≤◌, List, [], ◌++◌, drop, length, Option, Some, None, Result, Ok, Err, append-nil, arith}
-use Rattle.std.specs.Prelude.{}
-use Rattle.std.specs.Option.{option_map, unwrap_or}
+use Rattle.std.proofs.Common.{◌≡◌, inl, inr, refl, sym, ap, subst, ◌∙◌, ℕ, ◌+◌, ◌*◌, ◌≤◌, List, [], ◌++◌, length, Option, Some, Result, Ok, Err, append-nil, arith}
+use Rattle.std.specs.Option.{unwrap_or}
 use Rattle.std.specs.Io.KnownBytes.{append_known}
 use Rattle.frz_exits.specs.Books.{value_by}
 use Rattle.frz_store.specs.Files.{Files}
@@ -31,7 +30,7 @@ use Rattle.frz_answer.specs.Lawful.{IsLawful}
 use Rattle.frz_answer.specs.Texts.{TookText}
 use Rattle.frz_answer.specs.Words.{one_word_of}
 use Rattle.frz_answer.specs.World.{World, world, Agrees, spent}
-use Rattle.frz_answer.proofs.Lemmas.{Begun, Found, SaysAll, failed_before, fine_store, one_answer, quiet_both, said, taking_lawful, took_nothing}
+use Rattle.frz_answer.proofs.Lemmas.{answered_over, drop_none, Begun, Found, SaysAll, failed_before, fine_store, one_answer, quiet_both, said, taking_lawful, took_nothing}
 use Rattle.frz_prelude.specs.Refusals.{table_status}
 use Rattle.frz_prelude.specs.Stops.{stop_of_table}
 use Rattle.frz_prelude.specs.TableCauses.{table_line}
@@ -56,10 +55,6 @@ within_costs : (held : Option (List ℕ)) (old new : World)
     → WithinFile held old.store new.store old.steps new.steps
     → WithinCosts (reporting_costs held) (spent old) (spent new)
 within_costs held old new h = record { steps = h.steps; calls = h.calls; asked = h.asked }
-
-drop_nothing : (o : Option (List ℕ)) → o ≡ option_map (drop 0) o
-drop_nothing None = refl
-drop_nothing (Some x) = refl
 
 -- there is an answer, and its text is not empty
 some_report : (x : Result Contents TableFault) (bytes : List ℕ) (files : Files)
@@ -143,32 +138,26 @@ module _ (name : List ℕ) (contents : Contents) (bytes : List ℕ) (old new : S
         unwritten = λ none. quiet.unwritten;
         room = tt;
         answered = λ sees files left agrees.
-            let here = given_by name contents bytes files left start finish agrees seen in record {
-              files = here.found.files;
-              input = here.found.input;
-              agrees = here.found.agrees;
-              free = here.found.free;
-              untaken = here.found.untaken;
-              a = says Success (report_of contents bytes) here.found.files;
-              answer = here.answer;
-              leaves = record {
-                lines = text;
-                rest = rest;
-                whole = lines;
-                begins = begins;
-                more = more;
-                text = written;
-                others = record {
-                  files = λ q. inl (ap (λ (o : Option Files). held o q) quiet.unwritten.files);
-                  left = (0, omega arith, drop_nothing input.left);
-                };
+            let here = given_by name contents bytes files left start finish agrees seen in
+            answered_over here.found (says Success (report_of contents bytes) here.found.files)
+            here.answer
+            (record {
+              lines = text;
+              rest = rest;
+              whole = lines;
+              begins = begins;
+              more = more;
+              text = written;
+              others = record {
+                files = λ q. inl (ap (λ (o : Option Files). held o q) quiet.unwritten.files);
+                left = (0, omega arith, drop_none input.left);
               };
-              costs = record {
-                steps = here.costs.steps;
-                calls = here.costs.calls;
-                asked = here.costs.asked;
-              };
-            };
+            })
+            (record {
+              steps = here.costs.steps;
+              calls = here.costs.calls;
+              asked = here.costs.asked;
+            });
       }
 
   -- by what was written of the report
