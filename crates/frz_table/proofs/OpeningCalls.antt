@@ -12,6 +12,7 @@ use Rattle.frz_table.specs.Opening.{Format, Contents, opened, opening_calls, cal
 use Rattle.frz_table.specs.Steps.{IsFormatOf, AllCall, HasHead, HasText}
 use Rattle.frz_table.specs.Tables.{Holds}
 use Rattle.frz_table.proofs.Belonging.{belongs}
+use Rattle.frz_table.proofs.Refusing.{IsTested}
 
 -- the lesser of two
 either : (b : Bool) (n x y : ℕ) → n ≤ x → n ≤ y → n ≤ cond b x y
@@ -103,6 +104,15 @@ five_calls magic text format rules count bytes is h read =
     (ap format.read h.text_is ∙ read)
 
 -- what the store tells of the name, at each step
+all_calls : (magic : List ℕ) (files : Option Files) (name : List ℕ) (before now : ℕ)
+    (P : Option (List ℕ) → Type 0)
+    → IfSome files (λ m. P (m name))
+    → ((held : Option (List ℕ)) (format : Format) → P held → IsFormatOf magic format
+    → now ≤ before + opening_calls format held)
+    → AllCall magic files name before now
+all_calls magic None name before now P h due = tt
+all_calls magic (Some m) name before now P h due = λ format is. due (m name) format h is
+
 pub all_call : (magic : List ℕ) (files : Option Files) (name : List ℕ) (before now : ℕ)
     → now ≤ before + 1 → AllCall magic files name before now
 all_call magic None name before now few = tt
@@ -112,53 +122,47 @@ all_call magic (Some m) name before now few =
 pub all_call_long : (magic : List ℕ) (files : Option Files) (name : List ℕ) (before now count : ℕ)
     → IfSome files (λ m. Some count ≡ option_map (length {A = ℕ}) (m name)) → 16 ≤ count
     → now ≤ before + 2 → AllCall magic files name before now
-all_call_long magic None name before now count h enough few = tt
-all_call_long magic (Some m) name before now count h enough few =
-    λ format is. by_held (m name) format h
+all_call_long magic files name before now count h enough few =
+    all_calls magic files name before now
+    (λ held. Some count ≡ option_map (length {A = ℕ}) held) h by_held
   where
     by_held : (held : Option (List ℕ)) (format : Format)
-        → Some count ≡ option_map (length {A = ℕ}) held → now ≤ before + opening_calls format held
-    by_held None format e = absurd (none-some count (sym e))
-    by_held (Some bytes) format e =
+        → Some count ≡ option_map (length {A = ℕ}) held → IsFormatOf magic format
+        → now ≤ before + opening_calls format held
+    by_held None format e is = absurd (none-some count (sym e))
+    by_held (Some bytes) format e is =
         let due = two_calls format bytes
         (omega (arith, same_Some count (length bytes) e, enough)) in omega (arith, few, due)
 
-pub all_call_magic : (magic : List ℕ) (files mid : Option Files) (name : List ℕ)
-    (before now count : ℕ) (same : Bool)
-    → IfSome files (λ m. Some count ≡ option_map (length {A = ℕ}) (m name)) → 16 ≤ count
-    → mid ≡ files → IfSome mid
-    (λ m. IfSome (m name) (λ bytes. same ≡ bytes_eq (take 8 bytes) magic)) → same ≡ true
-    → now ≤ before + 3 → AllCall magic files name before now
-all_call_magic magic None mid name before now count same h enough is_mid tested is_true few = tt
-all_call_magic magic (Some m) mid name before now count same h enough is_mid tested is_true few =
-    λ format is.
-    by_held (m name) format h
-    (subst (λ (o : Option Files). IfSome o
-    (λ (f : Files). IfSome (f name) (λ bytes. same ≡ bytes_eq (take 8 bytes) magic))) is_mid
-    tested) is
+pub all_call_magic : (magic : List ℕ) (files : Option Files) (name : List ℕ)
+    (before now count : ℕ) (same : Bool) → Holds files name (IsTested magic count same)
+    → same ≡ true → now ≤ before + 3 → AllCall magic files name before now
+all_call_magic magic files name before now count same h is_true few =
+    all_calls magic files name before now (λ held. IsSomeAnd held (IsTested magic count same)) h
+    by_held
   where
     by_held : (held : Option (List ℕ)) (format : Format)
-        → Some count ≡ option_map (length {A = ℕ}) held
-        → IfSome held (λ bytes. same ≡ bytes_eq (take 8 bytes) magic) → IsFormatOf magic format
+        → IsSomeAnd held (IsTested magic count same) → IsFormatOf magic format
         → now ≤ before + opening_calls format held
-    by_held None format e t is = absurd (none-some count (sym e))
-    by_held (Some bytes) format e t is =
+    by_held None format e is = absurd e
+    by_held (Some bytes) format e is =
         let begins : take 8 bytes ≡ magic = (bytes_eq-Decides (take 8 bytes) magic).0
-        (sym t ∙ is_true) in
-        let due = three_calls format bytes (omega (arith, same_Some count (length bytes) e, enough))
+        (sym e.begins ∙ is_true) in
+        let due = three_calls format bytes (omega (arith, e.all, e.enough))
         (begins ∙ sym is.magic_is) in omega (arith, few, due)
 
 pub all_call_head : (magic : List ℕ) (files : Option Files) (name : List ℕ)
     (before now count text_count : ℕ) → Holds files name (HasHead magic count text_count)
     → now ≤ before + 4 → AllCall magic files name before now
-all_call_head magic None name before now count text_count h few = tt
-all_call_head magic (Some m) name before now count text_count h few =
-    λ format is. by_held (m name) format is h
+all_call_head magic files name before now count text_count h few =
+    all_calls magic files name before now (λ held. IsSomeAnd held (HasHead magic count text_count))
+    h by_held
   where
-    by_held : (held : Option (List ℕ)) (format : Format) → IsFormatOf magic format
-        → IsSomeAnd held (HasHead magic count text_count) → now ≤ before + opening_calls format held
-    by_held None format is e = absurd e
-    by_held (Some bytes) format is e =
+    by_held : (held : Option (List ℕ)) (format : Format)
+        → IsSomeAnd held (HasHead magic count text_count) → IsFormatOf magic format
+        → now ≤ before + opening_calls format held
+    by_held None format e is = absurd e
+    by_held (Some bytes) format e is =
         let due = four_calls magic format count text_count bytes is e in omega (arith, few, due)
 
 -- this format

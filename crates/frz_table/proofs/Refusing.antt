@@ -84,6 +84,12 @@ whole_text format bytes h =
     (with_rules format bytes (format.read (kept_text bytes))))
     (le-ltb (length bytes) (16 + kept_length bytes) h)
 
+-- what the store tells of a name behind a call that left the files as they were
+told_so : (mid files : Option Files) (name : List ℕ) (P : List ℕ → Type 0) → mid ≡ files
+    → IfSome mid (λ m. IfSome (m name) P) → IfSome files (λ m. IfSome (m name) P)
+told_so mid files name P is h =
+    subst (λ (o : Option Files). IfSome o (λ (f : Files). IfSome (f name) P)) is h
+
 -- a refusal of every format of this magic, by what is known of the name
 pub all_refuse : (magic : List ℕ) (files : Option Files) (name : List ℕ) (fault : TableFault)
     (P : Option (List ℕ) → Type 0)
@@ -122,29 +128,44 @@ refuse_short magic files name count h few = all_refuse magic files name (Truncat
         let at : ℕ → Given = λ k. Err (Truncated k 16) in
         short format bytes (omega (arith, same)) ∙ sym (ap at same)
 
--- it begins otherwise
-pub refuse_magic : (magic : List ℕ) (files mid : Option Files) (name : List ℕ) (count : ℕ)
-    (same : Bool) → IfSome files (λ m. Some count ≡ option_map (length {A = ℕ}) (m name))
-    → 16 ≤ count
+-- what is known once the magic was looked at
+pub record IsTested (magic : List ℕ) (count : ℕ) (same : Bool) (bytes : List ℕ) : Type 0 where
+  pub all : length bytes ≡ count
+  pub enough : 16 ≤ count
+  pub begins : same ≡ bytes_eq (take 8 bytes) magic
+
+pub tested : (magic : List ℕ) (files mid : Option Files) (name : List ℕ) (count : ℕ) (same : Bool)
+    → IfSome files (λ m. Some count ≡ option_map (length {A = ℕ}) (m name)) → 16 ≤ count
     → mid ≡ files → IfSome mid
-    (λ m. IfSome (m name) (λ bytes. same ≡ bytes_eq (take 8 bytes) magic)) → same ≡ false
+    (λ m. IfSome (m name) (λ bytes. same ≡ bytes_eq (take 8 bytes) magic))
+    → Holds files name (IsTested magic count same)
+tested magic None mid name count same h enough is_mid begins = tt
+tested magic (Some m) mid name count same h enough is_mid begins =
+    by_held (m name) h (told_so mid (Some m) name (λ bytes. same ≡ bytes_eq (take 8 bytes) magic)
+    is_mid begins)
+  where
+    by_held : (held : Option (List ℕ)) → Some count ≡ option_map (length {A = ℕ}) held
+        → IfSome held (λ bytes. same ≡ bytes_eq (take 8 bytes) magic)
+        → IsSomeAnd held (IsTested magic count same)
+    by_held None e t = absurd (none-some count (sym e))
+    by_held (Some bytes) e t =
+        record { all = sym (same_Some count (length bytes) e); enough = enough; begins = t }
+
+-- it begins otherwise
+pub refuse_magic : (magic : List ℕ) (files : Option Files) (name : List ℕ) (count : ℕ) (same : Bool)
+    → Holds files name (IsTested magic count same) → same ≡ false
     → AllRefuse magic files name Magic
-refuse_magic magic None mid name count same h enough is_mid tested is_false = tt
-refuse_magic magic (Some m) mid name count same h enough is_mid tested is_false = λ format is.
-    by_held (m name) format h
-    (subst (λ (o : Option Files). IfSome o
-    (λ (f : Files). IfSome (f name) (λ bytes. same ≡ bytes_eq (take 8 bytes) magic))) is_mid
-    tested) is
+refuse_magic magic files name count same h is_false = all_refuse magic files name Magic
+    (λ held. IsSomeAnd held (IsTested magic count same)) h by_held
   where
     by_held : (held : Option (List ℕ)) (format : Format)
-        → Some count ≡ option_map (length {A = ℕ}) held
-        → IfSome held (λ bytes. same ≡ bytes_eq (take 8 bytes) magic) → IsFormatOf magic format
+        → IsSomeAnd held (IsTested magic count same) → IsFormatOf magic format
         → opened format held ≡ Err Magic
-    by_held None format e t is = absurd (none-some count (sym e))
-    by_held (Some bytes) format e t is =
-        let long : count ≡ length bytes = same_Some count (length bytes) e in
-        long_enough format bytes (omega (arith, long)) ∙ magic_tested format bytes false
-        (ap (bytes_eq (take 8 bytes)) is.magic_is ∙ sym t ∙ is_false)
+    by_held None format e is = absurd e
+    by_held (Some bytes) format e is =
+        long_enough format bytes (omega (arith, e.all, e.enough))
+        ∙ magic_tested format bytes false
+        (ap (bytes_eq (take 8 bytes)) is.magic_is ∙ sym e.begins ∙ is_false)
 
 -- what is known once the length of the text was read
 pub record IsCounted (magic : List ℕ) (count text_count : ℕ) (bytes : List ℕ) : Type 0 where
@@ -153,32 +174,23 @@ pub record IsCounted (magic : List ℕ) (count text_count : ℕ) (bytes : List �
   pub begins : take 8 bytes ≡ magic
   pub kept : kept_length bytes ≡ text_count
 
-pub counted : (magic : List ℕ) (files mid last : Option Files) (name : List ℕ)
-    (count text_count : ℕ) (same : Bool)
-    → IfSome files (λ m. Some count ≡ option_map (length {A = ℕ}) (m name)) → 16 ≤ count
-    → mid ≡ files → IfSome mid
-    (λ m. IfSome (m name) (λ bytes. same ≡ bytes_eq (take 8 bytes) magic)) → same ≡ true
+pub counted : (magic : List ℕ) (files last : Option Files) (name : List ℕ) (count text_count : ℕ)
+    (same : Bool) → Holds files name (IsTested magic count same) → same ≡ true
     → last ≡ files → IfSome last (λ m. IfSome (m name) (λ bytes. text_count ≡ number_at 8 bytes))
     → Holds files name (IsCounted magic count text_count)
-counted magic None mid last name count text_count same h enough is_mid tested is_true is_last read =
-    tt
-counted magic (Some m) mid last name count text_count same h enough is_mid tested is_true is_last
-    read =
-    by_held (m name) h
-    (subst (λ (o : Option Files). IfSome o
-    (λ (f : Files). IfSome (f name) (λ bytes. same ≡ bytes_eq (take 8 bytes) magic))) is_mid tested)
-    (subst (λ (o : Option Files). IfSome o
-    (λ (f : Files). IfSome (f name) (λ bytes. text_count ≡ number_at 8 bytes))) is_last read)
+counted magic None last name count text_count same h is_true is_last read = tt
+counted magic (Some m) last name count text_count same h is_true is_last read =
+    by_held (m name) h (told_so last (Some m) name (λ bytes. text_count ≡ number_at 8 bytes)
+    is_last read)
   where
-    by_held : (held : Option (List ℕ)) → Some count ≡ option_map (length {A = ℕ}) held
-        → IfSome held (λ bytes. same ≡ bytes_eq (take 8 bytes) magic)
+    by_held : (held : Option (List ℕ)) → IsSomeAnd held (IsTested magic count same)
         → IfSome held (λ bytes. text_count ≡ number_at 8 bytes)
         → IsSomeAnd held (IsCounted magic count text_count)
-    by_held None e t r = absurd (none-some count (sym e))
-    by_held (Some bytes) e t r = record {
-      all = sym (same_Some count (length bytes) e);
-      enough = enough;
-      begins = (bytes_eq-Decides (take 8 bytes) magic).0 (sym t ∙ is_true);
+    by_held None e r = absurd e
+    by_held (Some bytes) e r = record {
+      all = e.all;
+      enough = e.enough;
+      begins = (bytes_eq-Decides (take 8 bytes) magic).0 (sym e.begins ∙ is_true);
       kept = sym r;
     }
 
@@ -265,9 +277,7 @@ refuse_rules magic None mid name count text_count text (reading.Bad fault) h is_
 refuse_rules magic (Some m) mid name count text_count text (reading.Bad fault) h is_mid read fails =
     λ format is.
     by_held (m name) format h
-    (subst (λ (o : Option Files). IfSome o
-    (λ (f : Files). IfSome (f name) (λ bytes. text ≡ take text_count (drop 12 bytes)))) is_mid
-    read) is
+    (told_so mid (Some m) name (λ bytes. text ≡ take text_count (drop 12 bytes)) is_mid read) is
   where
     by_held : (held : Option (List ℕ)) (format : Format)
         → IsSomeAnd held (HasHead magic count text_count)

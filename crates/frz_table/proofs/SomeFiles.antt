@@ -67,10 +67,9 @@ some_short magic old new count few calls is_short =
 pub some_magic : (magic : List ℕ) (old new : StoreTold) → new.asked ≤ old.asked + 12
     → new.calls ≤ old.calls + 2 → SomeRefused magic old new Magic
 some_magic magic old new few calls =
-    let files : Option Files = holding (Some (unlike magic)) in
     few_asked magic old new Magic (Some (unlike magic)) (unlike_bytes magic)
-    (refuse_magic magic files files [] 16 false refl (omega arith) refl (sym (unlike_begins magic))
-    refl) few
+    (refuse_magic magic (holding (Some (unlike magic))) [] 16 false
+    (record { all = refl; enough = omega arith; begins = sym (unlike_begins magic) }) refl) few
     (λ format is. (let due = two_calls format (unlike magic) (omega arith) in
     omega (arith, calls, due)))
 
