@@ -22,12 +22,12 @@ use Rattle.frz_table.specs.Layout.{magic_of, due_length}
 use Rattle.frz_table.specs.Numbers.{AreBytes, number_at}
 use Rattle.frz_table.specs.Opening.{Format, Contents, Refuses, opened, opening_calls, of_size, of_length, kept_length, kept_text, kept_size}
 use Rattle.frz_table.specs.Possible.{MayHold, MayOpen, held_text, MayRefuse, SomeRefused, SomeSizeRefused}
-use Rattle.frz_table.specs.Steps.{IsFormatOf, AllRefuse, HasText}
+use Rattle.frz_table.specs.Steps.{IsFormatOf, AllCall, AllRefuse, HasText}
 use Rattle.frz_table.specs.Tables.{Holds, IsTableFile}
 use Rattle.frz_table.proofs.Belonging.{opens_by}
 use Rattle.frz_table.proofs.Made.{AreBytes-zeros, begun, begun_bytes, begun_long, begun_kept, begun_begins, made, made_bytes, made_long, made_text, made_size, unlike, unlike_bytes, unlike_begins}
-use Rattle.frz_table.proofs.OpeningCalls.{one_call, two_calls, three_calls, four_calls, five_calls}
-use Rattle.frz_table.proofs.Refusing.{Given, refuse_missing, refuse_short, refuse_magic, refuse_long, refuse_cut, refuse_read, refuse_rules, refuse_size, IsCounted}
+use Rattle.frz_table.proofs.OpeningCalls.{format_calls, read_calls, one_call, two_calls, three_calls, four_calls, five_calls}
+use Rattle.frz_table.proofs.Refusing.{Given, refuse_format, refuse_missing, refuse_short, refuse_magic, refuse_long, refuse_cut, refuse_read, refuse_rules, refuse_size, IsCounted}
 use Rattle.frz_table.proofs.KeptFiles.{magic_long, magic_bytes}
 
 -- a store that tells and holds this under each name
@@ -288,83 +288,112 @@ some_size_outside magic text count size fault eight are are_text short enough ou
     }
 
 -- what the store tells, or else what is made
-module _ (format : Format) (name : List ℕ) (old new : StoreTold) (fault : TableFault)
-    (told : IfSome old.files (λ m. Refuses (opened format (m name)) fault))
+told_or : (format : Format) (name : List ℕ) (old new : StoreTold) (fault : TableFault)
+    (files : Option Files) → old.files ≡ files
+    → IfSome files (λ m. Refuses (opened format (m name)) fault)
+    → IfSome files (λ m. new.asked ≤ old.asked + (16 + length (kept_text (bytes_at m name))))
+    → IfSome files (λ m. new.calls ≤ old.calls + opening_calls format (m name))
+    → ((held : Option (List ℕ)) × (IfSome held AreBytes × Refuses (opened format held) fault
+    × (new.asked ≤ old.asked + (16 + length (held_text held)))
+    × (new.calls ≤ old.calls + opening_calls format held)))
+    → MayRefuse format name old new fault
+told_or format name old new fault None is t a c some = record {
+  held = some.0;
+  may = subst (λ (o : Option Files). MayHold o name some.0) (sym is) some.1.0;
+  refuses = some.1.1;
+  asked = some.1.2;
+  calls = some.1.3;
+}
+told_or format name old new fault (Some m) is t a c some = record {
+  held = m name;
+  may = subst (λ (o : Option Files). MayHold o name (m name)) (sym is) refl;
+  refuses = t;
+  asked = a;
+  calls = c;
+}
+
+-- no more is asked for behind the text than four bytes
+pub later_asked : (files : Option Files) (name : List ℕ) (before mid now : ℕ) → now ≤ mid + 4
+    → IfSome files (λ m. mid ≤ before + (12 + length (kept_text (bytes_at m name))))
+    → IfSome files (λ m. now ≤ before + (16 + length (kept_text (bytes_at m name))))
+later_asked None name before mid now few h = tt
+later_asked (Some m) name before mid now few h = omega (arith, few, h)
+
+-- want of memory is no refusal
+pub told_outside : (format : Format) (files : Option Files) (name : List ℕ)
+    → IfSome files (λ m. Refuses (opened format (m name)) NoMemory)
+told_outside format None name = tt
+told_outside format (Some m) name = tt
+
+-- no step but those that every format of this magic has was made
+module _ (format : Format) (magic name : List ℕ) (old new : StoreTold)
+    (is : IsFormatOf magic format)
     (asked : IfSome old.files
-    (λ m. new.asked ≤ old.asked + (16 + length (kept_text (bytes_at m name)))))
-    (calls : IfSome old.files (λ m. new.calls ≤ old.calls + opening_calls format (m name))) where
-  told_or : (files : Option Files) → old.files ≡ files
-      → IfSome files (λ m. Refuses (opened format (m name)) fault)
-      → IfSome files (λ m. new.asked ≤ old.asked + (16 + length (kept_text (bytes_at m name))))
-      → IfSome files (λ m. new.calls ≤ old.calls + opening_calls format (m name))
+    (λ m. new.asked ≤ old.asked + (12 + length (kept_text (bytes_at m name)))))
+    (calls : AllCall magic old.files name old.calls new.calls) where
+  stopped_or : (fault : TableFault) → IfSome old.files (λ m. Refuses (opened format (m name)) fault)
       → ((held : Option (List ℕ)) × (IfSome held AreBytes × Refuses (opened format held) fault
       × (new.asked ≤ old.asked + (16 + length (held_text held)))
       × (new.calls ≤ old.calls + opening_calls format held)))
       → MayRefuse format name old new fault
-  told_or None is t a c some = record {
-    held = some.0;
-    may = subst (λ (o : Option Files). MayHold o name some.0) (sym is) some.1.0;
-    refuses = some.1.1;
-    asked = some.1.2;
-    calls = some.1.3;
-  }
-  told_or (Some m) is t a c some = record {
-    held = m name;
-    may = subst (λ (o : Option Files). MayHold o name (m name)) (sym is) refl;
-    refuses = t;
-    asked = a;
-    calls = c;
-  }
+  stopped_or fault refuses some =
+      told_or format name old new fault old.files refl refuses
+      (later_asked old.files name old.asked new.asked new.asked (omega arith) asked)
+      (format_calls format magic old.files name old.calls new.calls is calls) some
 
-  -- every format of this magic refuses
-  pub may_refuse : (magic : List ℕ) → IsFormatOf magic format → SomeRefused magic old new fault
-      → MayRefuse format name old new fault
-  may_refuse magic is some =
-      told_or old.files refl told asked calls
+  -- each of them refuses
+  pub may_refuse : (fault : TableFault) → AllRefuse magic old.files name fault
+      → SomeRefused magic old new fault → MayRefuse format name old new fault
+  may_refuse fault refuses some =
+      stopped_or fault (refuse_format format magic old.files name fault is refuses)
       (some.held, (some.bytes, some.refuses format is, some.asked, some.calls format is))
 
-  -- the last two steps refuse
-  pub may_refuse_size : (magic text : List ℕ) (rules : RuleLines) (count size : ℕ)
-      → IsFormatOf magic format → format.read text ≡ Ok rules → size ≡ format.size rules
-      → new.asked ≤ old.asked + (16 + length text) → new.calls ≤ old.calls + 5
-      → SomeSizeRefused magic text count size fault → MayRefuse format name old new fault
-  may_refuse_size magic text rules count size at read is few few_calls some =
-      let files : Option Files = holding (Some some.held) in
-      let due = five_calls magic text format rules count some.held at some.has_text read in
-      told_or old.files refl told asked calls (
-        Some some.held,
+  -- this one refuses the text
+  pub may_refuse_read : (fault : RulesFault) (text : List ℕ) (count : ℕ) → length magic ≡ 8
+      → AreBytes magic → AreBytes text → length text ≤ 65536
+      → Holds old.files name (HasText magic text count) → format.read text ≡ Err fault
+      → new.asked ≤ old.asked + (16 + length text) → new.calls ≤ old.calls + 4
+      → MayRefuse format name old new (Rules fault)
+  may_refuse_read fault text count eight are are_text short held read few few_calls =
+      let many : ℕ = 16 + length text in
+      let bytes : List ℕ = made magic text 0 many in
+      let has : HasText magic text many bytes = made_text magic text 0 many eight short
+      (omega arith) in
+      stopped_or (Rules fault)
+      (refuse_read format magic old.files name text count fault is held read) (
+        Some bytes,
         (
-          some.bytes,
-          refuse_size format magic files files [] text rules count size fault at some.has_text refl
-              some.refuses read is,
-          omega (arith, few, ap (length {A = ℕ}) some.has_text.text_is),
-          omega (arith, few_calls, due),
+          made_bytes magic text 0 many are are_text,
+          refuse_read format magic (holding (Some bytes)) [] text many fault is has read,
+          omega (arith, few, ap (length {A = ℕ}) has.text_is),
+          four_due magic text old new many bytes has few_calls format is,
         ),
       )
 
--- the format refuses the text
-pub may_refuse_read : (format : Format) (name : List ℕ) (old new : StoreTold) (fault : RulesFault)
-    → IfSome old.files (λ m. Refuses (opened format (m name)) (Rules fault))
+-- the last two steps refuse
+pub may_refuse_size : (format : Format) (magic name : List ℕ) (old new : StoreTold)
+    (fault : TableFault) (text : List ℕ) (rules : RuleLines) (count size : ℕ)
+    → IsFormatOf magic format → Holds old.files name (HasText magic text count)
+    → format.read text ≡ Ok rules → size ≡ format.size rules
+    → IfSome old.files (λ m. Refuses (opened format (m name)) fault)
     → IfSome old.files (λ m. new.asked ≤ old.asked + (16 + length (kept_text (bytes_at m name))))
-    → IfSome old.files (λ m. new.calls ≤ old.calls + opening_calls format (m name))
-    → (magic text : List ℕ) → IsFormatOf magic format → length magic ≡ 8 → AreBytes magic
-    → AreBytes text → length text ≤ 65536
-    → format.read text ≡ Err fault → new.asked ≤ old.asked + (16 + length text)
-    → new.calls ≤ old.calls + 4
-    → MayRefuse format name old new (Rules fault)
-may_refuse_read format name old new fault told asked calls magic text is eight are are_text short
-    read few few_calls =
-    let count : ℕ = 16 + length text in
-    let bytes : List ℕ = made magic text 0 count in
-    let has : HasText magic text count bytes = made_text magic text 0 count eight short
-    (omega arith) in
-    told_or format name old new (Rules fault) told asked calls old.files refl told asked calls (
-      Some bytes,
+    → new.asked ≤ old.asked + (16 + length text) → new.calls ≤ old.calls + 5
+    → (also : List ℕ) → IsFormatOf also format → SomeSizeRefused also text count size fault
+    → MayRefuse format name old new fault
+may_refuse_size format magic name old new fault text rules count size at held read is told asked few
+    few_calls also too some =
+    let files : Option Files = holding (Some some.held) in
+    let due = five_calls also text format rules count some.held too some.has_text read in
+    told_or format name old new fault old.files refl told asked
+    (read_calls format magic text rules old.files name old.calls new.calls count at held read
+    few_calls) (
+      Some some.held,
       (
-        made_bytes magic text 0 count are are_text,
-        refuse_read format magic (holding (Some bytes)) [] text count fault is has read,
-        omega (arith, few, ap (length {A = ℕ}) has.text_is),
-        four_due magic text old new count bytes has few_calls format is,
+        some.bytes,
+        refuse_size format also files files [] text rules count size fault too some.has_text refl
+            some.refuses read is,
+        omega (arith, few, ap (length {A = ℕ}) some.has_text.text_is),
+        omega (arith, few_calls, due),
       ),
     )
 
@@ -416,19 +445,6 @@ may_open format magic text rules count size (Some m) name at eight are are_text 
         → MayOpen format (Some m) name (record { text = text; rules = rules })
     by_held None same h k = absurd h
     by_held (Some bytes) same h k = record { bytes = bytes; may = same; opens = k }
-
--- no more is asked for behind the text than four bytes
-pub later_asked : (files : Option Files) (name : List ℕ) (before mid now : ℕ) → now ≤ mid + 4
-    → IfSome files (λ m. mid ≤ before + (12 + length (kept_text (bytes_at m name))))
-    → IfSome files (λ m. now ≤ before + (16 + length (kept_text (bytes_at m name))))
-later_asked None name before mid now few h = tt
-later_asked (Some m) name before mid now few h = omega (arith, few, h)
-
--- want of memory is no refusal
-pub told_outside : (format : Format) (files : Option Files) (name : List ℕ)
-    → IfSome files (λ m. Refuses (opened format (m name)) NoMemory)
-told_outside format None name = tt
-told_outside format (Some m) name = tt
 
 -- the magic of a kind is one of eight bytes
 pub eight_bytes : (kind : FileKind) (magic : List ℕ) → magic ≡ magic_of kind → (length magic ≡ 8)

@@ -2,8 +2,7 @@ use Rattle.std.proofs.Common.{ap, ◌∙◌, arith, rules}
 use Rattle.std.proofs.lemmas.Result.{err_from_is_err_and}
 use Rattle.frz_sets.specs.Sets.{size_of}
 use Rattle.frz_table.specs.Opening.{table_format}
-use Rattle.frz_table.proofs.OpeningCalls.{format_calls, read_calls}
-use Rattle.frz_table.proofs.Refusing.{table_is_format, refuse_format, refuse_size, opens}
+use Rattle.frz_table.proofs.Refusing.{table_is_format, refuse_format, refuse_none, refuse_size, opens}
 use Rattle.frz_table.proofs.SomeFiles.{causes_behind, eight_bytes, later_asked, may_open, may_refuse, may_refuse_size, some_outside, some_size_outside, told_outside}
 use Rattle.frz_table.proofs.opening.open_kind.Goals as goal
 
@@ -38,14 +37,10 @@ pub returns-in_err-opened-clause-may_refuse : goal.returns-in_err-opened-clause-
 returns-in_err-opened-clause-may_refuse g c =
     let p = err_from_is_err_and c.from_residual.result c.from_residual.ensures.1 in
     rw (p.1, p.2)
-    (may_refuse (table_format c.args.kind) _ _ _ _
-    (refuse_format (table_format c.args.kind) _ _ _ _
-    (table_is_format c.args.kind _ c.magic.ensures) c.in_err-opened.ensures.refused)
-    (later_asked _ _ _ _ _ (omega arith) c.open_text.ensures.asked_told)
-    (format_calls (table_format c.args.kind) _ _ _ _ _
-    (table_is_format c.args.kind _ c.magic.ensures) c.open_text.ensures.calls_told)
-    c.magic.result.now (table_is_format c.args.kind _ c.magic.ensures)
-    c.in_err-opened.ensures.some_refused)
+    (may_refuse (table_format c.args.kind) c.magic.result.now _ _ _
+    (table_is_format c.args.kind _ c.magic.ensures)
+    c.open_text.ensures.asked_told c.open_text.ensures.calls_told _
+    c.in_err-opened.ensures.refused c.in_err-opened.ensures.some_refused)
 
 pub returns-in_err-set-clause-may_refuse : goal.returns-in_err-set-clause-may_refuse
 returns-in_err-set-clause-may_refuse g c =
@@ -53,12 +48,10 @@ returns-in_err-set-clause-may_refuse g c =
     c.from_residual-in_err-set.ensures.1 in
     let eight = eight_bytes c.args.kind _ c.magic.ensures in
     rw (p.1, p.2)
-    (may_refuse (table_format c.args.kind) _ _ _ _
-    (told_outside (table_format c.args.kind) _ c.args.name.now)
-    (later_asked _ _ _ _ _ (omega arith) c.open_text.ensures.asked_told)
-    (format_calls (table_format c.args.kind) _ _ _ _ _
-    (table_is_format c.args.kind _ c.magic.ensures) c.open_text.ensures.calls_told)
-    c.magic.result.now (table_is_format c.args.kind _ c.magic.ensures)
+    (may_refuse (table_format c.args.kind) c.magic.result.now _ _ _
+    (table_is_format c.args.kind _ c.magic.ensures)
+    c.open_text.ensures.asked_told c.open_text.ensures.calls_told _
+    (refuse_none _ _ c.args.name.now)
     (some_outside c.magic.result.now _ _ _ eight.0 eight.1 tt (omega arith) (omega arith)))
 
 pub returns-in_err-check_size-clause-may_refuse : goal.returns-in_err-check_size-clause-may_refuse
@@ -66,7 +59,10 @@ returns-in_err-check_size-clause-may_refuse g c =
     let p = err_from_is_err_and c.from_residual-in_err-check_size.result
     c.from_residual-in_err-check_size.ensures.1 in
     rw (p.1, p.2)
-    (may_refuse_size (table_format c.args.kind) _ _ _ _
+    (may_refuse_size (table_format c.args.kind) c.magic.result.now _ _ _ _
+    c.in_ok-opened.opened.text.items c.in_ok-opened.opened.rules c.in_ok-opened.opened.file
+    c.size.result (table_is_format c.args.kind _ c.magic.ensures) c.in_ok-opened.ensures.text
+    c.in_ok-opened.ensures.read.read (c.size.ensures.size ∙ ap size_of c.in_ok-set.ensures)
     (refuse_size (table_format c.args.kind) c.magic.result.now _ _ _
     c.in_ok-opened.opened.text.items c.in_ok-opened.opened.rules c.in_ok-opened.opened.file
     c.size.result _ (table_is_format c.args.kind _ c.magic.ensures)
@@ -74,35 +70,26 @@ returns-in_err-check_size-clause-may_refuse g c =
     c.in_err-check_size.ensures.refused c.in_ok-opened.ensures.read.read
     (c.size.ensures.size ∙ ap size_of c.in_ok-set.ensures))
     (later_asked _ _ _ _ _ (omega arith) c.open_text.ensures.asked_told)
-    (read_calls (table_format c.args.kind) c.magic.result.now c.in_ok-opened.opened.text.items
-    c.in_ok-opened.opened.rules _ _ _ _ c.in_ok-opened.opened.file
-    (table_is_format c.args.kind _ c.magic.ensures) c.in_ok-opened.ensures.text
-    c.in_ok-opened.ensures.read.read (omega arith))
-    c.magic-2.result.now c.in_ok-opened.opened.text.items c.in_ok-opened.opened.rules
-    c.in_ok-opened.opened.file c.size.result (table_is_format c.args.kind _ c.magic-2.ensures)
-    c.in_ok-opened.ensures.read.read (c.size.ensures.size ∙ ap size_of c.in_ok-set.ensures)
     (omega (arith, c.in_ok-opened.ensures.asked, c.check_size.ensures.asked)) (omega arith)
+    c.magic-2.result.now (table_is_format c.args.kind _ c.magic-2.ensures)
     c.in_err-check_size.ensures.some_refused)
 
 pub returns-in_err-name-clause-may_refuse : goal.returns-in_err-name-clause-may_refuse
 returns-in_err-name-clause-may_refuse g c =
     let p = err_from_is_err_and c.from_residual-in_err-name.result
     c.from_residual-in_err-name.ensures.1 in
-    let text = c.in_ok-opened.opened.text.items in
     let eight = eight_bytes c.args.kind _ c.magic.ensures in
     rw (p.1, p.2)
-    (may_refuse_size (table_format c.args.kind) _ _ _ _
+    (may_refuse_size (table_format c.args.kind) c.magic.result.now _ _ _ _
+    c.in_ok-opened.opened.text.items c.in_ok-opened.opened.rules c.in_ok-opened.opened.file
+    c.size.result (table_is_format c.args.kind _ c.magic.ensures) c.in_ok-opened.ensures.text
+    c.in_ok-opened.ensures.read.read (c.size.ensures.size ∙ ap size_of c.in_ok-set.ensures)
     (told_outside (table_format c.args.kind) _ c.args.name.now)
     (later_asked _ _ _ _ _ (omega arith) c.open_text.ensures.asked_told)
-    (read_calls (table_format c.args.kind) c.magic.result.now c.in_ok-opened.opened.text.items
-    c.in_ok-opened.opened.rules _ _ _ _ c.in_ok-opened.opened.file
-    (table_is_format c.args.kind _ c.magic.ensures) c.in_ok-opened.ensures.text
-    c.in_ok-opened.ensures.read.read (omega arith))
-    c.magic.result.now text c.in_ok-opened.opened.rules c.in_ok-opened.opened.file c.size.result
-    (table_is_format c.args.kind _ c.magic.ensures) c.in_ok-opened.ensures.read.read
-    (c.size.ensures.size ∙ ap size_of c.in_ok-set.ensures)
     (omega (arith, c.in_ok-opened.ensures.asked, c.check_size.ensures.asked)) (omega arith)
-    (some_size_outside c.magic.result.now text c.in_ok-opened.opened.file c.size.result _ eight.0
+    c.magic.result.now (table_is_format c.args.kind _ c.magic.ensures)
+    (some_size_outside c.magic.result.now c.in_ok-opened.opened.text.items
+    c.in_ok-opened.opened.file c.size.result _ eight.0
     eight.1 c.in_ok-opened.ensures.read.bytes c.in_ok-opened.ensures.short
     c.in_ok-opened.ensures.fits tt))
 
