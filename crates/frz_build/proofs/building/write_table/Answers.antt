@@ -1,108 +1,98 @@
-use Rattle.std.proofs.Common.{ap, ◌∙◌, ℕ, Result, Err}
+use Rattle.std.proofs.Common.{ap, ◌∙◌, ℕ, List, ◌++◌, Result, Err}
 use Rattle.std.proofs.lemmas.Result.{err_from_is_err_and}
 use Rattle.frz_board.specs.declared.man.Colour.TheVariants.{Black}
 use Rattle.frz_sets.specs.Sets.{size_of}
-use Rattle.frz_store.specs.Told.{store_of}
+use Rattle.frz_store.specs.Told.{StoreTold, store_of}
+use Rattle.frz_store.specs.Writes.{Written}
 use Rattle.frz_store.specs.declared.outside.StoreFault.{StoreFault}
-use Rattle.frz_table.specs.Layout.{magic_of, header_of}
+use Rattle.frz_table.specs.Layout.{header_of, magic_of}
 use Rattle.frz_table.specs.Numbers.{number_bytes}
+use Rattle.frz_build.specs.Building.{Builds}
 use Rattle.frz_build.proofs.Built.{Tables, builds, some_tables}
 use Rattle.frz_build.proofs.Parts.{all_written, black_failed, header_refused, white_failed}
+use Rattle.frz_build.proofs.building.write_table.Given.{Over}
 use Rattle.frz_build.proofs.building.write_table.Goals as goal
+use Rattle.frz_build.proofs.building.write_table.Goals.{After-begin_table, After-write_side-2}
+
+abbrev header : (g : Over) (c : After-begin_table g) → List ℕ
+header g c =
+    header_of (magic_of c.args.file.now.kind) c.args.file.now.text.now c.size-size.result
+
+-- what was written of the file of these tables
+built : (g : Over) (c : After-begin_table g)
+    (t : Tables c.args.game.now.rules.now (g.B.ExitBook.value_at c.args.game.now.book.now))
+    (result : Result ℕ StoreFault) (new : StoreTold)
+    → Written c.args.file.now.name.now
+    (header g c ++ (number_bytes t.white ++ number_bytes t.black)) result
+    (store_of g.S.Store c.args.store.now) new
+    → Builds (magic_of c.args.file.now.kind) c.args.file.now.text.now c.args.game.now.rules.now
+    (g.B.ExitBook.value_at c.args.game.now.book.now) c.args.file.now.name.now result
+    (store_of g.S.Store c.args.store.now) new
+built g c t result new written =
+    builds _ _ _ _ _ c.size-size.result result _ new
+    (c.size-size.ensures.size ∙ ap size_of c.args.game.now.fits) t written
+
+-- the tables that both calls left in the workshop
+abbrev both : (g : Over) (c : After-write_side-2 g)
+    → Tables c.args.game.now.rules.now (g.B.ExitBook.value_at c.args.game.now.book.now)
+both g c = record {
+  white = c.write_side.new.workshop;
+  black = c.write_side-2.new.workshop;
+  white_is = c.write_side.ensures.table;
+  black_is = c.write_side-2.ensures.table;
+}
+
+abbrev failed_as : StoreFault → Result ℕ StoreFault
+failed_as f = Err f
 
 pub returns-in_err-begin_table-clause-built : goal.returns-in_err-begin_table-clause-built
 returns-in_err-begin_table-clause-built g c =
-    let game = c.args.game.now in
-    let file = c.args.file.now in
-    let rules = game.rules.now in
-    let value = g.B.ExitBook.value_at game.book.now in
-    let old = store_of g.S.Store c.args.store.now in
-    let new = store_of g.S.Store c.begin_table.new.store in
-    let t : Tables rules value = some_tables rules value
-    (c.tables.ensures.there rules value (g.met.B.ExitBook.small game.book.now)) in
     let p = err_from_is_err_and c.from_residual.result c.from_residual.ensures.1 in
-    let err : StoreFault → Result ℕ StoreFault = λ f. Err f in
-    builds (magic_of file.kind) file.text.now rules value file.name.now c.size-size.result
-    c.from_residual.result old new (c.size-size.ensures.size ∙ ap size_of game.fits) t
-    (header_refused file.name.now (header_of (magic_of file.kind) file.text.now c.size-size.result)
-    (number_bytes t.white) (number_bytes t.black) old
-    c.from_residual.result _ new (p.1 ∙ ap err p.2) c.in_err-begin_table.ensures.begun)
+    let here = (goal.at.returns-in_err-begin_table-clause-built g c).After-begin_table in
+    let rules = c.args.game.now.rules.now in
+    let value = g.B.ExitBook.value_at c.args.game.now.book.now in
+    let t : Tables rules value = some_tables rules value
+    (c.tables.ensures.there rules value (g.met.B.ExitBook.small c.args.game.now.book.now)) in
+    built g here t _ _
+    (header_refused _ (header g here) (number_bytes t.white) (number_bytes t.black) _
+    c.from_residual.result _ _ (p.1 ∙ ap failed_as p.2)
+    c.in_err-begin_table.ensures.begun)
 
 pub returns-in_err-write_side-clause-built : goal.returns-in_err-write_side-clause-built
 returns-in_err-write_side-clause-built g c =
-    let game = c.args.game.now in
-    let file = c.args.file.now in
-    let rules = game.rules.now in
-    let value = g.B.ExitBook.value_at game.book.now in
-    let old = store_of g.S.Store c.args.store.now in
-    let new = store_of g.S.Store c.write_side.new.store in
-    let black = c.tables.ensures.there rules value (g.met.B.ExitBook.small game.book.now) Black in
-    let t : Tables rules value =
-    record {
+    let black = c.tables.ensures.there c.args.game.now.rules.now
+    (g.B.ExitBook.value_at c.args.game.now.book.now)
+    (g.met.B.ExitBook.small c.args.game.now.book.now) Black in
+    let p = err_from_is_err_and c.from_residual-in_err-write_side.result
+    c.from_residual-in_err-write_side.ensures.1 in
+    let here = (goal.at.returns-in_err-write_side-clause-built g c).After-begin_table in
+    built g here
+    (record {
       white = c.write_side.new.workshop;
       black = black.0;
       white_is = c.write_side.ensures.table;
       black_is = black.1;
-    } in
-    let p = err_from_is_err_and c.from_residual-in_err-write_side.result
-    c.from_residual-in_err-write_side.ensures.1 in
-    let err : StoreFault → Result ℕ StoreFault = λ f. Err f in
-    builds (magic_of file.kind) file.text.now rules value file.name.now c.size-size.result
-    c.from_residual-in_err-write_side.result old new
-    (c.size-size.ensures.size ∙ ap size_of game.fits) t
-    (white_failed file.name.now (header_of (magic_of file.kind) file.text.now c.size-size.result)
-    (number_bytes t.white) (number_bytes t.black) old
-    (store_of g.S.Store c.begin_table.new.store) c.in_ok-begin_table.ensures.begun
-    c.from_residual-in_err-write_side.result _ new (p.1 ∙ ap err p.2)
+    })
+    _ _
+    (white_failed _ (header g here) _ _ _ _ c.in_ok-begin_table.ensures.begun
+    c.from_residual-in_err-write_side.result _ _ (p.1 ∙ ap failed_as p.2)
     c.in_err-write_side.ensures.appended)
 
 pub returns-in_err-write_side-2-clause-built : goal.returns-in_err-write_side-2-clause-built
 returns-in_err-write_side-2-clause-built g c =
-    let game = c.args.game.now in
-    let file = c.args.file.now in
-    let rules = game.rules.now in
-    let value = g.B.ExitBook.value_at game.book.now in
-    let old = store_of g.S.Store c.args.store.now in
-    let new = store_of g.S.Store c.write_side-2.new.store in
-    let t : Tables rules value =
-    record {
-      white = c.write_side.new.workshop;
-      black = c.write_side-2.new.workshop;
-      white_is = c.write_side.ensures.table;
-      black_is = c.write_side-2.ensures.table;
-    } in
+    let here = (goal.at.returns-in_err-write_side-2-clause-built g c).After-begin_table in
     let p = err_from_is_err_and c.from_residual-in_err-write_side-2.result
     c.from_residual-in_err-write_side-2.ensures.1 in
-    let err : StoreFault → Result ℕ StoreFault = λ f. Err f in
-    builds (magic_of file.kind) file.text.now rules value file.name.now c.size-size.result
-    c.from_residual-in_err-write_side-2.result old new
-    (c.size-size.ensures.size ∙ ap size_of game.fits) t
-    (black_failed file.name.now (header_of (magic_of file.kind) file.text.now c.size-size.result)
-    (number_bytes t.white) (number_bytes t.black) old
-    (store_of g.S.Store c.begin_table.new.store) c.in_ok-begin_table.ensures.begun
-    (store_of g.S.Store c.write_side.new.store) _ c.in_ok-write_side.ensures.appended
-    c.from_residual-in_err-write_side-2.result _ new (p.1 ∙ ap err p.2)
+    built g here (both g (goal.at.returns-in_err-write_side-2-clause-built g c).After-write_side-2)
+    _ _
+    (black_failed _ (header g here) _ _ _ _ c.in_ok-begin_table.ensures.begun _ _
+    c.in_ok-write_side.ensures.appended
+    c.from_residual-in_err-write_side-2.result _ _ (p.1 ∙ ap failed_as p.2)
     c.in_err-write_side-2.ensures.appended)
 
 pub returns-clause-built : goal.returns-clause-built
 returns-clause-built g c =
-    let game = c.args.game.now in
-    let file = c.args.file.now in
-    let rules = game.rules.now in
-    let value = g.B.ExitBook.value_at game.book.now in
-    let old = store_of g.S.Store c.args.store.now in
-    let new = store_of g.S.Store c.write_side-2.new.store in
-    let t : Tables rules value =
-    record {
-      white = c.write_side.new.workshop;
-      black = c.write_side-2.new.workshop;
-      white_is = c.write_side.ensures.table;
-      black_is = c.write_side-2.ensures.table;
-    } in
-    builds (magic_of file.kind) file.text.now rules value file.name.now c.size-size.result _ old new
-    (c.size-size.ensures.size ∙ ap size_of game.fits) t
-    (all_written file.name.now (header_of (magic_of file.kind) file.text.now c.size-size.result)
-    (number_bytes t.white) (number_bytes t.black) old
-    (store_of g.S.Store c.begin_table.new.store) c.in_ok-begin_table.ensures.begun
-    (store_of g.S.Store c.write_side.new.store) _ c.in_ok-write_side.ensures.appended
-    _ new c.in_ok-write_side-2.ensures.appended)
+    let here = (goal.at.returns-clause-built g c).After-begin_table in
+    built g here (both g (goal.at.returns-clause-built g c).After-write_side-2) _ _
+    (all_written _ (header g here) _ _ _ _ c.in_ok-begin_table.ensures.begun _ _
+    c.in_ok-write_side.ensures.appended _ _ c.in_ok-write_side-2.ensures.appended)
