@@ -1,5 +1,5 @@
 -- A report that is written line by line.
-use Rattle.std.proofs.Common.{◌≡◌, refl, sym, ap, ◌∙◌, inr, ℕ, List, [], ◌∷◌, ◌++◌, length, Result, Ok, Err, append_assoc, append-nil, codes}
+use Rattle.std.proofs.Common.{◌≡◌, refl, sym, ap, ◌∙◌, inr, ℕ, List, [], ◌∷◌, ◌++◌, length, Ok, Err, append_assoc, append-nil, codes}
 use Rattle.std.specs.Prelude.{flat_map, decimal}
 use Rattle.frz_board.specs.declared.man.Colour.{Colour}
 use Rattle.frz_board.specs.Boards.{Board}
@@ -16,7 +16,7 @@ use Rattle.frz_report.specs.declared.fault.Totals.{Totals}
 use Rattle.frz_report.specs.Census.{census}
 use Rattle.frz_report.specs.Exits.{exits_of}
 use Rattle.frz_report.specs.Lines.{class_line, last_line}
-use Rattle.frz_report.specs.Reports.{WritesReport, report_text, totals_of}
+use Rattle.frz_report.specs.Reports.{Finishes, WritesReport, WroteBy, report_text, totals_of}
 use Rattle.frz_report.specs.Squeezes.{squeezes}
 use Rattle.frz_report.specs.Walks.{TookFront, WritesSome, lines_below}
 use Rattle.frz_report.proofs.Walking.{are_lines}
@@ -69,16 +69,22 @@ module _ (rules : RuleLines) (value : Board → Value) (kept : Colour → List �
   both : (first ++ classes) ++ last ≡ whole
   both = append_assoc first classes last
 
-  front_written : (fault : ReportFault) (old new : SinkTold) → TookFront first old new
-      → (result : Result Totals ReportFault) → result ≡ Err fault
-      → ((text rest : List ℕ) → IsLines text → TookText text old new → text ++ rest ≡ whole
-      → (rest ≡ [] → ⊥) → WritesReport rules value kept result old new)
-      → WritesReport rules value kept result old new
-  front_written fault old new front result is made =
-      made front.text (front.rest ++ (classes ++ last)) front.lines front.took
-      (sym (append_assoc front.text front.rest (classes ++ last))
-      ∙ ap (λ (l : List ℕ). l ++ (classes ++ last)) front.begins)
-      (never_empty front.rest (classes ++ last) behind_said)
+  -- something stopped behind whole lines
+  front_written : (fault : ReportFault) (old new : SinkTold)
+      → ((text : List ℕ) → TookText text old new → WroteBy {T = Totals} (Err fault) text old new)
+      → ((rest : List ℕ) → (rest ≡ [] → ⊥)
+      → Finishes (Err fault) (totals_of rules value kept) rest)
+      → TookFront first old new → WritesReport rules value kept (Err fault) old new
+  front_written fault old new wrote finishes front = record {
+    text = front.text;
+    rest = front.rest ++ (classes ++ last);
+    lines = front.lines;
+    wrote = wrote front.text front.took;
+    begins = sym (append_assoc front.text front.rest (classes ++ last))
+        ∙ ap (λ (l : List ℕ). l ++ (classes ++ last)) front.begins;
+    finishes = finishes (front.rest ++ (classes ++ last))
+        (never_empty front.rest (classes ++ last) behind_said);
+  }
 
   -- something stopped the walk
   pub stopped_early : (fault : ReportFault) (many : ℕ) (old new : SinkTold)
@@ -93,27 +99,9 @@ module _ (rules : RuleLines) (value : Board → Value) (kept : Colour → List �
     finishes = tt;
   }
   stopped_early Store many old new front =
-      front_written Store old new front (Err Store) refl
-      (λ text rest lines took begins more.
-      record {
-        text = text;
-        rest = rest;
-        lines = lines;
-        wrote = took;
-        begins = begins;
-        finishes = more;
-      })
+      front_written Store old new (λ text took. took) (λ rest more. more) front
   stopped_early NoMemory many old new front =
-      front_written NoMemory old new front (Err NoMemory) refl
-      (λ text rest lines took begins more.
-      record {
-        text = text;
-        rest = rest;
-        lines = lines;
-        wrote = took;
-        begins = begins;
-        finishes = more;
-      })
+      front_written NoMemory old new (λ text took. took) (λ rest more. more) front
 
   failed_whole : (old new : SinkTold) → FailedWithin whole old new
       → WritesReport rules value kept (Err Output) old new
