@@ -24,10 +24,14 @@ pub use Rattle.frz_answer.proofs.Naming.{GivesName, SaysName, not_written, wrote
 pub use Rattle.frz_answer.proofs.Pieces.{
   failed_before,
   failed_behind,
+  failed_first,
+  failed_next,
   gave_up,
   took_behind,
+  took_next,
   took_nothing,
   wrote_behind,
+  wrote_next,
 }
 pub use Rattle.frz_answer.proofs.Stages.{IsStage, Stages, through}
 pub use Rattle.frz_answer.proofs.Telling.{

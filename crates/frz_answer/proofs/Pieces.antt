@@ -59,10 +59,29 @@ module _ (first next text : List ℕ) (old mid new : SinkTold) (took : TookText 
   wrote_behind (Err e) wrote = record { ok = tt; failed = failed_behind wrote.failed }
 
 -- a call that gives up where the sink failed
-pub gave_up : {T E : Type 0} (text : List ℕ) (result : Result T E) (old new : SinkTold)
+pub gave_up : {T E : Type 0} {text : List ℕ} {result : Result T E} {old new : SinkTold}
     → IsErr result → FailedWithin text old new → WroteText text result old new
-gave_up text (Ok x) old new none failed = cc
-gave_up text (Err e) old new none failed = record { ok = tt; failed = failed }
+gave_up {result = Ok x} none failed = cc
+gave_up {result = Err e} none failed = record { ok = tt; failed = failed }
+
+-- and of the text that the two are: the sink failed within the first, or within the second
+pub failed_first : {first : List ℕ} {old new : SinkTold} (rest : List ℕ)
+    → FailedWithin first old new → FailedWithin (first ++ rest) old new
+failed_first rest failed = failed_before _ rest _ _ _ failed refl
+
+pub failed_next : {first next : List ℕ} {old mid new : SinkTold} → TookText first old mid
+    → FailedWithin next mid new → FailedWithin (first ++ next) old new
+failed_next took failed = failed_behind _ _ _ _ _ _ took refl failed
+
+-- it took both, or the second was written
+pub took_next : {first next : List ℕ} {old mid new : SinkTold} → TookText first old mid
+    → TookText next mid new → TookText (first ++ next) old new
+took_next took more = took_behind _ _ _ _ _ _ took refl more
+
+pub wrote_next : {T E : Type 0} {first next : List ℕ} {result : Result T E} {old mid new : SinkTold}
+    → TookText first old mid → WroteText next result mid new
+    → WroteText (first ++ next) result old new
+wrote_next took wrote = wrote_behind _ _ _ _ _ _ took refl _ wrote
 
 -- nothing was written yet
 pub took_nothing : (out : SinkTold) → TookText [] out out

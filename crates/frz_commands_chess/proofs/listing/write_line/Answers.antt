@@ -1,7 +1,7 @@
-use Rattle.std.proofs.Common.{refl, arith}
-use Rattle.frz_answer.proofs.Lemmas.{gave_up, wrote_behind}
-use Rattle.frz_commands_chess.proofs.Joining.{nothing_joined, more_joined, cut_joined, all_joined}
-use Rattle.frz_commands_chess.proofs.Listed.{legal_at, no_steps, more_steps, fewer_steps}
+use Rattle.std.proofs.Common.{arith}
+use Rattle.frz_answer.proofs.Lemmas.{gave_up, wrote_next}
+use Rattle.frz_commands_chess.proofs.Joining.{more_joined, cut_joined, all_joined}
+use Rattle.frz_commands_chess.proofs.Listed.{legal_at, more_steps}
 use Rattle.frz_commands_chess.proofs.listing.write_line.Goals as goal
 
 pub write_move-requires-clause-legal : goal.write_move-requires-clause-legal
@@ -10,12 +10,12 @@ write_move-requires-clause-legal g c =
 
 pub returns-clause-wrote : goal.returns-clause-wrote
 returns-clause-wrote g c =
-    wrote_behind _ _ _ _ _ _ (all_joined _ _ _ _ _ c.loop-i-test.false c.loop-i.invariant.joined)
-    refl _ c.write_piece.ensures
+    wrote_next (all_joined _ _ _ _ _ c.loop-i-test.false c.loop-i.invariant.joined)
+    c.write_piece.ensures
 
 pub returns-in_err-write_move-clause-wrote : goal.returns-in_err-write_move-clause-wrote
 returns-in_err-write_move-clause-wrote g c =
-    gave_up _ _ _ _ c.from_residual.ensures.0
+    gave_up c.from_residual.ensures.0
     (cut_joined _ _ _ _ _ _ _ c.loop-i-test.true c.index-moves-i.is c.loop-i.invariant.joined _
     c.in_err-write_move.ensures.wrote.failed)
 

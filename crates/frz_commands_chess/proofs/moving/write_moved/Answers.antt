@@ -9,7 +9,7 @@ use Rattle.frz_commands_chess.proofs.moving.write_moved.Goals as goal
 pub returns-in_err-write_line : goal.returns-in_err-write_line
 returns-in_err-write_line g c =
     let text = c.as_bytes.ensures.value ∙ c.deref.ensures.0 ∙ c.move_text.ensures in
-    gave_up _ _ _ _ c.from_residual.ensures.0
+    gave_up c.from_residual.ensures.0
     (failed_before _ (fen_text (after c.args.p.now c.args.m) ++ codes "\n") _ _ _
     c.in_err-write_line.ensures.failed (both_lines _ _ _ _ text refl))
 

@@ -1,23 +1,18 @@
-use Rattle.std.proofs.Common.{refl, codes, ◌++◌, append_assoc}
-use Rattle.frz_answer.proofs.Lemmas.{failed_before, failed_behind, gave_up, took_behind, wrote_behind}
-use Rattle.frz_prelude.specs.BoundLines.{kept_words}
+use Rattle.frz_answer.proofs.Lemmas.{failed_first, failed_next, gave_up, took_next, wrote_next}
 use Rattle.frz_prelude.proofs.bound_lines.write_kept_line.Goals as goal
 
 pub returns-in_err-write_side_name : goal.returns-in_err-write_side_name
 returns-in_err-write_side_name g c =
-    gave_up _ _ _ _ c.from_residual.ensures.0
-    (failed_before _ (kept_words c.args.code ++ codes "\n") _ _ _
-    c.in_err-write_side_name.ensures.failed (simp append_assoc))
+    gave_up c.from_residual.ensures.0
+    (failed_first _ (failed_first _ c.in_err-write_side_name.ensures.failed))
 
 pub returns-in_err-write_kept_words : goal.returns-in_err-write_kept_words
 returns-in_err-write_kept_words g c =
-    gave_up _ _ _ _ c.from_residual-in_err-write_kept_words.ensures.0
-    (failed_before _ _ _ _ _
-    (failed_behind _ _ _ _ _ _ c.in_ok-write_side_name.ensures.ok refl
-    c.in_err-write_kept_words.ensures.failed) refl)
+    gave_up c.from_residual-in_err-write_kept_words.ensures.0
+    (failed_first _ (failed_next c.in_ok-write_side_name.ensures.ok
+    c.in_err-write_kept_words.ensures.failed))
 
 pub returns : goal.returns
 returns g c =
-    wrote_behind _ _ _ _ _ _
-    (took_behind _ _ _ _ _ _ c.in_ok-write_side_name.ensures.ok refl
-    c.in_ok-write_kept_words.ensures.ok) refl _ c.write_piece.ensures
+    wrote_next (took_next c.in_ok-write_side_name.ensures.ok c.in_ok-write_kept_words.ensures.ok)
+    c.write_piece.ensures

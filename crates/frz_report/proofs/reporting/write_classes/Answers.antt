@@ -12,7 +12,7 @@ loop-class-preserved g c =
 
 pub returns-in_err-write_class : goal.returns-in_err-write_class
 returns-in_err-write_class g c =
-    gave_up _ _ _ _ c.from_residual.ensures.0
+    gave_up c.from_residual.ensures.0
     (cut_written _ _ _ _ _ _ _
     (rest_more deref_pair _ _ _ (c.in-Some.class, c.in-Some.count) c.in-Some.is
     c.next.ensures.steps) c.loop-class.invariant c.in_err-write_class.ensures.failed)

@@ -1,20 +1,17 @@
-use Rattle.std.proofs.Common.{refl}
-use Rattle.frz_answer.proofs.Lemmas.{failed_before, failed_behind, gave_up, wrote_behind}
+use Rattle.frz_answer.proofs.Lemmas.{failed_first, failed_next, gave_up, wrote_next}
 use Rattle.frz_report.proofs.texts.write_class.Goals as goal
 
 pub returns-in_err-write_numbered : goal.returns-in_err-write_numbered
 returns-in_err-write_numbered g c =
-    gave_up _ _ _ _ c.from_residual.ensures.0
-    (failed_before _ _ _ _ _ c.in_err-write_numbered.ensures.failed refl)
+    gave_up c.from_residual.ensures.0 (failed_first _ c.in_err-write_numbered.ensures.failed)
 
 pub returns-in_err-write_piece : goal.returns-in_err-write_piece
 returns-in_err-write_piece g c =
-    gave_up _ _ _ _ c.from_residual-in_err-write_piece.ensures.0
-    (failed_behind _ _ _ _ _ _ c.in_ok-write_numbered.ensures.ok refl
-    (failed_before _ _ _ _ _ c.in_err-write_piece.ensures.failed refl))
+    gave_up c.from_residual-in_err-write_piece.ensures.0
+    (failed_next c.in_ok-write_numbered.ensures.ok
+    (failed_first _ c.in_err-write_piece.ensures.failed))
 
 pub returns : goal.returns
 returns g c =
     let line = rw (c.as_bytes.ensures.value, c.as_str.ensures.value) at c.write_line.ensures in
-    wrote_behind _ _ _ _ _ _ c.in_ok-write_numbered.ensures.ok refl _
-    (wrote_behind _ _ _ _ _ _ c.in_ok-write_piece.ensures.ok refl _ line)
+    wrote_next c.in_ok-write_numbered.ensures.ok (wrote_next c.in_ok-write_piece.ensures.ok line)
