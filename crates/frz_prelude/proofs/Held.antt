@@ -124,18 +124,9 @@ pub record RulesSeen (told : Option Files) (name : List ℕ) (answer : Result Ru
 
 pub rules_seen : (told : Option Files) (name : List ℕ) (answer : Result RulesFile StoreFault)
     (before now calls_before calls_now : ℕ)
-    → IfOk answer (λ file. IfSome told (λ m. IsHeld (m name) file))
-    → IfSome told (λ m. now ≤ before + asked_of (m name))
-    → IfOk answer (λ file. now ≤ before + asked_by file) → now ≤ before + LONGEST_TEXT
-    → IfOk answer (λ file. asked_by file ≤ LONGEST_TEXT)
-    → IfSome told (λ m. calls_now ≤ calls_before + (1 + reads_of (m name)))
-    → IfOk answer (λ file. calls_now ≤ calls_before + (1 + reads_by file))
-    → calls_now ≤ calls_before + 2
+    → SeesRules told name answer before now calls_before calls_now
     → RulesSeen told name answer before now calls_before calls_now
-rules_seen told name answer before now calls_before calls_now held asked by most short told_calls
-    calls_by few =
-    let seen = sees_rules told name answer before now calls_before calls_now held asked by most
-    short told_calls calls_by few in
+rules_seen told name answer before now calls_before calls_now seen =
     let at = holding told name seen.held seen.there in record {
       files = at.files;
       agrees = at.agrees;
