@@ -15,7 +15,8 @@ use Rattle.frz_answer.specs.Ends.{MayMeet, Ran, Said}
 use Rattle.frz_answer.proofs.Lemmas.{said, stopped, fine_store, Found, SaysAll, Begun}
 use Rattle.frz_table.specs.declared.fault.TableFault.{TableFault}
 use Rattle.frz_table.specs.declared.fault.TableFault.TheVariants as table
-use Rattle.frz_prelude.specs.TableCauses.{file_line}
+use Rattle.frz_prelude.specs.TableCauses.{due_text, file_line}
+use Rattle.frz_prelude.specs.Causes.{rules_line}
 use Rattle.frz_prelude.specs.Refusals.{table_status, status_of, refusal_line}
 use Rattle.frz_prelude.specs.Stops.{WantsMemoryAlone, HasItsCause, EndsBy}
 use Rattle.frz_prelude.specs.declared.refused.Refused.{Refused as Refusal}
@@ -37,34 +38,28 @@ own_status (refusals.Back fault) = own_table fault
 own_status (refusals.BackWrong wrong) = refl
 own_status refusals.Outside = refl
 
--- a text with a word in front is not empty
-behind_word : (word rest : List ℕ) → (word ≡ [] → ⊥) → word ++ rest ≡ [] → ⊥
-behind_word [] rest some e = some refl
-behind_word (b ∷ bs) rest some e = cc
+behind_said : (xs ys : List ℕ) → (ys ≡ [] → ⊥) → xs ++ ys ≡ [] → ⊥
+behind_said [] ys said e = said e
+behind_said (x ∷ xs) ys said e = cc
 
--- nor is the line that refuses a file
-file_said : (word : List ℕ) → (word ≡ [] → ⊥) → (fault : TableFault) → file_line word fault ≡ []
-    → ⊥
-file_said word some table.Missing e = cc
-file_said word some table.Magic e = behind_word word _ some e
-file_said word some (table.Truncated length due) e =
-    behind_word (word ++ _) _ (behind_word word _ some) e
-file_said word some (table.Extra length due) e =
-    behind_word (word ++ _) _ (behind_word word _ some) e
-file_said word some (table.Rules fault) e =
-    behind_word (word ++ _) _ (behind_word word _ some) e
-file_said word some (table.Size kept due) e =
-    behind_word (word ++ _) _ (behind_word word _ some) e
-file_said word some table.Failed e = cc
-file_said word some table.NoMemory e = cc
+-- each fault of a file is said, whatever word names the file
+file_said : (word : List ℕ) (fault : TableFault) → file_line word fault ≡ [] → ⊥
+file_said word table.Missing e = cc
+file_said word table.Magic e = behind_said word _ (λ none. cc) e
+file_said word (table.Truncated length due) e = behind_said _ (due_text due) (λ none. cc) e
+file_said word (table.Extra length due) e = behind_said _ (due_text due) (λ none. cc) e
+file_said word (table.Rules fault) e = behind_said _ (rules_line fault) (λ none. cc) e
+file_said word (table.Size kept due) e = behind_said _ (due_text due) (λ none. cc) e
+file_said word table.Failed e = cc
+file_said word table.NoMemory e = cc
 
 -- each refusal is said in some text
 pub refusal_said : (why : Refusal) → refusal_line why ≡ [] → ⊥
 refusal_said (refusals.Fen fault) e = cc
 refusal_said refusals.MissingRules e = cc
 refusal_said (refusals.Rules fault) e = cc
-refusal_said (refusals.Table fault) e = file_said (codes "table") (λ e. cc) fault e
-refusal_said (refusals.Back fault) e = file_said (codes "back") (λ e. cc) fault e
+refusal_said (refusals.Table fault) e = file_said (codes "table") fault e
+refusal_said (refusals.Back fault) e = file_said (codes "back") fault e
 refusal_said (refusals.BackWrong wrong) e = cc
 refusal_said refusals.Outside e = cc
 
