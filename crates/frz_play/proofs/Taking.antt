@@ -1,52 +1,24 @@
 -- Bytes that are taken from an input: none, and one part behind the other.
-use Rattle.std.proofs.Common.{◌≡◌, refl, sym, ap, subst, ◌∙◌, ℕ, ◌+◌, List, [], ◌∷◌, ◌++◌, take, drop, length, Option, Some, None, length-append, append_assoc}
-use Rattle.std.proofs.Math.Seq.{take-add}
-use Rattle.std.proofs.lemmas.List.{take-append-drop, drop-drop}
+use Rattle.std.proofs.Common.{◌≡◌, refl, sym, ap, subst, ◌∙◌, ℕ, ◌+◌, List, [], ◌∷◌, ◌++◌, take, drop, length, Option, Some, None, append_assoc}
+use Rattle.std.proofs.lemmas.List.{take-append-drop}
 use Rattle.std.specs.Prelude.{IfSome}
 use Rattle.std.specs.Option.{option_map}
 use Rattle.frz_store.specs.Outside.{Took}
 use Rattle.frz_store.specs.Told.{SourceTold}
+use Rattle.frz_answer.proofs.Lemmas.{drop_none, front_none, front_twice, left_twice}
 use Rattle.frz_play.specs.Faults.{TookBytes, MayHold}
 use Rattle.frz_play.specs.Hearing.{EndsWith, HasEnded}
-
-front_none : (o : Option (List ℕ)) → IfSome o (λ left. take (length {A = ℕ} []) left ≡ [])
-front_none None = tt
-front_none (Some left) = refl
-
-drop_none : (o : Option (List ℕ)) → o ≡ option_map (drop 0) o
-drop_none None = refl
-drop_none (Some left) = refl
-
-drop_twice : (o : Option (List ℕ)) (i j : ℕ)
-    → option_map (drop j) (option_map (drop i) o) ≡ option_map (drop (i + j)) o
-drop_twice None i j = refl
-drop_twice (Some left) i j = ap Some (drop-drop j i left)
 
 -- nothing was taken
 pub took_none : (old new : SourceTold) → new.left ≡ old.left → TookBytes [] old new
 took_none old new e = record { front = front_none old.left; behind = e ∙ drop_none old.left }
-
-front_twice : (first next : List ℕ) (old mid : Option (List ℕ))
-    → mid ≡ option_map (drop (length first)) old
-    → IfSome old (λ left. take (length first) left ≡ first)
-    → IfSome mid (λ left. take (length next) left ≡ next)
-    → IfSome old (λ left. take (length (first ++ next)) left ≡ first ++ next)
-front_twice first next None mid e h k = tt
-front_twice first next (Some left) mid e h k =
-    let then : take (length next) (drop (length first) left) ≡ next = subst
-    (λ (o : Option (List ℕ)). IfSome o (λ left. take (length next) left ≡ next)) e k in
-    ap (λ n. take n left) (length-append first next) ∙ take-add (length first) (length next) left
-    ∙ ap (λ (l : List ℕ). l ++ take (length next) (drop (length first) left)) h
-    ∙ ap (λ (l : List ℕ). first ++ l) then
 
 -- one part behind the other
 pub took_on : (first next : List ℕ) (old mid new : SourceTold) → TookBytes first old mid
     → TookBytes next mid new → TookBytes (first ++ next) old new
 took_on first next old mid new h k = record {
   front = front_twice first next old.left mid.left h.behind h.front k.front;
-  behind = k.behind ∙ ap (option_map (drop (length next))) h.behind ∙ drop_twice old.left
-      (length first) (length next)
-      ∙ ap (λ n. option_map (drop n) old.left) (sym (length-append first next));
+  behind = left_twice first next old.left mid.left new.left h.behind k.behind;
 }
 
 -- where the input has ended nothing is left of what is told
