@@ -13,7 +13,7 @@ use Rattle.frz_answer.specs.World.{World, Agrees, Later, spent}
 use Rattle.frz_answer.specs.Answers.{Answer, behind, held, IsLines}
 use Rattle.frz_answer.specs.Jobs.{Job, Sees}
 use Rattle.frz_answer.specs.Ends.{WritesOnly, Ran}
-use Rattle.frz_answer.proofs.Lemmas.{Found, as_given, follows, text_came}
+use Rattle.frz_answer.proofs.Lemmas.{Found, answered_over, as_given, follows, text_came}
 use Rattle.frz_commands_line.proofs.Stages.{is_part}
 
 -- what is left to do of a job behind this text
@@ -74,33 +74,21 @@ cut_within job text bytes old mid out none later same left failed begun = record
   room = tt;
   answered = λ sees files input agrees.
       let here = begun sees files input agrees in
-      let k = failed.taken.0 in record {
-        files = here.found.files;
-        input = here.found.input;
-        agrees = here.found.agrees;
-        free = here.found.free;
-        untaken = here.found.untaken;
-        a = here.a;
-        answer = here.answer;
-        leaves = record {
-          written = take k text;
-          rest = drop k text ++ here.rest;
-          begins = sym (append_assoc (take k text) (drop k text) here.rest)
-              ∙ ap (λ (l : List ℕ). l ++ here.rest) (take-append-drop k text) ∙ here.begins;
-          text = failed.taken.1;
-          others = record {
-            files = λ name. inl (ap (λ (o : Option Files). held o name) same.files);
-            left = (length bytes, here.few, left);
-          };
+      let k = failed.taken.0 in
+      answered_over here.found here.a here.answer
+      (record {
+        written = take k text;
+        rest = drop k text ++ here.rest;
+        begins = sym (append_assoc (take k text) (drop k text) here.rest)
+            ∙ ap (λ (l : List ℕ). l ++ here.rest) (take-append-drop k text) ∙ here.begins;
+        text = failed.taken.1;
+        others = record {
+          files = λ name. inl (ap (λ (o : Option Files). held o name) same.files);
+          left = (length bytes, here.few, left);
         };
-        costs = here.costs;
-      };
+      })
+      here.costs;
 } where
   only_quiet : (writes : Option (List ℕ)) → writes ≡ None → WritesOnly writes old.store mid.store
   only_quiet None e = same
   only_quiet (Some name) e = cc
-
--- no byte was taken
-pub drop_none : (o : Option (List ℕ)) → o ≡ option_map (drop 0) o
-drop_none None = refl
-drop_none (Some x) = refl

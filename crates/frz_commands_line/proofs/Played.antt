@@ -18,7 +18,7 @@ use Rattle.frz_answer.specs.World.{World, world, Agrees, Quiet, Spent, spent, sp
 use Rattle.frz_answer.specs.Answers.{Answer, says, IsLines}
 use Rattle.frz_answer.specs.Jobs.{Job}
 use Rattle.frz_answer.specs.Ends.{MayMeet, Ran, Said}
-use Rattle.frz_answer.proofs.Lemmas.{as_given, fine_store, said, stopped}
+use Rattle.frz_answer.proofs.Lemmas.{as_given, drop_none, fine_store, quiet_both, said, stopped}
 use Rattle.frz_prelude.specs.Refusals.{status_of, refusal_line}
 use Rattle.frz_prelude.specs.declared.refused.Refused.TheVariants as refusals
 use Rattle.frz_line.specs.declared.end.LineEnd.{LineEnd}
@@ -32,7 +32,7 @@ use Rattle.frz_line.specs.Texts.{line_text}
 use Rattle.frz_commands_line.specs.LineEnds.{end_status, naming_line, EndsLine}
 use Rattle.frz_commands_line.specs.LineOf.{code_at, LineComes, told_text, line_answer}
 use Rattle.frz_commands_line.specs.Lining.{lining_in}
-use Rattle.frz_commands_line.proofs.Behind.{rest_of, behind_lines, cut_within, drop_none}
+use Rattle.frz_commands_line.proofs.Behind.{rest_of, behind_lines, cut_within}
 use Rattle.frz_commands_line.proofs.Counting.{unfinished_said}
 use Rattle.frz_commands_line.proofs.OpeningCosts.{costs_inside, costs_outside}
 use Rattle.frz_commands_line.proofs.Seen.{LineThere, LineSo, by_member, lined_inside, lined_outside, line_so}
@@ -63,12 +63,7 @@ module _ (there : LineThere) (table : Table) (side : Colour) (p : Board) (store 
 
   -- nothing was written to the store, whatever the sink took before
   quiet_with : (sink : SinkTold) → Quiet (world store input sink before) (world left input sink now)
-  quiet_with sink = record {
-    later = record { store = quiet.later; input = omega arith; out = omega arith; steps = later };
-    store = quiet.unwritten;
-    left = refl;
-    taken = refl;
-  }
+  quiet_with sink = quiet_both store left input sink before now quiet later
 
   abbrev Line : List ℕ → Result LineEnd LineFault → Files → Type 0
   Line text result m = LineSo (contents_of table) (bytes_at m table.name) side p text result
