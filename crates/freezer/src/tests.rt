@@ -219,6 +219,22 @@ fn rook_file(alloc: Global) -> Result<Vec<u8>, TestFail> {
     plain_file(alloc, RULES, &rook::CODES)
 }
 
+/// A text of a front, of a part so many times, and of an end.
+fn repeated(
+    alloc: Global,
+    front: &str,
+    part: &str,
+    times: usize,
+    end: &str,
+) -> Result<String, TestFail> {
+    let mut text = String::from_str(alloc, front)?;
+    for _ in 0..times {
+        text.push_str(part)?;
+    }
+    text.push_str(end)?;
+    Ok(text)
+}
+
 /// The words of a call.
 fn words_of(alloc: Global, line: &[&str]) -> Result<Vec<String>, TestFail> {
     let mut words = Vec::new(alloc);

@@ -2,7 +2,7 @@
 use super::tables::table_store;
 use super::{
     Answered, CORNER, COUNTED, DRAWN, MATE_IN_ONE, NEXT_TO_IT, RULES, STALEMATE, call_fails,
-    expect_asking, expect_calls, expect_failing, expect_taken, no_fails, sink,
+    expect_asking, expect_calls, expect_failing, expect_taken, no_fails, repeated, sink,
 };
 use frz_handmade::{rook, store_with};
 use frz_store::{Fail, MemSink};
@@ -238,21 +238,12 @@ fn a_line_asks_for_the_codes_of_its_moves(rt: HostRuntime) -> Result<(), TestFai
     expect_asking(&rt, alloc, &mut store, MATING, 0, MATED, asked)
 }
 
-/// The text of a line in which both sides go to and fro until it is cut.
-fn to_and_fro(alloc: Global) -> Result<String, TestFail> {
-    let mut text = String::from_str(alloc, "white holds\n")?;
-    for _ in 0..25 {
-        text.push_str("c1c2\na8b8\nc2c1\nb8a8\n")?;
-    }
-    text.push_str("cut\n")?;
-    Ok(text)
-}
-
 /// No mate is forced.
 #[test]
 fn a_hold_is_cut_after_a_hundred_plies(rt: HostRuntime) -> Result<(), TestFail> {
     let alloc = rt.alloc();
-    let text = to_and_fro(alloc)?;
+    let to_and_fro = "c1c2\na8b8\nc2c1\nb8a8\n";
+    let text = repeated(alloc, "white holds\n", to_and_fro, 25, "cut\n")?;
     let start = "k7/8/1K6/8/8/8/8/2R5 w - - 0 1";
     let row = Row(NEAR_ROOK, NEAR_ROOK_CODES, start, "white", 0, &text);
     expect(&rt, alloc, &row, no_fails(alloc), 600)

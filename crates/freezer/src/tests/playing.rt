@@ -2,7 +2,7 @@
 use super::tables::table_store;
 use super::{
     CORNER, DRAWN, MATE_IN_ONE, NEXT_TO_IT, RULES, call_fails, call_with_input, expect_ended,
-    no_fails, sink,
+    no_fails, repeated, sink,
 };
 use frz_handmade::rook;
 use frz_store::{Fail, MemSink, MemSource};
@@ -200,20 +200,11 @@ fn names_a_fault_of_the_input(rt: HostRuntime) -> Result<(), TestFail> {
     expect(&rt, alloc, &FAILING, call_fails(alloc, 1)?, 300)
 }
 
-/// The text of a session that hears ten thousand lines of no move.
-fn ten_thousand_refusals(alloc: Global) -> Result<String, TestFail> {
-    let mut text = String::from_str(alloc, "white holds\nmove a1b1\n")?;
-    for _ in 0..10_000 {
-        text.push_str("illegal\n")?;
-    }
-    text.push_str("limit lines\n")?;
-    Ok(text)
-}
-
 #[test]
 fn a_session_reads_ten_thousand_lines(rt: HostRuntime) -> Result<(), TestFail> {
     let alloc = rt.alloc();
-    let text = ten_thousand_refusals(alloc)?;
+    let front = "white holds\nmove a1b1\n";
+    let text = repeated(alloc, front, "illegal\n", 10_000, "limit lines\n")?;
     let lines = vec![in alloc; b'\n'; 10_000]?;
     let row = Row(DRAWN, HOLDS, KINGS, "white", &lines, 13, &text, b"");
     expect(&rt, alloc, &row, no_fails(alloc), 90_000)
