@@ -25,23 +25,23 @@ own_is_not statuses.Missing = refl
 own_is_not statuses.Limit = refl
 own_is_not statuses.NoMove = refl
 
--- a count that is what it was did not rise
-still : (old new : ℕ) → new ≡ old → Rose old new → ⊥
-still old new e h = omega (arith, e, h)
+-- a count of nothing did not rise
+never_rose : (old new : ℕ) → new ≡ 0 → Rose old new → ⊥
+never_rose old new e h = omega (arith, e, h)
 
--- a status of the outside is not the call's where no object has failed
+-- a status of the outside is not the call's where no object has ever failed
 pub not_given : (job : Job) (status other : ℕ) (old new : World) → is_outside other ≡ true
-    → new.store.faults ≡ old.store.faults → new.input.faults ≡ old.input.faults
-    → new.out.faults ≡ old.out.faults → HasStatus job status old new → status ≢ other
+    → new.store.faults ≡ 0 → new.input.faults ≡ 0 → new.out.faults ≡ 0
+    → HasStatus job status old new → status ≢ other
 not_given job status other old new outside store input out (inl (s, one, e, fine)) is =
     let no : true ≡ false = sym outside ∙ sym (ap is_outside is) ∙ ap is_outside e ∙ own_is_not s in
     cc
 not_given job status other old new outside store input out (inr (inl (faults.Store, meets, e))) is =
-    still old.store.faults new.store.faults store meets.1
+    never_rose old.store.faults new.store.faults store meets.1
 not_given job status other old new outside store input out (inr (inl (faults.Input, meets, e))) is =
-    still old.input.faults new.input.faults input meets.1
+    never_rose old.input.faults new.input.faults input meets.1
 not_given job status other old new outside store input out
     (inr (inl (faults.NoMemory, meets, e))) is =
     let no : true ≡ false = sym outside ∙ sym (ap is_outside is) ∙ ap is_outside e in cc
 not_given job status other old new outside store input out (inr (inr (rose, e))) is =
-    still old.out.faults new.out.faults out rose
+    never_rose old.out.faults new.out.faults out rose

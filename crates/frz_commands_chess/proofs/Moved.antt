@@ -1,14 +1,13 @@
 -- The answers of `move` are lawful: there is one, and only one.
 use Rattle.std.proofs.Common.{◌≡◌, ℕ, Bool, true, false, ◌||◌, List, refl, ap, sym, ◌∙◌, ◌⊎◌, inl, inr, codes, ◌++◌, append_assoc}
 use Rattle.std.specs.Str.{bytes_eq}
-use Rattle.std.specs.List.{Contains, list_any}
+use Rattle.std.specs.List.{list_any}
 use Rattle.std.proofs.lemmas.List.Folds.{Any-from_list_any, list_any_at}
 use Rattle.std.proofs.lemmas.Slice.Eq.{bytes_eq-Decides}
 use Rattle.frz_store.specs.Files.{Files}
 use Rattle.frz_board.specs.Boards.{Board}
-use Rattle.frz_board.specs.Moving.{Step, IsStep}
+use Rattle.frz_board.specs.Moving.{Step}
 use Rattle.frz_fen.specs.Reading.{fen_of}
-use Rattle.frz_fide.specs.Legal.{is_legal}
 use Rattle.frz_fide.specs.Listing.{legal_moves_of}
 use Rattle.frz_fide.proofs.Lemmas.{listed, only_legal}
 use Rattle.frz_san.specs.Notation.{IsSan, san_of, unsigned}

@@ -1,12 +1,11 @@
 -- What bounds and tables mean in chess.
-use Rattle.std.proofs.Common.{◌≡◌, ◌<◌, ℕ, List, Option, Some, None, refl, sym, subst, ◌∙◌}
+use Rattle.std.proofs.Common.{◌≡◌, ℕ, List, Option, Some, None, refl, sym, subst, ◌∙◌}
 use Rattle.std.specs.Prelude.{slice_index}
 use Rattle.frz_board.specs.declared.man.Colour.{Colour}
 use Rattle.frz_board.specs.Boards.{Board}
 use Rattle.frz_board.specs.Men.{other_of}
 use Rattle.frz_sets.specs.declared.exit.Value.{Value}
-use Rattle.frz_sets.specs.Sets.{size_of}
-use Rattle.frz_sets.specs.Views.{GroupLine, RuleLines}
+use Rattle.frz_sets.specs.Views.{RuleLines}
 use Rattle.frz_index.specs.Members.{Member, Num, Broken}
 use Rattle.frz_index.proofs.Lemmas.{position_tells}
 use Rattle.frz_arena.specs.declared.bound.Bound.{Bound}

@@ -1,5 +1,5 @@
 -- Rules without an exit line.
-use Rattle.std.proofs.Common.{◌≡◌, true, [], List, refl, sym, subst, ap}
+use Rattle.std.proofs.Common.{◌≡◌, true, [], List, sym, subst, ap}
 use Rattle.frz_board.specs.declared.man.Colour.{Colour}
 use Rattle.frz_board.specs.Boards.{Board}
 use Rattle.frz_fide.specs.Legal.{after}

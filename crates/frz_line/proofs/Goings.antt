@@ -15,7 +15,7 @@ use Rattle.frz_arena.specs.Choices.{choice_of}
 use Rattle.frz_arena.specs.Chosen.{IsChosen}
 use Rattle.frz_arena.specs.Codes.{is_failure}
 use Rattle.frz_arena.specs.LocalCodes as words
-use Rattle.frz_arena.specs.LocalCodes.{node_code, local_code}
+use Rattle.frz_arena.specs.LocalCodes.{local_code}
 use Rattle.frz_arena.specs.Plies.{LeadsTo}
 use Rattle.frz_arena.specs.WayEnds.{End, Wrong, NoBound, Mated, Stalemated, Exit, Cut}
 use Rattle.frz_arena.specs.Ways.{Player, Ply, Opponent, ByCodes, Stage, Over, Moves, is_cut, stage, stage_of, IsTakenBy, IsStopBy, IsWay}

@@ -19,7 +19,7 @@ use Rattle.frz_arena.specs.Choices.{has_code}
 use Rattle.frz_arena.specs.Chosen.{IsFound}
 use Rattle.frz_arena.specs.Codes.{is_win, is_failure}
 use Rattle.frz_arena.specs.LocalCodes as words
-use Rattle.frz_arena.specs.LocalCodes.{node_code, local_code}
+use Rattle.frz_arena.specs.LocalCodes.{node_code}
 use Rattle.frz_arena.specs.Plies.{LeadsTo}
 use Rattle.frz_arena.specs.WayEnds.{Wrong, NoBound, Mated, Stalemated, Exit, Cut}
 use Rattle.frz_arena.specs.Ways.{Over as OverWay, Moves, stage, IsWay}

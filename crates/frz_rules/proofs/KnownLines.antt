@@ -1,5 +1,5 @@
 -- A line that was read begins with a known word.
-use Rattle.std.proofs.Common.{◌≡◌, ℕ, Bool, true, false, cond, ◌||◌, ◌⊎◌, inl, inr, List, [], ◌∷◌, Option, Result, Ok, Err, refl, sym, ap, ◌∙◌}
+use Rattle.std.proofs.Common.{◌≡◌, ℕ, Bool, true, false, cond, ◌||◌, ◌⊎◌, inl, inr, List, [], ◌∷◌, Result, Ok, Err, refl, sym, ap, ◌∙◌}
 use Rattle.std.specs.Prelude.{codes, nat_le, ◌≤◌, length}
 use Rattle.std.proofs.lemmas.Bool.{and_from, le-leb}
 use Rattle.frz_words.specs.Lines.{lines, numbered}

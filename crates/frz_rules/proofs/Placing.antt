@@ -1,12 +1,10 @@
 -- The states of places, gone through in order.
 use Rattle.std.proofs.Common.{◌≡◌, ℕ, ◌+◌, true, false, cond, List, [], ◌∷◌, ◌++◌, refl, ap, ◌∙◌, arith}
-use Rattle.std.specs.Prelude.{map, filter, ◌==◌, ◌&&◌}
-use Rattle.std.specs.List.{list_any, range_with_len}
+use Rattle.std.specs.Prelude.{map, filter}
+use Rattle.std.specs.List.{range_with_len}
 use Rattle.std.proofs.lemmas.List.{append-nil}
 use Rattle.std.proofs.lemmas.List.FromFn.{filter_of_map_range_with_len_more}
 use Rattle.frz_board.specs.declared.man.Kind.{Kind}
-use Rattle.frz_board.specs.Men.{number_of_kind}
-use Rattle.frz_words.specs.Squares.{has_square}
 use Rattle.frz_sets.specs.Groups.{state_at}
 use Rattle.frz_rules.specs.States.{is_placed, states_of}
 

@@ -16,7 +16,7 @@ use Rattle.frz_arena.specs.Ways.{Player, Ply, Over, Moves, Opponent, ByCodes, By
 use Rattle.frz_arena.proofs.LocalCodes.ChosenCodes.{win_above}
 use Rattle.frz_arena.proofs.Ways.FoundArms.{chosen_there}
 use Rattle.frz_arena.proofs.Ways.Stages as stages
-use Rattle.frz_arena.proofs.Ways.Stages.{IsSound, OverOrDue, over_or_due}
+use Rattle.frz_arena.proofs.Ways.Stages.{IsSound, over_or_due}
 use Rattle.frz_arena.proofs.Ways.WayParts.{ply_of}
 use Rattle.frz_arena.proofs.Ways.EachPly.{stands_due, never_fails}
 use Rattle.frz_arena.proofs.Ways.KeptWays.{not_yet, line_of, either_way}

@@ -20,7 +20,7 @@ use Rattle.frz_arena.proofs.Plies.NodeKinds.{other_differs}
 use Rattle.frz_arena.proofs.Lists.FirstOnes.{at_in}
 use Rattle.frz_arena.proofs.Ways.FoundArms.{mover_is, itself, another, chosen_there}
 use Rattle.frz_arena.proofs.Ways.Stages as stages
-use Rattle.frz_arena.proofs.Ways.Stages.{IsSound, OverOrDue, over_or_due}
+use Rattle.frz_arena.proofs.Ways.Stages.{IsSound, over_or_due}
 use Rattle.frz_arena.proofs.Ways.WayParts.{ply_of}
 use Rattle.frz_arena.proofs.Ways.EachPly.{stands_due, never_fails}
 

@@ -11,7 +11,7 @@ use Rattle.frz_arena.specs.WayEnds.{End, Wrong, NoBound, Mated, Stalemated, Cut,
 use Rattle.frz_arena.specs.Ways.{Player, Ply, Stage, Over, Moves, Opponent, ByCodes, ByInput, is_cut, is_line, is_by_codes, IsTakenBy, IsStopBy, IsPlyOf, stage, IsWay}
 use Rattle.frz_arena.proofs.Plies.NodeKinds.{other_differs}
 use Rattle.frz_arena.proofs.Ways.Stages as stages
-use Rattle.frz_arena.proofs.Ways.Stages.{IsSound, StageIs, stage_is, same_number}
+use Rattle.frz_arena.proofs.Ways.Stages.{IsSound, stage_is, same_number}
 use Rattle.frz_arena.proofs.Ways.FoundArms.{mover_is, itself, another, chosen_is_at, chosen_free, chosen_win, chosen_hold, any_win, any_hold, small_is_no_failure}
 
 -- a way with no more plies, by its end
