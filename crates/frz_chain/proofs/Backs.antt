@@ -121,8 +121,8 @@ judged_back table name white black v old mid new steps_before steps_now kept sam
           ap (λ (l : List ℕ). back_with table.rules.groups l black) (sym kept.white_is)
           ∙ ap (λ (l : List ℕ). back_with table.rules.groups (kept_codes contents kept.bytes White)
           l) (sym kept.black_is);
-      within = within_file kept.bytes contents old mid new steps_before steps_now there.1 asked calls
-          more_asked more_calls steps;
+      within = within_file kept.bytes contents old mid new steps_before steps_now there.1 asked
+          calls more_asked more_calls steps;
     }
 
 -- the back table is given, or its first wrong entry

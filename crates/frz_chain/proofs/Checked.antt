@@ -215,8 +215,8 @@ checked table name back loaded back_size old mid then new steps_before steps_the
     same then_same kind named asked calls h back_sized more_asked more_calls steps told sizes =
     let contents : Contents = contents_of table in
     let read = (belongs (table_format Chained) may.bytes (contents_of table) may.opens).read in
-    let there = file_opens Chained table name told.bytes old.files then.files (then_same ∙ same) kind
-    named read told.may told.file in
+    let there = file_opens Chained table name told.bytes old.files then.files (then_same ∙ same)
+    kind named read told.may told.file in
     record {
       bytes = told.bytes;
       may = there.0;

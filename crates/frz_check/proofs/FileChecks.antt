@@ -147,8 +147,8 @@ pub file_checked : (files : Option Files) (table : Table) (rules : RuleLines) (n
 file_checked files table rules name old mid new steps_before steps_now v same kind named same_rules
     read asked calls more_asked more_calls steps h =
     let contents : Contents = contents_of table in
-    let there = file_opens Plain table name h.bytes old.files files same kind named read h.may h.file
-    in
+    let there = file_opens Plain table name h.bytes old.files files same kind named read h.may
+    h.file in
     record {
       bytes = h.bytes;
       may = there.0;

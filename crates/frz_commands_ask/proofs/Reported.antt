@@ -109,7 +109,8 @@ module _ (name : List ℕ) (contents : Contents) (bytes : List ℕ) (old new : S
       → Ran (reporting_at name) end start finish
   told_so end fine says_it =
       said (reporting_at name) Success (report_of contents bytes) end start
-      (world new input out_old now) out_new (quiet_both old new input out_old before now quiet later)
+      (world new input out_old now) out_new
+      (quiet_both old new input out_old before now quiet later)
       (fine_store old new input out_old before now fine) refl says_it
       (λ sees files left agrees.
       let here = given_by name contents bytes files left start (world new input out_old now) agrees
@@ -251,8 +252,8 @@ module _ (name : List ℕ) (table : Table) (old mid new : StoreTold) (input : So
       let read : rules_of table.text ≡ Ok table.rules =
       (belongs (table_format Plain) begun.opens.bytes (contents_of table)
       begun.opens.opens).read in
-      let there = file_opens Plain table name bytes old.files mid.files begun.opening.unwritten.files
-      begun.kind begun.named read may file in
+      let there = file_opens Plain table name bytes old.files mid.files
+      begun.opening.unwritten.files begun.kind begun.named read may file in
       record { may = there.0; opens = there.1; within = within bytes there.1 }
 
   of_file : (result : Result Totals ReportFault) → StoreCause result mid new

@@ -20,7 +20,8 @@ use Rattle.frz_prelude.proofs.Stopping.{some_refusal}
 module _ (files : Files) (By : List ℕ → RuleLines → Answer → Type 0) where
   abbrev AtText : List ℕ → Result RuleLines RulesFault → Answer → Type 0
   AtText text read a =
-      MatchResult read (λ r. By text r a) (λ fault. a ≡ says statuses.Rules (rules_line fault) files)
+      MatchResult read (λ r. By text r a)
+      (λ fault. a ≡ says statuses.Rules (rules_line fault) files)
 
   abbrev AtName : Option (List ℕ) → Answer → Type 0
   AtName held a = MatchOption held (a ≡ says statuses.Missing (codes "missing rules\n") files)
