@@ -1,6 +1,7 @@
 -- The game over numbers: its numbering, its nodes and its arms.
 use Rattle.std.proofs.Common.{◌≡◌, ◌≤◌, ◌<◌, ◌^◌, ℕ, ◌⊎◌, inl, inr, Bool, true, false, List, [], ◌∷◌, map, Option, Some, None, refl, subst, ap, ◌∙◌}
 use Rattle.std.specs.List.{Contains}
+use Rattle.std.proofs.lemmas.Bool.{cases_Bool}
 use Rattle.frz_board.specs.declared.man.Colour.{Colour}
 use Rattle.frz_board.specs.Boards.{Board}
 use Rattle.frz_board.specs.Moving.{Step}
@@ -21,7 +22,7 @@ use Rattle.frz_arena.specs.Arena.{IsArm, IsLawful}
 use Rattle.frz_arena.specs.Games as games
 use Rattle.frz_arena.specs.Names.{IsNumbering, IsNumbered, named, named_next, name_by, name_in, node_at, arms_at}
 use Rattle.frz_arena.specs.Plies.{LagsWithin}
-use Rattle.frz_arena.proofs.Lemmas.{none_in_empty, true_or_false, from_mapped, game_is_lawful, numbered_is, numbers_lawful, going, inside}
+use Rattle.frz_arena.proofs.Lemmas.{none_in_empty, from_mapped, game_is_lawful, numbered_is, numbers_lawful, going, inside}
 use Rattle.frz_graph.specs.Finite.{IsFinite}
 use Rattle.frz_exits.specs.Values.{lag_of}
 use Rattle.frz_exits.proofs.Lemmas.{opposed}
@@ -55,7 +56,7 @@ numbering rules value = record {
       let t = number_tells rules.groups p i e in
       subst (λ n. n < size_of rules.groups) t.1
       (Num_below rules.groups p (member_of rules.groups p t.0)));
-  missing = λ p e. elim (true_or_false (is_member rules.groups p)) [
+  missing = λ p e. elim (cases_Bool (is_member rules.groups p)) [
     | inl t ↦ absurd (let k = number_there rules.groups p t in cc)
     | inr f ↦
         outside_broken (legal_moves_of p) (is_in_check p p.turn) p.turn (is_member rules.groups p) f
@@ -133,7 +134,7 @@ next_missing groups q v e f = rw f refl
 pub next_outside : (groups : List GroupLine) (q : Board) (v : Value) → number_of groups q ≡ None →
     named_next (name_in (numbers_by groups)) (games.next_by (is_member groups q) q v) ≡ Outside v
 next_outside groups q v e =
-    elim (true_or_false (is_member groups q)) [
+    elim (cases_Bool (is_member groups q)) [
       | inl t ↦ absurd (let k = number_there groups q t in cc)
       | inr f ↦ next_missing groups q v e f
     ]
@@ -152,7 +153,7 @@ next_small : (rules : RuleLines) (value : Board → Value) → HasSmallLags valu
     named_next (name_in (numbers_by rules.groups))
     (games.next_by (is_member rules.groups q) q (value q)) ≡ Outside v → lag_of v ≤ 1000
 next_small rules value small q valid v e =
-    elim (true_or_false (is_member rules.groups q)) [
+    elim (cases_Bool (is_member rules.groups q)) [
       | inl t ↦ absurd (let k = next_inside rules.groups q (value q) _
           (number_there rules.groups q t) in cc)
       | inr f ↦ (

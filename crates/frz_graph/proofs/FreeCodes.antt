@@ -2,10 +2,10 @@
 use Rattle.std.proofs.Common.{◌≡◌, ◌<◌, ◌+◌, ◌++◌, ℕ, zero, suc, true, false, List, [], ◌∷◌, map, refl, ap, ◌∙◌, if◌then◌else◌, inl, inr, length, take, get_or, arith, add-one, rules}
 use Rattle.std.specs.List.{filter}
 use Rattle.std.proofs.lemmas.Grind.{common_steps}
+use Rattle.std.proofs.lemmas.Bool.{cases_Bool}
 use Rattle.frz_board.specs.Moving.{Step}
 use Rattle.frz_sets.specs.declared.exit.Value.{Value}
 use Rattle.frz_arena.specs.declared.arm.Arm.{Arm}
-use Rattle.frz_arena.proofs.Lemmas.{true_or_false}
 use Rattle.frz_graph.specs.FreeCodes.{free_among}
 
 -- where the codes are those of the moves
@@ -13,7 +13,7 @@ pub free_mapped : (code : Arm Step ℕ Value → ℕ) (arms : List (Arm Step ℕ
     free_among arms (map code arms) ≡ map code (filter (λ a. a.free) arms)
 free_mapped code [] = refl
 free_mapped code (x ∷ xs) =
-    elim (true_or_false x.free) [
+    elim (cases_Bool x.free) [
       | inl t ↦ rw (t, free_mapped code xs) refl
       | inr f ↦ rw (f, free_mapped code xs) refl
     ]
@@ -29,7 +29,7 @@ free_push (b ∷ arms) [] i a h e = absurd (omega arith)
 free_push (b ∷ arms) (c ∷ cs) zero a h e = refl
 free_push (b ∷ arms) (c ∷ cs) (suc i) a h e =
     let k = free_push arms cs i a (omega arith) (omega arith) in
-    elim (true_or_false b.free) [
+    elim (cases_Bool b.free) [
       | inl t ↦ (rw t (ap (λ xs. c ∷ xs) k))
       | inr f ↦ (rw f k)
     ]

@@ -4,6 +4,7 @@ use Rattle.std.proofs.Common.{◌≡◌, ◌≢◌, ◌<◌, ◌+◌, ◌-◌, �
 use Rattle.std.specs.Prelude.{slice_get}
 use Rattle.std.specs.List.{Contains, filter}
 use Rattle.std.proofs.lemmas.Option.{slice_get-map}
+use Rattle.std.proofs.lemmas.Bool.{cases_Bool}
 use Rattle.frz_board.specs.declared.man.Colour.{Colour}
 use Rattle.frz_board.specs.Men.{same_colour}
 use Rattle.frz_board.specs.Moving.{Step}
@@ -20,7 +21,7 @@ use Rattle.frz_arena.specs.Chosen.{IsFirst, IsFound, is_candidate, IsChosen}
 use Rattle.frz_arena.specs.Codes.{is_win, is_failure}
 use Rattle.frz_arena.specs.LocalCodes.{arm_code, local_code, node_code}
 use Rattle.frz_arena.specs.Ways.{Player, Ply, Moves, Opponent, ByCodes, IsTaken, IsTakenBy, stage}
-use Rattle.frz_arena.proofs.Lemmas.{true_or_false, choice_is_arm, from_mapped, reaches_start, chosen_here, ply_here}
+use Rattle.frz_arena.proofs.Lemmas.{choice_is_arm, from_mapped, reaches_start, chosen_here, ply_here}
 use Rattle.frz_graph.specs.FreeCodes.{free_among}
 use Rattle.frz_line.specs.declared.end.TheConstants.{MOST_PLIES}
 use Rattle.frz_line.specs.Sights.{choices_by, IsNextCode}
@@ -80,7 +81,7 @@ seen_free : (arena : Arena Step (Option ℕ) Value) (side : Colour) (kept : ℕ)
 seen_free arena side kept [] cs = refl
 seen_free arena side kept (a ∷ arms) [] = refl
 seen_free arena side kept (a ∷ arms) (c ∷ cs) =
-    elim (true_or_false a.free) [
+    elim (cases_Bool a.free) [
       | inl t ↦ rw (t, seen_free arena side kept arms cs) refl
       | inr f ↦ rw (f, seen_free arena side kept arms cs) refl
     ]

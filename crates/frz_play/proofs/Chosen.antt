@@ -2,7 +2,7 @@
 use Rattle.std.proofs.Common.{◌≡◌, ◌<◌, ◌+◌, ℕ, zero, suc, inl, inr, true, false, List, [], ◌∷◌, Some, map, min, length, refl, sym, subst, ap, ◌∙◌, arith, get_or}
 use Rattle.std.specs.Prelude.{slice_get, slice_index, ⊤}
 use Rattle.std.specs.List.{list_any, filter}
-use Rattle.std.proofs.lemmas.Bool.{cases_lt}
+use Rattle.std.proofs.lemmas.Bool.{cases_lt, cases_Bool}
 use Rattle.std.proofs.lemmas.Bool.Decides.{nat_tests}
 use Rattle.std.proofs.lemmas.Option.{slice_get-map, get_or_from_slice_get}
 use Rattle.frz_board.specs.declared.man.Colour.{Colour}
@@ -12,7 +12,6 @@ use Rattle.frz_arena.specs.declared.arm.Arm.{Arm}
 use Rattle.frz_arena.specs.declared.arm.Next.TheVariants.{Inside}
 use Rattle.frz_arena.specs.Codes.{is_failure}
 use Rattle.frz_arena.specs.LocalCodes.{other_code, least}
-use Rattle.frz_arena.proofs.Lemmas.{true_or_false}
 use Rattle.frz_graph.specs.EntryCodes.{arm_code, next_code}
 
 -- the code that was read for a move is the one that the file keeps of where it leads
@@ -50,7 +49,7 @@ least_fails c (d ∷ cs) h all = min_fails c (least (d ∷ cs)) h (least_fails d
 failing_ones : (cs : List ℕ) → AllFail (filter is_failure cs)
 failing_ones [] = tt
 failing_ones (c ∷ cs) =
-    elim (true_or_false (is_failure c)) [
+    elim (cases_Bool (is_failure c)) [
       | inl t ↦ rw t (t, failing_ones cs)
       | inr f ↦ rw f (failing_ones cs)
     ]
@@ -71,7 +70,7 @@ some_fails (c ∷ cs) (suc i) l t =
     let h = some_fails cs i (omega arith) t in
     let are = h.are in
     let any = h.any in
-    elim (true_or_false (is_failure c)) [
+    elim (cases_Bool (is_failure c)) [
       | inl y ↦ record {
         first = c;
         others = filter is_failure cs;
@@ -88,7 +87,7 @@ two_more c h = grind (arith, nat_tests)
 pub other_stands : (cs : List ℕ) (i : ℕ) → is_failure (other_code cs) ≡ false → i < length cs
     → is_failure (get_or cs i 0) ≡ false
 other_stands cs i stands l =
-    elim (true_or_false (is_failure (get_or cs i 0))) [
+    elim (cases_Bool (is_failure (get_or cs i 0))) [
       | inr f ↦ f
       | inl t ↦ (
           let h = some_fails cs i l t in

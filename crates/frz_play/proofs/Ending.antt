@@ -3,13 +3,13 @@ use Rattle.std.proofs.Common.{◌≡◌, ◌<◌, refl, sym, ap, ◌∙◌, ℕ,
 use Rattle.std.specs.Prelude.{slice_get}
 use Rattle.std.specs.Str.{bytes_eq}
 use Rattle.std.proofs.lemmas.List.Quantifiers.{position-Some}
+use Rattle.std.proofs.lemmas.Bool.{cases_Bool}
 use Rattle.frz_board.specs.Moving.{Step}
 use Rattle.frz_board.specs.Texts.{text_of}
 use Rattle.frz_sets.specs.declared.exit.Value.{Value}
 use Rattle.frz_arena.specs.declared.arm.Arm.{Arm}
 use Rattle.frz_arena.specs.Arena.{Arena}
 use Rattle.frz_arena.specs.Inputs.{Answer, Reply, Stop, IsInput}
-use Rattle.frz_arena.proofs.Lemmas.{true_or_false}
 use Rattle.frz_words.specs.Words.{words}
 use Rattle.frz_play.specs.declared.end.TheConstants.{MOST_LENGTH}
 use Rattle.frz_play.specs.Reading.{Input, Halt, line_length, first_line, behind_line, only_of, place_by, place_said, refuse_one, reply_or, reads}
@@ -59,7 +59,7 @@ replies : (arms : List (Arm Step ℕ Value)) (more : ℕ) (left : List ℕ)
 replies arms zero left = λ refused place rest e. absurd (cc)
 replies arms (suc more) [] = λ refused place rest e. absurd (cc)
 replies arms (suc more) (b ∷ bs) =
-    elim (true_or_false (nat_lt MOST_LENGTH (line_length (b ∷ bs)))) [
+    elim (cases_Bool (nat_lt MOST_LENGTH (line_length (b ∷ bs)))) [
       | inl t ↦ rw t (λ refused place rest e. absurd (cc))
       | inr f ↦ rw f (of_line arms more (place_said arms (first_line (b ∷ bs)))
           (λ place e. place_there arms (only_of (words (first_line (b ∷ bs)))) place e)

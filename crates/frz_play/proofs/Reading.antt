@@ -4,12 +4,12 @@ use Rattle.std.proofs.Math.Seq.{take-append_seam, drop-append-add}
 use Rattle.std.proofs.lemmas.List.Folds.{prefix_len-append}
 use Rattle.std.proofs.lemmas.Bool.Decides.{nat_tests}
 use Rattle.std.specs.Prelude.{cond}
+use Rattle.std.proofs.lemmas.Bool.{cases_Bool}
 use Rattle.frz_board.specs.Moving.{Step}
 use Rattle.frz_sets.specs.declared.exit.Value.{Value}
 use Rattle.frz_words.specs.Lines.{is_line_feed}
 use Rattle.frz_arena.specs.declared.arm.Arm.{Arm}
 use Rattle.frz_arena.specs.Inputs.{Answer, Reply, Stop}
-use Rattle.frz_arena.proofs.Lemmas.{true_or_false}
 use Rattle.frz_play.specs.declared.end.PlayLimit.TheVariants.{LineLength}
 use Rattle.frz_play.specs.declared.hearing.Why.TheVariants.{Limit}
 use Rattle.frz_play.specs.declared.end.TheConstants.{MOST_LENGTH}
@@ -123,7 +123,7 @@ module _ (arms : List (Arm Step ℕ Value)) where
   part_by more part rest ih one few some =
       let long = longer part rest one in
       let left = part ++ rest in
-      elim (true_or_false (nat_lt MOST_LENGTH (line_length left))) [
+      elim (cases_Bool (nat_lt MOST_LENGTH (line_length left))) [
         | inl t ↦ (
             let many : MOST_LENGTH < line_length left = grind (arith, nat_tests, t) in
             let cut : length part + (MOST_LENGTH + 1 - length part) ≡ MOST_LENGTH + 1 = omega

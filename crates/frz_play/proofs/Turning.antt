@@ -4,6 +4,7 @@ use Rattle.std.specs.Prelude.{slice_get}
 use Rattle.std.specs.List.{Contains}
 use Rattle.std.proofs.lemmas.Option.{slice_get_within}
 use Rattle.std.proofs.lemmas.Bool.Decides.{nat_tests}
+use Rattle.std.proofs.lemmas.Bool.{cases_Bool}
 use Rattle.frz_board.specs.declared.man.Colour.{Colour}
 use Rattle.frz_board.specs.declared.man.Colour.TheVariants.{White, Black}
 use Rattle.frz_board.specs.Men.{same_colour, other_of}
@@ -22,7 +23,7 @@ use Rattle.frz_arena.specs.Choices.{has_code}
 use Rattle.frz_arena.specs.Codes.{is_win, is_failure}
 use Rattle.frz_arena.specs.LocalCodes.{node_code, other_code}
 use Rattle.frz_arena.specs.Turns.{Alternates}
-use Rattle.frz_arena.proofs.Lemmas.{true_or_false, win_and_failure}
+use Rattle.frz_arena.proofs.Lemmas.{win_and_failure}
 use Rattle.frz_graph.specs.Finite.{IsFinite}
 use Rattle.frz_graph.specs.FreeCodes.{free_among}
 use Rattle.frz_line.specs.declared.due.Due.{Due}
@@ -115,7 +116,7 @@ module _ {arena : Arena Step ℕ Value} {size : ℕ} (finite : IsFinite arena si
 
   no_failure : (code next : ℕ) → IsNextCode code next → is_failure next ≡ false
   no_failure code next (inl h) =
-      elim (true_or_false (is_failure next))
+      elim (cases_Bool (is_failure next))
       [ inl f ↦ absurd (win_and_failure next h.1 f) | inr f ↦ f ]
   no_failure code next (inr h) = (let l = h.1 in grind (arith, nat_tests))
 
@@ -172,7 +173,7 @@ module _ {arena : Arena Step ℕ Value} {size : ℕ} (finite : IsFinite arena si
   own_most (nodes.Mate m) = omega arith
   own_most (nodes.Stalemate m) = omega arith
   own_most (nodes.Going m) =
-      elim (true_or_false (same_colour m side))
+      elim (cases_Bool (same_colour m side))
       [ inl t ↦ rw t (omega arith) | inr f ↦ rw f (omega arith) ]
 
   left_own : Alternates arena → (m : Colour) → IsDue (dues.Ply m) → same_colour m side ≡ true

@@ -3,7 +3,7 @@
 use Rattle.std.proofs.Common.{◌≡◌, ◌≢◌, ◌≤◌, ◌<◌, ◌+◌, ℕ, zero, suc, inl, inr, List, [], ◌∷◌, length, refl, subst, ap, arith}
 use Rattle.std.specs.Prelude.{eqb}
 use Rattle.std.specs.List.{Contains, IsDistinct}
-use Rattle.std.proofs.lemmas.Bool.{cases_lt}
+use Rattle.std.proofs.lemmas.Bool.{cases_lt, cases_Bool}
 use Rattle.std.proofs.lemmas.Map.Keys.{IsDistinct-cons}
 use Rattle.std.proofs.lemmas.Map.Steps.{length-le_from_distinct_below}
 use Rattle.frz_board.specs.declared.man.Colour.{Colour}
@@ -17,7 +17,7 @@ use Rattle.frz_arena.specs.Arena.{Arena, IsLawful}
 use Rattle.frz_arena.specs.Plies.{LeadsTo, IsGoodExit, IsBadExit, WinsWithin, FailsWithin, LagsWithin}
 use Rattle.frz_arena.specs.Bounds.{IsBound}
 use Rattle.frz_arena.specs.Names.{IsNumbered}
-use Rattle.frz_arena.proofs.Lists.Members.{none_in_empty, in_cases, true_or_false}
+use Rattle.frz_arena.proofs.Lists.Members.{none_in_empty, in_cases}
 use Rattle.frz_arena.proofs.Plies.Opposed.{wins_later, fails_later}
 use Rattle.frz_arena.proofs.Bounds.OneBound.{broken_never_wins, broken_never_fails, one_bound}
 use Rattle.frz_arena.proofs.Plies.FewPlies.{apart, among, one_distinct}
@@ -73,7 +73,7 @@ failure_step {M} {N} {V} arena law side n p (inr (inr w), least) =
       | inl all ↦
           absurd (least (suc n) (omega arith)
           (inr (inr (w.0, (w.1.0, w.1.1, w.1.2, all w.1.0 w.1.1 w.1.2), all))))
-      | inr r ↦ elim (true_or_false r.0.free) [
+      | inr r ↦ elim (cases_Bool r.0.free) [
         | inl t ↦ least_bad_arm arena side n r.0.next (w.2 r.0 r.1 t) (λ g. r.2 (λ _. g))
         | inr f ↦ absurd (r.2 (λ t. absurd (cc)))
       ]

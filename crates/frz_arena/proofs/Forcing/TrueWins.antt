@@ -1,13 +1,14 @@
 -- Where the exits are true, a win of the restricted game is a forced mate.
 use Rattle.std.proofs.Common.{◌≡◌, ◌≤◌, ℕ, suc, max, inl, inr, List, [], ◌∷◌, subst, arith}
 use Rattle.std.specs.List.{Contains}
+use Rattle.std.proofs.lemmas.Bool.{cases_Bool}
 use Rattle.frz_board.specs.declared.man.Colour.{Colour}
 use Rattle.frz_arena.specs.declared.class.Class.TheVariants.{Good}
 use Rattle.frz_arena.specs.Plies.{WinsWithin}
 use Rattle.frz_arena.specs.Chess.{Forces, mate_alone}
 use Rattle.frz_arena.specs.Games.{Game, arena_of}
 use Rattle.frz_arena.specs.Exits.{IsExit, TrueExits, AllNumbered}
-use Rattle.frz_arena.proofs.Lists.Members.{none_in_empty, first_in, later_in, in_cases, true_or_false}
+use Rattle.frz_arena.proofs.Lists.Members.{none_in_empty, first_in, later_in, in_cases}
 use Rattle.frz_arena.proofs.Forcing.WinsForced.{forces_later, forced_by_wins, holds_of_win}
 
 -- a number that serves each element
@@ -30,7 +31,7 @@ pub true_win : {P M V : Type 0} (game : Game P M V) → TrueExits game → (side
     IsExit game q → game.class (game.value q) side ≡ Good →
     (n : ℕ) × Forces game.chess mate_alone side n q
 true_win game exits side q x g =
-    elim (true_or_false (game.numbered (game.value q))) [
+    elim (cases_Bool (game.numbered (game.value q))) [
       | inl t ↦ (game.lag (game.value q), (exits q x).wins_in side g t)
       | inr f ↦ (exits q x).wins side g f
     ]

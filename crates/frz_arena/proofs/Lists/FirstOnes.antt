@@ -2,10 +2,10 @@
 use Rattle.std.proofs.Common.{◌≡◌, ◌<◌, ℕ, zero, suc, inl, inr, Bool, true, false, List, [], ◌∷◌, Some, refl, subst, arith}
 use Rattle.std.specs.Prelude.{slice_get}
 use Rattle.std.specs.List.{Contains}
-use Rattle.std.proofs.lemmas.Bool.{cases_lt}
+use Rattle.std.proofs.lemmas.Bool.{cases_lt, cases_Bool}
 use Rattle.std.proofs.lemmas.Option.{slice_get_within, get_or_from_slice_get}
 use Rattle.frz_arena.specs.Chosen.{IsFirst, IsFound}
-use Rattle.frz_arena.proofs.Lists.Members.{none_in_empty, in_cases, true_or_false}
+use Rattle.frz_arena.proofs.Lists.Members.{none_in_empty, in_cases}
 
 pub at_in : {X : Type 0} (xs : List X) (i : ℕ) (x : X) → slice_get xs i ≡ Some x → Contains xs x
 at_in xs i x e = (i, slice_get_within xs i x e, get_or_from_slice_get xs i x x e)
@@ -48,7 +48,7 @@ pub first_there : {X : Type 0} (test : X → Bool) (xs : List X) (x : X) → Con
     test x ≡ true → (i : ℕ) × (y : X) × IsFirst test xs i y
 first_there test [] x h t = absurd (none_in_empty x h)
 first_there test (y ∷ ys) x h t =
-    elim (true_or_false (test y)) [
+    elim (cases_Bool (test y)) [
       | inl t1 ↦ (
         zero,
         y,

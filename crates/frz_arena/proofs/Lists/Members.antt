@@ -2,6 +2,7 @@
 use Rattle.std.proofs.Common.{◌≡◌, zero, suc, ◌⊎◌, inl, inr, Bool, true, false, List, [], ◌∷◌, refl, arith}
 use Rattle.std.specs.List.{Contains}
 use Rattle.std.proofs.lemmas.List.Elements.{Contains-append_right}
+use Rattle.std.proofs.lemmas.Bool.{cases_Bool}
 
 pub none_in_empty : {X : Type 0} (x : X) → Contains [] x → ⊥
 none_in_empty x h = omega (arith, h.1)
@@ -17,16 +18,12 @@ pub in_cases : {X : Type 0} (y : X) (xs : List X) (x : X) → Contains (y ∷ xs
 in_cases y xs x (zero, h, e) = inl e
 in_cases y xs x (suc k, h, e) = inr (k, omega (arith, h), e)
 
-pub true_or_false : (b : Bool) → (b ≡ true) ⊎ (b ≡ false)
-true_or_false true = inl refl
-true_or_false false = inr refl
-
 -- some element passes the test, or none does
 pub passes_or_none : {X : Type 0} (test : X → Bool) (xs : List X) →
     ((x : X) × Contains xs x × (test x ≡ true)) ⊎ ((x : X) → Contains xs x → test x ≡ true → ⊥)
 passes_or_none test [] = inr (λ x h _. none_in_empty x h)
 passes_or_none {X} test (y ∷ xs) =
-    elim (true_or_false (test y)) [
+    elim (cases_Bool (test y)) [
       | inl t ↦ inl (y, first_in y xs, t)
       | inr f ↦ elim (passes_or_none test xs) [
         | inl r ↦ inl (r.0, later_in y xs r.0 r.1, r.2)

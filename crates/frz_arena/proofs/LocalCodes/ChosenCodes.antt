@@ -1,11 +1,11 @@
 -- What the chosen_code code says of the codes.
 use Rattle.std.proofs.Common.{◌≡◌, ◌≤◌, ◌+◌, ◌*◌, ◌-◌, ◌/◌, ℕ, ◌⊎◌, inl, inr, Bool, true, false, List, [], ◌∷◌, refl, sym, subst, arith, min, max}
 use Rattle.std.specs.List.{Contains, list_any, list_all, filter}
-use Rattle.std.proofs.lemmas.Bool.{cases_lt, or_right, and_parts}
+use Rattle.std.proofs.lemmas.Bool.{cases_lt, or_right, and_parts, cases_Bool}
 use Rattle.std.proofs.lemmas.Bool.Decides.{nat_tests}
 use Rattle.frz_arena.specs.Codes.{is_win, is_failure}
 use Rattle.frz_arena.specs.LocalCodes.{least, greatest, chosen_code}
-use Rattle.frz_arena.proofs.Lists.Members.{none_in_empty, first_in, later_in, in_cases, true_or_false}
+use Rattle.frz_arena.proofs.Lists.Members.{none_in_empty, first_in, later_in, in_cases}
 
 cases_le : (a b : ℕ) → (min a b ≡ a) ⊎ (min a b ≡ b)
 cases_le a b = elim (cases_lt a b) [ inl h ↦ inl (omega arith) | inr h ↦ inr (omega arith) ]
@@ -38,7 +38,7 @@ pub kept_in : {X : Type 0} (test : X → Bool) (xs : List X) (x : X) → Contain
     Contains (filter test xs) x
 kept_in test [] x h t = absurd (none_in_empty x h)
 kept_in test (y ∷ xs) x h t =
-    elim (true_or_false (test y)) [
+    elim (cases_Bool (test y)) [
       | inl kept ↦ (rw kept
           (elim (in_cases y xs x h) [
             | inl e ↦ subst (λ z. Contains (y ∷ filter test xs) z) e (first_in y (filter test xs))
@@ -52,7 +52,7 @@ pub from_kept : {X : Type 0} (test : X → Bool) (xs : List X) (x : X) → Conta
     Contains xs x × (test x ≡ true)
 from_kept test [] x h = absurd (none_in_empty x h)
 from_kept test (y ∷ xs) x h =
-    elim (true_or_false (test y)) [
+    elim (cases_Bool (test y)) [
       | inl kept ↦ (let k = rw kept at h in
           elim (in_cases y (filter test xs) x k) [
             | inl e ↦ (
@@ -122,7 +122,7 @@ any_from test (y ∷ xs) x h t =
 pub none_from : {X : Type 0} (test : X → Bool) (xs : List X) → list_any test xs ≡ false → (x : X) →
     Contains xs x → test x ≡ false
 none_from test xs f x h =
-    elim (true_or_false (test x))
+    elim (cases_Bool (test x))
     [ inl t ↦ (let k = any_from test xs x h t in absurd (cc)) | inr g ↦ g ]
 
 pub all_from : {X : Type 0} (test : X → Bool) (xs : List X) →
@@ -173,7 +173,7 @@ pub some_from : {X : Type 0} (test : X → Bool) (xs : List X) → list_any test
     (x : X) × Contains xs x × (test x ≡ true)
 some_from test [] h = absurd (cc)
 some_from test (y ∷ xs) h =
-    elim (true_or_false (test y)) [
+    elim (cases_Bool (test y)) [
       | inl t ↦ (y, first_in y xs, t)
       | inr g ↦ (let k = rw g at h in let r = some_from test xs k in
           (r.0, later_in y xs r.0 r.1, r.2))
@@ -193,10 +193,10 @@ pub chosen_sought : {sought shunned : ℕ → Bool} → Kinds sought shunned →
     (w : ℕ) × Contains (c ∷ cs) w × (sought w ≡ true)
     × (chosen_code sought shunned (c ∷ cs) ≡ w + 2)
 chosen_sought {sought} {shunned} k c cs h =
-    elim (true_or_false (list_any sought (c ∷ cs))) [
+    elim (cases_Bool (list_any sought (c ∷ cs))) [
       | inl t ↦ (let l = least_sought sought (c ∷ cs) t in
           (least (filter sought (c ∷ cs)), l.0, l.1, rw t refl))
-      | inr f ↦ elim (true_or_false (list_all shunned (c ∷ cs))) [
+      | inr f ↦ elim (cases_Bool (list_all shunned (c ∷ cs))) [
         | inl a ↦ absurd (
             let g = k.shunned_more (greatest (c ∷ cs))
             (each_of shunned (c ∷ cs) a (greatest (c ∷ cs)) (greatest_in c cs)) in
@@ -226,13 +226,13 @@ pub chosen_shunned : {sought shunned : ℕ → Bool} → Kinds sought shunned �
     shunned (chosen_code sought shunned cs) ≡ true → (x : ℕ) → Contains cs x →
     (shunned x ≡ true) × (x + 2 ≤ chosen_code sought shunned cs)
 chosen_shunned {sought} {shunned} k cs h x i =
-    elim (true_or_false (list_any sought cs)) [
+    elim (cases_Bool (list_any sought cs)) [
       | inl t ↦ absurd (
           let l = least_sought sought cs t in
           let e : chosen_code sought shunned cs ≡ least (filter sought cs) + 2 = rw t refl in
           k.apart (least (filter sought cs) + 2) (k.sought_more (least (filter sought cs)) l.1)
           (subst (λ z. shunned z ≡ true) e h))
-      | inr f ↦ elim (true_or_false (list_all shunned cs)) [
+      | inr f ↦ elim (cases_Bool (list_all shunned cs)) [
         | inl a ↦ (
             let e : chosen_code sought shunned cs ≡ greatest cs + 2 = rw (f, a) refl in
             let g = greatest_above cs x i in
@@ -251,7 +251,7 @@ pub chosen_all : {sought shunned : ℕ → Bool} → Kinds sought shunned →
 chosen_all {sought} {shunned} k c cs m h =
     let a : list_all shunned (c ∷ cs) ≡ true = all_from shunned (c ∷ cs) (λ x i. (h x i).0) in
     let g = greatest_below (c ∷ cs) m (λ x i. (h x i).1) in
-    elim (true_or_false (list_any sought (c ∷ cs))) [
+    elim (cases_Bool (list_any sought (c ∷ cs))) [
       | inl t ↦ absurd (let r = some_from sought (c ∷ cs) t in k.apart r.0 r.2 (h r.0 r.1).0)
       | inr f ↦ (
           let e : chosen_code sought shunned (c ∷ cs) ≡ greatest (c ∷ cs) + 2 = rw (f, a) refl in (
@@ -266,14 +266,14 @@ pub chosen_greatest : {sought shunned : ℕ → Bool} → Kinds sought shunned �
     shunned (chosen_code sought shunned (c ∷ cs)) ≡ true →
     (w : ℕ) × Contains (c ∷ cs) w × (chosen_code sought shunned (c ∷ cs) ≡ w + 2)
 chosen_greatest {sought} {shunned} k c cs h =
-    elim (true_or_false (list_any sought (c ∷ cs))) [
+    elim (cases_Bool (list_any sought (c ∷ cs))) [
       | inl t ↦ absurd (
           let l = least_sought sought (c ∷ cs) t in
           let e : chosen_code sought shunned (c ∷ cs) ≡ least (filter sought (c ∷ cs)) + 2 =
           rw t refl in
           k.apart (least (filter sought (c ∷ cs)) + 2)
           (k.sought_more (least (filter sought (c ∷ cs))) l.1) (subst (λ z. shunned z ≡ true) e h))
-      | inr f ↦ elim (true_or_false (list_all shunned (c ∷ cs))) [
+      | inr f ↦ elim (cases_Bool (list_all shunned (c ∷ cs))) [
         | inl a ↦ (greatest (c ∷ cs), greatest_in c cs, rw (f, a) refl)
         | inr b ↦ absurd (
             let e : chosen_code sought shunned (c ∷ cs) ≡ 1 = rw (f, b) refl in
@@ -301,7 +301,7 @@ chosen_is_greatest {sought} {shunned} k cs w i h =
     let a : list_all shunned cs ≡ true = all_from shunned cs (λ x j. (h x j).0) in
     let below = greatest_below cs w (λ x j. (h x j).1) in
     let above = greatest_above cs w i in
-    elim (true_or_false (list_any sought cs)) [
+    elim (cases_Bool (list_any sought cs)) [
       | inl t ↦ absurd (let r = some_from sought cs t in k.apart r.0 r.2 (h r.0 r.1).0)
       | inr f ↦ (let e : chosen_code sought shunned cs ≡ greatest cs + 2 = rw (f, a) refl in
           omega arith)
@@ -312,9 +312,9 @@ pub chosen_is_hold : (sought shunned : ℕ → Bool) (cs : List ℕ) (w : ℕ) �
     shunned w ≡ false → ((x : ℕ) → Contains cs x → sought x ≡ false) →
     chosen_code sought shunned cs ≡ 1
 chosen_is_hold sought shunned cs w i s none =
-    elim (true_or_false (list_any sought cs)) [
+    elim (cases_Bool (list_any sought cs)) [
       | inl t ↦ absurd (let r = some_from sought cs t in let f = none r.0 r.1 in let y = r.2 in cc)
-      | inr f ↦ elim (true_or_false (list_all shunned cs)) [
+      | inr f ↦ elim (cases_Bool (list_all shunned cs)) [
         | inl a ↦ absurd (let t = each_of shunned cs a w i in cc)
         | inr b ↦ rw (f, b) refl
       ]

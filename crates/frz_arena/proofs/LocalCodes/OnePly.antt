@@ -1,6 +1,7 @@
 -- What the codes one ply on say of a position.
 use Rattle.std.proofs.Common.{◌≡◌, ◌≤◌, ◌<◌, ◌↔◌, ◌+◌, ◌*◌, ℕ, zero, suc, ◌⊎◌, inl, inr, Bool, true, List, [], ◌∷◌, refl, sym, subst, ap, ◌∙◌, arith}
 use Rattle.std.specs.List.{Contains, list_any, list_all, filter}
+use Rattle.std.proofs.lemmas.Bool.{cases_Bool}
 use Rattle.frz_board.specs.declared.man.Colour.{Colour}
 use Rattle.frz_board.specs.Men.{other_of}
 use Rattle.frz_arena.specs.declared.node.Node.TheVariants.{Broken, Mate}
@@ -10,7 +11,7 @@ use Rattle.frz_arena.specs.Plies.{LeadsTo, IsGoodExit, IsBadExit, EachFree, Each
 use Rattle.frz_arena.specs.Codes.{is_win, is_failure, IsWinWithin, IsFailureWithin}
 use Rattle.frz_arena.specs.LocalCodes.{free_codes, all_codes, next_code, chosen_code, least, greatest, own_code, local_code}
 use Rattle.frz_arena.proofs.LocalCodes.ChosenCodes.{win_above, failure_above}
-use Rattle.frz_arena.proofs.Lists.Members.{first_in, passes_or_none, true_or_false}
+use Rattle.frz_arena.proofs.Lists.Members.{first_in, passes_or_none}
 use Rattle.frz_arena.proofs.Plies.Opposed.{wins_later, fails_at_once}
 use Rattle.frz_arena.proofs.LocalCodes.PlyCodes.{broken, mated, mates, stale, moves, waits, node_is, at_broken, at_mated, at_mates, at_stale, at_own, at_other, own_win, own_win_from, own_failure, own_failure_from, other_failure, other_failure_from, other_win, other_win_from, code_among_free, code_among_all, free_of_code, arm_of_code, some_arm, code_of_good, good_of_code, code_of_bad, bad_of_code}
 
@@ -26,10 +27,10 @@ empty_list (c ∷ cs) h = absurd (h c (first_in c cs))
 
 chosen_above : (sought shunned : ℕ → Bool) (cs : List ℕ) → 1 ≤ chosen_code sought shunned cs
 chosen_above sought shunned cs =
-    elim (true_or_false (list_any sought cs)) [
+    elim (cases_Bool (list_any sought cs)) [
       | inl t ↦ (let e : chosen_code sought shunned cs ≡ least (filter sought cs) + 2 = rw t refl in
           omega arith)
-      | inr f ↦ elim (true_or_false (list_all shunned cs)) [
+      | inr f ↦ elim (cases_Bool (list_all shunned cs)) [
         | inl a ↦ (let e : chosen_code sought shunned cs ≡ greatest cs + 2 = rw (f, a) refl in
             omega arith)
         | inr b ↦ (let e : chosen_code sought shunned cs ≡ 1 = rw (f, b) refl in omega arith)

@@ -6,11 +6,11 @@ use Rattle.std.proofs.lemmas.Grind.{common_steps}
 use Rattle.std.proofs.lemmas.List.{take_more}
 use Rattle.std.proofs.lemmas.List.Elements.{filter-append}
 use Rattle.std.proofs.lemmas.List.Folds.{list_all-append, list_any-append}
+use Rattle.std.proofs.lemmas.Bool.{cases_Bool}
 use Rattle.frz_arena.specs.Codes.{is_win, is_failure}
 use Rattle.frz_arena.specs.LocalCodes.{least, greatest, chosen_code, own_code}
 use Rattle.frz_arena.specs.Tallies.{IsTally, tally_code}
 use Rattle.frz_arena.specs.declared.local.Tally.{Tally}
-use Rattle.frz_arena.proofs.Lists.Members.{true_or_false}
 
 greatest_push : (cs : List ℕ) (c : ℕ) → greatest (cs ++ c ∷ []) ≡ max (greatest cs) c
 greatest_push [] c = omega arith
@@ -31,7 +31,7 @@ and_true false = refl
 kept_empty : (test : ℕ → Bool) (cs : List ℕ) → list_any test cs ≡ false → filter test cs ≡ []
 kept_empty test [] h = refl
 kept_empty test (c ∷ cs) h =
-    elim (true_or_false (test c)) [
+    elim (cases_Bool (test c)) [
       | inl t ↦ absurd (let k = rw t at h in cc)
       | inr f ↦ rw f (kept_empty test cs (rw f at h))
     ]
@@ -40,7 +40,7 @@ kept_some : (test : ℕ → Bool) (cs : List ℕ) → list_any test cs ≡ true 
     (d : ℕ) × (ds : List ℕ) × (filter test cs ≡ d ∷ ds)
 kept_some test [] h = absurd (cc)
 kept_some test (c ∷ cs) h =
-    elim (true_or_false (test c)) [
+    elim (cases_Bool (test c)) [
       | inl t ↦ (c, filter test cs, rw t refl)
       | inr f ↦ (let r = kept_some test cs (rw f at h) in (r.0, r.1, rw f r.2))
     ]
@@ -54,12 +54,12 @@ least_kept_push : (test : ℕ → Bool) (cs : List ℕ) (c : ℕ) →
     else least (filter test cs))
 least_kept_push test cs c =
     let e = filter-append test cs (c ∷ []) in
-    elim (true_or_false (test c)) [
+    elim (cases_Bool (test c)) [
       | inr f ↦ (
           let k : filter test (cs ++ c ∷ []) ≡ filter test cs = e
           ∙ (rw f (append_none (filter test cs))) in
           rw f (ap least k))
-      | inl t ↦ elim (true_or_false (list_any test cs)) [
+      | inl t ↦ elim (cases_Bool (list_any test cs)) [
         | inl a ↦ (
             let r = kept_some test cs a in
             let l : least (filter test cs ++ c ∷ []) ≡ min (least (filter test cs)) c = rw r.2

@@ -1,7 +1,7 @@
 -- Whether a side wins or fails within n plies can be decided.
 use Rattle.std.proofs.Common.{◌≡◌, ◌≤◌, ◌<◌, ℕ, zero, suc, ◌⊎◌, inl, inr, Bool, true, false, List, [], ◌∷◌, refl, sym, subst, arith}
 use Rattle.std.specs.List.{Contains}
-use Rattle.std.proofs.lemmas.Bool.{cases_lt}
+use Rattle.std.proofs.lemmas.Bool.{cases_lt, cases_Bool}
 use Rattle.frz_board.specs.declared.man.Colour.{Colour}
 use Rattle.frz_arena.specs.declared.class.Class.{Class}
 use Rattle.frz_arena.specs.declared.class.Class.TheVariants.{Good, Safe, Bad}
@@ -12,7 +12,7 @@ use Rattle.frz_arena.specs.declared.arm.Next.{Next}
 use Rattle.frz_arena.specs.declared.arm.Next.TheVariants.{Inside, Outside}
 use Rattle.frz_arena.specs.Arena.{Arena, IsArm, IsLawful}
 use Rattle.frz_arena.specs.Plies.{LeadsTo, IsGoodExit, IsBadExit, MovesToGood, MovesToBad, IsLost, WinsWithin, FailsWithin}
-use Rattle.frz_arena.proofs.Lists.Members.{none_in_empty, first_in, later_in, in_cases, true_or_false, passes_or_none}
+use Rattle.frz_arena.proofs.Lists.Members.{none_in_empty, first_in, later_in, in_cases, passes_or_none}
 use Rattle.frz_arena.proofs.Plies.NodeKinds.{one_mover, one_mate, mate_or_going}
 use Rattle.frz_arena.proofs.LocalCodes.PlyCodes.{broken, mated, mates, stale, moves, waits, node_is, some_arm}
 
@@ -88,7 +88,7 @@ freely_decided : {M N V : Type 0} (P : Next N V → Type 0) → ((x : Next N V) 
     (a : Arm M N V) → Decided (Freely P a)
 unfolding Freely
 freely_decided P d a =
-    elim (true_or_false a.free) [
+    elim (cases_Bool a.free) [
       | inl t ↦ elim (d a.next) [ inl h ↦ inl (λ _. h) | inr n ↦ inr (λ h. n (h t)) ]
       | inr f ↦ inl (λ t. absurd (cc))
     ]

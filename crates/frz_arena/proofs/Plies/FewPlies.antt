@@ -2,7 +2,7 @@
 use Rattle.std.proofs.Common.{◌≡◌, ◌≢◌, ◌≤◌, ◌<◌, ◌+◌, ◌*◌, ℕ, zero, suc, inl, inr, Bool, true, false, List, [], ◌∷◌, length, refl, sym, subst, ap, ◌∙◌, arith}
 use Rattle.std.specs.Prelude.{eqb}
 use Rattle.std.specs.List.{Contains, list_any, list_all, filter, IsDistinct, AllByRecursion}
-use Rattle.std.proofs.lemmas.Bool.{cases_lt}
+use Rattle.std.proofs.lemmas.Bool.{cases_lt, cases_Bool}
 use Rattle.std.proofs.lemmas.Bool.Decides.{nat_tests}
 use Rattle.std.proofs.lemmas.Map.Keys.{IsDistinct-cons}
 use Rattle.std.proofs.lemmas.Map.Steps.{length-le_from_distinct_below}
@@ -18,7 +18,7 @@ use Rattle.frz_arena.specs.Plies.{LagsWithin}
 use Rattle.frz_arena.specs.Codes.{is_win, is_failure, exit_code}
 use Rattle.frz_arena.specs.LocalCodes.{free_codes, all_codes, least, greatest, chosen_code, own_code, other_code, next_code, local_code, MeetsEquations}
 use Rattle.frz_arena.specs.Names.{IsNumbered}
-use Rattle.frz_arena.proofs.Lists.Members.{none_in_empty, first_in, later_in, in_cases, true_or_false}
+use Rattle.frz_arena.proofs.Lists.Members.{none_in_empty, first_in, later_in, in_cases}
 use Rattle.frz_arena.proofs.LocalCodes.ChosenCodes.{least_sought, greatest_in, some_from}
 use Rattle.frz_arena.proofs.LocalCodes.PlyCodes.{broken, mated, mates, stale, moves, waits, node_is, at_broken, at_mated, at_mates, at_stale, at_own, at_other, free_of_code, arm_of_code, some_arm, code_among_all}
 
@@ -27,9 +27,9 @@ chosen_step : (sought shunned : ℕ → Bool) (c : ℕ) (cs : List ℕ) →
     1 < chosen_code sought shunned (c ∷ cs) →
     (w : ℕ) × Contains (c ∷ cs) w × (chosen_code sought shunned (c ∷ cs) ≡ w + 2)
 chosen_step sought shunned c cs h =
-    elim (true_or_false (list_any sought (c ∷ cs))) [
+    elim (cases_Bool (list_any sought (c ∷ cs))) [
       | inl t ↦ (least (filter sought (c ∷ cs)), (least_sought sought (c ∷ cs) t).0, rw t refl)
-      | inr f ↦ elim (true_or_false (list_all shunned (c ∷ cs))) [
+      | inr f ↦ elim (cases_Bool (list_all shunned (c ∷ cs))) [
         | inl a ↦ (greatest (c ∷ cs), greatest_in c cs, rw (f, a) refl)
         | inr b ↦ absurd (let e : chosen_code sought shunned (c ∷ cs) ≡ 1 = rw (f, b) refl in
             omega arith)

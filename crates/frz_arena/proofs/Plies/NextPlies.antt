@@ -2,6 +2,7 @@
 use Rattle.std.proofs.Common.{◌≡◌, ◌≤◌, ◌+◌, ℕ, inl, inr, Bool, true, false, List, [], ◌∷◌, refl, sym, subst, ap, ◌∙◌, arith}
 use Rattle.std.specs.List.{Contains, list_any, list_all, filter}
 use Rattle.std.proofs.lemmas.Bool.Decides.{nat_tests}
+use Rattle.std.proofs.lemmas.Bool.{cases_Bool}
 use Rattle.frz_board.specs.declared.man.Colour.{Colour}
 use Rattle.frz_board.specs.Men.{other_of}
 use Rattle.frz_arena.specs.declared.node.Node.TheVariants.{Going}
@@ -9,7 +10,7 @@ use Rattle.frz_arena.specs.declared.arm.Arm.{Arm}
 use Rattle.frz_arena.specs.Arena.{Arena, IsArm, IsLawful}
 use Rattle.frz_arena.specs.Codes.{is_win, is_failure}
 use Rattle.frz_arena.specs.LocalCodes.{free_codes, all_codes, least, greatest, chosen_code, own_code, other_code, next_code, local_code}
-use Rattle.frz_arena.proofs.Lists.Members.{none_in_empty, first_in, later_in, true_or_false}
+use Rattle.frz_arena.proofs.Lists.Members.{none_in_empty, first_in, later_in}
 use Rattle.frz_arena.proofs.LocalCodes.ChosenCodes.{none_from, failures_first, chosen_greatest}
 use Rattle.frz_arena.proofs.LocalCodes.PlyCodes.{at_own, at_other, own_win, other_win, code_among_all, free_of_code, arm_of_code, some_arm}
 
@@ -21,7 +22,7 @@ some_not : {X : Type 0} (test : X → Bool) (xs : List X) → list_all test xs �
     (x : X) × Contains xs x × (test x ≡ false)
 some_not test [] h = absurd (cc)
 some_not test (y ∷ xs) h =
-    elim (true_or_false (test y)) [
+    elim (cases_Bool (test y)) [
       | inl t ↦ (let k = rw t at h in let r = some_not test xs k in
           (r.0, later_in y xs r.0 r.1, r.2))
       | inr f ↦ (y, first_in y xs, f)
@@ -31,10 +32,10 @@ some_not test (y ∷ xs) h =
 chosen_one : (sought shunned : ℕ → Bool) (cs : List ℕ) → chosen_code sought shunned cs ≡ 1 →
     (x : ℕ) × Contains cs x × (sought x ≡ false) × (shunned x ≡ false)
 chosen_one sought shunned cs h =
-    elim (true_or_false (list_any sought cs)) [
+    elim (cases_Bool (list_any sought cs)) [
       | inl t ↦ absurd (let e : chosen_code sought shunned cs ≡ least (filter sought cs) + 2 =
           rw t refl in omega arith)
-      | inr f ↦ elim (true_or_false (list_all shunned cs)) [
+      | inr f ↦ elim (cases_Bool (list_all shunned cs)) [
         | inl a ↦ absurd (let e : chosen_code sought shunned cs ≡ greatest cs + 2 =
             rw (f, a) refl in omega arith)
         | inr b ↦ (let r = some_not shunned cs b in (r.0, r.1, none_from sought cs f r.0 r.1, r.2))
@@ -91,7 +92,7 @@ pub other_hold_arms : {M N V : Type 0} (arena : Arena M N V) (side : Colour) (en
 other_hold_arms arena side entry p e h a i =
     let f : other_code (all_codes arena side entry p) ≡ 1 = sym (at_other arena side entry p e)
     ∙ h in
-    elim (true_or_false (list_any is_failure (all_codes arena side entry p))) [
+    elim (cases_Bool (list_any is_failure (all_codes arena side entry p))) [
       | inl t ↦ absurd (let k : other_code (all_codes arena side entry p) ≡ least
           (filter is_failure (all_codes arena side entry p)) + 2 = rw t refl in omega arith)
       | inr g ↦

@@ -3,6 +3,7 @@ use Rattle.std.proofs.Common.{◌≡◌, ◌≤◌, ◌+◌, ◌-◌, ◌==◌, 
 use Rattle.std.specs.Prelude.{slice_get}
 use Rattle.std.specs.List.{Contains}
 use Rattle.std.proofs.lemmas.Bool.Decides.{nat_tests}
+use Rattle.std.proofs.lemmas.Bool.{cases_Bool}
 use Rattle.frz_board.specs.declared.man.Colour.{Colour}
 use Rattle.frz_board.specs.declared.man.Colour.TheVariants.{White, Black}
 use Rattle.frz_board.specs.Men.{other_of, same_colour}
@@ -12,7 +13,7 @@ use Rattle.frz_arena.specs.Arena.{Arena, IsArm, IsLawful}
 use Rattle.frz_arena.specs.Codes.{is_win, is_failure}
 use Rattle.frz_arena.specs.LocalCodes.{free_codes, arm_code, local_code}
 use Rattle.frz_arena.specs.Chosen.{IsFound, is_candidate, IsChosen}
-use Rattle.frz_arena.proofs.Lists.Members.{true_or_false, passes_or_none}
+use Rattle.frz_arena.proofs.Lists.Members.{passes_or_none}
 use Rattle.frz_arena.proofs.LocalCodes.ChosenCodes.{win_above, failure_above, win_and_failure}
 use Rattle.frz_arena.proofs.Lists.FirstOnes.{at_in, first_there}
 use Rattle.frz_arena.proofs.Plies.NextPlies.{own_win_arm, own_hold_arm, other_win_arms, other_win_arm, other_hold_arms, other_hold_arm}
@@ -73,7 +74,7 @@ found_hold {X} with_code c xs x h (inr t) =
           let f = first_there (with_code 0) xs x h t in
           let each : (y : X) → Contains xs y
           → with_code 1 y ≡ false =
-          λ y i. elim (true_or_false (with_code 1 y))
+          λ y i. elim (cases_Bool (with_code 1 y))
           [ inl g ↦ absurd (never y i g) | inr g ↦ g ] in
           (f.0, f.1, inr (each, f.2)))
     ]
@@ -112,7 +113,7 @@ not_win c e = rw e refl
 
 zero_or_one : (c : ℕ) → c ≤ 1 → (c ≡ 1) ⊎ (c ≡ 0)
 zero_or_one c l =
-    elim (true_or_false (c == 1)) [
+    elim (cases_Bool (c == 1)) [
       | inl t ↦ inl (same_number c 1 t)
       | inr f ↦ inr (elim (code_is c) [
         | none e ↦ e
@@ -248,9 +249,9 @@ win_or_hold arena side entry mover p e k f =
 
 pub small_is_no_failure : (c : ℕ) → c ≤ 1 → is_failure c ≡ false
 small_is_no_failure c l =
-    elim (true_or_false (is_failure c))
+    elim (cases_Bool (is_failure c))
     [ inl t ↦ absurd (let h = failure_above c t in omega (arith, l, h)) | inr f ↦ f ]
 
 pub win_is_no_failure : (c : ℕ) → is_win c ≡ true → is_failure c ≡ false
 win_is_no_failure c w =
-    elim (true_or_false (is_failure c)) [ inl t ↦ absurd (win_and_failure c w t) | inr f ↦ f ]
+    elim (cases_Bool (is_failure c)) [ inl t ↦ absurd (win_and_failure c w t) | inr f ↦ f ]

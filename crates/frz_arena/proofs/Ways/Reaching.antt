@@ -1,5 +1,6 @@
 -- A way as far as it has come: what a loop that plays it keeps.
 use Rattle.std.proofs.Common.{◌≡◌, ◌≤◌, ◌<◌, ◌+◌, ◌-◌, ◌*◌, ℕ, suc, ◌⊎◌, inl, inr, true, false, List, [], ◌∷◌, ◌++◌, refl, sym, subst, append_assoc, arith, if◌then◌else◌}
+use Rattle.std.proofs.lemmas.Bool.{cases_Bool}
 use Rattle.frz_board.specs.declared.man.Colour.{Colour}
 use Rattle.frz_board.specs.Men.{same_colour}
 use Rattle.frz_arena.specs.declared.arm.Arm.{Arm}
@@ -12,7 +13,6 @@ use Rattle.frz_arena.specs.Plies.{LeadsTo}
 use Rattle.frz_arena.specs.Chosen.{IsChosen}
 use Rattle.frz_arena.specs.WayEnds.{End, Exit}
 use Rattle.frz_arena.specs.Ways.{Player, Ply, Over, Moves, ByCodes, is_line, IsTaken, IsStop, IsPlyOf, stage, IsWay}
-use Rattle.frz_arena.proofs.Lists.Members.{true_or_false}
 use Rattle.frz_arena.proofs.LocalCodes.ChosenCodes.{win_above}
 use Rattle.frz_arena.proofs.Ways.FoundArms.{chosen_there}
 use Rattle.frz_arena.proofs.Ways.WayParts.{moving, ply_of}
@@ -162,7 +162,7 @@ few_after most k c d f (inr h) = record {
 
 no_win : (c : ℕ) → c ≤ 1 → is_win c ≡ false
 no_win c l =
-    elim (true_or_false (is_win c)) [
+    elim (cases_Bool (is_win c)) [
       | inl t ↦ absurd (let h = win_above c t in omega (arith, l, h))
       | inr f ↦ f
     ]

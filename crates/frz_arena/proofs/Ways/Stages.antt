@@ -1,6 +1,7 @@
 -- What is due at a position of a way, by cases.
 use Rattle.std.proofs.Common.{◌≡◌, ◌==◌, ◌&&◌, ℕ, inl, inr, Bool, true, false, refl, arith}
 use Rattle.std.proofs.lemmas.Bool.Decides.{nat_tests}
+use Rattle.std.proofs.lemmas.Bool.{cases_Bool}
 use Rattle.frz_board.specs.declared.man.Colour.{Colour}
 use Rattle.frz_arena.specs.declared.node.Node.{Node}
 use Rattle.frz_arena.specs.declared.node.Node.TheVariants.{Broken, Mate, Stalemate, Going}
@@ -8,7 +9,6 @@ use Rattle.frz_arena.specs.Codes.{is_failure}
 use Rattle.frz_arena.specs.LocalCodes.{local_code}
 use Rattle.frz_arena.specs.WayEnds.{End, Wrong, NoBound, Mated, Stalemated, Cut}
 use Rattle.frz_arena.specs.Ways.{Player, Stage, Over, Moves, is_cut, stage_of, stage}
-use Rattle.frz_arena.proofs.Lists.Members.{true_or_false}
 
 pub same_number : (a b : ℕ) → (a == b) ≡ true → a ≡ b
 same_number a b e = grind (arith, nat_tests)
@@ -48,7 +48,7 @@ stage_of_is player plies p sound Broken e = broken sound e refl
 stage_of_is player plies p sound (Mate mover) e = mated sound mover e refl
 stage_of_is player plies p sound (Stalemate mover) e = stale sound mover e refl
 stage_of_is player plies p sound (Going mover) e =
-    elim (true_or_false (is_cut player.opponent plies (player.entry p))) [
+    elim (cases_Bool (is_cut player.opponent plies (player.entry p))) [
       | inl t ↦ cut sound mover e t (rw t refl)
       | inr f ↦ moves sound mover e f (rw f refl)
     ]
@@ -60,13 +60,13 @@ and_second false b h = absurd (cc)
 pub stage_is : {M N V S R : Type 0} (player : Player M N V S R) (plies : ℕ) (p : N) →
     StageIs player plies p (stage player plies p)
 stage_is player plies p =
-    elim (true_or_false (player.entry p == local_code player.arena player.side player.entry p)) [
+    elim (cases_Bool (player.entry p == local_code player.arena player.side player.entry p)) [
       | inr f ↦ wrong (λ e.
           (let t = number_same (player.entry p) (local_code player.arena player.side player.entry p)
           e in cc)) (rw f refl)
       | inl t ↦ (let e = same_number (player.entry p)
           (local_code player.arena player.side player.entry p) t in
-          elim (true_or_false ((plies == 0) && is_failure (player.entry p))) [
+          elim (cases_Bool ((plies == 0) && is_failure (player.entry p))) [
             | inl s ↦
                 fails e (and_second (plies == 0) (is_failure (player.entry p)) s) (rw (t, s) refl)
             | inr n ↦
