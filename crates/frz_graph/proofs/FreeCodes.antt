@@ -1,7 +1,6 @@
 -- The codes of the free moves among those of all moves.
-use Rattle.std.proofs.Common.{◌≡◌, ◌<◌, ◌+◌, ◌++◌, ℕ, zero, suc, true, false, List, [], ◌∷◌, map, refl, ap, ◌∙◌, if◌then◌else◌, inl, inr, length, take, get_or, arith, add-one, rules}
+use Rattle.std.proofs.Common.{◌≡◌, ◌<◌, ◌+◌, ◌++◌, ℕ, zero, suc, true, false, List, [], ◌∷◌, map, refl, ap, ◌∙◌, if◌then◌else◌, inl, inr, length, take, get_or, arith, add-one, append-nil}
 use Rattle.std.specs.List.{filter}
-use Rattle.std.proofs.lemmas.Grind.{common_steps}
 use Rattle.std.proofs.lemmas.Bool.{cases_Bool}
 use Rattle.frz_board.specs.Moving.{Step}
 use Rattle.frz_sets.specs.declared.exit.Value.{Value}
@@ -41,9 +40,6 @@ free_next : (arms : List (Arm Step ℕ Value)) (cs : List ℕ) (i : ℕ) (a : Ar
     ++ (if (get_or arms i a).free then get_or cs i 0 ∷ [] else [])
 free_next arms cs i a h e = rw add-one (free_push arms cs i a h e)
 
-append_none : (xs : List ℕ) → xs ++ [] ≡ xs
-append_none xs = search (rules, common_steps)
-
 pub free_one : (arms : List (Arm Step ℕ Value)) (cs : List ℕ) (i : ℕ) (a : Arm Step ℕ Value) →
     (get_or arms i a).free ≡ true → i < length arms → length arms ≡ length cs →
     free_among (take (i + 1) arms) (take (i + 1) cs)
@@ -54,4 +50,4 @@ pub free_none : (arms : List (Arm Step ℕ Value)) (cs : List ℕ) (i : ℕ) (a 
     (get_or arms i a).free ≡ false → i < length arms → length arms ≡ length cs →
     free_among (take (i + 1) arms) (take (i + 1) cs) ≡ free_among (take i arms) (take i cs)
 free_none arms cs i a f h e =
-    free_next arms cs i a h e ∙ (rw f (append_none (free_among (take i arms) (take i cs))))
+    free_next arms cs i a h e ∙ (rw f (append-nil (free_among (take i arms) (take i cs))))

@@ -1,12 +1,12 @@
 -- A tally takes in one code more.
-use Rattle.std.proofs.Common.{◌≡◌, ◌<◌, ◌+◌, ℕ, min, max, take, get_or, Bool, true, false, ◌&&◌, ◌||◌, List, [], ◌∷◌, ◌++◌, refl, sym, subst, ap, ◌∙◌, arith, inl, inr, if◌then◌else◌, rules, length}
+use Rattle.std.proofs.Common.{◌≡◌, ◌<◌, ◌+◌, ℕ, min, max, take, get_or, Bool, true, false, ◌&&◌, ◌||◌, List, [], ◌∷◌, ◌++◌, refl, sym, subst, ap, ◌∙◌, arith, inl, inr, if◌then◌else◌, length, append-nil}
 use Rattle.std.specs.Prelude.{◌==◌}
 use Rattle.std.specs.List.{list_any, list_all, filter}
-use Rattle.std.proofs.lemmas.Grind.{common_steps}
 use Rattle.std.proofs.lemmas.List.{take_more}
 use Rattle.std.proofs.lemmas.List.Elements.{filter-append}
 use Rattle.std.proofs.lemmas.List.Folds.{list_all-append, list_any-append}
 use Rattle.std.proofs.lemmas.Bool.{cases_Bool}
+use Rattle.std.proofs.Math.Bool.{or-false, and-true}
 use Rattle.frz_arena.specs.Codes.{is_win, is_failure}
 use Rattle.frz_arena.specs.LocalCodes.{least, greatest, chosen_code, own_code}
 use Rattle.frz_arena.specs.Tallies.{IsTally, tally_code}
@@ -19,14 +19,6 @@ greatest_push (d ∷ cs) c = let k = greatest_push cs c in omega arith
 least_push : (d : ℕ) (cs : List ℕ) (c : ℕ) → least ((d ∷ cs) ++ c ∷ []) ≡ min (least (d ∷ cs)) c
 least_push d [] c = refl
 least_push d (e ∷ cs) c = let k = least_push e cs c in omega arith
-
-or_false : (b : Bool) → (b || false) ≡ b
-or_false true = refl
-or_false false = refl
-
-and_true : (b : Bool) → (b && true) ≡ b
-and_true true = refl
-and_true false = refl
 
 kept_empty : (test : ℕ → Bool) (cs : List ℕ) → list_any test cs ≡ false → filter test cs ≡ []
 kept_empty test [] h = refl
@@ -45,9 +37,6 @@ kept_some test (c ∷ cs) h =
       | inr f ↦ (let r = kept_some test cs (rw f at h) in (r.0, r.1, rw f r.2))
     ]
 
-append_none : (xs : List ℕ) → xs ++ [] ≡ xs
-append_none xs = search (rules, common_steps)
-
 least_kept_push : (test : ℕ → Bool) (cs : List ℕ) (c : ℕ) →
     least (filter test (cs ++ c ∷ []))
     ≡ (if test c then (if list_any test cs then min (least (filter test cs)) c else c)
@@ -57,7 +46,7 @@ least_kept_push test cs c =
     elim (cases_Bool (test c)) [
       | inr f ↦ (
           let k : filter test (cs ++ c ∷ []) ≡ filter test cs = e
-          ∙ (rw f (append_none (filter test cs))) in
+          ∙ (rw f (append-nil (filter test cs))) in
           rw f (ap least k))
       | inl t ↦ elim (cases_Bool (list_any test cs)) [
         | inl a ↦ (
@@ -83,12 +72,12 @@ tally_push sought shunned cs c t u h any least_is all greatest_is = record {
   any =
       any ∙ (rw h.any (sym
       (list_any-append sought cs (c ∷ []) ∙ ap (λ b. list_any sought cs || b)
-      (or_false (sought c)))));
+      (or-false (sought c)))));
   least = least_is ∙ (rw (h.any, h.least) (sym (least_kept_push sought cs c)));
   all =
       all ∙ (rw h.all (sym
       (list_all-append shunned cs (c ∷ []) ∙ ap (λ b. list_all shunned cs && b)
-      (and_true (shunned c)))));
+      (and-true (shunned c)))));
   greatest = greatest_is ∙ (rw h.greatest (sym (greatest_push cs c)));
 }
 

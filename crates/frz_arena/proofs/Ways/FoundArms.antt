@@ -3,7 +3,7 @@ use Rattle.std.proofs.Common.{◌≡◌, ◌≤◌, ◌+◌, ◌-◌, ◌==◌, 
 use Rattle.std.specs.Prelude.{slice_get}
 use Rattle.std.specs.List.{Contains}
 use Rattle.std.proofs.lemmas.Bool.Decides.{nat_tests}
-use Rattle.std.proofs.lemmas.Bool.{cases_Bool}
+use Rattle.std.proofs.lemmas.Bool.{cases_Bool, eq-eqb, eqb-true}
 use Rattle.frz_board.specs.declared.man.Colour.{Colour}
 use Rattle.frz_board.specs.declared.man.Colour.TheVariants.{White, Black}
 use Rattle.frz_board.specs.Men.{other_of, same_colour}
@@ -19,7 +19,6 @@ use Rattle.frz_arena.proofs.Lists.FirstOnes.{at_in, first_there}
 use Rattle.frz_arena.proofs.Plies.NextPlies.{own_win_arm, own_hold_arm, other_win_arms, other_win_arm, other_hold_arms, other_hold_arm}
 use Rattle.frz_arena.proofs.LocalCodes.PlyCodes.{at_own, own_win}
 use Rattle.frz_arena.proofs.LocalCodes.OnePly.{broken_of_code}
-use Rattle.frz_arena.proofs.Ways.Stages.{same_number, number_same}
 use Rattle.frz_arena.proofs.LocalCodes.UniqueCodes.{code_is, none, hold, win, failure, as_win, as_failure}
 
 pub data MoverIs (side mover : Colour) : Type 0 where
@@ -48,14 +47,14 @@ pub is_one : {M N V : Type 0} (arena : Arena M N V) (side : Colour) (entry : N �
     → arm_code arena side entry a ≡ code → is_candidate arena side entry mover code a ≡ true
 is_one arena side entry mover code a f e =
     candidate_by (same_colour mover side) a.free (arm_code arena side entry a == code) f
-    (number_same (arm_code arena side entry a) code e)
+    (eq-eqb (arm_code arena side entry a) code e)
 
 pub as_one : {M N V : Type 0} (arena : Arena M N V) (side : Colour) (entry : N → ℕ) (mover : Colour)
     (code : ℕ) (a : Arm M N V) → is_candidate arena side entry mover code a ≡ true
     → (same_colour mover side ≡ true → a.free ≡ true) × (arm_code arena side entry a ≡ code)
 as_one arena side entry mover code a h =
     let r = by_candidate (same_colour mover side) a.free (arm_code arena side entry a == code) h in
-    (r.0, same_number (arm_code arena side entry a) code r.1)
+    (r.0, eqb-true (arm_code arena side entry a) code r.1)
 
 -- where some element has the code, one is found
 pub found_win : {X : Type 0} (with_code : ℕ → X → Bool) (c : ℕ) (xs : List X) (x : X) →
@@ -114,10 +113,10 @@ not_win c e = rw e refl
 zero_or_one : (c : ℕ) → c ≤ 1 → (c ≡ 1) ⊎ (c ≡ 0)
 zero_or_one c l =
     elim (cases_Bool (c == 1)) [
-      | inl t ↦ inl (same_number c 1 t)
+      | inl t ↦ inl (eqb-true c 1 t)
       | inr f ↦ inr (elim (code_is c) [
         | none e ↦ e
-        | hold e ↦ absurd (let t = number_same c 1 e in cc)
+        | hold e ↦ absurd (let t = eq-eqb c 1 e in cc)
         | win n e ↦ absurd (omega (arith, e, l))
         | failure n e ↦ absurd (omega (arith, e, l))
       ])

@@ -1,7 +1,8 @@
 -- A way keeps the bound of its start.
-use Rattle.std.proofs.Common.{◌≡◌, ◌≤◌, ◌<◌, ◌+◌, ◌*◌, ◌==◌, ◌&&◌, ◌||◌, ℕ, suc, ◌⊎◌, inl, inr, Bool, true, false, List, [], ◌∷◌, length, refl, sym, subst, ap, ◌∙◌, arith}
+use Rattle.std.proofs.Common.{◌≡◌, ◌≤◌, ◌<◌, ◌+◌, ◌*◌, ◌==◌, ◌&&◌, ℕ, suc, ◌⊎◌, inl, inr, Bool, true, false, List, [], ◌∷◌, length, refl, sym, subst, ap, ◌∙◌, arith}
 use Rattle.std.specs.Prelude.{nat_le}
 use Rattle.std.proofs.lemmas.Bool.Decides.{nat_tests}
+use Rattle.std.proofs.lemmas.Bool.{or_right}
 use Rattle.frz_board.specs.declared.man.Colour.{Colour}
 use Rattle.frz_board.specs.Men.{other_of, same_colour}
 use Rattle.frz_arena.specs.declared.class.Class.{Class}
@@ -55,10 +56,6 @@ as_win_code c n e = subst (λ z. is_win z ≡ true) (sym e) (win_of n)
 same_lag : {N V R : Type 0} {e : End N V R} (lag : V → ℕ) (v u : V) → e ≡ Exit v → e ≡ Exit u →
     lag u ≡ lag v
 same_lag lag v u f g = cc
-
-pub either_way : (a b : Bool) → b ≡ true → (a || b) ≡ true
-either_way true b e = refl
-either_way false b e = e
 
 before_cut : (most k : ℕ) → ((1 == 1) && nat_le most k) ≡ false → k < most
 before_cut most k f = grind (arith, nat_tests)
@@ -199,7 +196,7 @@ exact_way player k s t p (x ∷ xs) e n line c w =
     let ply = first_ply player k s t p x xs e (inr (win_is_no_failure (player.entry p) win)) w in
     let v = subst (λ q. is_win (player.entry q) ≡ true) (sym w.0) win in
     let best = ply.best_win
-    (either_way (same_colour x.mover player.side) (is_line player.opponent) line) v in
+    (or_right (same_colour x.mover player.side) (is_line player.opponent) line) v in
     let d : player.entry x.from ≡ 2 + 2 * n = ap player.entry w.0 ∙ c in
     exact_after player (suc k) w.2.0 t x xs e n
     (λ q m f u. exact_way player (suc k) w.2.0 t q xs e m line f u) x.arm.next (ply.win v).0
@@ -285,7 +282,7 @@ holds_on player x line c ply =
     ] in (
       one,
       ply.best_hold
-          (either_way (same_colour x.mover player.side) (is_line player.opponent) line) one,
+          (or_right (same_colour x.mover player.side) (is_line player.opponent) line) one,
     )
 
 pub drawn_way : {M N V S R : Type 0} (player : Player M N V S R) (k : ℕ) (s t : S) (p : N)

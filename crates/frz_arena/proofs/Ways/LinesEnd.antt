@@ -1,5 +1,6 @@
 -- Each line ends.
 use Rattle.std.proofs.Common.{◌≡◌, ◌≤◌, ◌+◌, ◌*◌, ℕ, zero, suc, ◌⊎◌, inl, inr, Bool, true, false, List, [], ◌∷◌, refl, subst, arith}
+use Rattle.std.proofs.lemmas.Bool.{or_right}
 use Rattle.frz_board.specs.declared.man.Colour.{Colour}
 use Rattle.frz_board.specs.Men.{same_colour}
 use Rattle.frz_arena.specs.declared.node.Node.TheVariants.{Going}
@@ -19,7 +20,7 @@ use Rattle.frz_arena.proofs.Ways.Stages as stages
 use Rattle.frz_arena.proofs.Ways.Stages.{IsSound, over_or_due}
 use Rattle.frz_arena.proofs.Ways.WayParts.{ply_of}
 use Rattle.frz_arena.proofs.Ways.EachPly.{stands_due, never_fails}
-use Rattle.frz_arena.proofs.Ways.KeptWays.{not_yet, line_of, either_way}
+use Rattle.frz_arena.proofs.Ways.KeptWays.{not_yet, line_of}
 
 -- fuel for a line: the plies of a win, or those left of a hold
 pub record Fuel (most k fuel c : ℕ) : Type 0 where
@@ -117,7 +118,7 @@ best_of : {M N V S R : Type 0} (player : Player M N V S R) (most : ℕ) →
     arm_code player.arena player.side player.entry x.arm + 2 ≡ player.entry p
 best_of player most o s p mover x w =
     x.keeps.best_win
-    (either_way (same_colour mover player.side) (is_line player.opponent)
+    (or_right (same_colour mover player.side) (is_line player.opponent)
     (line_of player.opponent most o)) w
 
 held_of : {M N V S R : Type 0} (player : Player M N V S R) (most : ℕ) →
@@ -125,7 +126,7 @@ held_of : {M N V S R : Type 0} (player : Player M N V S R) (most : ℕ) →
     player.entry p ≡ 1 → arm_code player.arena player.side player.entry x.arm ≤ 1
 held_of player most o s p mover x h =
     x.keeps.best_hold
-    (either_way (same_colour mover player.side) (is_line player.opponent)
+    (or_right (same_colour mover player.side) (is_line player.opponent)
     (line_of player.opponent most o)) h
 
 with_ply : {M N V S R : Type 0} (player : Player M N V S R) (k : ℕ) (s : S) (p : N) (mover : Colour)

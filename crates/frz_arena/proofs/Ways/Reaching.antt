@@ -1,6 +1,6 @@
 -- A way as far as it has come: what a loop that plays it keeps.
 use Rattle.std.proofs.Common.{◌≡◌, ◌≤◌, ◌<◌, ◌+◌, ◌-◌, ◌*◌, ℕ, suc, ◌⊎◌, inl, inr, true, false, List, [], ◌∷◌, ◌++◌, refl, sym, subst, append_assoc, arith, if◌then◌else◌}
-use Rattle.std.proofs.lemmas.Bool.{cases_Bool}
+use Rattle.std.proofs.lemmas.Bool.{cases_Bool, or_right}
 use Rattle.frz_board.specs.declared.man.Colour.{Colour}
 use Rattle.frz_board.specs.Men.{same_colour}
 use Rattle.frz_arena.specs.declared.arm.Arm.{Arm}
@@ -17,7 +17,7 @@ use Rattle.frz_arena.proofs.LocalCodes.ChosenCodes.{win_above}
 use Rattle.frz_arena.proofs.Ways.FoundArms.{chosen_there}
 use Rattle.frz_arena.proofs.Ways.WayParts.{moving, ply_of}
 use Rattle.frz_arena.proofs.Ways.EachPly.{stands_due, never_fails}
-use Rattle.frz_arena.proofs.Ways.KeptWays.{either_way, line_of, not_yet}
+use Rattle.frz_arena.proofs.Ways.KeptWays.{line_of, not_yet}
 
 -- after the plies done the way stands at q with the input s, and however it goes on from there, it
 -- is the way from the start with these plies before
@@ -109,7 +109,7 @@ pub next_in_line : {M N V S R : Type 0} (player : Player M N V S R) (most : ℕ)
     ⊎ ((player.entry x.from ≡ 1) × (player.entry p ≤ 1) × (k < most))
 next_in_line {M} {N} {V} player most b input start k s u x p r o h e =
     let keeps = ply_here player input start k s u x r o h in
-    let c = either_way (same_colour x.mover player.side) (is_line player.opponent)
+    let c = or_right (same_colour x.mover player.side) (is_line player.opponent)
     (line_of player.opponent most b) in
     elim (keeps.stands) [
       | inl w ↦

@@ -1,7 +1,6 @@
 -- What is due at a position of a way, by cases.
-use Rattle.std.proofs.Common.{◌≡◌, ◌==◌, ◌&&◌, ℕ, inl, inr, Bool, true, false, refl, arith}
-use Rattle.std.proofs.lemmas.Bool.Decides.{nat_tests}
-use Rattle.std.proofs.lemmas.Bool.{cases_Bool}
+use Rattle.std.proofs.Common.{◌≡◌, ◌==◌, ◌&&◌, ℕ, inl, inr, true, false, refl}
+use Rattle.std.proofs.lemmas.Bool.{cases_Bool, and_parts, eq-eqb, eqb-true}
 use Rattle.frz_board.specs.declared.man.Colour.{Colour}
 use Rattle.frz_arena.specs.declared.node.Node.{Node}
 use Rattle.frz_arena.specs.declared.node.Node.TheVariants.{Broken, Mate, Stalemate, Going}
@@ -9,12 +8,6 @@ use Rattle.frz_arena.specs.Codes.{is_failure}
 use Rattle.frz_arena.specs.LocalCodes.{local_code}
 use Rattle.frz_arena.specs.WayEnds.{End, Wrong, NoBound, Mated, Stalemated, Cut}
 use Rattle.frz_arena.specs.Ways.{Player, Stage, Over, Moves, is_cut, stage_of, stage}
-
-pub same_number : (a b : ℕ) → (a == b) ≡ true → a ≡ b
-same_number a b e = grind (arith, nat_tests)
-
-pub number_same : (a b : ℕ) → a ≡ b → (a == b) ≡ true
-number_same a b e = grind (arith, nat_tests)
 
 -- the kept code is the local one, and a start does not fail
 pub record IsSound {M N V S R : Type 0} (player : Player M N V S R) (plies : ℕ)
@@ -53,22 +46,18 @@ stage_of_is player plies p sound (Going mover) e =
       | inr f ↦ moves sound mover e f (rw f refl)
     ]
 
-and_second : (a b : Bool) → (a && b) ≡ true → b ≡ true
-and_second true b h = h
-and_second false b h = absurd (cc)
-
 pub stage_is : {M N V S R : Type 0} (player : Player M N V S R) (plies : ℕ) (p : N) →
     StageIs player plies p (stage player plies p)
 stage_is player plies p =
     elim (cases_Bool (player.entry p == local_code player.arena player.side player.entry p)) [
       | inr f ↦ wrong (λ e.
-          (let t = number_same (player.entry p) (local_code player.arena player.side player.entry p)
+          (let t = eq-eqb (player.entry p) (local_code player.arena player.side player.entry p)
           e in cc)) (rw f refl)
-      | inl t ↦ (let e = same_number (player.entry p)
+      | inl t ↦ (let e = eqb-true (player.entry p)
           (local_code player.arena player.side player.entry p) t in
           elim (cases_Bool ((plies == 0) && is_failure (player.entry p))) [
             | inl s ↦
-                fails e (and_second (plies == 0) (is_failure (player.entry p)) s) (rw (t, s) refl)
+                fails e (and_parts (plies == 0) (is_failure (player.entry p)) s).1 (rw (t, s) refl)
             | inr n ↦
                 rw (t, n) (stage_of_is player plies p (record { agrees = e; starts = n })
                 (player.arena.node p) refl)

@@ -1,6 +1,7 @@
 -- The parts of a way: how it ends where no ply is left, and its first ply.
-use Rattle.std.proofs.Common.{◌≡◌, ◌==◌, ◌&&◌, ◌||◌, ℕ, ◌⊎◌, inl, inr, Bool, true, false, [], Some, refl, sym, ap, ◌∙◌, arith}
+use Rattle.std.proofs.Common.{◌≡◌, ◌==◌, ◌||◌, ℕ, ◌⊎◌, inl, inr, Bool, true, false, [], Some, refl, sym, ap, ◌∙◌, arith}
 use Rattle.std.specs.Prelude.{slice_get, nat_le}
+use Rattle.std.proofs.lemmas.Bool.{and_parts, eqb-true}
 use Rattle.frz_board.specs.declared.man.Colour.{Colour}
 use Rattle.frz_board.specs.Men.{other_of, same_colour}
 use Rattle.frz_arena.specs.declared.node.Node.TheVariants.{Broken, Mate, Stalemate, Going}
@@ -11,7 +12,7 @@ use Rattle.frz_arena.specs.WayEnds.{End, Wrong, NoBound, Mated, Stalemated, Cut,
 use Rattle.frz_arena.specs.Ways.{Player, Ply, Stage, Over, Moves, Opponent, ByCodes, ByInput, is_cut, is_line, is_by_codes, IsTakenBy, IsStopBy, IsPlyOf, stage, IsWay}
 use Rattle.frz_arena.proofs.Plies.NodeKinds.{other_differs}
 use Rattle.frz_arena.proofs.Ways.Stages as stages
-use Rattle.frz_arena.proofs.Ways.Stages.{IsSound, stage_is, same_number}
+use Rattle.frz_arena.proofs.Ways.Stages.{IsSound, stage_is}
 use Rattle.frz_arena.proofs.Ways.FoundArms.{mover_is, itself, another, chosen_is_at, chosen_free, chosen_win, chosen_hold, any_win, any_hold, small_is_no_failure}
 
 -- a way with no more plies, by its end
@@ -63,10 +64,6 @@ ended player plies s t p end (inr h) =
 moved : {N V R : Type 0} {x : Stage N V R} (a b : Colour) → x ≡ Moves a → x ≡ Moves b → a ≡ b
 moved a b e f = cc
 
-first_of_and : (a b : Bool) → (a && b) ≡ true → a ≡ true
-first_of_and true b h = refl
-first_of_and false b h = absurd (cc)
-
 -- where a ply is due
 pub moving : {M N V S R : Type 0} (player : Player M N V S R) (plies : ℕ) (p : N) (mover : Colour) →
     stage player plies p ≡ Moves mover →
@@ -87,7 +84,7 @@ moving {M} {N} {V} {S} {R} player plies p mover o =
 pub cut_is : {N S R : Type 0} (opponent : Opponent N S R) (plies c : ℕ) →
     is_cut opponent plies c ≡ true → (c ≡ 1) × (is_line opponent ≡ true)
 cut_is (ByCodes most) plies c h =
-    (same_number c 1 (first_of_and (c == 1) (nat_le most plies) h), refl)
+    (eqb-true c 1 ((and_parts (c == 1) (nat_le most plies) h).0), refl)
 cut_is (ByInput read) plies c h = absurd (cc)
 
 -- the ply is by the codes, or the opponent's own choice
