@@ -21,9 +21,10 @@ use Rattle.frz_arena.specs.declared.arm.Arm.{Arm}
 use Rattle.frz_arena.specs.Arena.{LeadsInside}
 use Rattle.frz_arena.specs.Games.{next_by}
 use Rattle.frz_arena.specs.Names.{named_next, name_in}
+use Rattle.frz_arena.proofs.Lemmas.{cases_Option}
 use Rattle.frz_game.specs.Numbers.{is_member, number_of, numbers_by, position_at}
 use Rattle.frz_game.specs.Games.{arm_at, graph_by}
-use Rattle.frz_game.proofs.Graph.{at_or, numbering, arms_missing, arms_there, next_inside, next_outside}
+use Rattle.frz_game.proofs.Graph.{numbering, arms_missing, arms_there, next_inside, next_outside}
 use Rattle.frz_index.proofs.Lemmas.{position_tells}
 
 -- an element of a list of which each has P
@@ -108,7 +109,7 @@ pub different_arms : (rules : RuleLines) (value : Board → Value) (i k l n : �
     LeadsInside ((graph_by rules value).arms i) k n →
     LeadsInside ((graph_by rules value).arms i) l n → k ≡ l
 different_arms rules value i k l n a b =
-    elim (at_or (position_at rules.groups i)) [
+    elim (cases_Option (position_at rules.groups i)) [
       | inl none ↦ absurd (let e = subst (λ xs. LeadsInside xs k n)
           (arms_missing rules value i none) a in let f = e.1 in cc)
       | inr there ↦ (

@@ -1,5 +1,5 @@
 -- The game over numbers: its numbering, its nodes and its arms.
-use Rattle.std.proofs.Common.{◌≡◌, ◌≤◌, ◌<◌, ◌^◌, ℕ, ◌⊎◌, inl, inr, Bool, true, false, List, [], ◌∷◌, map, Option, Some, None, refl, subst, ap, ◌∙◌}
+use Rattle.std.proofs.Common.{◌≡◌, ◌≤◌, ◌<◌, ◌^◌, ℕ, inl, inr, Bool, true, false, List, [], ◌∷◌, map, Some, None, refl, subst, ap, ◌∙◌}
 use Rattle.std.specs.List.{Contains}
 use Rattle.std.proofs.lemmas.Bool.{cases_Bool}
 use Rattle.frz_board.specs.declared.man.Colour.{Colour}
@@ -22,7 +22,7 @@ use Rattle.frz_arena.specs.Arena.{IsArm, IsLawful}
 use Rattle.frz_arena.specs.Games as games
 use Rattle.frz_arena.specs.Names.{IsNumbering, IsNumbered, named, named_next, name_by, name_in, node_at, arms_at}
 use Rattle.frz_arena.specs.Plies.{LagsWithin}
-use Rattle.frz_arena.proofs.Lemmas.{none_in_empty, from_mapped, game_is_lawful, numbered_is, numbers_lawful, going, inside}
+use Rattle.frz_arena.proofs.Lemmas.{none_in_empty, from_mapped, game_is_lawful, numbered_is, numbers_lawful, going, inside, cases_Option}
 use Rattle.frz_graph.specs.Finite.{IsFinite}
 use Rattle.frz_exits.specs.Values.{lag_of}
 use Rattle.frz_exits.proofs.Lemmas.{opposed}
@@ -78,11 +78,6 @@ pub graph_numbered : (rules : RuleLines) (value : Board → Value) →
     IsNumbered (graph_by rules value) (size_of rules.groups)
 graph_numbered rules value =
     numbered_is (numbers_by rules.groups) (arena_by rules value) (numbering rules value)
-
--- a number is of a position, or broken
-pub at_or : (o : Option Board) → (o ≡ None) ⊎ ((p : Board) × (o ≡ Some p))
-at_or None = inl refl
-at_or (Some p) = inr (p, refl)
 
 node_same : (rules : RuleLines) (value : Board → Value) (p : Board) (b : Bool) → b ≡ true →
     games.node_by b (legal_moves_of p) (is_in_check p p.turn) p.turn
@@ -175,7 +170,7 @@ pub exits_small : (rules : RuleLines) (value : Board → Value) → HasSmallLags
     (i : ℕ) (v : Value) (a : Arm Step ℕ Value) →
     IsArm (graph_by rules value) i a → a.next ≡ Outside v → lag_of v ≤ 1000
 exits_small rules value small i v a h e =
-    elim (at_or (position_at rules.groups i)) [
+    elim (cases_Option (position_at rules.groups i)) [
       | inl none ↦
           absurd (none_in_empty a
           (subst (λ (xs : List (Arm Step ℕ Value)). Contains xs a)

@@ -1,5 +1,5 @@
 -- The moves of a number of some rules, from the legal moves of its position.
-use Rattle.std.proofs.Common.{◌≡◌, ◌≢◌, ◌↔◌, ℕ, ◌⊎◌, Bool, true, false, List, [], ◌∷◌, map, Option, Some, None, refl, sym, ◌∙◌, ap, subst, inl, inr}
+use Rattle.std.proofs.Common.{◌≡◌, ◌≢◌, ◌↔◌, ℕ, Bool, true, false, List, [], ◌∷◌, map, Some, refl, sym, ◌∙◌, ap, subst, inl, inr}
 use Rattle.std.specs.List.{Contains}
 use Rattle.frz_board.specs.declared.man.Colour.{Colour}
 use Rattle.frz_board.specs.Boards.{Board}
@@ -15,6 +15,7 @@ use Rattle.frz_arena.specs.Games as games
 use Rattle.frz_arena.specs.Names.{node_at, arms_at, name_by, name_in, named, named_next}
 use Rattle.frz_arena.specs.declared.node.Node.TheVariants.{Broken}
 use Rattle.frz_arena.specs.declared.arm.Next.TheVariants.{Inside}
+use Rattle.frz_arena.proofs.Lemmas.{cases_Option}
 use Rattle.frz_exits.specs.Forbidding.{is_free}
 use Rattle.frz_index.specs.Members.{Member, Num, HasNumber}
 use Rattle.frz_game.specs.Games.{arena_by, graph_by, game_of}
@@ -34,10 +35,6 @@ from_map : {X Y : Type 0} (f : X → Y) (xs : List X) (y : Y) → In y (map f xs
 from_map f [] y h = absurd h
 from_map f (x ∷ xs) y (inl s) = (x, inl refl, s)
 from_map f (x ∷ xs) y (inr t) = let w = from_map f xs y t in (w.0, inr w.1, w.2)
-
-there_or : {X : Type 0} (o : Option X) → (o ≡ None) ⊎ ((x : X) × (o ≡ Some x))
-there_or None = inl refl
-there_or (Some x) = inr (x, refl)
 
 mover_by : (member : Bool) (moves : List Step) (check : Bool) (turn : Colour) → member ≡ true →
     mover_of (node_by member moves check turn) ≡ Some turn
@@ -80,7 +77,7 @@ module _ (known : Known) (rules : RuleLines) (value : Board → Value) where
       × (named (name_in (numbers_by rules.groups)) (games.arm_of (game_of rules value) p m) ≡ a)
   from_arm i a h =
       let among = in_contains ((graph_by rules value).arms i) a h in
-      elim (there_or (position_at rules.groups i)) [
+      elim (cases_Option (position_at rules.groups i)) [
         | inl none ↦
             absurd (subst (λ o. In a
             (arms_at (arena_by rules value) (name_in (numbers_by rules.groups)) o)) none among)
@@ -119,7 +116,7 @@ module _ (known : Known) (rules : RuleLines) (value : Board → Value) where
   pub there : (i : ℕ) → (graph_by rules value).node i ≢ Broken →
       (p : Board) × HasNumber rules.groups i p
       × (mover_of ((graph_by rules value).node i) ≡ Some p.turn)
-  there i whole = elim (there_or (position_at rules.groups i)) [
+  there i whole = elim (cases_Option (position_at rules.groups i)) [
     | inl none ↦ absurd (whole (ap (node_at (arena_by rules value)) none))
     | inr p ↦
         let h = (known.position rules.groups i p.0).0 p.1 in (

@@ -1,5 +1,5 @@
--- Membership, by recursion on the list.
-use Rattle.std.proofs.Common.{◌≡◌, zero, suc, ◌⊎◌, inl, inr, Bool, true, false, List, [], ◌∷◌, refl, arith}
+-- Membership, by recursion on the list, and the cases of an option.
+use Rattle.std.proofs.Common.{◌≡◌, zero, suc, ◌⊎◌, inl, inr, Bool, true, List, [], ◌∷◌, refl, arith, Option, None, Some}
 use Rattle.std.specs.List.{Contains}
 use Rattle.std.proofs.lemmas.List.Elements.{Contains-append_right}
 use Rattle.std.proofs.lemmas.Bool.{cases_Bool}
@@ -17,6 +17,11 @@ pub in_cases : {X : Type 0} (y : X) (xs : List X) (x : X) → Contains (y ∷ xs
     (y ≡ x) ⊎ Contains xs x
 in_cases y xs x (zero, h, e) = inl e
 in_cases y xs x (suc k, h, e) = inr (k, omega (arith, h), e)
+
+-- an option is nothing, or holds something
+pub cases_Option : {X : Type 0} (o : Option X) → (o ≡ None) ⊎ ((x : X) × (o ≡ Some x))
+cases_Option None = inl refl
+cases_Option (Some x) = inr (x, refl)
 
 -- some element passes the test, or none does
 pub passes_or_none : {X : Type 0} (test : X → Bool) (xs : List X) →

@@ -11,8 +11,7 @@ use Rattle.frz_arena.specs.Arena.{IsArm}
 use Rattle.frz_arena.specs.Games.{Game, node_by, next_by, arm_of, arena_of}
 use Rattle.frz_arena.specs.Names.{named, named_next, Numbering, IsNumbering, name_by, node_at, arms_at, numbers_of, name_in}
 use Rattle.frz_arena.specs.Plies.{LeadsTo}
-use Rattle.frz_arena.proofs.Lists.Members.{none_in_empty}
-use Rattle.frz_arena.proofs.Names.NumbersAreNames.{at_or}
+use Rattle.frz_arena.proofs.Lists.Members.{none_in_empty, cases_Option}
 use Rattle.frz_arena.proofs.LocalCodes.PlyCodes.{from_mapped}
 use Rattle.frz_arena.proofs.Ways.RightWays.{member_there, game_closed, numbers_closed}
 
@@ -73,7 +72,7 @@ leads_below : {P M V : Type 0} (game : Game P M V) (numbers : Numbering P) →
     named_next (name_in numbers) (next_by b r v) ≡ Inside q → q < numbers.size
 leads_below game numbers law r v false q e h = absurd (cc)
 leads_below game numbers law r v true q e h =
-    elim (at_or (numbers.number r)) [
+    elim (cases_Option (numbers.number r)) [
       | inl none ↦ absurd (let broken = law.missing r none in
           member_there (game.member r) (game.chess.moves r) (game.chess.in_check r)
           (game.chess.turn r) e broken)

@@ -1,20 +1,17 @@
 -- The arena of the numbers is the same arena with numbers for names.
-use Rattle.std.proofs.Common.{◌≡◌, ◌≢◌, ℕ, ◌⊎◌, inl, inr, [], map, Option, Some, None, refl, sym, ap, ◌∙◌, arith}
+use Rattle.std.proofs.Common.{◌≡◌, ◌≢◌, ℕ, inl, inr, [], map, Option, Some, None, refl, sym, ap, ◌∙◌, arith}
 use Rattle.frz_board.specs.declared.man.Colour.{Colour}
 use Rattle.frz_arena.specs.declared.node.Node.TheVariants.{Going}
 use Rattle.frz_arena.specs.Arena.{Arena, IsLawful}
 use Rattle.frz_arena.specs.Names.{named, IsNaming, IsNumbered, Numbering, IsNumbering, name_by, node_at, arms_at, numbers_of, name_in}
 use Rattle.frz_arena.proofs.Forcing.LawfulGame.{map_empty}
+use Rattle.frz_arena.proofs.Lists.Members.{cases_Option}
 
 -- numbers past the size are broken
-pub at_or : {N : Type 0} (o : Option N) → (o ≡ None) ⊎ ((p : N) × (o ≡ Some p))
-at_or None = inl refl
-at_or (Some p) = inr (p, refl)
-
 pub numbered_is : {M N V : Type 0} (numbers : Numbering N) (arena : Arena M N V) →
     IsNumbering numbers arena → IsNumbered (numbers_of numbers arena) numbers.size
 numbered_is numbers arena law = record {
-  past = λ i h. elim (at_or (numbers.at i)) [
+  past = λ i h. elim (cases_Option (numbers.at i)) [
     | inl e ↦ ap (node_at arena) e
     | inr r ↦ absurd (let k = law.in_size r.0 i (law.number_at r.0 i r.1) in omega arith)
   ];
@@ -38,7 +35,7 @@ pub naming_node : {M N V : Type 0} (numbers : Numbering N) (arena : Arena M N V)
     IsNumbering numbers arena → (p : N) →
     node_at arena (numbers.at (name_by numbers.size (numbers.number p))) ≡ arena.node p
 naming_node numbers arena law p =
-    elim (at_or (numbers.number p)) [
+    elim (cases_Option (numbers.number p)) [
       | inl e ↦ (
           let g = numbered_is numbers arena law in
           let b = g.past numbers.size (omega arith) in
@@ -55,7 +52,7 @@ naming_arms : {M N V : Type 0} (numbers : Numbering N) (arena : Arena M N V) →
     arms_at arena name (numbers.at (name_by numbers.size (numbers.number p)))
     ≡ map (named name) (arena.arms p)
 naming_arms numbers arena law name p mover g =
-    elim (at_or (numbers.number p)) [
+    elim (cases_Option (numbers.number p)) [
       | inl e ↦ absurd (let b = law.missing p e in cc)
       | inr r ↦
           ap (λ o. arms_at arena name (numbers.at (name_by numbers.size o))) r.1

@@ -16,7 +16,8 @@ use Rattle.frz_arena.proofs.LocalCodes.PlyCodes.{at_broken}
 use Rattle.frz_arena.proofs.LocalCodes.UniqueCodes.{solution_is_codes, codes_meet}
 use Rattle.frz_arena.proofs.Bounds.OneBound.{codes_of_bounds, bounds_are_codes, one_bound}
 use Rattle.frz_arena.proofs.Names.SameUnderNames.{same_bounds}
-use Rattle.frz_arena.proofs.Names.NumbersAreNames.{at_or, numbered_is, numbers_lawful, naming_node, naming}
+use Rattle.frz_arena.proofs.Names.NumbersAreNames.{numbered_is, numbers_lawful, naming_node, naming}
+use Rattle.frz_arena.proofs.Lists.Members.{cases_Option}
 
 pub none_past : (codes : List ℕ) (i : ℕ) → length codes ≤ i → slice_index codes i ≡ 0
 none_past codes i h = get_or_past codes i 0 h
@@ -80,7 +81,7 @@ table_is_exact {M} {N} {V} numbers arena numbering law side codes table =
     let zero_past : (i : ℕ) → numbers.size ≤ i
     → entry i ≡ 0 = λ i h. (let m = table.many in none_past codes i (omega arith)) in
     let all : (i : ℕ) → IsCodeAt (numbers_of numbers arena) side i (entry i) = λ i.
-    elim (at_or (numbers.at i)) [
+    elim (cases_Option (numbers.at i)) [
       | inl e ↦ inl (
         ap (node_at arena) e,
         elim (cases_lt i numbers.size) [ inl l ↦ table.broken i l e | inr l ↦ zero_past i l ],
@@ -109,7 +110,7 @@ same_entry : {M N V : Type 0} (numbers : Numbering N) (arena : Arena M N V) →
     IsTable numbers arena side codes → IsTable numbers arena side others → (i : ℕ) →
     i < numbers.size → slice_index codes i ≡ slice_index others i
 same_entry numbers arena numbering side codes others one two i h =
-    elim (at_or (numbers.at i)) [
+    elim (cases_Option (numbers.at i)) [
       | inl e ↦ one.broken i h e ∙ sym (two.broken i h e)
       | inr r ↦ (
           let e = numbering.number_at r.0 i r.1 in

@@ -16,7 +16,6 @@ use Rattle.frz_arena.specs.Names.{Numbering, IsNumbering, named_next, named, nam
 use Rattle.frz_arena.specs.Tables.{IsTable}
 use Rattle.frz_arena.specs.WayEnds.{End}
 use Rattle.frz_arena.specs.Ways.{Ply, Opponent, IsWay, table_player}
-use Rattle.frz_arena.proofs.Names.NumbersAreNames.{at_or}
 use Rattle.frz_arena.proofs.Forcing.OneForces.{one_forces}
 use Rattle.frz_arena.proofs.Forcing.TrueWins.{true_win}
 use Rattle.frz_arena.proofs.Tables.StoredCodes.{stored_hold}
@@ -24,6 +23,7 @@ use Rattle.frz_arena.proofs.Lists.FirstOnes.{at_in, one_at}
 use Rattle.frz_arena.proofs.Ways.FoundChoices.{from_mapped_at}
 use Rattle.frz_arena.proofs.Ways.EachPly.{each_ply, never_fails}
 use Rattle.frz_arena.proofs.Ways.KeptWays.{no_bad_exit}
+use Rattle.frz_arena.proofs.Lists.Members.{cases_Option}
 
 -- a position in the set has a number; one with a number is in the set
 broken_out : {M : Type 0} (b : Bool) (ms : List M) (check : Bool) (turn : Colour) → b ≡ true →
@@ -47,7 +47,7 @@ safe_next : {P M V : Type 0} (game : Game P M V) → TrueExits game → (numbers
     (named_next (name_in numbers) (next_by b q (game.value q)))) ≡ false → (n : ℕ)
     → Forces game.chess mate_alone (other_of side) n q → ⊥
 safe_next game exits numbers law side codes table q true e exit f n g =
-    elim (at_or (numbers.number q)) [
+    elim (cases_Option (numbers.number q)) [
       | inl none ↦
           broken_out (game.member q) (game.chess.moves q) (game.chess.in_check q)
           (game.chess.turn q) e (law.missing q none)
