@@ -13,18 +13,12 @@ use Rattle.frz_arena.specs.Names.{named, named_next, Numbering, IsNumbering, nam
 use Rattle.frz_arena.specs.Plies.{LeadsTo}
 use Rattle.frz_arena.proofs.Lists.Members.{none_in_empty, cases_Option}
 use Rattle.frz_arena.proofs.LocalCodes.PlyCodes.{from_mapped}
-use Rattle.frz_arena.proofs.Ways.RightWays.{member_there, game_closed, numbers_closed}
+use Rattle.frz_arena.proofs.Ways.RightWays.{member_there, game_closed, numbers_closed, in_set}
 
 moves_by : {M : Type 0} (ms : List M) (m : M) (check : Bool) (turn : Colour) (b : Bool) →
     Contains ms m → b ≡ true → node_by b ms check turn ≡ Going turn
 moves_by [] m check turn b i t = absurd (none_in_empty m i)
 moves_by (n ∷ ms) m check turn b i t = rw t refl
-
--- a position that is not broken is of the set
-in_set : {M : Type 0} (b : Bool) (ms : List M) (check : Bool) (turn : Colour) →
-    node_by b ms check turn ≢ Broken → b ≡ true
-in_set true ms check turn h = refl
-in_set false ms check turn h = absurd (h refl)
 
 -- the position of a number that has an arm, and its move
 record MoveAt {P M V : Type 0} (game : Game P M V) (numbers : Numbering P) (i : ℕ)

@@ -59,7 +59,7 @@ right_way player closed eqs k s t p (x ∷ xs) e q kept given g there w =
     (λ p b v. right_way player closed eqs (suc k) w.2.0 t p xs e q kept given g b v) x.arm.next
     (closed.unbroken x.from x.arm (at_in (player.arena.arms x.from) x.place x.arm at)) w.2.2
 
--- the arena of a game is closed
+-- a position of the set is not broken, and one that is not broken is of the set
 pub member_there : {M : Type 0} (b : Bool) (ms : List M) (check : Bool) (turn : Colour) → b ≡ true →
     node_by b ms check turn ≢ Broken
 member_there false ms check turn e f = cc
@@ -67,12 +67,18 @@ member_there true [] true turn e f = cc
 member_there true [] false turn e f = cc
 member_there true (m ∷ ms) check turn e f = cc
 
+pub in_set : {M : Type 0} (b : Bool) (ms : List M) (check : Bool) (turn : Colour) →
+    node_by b ms check turn ≢ Broken → b ≡ true
+in_set true ms check turn h = refl
+in_set false ms check turn h = absurd (h refl)
+
 next_there : {P M V : Type 0} (game : Game P M V) (b : Bool) (q : P) (v : V) → game.member q ≡ b →
     LeadsTo (λ r. (arena_of game).node r ≡ Broken → ⊥) (λ w. ⊤) (next_by b q v)
 next_there game true q v e =
     member_there (game.member q) (game.chess.moves q) (game.chess.in_check q) (game.chess.turn q) e
 next_there game false q v e = tt
 
+-- the arena of a game is closed
 pub game_closed : {P M V : Type 0} (game : Game P M V) → IsClosed (arena_of game)
 game_closed {P} {M} {V} game = record {
   unbroken = λ p a i.

@@ -1,16 +1,15 @@
 -- Where the exits are true, the opponent forces no mate after any ply of a way by a table.
-use Rattle.std.proofs.Common.{◌≡◌, ◌≢◌, ℕ, inl, inr, Bool, true, false, List, Option, None, [], ◌∷◌, Some, map, refl, subst, ap, ◌∙◌}
+use Rattle.std.proofs.Common.{◌≡◌, ℕ, inl, inr, Bool, true, false, List, Option, None, Some, map, refl, subst, ap, ◌∙◌}
 use Rattle.std.specs.Prelude.{slice_get, slice_index}
 use Rattle.std.specs.List.{Contains}
 use Rattle.std.proofs.lemmas.Option.{slice_get-map}
 use Rattle.frz_board.specs.declared.man.Colour.{Colour}
 use Rattle.frz_board.specs.Men.{other_of}
-use Rattle.frz_arena.specs.declared.node.Node.TheVariants.{Broken}
 use Rattle.frz_arena.specs.declared.arm.Arm.{Arm}
 use Rattle.frz_arena.specs.Chess.{Forces, mate_alone}
 use Rattle.frz_arena.specs.Codes.{is_failure}
 use Rattle.frz_arena.specs.Exits.{IsExit, TrueExits}
-use Rattle.frz_arena.specs.Games.{Game, node_by, next_by, arm_of, arena_of}
+use Rattle.frz_arena.specs.Games.{Game, next_by, arm_of, arena_of}
 use Rattle.frz_arena.specs.LocalCodes.{arm_code, next_code}
 use Rattle.frz_arena.specs.Names.{Numbering, IsNumbering, named_next, named, name_by, arms_at, numbers_of, name_in}
 use Rattle.frz_arena.specs.Tables.{IsTable}
@@ -24,19 +23,7 @@ use Rattle.frz_arena.proofs.Ways.FoundChoices.{from_mapped_at}
 use Rattle.frz_arena.proofs.Ways.EachPly.{each_ply, never_fails}
 use Rattle.frz_arena.proofs.Ways.KeptWays.{no_bad_exit}
 use Rattle.frz_arena.proofs.Lists.Members.{cases_Option}
-
--- a position in the set has a number; one with a number is in the set
-broken_out : {M : Type 0} (b : Bool) (ms : List M) (check : Bool) (turn : Colour) → b ≡ true →
-    node_by b ms check turn ≡ Broken → ⊥
-broken_out false ms check turn e f = cc
-broken_out true [] true turn e f = cc
-broken_out true [] false turn e f = cc
-broken_out true (m ∷ ms) check turn e f = cc
-
-in_set : {M : Type 0} (b : Bool) (ms : List M) (check : Bool) (turn : Colour) →
-    node_by b ms check turn ≢ Broken → b ≡ true
-in_set true ms check turn h = refl
-in_set false ms check turn h = absurd (h refl)
+use Rattle.frz_arena.proofs.Ways.RightWays.{member_there, in_set}
 
 -- a position whose code, inside or outside, is no failure
 safe_next : {P M V : Type 0} (game : Game P M V) → TrueExits game → (numbers : Numbering P) →
@@ -49,7 +36,7 @@ safe_next : {P M V : Type 0} (game : Game P M V) → TrueExits game → (numbers
 safe_next game exits numbers law side codes table q true e exit f n g =
     elim (cases_Option (numbers.number q)) [
       | inl none ↦
-          broken_out (game.member q) (game.chess.moves q) (game.chess.in_check q)
+          member_there (game.member q) (game.chess.moves q) (game.chess.in_check q)
           (game.chess.turn q) e (law.missing q none)
       | inr r ↦
           stored_hold game exits numbers side codes table q r.0 e r.1
