@@ -9,7 +9,7 @@ use Rattle.frz_arena.specs.Codes.{is_win, is_failure}
 use Rattle.frz_arena.specs.LocalCodes.{arm_code, local_code}
 use Rattle.frz_arena.specs.Chosen.{IsChosen}
 use Rattle.frz_arena.specs.WayEnds.{End, Wrong, NoBound, Mated, Stalemated, Cut, Stopped}
-use Rattle.frz_arena.specs.Ways.{Player, Ply, Stage, Over, Moves, Opponent, ByCodes, ByInput, is_cut, is_line, is_by_codes, IsTakenBy, IsStopBy, IsPlyOf, stage, IsWay}
+use Rattle.frz_arena.specs.Ways.{Player, Ply, Over, Moves, Opponent, ByCodes, ByInput, is_cut, is_line, is_by_codes, IsTakenBy, IsStopBy, IsPlyOf, stage, IsWay}
 use Rattle.frz_arena.proofs.Plies.NodeKinds.{other_differs}
 use Rattle.frz_arena.proofs.Ways.Stages as stages
 use Rattle.frz_arena.proofs.Ways.Stages.{IsSound, stage_is}
@@ -61,9 +61,6 @@ ended player plies s t p end (inr h) =
     let r = stop_is (same_colour h.0 player.side) player.opponent s t p end h.2 in
     stopped r.0 r.1.0 r.1.1
 
-moved : {N V R : Type 0} {x : Stage N V R} (a b : Colour) → x ≡ Moves a → x ≡ Moves b → a ≡ b
-moved a b e f = cc
-
 -- where a ply is due
 pub moving : {M N V S R : Type 0} (player : Player M N V S R) (plies : ℕ) (p : N) (mover : Colour) →
     stage player plies p ≡ Moves mover →
@@ -77,7 +74,7 @@ moving {M} {N} {V} {S} {R} player plies p mover o =
       | stages.mated s m b e ↦ absurd (cc)
       | stages.stale s m b e ↦ absurd (cc)
       | stages.cut s m b t e ↦ absurd (cc)
-      | stages.moves s m b t e ↦ (let f : m ≡ mover = moved m mover e o in (s, b ∙ ap Going f, t))
+      | stages.moves s m b t e ↦ (let f : m ≡ mover = cc in (s, b ∙ ap Going f, t))
     ]
 
 -- a cut is at a hold, in a line, after its plies
