@@ -5,6 +5,7 @@ use Rattle.frz_board.specs.declared.man.Colour.{Colour}
 use Rattle.frz_arena.specs.declared.class.Class.{Class}
 use Rattle.frz_arena.specs.declared.class.Class.TheVariants.{Good, Safe, Bad}
 use Rattle.frz_board.specs.Men.{other_of}
+use Rattle.frz_board.proofs.Lemmas.{other_other}
 use Rattle.frz_arena.specs.declared.node.Node.TheVariants.{Mate, Going}
 use Rattle.frz_arena.specs.declared.arm.Arm.{Arm}
 use Rattle.frz_arena.specs.Arena.{IsArm}
@@ -12,7 +13,6 @@ use Rattle.frz_arena.specs.Plies.{LeadsTo, IsBadExit, FailsWithin}
 use Rattle.frz_arena.specs.Chess.{Forces, mate_alone}
 use Rattle.frz_arena.specs.Games.{Game, arm_of, arena_of}
 use Rattle.frz_arena.specs.Exits.{IsExit, TrueExits}
-use Rattle.frz_arena.proofs.Plies.NodeKinds.{other_twice}
 use Rattle.frz_arena.proofs.Lists.Members.{none_in_empty, passes_or_none}
 use Rattle.frz_arena.proofs.Plies.Opposed.{fails_at_once}
 use Rattle.frz_arena.proofs.Forcing.WinsForced.{goes, mated_by, leads_inside, move_of, arm_at}
@@ -51,7 +51,7 @@ pub forced_fails : {P M V : Type 0} (game : Game P M V) → TrueExits game →
 forced_fails game exits side zero p b (inl e) = absurd (cc)
 forced_fails game exits side zero p b (inr k) =
     inl (mated_by (game.member p) (game.chess.moves p) (game.chess.in_check p) (game.chess.turn p) b
-    k.no_move k.attacked ∙ ap Mate (k.to_move ∙ other_twice side))
+    k.no_move k.attacked ∙ ap Mate (k.to_move ∙ other_other side))
 forced_fails game exits side (suc n) p b (inl f) = inl (forced_fails game exits side n p b f)
 forced_fails game exits side (suc n) p b (inr (inl e)) = absurd (cc)
 forced_fails game exits side (suc n) p b (inr (inr (inl f))) =
@@ -70,7 +70,7 @@ forced_fails game exits side (suc n) p b (inr (inr (inl f))) =
     ))
 forced_fails {P} {M} {V} game exits side (suc n) p b (inr (inr (inr f))) =
     let g = goes (game.member p) (game.chess.moves p) (game.chess.in_check p) (game.chess.turn p) b
-    f.1 ∙ ap Going (f.0 ∙ other_twice side) in
+    f.1 ∙ ap Going (f.0 ∙ other_other side) in
     let F = FailsWithin (arena_of game) side n in
     let Q = IsBadExit (arena_of game) side in
     let each : (a : Arm M P V) → IsArm (arena_of game) p a → LeadsTo F Q a.next =

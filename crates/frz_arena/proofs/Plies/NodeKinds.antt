@@ -1,5 +1,5 @@
 -- What a position cannot be at once, and the two sides.
-use Rattle.std.proofs.Common.{◌≡◌, refl}
+use Rattle.std.proofs.Common.{◌≡◌}
 use Rattle.frz_board.specs.declared.man.Colour.{Colour}
 use Rattle.frz_board.specs.declared.man.Colour.TheVariants.{White, Black}
 use Rattle.frz_arena.specs.declared.class.Class.{Class}
@@ -11,10 +11,6 @@ use Rattle.frz_arena.specs.declared.node.Node.TheVariants.{Mate, Going}
 pub other_differs : (side : Colour) → other_of side ≡ side → ⊥
 other_differs White e = cc
 other_differs Black e = cc
-
-pub other_twice : (side : Colour) → other_of (other_of side) ≡ side
-other_twice White = refl
-other_twice Black = refl
 
 pub mate_or_going : {x : Node} (a b : Colour) → x ≡ Mate a → x ≡ Going b → ⊥
 mate_or_going a b h k = cc

@@ -2,6 +2,7 @@
 use Rattle.std.proofs.Common.{◌≤◌, ℕ, zero, suc, inl, inr, sym, ap, ◌∙◌}
 use Rattle.frz_board.specs.declared.man.Colour.{Colour}
 use Rattle.frz_board.specs.Men.{other_of}
+use Rattle.frz_board.proofs.Lemmas.{other_other}
 use Rattle.frz_arena.specs.declared.node.Node.TheVariants.{Going}
 use Rattle.frz_arena.specs.declared.arm.Arm.{Arm}
 use Rattle.frz_arena.specs.declared.arm.Next.{Next}
@@ -9,7 +10,6 @@ use Rattle.frz_arena.specs.declared.arm.Next.TheVariants.{Inside, Outside}
 use Rattle.frz_arena.specs.Arena.{Arena, IsArm, IsLawful}
 use Rattle.frz_arena.specs.Plies.{LeadsTo, IsGoodExit, IsBadExit, IsLost, WinsWithin, FailsWithin}
 use Rattle.frz_arena.proofs.Plies.Later.{later}
-use Rattle.frz_arena.proofs.Plies.NodeKinds.{other_twice}
 use Rattle.frz_arena.proofs.Lists.Members.{passes_or_none}
 
 -- a win within n plies is one within k more
@@ -41,7 +41,7 @@ wins_gives_fails arena law side zero p w = inl w
 wins_gives_fails arena law side (suc n) p (inl w) = inl (wins_gives_fails arena law side n p w)
 wins_gives_fails arena law side (suc n) p (inr (inl w)) =
     inr (inl (
-      w.0 ∙ ap Going (sym (other_twice side)),
+      w.0 ∙ ap Going (sym (other_other side)),
       (
         w.1.0,
         w.1.1,
