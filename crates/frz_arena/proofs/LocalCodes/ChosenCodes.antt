@@ -1,8 +1,9 @@
 -- What the chosen_code code says of the codes.
-use Rattle.std.proofs.Common.{◌≡◌, ◌≤◌, ◌+◌, ◌*◌, ◌-◌, ◌/◌, ℕ, ◌⊎◌, inl, inr, Bool, true, false, List, [], ◌∷◌, refl, sym, subst, arith, min, max}
+use Rattle.std.proofs.Common.{◌≡◌, ◌≤◌, ◌+◌, ◌*◌, ◌-◌, ◌/◌, ℕ, ◌⊎◌, inl, inr, Bool, true, false, List, [], ◌∷◌, refl, sym, subst, arith, min, max, ap, ◌∙◌}
 use Rattle.std.specs.List.{Contains, list_any, list_all, filter}
-use Rattle.std.proofs.lemmas.Bool.{cases_lt, or_right, and_parts, cases_Bool}
+use Rattle.std.proofs.lemmas.Bool.{cases_lt, and_parts, cases_Bool}
 use Rattle.std.proofs.lemmas.Bool.Decides.{nat_tests}
+use Rattle.std.proofs.lemmas.List.Folds.{list_any_at}
 use Rattle.frz_arena.specs.Codes.{is_win, is_failure}
 use Rattle.frz_arena.specs.LocalCodes.{least, greatest, chosen_code}
 use Rattle.frz_arena.proofs.Lists.Members.{none_in_empty, first_in, later_in, in_cases}
@@ -112,12 +113,7 @@ greatest_in c (d ∷ cs) =
 
 pub any_from : {X : Type 0} (test : X → Bool) (xs : List X) (x : X) → Contains xs x →
     test x ≡ true → list_any test xs ≡ true
-any_from test [] x h t = absurd (none_in_empty x h)
-any_from test (y ∷ xs) x h t =
-    elim (in_cases y xs x h) [
-      | inl e ↦ (let u : test y ≡ true = cc in rw u refl)
-      | inr i ↦ (let k = any_from test xs x i t in or_right (test y) (list_any test xs) k)
-    ]
+any_from test xs x (i, l, e) t = list_any_at test xs i x l (ap test e ∙ t)
 
 pub none_from : {X : Type 0} (test : X → Bool) (xs : List X) → list_any test xs ≡ false → (x : X) →
     Contains xs x → test x ≡ false
