@@ -1,6 +1,6 @@
 -- The lemmas that the crates above use.
 pub use Rattle.frz_arena.proofs.Bounds.BoundsExist.{win_plies_few, failure_plies_few}
-pub use Rattle.frz_arena.proofs.LocalCodes.ChosenCodes.{from_kept, win_and_failure}
+pub use Rattle.frz_arena.proofs.LocalCodes.ChosenCodes.{from_kept, win_and_failure, win_of, failure_more}
 pub use Rattle.frz_arena.proofs.LocalCodes.CodesByPlies.{AreCodes}
 pub use Rattle.frz_arena.proofs.Forcing.HoldsSafe.{forced_fails}
 pub use Rattle.frz_arena.proofs.Forcing.LawfulGame.{game_is_lawful}
@@ -41,6 +41,7 @@ pub use Rattle.frz_arena.proofs.LocalCodes.UniqueCodes.{
 }
 pub use Rattle.frz_arena.proofs.Forcing.WinsForced.{mated_by, goes, wins_forces}
 pub use Rattle.frz_arena.proofs.Ways.Stages.{IsSound, StageIs, stage_is}
+pub use Rattle.frz_arena.proofs.Ways.FoundArms.{found_at, small_is_no_failure, win_is_no_failure}
 pub use Rattle.frz_arena.proofs.Ways.FoundChoices.{choice_is_arm}
 pub use Rattle.frz_arena.proofs.Ways.Reaching.{
   Reaches,

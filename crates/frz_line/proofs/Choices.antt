@@ -1,6 +1,5 @@
 -- The moves as their mover sees them, one after the other.
-use Rattle.std.proofs.Common.{◌≡◌, ◌<◌, ◌≤◌, ◌+◌, ◌||◌, ◌++◌, not, ℕ, zero, suc, Bool, true, false, inl, inr, Some, List, [], ◌∷◌, refl, sym, ap, ◌∙◌, length, take, get_or, arith}
-use Rattle.std.specs.Prelude.{slice_get}
+use Rattle.std.proofs.Common.{◌≡◌, ◌<◌, ◌≤◌, ◌+◌, ◌||◌, ◌++◌, not, ℕ, zero, suc, Bool, List, [], ◌∷◌, refl, sym, ap, ◌∙◌, length, take, get_or, arith}
 use Rattle.std.proofs.Math.ListN.{set}
 use Rattle.std.proofs.lemmas.List.{take_all, take_more, take_more_set}
 use Rattle.std.proofs.lemmas.Option.{slice_get_within, get_or_from_slice_get}
@@ -10,6 +9,7 @@ use Rattle.frz_arena.specs.declared.arm.Arm.{Arm}
 use Rattle.frz_arena.specs.declared.choice.Choice.{Choice}
 use Rattle.frz_arena.specs.Chosen.{IsFound}
 use Rattle.frz_arena.specs.Choices.{has_code}
+use Rattle.frz_arena.proofs.Lemmas.{found_at}
 use Rattle.frz_line.specs.Sights.{choices_by}
 
 pub length_choices : (own : Bool) (arms : List (Arm Step ℕ Value)) (cs : List ℕ)
@@ -63,13 +63,6 @@ pub filled_all : (own : Bool) (arms : List (Arm Step ℕ Value)) (cs : List ℕ)
 filled_all own arms cs into i l e m done =
     let long = length_choices own arms cs e in
     sym (take_all i into (omega arith)) ∙ (done ∙ take_all i (choices_by own arms cs) (omega arith))
-
--- where the found move stands
-pub found_at : {X : Type 0} (with_code : ℕ → X → Bool) (won : Bool) (c : ℕ) (xs : List X) (i : ℕ)
-    (x : X) → IsFound with_code won c xs i x → slice_get xs i ≡ Some x
-found_at with_code true c xs i x f = f.here
-found_at with_code false c xs i x (inl f) = f.here
-found_at with_code false c xs i x (inr f) = f.1.here
 
 -- its code is the one that was read at its place
 pub found_code : (own : Bool) (arms : List (Arm Step ℕ Value)) (cs : List ℕ) (won : Bool)

@@ -16,13 +16,12 @@ use Rattle.frz_arena.specs.Chosen.{IsFound, IsChosen, is_candidate}
 use Rattle.frz_arena.specs.Codes.{is_win}
 use Rattle.frz_arena.specs.LocalCodes as words
 use Rattle.frz_arena.specs.LocalCodes.{node_code, local_code}
-use Rattle.frz_arena.proofs.Lemmas.{choice_is_arm}
+use Rattle.frz_arena.proofs.Lemmas.{choice_is_arm, found_at}
 use Rattle.frz_exits.specs.Values.{class_of, lag_of}
 use Rattle.frz_graph.specs.EntryCodes.{arm_code}
 use Rattle.frz_graph.specs.Finite.{IsFinite}
 use Rattle.frz_graph.specs.FreeCodes.{free_among}
 use Rattle.frz_line.specs.Sights.{choices_by}
-use Rattle.frz_line.proofs.Choices.{found_at}
 use Rattle.frz_line.proofs.Goings.{seen_by_codes}
 
 pub at_in : (arms : List (Arm Step ℕ Value)) (i : ℕ) (a : Arm Step ℕ Value)

@@ -6,7 +6,6 @@ use Rattle.frz_board.specs.declared.man.Colour.{Colour}
 use Rattle.frz_board.specs.Moving.{Step}
 use Rattle.frz_sets.specs.declared.exit.Value.{Value}
 use Rattle.std.specs.Result.{IsErrAnd}
-use Rattle.std.proofs.lemmas.Bool.{cases_Bool}
 use Rattle.frz_store.specs.Told.{SinkTold, StoreTold, StoreQuiet, StoreFine}
 use Rattle.frz_answer.specs.Answers.{IsLines}
 use Rattle.frz_answer.specs.Texts.{TookText}
@@ -15,7 +14,7 @@ use Rattle.frz_answer.proofs.Lemmas.{took_nothing, took_behind, failed_behind}
 use Rattle.frz_arena.specs.declared.arm.Next.TheVariants.{Inside}
 use Rattle.frz_arena.specs.Arena.{Arena}
 use Rattle.frz_arena.specs.Codes.{is_win, is_failure}
-use Rattle.frz_arena.proofs.Lemmas.{IsFew, line_left, few_after, left_after, few_fits, win_and_failure}
+use Rattle.frz_arena.proofs.Lemmas.{IsFew, line_left, few_after, left_after, few_fits, small_is_no_failure, win_is_no_failure}
 use Rattle.frz_line.specs.declared.end.LineEnd.{LineEnd}
 use Rattle.frz_line.specs.declared.end.LineFault.{LineFault}
 use Rattle.frz_line.specs.declared.end.LineFault.TheVariants as faults
@@ -303,14 +302,10 @@ fits_on size spot number code few t =
     few_fits MOST_PLIES spot.played spot.code (omega arith) few
     (elim t.1 [ inl h ↦ inl h.0 | inr h ↦ inr h.0 ])
 
-small_stands : (code : ℕ) → code ≤ 1 → is_failure code ≡ false
-small_stands code l = grind (arith, nat_tests)
-
 pub stands_on : (size : ℕ) (spot : Spot) (number code : ℕ) → TurnsTo size spot (On number code)
     → is_failure code ≡ false
 stands_on size spot number code t =
     elim t.1 [
-      | inl h ↦ (elim (cases_Bool (is_failure code))
-          [ inl f ↦ absurd (win_and_failure code h.1 f) | inr f ↦ f ])
-      | inr h ↦ small_stands code h.1
+      | inl h ↦ win_is_no_failure code h.1
+      | inr h ↦ small_is_no_failure code h.1
     ]

@@ -21,11 +21,10 @@ use Rattle.frz_arena.specs.Chosen.{IsFirst, IsFound, is_candidate, IsChosen}
 use Rattle.frz_arena.specs.Codes.{is_win, is_failure}
 use Rattle.frz_arena.specs.LocalCodes.{arm_code, local_code, node_code}
 use Rattle.frz_arena.specs.Ways.{Player, Ply, Moves, Opponent, ByCodes, IsTaken, IsTakenBy, stage}
-use Rattle.frz_arena.proofs.Lemmas.{choice_is_arm, from_mapped, reaches_start, chosen_here, ply_here}
+use Rattle.frz_arena.proofs.Lemmas.{choice_is_arm, from_mapped, reaches_start, chosen_here, ply_here, found_at}
 use Rattle.frz_graph.specs.FreeCodes.{free_among}
 use Rattle.frz_line.specs.declared.end.TheConstants.{MOST_PLIES}
 use Rattle.frz_line.specs.Sights.{choices_by, IsNextCode}
-use Rattle.frz_line.proofs.Choices.{found_at}
 
 -- each move leads to the code that was read for it
 abbrev pub seen_arms : List (Arm Step ℕ Value) → List ℕ → List (Arm Step (Option ℕ) Value)

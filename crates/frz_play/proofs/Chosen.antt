@@ -3,7 +3,6 @@ use Rattle.std.proofs.Common.{◌≡◌, ◌<◌, ◌+◌, ℕ, zero, suc, inl, 
 use Rattle.std.specs.Prelude.{slice_get, slice_index, ⊤}
 use Rattle.std.specs.List.{list_any, filter}
 use Rattle.std.proofs.lemmas.Bool.{cases_lt, cases_Bool}
-use Rattle.std.proofs.lemmas.Bool.Decides.{nat_tests}
 use Rattle.std.proofs.lemmas.Option.{slice_get-map, get_or_from_slice_get}
 use Rattle.frz_board.specs.declared.man.Colour.{Colour}
 use Rattle.frz_board.specs.Moving.{Step}
@@ -12,6 +11,7 @@ use Rattle.frz_arena.specs.declared.arm.Arm.{Arm}
 use Rattle.frz_arena.specs.declared.arm.Next.TheVariants.{Inside}
 use Rattle.frz_arena.specs.Codes.{is_failure}
 use Rattle.frz_arena.specs.LocalCodes.{other_code, least}
+use Rattle.frz_arena.proofs.Lemmas.{failure_more}
 use Rattle.frz_graph.specs.EntryCodes.{arm_code, next_code}
 
 -- the code that was read for a move is the one that the file keeps of where it leads
@@ -80,9 +80,6 @@ some_fails (c ∷ cs) (suc i) l t =
       | inr n ↦ record { first = h.first; others = h.others; are = rw n are; any = rw n any }
     ]
 
-two_more : (c : ℕ) → is_failure c ≡ true → is_failure (c + 2) ≡ true
-two_more c h = grind (arith, nat_tests)
-
 -- where the opponent is to move and the code is no failure, no move of his leads to one
 pub other_stands : (cs : List ℕ) (i : ℕ) → is_failure (other_code cs) ≡ false → i < length cs
     → is_failure (get_or cs i 0) ≡ false
@@ -98,6 +95,6 @@ other_stands cs i stands l =
           (least_fails h.first h.others all.0 all.1) in
           let code : other_code cs ≡ least (filter is_failure cs) + 2 = rw any refl in
           let fails : is_failure (other_code cs) ≡ true = subst (λ c. is_failure c ≡ true)
-          (sym code) (two_more (least (filter is_failure cs)) low) in
+          (sym code) (failure_more (least (filter is_failure cs)) low) in
           absurd (cc))
     ]

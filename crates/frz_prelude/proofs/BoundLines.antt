@@ -5,6 +5,7 @@ use Rattle.std.proofs.lemmas.Bool.Decides.{nat_tests}
 use Rattle.frz_arena.specs.declared.bound.Bound.{Bound}
 use Rattle.frz_arena.specs.declared.bound.Bound.TheVariants.{Wins, Holds, Fails}
 use Rattle.frz_arena.specs.Codes.{code_of, is_win}
+use Rattle.frz_arena.proofs.Lemmas.{win_of}
 use Rattle.frz_prelude.specs.BoundLines.{bound_text, kept_words}
 
 -- the words by the tests of the code
@@ -33,9 +34,6 @@ none_said m n = refl
 more_than_one : (n : ℕ) → (2 + 2 * n == 1) ≡ false
 more_than_one n = grind (arith, nat_tests)
 
-win_code : (n : ℕ) → is_win (2 + 2 * n) ≡ true
-win_code n = grind (arith, nat_tests)
-
 win_plies : (n : ℕ) → (2 + 2 * n - 2) / 2 ≡ n
 win_plies n = omega arith
 
@@ -47,7 +45,7 @@ no_win_code m = grind (arith, nat_tests)
 
 pub kept_bound : (b : Bound) → kept_words (code_of b) ≡ bound_text b
 kept_bound (Wins n) =
-    words_are (2 + 2 * n) ∙ by_tests _ _ _ false true n (more_than_one n) (win_code n) (win_plies n)
+    words_are (2 + 2 * n) ∙ by_tests _ _ _ false true n (more_than_one n) (win_of n) (win_plies n)
     ∙ wins_said n
 kept_bound Holds = refl
 kept_bound (Fails m) =

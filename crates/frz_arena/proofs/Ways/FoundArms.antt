@@ -14,7 +14,7 @@ use Rattle.frz_arena.specs.Codes.{is_win, is_failure}
 use Rattle.frz_arena.specs.LocalCodes.{free_codes, arm_code, local_code}
 use Rattle.frz_arena.specs.Chosen.{IsFound, is_candidate, IsChosen}
 use Rattle.frz_arena.proofs.Lists.Members.{passes_or_none}
-use Rattle.frz_arena.proofs.LocalCodes.ChosenCodes.{win_above, failure_above, win_and_failure}
+use Rattle.frz_arena.proofs.LocalCodes.ChosenCodes.{win_above, win_and_failure}
 use Rattle.frz_arena.proofs.Lists.FirstOnes.{at_in, first_there}
 use Rattle.frz_arena.proofs.Plies.NextPlies.{own_win_arm, own_hold_arm, other_win_arms, other_win_arm, other_hold_arms, other_hold_arm}
 use Rattle.frz_arena.proofs.LocalCodes.PlyCodes.{at_own, own_win}
@@ -143,8 +143,8 @@ chosen_there arena law side entry mover p e k (inr h) =
     ]) in
     (f.0, f.1, rw (not_win (entry p) h) f.2)
 
--- what the arm is
-found_at : {X : Type 0} (with_code : ℕ → X → Bool) (won : Bool) (c : ℕ) (xs : List X) (i : ℕ)
+-- what was found is at its place
+pub found_at : {X : Type 0} (with_code : ℕ → X → Bool) (won : Bool) (c : ℕ) (xs : List X) (i : ℕ)
     (x : X) → IsFound with_code won c xs i x → slice_get xs i ≡ Some x
 found_at with_code true c xs i x f = f.here
 found_at with_code false c xs i x (inl f) = f.here
@@ -247,9 +247,7 @@ win_or_hold arena side entry mover p e k f =
     ]
 
 pub small_is_no_failure : (c : ℕ) → c ≤ 1 → is_failure c ≡ false
-small_is_no_failure c l =
-    elim (cases_Bool (is_failure c))
-    [ inl t ↦ absurd (let h = failure_above c t in omega (arith, l, h)) | inr f ↦ f ]
+small_is_no_failure c l = grind (arith, nat_tests)
 
 pub win_is_no_failure : (c : ℕ) → is_win c ≡ true → is_failure c ≡ false
 win_is_no_failure c w =
