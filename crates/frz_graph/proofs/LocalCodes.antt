@@ -18,7 +18,7 @@ use Rattle.frz_graph.specs.FreeCodes.{free_among}
 use Rattle.frz_graph.proofs.FreeCodes.{free_mapped}
 
 -- the code of where a move leads
-same_next : (arena : Arena Step ℕ Value) → arena.class ≡ class_of → arena.lag ≡ lag_of →
+pub same_next : (arena : Arena Step ℕ Value) → arena.class ≡ class_of → arena.lag ≡ lag_of →
     (side : Colour) (entries : List ℕ) (x : Next ℕ Value) →
     next_code side entries x ≡ words.next_code arena side (λ k. slice_index entries k) x
 same_next arena class lag side entries (Inside q) = refl

@@ -6,21 +6,19 @@ use Rattle.frz_board.specs.Men.{same_colour}
 use Rattle.frz_board.specs.Moving.{Step}
 use Rattle.frz_sets.specs.declared.exit.Value.{Value}
 use Rattle.frz_arena.specs.declared.arm.Arm.{Arm}
-use Rattle.frz_arena.specs.declared.arm.Next.{Next}
-use Rattle.frz_arena.specs.declared.arm.Next.TheVariants.{Inside, Outside}
 use Rattle.frz_arena.specs.declared.node.Node.{Node}
 use Rattle.frz_arena.specs.declared.node.Node.TheVariants as nodes
 use Rattle.frz_arena.specs.Arena.{Arena}
 use Rattle.frz_arena.specs.Choices.{choice_of}
 use Rattle.frz_arena.specs.Chosen.{IsChosen}
 use Rattle.frz_arena.specs.Codes.{is_failure}
-use Rattle.frz_arena.specs.LocalCodes as words
 use Rattle.frz_arena.specs.LocalCodes.{local_code}
 use Rattle.frz_arena.specs.Plies.{LeadsTo}
 use Rattle.frz_arena.specs.WayEnds.{End, Wrong, NoBound, Mated, Stalemated, Exit, Cut}
 use Rattle.frz_arena.specs.Ways.{Player, Ply, Opponent, ByCodes, Stage, Over, Moves, is_cut, stage, stage_of, IsTakenBy, IsStopBy, IsWay}
 use Rattle.frz_exits.specs.Values.{class_of, lag_of}
-use Rattle.frz_graph.specs.EntryCodes.{arm_code, next_code}
+use Rattle.frz_graph.specs.EntryCodes.{arm_code}
+use Rattle.frz_graph.proofs.Lemmas.{same_next}
 use Rattle.frz_line.specs.declared.due.Due.{Due}
 use Rattle.frz_line.specs.declared.due.Due.TheVariants as dues
 use Rattle.frz_line.specs.Dues.{due_by, due_on}
@@ -76,12 +74,6 @@ stage_due {M} {S} {R} player k i kept given is_start is_late e l b cut =
     (player.arena.node i)) (dues.Wrong given))) in
     rw (l, e, b) outer
 
-same_code : (arena : Arena Step ℕ Value) → arena.class ≡ class_of → arena.lag ≡ lag_of
-    → (side : Colour) (codes : List ℕ) (x : Next ℕ Value)
-    → next_code side codes x ≡ words.next_code arena side (λ k. slice_index codes k) x
-same_code arena class lag side codes (Inside q) = refl
-same_code arena class lag side codes (Outside v) = rw (class, lag) refl
-
 -- the moves as the program sees them are those of the arena by the codes of the file
 pub seen_by_codes : (arena : Arena Step ℕ Value) → arena.class ≡ class_of → arena.lag ≡ lag_of
     → (side mover : Colour) (codes : List ℕ) (arms : List (Arm Step ℕ Value))
@@ -89,7 +81,7 @@ pub seen_by_codes : (arena : Arena Step ℕ Value) → arena.class ≡ class_of 
     (choice_of arena side (λ i. slice_index codes i) mover) arms
 seen_by_codes arena class lag side mover codes [] = refl
 seen_by_codes arena class lag side mover codes (a ∷ arms) =
-    let code = same_code arena class lag side codes a.next in
+    let code = same_next arena class lag side codes a.next in
     let rest = seen_by_codes arena class lag side mover codes arms in
     rw (code, rest) refl
 
