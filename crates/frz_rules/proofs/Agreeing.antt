@@ -140,12 +140,12 @@ map_agrees : {A B : Type 0} (h : A → B) (f : Form) (ws : List (List ℕ))
 map_agrees h f ws (Ok x) a = a
 map_agrees h f ws (Err rest) a = a
 
-made : Colour → Kind → ℕ → ℕ → Only → Forbid
+abbrev pub made : Colour → Kind → ℕ → ℕ → Only → Forbid
 made c k a b o =
     record { colour = c; kind = k; from = a; to = b; only = o }
 
 pub forbid_agrees : (ws : List (List ℕ)) → Agrees forbid_form ws (forbid_words ws)
-unfolding forbid_words made
+unfolding forbid_words
 forbid_agrees ws =
     slot_agrees colour_of
     (Then (has kind_of)
@@ -183,7 +183,7 @@ or_right : {A : Type 0} (f g : Form) (ws : List (List ℕ)) (r : Result A (List 
 or_right f g ws (Ok x) e z a = rw (e, a) refl
 or_right f g ws (Err rest) e z a = let l = a.1 in (rw (a.0, e) refl, omega arith)
 
-abbrev conds_then : Value × List (List ℕ) → Result (Value × List Condition) (List (List ℕ))
+abbrev pub conds_then : Value × List (List ℕ) → Result (Value × List Condition) (List (List ℕ))
 conds_then v = one_or_more cond_of v.1 >>= λ conds. Ok (v.0, conds)
 
 if_chosen : (v : Value) (w : List ℕ) (ws : List (List ℕ)) (b : Bool) → bytes_eq w (codes "if") ≡ b

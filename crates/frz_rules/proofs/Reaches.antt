@@ -1,6 +1,7 @@
 -- The reach of a form is the greatest number of first words that begin a line of it.
-use Rattle.std.proofs.Common.{◌≡◌, ℕ, zero, suc, ◌+◌, ◌≤◌, Bool, true, false, cond, ◌&&◌, ◌||◌, List, [], ◌∷◌, ◌++◌, length, take, refl, arith, ◌⊎◌, inl, inr}
+use Rattle.std.proofs.Common.{◌≡◌, ℕ, zero, suc, ◌+◌, ◌≤◌, Bool, true, false, cond, List, [], ◌∷◌, ◌++◌, length, take, refl, arith, inl, inr}
 use Rattle.std.specs.List.{list_all}
+use Rattle.std.proofs.lemmas.Bool.{and_parts, or_cases, or_right}
 use Rattle.std.proofs.lemmas.Bool.Decides.{leb_tells}
 use Rattle.std.specs.Prelude.{codes}
 use Rattle.frz_words.specs.Numbers.{number_of}
@@ -8,18 +9,6 @@ use Rattle.frz_words.specs.Squares.{squares_of, set_of}
 use Rattle.frz_rules.specs.Grammar.{Form, fits, reach, line_form, group_form, forbid_form, exit_form, if_form}
 use Rattle.frz_rules.specs.Grammar.Form.{Ends, Then, Many, Or}
 use Rattle.frz_rules.specs.Fronts.{FrontFits, IsGreatestFront}
-
-both_true : (a b : Bool) → (a && b) ≡ true → (a ≡ true) × (b ≡ true)
-both_true true b e = (refl, e)
-both_true false b e = absurd cc
-
-one_true : (a b : Bool) → (a || b) ≡ true → (a ≡ true) ⊎ (b ≡ true)
-one_true true b e = inl refl
-one_true false b e = inr e
-
-right_true : (a b : Bool) → b ≡ true → (a || b) ≡ true
-right_true true b e = refl
-right_true false b e = e
 
 -- each class has a word
 abbrev pub IsPossible : Form → Type 0
@@ -37,7 +26,7 @@ many_within : (p : List ℕ → Bool) (ws rest : List (List ℕ)) (n : ℕ) → 
 many_within p ws rest zero l e = omega arith
 many_within p [] rest (suc n) l e = absurd (omega arith)
 many_within p (w ∷ ws) rest (suc n) l e =
-    let h = both_true (p w) (list_all p (take n ws ++ rest)) e in
+    let h = and_parts (p w) (list_all p (take n ws ++ rest)) e in
     let i : n ≤ reach (Many p) ws = many_within p ws rest n (omega arith) h.1 in
     rw h.0 (omega arith)
 
@@ -49,14 +38,14 @@ within Ends (w ∷ ws) rest (suc n) l e = absurd cc
 within (Then p f) ws rest zero l e = omega arith
 within (Then p f) [] rest (suc n) l e = absurd (omega arith)
 within (Then p f) (w ∷ ws) rest (suc n) l e =
-    let h = both_true (p w) (fits f (take n ws ++ rest)) e in
+    let h = and_parts (p w) (fits f (take n ws ++ rest)) e in
     let i : n ≤ reach f ws = within f ws rest n (omega arith) h.1 in
     rw h.0 (omega arith)
 within (Many p) ws rest zero l e = omega arith
 within (Many p) [] rest (suc n) l e = absurd (omega arith)
 within (Many p) (w ∷ ws) rest (suc n) l e = many_within p (w ∷ ws) rest (suc n) l e
 within (Or f g) ws rest n l e =
-    elim (one_true (fits f (take n ws ++ rest)) (fits g (take n ws ++ rest)) e) [
+    elim (or_cases (fits f (take n ws ++ rest)) (fits g (take n ws ++ rest)) e) [
       | inl h ↦ (let i = within f ws rest n l h in omega arith)
       | inr h ↦ (let i = within g ws rest n l h in omega arith)
     ]
@@ -96,7 +85,7 @@ begins (Or f g) i ws n h =
     elim (leb_tells n (reach f ws)) [
       | inl l ↦ (let r = begins f i.0 ws n l.1 in (r.0, rw r.1 refl))
       | inr l ↦ (let r = begins g i.1 ws n (let k = l.1 in omega arith) in
-          (r.0, right_true (fits f (take n ws ++ r.0)) (fits g (take n ws ++ r.0)) r.1))
+          (r.0, or_right (fits f (take n ws ++ r.0)) (fits g (take n ws ++ r.0)) r.1))
     ]
 
 reach_within : (f : Form) (ws : List (List ℕ)) → reach f ws ≤ length ws

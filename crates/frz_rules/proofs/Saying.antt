@@ -2,12 +2,12 @@
 use Rattle.std.proofs.Common.{◌≡◌, ℕ, suc, ◌+◌, Bool, true, false, cond, ◌&&◌, List, [], ◌∷◌, Option, None, Some, Result, Ok, Err, refl, ap, ◌∙◌, arith}
 use Rattle.std.specs.Prelude.{codes, option_map}
 use Rattle.std.specs.List.{before_first, after_first, position_or_len}
+use Rattle.std.proofs.lemmas.Bool.{and_right}
 use Rattle.frz_board.specs.declared.man.Colour.{Colour}
 use Rattle.frz_board.specs.declared.man.Kind.{Kind}
 use Rattle.frz_words.specs.Squares.{squares_of}
 use Rattle.frz_sets.specs.declared.forbid.Only.{Only}
 use Rattle.frz_sets.specs.declared.forbid.Only.TheVariants.{Capture, Promotion}
-use Rattle.frz_sets.specs.declared.forbid.Forbid.{Forbid}
 use Rattle.frz_sets.specs.declared.exit.Value.{Value}
 use Rattle.frz_sets.specs.declared.exit.Value.TheVariants.{Draw, Unknown}
 use Rattle.frz_sets.specs.Views.{Condition, ExitLine}
@@ -17,7 +17,7 @@ use Rattle.frz_rules.specs.Lines.{with_first, all_of, some_of, group_from, group
 use Rattle.frz_rules.specs.Text.{◌>>=◌}
 use Rattle.frz_rules.specs.Reading.{slot, taken, literal, each_of, more_of, one_or_more, at_least_one, group_words, only_words, forbid_words, then_if, lagged, after_wins, after_colour, value_words, exit_words, read_group, read_exit}
 use Rattle.frz_rules.specs.Grammar.{Form, fits, forbid_form}
-use Rattle.frz_rules.proofs.Agreeing.{Agrees, equal_words, forbid_agrees}
+use Rattle.frz_rules.proofs.Agreeing.{Agrees, equal_words, forbid_agrees, made, conds_then}
 
 abbrev pub ok_of : {A : Type 0} → Result A (List (List ℕ)) → Option A
 ok_of (Ok x) = Some x
@@ -103,10 +103,6 @@ only_said [] = refl
 only_said (w ∷ []) = one_word (is (codes "capture") w) (is (codes "promotion") w) w
 only_said (w ∷ v ∷ vs) = two_words (is (codes "capture") w) (is (codes "promotion") w) w v vs
 
-abbrev made : Colour → Kind → ℕ → ℕ → Only → Forbid
-made c k a b o =
-    record { colour = c; kind = k; from = a; to = b; only = o }
-
 cond_none : {A : Type 0} (b : Bool) (o : Option A) → o ≡ None → cond b o None ≡ None
 cond_none true o e = e
 cond_none false o e = refl
@@ -167,10 +163,6 @@ forbid_colour None c k f s t u end = cond_none (is (codes "from") f && is (codes
 forbid_colour (Some x) c k f s t u end = forbid_kind x (kind_of k) k f s t u end
 
 -- a line that is too short
-and_false : (b : Bool) → (b && false) ≡ false
-and_false true = refl
-and_false false = refl
-
 unfit : {A : Type 0} (f : Form) (ws : List (List ℕ)) (r : Result A (List (List ℕ))) →
     Agrees f ws r → fits f ws ≡ false → None ≡ ok_of r
 unfit f ws (Ok x) a e = absurd cc
@@ -182,11 +174,11 @@ too_short ws e = unfit forbid_form ws (forbid_words ws) (forbid_agrees ws) e
 pub forbid_said : (ws : List (List ℕ)) → forbid_of ws ≡ ok_of (forbid_words ws)
 unfolding forbid_of forbid_words
 forbid_said [] = refl
-forbid_said (c ∷ []) = too_short (c ∷ []) (simp and_false)
-forbid_said (c ∷ k ∷ []) = too_short (c ∷ k ∷ []) (simp and_false)
-forbid_said (c ∷ k ∷ f ∷ []) = too_short (c ∷ k ∷ f ∷ []) (simp and_false)
-forbid_said (c ∷ k ∷ f ∷ s ∷ []) = too_short (c ∷ k ∷ f ∷ s ∷ []) (simp and_false)
-forbid_said (c ∷ k ∷ f ∷ s ∷ t ∷ []) = too_short (c ∷ k ∷ f ∷ s ∷ t ∷ []) (simp and_false)
+forbid_said (c ∷ []) = too_short (c ∷ []) (simp and_right)
+forbid_said (c ∷ k ∷ []) = too_short (c ∷ k ∷ []) (simp and_right)
+forbid_said (c ∷ k ∷ f ∷ []) = too_short (c ∷ k ∷ f ∷ []) (simp and_right)
+forbid_said (c ∷ k ∷ f ∷ s ∷ []) = too_short (c ∷ k ∷ f ∷ s ∷ []) (simp and_right)
+forbid_said (c ∷ k ∷ f ∷ s ∷ t ∷ []) = too_short (c ∷ k ∷ f ∷ s ∷ t ∷ []) (simp and_right)
 forbid_said (c ∷ k ∷ f ∷ s ∷ t ∷ u ∷ end) = forbid_colour (colour_of c) c k f s t u end
 
 -- what stands before and after the word `if`
@@ -214,9 +206,6 @@ after_no w ws e =
 -- what an exit line says, by the words before and after `if`
 abbrev exit_by : List (List ℕ) → List (List ℕ) → Option ExitLine
 exit_by value conds = exit_from (value_of value) (some_of cond_of conds)
-
-abbrev conds_then : Value × List (List ℕ) → Result (Value × List Condition) (List (List ℕ))
-conds_then v = one_or_more cond_of v.1 >>= λ conds. Ok (v.0, conds)
 
 abbrev said : Result (Value × List (List ℕ)) (List (List ℕ)) → Option ExitLine
 said r = option_map read_exit (ok_of (r >>= conds_then))

@@ -363,7 +363,7 @@ text_case : (b : Bool) (ls : List (ℕ × List (List ℕ))) (r : RuleLines) (f :
 text_case true ls r f e = absurd cc
 text_case false ls r f e = header_sound ls r e
 
-text_sound : (text : List ℕ) (r : RuleLines) → rules_of text ≡ Ok r → IsSound r
+pub text_sound : (text : List ℕ) (r : RuleLines) → rules_of text ≡ Ok r → IsSound r
 unfolding rules_of
 text_sound text r e =
     text_case (nat_lt 65536 (length text)) (significant (numbered 1 (lines text))) r
