@@ -180,8 +180,9 @@ pub place_low : (p : Board) (g : GroupLine) (chart : Chart) (i men s : ℕ) → 
     s < 64 → slice_index chart.cuts (64 * i + s) ≤ length g.states
 place_low p g chart i men s h l = (cut p g chart i men s h (omega arith)).within
 
-turned : (a b : ℕ) → (a == b) ≡ (b == a)
-turned a b = grind (arith, nat_tests)
+-- equality tested the other way round
+pub eqb_swap : (a b : ℕ) → (a == b) ≡ (b == a)
+eqb_swap a b = grind (arith, nat_tests)
 
 one_more : (a b : Bool) → cond a true b ≡ (a || b)
 one_more true b = refl
@@ -195,7 +196,7 @@ pub met_on : (p : Board) (g : GroupLine) (chart : Chart) (i men s : ℕ) →
     AreMen p g chart i men → s < 64 → has_square men s ≡ true →
     is_on_only g (slice_index chart.cuts (64 * i + s)) s
 met_on p g chart i men s h l t k =
-    ap (is_on k) (met p g chart i men s h l t).state ∙ turned s k
+    ap (is_on k) (met p g chart i men s h l t).state ∙ eqb_swap s k
 
 -- the count, the rank and the squares go on
 pub counted_on : (p : Board) (g : GroupLine) (place s a b : ℕ) (ways : ℕ) (x y : Counted) →

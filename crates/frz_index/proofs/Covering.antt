@@ -3,7 +3,7 @@ use Rattle.std.proofs.Common.{◌≡◌, ℕ, zero, suc, ◌+◌, ◌<◌, ◌�
 use Rattle.std.specs.Prelude.{◌==◌}
 use Rattle.std.specs.List.{AllByRecursion, list_any, slice_get}
 use Rattle.std.proofs.Math.Seq.{take_all}
-use Rattle.std.proofs.lemmas.Bool.{and_from, and_parts, cases_Bool, cases_eq, eq-eqb, eqb-true}
+use Rattle.std.proofs.lemmas.Bool.{and_from, and_parts, cases_Bool, cases_eq, eq-eqb, eqb-true, or_right}
 use Rattle.std.proofs.lemmas.Bool.Decides.{nat_tests}
 use Rattle.std.proofs.lemmas.List.Folds.{list_any_more}
 use Rattle.std.proofs.lemmas.Option.{slice_get_within}
@@ -51,10 +51,6 @@ passing f q (suc n) h =
           (ap (λ b. list_any q (cond b (n ∷ places_below f n) (places_below f n))) e) ∙ h))
     ]
 
-or_last : (a b : Bool) → b ≡ true → (a || b) ≡ true
-or_last true b h = refl
-or_last false b h = h
-
 passed : (f q : ℕ → Bool) (n k : ℕ) → k < n → f k ≡ true → q k ≡ true →
     list_any q (places_below f n) ≡ true
 passed f q zero k l e t = absurd (omega (arith, l))
@@ -69,7 +65,7 @@ passed f q (suc n) k l e t =
           elim (cases_Bool (f n)) [
             | inl on ↦
                 ap (λ b. list_any q (cond b (n ∷ places_below f n) (places_below f n))) on
-                ∙ or_last (q n) (list_any q (places_below f n)) rest
+                ∙ or_right (q n) (list_any q (places_below f n)) rest
             | inr off ↦
                 ap (λ b. list_any q (cond b (n ∷ places_below f n) (places_below f n))) off ∙ rest
           ]

@@ -18,7 +18,7 @@ use Rattle.frz_squares.specs.Squares.{squares}
 use Rattle.frz_sets.specs.Sets.{is_possible, radices, targets}
 use Rattle.frz_sets.specs.Views.{GroupLine}
 use Rattle.frz_index.proofs.DigitByDigit.{length-old_digits}
-use Rattle.frz_index.proofs.Turns.{target_place}
+use Rattle.frz_index.proofs.Turns.{place_at, target_place}
 use Rattle.frz_index.proofs.WholeNumbers.{candidate-Num, turn_fits}
 use Rattle.frz_index.specs.Candidates.{candidate}
 use Rattle.frz_index.specs.Members.{Member, Num}
@@ -193,10 +193,6 @@ OldNum_once gs p q m k e =
     ∙ candidate-Num gs q k
 
 -- the turn state by the possible targets before the target
-place_at : (t a : ℕ) (ys : List ℕ) (b : Bool) → (t == a) ≡ b →
-    place_of t (a ∷ ys) ≡ cond b 0 (suc (place_of t ys))
-place_at t a ys b e = ap (λ b. cond b 0 (suc (place_of t ys))) e
-
 place_before : (f : ℕ → Bool) (t : ℕ) → f t ≡ true → (n a : ℕ) → a ≤ t → t < a + n →
     place_of t (filter f (range_with_len a n)) ≡ length (filter f (range_with_len a (t - a)))
 place_before f t e zero a low high = absurd (omega arith)

@@ -1,5 +1,5 @@
 -- The groups one after another.
-use Rattle.std.proofs.Common.{◌≡◌, ◌≢◌, Bool, true, false, cond, ℕ, zero, suc, ◌+◌, ◌*◌, ◌/◌, ◌%◌, ◌<◌, ◌≤◌, List, [], ◌∷◌, length, map, drop, get_or, slice_index, refl, ap, sym, ◌∙◌, subst, arith, add-one, mul_assoc}
+use Rattle.std.proofs.Common.{◌≡◌, ◌≢◌, true, false, cond, ℕ, zero, suc, ◌+◌, ◌*◌, ◌/◌, ◌%◌, ◌<◌, ◌≤◌, List, [], ◌∷◌, length, map, drop, get_or, slice_index, refl, ap, sym, ◌∙◌, subst, arith, add-one, mul_assoc}
 use Rattle.std.specs.List.{AllByRecursion}
 use Rattle.std.proofs.Math.Seq.{drop-cons}
 use Rattle.std.proofs.Math.Nat.{add-mul}
@@ -13,6 +13,7 @@ use Rattle.frz_combinations.proofs.Lemmas.{places_descend}
 use Rattle.frz_combinations.proofs.Lemmas.{digit_below}
 use Rattle.frz_combinations.specs.Binomials.{capped}
 use Rattle.frz_combinations.specs.MixedRadix.{digits, product, value}
+use Rattle.frz_index.proofs.Turns.{place_at}
 use Rattle.frz_index.specs.Candidates.{put_group, put_groups}
 use Rattle.frz_index.specs.Kept.{AreNumberable, AreWeights, product_from}
 use Rattle.frz_sets.specs.Sound.{IsCounted}
@@ -163,22 +164,18 @@ put_end gs i rest cells h =
     sym (ap (λ xs. put_groups xs (digits (map radix_of xs) rest) cells) (drop_end gs i h))
 
 -- the place of a number in what is left of a list
-place_first : (t y : ℕ) (ys : List ℕ) (b : Bool) → (t == y) ≡ b →
-    place_of t (y ∷ ys) ≡ cond b 0 (suc (place_of t ys))
-place_first t y ys b e = ap (λ b. cond b 0 (suc (place_of t ys))) e
-
 pub place_here : (xs : List ℕ) (i t : ℕ) → i < length xs → t ≡ get_or xs i 0 →
     place_of t (drop i xs) ≡ 0
 place_here xs i t h e =
     ap (place_of t) (drop-cons xs i 0 h)
-    ∙ place_first t (get_or xs i 0) (drop (suc i) xs) true (eq-eqb t (get_or xs i 0) e)
+    ∙ place_at t (get_or xs i 0) (drop (suc i) xs) true (eq-eqb t (get_or xs i 0) e)
 
 pub place_later : (xs : List ℕ) (i t : ℕ) → i < length xs → t ≢ get_or xs i 0 →
     place_of t (drop i xs) ≡ suc (place_of t (drop (i + 1) xs))
 place_later xs i t h e =
     let test : (t == get_or xs i 0) ≡ false = grind (arith, nat_tests) in
     ap (place_of t) (drop-cons xs i 0 h)
-    ∙ place_first t (get_or xs i 0) (drop (suc i) xs) false test
+    ∙ place_at t (get_or xs i 0) (drop (suc i) xs) false test
     ∙ ap (λ n. suc (place_of t (drop n xs))) (sym (add-one i))
 
 pub place_end : (xs : List ℕ) (i t : ℕ) → length xs ≤ i → place_of t (drop i xs) ≡ 0

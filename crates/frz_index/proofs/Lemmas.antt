@@ -1,9 +1,11 @@
 -- The lemmas that crates above cite.
 pub use Rattle.frz_index.proofs.AtNumbers.{is_candidate}
-pub use Rattle.frz_index.proofs.RoomForMen.{room_where}
+pub use Rattle.frz_index.proofs.Counting.{eqb_swap}
+pub use Rattle.frz_index.proofs.RoomForMen.{room_where, same_man}
 pub use Rattle.frz_index.proofs.Turns.{target_possible}
 pub use Rattle.frz_index.proofs.WholeNumbers.{Num_below, candidate-Num}
 pub use Rattle.frz_index.proofs.Membership.{
+  none_or_some,
   member_of,
   of_member,
   number_there,

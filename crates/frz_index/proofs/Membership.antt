@@ -2,7 +2,7 @@
 use Rattle.std.proofs.Common.{◌≡◌, ◌≢◌, ◌<◌, ◌↔◌, ℕ, zero, suc, ◌⊎◌, inl, inr, Bool, true, false, ◌&&◌, ◌||◌, List, [], ◌∷◌, length, Option, Some, None, refl, sym, subst, ap, ◌∙◌, arith}
 use Rattle.std.specs.Prelude.{is_ok, not, MatchOption, ◌==◌, All, slice_index, nat_lt, nat_le, IsSome, IfSome}
 use Rattle.std.specs.List.{list_all, AllByRecursion}
-use Rattle.std.proofs.lemmas.Bool.{leb-true, le-leb, eqb-true, eq-eqb, ltb-true, lt-ltb, and_parts, and_from, or_cases, false_from_ne_true}
+use Rattle.std.proofs.lemmas.Bool.{cases_Bool, leb-true, le-leb, eqb-true, eq-eqb, ltb-true, lt-ltb, and_parts, and_from, or_cases, false_from_ne_true}
 use Rattle.frz_board.specs.Men.{other_of}
 use Rattle.frz_board.specs.Boards.{Board, CellsFit, is_empty}
 use Rattle.frz_board.specs.Attacks.{is_in_check}
@@ -17,10 +17,6 @@ use Rattle.frz_index.specs.Members.{Member, Num, HasNumber}
 use Rattle.frz_index.specs.Candidates.{candidate}
 use Rattle.frz_index.proofs.WholeNumbers.{candidate-Num}
 use Rattle.frz_index.specs.Membership.{are_cells, is_valid, are_men_covered, is_counted, is_member, number_of, position_at}
-
-true_or_false : (b : Bool) → (b ≡ true) ⊎ (b ≡ false)
-true_or_false true = inl refl
-true_or_false false = inr refl
 
 all_small : (cells : List ℕ) → list_all (λ c. nat_lt c 13) cells ≡ true → All (λ c. c < 13) cells
 all_small [] h k d l = absurd (omega (arith, l))
@@ -114,7 +110,7 @@ pub of_men : (gs : List GroupLine) (p : Board) →
 unfolding are_men_covered
 of_men gs p h =
     all_squares (λ s. is_empty p s || has_state gs (slice_index p.cells s) s)
-    (λ s l. elim (true_or_false (is_empty p s)) [
+    (λ s l. elim (cases_Bool (is_empty p s)) [
       | inl t ↦ either_or (is_empty p s) (has_state gs (slice_index p.cells s) s) (inl t)
       | inr f ↦ either_or (is_empty p s) (has_state gs (slice_index p.cells s) s)
           (inr (h s l (λ e.
@@ -179,7 +175,7 @@ number_missing gs p m = rw m refl
 pub number_tells : (gs : List GroupLine) (p : Board) (i : ℕ) → number_of gs p ≡ Some i →
     (is_member gs p ≡ true) × (Num gs p ≡ i)
 number_tells gs p i e =
-    elim (true_or_false (is_member gs p)) [
+    elim (cases_Bool (is_member gs p)) [
       | inl t ↦ (t, (let k = number_there gs p t in cc))
       | inr f ↦ absurd (let k = number_missing gs p f in cc)
     ]
@@ -213,7 +209,7 @@ position_missing gs i h = rw h refl
 pub position_tells : (gs : List GroupLine) (i : ℕ) (p : Board) → position_at gs i ≡ Some p →
     HasNumber gs i p
 position_tells gs i p e =
-    elim (true_or_false (is_member gs (candidate gs i) && (Num gs (candidate gs i) == i))) [
+    elim (cases_Bool (is_member gs (candidate gs i) && (Num gs (candidate gs i) == i))) [
       | inl t ↦ (
           let parts = and_parts (is_member gs (candidate gs i)) (Num gs (candidate gs i) == i) t in
           let n = eqb-true (Num gs (candidate gs i)) i parts.1 in
@@ -242,9 +238,10 @@ number_answer gs q None h n =
     (false_from_ne_true (is_member gs q) (λ t. (let k = h.1 (member_of gs q t) in cc))))
 number_answer gs q (Some i) h n = ap Some n ∙ sym (number_there gs q (of_member gs q (h.0 refl)))
 
-none_or_some : (o : Option Board) → (o ≡ None) ⊎ ((p : Board) × (o ≡ Some p))
+-- there is none, or one
+pub none_or_some : {X : Type 0} (o : Option X) → (o ≡ None) ⊎ ((x : X) × (o ≡ Some x))
 none_or_some None = inl refl
-none_or_some (Some p) = inr (p, refl)
+none_or_some (Some x) = inr (x, refl)
 
 pub position_answer : (gs : List GroupLine) (i : ℕ) (o : Option Board) →
     ((p : Board) → (o ≡ Some p) ↔ HasNumber gs i p) → o ≡ position_at gs i

@@ -33,18 +33,14 @@ product_end g s k so_far es ek e =
     e ∙ ap (λ x. capped (product (radices_from x g.least 0 k))) es
     ∙ ap (λ n. capped (product (radices_from (length g.states) g.least 0 n))) ek
 
-regroup : (t r p : ℕ) → t * r * p ≡ r * (t * p)
-regroup t r p = grind arith
-
-turned : (t r p : ℕ) → r * (t * p) ≡ t * (r * p)
-turned t r p = grind arith
-
 times_step : (t r n p rest : ℕ) → r ≡ capped p → n ≡ capped (t * r) →
     capped (n * rest) ≡ capped (t * (p * rest))
 times_step t r n p rest er en =
+    let inward : t * capped p * rest ≡ capped p * (t * rest) = grind arith in
+    let outward : p * (t * rest) ≡ t * (p * rest) = grind arith in
     ap (λ x. capped (x * rest)) en ∙ capped_times (t * r) rest
-    ∙ ap (λ x. capped (t * x * rest)) er ∙ ap capped (regroup t (capped p) rest)
-    ∙ capped_times p (t * rest) ∙ ap capped (turned t p rest)
+    ∙ ap (λ x. capped (t * x * rest)) er ∙ ap capped inward
+    ∙ capped_times p (t * rest) ∙ ap capped outward
 
 -- the turn states times the radices of the first i groups make this number
 pub record OldTimes (gs : List GroupLine) (i total : ℕ) : Type 0 where

@@ -3,7 +3,8 @@
 use Rattle.std.proofs.Common.{◌≡◌, ◌≢◌, ℕ, zero, suc, ◌+◌, ◌-◌, ◌<◌, ◌≤◌, Bool, true, false, ◌&&◌, ◌||◌, List, [], ◌∷◌, length, slice_index, Option, None, Some, refl, ap, sym, ◌∙◌, subst, arith, inl, inr}
 use Rattle.std.specs.Prelude.{◌==◌, nat_lt}
 use Rattle.std.specs.List.{AllByRecursion, list_any, slice_get}
-use Rattle.std.proofs.lemmas.Bool.{cases_Bool, cases_eq, eqb-true, eq-eqb, lt-ltb, and_parts, and_from}
+use Rattle.std.proofs.lemmas.Bool.{cases_Bool, cases_eq, eqb-true, eq-eqb, lt-ltb, and_parts, and_from, false_from_ne_true}
+use Rattle.std.proofs.lemmas.Bool.Decides.{same_from_decides}
 use Rattle.std.proofs.lemmas.List.Folds.{list_any_at}
 use Rattle.std.proofs.lemmas.Option.{get_or_from_slice_get, same_Some, slice_get_within}
 use Rattle.frz_board.specs.declared.man.Colour.{Colour}
@@ -11,7 +12,7 @@ use Rattle.frz_board.specs.declared.man.Kind.{Kind}
 use Rattle.frz_board.specs.declared.man.Man.{Man}
 use Rattle.frz_board.specs.Boards.{Board, has}
 use Rattle.frz_board.specs.Men.{cell_of_man, kind_of_number, man_of_cell, number_of_kind}
-use Rattle.frz_board.proofs.Lemmas.{cell_forth}
+use Rattle.frz_board.proofs.Lemmas.{cell_forth, cell-some}
 use Rattle.frz_squares.proofs.Lemmas.{either_or}
 use Rattle.frz_squares.specs.SquareSets.{has_square}
 use Rattle.frz_combinations.specs.Combinations.{places_below}
@@ -23,7 +24,6 @@ use Rattle.frz_index.specs.Kept.{is_known}
 use Rattle.frz_index.specs.Members.{Member}
 use Rattle.frz_index.specs.Places.{IsWithinCount, places, stands}
 use Rattle.frz_index.specs.Room.{has_room, takes_one_more}
-use Rattle.frz_index.proofs.Turns.{cell_some}
 use Rattle.frz_index.proofs.Charting.{kind_back, kind_numbers}
 
 -- an element that passes
@@ -45,17 +45,10 @@ any_found test (y ∷ xs) h =
     ]
 
 pub same_test : (a b : Bool) → (a ≡ true → b ≡ true) → (b ≡ true → a ≡ true) → a ≡ b
-same_test true true f g = refl
-same_test true false f g = sym (f refl)
-same_test false true f g = g refl
-same_test false false f g = refl
-
-not_passed : (a : Bool) → (a ≡ true → ⊥) → a ≡ false
-not_passed true f = absurd (f refl)
-not_passed false f = refl
+same_test a b f g = same_from_decides a b (f, g) (λ e. e, λ e. e)
 
 -- the same cell is the same man
-same_man : (m n : Man) → cell_of_man m ≡ cell_of_man n → m ≡ n
+pub same_man : (m n : Man) → cell_of_man m ≡ cell_of_man n → m ≡ n
 same_man m n e =
     same_Some m n (sym (cell_forth m.colour m.kind) ∙ ap man_of_cell e ∙ cell_forth n.colour n.kind)
 
@@ -109,7 +102,7 @@ state_word states chart h man s low =
 pub no_state : (g : GroupLine) (man : Man) (s : ℕ) → (g.colour ≡ man.colour → ⊥) →
     is_state (cell_of_man man) s g ≡ false
 no_state g man s other =
-    not_passed (is_state (cell_of_man man) s g)
+    false_from_ne_true (is_state (cell_of_man man) s g)
     (λ e. let found = any_found (is_at g.colour man s) g.states e in
     other (at_parts g.colour man s found.1 found.3).0)
 
@@ -163,7 +156,7 @@ counted_at P (x ∷ gs) zero g all e = subst P (same_Some x g e) all.0
 counted_at P (x ∷ gs) (suc i) g all e = counted_at P gs i g all.1 e
 
 some_cell : (c : Colour) (k : Kind) → cell_of_man (record { colour = c; kind = k }) ≢ 0
-some_cell c k = λ e. omega (arith, e, cell_some c k)
+some_cell c k = λ e. omega (arith, e, cell-some c k)
 
 -- r is p without the man of p on the square, as far as the man's side goes
 pub record LeavesOut (p r : Board) (man : Man) (s : ℕ) : Type 0 where
@@ -226,7 +219,7 @@ room_where gs p r man s m low h =
 pub room_unknown : (gs : List GroupLine) (r : Board) (man : Man) (s : ℕ) →
     is_known gs (cell_of_man man) s ≡ false → has_room gs r man s ≡ false
 room_unknown gs r man s h =
-    not_passed (has_room gs r man s)
+    false_from_ne_true (has_room gs r man s)
     (λ e.
     let found = any_found (takes_one_more r man s) gs e in
     let state = (and_parts (is_state (cell_of_man man) s found.1)

@@ -1,8 +1,8 @@
 -- Turn states, both ways.
-use Rattle.std.proofs.Common.{◌≡◌, ℕ, suc, ◌+◌, ◌<◌, Bool, true, false, ◌&&◌, ◌||◌, cond, Option, None, Some, List, [], ◌∷◌, length, filter, slice_index, get_or, ◌≢◌, lit<, refl, ap, sym, ◌∙◌, arith, inl, inr}
+use Rattle.std.proofs.Common.{◌≡◌, ℕ, suc, ◌+◌, ◌<◌, Bool, true, false, ◌&&◌, ◌||◌, cond, Option, None, Some, List, [], ◌∷◌, length, filter, slice_index, get_or, ◌≢◌, refl, ap, sym, ◌∙◌, arith, inl, inr}
 use Rattle.std.specs.Prelude.{◌==◌}
 use Rattle.std.specs.List.{list_any, slice_get}
-use Rattle.std.proofs.lemmas.Bool.{eqb-true, eq-eqb, cases_lt, and_parts}
+use Rattle.std.proofs.lemmas.Bool.{eqb-true, eq-eqb, cases_lt, and_from, and_parts, or_right}
 use Rattle.std.proofs.lemmas.Map.Views.{any-filter_same}
 use Rattle.std.proofs.lemmas.List.Folds.{list_any_at}
 use Rattle.std.proofs.lemmas.List.{get_or_past}
@@ -14,14 +14,16 @@ use Rattle.frz_board.specs.Squares.{files_apart, rank_of, ranks_apart, squares}
 use Rattle.frz_board.specs.declared.man.Colour.{Colour}
 use Rattle.frz_board.specs.declared.man.Colour.TheVariants.{Black, White}
 use Rattle.frz_board.specs.declared.man.Kind.{Kind}
-use Rattle.frz_board.specs.declared.man.Kind.TheVariants.{Bishop, King, Knight, Pawn, Queen, Rook}
+use Rattle.frz_board.specs.declared.man.Kind.TheVariants.{Pawn}
+use Rattle.frz_board.proofs.Lemmas.{cell-some}
 use Rattle.frz_squares.proofs.Lemmas.{get_or-squares, length-squares}
 use Rattle.frz_index.specs.Members.{Member}
 use Rattle.frz_index.specs.TurnStates.{mover_at_target, place_of, target_state, turn_in, turn_number}
 use Rattle.frz_sets.specs.Sets.{has_state, is_possible, is_possible_for, pawn, targets}
 use Rattle.frz_sets.specs.Views.{GroupLine}
 
-place_at : (x y : ℕ) (ys : List ℕ) (b : Bool) → (x == y) ≡ b →
+-- the place in a list is that of its first element, or later
+pub place_at : (x y : ℕ) (ys : List ℕ) (b : Bool) → (x == y) ≡ b →
     place_of x (y ∷ ys) ≡ cond b 0 (suc (place_of x ys))
 place_at x y ys b e = ap (λ b. cond b 0 (suc (place_of x ys))) e
 
@@ -76,27 +78,12 @@ pub is_target_in : (gs : List GroupLine) (t : ℕ) → t < 64 → is_possible gs
     list_any (λ y. t == y) (targets gs) ≡ true
 is_target_in gs t h e = among_filter (is_possible gs) t squares e (square_among t h)
 
--- the cell of a man is not empty
-pub cell_some : (c : Colour) (k : Kind) → 0 < cell_of_man (record { colour = c; kind = k })
-cell_some White King = lit< tt
-cell_some White Queen = lit< tt
-cell_some White Rook = lit< tt
-cell_some White Bishop = lit< tt
-cell_some White Knight = lit< tt
-cell_some White Pawn = lit< tt
-cell_some Black King = lit< tt
-cell_some Black Queen = lit< tt
-cell_some Black Rook = lit< tt
-cell_some Black Bishop = lit< tt
-cell_some Black Knight = lit< tt
-cell_some Black Pawn = lit< tt
-
 -- a man of the board has a state
 pub covered_from : (gs : List GroupLine) (p : Board) → Member gs p → (c : Colour) (k : Kind) (s : ℕ)
     → has p c k s ≡ true → has_state gs (cell_of_man (record { colour = c; kind = k })) s ≡ true
 covered_from gs p m c k s h =
     let e = eqb-true (slice_index p.cells s) (cell_of_man (record { colour = c; kind = k })) h in
-    let some = cell_some c k in
+    let some = cell-some c k in
     let low : s < 64 =
     elim (cases_lt s 64) [
       | inl l ↦ l
@@ -119,13 +106,6 @@ any_more f g h [] e = absurd cc
 any_more f g h (x ∷ xs) e =
     or_more (f x) (g x) (list_any f xs) (list_any g xs) (h x) (any_more f g h xs) e
 
-both : (x y : Bool) → x ≡ true → y ≡ true → (x && y) ≡ true
-both x y h k = ap (λ b. b && y) h ∙ k
-
-pub or_right : (x y : Bool) → y ≡ true → (x || y) ≡ true
-or_right true y h = refl
-or_right false y h = h
-
 possible_from : (gs : List GroupLine) (c : Colour) (t : ℕ) → is_possible_for gs c t ≡ true →
     is_possible gs t ≡ true
 possible_from gs White t h = ap (λ b. b || is_possible_for gs Black t) h
@@ -147,7 +127,7 @@ beside_possible gs p m c b h =
     (λ s. (ranks_apart s b == 0 && files_apart s b == 1) && has_state gs (pawn c) s)
     (λ s k. let parts = and_parts (ranks_apart s b == 0 && files_apart s b == 1) (has p c Pawn s)
     k in
-    both (ranks_apart s b == 0 && files_apart s b == 1) (has_state gs (pawn c) s) parts.0
+    and_from (ranks_apart s b == 0 && files_apart s b == 1) (has_state gs (pawn c) s) parts.0
     (covered_from gs p m c Pawn s parts.1))
     squares h
 
@@ -164,8 +144,8 @@ passed_possible gs p m c t h =
     (λ s. (ranks_apart s (ahead c t) == 0 && files_apart s (ahead c t) == 1) && has_state gs
     (pawn (other_of c)) s) squares in (
       place.0,
-      both (is_passing_rank c t) (has_state gs (pawn c) (ahead c t) && beside) place.0
-          (both (has_state gs (pawn c) (ahead c t)) beside
+      and_from (is_passing_rank c t) (has_state gs (pawn c) (ahead c t) && beside) place.0
+          (and_from (has_state gs (pawn c) (ahead c t)) beside
           (covered_from gs p m c Pawn (ahead c t) pawns.1)
           (beside_possible gs p m (other_of c) (ahead c t) parts.1)),
     )
