@@ -18,23 +18,18 @@ in_one y x c =
       | inr e ↦ e
     ]
 
-pub here : {A : Type 0} (x : A) (xs : List A) → Contains (x ∷ xs) x
-here x xs = Contains-append_left (x ∷ []) xs x (Contains-push [] x)
-
-pub there : {A : Type 0} (y x : A) (xs : List A) → Contains xs x → Contains (y ∷ xs) x
-there y x xs c = Contains-append_right (y ∷ []) xs x c
-
 once_both : {A : Type 0} (xs ys : List A) → Once xs → Once ys →
     ((x : A) → Contains xs x → Contains ys x → ⊥) → Once (xs ++ ys)
 once_both [] ys hx hy apart = hy
 once_both (x ∷ xs) ys hx hy apart = (
   λ c. elim (Contains-append_cases xs ys x c) [
     | inl l ↦ hx.0 l
-    | inr r ↦ apart x (here x xs) r
+    | inr r ↦ apart x (zero, omega arith, refl) r
   ],
-  once_both xs ys hx.1 hy (λ z l r. apart z (there x z xs l) r),
+  once_both xs ys hx.1 hy (λ z l r. apart z (Contains-append_right (x ∷ []) xs z l) r),
 )
 
+-- what stands at a place of a list is in it
 pub at_place : {A : Type 0} (xs : List A) (k : ℕ) (x : A) → slice_get xs k ≡ Some x → Contains xs x
 at_place xs k x e = (k, slice_get_within xs k x e, get_or_from_slice_get xs k x x e)
 
@@ -57,7 +52,7 @@ adds_one P old new y e h same = record {
   more = y ∷ [];
   is = e;
   only = λ x c. subst P (in_one y x c) h;
-  all = λ x p. subst (λ z. Contains (y ∷ []) z) (sym (same x p)) (here y []);
+  all = λ x p. subst (λ z. Contains (y ∷ []) z) (sym (same x p)) (Contains-push [] y);
   once = (λ c. in_none y c, tt);
   few = omega arith;
 }

@@ -30,9 +30,7 @@ use Rattle.frz_sets.specs.Sets.{targets}
 use Rattle.frz_index.specs.Candidates.{candidate}
 use Rattle.frz_index.specs.Kept.{is_known}
 use Rattle.frz_index.specs.Room.{has_room}
-use Rattle.frz_index.proofs.Lemmas.{is_candidate}
-use Rattle.frz_index.proofs.Lemmas.{room_where}
-use Rattle.frz_index.proofs.Lemmas.{target_possible}
+use Rattle.frz_index.proofs.Lemmas.{is_candidate, room_where, same_man, target_possible}
 use Rattle.frz_unmove.specs.declared.preds.Pred.{Pred}
 use Rattle.frz_unmove.specs.Earlier.{before, mover_cell, name}
 use Rattle.frz_unmove.specs.Gathering.{Comes, ComesTo, taken_of, target_of, first_target, first_taken}
@@ -66,11 +64,6 @@ promoted_last c b j h = (
   last_of (is_last c b) (is_promotion (Some j)) h,
   (and_parts (is_promotion (Some j)) (if is_last c b then true else false) h).0,
 )
-
--- the same cell is the same man
-pub same_man : (m n : Man) → cell_of_man m ≡ cell_of_man n → m ≡ n
-same_man m n e =
-    same_Some m n (sym (cell_forth m.colour m.kind) ∙ ap man_of_cell e ∙ cell_forth n.colour n.kind)
 
 promo_by : (c : Colour) (k : Kind) (b : ℕ) (promo : Option Kind) (man : Man) →
     promotes c k b promo ≡ true → arrives (record { colour = c; kind = k }) promo ≡ man →

@@ -22,9 +22,10 @@ use Rattle.frz_fide.proofs.Lemmas.{stays_by}
 use Rattle.frz_fide.proofs.Lemmas as kept
 use Rattle.frz_sets.specs.Views.{GroupLine}
 use Rattle.frz_sets.specs.Sets.{targets}
+use Rattle.frz_index.proofs.Lemmas.{same_man}
 use Rattle.frz_unmove.specs.declared.preds.Pred.{Pred}
 use Rattle.frz_unmove.specs.Gathering.{Comes, ComesTo, IsTargetWord, first_target, may_be_target, may_have_passed, target_key, target_of}
-use Rattle.frz_unmove.proofs.Coming.{target_place, first_ends, candidate_is, cell_is, f, mover_turn, same_man, target_of_set, v}
+use Rattle.frz_unmove.proofs.Coming.{target_place, first_ends, candidate_is, cell_is, f, mover_turn, target_of_set, v}
 
 other_side : (d : Colour) → other_of d ≡ d → ⊥
 other_side White h = cc

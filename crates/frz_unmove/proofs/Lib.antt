@@ -1,3 +1,4 @@
+pub mod Lemmas
 pub mod Adding
 pub mod Undone
 pub mod Ways

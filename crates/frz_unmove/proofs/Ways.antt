@@ -1,7 +1,5 @@
 -- A man goes back as one of the other side would go.
 use Rattle.std.proofs.Common.{◌≡◌, ℕ, refl, arith}
-use Rattle.std.specs.Prelude.{◌==◌}
-use Rattle.std.proofs.lemmas.Bool.Decides.{nat_tests}
 use Rattle.frz_board.specs.declared.man.Colour.{Colour}
 use Rattle.frz_board.specs.declared.man.Colour.TheVariants.{White, Black}
 use Rattle.frz_board.specs.declared.man.Kind.{Kind}
@@ -9,6 +7,7 @@ use Rattle.frz_board.specs.declared.man.Kind.TheVariants.{King, Queen, Rook, Bis
 use Rattle.frz_board.specs.Squares.{files_apart, ranks_apart}
 use Rattle.frz_board.specs.Lines.{is_rook_line, is_bishop_line}
 use Rattle.frz_board.specs.Men.{other_of}
+use Rattle.frz_index.proofs.Lemmas.{eqb_swap}
 use Rattle.frz_bits.specs.Ways.{may_go, is_pawn_way}
 
 -- a man goes back as one of the other side would go
@@ -18,14 +17,11 @@ files_back a b = omega arith
 ranks_back : (a b : ℕ) → ranks_apart a b ≡ ranks_apart b a
 ranks_back a b = omega arith
 
-same_back : (a b : ℕ) → (a == b) ≡ (b == a)
-same_back a b = grind (arith, nat_tests)
-
 rook_back : (a b : ℕ) → is_rook_line a b ≡ is_rook_line b a
-rook_back a b = rw (same_back a b, files_back a b, ranks_back a b) refl
+rook_back a b = rw (eqb_swap a b, files_back a b, ranks_back a b) refl
 
 bishop_back : (a b : ℕ) → is_bishop_line a b ≡ is_bishop_line b a
-bishop_back a b = rw (same_back a b, files_back a b, ranks_back a b) refl
+bishop_back a b = rw (eqb_swap a b, files_back a b, ranks_back a b) refl
 
 pawn_back : (c : Colour) (a b : ℕ) → is_pawn_way c a b ≡ is_pawn_way (other_of c) b a
 pawn_back White a b = rw (files_back a b) refl
