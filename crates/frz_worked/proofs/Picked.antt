@@ -2,31 +2,20 @@
 use Rattle.std.proofs.Common.{◌≡◌, ℕ, zero, suc, ◌+◌, ◌<◌, ◌⊎◌, ◌++◌, take, inl, inr, List, [], ◌∷◌, length, get_or, Option, Some, None, refl, sym, ◌∙◌, ap, subst, arith}
 use Rattle.std.specs.List.{Contains, cons_option, filter_map, slice_get}
 use Rattle.std.proofs.lemmas.List.{take_more}
-use Rattle.std.proofs.lemmas.List.Elements.{filter_map-append}
-use Rattle.std.proofs.lemmas.Option.{same_Some, slice_get_within, get_or_from_slice_get}
+use Rattle.std.proofs.lemmas.List.Elements.{Contains-append_right, filter_map-append}
+use Rattle.std.proofs.lemmas.Option.{same_Some}
+use Rattle.frz_arena.proofs.Lemmas.{none_in_empty}
+use Rattle.frz_index.proofs.Lemmas.{none_or_some}
+use Rattle.frz_unmove.proofs.Lemmas.{at_place}
 
 -- x is picked from the list
 abbrev pub Picked : {X Y : Type 0} → (X → Option Y) → List X → Y → Type 0
 Picked {X} f xs y = (x : X) × Contains xs x × (f x ≡ Some y)
 
-none_in : {X : Type 0} (x : X) → Contains [] x → ⊥
-none_in x h = omega (arith, h.1)
-
-first : {X : Type 0} (x : X) (xs : List X) → Contains (x ∷ xs) x
-first x xs = (zero, omega arith, refl)
-
-later : {X : Type 0} (y : X) (xs : List X) (x : X) → Contains xs x → Contains (y ∷ xs) x
-later y xs x (k, h, e) = (suc k, omega (arith, h), e)
-
 pub cases : {X : Type 0} (y : X) (xs : List X) (x : X) → Contains (y ∷ xs) x
     → (y ≡ x) ⊎ Contains xs x
 cases y xs x (zero, h, e) = inl e
 cases y xs x (suc k, h, e) = inr (k, omega (arith, h), e)
-
--- the two ways of a test
-maybe : {Y : Type 0} (o : Option Y) → ((y : Y) × (o ≡ Some y)) ⊎ (o ≡ None)
-maybe None = inr refl
-maybe (Some y) = inl (y, refl)
 
 module _ {X Y : Type 0} (f : X → Option Y) where
   taken : (x : X) (xs : List X) (y : Y) → f x ≡ Some y → filter_map f (x ∷ xs) ≡ y ∷ filter_map f xs
@@ -36,27 +25,28 @@ module _ {X Y : Type 0} (f : X → Option Y) where
   left x xs e = ap (λ o. cons_option o (filter_map f xs)) e
 
   pub picked_from : (xs : List X) (y : Y) → Contains (filter_map f xs) y → Picked f xs y
-  picked_from [] y h = absurd (none_in y h)
-  picked_from (x ∷ xs) y h = elim (maybe (f x)) [
-    | inl s ↦ elim (cases s.0 (filter_map f xs) y
+  picked_from [] y h = absurd (none_in_empty y h)
+  picked_from (x ∷ xs) y h = elim (none_or_some (f x)) [
+    | inr s ↦ elim (cases s.0 (filter_map f xs) y
         (subst (λ ys. Contains ys y) (taken x xs s.0 s.1) h)) [
-          | inl e ↦ (x, first x xs, s.1 ∙ ap Some e)
-          | inr i ↦ let r = picked_from xs y i in (r.0, later x xs r.0 r.1, r.2)
+          | inl e ↦ (x, (zero, omega arith, refl), s.1 ∙ ap Some e)
+          | inr i ↦ let r = picked_from xs y i in
+              (r.0, Contains-append_right (x ∷ []) xs r.0 r.1, r.2)
         ]
-    | inr n ↦ let r = picked_from xs y (subst (λ ys. Contains ys y) (left x xs n) h) in
-        (r.0, later x xs r.0 r.1, r.2)
+    | inl n ↦ let r = picked_from xs y (subst (λ ys. Contains ys y) (left x xs n) h) in
+        (r.0, Contains-append_right (x ∷ []) xs r.0 r.1, r.2)
   ]
 
   pub picked_in : (xs : List X) (x : X) (y : Y) → Contains xs x → f x ≡ Some y
       → Contains (filter_map f xs) y
-  picked_in [] x y h e = absurd (none_in x h)
+  picked_in [] x y h e = absurd (none_in_empty x h)
   picked_in (z ∷ xs) x y h e = elim (cases z xs x h) [
     | inl s ↦ subst (λ ys. Contains ys y) (sym (taken z xs y (ap f s ∙ e)))
-        (first y (filter_map f xs))
-    | inr i ↦ let r = picked_in xs x y i e in elim (maybe (f z)) [
-      | inl s ↦ subst (λ ys. Contains ys y) (sym (taken z xs s.0 s.1))
-          (later s.0 (filter_map f xs) y r)
-      | inr n ↦ subst (λ ys. Contains ys y) (sym (left z xs n)) r
+        (zero, omega arith, refl)
+    | inr i ↦ let r = picked_in xs x y i e in elim (none_or_some (f z)) [
+      | inr s ↦ subst (λ ys. Contains ys y) (sym (taken z xs s.0 s.1))
+          (Contains-append_right (s.0 ∷ []) (filter_map f xs) y r)
+      | inl n ↦ subst (λ ys. Contains ys y) (sym (left z xs n)) r
     ]
   ]
 
@@ -65,10 +55,6 @@ pub picked_more : {X Y : Type 0} (f : X → Option Y) (xs : List X) (k : ℕ) (d
     filter_map f (take (k + 1) xs) ≡ filter_map f (take k xs) ++ cons_option (f (get_or xs k d)) []
 picked_more f xs k d l =
     ap (filter_map f) (take_more xs k d l) ∙ filter_map-append f (take k xs) (get_or xs k d ∷ [])
-
--- a place of the list has what it contains
-pub placed : {Y : Type 0} (ys : List Y) (k : ℕ) (y : Y) → slice_get ys k ≡ Some y → Contains ys y
-placed ys k y e = (k, slice_get_within ys k y e, get_or_from_slice_get ys k y y e)
 
 -- no two elements clash
 abbrev pub Apart : {X : Type 0} → (X → X → Type 0) → List X → Type 0
@@ -81,12 +67,12 @@ pub one_place : {X Y : Type 0} (f : X → Option Y) (R : X → X → Type 0) (S 
     ((x w : X) (y z : Y) → f x ≡ Some y → f w ≡ Some z → S y z → R x w) →
     (k l : ℕ) (y z : Y) → slice_get (filter_map f xs) k ≡ Some y →
     slice_get (filter_map f xs) l ≡ Some z → S y z → k ≡ l
-one_place f R S [] h turn from k l y z a b s = absurd (none_in y (placed [] k y a))
-one_place {X} {Y} f R S (x ∷ xs) h turn from k l y z a b s = elim (maybe (f x)) [
-  | inr n ↦ one_place f R S xs h.1 turn from k l y z
+one_place f R S [] h turn from k l y z a b s = absurd (none_in_empty y (at_place [] k y a))
+one_place {X} {Y} f R S (x ∷ xs) h turn from k l y z a b s = elim (none_or_some (f x)) [
+  | inl n ↦ one_place f R S xs h.1 turn from k l y z
       (subst (λ ys. slice_get ys k ≡ Some y) (left f x xs n) a)
       (subst (λ ys. slice_get ys l ≡ Some z) (left f x xs n) b) s
-  | inl t ↦
+  | inr t ↦
       at t.0 t.1 (λ k l u v. one_place f R S xs h.1 turn from k l y z u v s) k l
       (subst (λ ys. slice_get ys k ≡ Some y) (taken f x xs t.0 t.1) a)
       (subst (λ ys. slice_get ys l ≡ Some z) (taken f x xs t.0 t.1) b)
@@ -105,8 +91,8 @@ one_place {X} {Y} f R S (x ∷ xs) h turn from k l y z a b s = elim (maybe (f x)
     at v e later zero zero a b = refl
     at v e later zero (suc l) a b =
         absurd (clash v z e (subst (λ u. S u z) (sym (same_Some v y a)) s)
-        (placed (filter_map f xs) l z b))
+        (at_place (filter_map f xs) l z b))
     at v e later (suc k) zero a b =
         absurd (clash v y e (subst (λ u. S u y) (sym (same_Some v z b)) (turn y z s))
-        (placed (filter_map f xs) k y a))
+        (at_place (filter_map f xs) k y a))
     at v e later (suc k) (suc l) a b = ap suc (later k l a b)
