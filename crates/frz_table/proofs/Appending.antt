@@ -1,10 +1,10 @@
 -- Pieces that are appended one behind the other.
-use Rattle.std.proofs.Common.{◌≡◌, refl, sym, ap, ◌∙◌, ℕ, zero, suc, ◌+◌, ◌-◌, ◌*◌, min, ◌<◌, ◌≤◌, List, [], ◌∷◌, ◌++◌, length, take, drop, Option, Some, None, arith, append_assoc, append-nil, length-append}
+use Rattle.std.proofs.Common.{◌≡◌, refl, sym, ap, ◌∙◌, ℕ, zero, suc, ◌+◌, ◌-◌, ◌*◌, min, ◌<◌, ◌≤◌, List, [], ◌++◌, length, take, drop, Option, Some, None, arith, append_assoc, append-nil, length-append}
 use Rattle.std.specs.Option.{option_map}
 use Rattle.std.specs.Prelude.{Bool, false, ◌==◌}
 use Rattle.std.proofs.lemmas.Bool.Decides.{nat_tests}
 use Rattle.std.proofs.Math.Seq.{take-append_seam}
-use Rattle.std.proofs.lemmas.List.{take-append-drop}
+use Rattle.std.proofs.lemmas.List.{nil_from_length, take-append-drop}
 use Rattle.frz_store.specs.Files.{Files, put, bytes_at, grown}
 use Rattle.frz_store.proofs.Lemmas.{grown-put}
 use Rattle.frz_store.specs.Told.{StoreTold}
@@ -18,10 +18,6 @@ grown_again : (last : Option (List ℕ)) (a b : List ℕ) (m : Files)
 grown_again None a b m = refl
 grown_again (Some name) a b m =
     grown-put m name (bytes_at m name ++ a) b ∙ ap (put m name) (append_assoc (bytes_at m name) a b)
-
-no_length : (l : List ℕ) → length l ≡ 0 → l ≡ []
-no_length [] e = refl
-no_length (x ∷ l) e = absurd (omega arith)
 
 -- two pieces are one
 pub grown_twice : (last : Option (List ℕ)) (a b : List ℕ) (o : Option Files)
@@ -175,7 +171,7 @@ more_written old mid new codes rest piece more h cut some files last room enough
     by_first : (n : ℕ) → length h.written ≡ n
         → new.files ≡ option_map (grown old.last (number_bytes (h.written ++ piece))) old.files
     by_first zero e =
-        let nothing : h.written ≡ [] = no_length h.written e in
+        let nothing : h.written ≡ [] = nil_from_length h.written e in
         from_last ∙ ap (option_map (grown old.last (number_bytes piece))) (h.none e)
         ∙ ap (λ (l : List ℕ). option_map (grown old.last (number_bytes (l ++ piece))) old.files)
         (sym nothing)
@@ -209,7 +205,7 @@ part_written old mid new codes rest piece more h cut part = by_first (length h.w
     by_first : (n : ℕ) → length h.written ≡ n → (k : ℕ)
         × (new ≡ option_map (grown old.last (take k (number_bytes codes))) old.files)
     by_first zero e =
-        let nothing : number_bytes h.written ≡ [] = no_length (number_bytes h.written)
+        let nothing : number_bytes h.written ≡ [] = nil_from_length (number_bytes h.written)
         (omega (arith, length-number_bytes h.written)) in
         part_first old.last (number_bytes piece) (number_bytes more) (number_bytes codes) old.files
         new
@@ -227,7 +223,7 @@ pub files_written : (old now : StoreTold) (codes rest : List ℕ) → IsWriting 
     → length rest ≡ 0 → 0 < length codes
     → now.files ≡ option_map (grown old.last (number_bytes codes)) old.files
 files_written old now codes rest h none some =
-    let nothing : rest ≡ [] = no_length rest none in
+    let nothing : rest ≡ [] = nil_from_length rest none in
     let same : h.written ≡ codes = sym (append-nil h.written) ∙ ap (λ (l : List ℕ). h.written ++ l)
     (sym nothing) ∙ sym h.parts in
     h.files (omega (arith, ap length same, some))

@@ -1,9 +1,9 @@
 -- What a name may hold whose codes were loaded.
 use Rattle.std.proofs.Common.{◌≡◌, [], refl, sym, subst, ℕ, zero, suc, ◌∷◌, lit<, ◌^◌, ◌<◌, ◌≤◌, List, ◌++◌, length, get_or, Option, Some, None, Bool, true, false, Result, Ok, IfSome, arith, cond, ltb}
-use Rattle.std.specs.Prelude.{◌&&◌, IsSomeAnd}
+use Rattle.std.specs.Prelude.{IsSomeAnd}
 use Rattle.std.specs.List.{list_all}
 use Rattle.std.specs.Int.{w32, to_le_bytes}
-use Rattle.std.proofs.lemmas.Bool.{ltb-true, ltb-false}
+use Rattle.std.proofs.lemmas.Bool.{and_parts, ltb-true, ltb-false}
 use Rattle.frz_board.specs.declared.man.Colour.TheVariants.{White, Black}
 use Rattle.frz_sets.specs.Views.{RuleLines}
 use Rattle.frz_rules.specs.Text.{rules_of, too_long}
@@ -35,16 +35,13 @@ pub magic_long : (kind : FileKind) → length (magic_of kind) ≡ 8
 magic_long Plain = refl
 magic_long Chained = refl
 
-both : (a b : Bool) → (a && b) ≡ true → (a ≡ true) × (b ≡ true)
-both true b h = (refl, h)
-both false b h = absurd (cc)
-
 pub short_bytes : (xs : List ℕ) → list_all (λ x. ltb x 256) xs ≡ true → (i : ℕ)
     → get_or xs i 0 < 256
 short_bytes [] h i = lit< tt
-short_bytes (x ∷ xs) h zero = ltb-true x 256 (both (ltb x 256) (list_all (λ y. ltb y 256) xs) h).0
+short_bytes (x ∷ xs) h zero =
+    ltb-true x 256 (and_parts (ltb x 256) (list_all (λ y. ltb y 256) xs) h).0
 short_bytes (x ∷ xs) h (suc i) =
-    short_bytes xs (both (ltb x 256) (list_all (λ y. ltb y 256) xs) h).1 i
+    short_bytes xs (and_parts (ltb x 256) (list_all (λ y. ltb y 256) xs) h).1 i
 
 pub magic_bytes : (kind : FileKind) → AreBytes (magic_of kind)
 magic_bytes Plain = short_bytes (magic_of Plain) refl
