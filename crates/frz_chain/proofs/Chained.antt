@@ -19,6 +19,7 @@ use Rattle.frz_store.proofs.Lemmas.{later_store, put-off}
 use Rattle.frz_table.specs.declared.kind.FileKind.TheVariants.{Chained}
 use Rattle.frz_table.specs.Layout.{magic_of}
 use Rattle.frz_table.specs.Possible.{MayHold}
+use Rattle.frz_table.proofs.Lemmas.{fine_after, quiet_after}
 use Rattle.frz_game.proofs.Lemmas.{table_there}
 use Rattle.frz_check.proofs.Lemmas.{file_there}
 use Rattle.frz_build.specs.Building.{Builds}
@@ -80,17 +81,6 @@ part_later name bytes old mid new quiet h = record {
   later = later_store old mid new quiet.later h.later;
 }
 
-quiet_later : (old mid new : StoreTold) → StoreQuiet old mid → StoreQuiet mid new
-    → StoreQuiet old new
-quiet_later old mid new h k = record {
-  unwritten = record {
-    files = k.unwritten.files ∙ h.unwritten.files;
-    last = k.unwritten.last ∙ h.unwritten.last;
-    room = k.unwritten.room ∙ h.unwritten.room;
-  };
-  later = later_store old mid new h.later k.later;
-}
-
 -- another name may hold what it held
 still_held : (name other bytes held : List ℕ) → name ≢ other → (old new : Option Files)
     → new ≡ option_map (λ m. put m name bytes) old
@@ -121,11 +111,7 @@ module _ (text back name : List ℕ) (rules : RuleLines) (accepted : rules_of te
         bytes = h.bytes;
         one_file = subst (λ (b : Back). IsFileOn text rules b h.bytes) opens.keeps h.one_file;
         written = wrote;
-        fine = record {
-          faults = h.written.1.faults ∙ fine.faults;
-          wants = h.written.1.wants
-              ∙ fine.wants;
-        };
+        fine = fine_after old mid new fine h.written.1;
         back_after = still_held name back h.bytes opens.bytes differs old.files new.files
             wrote.files opens.may;
         sized = sized;
@@ -140,7 +126,7 @@ module _ (text back name : List ℕ) (rules : RuleLines) (accepted : rules_of te
     part = part_later name h.bytes old mid new quiet h.written.0;
     rose = subst (λ (n : ℕ). Rose n new.faults) fine.faults h.written.1;
   }
-  not_chained store.NoMemory fine h = quiet_later old mid new quiet h.written
+  not_chained store.NoMemory fine h = quiet_after old mid new quiet h.written
 
 -- the back table was refused
 pub no_back : (text back name : List ℕ) (fault : ChainFault) (old new : StoreTold)

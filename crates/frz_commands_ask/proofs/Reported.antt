@@ -13,8 +13,7 @@ use Rattle.frz_table.specs.Layout.{pieces_of}
 use Rattle.frz_table.specs.Opening.{Contents, contents_of, opened, table_format}
 use Rattle.frz_table.specs.Possible.{MayHold, MayOpen, MayRefuse}
 use Rattle.frz_table.specs.Tables.{Table, IsFileOf, table_size}
-use Rattle.frz_table.proofs.Lemmas.{belongs, same_held}
-use Rattle.frz_store.proofs.Lemmas.{later_store}
+use Rattle.frz_table.proofs.Lemmas.{belongs, fine_after, quiet_after, same_held}
 use Rattle.frz_rules.specs.Text.{rules_of}
 use Rattle.frz_check.specs.Kept.{kept_codes, WithinFile}
 use Rattle.frz_check.proofs.Lemmas.{file_opens, within_file}
@@ -215,22 +214,13 @@ module _ (name : List ℕ) (table : Table) (old mid new : StoreTold) (input : So
     (out_old out_new : SinkTold) (before now : ℕ)
     (begun : Begins name table old mid new before now) where
   quiet_all : StoreQuiet old new
-  quiet_all = record {
-    unwritten = record {
-      files = begun.loading.unwritten.files ∙ begun.opening.unwritten.files;
-      last = begun.loading.unwritten.last ∙ begun.opening.unwritten.last;
-      room = begun.loading.unwritten.room ∙ begun.opening.unwritten.room;
-    };
-    later = later_store old mid new begun.opening.later begun.loading.later;
-  }
+  quiet_all = quiet_after old mid new begun.opening begun.loading
 
   cause_all : (result : Result Totals ReportFault) → StoreCause result mid new
       → StoreCause result old new
-  cause_all (Ok totals) h =
-      record { faults = h.faults ∙ begun.fine.faults; wants = h.wants ∙ begun.fine.wants }
+  cause_all (Ok totals) h = fine_after old mid new begun.fine h
   cause_all (Err faults.Store) h = subst (λ (n : ℕ). Rose n new.faults) begun.fine.faults h
-  cause_all (Err faults.Output) h =
-      record { faults = h.faults ∙ begun.fine.faults; wants = h.wants ∙ begun.fine.wants }
+  cause_all (Err faults.Output) h = fine_after old mid new begun.fine h
   cause_all (Err faults.NoMemory) h = tt
 
   within : (bytes : List ℕ) → opened (table_format Plain) (Some bytes) ≡ Ok (contents_of table)

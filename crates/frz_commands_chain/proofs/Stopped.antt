@@ -1,16 +1,14 @@
 -- What a fault of a chain stops: with its cause, and with which status.
-use Rattle.std.proofs.Common.{◌∙◌, subst, ℕ, Err}
+use Rattle.std.proofs.Common.{subst, ℕ, Err}
 use Rattle.frz_store.specs.Outside.{Rose}
 use Rattle.frz_store.specs.Told.{StoreTold, StoreFine}
+use Rattle.frz_table.proofs.Lemmas.{fine_after}
 use Rattle.frz_answer.specs.declared.status.Status.TheVariants.{Table}
 use Rattle.frz_prelude.specs.Stops.{HasItsCause}
 use Rattle.frz_chain.specs.Causes.{HasChainCause}
 use Rattle.frz_chain.specs.declared.fault.ChainFault.{ChainFault}
 use Rattle.frz_chain.specs.declared.fault.ChainFault.TheVariants as chain
 use Rattle.frz_commands_chain.specs.Stops.{stop_of_chain}
-
-fine_after : (old mid new : StoreTold) → StoreFine old mid → StoreFine mid new → StoreFine old new
-fine_after old mid new h k = record { faults = k.faults ∙ h.faults; wants = k.wants ∙ h.wants }
 
 -- a fault that was met after calls that succeeded has its cause
 pub chain_cause : (T A : Type 0) (fault : ChainFault) (old mid new : StoreTold) → StoreFine old mid

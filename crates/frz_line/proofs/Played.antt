@@ -6,7 +6,7 @@ use Rattle.frz_board.specs.declared.man.Colour.{Colour}
 use Rattle.frz_board.specs.Moving.{Step}
 use Rattle.frz_sets.specs.declared.exit.Value.{Value}
 use Rattle.std.specs.Result.{IsErrAnd}
-use Rattle.frz_store.specs.Told.{SinkTold, StoreTold, StoreQuiet, StoreFine}
+use Rattle.frz_store.specs.Told.{SinkTold, StoreTold, StoreQuiet}
 use Rattle.frz_answer.specs.Answers.{IsLines}
 use Rattle.frz_answer.specs.Texts.{TookText}
 use Rattle.frz_answer.specs.World.{Spent}
@@ -250,28 +250,6 @@ quiet_here store = record {
     wants = omega arith;
   };
 }
-
--- the store was called twice
-pub quiet_behind : (old mid new : StoreTold) → StoreQuiet old mid → StoreQuiet mid new
-    → StoreQuiet old new
-quiet_behind old mid new a b = record {
-  unwritten = record {
-    files = b.unwritten.files ∙ a.unwritten.files;
-    last = b.unwritten.last
-        ∙ a.unwritten.last;
-    room = b.unwritten.room ∙ a.unwritten.room;
-  };
-  later = record {
-    asked = (let x = a.later.asked in let y = b.later.asked in omega arith);
-    calls = (let x = a.later.calls in let y = b.later.calls in omega arith);
-    faults = (let x = a.later.faults in let y = b.later.faults in omega arith);
-    wants = (let x = a.later.wants in let y = b.later.wants in omega arith);
-  };
-}
-
-pub fine_behind : (old mid new : StoreTold) → StoreFine old mid → StoreFine mid new
-    → StoreFine old new
-fine_behind old mid new a b = record { faults = b.faults ∙ a.faults; wants = b.wants ∙ a.wants }
 
 -- the measure and the count of plies
 pub few_at_start : (code : ℕ) → code < 4294967296 → IsFew MOST_PLIES 0 code

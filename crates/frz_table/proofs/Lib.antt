@@ -2,6 +2,7 @@ pub mod Pushing
 pub mod NumberLists
 pub mod Refusing
 pub mod Counting
+pub mod Following
 pub mod Appending
 pub mod Headers
 pub mod Reading

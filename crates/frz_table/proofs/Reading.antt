@@ -7,8 +7,8 @@ use Rattle.std.proofs.lemmas.Option.{IfSome_then}
 use Rattle.std.proofs.lemmas.Result.{IfOk-weaker}
 use Rattle.frz_store.specs.Files.{Files}
 use Rattle.frz_store.specs.Told.{StoreTold, StoreQuiet, StoreFine}
-use Rattle.frz_store.proofs.Lemmas.{later_store}
 use Rattle.frz_table.specs.Numbers.{number_at, numbers}
+use Rattle.frz_table.proofs.Following.{quiet_after}
 use Rattle.frz_table.proofs.Counting.{ArePieces, no_pieces, piece_more}
 use Rattle.frz_table.proofs.NumberLists.{slice_get-numbers, numbers-take, numbers-zero, numbers-add}
 
@@ -44,16 +44,6 @@ piece_read o name at count buffer before now is h =
     IfSome_then o h (λ m k. IfSome_then (m name) k (λ bytes e.
     is ∙ ap (λ (l : List ℕ). before ++ l)
     (ap (numbers count) e ∙ numbers-take count (4 * count) (drop at bytes) (omega arith))))
-
-quiet_on : (old mid new : StoreTold) → StoreQuiet old mid → StoreQuiet mid new → StoreQuiet old new
-quiet_on old mid new h k = record {
-  unwritten = record {
-    files = k.unwritten.files ∙ h.unwritten.files;
-    last = k.unwritten.last ∙ h.unwritten.last;
-    room = k.unwritten.room ∙ h.unwritten.room;
-  };
-  later = later_store old mid new h.later k.later;
-}
 
 -- so many numbers of the name were read
 pub record IsLoading (old now : StoreTold) (name : List ℕ) (at count capacity length_now : ℕ)
@@ -120,7 +110,7 @@ more_loaded old mid new name at count capacity now_capacity length_before length
           (subst (λ (o : Option Files). IfSome o
           (λ m. IfSome (m name) (λ bytes. list ≡ before ++ numbers here (drop place bytes))))
           h.quiet.unwritten.files read);
-      quiet = quiet_on old mid new h.quiet quiet;
+      quiet = quiet_after old mid new h.quiet quiet;
       fine = record { faults = faults ∙ h.fine.faults; wants = wants ∙ h.fine.wants };
       asked = (let a = h.asked in omega (arith, a, asked, longer));
       pieces = h.pieces + 1;

@@ -1,12 +1,13 @@
 use Rattle.std.proofs.Common.{Ok, Err, inl, inr, refl, subst, arith}
 use Rattle.frz_store.specs.Told.{store_of, sink_of}
 use Rattle.frz_answer.specs.World.{spent_by}
+use Rattle.frz_table.proofs.Lemmas.{fine_after, quiet_after}
 use Rattle.frz_line.specs.declared.playing.Turn.{Turn}
 use Rattle.frz_line.specs.declared.playing.Turn.TheVariants.{On}
 use Rattle.frz_line.specs.Kept.{told_codes}
 use Rattle.frz_line.specs.Turns.{TurnsTo, GoesBy}
 use Rattle.frz_line.proofs.Kept.{told_before}
-use Rattle.frz_line.proofs.Played.{at_start, next_far, over_far, fault_far, quiet_behind, quiet_here, fine_behind, few_at_start, few_on, left_on, stands_on}
+use Rattle.frz_line.proofs.Played.{at_start, next_far, over_far, fault_far, quiet_here, few_at_start, few_on, left_on, stands_on}
 use Rattle.frz_line.proofs.Spending.{at_one}
 use Rattle.frz_line.proofs.line.play_line.Goals as goal
 
@@ -66,9 +67,9 @@ plies-preserved g c =
           (told_before c.args.table.now c.args.side
           (λ codes. GoesBy arena c.args.side codes spot w.0
           (Ok c.in_ok-end.field-0)) c.plies.invariant.quiet.unwritten.files w.3);
-      quiet = quiet_behind (store_of g.S.Store c.args.store.now) (store_of g.S.Store c.plies.store)
+      quiet = quiet_after (store_of g.S.Store c.args.store.now) (store_of g.S.Store c.plies.store)
           (store_of g.S.Store c.turn.new.store) c.plies.invariant.quiet e.quiet;
-      fine = fine_behind (store_of g.S.Store c.args.store.now) (store_of g.S.Store c.plies.store)
+      fine = fine_after (store_of g.S.Store c.args.store.now) (store_of g.S.Store c.plies.store)
           (store_of g.S.Store c.turn.new.store) c.plies.invariant.fine e.cause;
       later = (let a = c.plies.invariant.later in let b = e.later in omega (arith, a, b));
     }

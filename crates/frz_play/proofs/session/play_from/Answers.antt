@@ -1,8 +1,9 @@
 use Rattle.std.proofs.Common.{Ok, Err, inl, inr, refl, subst, ◌∙◌, arith}
 use Rattle.frz_store.specs.Told.{store_of, source_of, sink_of}
 use Rattle.frz_answer.specs.World.{spent_by}
+use Rattle.frz_table.proofs.Lemmas.{fine_after, quiet_after}
 use Rattle.frz_line.specs.Kept.{told_codes}
-use Rattle.frz_line.proofs.Lemmas.{at_one, fine_behind, quiet_behind, quiet_here, told_before}
+use Rattle.frz_line.proofs.Lemmas.{at_one, quiet_here, told_before}
 use Rattle.frz_play.specs.declared.playing.Turn.{Turn}
 use Rattle.frz_play.specs.declared.playing.Turn.TheVariants.{On}
 use Rattle.frz_play.specs.Turns.{TurnsTo, GoesBy}
@@ -67,9 +68,9 @@ plies-preserved g c =
           (told_before c.args.table.now c.args.side
           (λ codes. GoesBy arena c.args.side codes c.plies.spot c.plies.reader c.turn.new.reader w.1
           w.0 (Ok c.in_ok-end.field-0)) c.plies.invariant.quiet.unwritten.files w.6);
-      quiet = quiet_behind (store_of g.S.Store c.args.store.now) (store_of g.S.Store c.plies.store)
+      quiet = quiet_after (store_of g.S.Store c.args.store.now) (store_of g.S.Store c.plies.store)
           (store_of g.S.Store c.turn.new.store) c.plies.invariant.quiet e.quiet;
-      fine = fine_behind (store_of g.S.Store c.args.store.now) (store_of g.S.Store c.plies.store)
+      fine = fine_after (store_of g.S.Store c.args.store.now) (store_of g.S.Store c.plies.store)
           (store_of g.S.Store c.turn.new.store) c.plies.invariant.fine e.cause;
       heard = e.input ∙ c.plies.invariant.heard;
       later = (let a = c.plies.invariant.later in let b = e.later in omega (arith, a, b));
