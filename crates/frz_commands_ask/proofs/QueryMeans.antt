@@ -19,14 +19,14 @@ use Rattle.frz_table.specs.declared.kind.FileKind.{FileKind}
 use Rattle.frz_table.specs.declared.kind.FileKind.TheVariants.{Plain, Chained}
 use Rattle.frz_table.specs.Layout.{magic_of}
 use Rattle.frz_table.specs.Opening.{Contents, opened, table_format}
-use Rattle.frz_table.proofs.Lemmas.{belongs}
+use Rattle.frz_table.proofs.Lemmas.{belongs, opened_missing}
 use Rattle.frz_check.specs.Kept.{kept_codes}
 use Rattle.frz_check.specs.OneFile.{IsOneFile}
 use Rattle.frz_check.proofs.Lemmas.{one_file_holds, read_small}
 use Rattle.frz_answer.specs.Answers.{Answer}
 use Rattle.frz_prelude.specs.BoundLines.{side_name, bound_line, bounds_text, kept_line, kept_text}
 use Rattle.frz_prelude.specs.declared.refused.Refused.{Refused}
-use Rattle.frz_prelude.proofs.Lemmas.{opened_missing, kept_bound, refused_means}
+use Rattle.frz_prelude.proofs.Lemmas.{kept_bound, refused_means}
 use Rattle.frz_commands_ask.specs.declared.kept.KeptCodes.{KeptCodes}
 use Rattle.frz_commands_ask.specs.Kept.{kept_at, kept_by, kept_of, answer_by}
 use Rattle.frz_commands_ask.specs.Meaning.{TellsBounds}

@@ -5,10 +5,10 @@ use Rattle.frz_store.specs.Files.{Files}
 use Rattle.frz_table.specs.declared.fault.TableFault.{TableFault}
 use Rattle.frz_table.specs.declared.kind.FileKind.TheVariants.{Plain}
 use Rattle.frz_table.specs.Opening.{Contents, opened, table_format}
-use Rattle.frz_table.proofs.Lemmas.{belongs}
+use Rattle.frz_table.proofs.Lemmas.{belongs, opened_missing}
 use Rattle.frz_check.proofs.Lemmas.{file_tables}
 use Rattle.frz_answer.specs.Answers.{Answer}
-use Rattle.frz_prelude.proofs.Lemmas.{opened_missing, refused_means}
+use Rattle.frz_prelude.proofs.Lemmas.{refused_means}
 use Rattle.frz_commands_ask.specs.Reporting.{MeansReport, MeansStatus, report_at, report_by}
 
 module _ (table : List ℕ) (files : Files) where

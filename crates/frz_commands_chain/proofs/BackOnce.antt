@@ -14,7 +14,7 @@ use Rattle.frz_table.specs.declared.kind.FileKind.{FileKind}
 use Rattle.frz_table.specs.declared.kind.FileKind.TheVariants.{Plain}
 use Rattle.frz_table.specs.Numbers.{numbers}
 use Rattle.frz_table.specs.Opening.{Contents, opened, table_format}
-use Rattle.frz_table.proofs.Lemmas.{belongs}
+use Rattle.frz_table.proofs.Lemmas.{belongs, opened_missing}
 use Rattle.frz_check.specs.declared.verdict.Verdict.{Verdict}
 use Rattle.frz_check.specs.declared.verdict.Verdict.TheVariants.{Exact, Wrong}
 use Rattle.frz_check.specs.Kept.{kept_codes}
@@ -25,7 +25,6 @@ use Rattle.frz_chain.specs.Books.{Back}
 use Rattle.frz_chain.specs.ExactBacks.{is_exact}
 use Rattle.frz_chain.specs.FileOn.{back_of}
 use Rattle.frz_chain.proofs.Lemmas.{judged_exact}
-use Rattle.frz_prelude.proofs.Lemmas.{opened_missing}
 use Rattle.frz_commands_chain.specs.Backs.{IsBackIn}
 
 -- the lists of a file are as long as its set is large

@@ -11,6 +11,7 @@ use Rattle.frz_table.specs.declared.fault.TableFault.{TableFault}
 use Rattle.frz_table.specs.declared.fault.TableFault.TheVariants as table
 use Rattle.frz_table.specs.declared.kind.FileKind.TheVariants.{Plain}
 use Rattle.frz_table.specs.Opening.{Contents, opened, table_format}
+use Rattle.frz_table.proofs.Lemmas.{opened_missing}
 use Rattle.frz_answer.specs.declared.status.Status.{Status}
 use Rattle.frz_answer.specs.declared.status.Status.TheVariants as statuses
 use Rattle.frz_answer.specs.Answers.{Answer, says}
@@ -18,7 +19,7 @@ use Rattle.frz_prelude.specs.Refusals.{status_of, refusal_line}
 use Rattle.frz_prelude.specs.TableCauses.{table_line}
 use Rattle.frz_prelude.specs.TableFiles.{OpensAs, TellsTableFault}
 use Rattle.frz_prelude.specs.declared.refused.Refused.TheVariants as refusals
-use Rattle.frz_prelude.proofs.Lemmas.{opened_missing, refused_means}
+use Rattle.frz_prelude.proofs.Lemmas.{refused_means}
 use Rattle.frz_commands_line.specs.LineMeaning.{TellsOutside}
 
 -- what a command answers by how the file opens, and at a position of its set

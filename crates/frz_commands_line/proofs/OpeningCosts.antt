@@ -14,10 +14,9 @@ use Rattle.frz_table.specs.declared.fault.TableFault.TheVariants.{Missing}
 use Rattle.frz_table.specs.declared.kind.FileKind.TheVariants.{Plain}
 use Rattle.frz_table.specs.Opening.{Contents, opened, opening_calls, table_format}
 use Rattle.frz_table.specs.Possible.{MayHold, MayRefuse, held_text}
-use Rattle.frz_table.proofs.Lemmas.{opened_calls}
+use Rattle.frz_table.proofs.Lemmas.{opened_calls, opened_missing}
 use Rattle.frz_answer.specs.World.{Spent}
 use Rattle.frz_answer.specs.Jobs.{WithinCosts}
-use Rattle.frz_prelude.proofs.Lemmas.{opened_missing}
 use Rattle.frz_line.specs.Costs.{SpendsAt}
 use Rattle.frz_commands_line.specs.Costs.{opening_costs, playing_costs, CostsIn, CostsBy, CostsAt}
 use Rattle.frz_commands_line.proofs.Seen.{not_member, of_told}

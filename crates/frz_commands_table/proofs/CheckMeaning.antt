@@ -12,7 +12,7 @@ use Rattle.frz_table.specs.declared.fault.TableFault.{TableFault}
 use Rattle.frz_table.specs.declared.fault.TableFault.TheVariants.{Missing}
 use Rattle.frz_table.specs.declared.kind.FileKind.TheVariants.{Plain}
 use Rattle.frz_table.specs.Opening.{Contents, opened, table_format}
-use Rattle.frz_table.proofs.Lemmas.{belongs}
+use Rattle.frz_table.proofs.Lemmas.{belongs, opened_missing}
 use Rattle.frz_check.specs.declared.verdict.Verdict.{Verdict}
 use Rattle.frz_check.specs.declared.verdict.Verdict.TheVariants.{Exact, Wrong}
 use Rattle.frz_check.specs.Kept.{kept_codes}
@@ -23,7 +23,7 @@ use Rattle.frz_answer.specs.declared.status.Status.TheVariants as statuses
 use Rattle.frz_answer.specs.Answers.{Answer, says}
 use Rattle.frz_prelude.specs.Refusals.{table_status}
 use Rattle.frz_prelude.specs.TableCauses.{table_line}
-use Rattle.frz_prelude.proofs.Lemmas.{opened_missing, refused_means}
+use Rattle.frz_prelude.proofs.Lemmas.{refused_means}
 use Rattle.frz_commands_table.specs.Checking.{verdict_status, verdict_line, IsCheckedBy, IsCheckedAt}
 use Rattle.frz_commands_table.specs.CheckMeans.{MeansStatus, HoldsOneFile, MeansCheck}
 use Rattle.frz_commands_table.specs.Headline.{Headline}

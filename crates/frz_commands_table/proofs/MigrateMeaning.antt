@@ -14,13 +14,13 @@ use Rattle.frz_store.specs.Files.{Files, put}
 use Rattle.frz_table.specs.declared.fault.TableFault.{TableFault}
 use Rattle.frz_table.specs.OldFiles.{limited_read, old_format, old_rules_of}
 use Rattle.frz_table.specs.Opening.{Contents, opened}
-use Rattle.frz_table.proofs.Lemmas.{opens_by, read_short}
+use Rattle.frz_table.proofs.Lemmas.{opened_missing, opens_by, read_short}
 use Rattle.frz_answer.specs.declared.status.Status.{Status}
 use Rattle.frz_answer.specs.declared.status.Status.TheVariants as statuses
 use Rattle.frz_answer.specs.Answers.{Answer, says}
 use Rattle.frz_prelude.specs.Refusals.{table_status}
 use Rattle.frz_prelude.specs.TableCauses.{table_line}
-use Rattle.frz_prelude.proofs.Lemmas.{bytes_status, opened_missing}
+use Rattle.frz_prelude.proofs.Lemmas.{bytes_status}
 use Rattle.frz_commands_table.specs.Migrating.{migrated_line, IsMigratedAt, IsMigratedBy, IsRewritten}
 use Rattle.frz_commands_table.specs.MigrateMeans.{BecomesOneFile, HoldsFormerFile, IsFormerFile, MeansByStatus, MeansMigrate, RefusesOld}
 use Rattle.frz_commands_table.proofs.MovedCodes.{one_file_migrated}

@@ -4,7 +4,6 @@ pub use Rattle.frz_prelude.proofs.Held.{Holding, holding, of_rules}
 pub use Rattle.frz_prelude.proofs.NamedRules.{read_named, refused_named, some_named}
 pub use Rattle.frz_prelude.proofs.OpenedTables.{
   by_table_status,
-  opened_missing,
   table_cause,
   table_own,
 }

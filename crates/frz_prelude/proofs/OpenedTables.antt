@@ -1,5 +1,5 @@
 -- With what a file may be refused as a table.
-use Rattle.std.proofs.Common.{◌≡◌, subst, ℕ, ◌+◌, ◌==◌, List, length, take, Bool, true, false, Some, None, Result, Ok, Err, if◌then◌else◌, refl}
+use Rattle.std.proofs.Common.{◌≡◌, subst, ℕ, ◌+◌, ◌==◌, List, length, take, Bool, true, false, Some, Result, Ok, Err, if◌then◌else◌, refl}
 use Rattle.std.specs.Prelude.{nat_lt, ⊤}
 use Rattle.std.specs.Str.{bytes_eq}
 use Rattle.frz_rules.specs.declared.fault.RulesCause.TheVariants.{TooLong}
@@ -74,10 +74,6 @@ by_bytes format bytes =
 pub of_bytes : (format : Format) (bytes : List ℕ) (fault : TableFault)
     → opened format (Some bytes) ≡ Err fault → IsOfBytes fault
 of_bytes format bytes fault e = subst OfBytes e (by_bytes format bytes)
-
-pub opened_missing : (format : Format) → opened format None ≡ Err Missing
-unfolding opened
-opened_missing format = refl
 
 -- a table that was not opened stops a job with the cause of its fault
 pub table_cause : (T A : Type 0) (fault : TableFault) (old new : StoreTold)

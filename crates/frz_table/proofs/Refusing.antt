@@ -26,9 +26,9 @@ abbrev pub Given : Type 0
 Given = Result Contents TableFault
 
 -- step 1
-absent : (format : Format) → opened format None ≡ Err Missing
+pub opened_missing : (format : Format) → opened format None ≡ Err Missing
 unfolding opened
-absent format = refl
+opened_missing format = refl
 
 -- step 2
 pub short : (format : Format) (bytes : List ℕ) → length bytes < 16
@@ -109,7 +109,7 @@ refuse_missing magic files name h =
   where
     by_held : (held : Option (List ℕ)) (format : Format) → None ≡ option_map (length {A = ℕ}) held
         → IsFormatOf magic format → opened format held ≡ Err Missing
-    by_held None format e is = absent format
+    by_held None format e is = opened_missing format
     by_held (Some bytes) format e is = absurd (none-some (length bytes) e)
 
 -- the file is shorter than any table
