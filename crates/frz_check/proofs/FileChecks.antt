@@ -1,5 +1,5 @@
 -- From an open table to the file under its name.
-use Rattle.std.proofs.Common.{◌≡◌, refl, sym, ap, subst, ◌∙◌, ℕ, ◌+◌, ◌*◌, ◌≤◌, List, length, Option, Some, Result, Ok, Err, IfOk, IfErr, arith}
+use Rattle.std.proofs.Common.{◌≡◌, refl, sym, ap, subst, ◌∙◌, ℕ, ◌+◌, ◌*◌, ◌≤◌, List, drop, length, Option, Some, Result, Ok, Err, IfOk, IfErr, arith}
 use Rattle.std.specs.Prelude.{slice_index}
 use Rattle.frz_board.specs.Boards.{Board}
 use Rattle.frz_board.specs.declared.man.Colour.{Colour}
@@ -21,7 +21,7 @@ use Rattle.frz_table.specs.Layout.{magic_of, pieces_of}
 use Rattle.frz_table.specs.Opening.{Contents, contents_of, kept_text, opened, opening_calls, table_format}
 use Rattle.frz_table.specs.Possible.{MayHold, MayKeep, MayOpen}
 use Rattle.frz_table.specs.Tables.{IsTableFile, Table, table_size}
-use Rattle.frz_table.proofs.Lemmas.{belongs, opened_calls, opens_by, outside_refuses, read_short, text_kept}
+use Rattle.frz_table.proofs.Lemmas.{belongs, length-numbers, opened_calls, opens_by, outside_refuses, read_short, text_kept}
 use Rattle.frz_game.specs.Bounds.{IsTableOf}
 use Rattle.frz_game.specs.Games.{graph_by}
 use Rattle.frz_check.specs.declared.verdict.Verdict.{Verdict}
@@ -30,6 +30,15 @@ use Rattle.frz_check.specs.Kept.{ChecksFile, ChecksTable, IsVerdictOn, RefusesFi
 use Rattle.frz_check.specs.Verdicts.{IsVerdict, given_code, kept_code}
 use Rattle.frz_check.proofs.OneFile.{verdict_on}
 use Rattle.frz_check.proofs.OneVerdict.{TablesExact}
+
+-- there are as many codes of a side as the set has positions
+pub many_codes : (contents : Contents) (bytes : List ℕ) (side : Colour)
+    → length (kept_codes contents bytes side) ≡ size_of contents.rules.groups
+many_codes contents bytes White =
+    length-numbers (size_of contents.rules.groups) (drop (16 + length contents.text) bytes)
+many_codes contents bytes Black =
+    length-numbers (size_of contents.rules.groups)
+    (drop (16 + length contents.text + 4 * size_of contents.rules.groups) bytes)
 
 -- a verdict on codes is one on the same codes
 pub same_verdict : (rules : RuleLines) (value : Board → Value) (codes others : Colour → List ℕ)

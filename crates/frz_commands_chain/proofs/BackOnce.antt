@@ -1,45 +1,27 @@
 -- What a name holds as a back table: it is refused, or its first entry that is wrong is known, or
 -- it is exact; and only one of them.
-use Rattle.std.proofs.Common.{◌≡◌, refl, sym, ap, subst, ◌∙◌, ℕ, zero, suc, ◌+◌, ◌*◌, List, drop, length, true, Option, Some, None, Result, Ok, Err}
-use Rattle.frz_board.specs.declared.man.Colour.{Colour}
-use Rattle.frz_board.specs.declared.man.Colour.TheVariants.{White, Black}
+use Rattle.std.proofs.Common.{◌≡◌, refl, sym, ap, subst, ◌∙◌, ℕ, List, true, Option, Some, None, Result, Ok, Err}
 use Rattle.frz_exits.specs.Books.{value_by}
 use Rattle.frz_game.specs.declared.wrong.Wrong.{Wrong as WrongEntry}
 use Rattle.frz_game.proofs.Lemmas.{table_exact}
 use Rattle.frz_rules.specs.Text.{rules_of}
-use Rattle.frz_sets.specs.Sets.{size_of}
 use Rattle.frz_table.specs.declared.fault.TableFault.{TableFault}
 use Rattle.frz_table.specs.declared.fault.TableFault.TheVariants.{Missing}
 use Rattle.frz_table.specs.declared.kind.FileKind.{FileKind}
 use Rattle.frz_table.specs.declared.kind.FileKind.TheVariants.{Plain}
-use Rattle.frz_table.specs.Numbers.{numbers}
 use Rattle.frz_table.specs.Opening.{Contents, opened, table_format}
 use Rattle.frz_table.proofs.Lemmas.{belongs, opened_missing}
 use Rattle.frz_check.specs.declared.verdict.Verdict.{Verdict}
 use Rattle.frz_check.specs.declared.verdict.Verdict.TheVariants.{Exact, Wrong}
 use Rattle.frz_check.specs.Kept.{kept_codes}
 use Rattle.frz_check.specs.Verdicts.{IsVerdict}
-use Rattle.frz_check.proofs.Lemmas.{few_plies, one_verdict, verdict_on, verdict_there}
+use Rattle.frz_check.proofs.Lemmas.{few_plies, many_codes, one_verdict, verdict_on, verdict_there}
 use Rattle.frz_chain.specs.Backs.{HasWrong, IsBackJudged}
 use Rattle.frz_chain.specs.Books.{Back}
 use Rattle.frz_chain.specs.ExactBacks.{is_exact}
 use Rattle.frz_chain.specs.FileOn.{back_of}
 use Rattle.frz_chain.proofs.Lemmas.{judged_exact}
 use Rattle.frz_commands_chain.specs.Backs.{IsBackIn}
-
--- the lists of a file are as long as its set is large
-many_numbers : (n : ℕ) (bytes : List ℕ) → length (numbers n bytes) ≡ n
-unfolding numbers
-many_numbers zero bytes = refl
-many_numbers (suc n) bytes = ap suc (many_numbers n (drop 4 bytes))
-
-pub many_codes : (contents : Contents) (bytes : List ℕ) (side : Colour)
-    → length (kept_codes contents bytes side) ≡ size_of contents.rules.groups
-many_codes contents bytes White =
-    many_numbers (size_of contents.rules.groups) (drop (16 + length contents.text) bytes)
-many_codes contents bytes Black =
-    many_numbers (size_of contents.rules.groups)
-    (drop (16 + length contents.text + 4 * size_of contents.rules.groups) bytes)
 
 -- what opens is there
 open_there : (kind : FileKind) (held : Option (List ℕ)) (contents : Contents)

@@ -11,7 +11,7 @@ use Rattle.frz_check.specs.declared.verdict.Verdict.{Verdict}
 use Rattle.frz_check.specs.declared.verdict.Verdict.TheVariants as verdict
 use Rattle.frz_check.specs.Kept.{kept_codes}
 use Rattle.frz_check.specs.Verdicts.{IsVerdict}
-use Rattle.frz_check.proofs.Lemmas.{one_verdict, verdict_there}
+use Rattle.frz_check.proofs.Lemmas.{many_codes, one_verdict, verdict_there}
 use Rattle.frz_chain.specs.Backs.{HasWrong}
 use Rattle.frz_chain.specs.Books.{Back, chain_value}
 use Rattle.frz_chain.specs.Chains.{OpensChained}
@@ -23,7 +23,7 @@ use Rattle.frz_prelude.specs.declared.refused.Refused.TheVariants as refusals
 use Rattle.frz_prelude.proofs.Lemmas.{refusal_said}
 use Rattle.frz_commands_chain.specs.Backs.{IsBackIn}
 use Rattle.frz_commands_chain.specs.Checking.{IsCheckedPair, IsJudgedPair, IsRefusedPair, refused, judged, chain_status, chain_verdict_line}
-use Rattle.frz_commands_chain.proofs.BackOnce.{BackFound, back_found, judged_opens, many_codes, never_both, not_open, one_back, one_wrong_entry, right, there_open, wrong}
+use Rattle.frz_commands_chain.proofs.BackOnce.{BackFound, back_found, judged_opens, never_both, not_open, one_back, one_wrong_entry, right, there_open, wrong}
 
 text_said : (size back : ℕ) (v : Verdict) → chain_verdict_line size back v ≡ [] → ⊥
 text_said size back verdict.Exact e = cc

@@ -1,15 +1,12 @@
 -- How `check` ends, and that it has one answer.
-use Rattle.std.proofs.Common.{◌≡◌, refl, sym, ap, subst, ◌∙◌, ℕ, zero, suc, ◌+◌, ◌*◌, List, [], ◌∷◌, drop, length, Option, Some, Result, Ok, Err}
+use Rattle.std.proofs.Common.{◌≡◌, refl, sym, ap, subst, ◌∙◌, ℕ, List, [], ◌∷◌, Option, Some, Result, Ok, Err}
 use Rattle.std.specs.Option.{unwrap_or}
-use Rattle.frz_board.specs.declared.man.Colour.{Colour}
-use Rattle.frz_board.specs.declared.man.Colour.TheVariants.{White, Black}
 use Rattle.frz_exits.specs.Books.{value_by}
 use Rattle.frz_sets.specs.Sets.{size_of}
 use Rattle.frz_store.specs.Files.{Files, bytes_at}
 use Rattle.frz_table.specs.declared.fault.TableFault.{TableFault}
 use Rattle.frz_table.specs.declared.fault.TableFault.TheVariants.{Failed}
 use Rattle.frz_table.specs.declared.kind.FileKind.TheVariants.{Plain}
-use Rattle.frz_table.specs.Numbers.{numbers}
 use Rattle.frz_table.specs.Opening.{Contents, opened, table_format}
 use Rattle.frz_table.specs.Possible.{MayHold}
 use Rattle.frz_table.proofs.Lemmas.{same_held}
@@ -17,7 +14,7 @@ use Rattle.frz_check.specs.declared.verdict.Verdict.{Verdict}
 use Rattle.frz_check.specs.declared.verdict.Verdict.TheVariants as verdict
 use Rattle.frz_check.specs.Kept.{kept_codes, WithinFile, RefusesFile}
 use Rattle.frz_check.specs.Verdicts.{IsVerdict}
-use Rattle.frz_check.proofs.Lemmas.{verdict_there, one_verdict}
+use Rattle.frz_check.proofs.Lemmas.{verdict_there, one_verdict, many_codes}
 use Rattle.frz_answer.specs.declared.status.Status.{Status}
 use Rattle.frz_answer.specs.declared.status.Status.TheVariants.{Success, Wrong, Table, Missing as Absent}
 use Rattle.frz_answer.specs.Statuses.{OneOf}
@@ -38,20 +35,6 @@ use Rattle.frz_commands_table.specs.Checking.{verdict_status, verdict_line, IsCh
 use Rattle.frz_commands_table.specs.CheckMeans.{checking_at, check_words}
 use Rattle.frz_commands_table.proofs.CheckMeaning.{check_means}
 use Rattle.frz_game.proofs.Lemmas.{table_exact}
-
--- the lists of a file are as long as its set is large
-many_numbers : (n : ℕ) (bytes : List ℕ) → length (numbers n bytes) ≡ n
-unfolding numbers
-many_numbers zero bytes = refl
-many_numbers (suc n) bytes = ap suc (many_numbers n (drop 4 bytes))
-
-many_codes : (contents : Contents) (bytes : List ℕ) (side : Colour)
-    → length (kept_codes contents bytes side) ≡ size_of contents.rules.groups
-many_codes contents bytes White =
-    many_numbers (size_of contents.rules.groups) (drop (16 + length contents.text) bytes)
-many_codes contents bytes Black =
-    many_numbers (size_of contents.rules.groups)
-    (drop (16 + length contents.text + 4 * size_of contents.rules.groups) bytes)
 
 -- there is a verdict on a file that opens
 some_verdict : (contents : Contents) (bytes : List ℕ)
