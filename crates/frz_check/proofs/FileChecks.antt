@@ -21,7 +21,7 @@ use Rattle.frz_table.specs.Layout.{magic_of, pieces_of}
 use Rattle.frz_table.specs.Opening.{Contents, contents_of, kept_text, opened, opening_calls, table_format}
 use Rattle.frz_table.specs.Possible.{MayHold, MayKeep, MayOpen}
 use Rattle.frz_table.specs.Tables.{IsTableFile, Table, table_size}
-use Rattle.frz_table.proofs.Lemmas.{belongs, length-numbers, opened_calls, opens_by, outside_refuses, read_short, text_kept}
+use Rattle.frz_table.proofs.Lemmas.{belongs, length-numbers, loading_calls, opened_calls, opens_by, outside_refuses, read_short, text_kept}
 use Rattle.frz_game.specs.Bounds.{IsTableOf}
 use Rattle.frz_game.specs.Games.{graph_by}
 use Rattle.frz_check.specs.declared.verdict.Verdict.{Verdict}
@@ -133,14 +133,11 @@ within_file bytes contents old mid new steps_before steps_now opens asked calls 
     record {
       steps = omega (arith, is, steps);
       asked = omega (arith, is, text, asked, more_asked);
-      calls = calls_within (pieces_of (opened_size (opened (table_format Plain) (Some bytes))))
+      calls = loading_calls old.calls mid.calls new.calls
+          (pieces_of (opened_size (opened (table_format Plain) (Some bytes))))
           (pieces_of size) (opening_calls (table_format Plain) (Some bytes)) pieces first calls
           more_calls;
     }
-  where
-    calls_within : (due pieces first : ℕ) → due ≡ pieces → first ≡ 5 → mid.calls ≤ old.calls + 5
-        → new.calls ≤ mid.calls + 2 * pieces → new.calls ≤ old.calls + (first + 2 * due)
-    calls_within due pieces first same five few more = omega (arith, same, five, few, more)
 
 -- the table that was opened is the one in the file
 pub file_checked : (files : Option Files) (table : Table) (rules : RuleLines) (name : List ℕ)

@@ -1,5 +1,5 @@
 -- From an open table of the former format to the file under its name.
-use Rattle.std.proofs.Common.{◌≡◌, sym, ap, subst, ◌∙◌, ℕ, ◌+◌, ◌*◌, ◌≤◌, List, length, take, drop, Option, Some, Result, Ok, Err, arith}
+use Rattle.std.proofs.Common.{◌≡◌, sym, ap, subst, ◌∙◌, ℕ, ◌+◌, ◌*◌, ◌≤◌, List, length, Option, Some, Result, Ok, Err, arith}
 use Rattle.frz_board.specs.declared.man.Colour.TheVariants.{White, Black}
 use Rattle.frz_index.specs.OldNumbers.{old_size_of}
 use Rattle.frz_sets.specs.Views.{RuleLines}
@@ -12,7 +12,7 @@ use Rattle.frz_table.specs.Layout.{codes_at, pieces_of}
 use Rattle.frz_table.specs.OldFiles.{MayKeepOld, OldTable, old_contents_of, old_format, old_table_size}
 use Rattle.frz_table.specs.Opening.{Contents, kept_text, opened, opening_calls}
 use Rattle.frz_table.specs.Possible.{MayHold, MayOpen, MayRefuse}
-use Rattle.frz_table.proofs.Lemmas.{belongs, opened_calls, opens_by, outside_refuses}
+use Rattle.frz_table.proofs.Lemmas.{belongs, loading_calls, opened_calls, opens_by, outside_refuses, text_kept}
 use Rattle.frz_commands_table.specs.Migrated.{AreMoved, former_codes}
 use Rattle.frz_commands_table.specs.Rewriting.{MovesFile, MovesLists, RefusesFormer, WithinFormer, former_size}
 use Rattle.frz_commands_table.specs.declared.moving.Moved.{Moved}
@@ -75,19 +75,16 @@ within_former bytes contents old mid new opens asked calls more_asked more_calls
     let is : former_size (opened old_format (Some bytes)) ≡ size = ap former_size opens in
     let file = (belongs old_format bytes contents opens).file in
     let text : length (kept_text bytes) ≡ length contents.text = ap (length {A = ℕ})
-    (ap (λ (n : ℕ). take n (drop 12 bytes)) file.counted ∙ file.has_text) in
+    (text_kept _ contents.text size bytes file) in
     let pieces : pieces_of (former_size (opened old_format (Some bytes))) ≡ pieces_of size =
     ap pieces_of is in
     record {
       asked = omega (arith, is, text, asked, more_asked);
-      calls = calls_within (pieces_of (former_size (opened old_format (Some bytes))))
+      calls = loading_calls old.calls mid.calls new.calls
+          (pieces_of (former_size (opened old_format (Some bytes))))
           (pieces_of size) (opening_calls old_format (Some bytes)) pieces
           (opened_calls old_format bytes contents opens) calls more_calls;
     }
-  where
-    calls_within : (due pieces first : ℕ) → due ≡ pieces → first ≡ 5 → mid.calls ≤ old.calls + 5
-        → new.calls ≤ mid.calls + 2 * pieces → new.calls ≤ old.calls + (first + 2 * due)
-    calls_within due pieces first same five few more = omega (arith, same, five, few, more)
 
 module _ (name : List ℕ) (old mid new : StoreTold) where
   -- the table was not opened

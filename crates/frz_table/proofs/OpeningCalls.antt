@@ -1,5 +1,5 @@
 -- How many calls open a file, by the steps that it passes.
-use Rattle.std.proofs.Common.{◌≡◌, sym, ap, subst, ◌∙◌, ℕ, ◌+◌, ◌≤◌, List, length, take, drop, Option, Some, None, Bool, true, false, Result, Ok, Err, IfSome, arith, cond, ltb}
+use Rattle.std.proofs.Common.{◌≡◌, sym, ap, subst, ◌∙◌, ℕ, ◌+◌, ◌*◌, ◌≤◌, List, length, take, drop, Option, Some, None, Bool, true, false, Result, Ok, Err, IfSome, arith, cond, ltb}
 use Rattle.std.specs.Option.{option_map, IsSomeAnd}
 use Rattle.std.specs.Str.{bytes_eq}
 use Rattle.std.proofs.lemmas.Bool.{le-ltb}
@@ -197,3 +197,9 @@ opened_calls format bytes contents opens =
     ∙ past_text format bytes (omega (arith, counted, o.short)) (omega (arith, due, counted))
     ∙ ap calls_by_rules (ap format.read
     (ap (λ (k : ℕ). take k (drop 12 bytes)) counted ∙ o.file.has_text) ∙ o.read)
+
+-- the calls that load two lists, behind those that open the file
+pub loading_calls : (old mid new due pieces first : ℕ) → due ≡ pieces → first ≡ 5 → mid ≤ old + 5
+    → new ≤ mid + 2 * pieces → new ≤ old + (first + 2 * due)
+loading_calls old mid new due pieces first same five few more =
+    omega (arith, same, five, few, more)
