@@ -13,6 +13,7 @@ pub use Rattle.frz_check.proofs.OneFile.{
   one_file,
   one_file_opens,
   one_file_holds,
+  same_rules,
   tables_are_one,
   one_text,
   verdict_on,

@@ -144,7 +144,8 @@ tables_are_one kind value contents bytes are opens tables =
           bytes is.file are);
     }
 
-same_rules : (r s : RuleLines) (read : Result RuleLines RulesFault) → read ≡ Ok r → read ≡ Ok s
+-- a text is read as one set of rules
+pub same_rules : (r s : RuleLines) (read : Result RuleLines RulesFault) → read ≡ Ok r → read ≡ Ok s
     → r ≡ s
 same_rules r s read a b = cc
 

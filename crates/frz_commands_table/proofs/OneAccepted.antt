@@ -1,11 +1,10 @@
 -- Of two files with one text `check` accepts at most one.
-use Rattle.std.proofs.Common.{◌≡◌, sym, ap, subst, ◌∙◌, ℕ, List, [], take, drop, Option, Some, Result, Ok}
+use Rattle.std.proofs.Common.{◌≡◌, sym, ap, subst, ◌∙◌, ℕ, List, [], take, drop, Option, Some}
 use Rattle.std.specs.Option.{unwrap_or}
 use Rattle.frz_board.specs.Boards.{Board}
 use Rattle.frz_sets.specs.declared.exit.Value.{Value}
 use Rattle.frz_exits.specs.Books.{value_by}
 use Rattle.frz_sets.specs.Views.{RuleLines}
-use Rattle.frz_rules.specs.declared.fault.RulesFault.{RulesFault}
 use Rattle.frz_rules.specs.Text.{rules_of}
 use Rattle.frz_store.specs.Files.{Files, bytes_at}
 use Rattle.frz_table.specs.declared.kind.FileKind.TheVariants.{Plain}
@@ -13,6 +12,7 @@ use Rattle.frz_table.specs.Layout.{magic_of}
 use Rattle.frz_table.specs.Numbers.{AreBytes}
 use Rattle.frz_table.specs.Possible.{held_text}
 use Rattle.frz_check.specs.OneFile.{IsOneFile}
+use Rattle.frz_check.proofs.Lemmas.{same_rules}
 use Rattle.frz_answer.specs.declared.status.Status.{Status}
 use Rattle.frz_answer.specs.declared.status.Status.TheVariants.{Success}
 use Rattle.frz_answer.specs.Answers.{Answer}
@@ -41,10 +41,6 @@ bytes_held : (table : List ℕ) (files : Files) (one : Headline table files)
     → AreBytes (bytes_at files table) → AreBytes one.bytes
 bytes_held table files one are =
     subst (λ (held : Option (List ℕ)). AreBytes (unwrap_or held [])) one.there are
-
-same_rules : (r s : RuleLines) (read : Result RuleLines RulesFault) → read ≡ Ok r → read ≡ Ok s
-    → r ≡ s
-same_rules r s read a b = cc
 
 -- of files with one text there is one that is accepted
 pub one_accepted : ((rules : RuleLines) (value : Board → Value) (magic text bytes others : List ℕ) →

@@ -27,7 +27,7 @@ use Rattle.frz_game.proofs.Lemmas.{table_there, table_one}
 use Rattle.frz_graph.specs.EntryCodes.{of_side}
 use Rattle.frz_commands_table.specs.Sampling.{sample_text, sample_size, sample_lines, number_line, IsSampledBy, IsSampled, sampling, sampling_named, sample_words}
 use Rattle.frz_commands_table.specs.declared.sample.TheConstants.{LAST_SQUARE}
-use Rattle.frz_check.proofs.Lemmas.{read_small}
+use Rattle.frz_check.proofs.Lemmas.{read_small, same_rules}
 use Rattle.frz_commands_table.proofs.SampleText.{text_read}
 
 -- the table of either side is exact where both are
@@ -59,14 +59,11 @@ never_bad k small fault e =
     let ok : Result RuleLines RulesFault = Ok given.rules in
     let both : ok ≡ Err fault = sym given.read ∙ e in cc
 
-same_rules : (r s : RuleLines) → ◌≡◌ {A = Result RuleLines RulesFault} (Ok r) (Ok s) → r ≡ s
-same_rules r s e = cc
-
 pub size_is : (k : ℕ) → k < 64 → (r : RuleLines) → rules_of (sample_text k) ≡ Ok r
     → size_of r.groups ≡ sample_size
 size_is k small r e =
     let given = text_read k small in
-    ap (λ (x : RuleLines). size_of x.groups) (same_rules r given.rules (sym e ∙ given.read))
+    ap (λ (x : RuleLines). size_of x.groups) (same_rules r given.rules (rules_of (sample_text k)) e given.read)
     ∙ given.size
 
 -- a table by the values of equal rules, in an equal list
@@ -87,7 +84,7 @@ module _ (k : ℕ) (m : Files) (a b : Answer) where
 
   one_of : IsSampled k m a → IsSampled k m b → b ≡ a
   one_of (r, read, h) (s, read', h') =
-      let same : s ≡ r = same_rules s r (sym read' ∙ read) in
+      let same : s ≡ r = same_rules s r (rules_of (sample_text k)) read' read in
       one_by r h (subst (λ (t : RuleLines). IsSampledBy k t m b) same h')
 
 one_sampled : (k : ℕ) → k < 64 → (m : Files) → HasOneAnswer (λ a. IsSampled k m a)
