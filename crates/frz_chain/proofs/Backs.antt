@@ -19,7 +19,7 @@ use Rattle.frz_table.proofs.Lemmas.{belongs}
 use Rattle.frz_check.specs.declared.verdict.Verdict.{Verdict}
 use Rattle.frz_check.specs.Kept.{WithinFile, kept_codes}
 use Rattle.frz_check.specs.Verdicts.{IsVerdict}
-use Rattle.frz_check.proofs.Lemmas.{few_plies, file_not_loaded, file_opens, verdict_on, within_file}
+use Rattle.frz_check.proofs.Lemmas.{few_plies, file_not_loaded, file_opens, same_verdict, verdict_on, within_file}
 use Rattle.frz_chain.specs.Backs.{GivesBack, IsBackJudged, IsRefusedBack, OpensBack, RefusesBack}
 use Rattle.frz_chain.specs.Books.{Back, back_with}
 use Rattle.frz_chain.specs.Causes.{back_fault}
@@ -27,7 +27,6 @@ use Rattle.frz_chain.specs.FileOn.{back_of, loaded_back}
 use Rattle.frz_chain.specs.declared.back.BackTable.{BackTable}
 use Rattle.frz_chain.specs.declared.fault.ChainFault.{ChainFault}
 use Rattle.frz_chain.specs.declared.fault.ChainFault.TheVariants as chain
-use Rattle.frz_chain.proofs.Moved.{same_verdict}
 
 -- a file that is refused is refused as a back table
 file_refused : (held : Option (List ℕ)) (fault : TableFault)

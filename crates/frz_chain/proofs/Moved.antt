@@ -1,8 +1,5 @@
 -- Verdicts by equal rules and equal codes.
 use Rattle.std.proofs.Common.{◌≡◌, subst, ℕ, List, Option}
-use Rattle.frz_board.specs.Boards.{Board}
-use Rattle.frz_board.specs.declared.man.Colour.{Colour}
-use Rattle.frz_sets.specs.declared.exit.Value.{Value}
 use Rattle.frz_sets.specs.Views.{RuleLines}
 use Rattle.frz_exits.specs.Books.{value_by}
 use Rattle.frz_graph.specs.EntryCodes.{of_side}
@@ -12,15 +9,6 @@ use Rattle.frz_check.specs.declared.verdict.Verdict.{Verdict}
 use Rattle.frz_check.specs.Kept.{ChecksTable}
 use Rattle.frz_check.specs.Verdicts.{IsVerdict}
 use Rattle.frz_chain.specs.Books.{Back, chain_value}
-
--- a verdict on codes is one on the same codes
-pub same_verdict : (rules : RuleLines) (value : Board → Value) (codes others : Colour → List ℕ)
-    (v : Verdict)
-    → ((side : Colour) → codes side ≡ others side) → IsVerdict rules value codes v
-    → IsVerdict rules value others v
-same_verdict rules value codes others v same h =
-    let e : codes ≡ others = λ i side. same side i in
-    subst (λ (c : Colour → List ℕ). IsVerdict rules value c v) e h
 
 -- by equal rules and equal lists
 pub moved_verdict : (r s b : RuleLines) (white black white_slice black_slice : List ℕ) (v : Verdict)

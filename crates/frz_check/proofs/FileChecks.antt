@@ -7,7 +7,6 @@ use Rattle.frz_board.specs.declared.man.Colour.TheVariants.{White, Black}
 use Rattle.frz_sets.specs.declared.exit.Value.{Value}
 use Rattle.frz_sets.specs.Sets.{size_of}
 use Rattle.frz_sets.specs.Views.{RuleLines}
-use Rattle.frz_arena.specs.LocalCodes.{local_code}
 use Rattle.frz_exits.specs.Books.{value_by}
 use Rattle.frz_graph.specs.EntryCodes.{of_side}
 use Rattle.frz_rules.specs.Text.{rules_of}
@@ -23,11 +22,10 @@ use Rattle.frz_table.specs.Possible.{MayHold, MayKeep, MayOpen}
 use Rattle.frz_table.specs.Tables.{IsTableFile, Table, table_size}
 use Rattle.frz_table.proofs.Lemmas.{belongs, length-numbers, loading_calls, opened_calls, opens_by, outside_refuses, read_short, text_kept}
 use Rattle.frz_game.specs.Bounds.{IsTableOf}
-use Rattle.frz_game.specs.Games.{graph_by}
 use Rattle.frz_check.specs.declared.verdict.Verdict.{Verdict}
 use Rattle.frz_check.specs.declared.verdict.Verdict.TheVariants as verdict
 use Rattle.frz_check.specs.Kept.{ChecksFile, ChecksTable, IsVerdictOn, RefusesFile, WithinFile, kept_codes, opened_size}
-use Rattle.frz_check.specs.Verdicts.{IsVerdict, given_code, kept_code}
+use Rattle.frz_check.specs.Verdicts.{IsVerdict}
 use Rattle.frz_check.proofs.OneFile.{verdict_on}
 use Rattle.frz_check.proofs.OneVerdict.{TablesExact}
 
@@ -45,25 +43,9 @@ pub same_verdict : (rules : RuleLines) (value : Board → Value) (codes others :
     (v : Verdict) →
     ((side : Colour) → codes side ≡ others side) → IsVerdict rules value codes v
     → IsVerdict rules value others v
-same_verdict rules value codes others verdict.Exact same h =
-    λ side. subst (λ (l : List ℕ). IsTableOf rules value side l) (same side) (h side)
-same_verdict rules value codes others (verdict.Wrong w) same h = record {
-  inside = h.inside;
-  kept = h.kept ∙ ap (λ (l : List ℕ). slice_index l w.number) (same w.side);
-  given = h.given ∙ ap
-      (λ (l : List ℕ). local_code (graph_by rules value) w.side (λ k. slice_index l k) w.number)
-      (same w.side);
-  differs = h.differs;
-  before = λ i l side. moved side i (h.before i l side);
-  white_first = λ black. moved White w.number (h.white_first black);
-}
-  where
-    moved : (side : Colour) (i : ℕ) →
-        kept_code codes side i ≡ given_code (graph_by rules value) codes side i →
-        kept_code others side i ≡ given_code (graph_by rules value) others side i
-    moved side i e =
-        subst (λ (l : List ℕ). slice_index l i ≡ local_code (graph_by rules value) side
-        (λ k. slice_index l k) i) (same side) e
+same_verdict rules value codes others v same h =
+    let e : codes ≡ others = λ i side. same side i in
+    subst (λ (c : Colour → List ℕ). IsVerdict rules value c v) e h
 
 -- the file of a table that was opened, under its name: the name may hold it, and it opens so
 pub file_opens : (kind : FileKind) (table : Table) (name bytes : List ℕ) (old now : Option Files) →

@@ -6,7 +6,7 @@ pub use Rattle.frz_check.proofs.Accepted.{
   read_sound,
   small_lags,
 }
-pub use Rattle.frz_check.proofs.FileChecks.{file_not_loaded, file_opens, many_codes, within_file}
+pub use Rattle.frz_check.proofs.FileChecks.{file_not_loaded, file_opens, many_codes, same_verdict, within_file}
 pub use Rattle.frz_check.proofs.OneVerdict.{TablesExact, verdict_there, one_verdict, exact_verdict}
 pub use Rattle.frz_check.proofs.OneFile.{
   file_there,
