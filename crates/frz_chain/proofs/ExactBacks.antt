@@ -1,7 +1,6 @@
 -- A back table is known to be exact by the verdict on it.
-use Rattle.std.proofs.Common.{◌≡◌, ◌≢◌, refl, sym, ap, ◌∙◌, ◌==◌, ◌&&◌, ◌<◌, ℕ, zero, suc, Bool, true, false, if◌then◌else◌, inl, inr, List, Option, Some, None, Result, Ok, Err, arith}
-use Rattle.std.proofs.lemmas.Bool.{cases_lt}
-use Rattle.std.proofs.lemmas.Bool.Decides.{nat_tests}
+use Rattle.std.proofs.Common.{◌≡◌, ◌≢◌, refl, sym, ap, ◌∙◌, ◌==◌, ◌<◌, ℕ, zero, suc, Bool, true, false, if◌then◌else◌, inl, inr, List, Option, Some, None, Result, Ok, Err, arith}
+use Rattle.std.proofs.lemmas.Bool.{and_from, and_left, and_right, cases_lt, eq-eqb, ne_eqb}
 use Rattle.frz_board.specs.declared.man.Colour.{Colour}
 use Rattle.frz_board.specs.declared.man.Colour.TheVariants.{White, Black}
 use Rattle.frz_arena.specs.Arena.{Arena}
@@ -20,36 +19,20 @@ use Rattle.frz_check.specs.Verdicts.{AgreeAt, IsFirstWrong, given_code, kept_cod
 use Rattle.frz_chain.specs.Backs.{HasWrong, IsBackJudged}
 use Rattle.frz_chain.specs.ExactBacks.{agree_at, all_agree, if_exact, is_exact, is_exact_by}
 
-same_number : (a b : ℕ) → a ≡ b → (a == b) ≡ true
-same_number a b e = grind (arith, nat_tests)
-
-other_number : (a b : ℕ) → a ≢ b → (a == b) ≡ false
-other_number a b differ = grind (arith, nat_tests)
-
-both : (a b : Bool) → a ≡ true → b ≡ true → (a && b) ≡ true
-both a b e f = ap (λ x. x && b) e ∙ f
-
-first_not : (a b : Bool) → a ≡ false → (a && b) ≡ false
-first_not a b e = ap (λ x. x && b) e
-
-second_not : (a b : Bool) → b ≡ false → (a && b) ≡ false
-second_not true b e = e
-second_not false b e = refl
-
 module _ {M V : Type 0} (arena : Arena M ℕ V) (codes : Colour → List ℕ) where
   -- where the codes of both sides agree they are found to
   agree_there : (i : ℕ) → AgreeAt arena codes i → agree_at arena codes i ≡ true
   agree_there i agree =
-      both (kept_code codes White i == given_code arena codes White i)
+      and_from (kept_code codes White i == given_code arena codes White i)
       (kept_code codes Black i == given_code arena codes Black i)
-      (same_number (kept_code codes White i) (given_code arena codes White i) (agree White))
-      (same_number (kept_code codes Black i) (given_code arena codes Black i) (agree Black))
+      (eq-eqb (kept_code codes White i) (given_code arena codes White i) (agree White))
+      (eq-eqb (kept_code codes Black i) (given_code arena codes Black i) (agree Black))
 
   all_there : (n : ℕ) → ((i : ℕ) → i < n → AgreeAt arena codes i) → all_agree arena codes n ≡ true
   unfolding all_agree
   all_there zero agree = refl
   all_there (suc n) agree =
-      both (all_agree arena codes n) (agree_at arena codes n)
+      and_from (all_agree arena codes n) (agree_at arena codes n)
       (all_there n (λ i l. agree i (omega (arith, l))))
       (agree_there n (agree n (omega arith)))
 
@@ -57,24 +40,24 @@ module _ {M V : Type 0} (arena : Arena M ℕ V) (codes : Colour → List ℕ) wh
   differ_there : (side : Colour) (i : ℕ) → kept_code codes side i ≢ given_code arena codes side i
       → agree_at arena codes i ≡ false
   differ_there White i differ =
-      first_not (kept_code codes White i == given_code arena codes White i)
+      and_left (kept_code codes White i == given_code arena codes White i)
       (kept_code codes Black i == given_code arena codes Black i)
-      (other_number (kept_code codes White i) (given_code arena codes White i) differ)
+      (ne_eqb (kept_code codes White i) (given_code arena codes White i) differ)
   differ_there Black i differ =
-      second_not (kept_code codes White i == given_code arena codes White i)
+      and_right (kept_code codes White i == given_code arena codes White i)
       (kept_code codes Black i == given_code arena codes Black i)
-      (other_number (kept_code codes Black i) (given_code arena codes Black i) differ)
+      (ne_eqb (kept_code codes Black i) (given_code arena codes Black i) differ)
 
   some_differ : (n i : ℕ) → i < n → agree_at arena codes i ≡ false → all_agree arena codes n ≡ false
   unfolding all_agree
   some_differ zero i l e = absurd (omega (arith, l))
   some_differ (suc n) i l e =
       elim (cases_lt i n) [
-        | inl below ↦ first_not (all_agree arena codes n) (agree_at arena codes n)
+        | inl below ↦ and_left (all_agree arena codes n) (agree_at arena codes n)
             (some_differ n i below e)
         | inr above ↦
             (let same : i ≡ n = omega (arith, l, above) in
-            second_not (all_agree arena codes n) (agree_at arena codes n)
+            and_right (all_agree arena codes n) (agree_at arena codes n)
             (ap (λ k. agree_at arena codes k) (sym same) ∙ e))
       ]
 
