@@ -1,7 +1,7 @@
 -- That `chain` has an answer, and only one, and what it means.
 use Rattle.std.proofs.Common.{◌≡◌, refl, sym, ap, subst, ◌∙◌, ℕ, List, Option, Some, None, Result, Ok, Err}
 use Rattle.frz_game.specs.declared.wrong.Wrong.{Wrong as WrongEntry}
-use Rattle.frz_game.proofs.Lemmas.{table_one, table_there}
+use Rattle.frz_game.proofs.Lemmas.{table_one}
 use Rattle.frz_rules.specs.declared.fault.RulesFault.{RulesFault}
 use Rattle.frz_rules.specs.Text.{rules_of}
 use Rattle.frz_rules.proofs.Lemmas.{answer_sound}
@@ -13,11 +13,10 @@ use Rattle.frz_table.specs.declared.fault.TableFault.{TableFault}
 use Rattle.frz_table.specs.declared.kind.FileKind.TheVariants.{Plain, Chained}
 use Rattle.frz_table.specs.Layout.{magic_of}
 use Rattle.frz_table.specs.Opening.{opened, table_format}
-use Rattle.frz_check.proofs.Lemmas.{file_there, one_file}
+use Rattle.frz_check.proofs.Lemmas.{one_file}
 use Rattle.frz_chain.specs.Backs.{HasWrong}
 use Rattle.frz_chain.specs.Books.{Back, chain_value}
-use Rattle.frz_chain.specs.FileOn.{IsFileOn}
-use Rattle.frz_chain.proofs.Lemmas.{chain_small}
+use Rattle.frz_chain.proofs.Lemmas.{file_on_there}
 use Rattle.frz_answer.specs.declared.status.Status.TheVariants as statuses
 use Rattle.frz_answer.specs.Answers.{Answer, says, SomeAnswer}
 use Rattle.frz_answer.specs.Lawful.{HasOneAnswer, IsLawful}
@@ -34,17 +33,10 @@ use Rattle.frz_commands_chain.specs.Reading.{HasRules, IsRefusedBoth}
 use Rattle.frz_commands_chain.proofs.BackOnce.{BackFound, back_found, never_both, not_open, one_back, one_wrong_entry, right, wrong}
 use Rattle.frz_commands_chain.proofs.PairOnce.{back_opens, not_both, same_fault, same_value, wrong_opens}
 
--- the one file of a text over a back table is there
-file_on : (text : List ℕ) (r : RuleLines) (back : Back) → IsSound r → (bytes : List ℕ)
-    × IsFileOn text r back bytes
-file_on text r back sound =
-    file_there r (chain_value r back)
-    (table_there r (chain_value r back) (chain_small r back sound)) (magic_of Chained) text
-
 pub some_chained_by : (text : List ℕ) (r : RuleLines) (back : Back) → IsSound r
     → (table : List ℕ) (m : Files) → SomeAnswer (λ a. IsChainedBy text r back table m a)
 some_chained_by text r back sound table m =
-    let file = file_on text r back sound in record {
+    let file = file_on_there text r back sound in record {
       a = says statuses.Success (chained_line (size_of r.groups)) (put m table file.0);
       answer = (file.0, file.1, refl);
       text = λ e. cc;
