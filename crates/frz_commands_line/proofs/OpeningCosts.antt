@@ -13,8 +13,8 @@ use Rattle.frz_table.specs.declared.fault.TableFault.{TableFault}
 use Rattle.frz_table.specs.declared.fault.TableFault.TheVariants.{Missing}
 use Rattle.frz_table.specs.declared.kind.FileKind.TheVariants.{Plain}
 use Rattle.frz_table.specs.Opening.{Contents, opened, opening_calls, table_format}
-use Rattle.frz_table.specs.Possible.{MayHold, MayRefuse, held_text}
-use Rattle.frz_table.proofs.Lemmas.{opened_calls, opened_missing}
+use Rattle.frz_table.specs.Possible.{MayRefuse, held_text}
+use Rattle.frz_table.proofs.Lemmas.{opened_calls, opened_missing, same_held}
 use Rattle.frz_answer.specs.World.{Spent}
 use Rattle.frz_answer.specs.Jobs.{WithinCosts}
 use Rattle.frz_line.specs.Costs.{SpendsAt}
@@ -131,11 +131,6 @@ playing_within held contents p comes old mid new e steps few bytes costs =
     (behind_opening contents p (comes contents) (opening_calls (table_format Plain) held)
     (16 + length (held_text held)) old mid steps calls bytes new costs)
 
-tells : (told : Option Files) (name : List ℕ) (held : Option (List ℕ)) → MayHold told name held
-    → IfSome told (λ m. m name ≡ held)
-tells None name held may = tt
-tells (Some m) name held may = may
-
 -- the calls at a table that does not open are those that opening what the name holds takes
 pub refused_calls : (name : List ℕ) (old new : StoreTold) (fault : TableFault) (files : Files)
     → IsSome old.files → IfSome old.files (λ m. m ≡ files)
@@ -143,6 +138,6 @@ pub refused_calls : (name : List ℕ) (old new : StoreTold) (fault : TableFault)
     → new.calls ≤ old.calls + opening_calls (table_format Plain) (files name)
 refused_calls name old new fault files sees agrees h =
     let same = of_told old.files files (λ m. m name ≡ h.held) sees agrees
-    (tells old.files name h.held h.may) in
+    (same_held old.files name h.held h.may) in
     subst (λ (held : Option (List ℕ)). new.calls ≤ old.calls + opening_calls (table_format Plain)
     held) (sym same) h.calls
