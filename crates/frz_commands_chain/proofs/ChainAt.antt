@@ -1,11 +1,9 @@
 -- How `chain` ends where what it reads was refused, and what it finds where it was read.
-use Rattle.std.proofs.Common.{◌≡◌, refl, subst, ℕ, List, [], ◌∷◌, Result, Err, Bool, true, false, arith}
+use Rattle.std.proofs.Common.{◌≡◌, refl, subst, ℕ, List, [], ◌∷◌, Result, Err, arith}
 use Rattle.frz_store.specs.Files.{Files}
 use Rattle.frz_sets.specs.Views.{RuleLines}
 use Rattle.frz_answer.specs.declared.status.Status.TheVariants.{Success, Rules, Table, Wrong, Missing}
 use Rattle.frz_answer.specs.Statuses.{OneOf}
-use Rattle.frz_answer.specs.Jobs.{Job}
-use Rattle.frz_answer.specs.Words.{unless}
 use Rattle.frz_answer.specs.World.{World, Agrees}
 use Rattle.frz_answer.proofs.Lemmas.{Found, IsStage}
 use Rattle.frz_chain.specs.Books.{Back}
@@ -90,9 +88,3 @@ stopped_at rules back table (Fault fault) files input old new h agrees =
         asked = omega (arith, asked);
       };
     }
-
--- where the names differ the store is called
-pub calls_store : (b : Bool) (job : Job) → b ≡ false → job.needs.store ≡ true
-    → (unless b job).needs.store ≡ false → ⊥
-calls_store true job e asks none = cc
-calls_store false job e asks none = cc

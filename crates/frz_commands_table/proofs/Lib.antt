@@ -1,5 +1,4 @@
 pub mod Lemmas
-mod UnlessSame
 mod Built
 mod BuildAsked
 mod BuildMeaning

@@ -23,3 +23,4 @@ pub use Rattle.frz_prelude.proofs.Stopping.{
   refusal_said,
   some_refusal,
 }
+pub use Rattle.frz_prelude.proofs.UnlessSame.{calls_store}

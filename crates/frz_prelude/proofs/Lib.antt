@@ -6,3 +6,4 @@ mod NamedRules
 pub mod Positions
 pub mod Lemmas
 mod Stopping
+mod UnlessSame

@@ -1,8 +1,8 @@
 use Rattle.std.proofs.Common.{◌≡◌, sym, ◌∙◌, true, false, refl}
 use Rattle.frz_store.specs.Told.{store_of}
 use Rattle.frz_answer.proofs.Lemmas.{as_unless}
+use Rattle.frz_prelude.proofs.Lemmas.{calls_store}
 use Rattle.frz_commands_chain.specs.Chaining.{chaining_at, is_named_twice}
-use Rattle.frz_commands_chain.proofs.ChainAt.{calls_store}
 use Rattle.frz_commands_chain.proofs.chaining.chain_named.Goals as goal
 
 pub returns-then-is_repeated-clause-ran : goal.returns-then-is_repeated-clause-ran

@@ -2,8 +2,8 @@ use Rattle.std.proofs.Common.{◌≡◌, sym, ◌∙◌, true, false, refl}
 use Rattle.std.specs.Str.{bytes_eq}
 use Rattle.frz_store.specs.Told.{store_of}
 use Rattle.frz_answer.proofs.Lemmas.{as_unless}
+use Rattle.frz_prelude.proofs.Lemmas.{calls_store}
 use Rattle.frz_commands_table.specs.BuildMeaning.{building_at}
-use Rattle.frz_commands_table.proofs.UnlessSame.{calls_store}
 use Rattle.frz_commands_table.proofs.build.build_named.Goals as goal
 
 pub returns-then-eq-clause-ran : goal.returns-then-eq-clause-ran
