@@ -60,9 +60,6 @@ pub record SoFar (known : Option (List ℕ)) (arena : Arena Step ℕ Value) (sid
   pub spent : SpendsAt arena 0 numbers before now
   pub comes : IfSome known (λ kept. ComeBy arena side kept start code spot numbers text)
 
-zero_is : (k : ℕ) → k ≡ 0 → (k == 0) ≡ true
-zero_is k e = subst (λ (n : ℕ). (n == 0) ≡ true) (sym e) refl
-
 more_is : (k : ℕ) → (k + 1 == 0) ≡ false
 more_is k = grind (arith, nat_tests)
 

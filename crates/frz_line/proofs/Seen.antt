@@ -1,8 +1,9 @@
 -- The moves of one number as an arena of their own, in which
 -- the codes that were read are the codes.
-use Rattle.std.proofs.Common.{◌≡◌, ◌≢◌, ◌<◌, ◌+◌, ◌-◌, ◌==◌, ◌&&◌, ◌||◌, not, ℕ, inl, inr, Bool, true, false, List, [], ◌∷◌, Option, Some, None, map, length, refl, sym, subst, ap, ◌∙◌, arith, eq-eqb}
+use Rattle.std.proofs.Common.{◌≡◌, ◌≢◌, ◌<◌, ◌+◌, ◌-◌, ◌==◌, ◌||◌, not, ℕ, inl, inr, Bool, true, false, List, [], ◌∷◌, Option, Some, None, map, length, refl, sym, subst, ap, ◌∙◌, arith, eq-eqb}
 use Rattle.std.specs.Prelude.{slice_get}
 use Rattle.std.specs.List.{Contains, filter}
+use Rattle.std.proofs.lemmas.Bool.{and_right, or_right}
 use Rattle.std.proofs.lemmas.Option.{slice_get-map}
 use Rattle.std.proofs.lemmas.Bool.{cases_Bool}
 use Rattle.frz_board.specs.declared.man.Colour.{Colour}
@@ -176,14 +177,6 @@ taken_by_codes {M} {N} {V} {S} {R} player most o s x r c =
     (elim (same_colour x.mover player.side) as (λ b. IsTakenBy player b (ByCodes most) s x s)
     [ true ↦ (c, r, refl) | false ↦ (c, r, refl) ])
 
-never_late : (b : Bool) → (b && false) ≡ false
-never_late true = refl
-never_late false = refl
-
-or_true : (b : Bool) → (b || true) ≡ true
-or_true true = refl
-or_true false = refl
-
 -- where the kept code is the one that the moves give, and no failure, a line has a ply here
 moves_here : (side mover : Colour) (kept : ℕ) (arms : List (Arm Step ℕ Value)) (cs : List ℕ)
     → length cs ≡ length arms → kept ≡ node_code side (Going mover) (free_among arms cs) cs
@@ -193,7 +186,7 @@ moves_here side mover kept arms cs many agrees stands =
     let given = local_code (seen_arena (Going mover) arms cs) side (seen_entry kept) None in
     let same : kept ≡ given = agrees ∙ sym (seen_local side (Going mover) kept arms cs many) in
     let equal : (kept == given) ≡ true = eq-eqb kept given same in
-    let late = never_late (kept == 1) in
+    let late = and_right (kept == 1) false refl in
     rw (equal, stands, late) refl
 
 pub move_there : (side mover : Colour) (kept : ℕ) (arms : List (Arm Step ℕ Value)) (cs : List ℕ)
@@ -240,7 +233,7 @@ next_code_is side mover kept arms cs many agrees stands i y found =
     let is : y ≡ seen r.0 = cc in
     let code : y.code ≡ arm_code arena side (seen_entry kept) r.0 = ap (λ (z : Choice). z.code)
     is in
-    let by = or_true (same_colour mover side) in
+    let by = or_right (same_colour mover side) true refl in
     elim keeps.stands [
       | inl w ↦ inl (
         w,

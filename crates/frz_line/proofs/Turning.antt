@@ -1,5 +1,6 @@
 -- What a turn of a line does, by what is due.
 use Rattle.std.proofs.Common.{◌≡◌, ◌≢◌, ◌<◌, ◌==◌, ◌&&◌, ℕ, ◌⊎◌, inl, inr, Bool, true, false, List, [], length, refl, sym, subst, ap, ◌∙◌, arith, if◌then◌else◌, nat_le}
+use Rattle.std.proofs.lemmas.Bool.{eq-eqb, eqb-true}
 use Rattle.std.proofs.lemmas.Bool.Decides.{nat_tests}
 use Rattle.frz_board.specs.declared.man.Colour.{Colour}
 use Rattle.frz_board.specs.Moving.{Step}
@@ -36,9 +37,6 @@ on_ply is_late kept (nodes.Going c) m h =
       | inr r ↦ ((let e = r.1 in let same : c ≡ m = cc in ap nodes.Going same), r.0)
     ]
 
-same_number : (a b : ℕ) → (a == b) ≡ true → a ≡ b
-same_number a b e = grind (arith, nat_tests)
-
 -- a ply is due: the kept code is the given one, the game goes on, and the hold is not at its end
 pub record PlyDue (is_start is_late : Bool) (kept given : ℕ) (node : Node)
     (m : Colour) : Type 0 where
@@ -60,7 +58,7 @@ ply_due is_start is_late kept given node m h =
             | inl q ↦ absurd (let e = q.1 in cc)
             | inr q ↦ (let on = on_ply is_late kept node m q.1 in
                 record {
-                  agrees = same_number kept given r.0;
+                  agrees = eqb-true kept given r.0;
                   starts = q.0;
                   goes = on.0;
                   early = on.1;
@@ -72,9 +70,6 @@ second : (a b : Bool) → a ≡ true → (a && b) ≡ false → b ≡ false
 second true b t f = f
 second false b t f = absurd (cc)
 
-started : (k : ℕ) → k ≡ 0 → (k == 0) ≡ true
-started k e = grind (arith, nat_tests)
-
 -- a spot where a ply is due has no failing code
 pub never_fails : (is_start : Bool) (kept : ℕ) → (is_start ≡ true) ⊎ (is_failure kept ≡ false)
     → (is_start && is_failure kept) ≡ false → is_failure kept ≡ false
@@ -83,7 +78,7 @@ never_fails is_start kept (inr s) f = s
 
 pub never_failing : (k kept : ℕ) → (k ≡ 0) ⊎ (is_failure kept ≡ false)
     → ((k == 0) && is_failure kept) ≡ false → is_failure kept ≡ false
-never_failing k kept (inl e) f = never_fails (k == 0) kept (inl (started k e)) f
+never_failing k kept (inl e) f = never_fails (k == 0) kept (inl (eq-eqb k 0 e)) f
 never_failing k kept (inr e) f = e
 
 pub still_early : (kept k most : ℕ) → ((kept == 1) && nat_le most k) ≡ false → kept ≡ 1 → k < most

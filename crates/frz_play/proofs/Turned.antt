@@ -1,6 +1,7 @@
 -- What a turn of a session leaves: its text, its bytes, and how the session goes on.
-use Rattle.std.proofs.Common.{◌≡◌, ◌==◌, ◌&&◌, ◌++◌, ℕ, suc, inl, inr, Bool, true, false, List, [], ◌∷◌, Some, map, refl, sym, subst, ap, ◌∙◌, get_or, Result, Ok, Err, append_assoc, append-nil}
+use Rattle.std.proofs.Common.{◌≡◌, ◌==◌, ◌++◌, ℕ, suc, inl, inr, true, false, List, [], ◌∷◌, Some, map, refl, sym, subst, ap, ◌∙◌, get_or, Result, Ok, Err, append_assoc, append-nil}
 use Rattle.std.specs.Prelude.{slice_get, slice_index, codes}
+use Rattle.std.proofs.lemmas.Bool.{and_right}
 use Rattle.frz_board.specs.declared.man.Colour.{Colour}
 use Rattle.frz_board.specs.Men.{same_colour}
 use Rattle.frz_board.specs.Moving.{Step}
@@ -53,10 +54,6 @@ Stands arena side kept spot x =
     slice_index kept spot.number ≡ spot.code → (played : ℕ) → (played == 0) ≡ spot.is_start →
     stage (session_player arena side kept) played spot.number ≡ x
 
-never_late : (b : Bool) → false ≡ (b && false)
-never_late true = refl
-never_late false = refl
-
 pub session_stage : FillsLocal → (arena : Arena Step ℕ Value) (size : ℕ) → IsFinite arena size
     → (side : Colour) (spot : Spot) (arms : List (Arm Step ℕ Value)) (cs kept : List ℕ)
     → arms ≡ arena.arms spot.number → cs ≡ map (arm_code side kept) arms → (due : Due)
@@ -67,7 +64,7 @@ session_stage fills arena size finite side spot arms cs kept are same due e = λ
     let local = local_code_of fills arena size finite side kept spot.number arms cs are same in
     stage_due (session_player arena side kept) played spot.number spot.code
     (node_code side (arena.node spot.number) (free_among arms cs) cs) spot.is_start false agrees
-    (sym local) start (never_late (spot.code == 1))
+    (sym local) start (sym (and_right (spot.code == 1) false refl))
     ∙ ap (stage_told spot.number spot.code) (sym e)
 
 -- the text and the bytes are what the turn adds to each session

@@ -3,6 +3,7 @@ use Rattle.std.proofs.Common.{◌≡◌, ◌≢◌, ◌<◌, ◌≤◌, ◌==◌
 use Rattle.std.specs.Prelude.{slice_get}
 use Rattle.std.specs.List.{Contains}
 use Rattle.std.proofs.lemmas.Option.{slice_get_within}
+use Rattle.std.proofs.lemmas.Bool.{and_right}
 use Rattle.std.proofs.lemmas.Bool.Decides.{nat_tests}
 use Rattle.std.proofs.lemmas.Bool.{cases_Bool}
 use Rattle.frz_board.specs.declared.man.Colour.{Colour}
@@ -48,17 +49,13 @@ if_is : (b : Bool) (x y z : Due) → (if b then x else y) ≡ z → (x ≡ z) �
 if_is true x y z h = inl h
 if_is false x y z h = inr h
 
-late_not : (b : Bool) → (b && false) ≡ false
-late_not true = refl
-late_not false = refl
-
 on_cut : (code : ℕ) (node : Node) → due_on false code node ≡ dues.Cut → ⊥
 on_cut code nodes.Broken h = absurd (cc)
 on_cut code (nodes.Mate m) h = absurd (cc)
 on_cut code (nodes.Stalemate m) h = absurd (cc)
 on_cut code (nodes.Going m) h =
     let e : (if false then dues.Cut else dues.Ply m) ≡ dues.Cut = subst
-    (λ b. (if b then dues.Cut else dues.Ply m) ≡ dues.Cut) (late_not (code == 1)) h in
+    (λ b. (if b then dues.Cut else dues.Ply m) ≡ dues.Cut) (and_right (code == 1) false refl) h in
     absurd (cc)
 
 -- no session is cut
