@@ -3,7 +3,7 @@ use Rattle.std.proofs.Common.{◌≡◌, refl, sym, ap, subst, ◌∙◌, ℕ, z
 use Rattle.std.specs.Prelude.{IfSome, slice_index}
 use Rattle.std.specs.List.{slice_get}
 use Rattle.std.specs.Option.{unwrap_or}
-use Rattle.std.proofs.lemmas.Option.{get_or_from_slice_get}
+use Rattle.std.proofs.lemmas.Option.{IfSome_then, get_or_from_slice_get}
 use Rattle.std.proofs.lemmas.List.{length-replicate, get_or-replicate}
 use Rattle.frz_board.specs.declared.man.Colour.{Colour}
 use Rattle.frz_board.specs.declared.man.Colour.TheVariants.{White, Black}
@@ -259,11 +259,6 @@ module _ (kind : FileKind) (table : Table) (p : Board) (name : List ℕ) (old ne
       (same_held old.files name (Some may.bytes) may.may) tt
       (by_place may.bytes may.opens (is_member table.rules.groups p) refl)
 
-if_some : {A : Type 0} (o : Option A) (P Q : A → Type 0) → ((x : A) → P x → Q x) → IfSome o P
-    → IfSome o Q
-if_some None P Q f h = tt
-if_some (Some x) P Q f h = f x h
-
 -- what was read in place is the code that the file keeps at the position
 module _ (table : Table) (groups : List GroupLine) (same : groups ≡ table.rules.groups) (p : Board)
     (i : ℕ)
@@ -292,14 +287,9 @@ module _ (table : Table) (groups : List GroupLine) (same : groups ≡ table.rule
       → IfSome told (λ m. IfSome (m table.name)
       (λ bytes. kept_at side (contents_of table) bytes p ≡ code))
   entry_kept side told mid e code read =
-      if_some told (λ m. IfSome (m table.name)
-      (λ bytes. slice_get (codes_at side table.text (table_size table) bytes) i ≡ Some code))
-      (λ m. IfSome (m table.name) (λ bytes. kept_at side (contents_of table) bytes p ≡ code))
-      (λ m h. if_some (m table.name)
-      (λ bytes. slice_get (codes_at side table.text (table_size table) bytes) i ≡ Some code)
-      (λ bytes. kept_at side (contents_of table) bytes p ≡ code)
-      (λ bytes k. code_kept side bytes code k) h)
+      IfSome_then told
       (subst (λ (o : Option Files). IfSome o
       (λ m. IfSome (m table.name)
       (λ bytes. slice_get (codes_at side table.text (table_size table) bytes) i ≡ Some code))) e
       read)
+      (λ m h. IfSome_then (m table.name) h (λ bytes k. code_kept side bytes code k))

@@ -3,7 +3,7 @@ pub use Rattle.frz_line.proofs.Choices.{found_code}
 pub use Rattle.frz_line.proofs.Chosen.{AsksForOne, FillsLocal, arm_found, at_in, local_code_of}
 pub use Rattle.frz_line.proofs.Goings.{GoesTo, over_here, stage_due, stage_told}
 pub use Rattle.frz_line.proofs.Kept.{code_kept, told_before, told_by_table}
-pub use Rattle.frz_line.proofs.Options.{both, every, some_of}
+pub use Rattle.frz_line.proofs.Options.{both, every}
 pub use Rattle.frz_line.proofs.Played.{quiet_here}
 pub use Rattle.frz_line.proofs.Seen.{move_there, next_code_is}
 pub use Rattle.frz_line.proofs.Spending.{

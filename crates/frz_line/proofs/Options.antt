@@ -9,8 +9,3 @@ pub both : {A : Type 0} (o : Option A) (P Q R : A → Type 0) → ((x : A) → P
     → IfSome o P → IfSome o Q → IfSome o R
 both None P Q R f p q = tt
 both (Some x) P Q R f p q = f x p q
-
-pub some_of : {A : Type 0} (o : Option A) (P Q : A → Type 0) → ((x : A) → P x → Q x) → IfSome o P
-    → IfSome o Q
-some_of None P Q f h = tt
-some_of (Some x) P Q f h = f x h

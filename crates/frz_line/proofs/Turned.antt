@@ -30,6 +30,7 @@ use Rattle.frz_game.specs.declared.wrong.Wrong.{Wrong as WrongEntry}
 use Rattle.frz_store.specs.declared.outside.StoreFault.{StoreFault}
 use Rattle.frz_store.specs.declared.outside.StoreFault.TheVariants.{Failed, NoMemory}
 use Rattle.std.specs.Result.{IsErrAnd}
+use Rattle.std.proofs.lemmas.Option.{IfSome_then}
 use Rattle.frz_line.specs.declared.due.Due.{Due}
 use Rattle.frz_line.specs.declared.due.Due.TheVariants as dues
 use Rattle.frz_line.specs.declared.end.LineEnd.{LineEnd}
@@ -49,7 +50,7 @@ use Rattle.frz_line.specs.Texts.{arm_text, end_line, exit_line, move_line, next_
 use Rattle.frz_line.specs.Turns.{first_line, moved_text, over_text, turn_of, Answers, IsPlayed, TurnsTo, rest_text, Leaves, GoesBy}
 use Rattle.frz_line.proofs.Chosen.{AsksForOne, FillsLocal, arm_found, at_in, local_code_of}
 use Rattle.frz_line.proofs.Goings.{stage_told, stage_due, over_here, moves_on}
-use Rattle.frz_line.proofs.Options.{every, some_of}
+use Rattle.frz_line.proofs.Options.{every}
 use Rattle.frz_line.proofs.Seen.{next_code_is}
 use Rattle.frz_line.proofs.TextLines.{EndsLine, as_lines, ends_arm, ends_behind, ends_exit}
 use Rattle.frz_line.proofs.Turning.{ply_due, never_failing, still_early}
@@ -319,11 +320,10 @@ over_wrote fills known arena size finite side spot arms cs are due e codes_told 
       text,
       as_lines text (ends_behind (first_line side spot) (end_line last) (ends_end last)),
       by_answers (Over last) text result old new h,
-      some_of known (λ kept. cs ≡ map (arm_code side kept) arms)
-          (λ kept. GoesBy arena side kept spot text result) (λ kept same.
+      IfSome_then known codes_told (λ kept same.
           over_goes arena side kept spot text result f
           (λ agrees. line_stage fills arena size finite side spot arms cs kept are same agrees due e
-          ∙ stops) whole (leaves kept)) codes_told,
+          ∙ stops) whole (leaves kept)),
     )
 
 -- what a turn wrote, by what was due
@@ -343,23 +343,21 @@ module _ (one : AsksForOne) (fills : FillsLocal) (known : Option (List ℕ))
       record { side = side; number = spot.number; kept = spot.code; given = given } in
       let f : EndOfLine = Wrong spot.number spot.code given in
       stop_wrote known arena side spot result old new (faults.Wrong w) h.1 h.0
-      (some_of known (λ kept. cs ≡ map (arm_code side kept) arms)
-      (λ kept. GoesBy arena side kept spot [] result) (λ kept same.
+      (IfSome_then known codes_told (λ kept same.
       over_goes arena side kept spot [] result f
       (λ agrees. line_stage fills arena size finite side spot arms cs kept are same agrees
       (dues.Wrong given) e) (none_text (spot.played == 0))
       (subst (λ (z : Result Turn LineFault). Leaves arena side kept spot [] f [] z) (sym h.0)
-      (refl, refl))) codes_told)
+      (refl, refl))))
   turn_wrote dues.NoBound e codes_told result old new h =
       let f : EndOfLine = NoBound in
       stop_wrote known arena side spot result old new faults.NoBound h.1 h.0
-      (some_of known (λ kept. cs ≡ map (arm_code side kept) arms)
-      (λ kept. GoesBy arena side kept spot [] result) (λ kept same.
+      (IfSome_then known codes_told (λ kept same.
       over_goes arena side kept spot [] result f
       (λ agrees. line_stage fills arena size finite side spot arms cs kept are same agrees
       dues.NoBound e) (none_text (spot.played == 0))
       (subst (λ (z : Result Turn LineFault). Leaves arena side kept spot [] f [] z) (sym h.0)
-      (refl, refl))) codes_told)
+      (refl, refl))))
   turn_wrote (dues.Mate m) e codes_told result old new h =
       over_wrote fills known arena size finite side spot arms cs are (dues.Mate m) e codes_told
       (Mated m) ends.Mate refl refl result old new h
@@ -375,11 +373,10 @@ module _ (one : AsksForOne) (fills : FillsLocal) (known : Option (List ℕ))
         text,
         as_lines text (ends_behind (first_line side spot) (arm_text a) (ends_arm a)),
         by_answers (turn_of a.next h.1.code) text result old new h.5,
-        some_of known (λ kept. cs ≡ map (arm_code side kept) arms)
-            (λ kept. GoesBy arena side kept spot text result) (λ kept same.
+        IfSome_then known codes_told (λ kept same.
             ply_goes one arena size finite side m spot arms cs kept are same
             (λ agrees. line_stage fills arena size finite side spot arms cs kept are same agrees
-            (dues.Ply m) e) h.0 h.1 a h.3 h.4 result old new h.5) codes_told,
+            (dues.Ply m) e) h.0 h.1 a h.3 h.4 result old new h.5),
       )
 
 -- the store stopped a turn before anything was written, by a fault that leaves a line unfinished

@@ -2,6 +2,7 @@
 use Rattle.std.proofs.Common.{◌≡◌, ◌++◌, ℕ, zero, suc, inl, inr, Bool, true, false, List, [], Option, map, refl, sym, subst, ap, ◌∙◌, get_or, if◌then◌else◌, Result, Ok, Err, IfSome, append-nil}
 use Rattle.std.specs.Prelude.{codes}
 use Rattle.std.specs.Result.{IsErrAnd}
+use Rattle.std.proofs.lemmas.Option.{IfSome_then}
 use Rattle.frz_board.specs.declared.man.Colour.{Colour}
 use Rattle.frz_board.specs.Men.{same_colour}
 use Rattle.frz_board.specs.Moving.{Step}
@@ -27,7 +28,7 @@ use Rattle.frz_line.specs.declared.end.LineFault.TheVariants as faults
 use Rattle.frz_line.specs.Dues.{due_by}
 use Rattle.frz_line.specs.Faults.{fault_of}
 use Rattle.frz_line.specs.Texts.{arm_text}
-use Rattle.frz_line.proofs.Lemmas.{AsksForOne, FillsLocal, as_lines, both, ends_arm, ends_behind, every, lines_behind, some_of, stage_told}
+use Rattle.frz_line.proofs.Lemmas.{AsksForOne, FillsLocal, as_lines, both, ends_arm, ends_behind, every, lines_behind, stage_told}
 use Rattle.frz_play.specs.declared.end.SessionEnd.{SessionEnd}
 use Rattle.frz_play.specs.declared.end.SessionEnd.TheVariants as ends
 use Rattle.frz_play.specs.declared.end.PlayFault.{PlayFault}
@@ -200,11 +201,8 @@ module _ (one : AsksForOne) (fills : FillsLocal) (told : Option (List ℕ))
         failed,
         took_none source source refl,
         λ x. (refl, x),
-        some_of told (λ kept. cs ≡ map (arm_code side kept) arms)
-            (λ kept. GoesBy arena side kept spot reader reader [] (opening side spot due)
-            (Err (plays.Line faults.Output)))
-            (λ kept same. opening_failed arena side kept spot due reader (standing due e kept same))
-            codes_told,
+        IfSome_then told codes_told (λ kept same.
+            opening_failed arena side kept spot due reader (standing due e kept same)),
       )
 
   -- a session that is over here: its text is that of its end
@@ -223,15 +221,14 @@ module _ (one : AsksForOne) (fills : FillsLocal) (told : Option (List ℕ))
         wrote = wrote;
         took = took_none source left (ap (λ (z : SourceTold). z.left) unread.1);
         stays = λ x. (refl, ap (λ (z : Reader). z.ended) unread.0 ∙ x);
-        goes = some_of told (λ kept. cs ≡ map (arm_code side kept) arms)
-            (λ kept. TailBy arena side kept spot old new [] (end_text f) result) (λ kept same.
+        goes = IfSome_then told codes_told (λ kept same.
             subst (λ (z : Reader). TailBy arena side kept spot old z [] (end_text f) result)
             (sym unread.0)
             (subst (λ (z : Result Turn PlayFault). TailBy arena side kept spot old old []
             (end_text f) z) (sym is)
             (over_tail arena side kept spot old (end_text f) f answer
             (λ agrees played start. standing due e kept same agrees played start ∙ stops) refl
-            finishes))) codes_told;
+            finishes)));
       }
 
   ends_wrote : (due : Due) → IsDue due → (f : EndOfSession)
@@ -269,8 +266,7 @@ module _ (one : AsksForOne) (fills : FillsLocal) (told : Option (List ℕ))
     wrote = wrote;
     took = hears.took;
     stays = hears.stays;
-    goes = some_of told (λ kept. cs ≡ map (arm_code side kept) arms)
-        (λ kept. TailBy arena side kept spot old new hears.bytes text result) goes codes_told;
+    goes = IfSome_then told codes_told goes;
   }
 
   -- the input has ended
@@ -371,12 +367,10 @@ module _ (one : AsksForOne) (fills : FillsLocal) (told : Option (List ℕ))
         wrote = by_answers (turn_of a.next (get_or cs place 0)) text result out taken h.3.2;
         took = took_none source left (ap (λ (z : SourceTold). z.left) unread.1);
         stays = λ x. (refl, ap (λ (z : Reader). z.ended) unread.0 ∙ x);
-        goes = some_of told (λ kept. cs ≡ map (arm_code side kept) arms)
-            (λ kept. TailBy arena side kept spot old new [] text result) (λ kept same.
+        goes = IfSome_then told codes_told (λ kept same.
             subst (λ (z : Reader). TailBy arena side kept spot old z [] text result) (sym unread.0)
             (own_tail one arena size finite side m spot old arms cs kept own are same
-            (standing (dues.Ply m) e kept same) place h.1 a h.2 h.3.1 result out taken h.3.2))
-            codes_told;
+            (standing (dues.Ply m) e kept same) place h.1 a h.2 h.3.1 result out taken h.3.2));
       }
 
   ply_wrote : (m : Colour) → IsDue (dues.Ply m) → (own : Bool) → same_colour m side ≡ own
