@@ -1,7 +1,8 @@
 -- The answers of `move` are lawful: there is one, and only one.
-use Rattle.std.proofs.Common.{◌≡◌, ℕ, Bool, true, false, ◌||◌, List, refl, ap, sym, ◌∙◌, ◌⊎◌, inl, inr, codes, ◌++◌, append_assoc}
+use Rattle.std.proofs.Common.{◌≡◌, ℕ, Bool, true, false, ◌||◌, List, refl, ap, sym, ◌∙◌, inl, inr, codes, ◌++◌, append_assoc}
 use Rattle.std.specs.Str.{bytes_eq}
 use Rattle.std.specs.List.{list_any}
+use Rattle.std.proofs.lemmas.Bool.{or_cases, or_left, or_right}
 use Rattle.std.proofs.lemmas.List.Folds.{Any-from_list_any, list_any_at}
 use Rattle.std.proofs.lemmas.Slice.Eq.{bytes_eq-Decides}
 use Rattle.frz_store.specs.Files.{Files}
@@ -28,15 +29,6 @@ both_lines x y text fen e h = ap (λ (l : List ℕ). (l ++ codes "\n") ++ (y ++ 
     ∙ ap (λ (l : List ℕ). (text ++ codes "\n") ++ (l ++ codes "\n")) h
     ∙ sym (append_assoc (text ++ codes "\n") fen (codes "\n"))
 
-or_cases : (a b : Bool) → (a || b) ≡ true → (a ≡ true) ⊎ (b ≡ true)
-or_cases true b h = inl refl
-or_cases false b h = inr h
-
-or_true : (a b : Bool) → (a ≡ true) ⊎ (b ≡ true) → (a || b) ≡ true
-or_true true b h = refl
-or_true false b (inl h) = cc
-or_true false b (inr h) = h
-
 module _ (text : List ℕ) (p : Board) where
   -- the test whether a text is that of a move
   has_text : Step → Bool
@@ -44,10 +36,10 @@ module _ (text : List ℕ) (p : Board) where
 
   passes : (m : Step) → IsSan p m text → has_text m ≡ true
   unfolding has_text
-  passes m (inl e) = or_true (bytes_eq text (san_of p m)) (bytes_eq text (unsigned p m))
-      (inl ((bytes_eq-Decides text (san_of p m)).1 e))
-  passes m (inr e) = or_true (bytes_eq text (san_of p m)) (bytes_eq text (unsigned p m))
-      (inr ((bytes_eq-Decides text (unsigned p m)).1 e))
+  passes m (inl e) = or_left (bytes_eq text (san_of p m)) (bytes_eq text (unsigned p m))
+      ((bytes_eq-Decides text (san_of p m)).1 e)
+  passes m (inr e) = or_right (bytes_eq text (san_of p m)) (bytes_eq text (unsigned p m))
+      ((bytes_eq-Decides text (unsigned p m)).1 e)
 
   told : (m : Step) → has_text m ≡ true → IsSan p m text
   unfolding has_text

@@ -2,6 +2,7 @@
 use Rattle.std.proofs.Common.{◌≡◌, refl, sym, ap, subst, ◌∙◌, ℕ, ◌+◌, List, [], ◌∷◌, ◌++◌, filter, Bool, true, false, not, cond, ◌||◌, append-nil, arith}
 use Rattle.std.specs.List.{AllByRecursion, IsDistinct, list_any}
 use Rattle.std.specs.Str.{bytes_eq}
+use Rattle.std.proofs.lemmas.Bool.{or_right}
 use Rattle.std.proofs.lemmas.List.Elements.{filter-append}
 use Rattle.std.proofs.lemmas.Slice.Eq.{bytes_eq-Decides}
 use Rattle.std.proofs.lemmas.List.Sums.{sum_by-cons, sum_by_push}
@@ -139,18 +140,14 @@ firsts_more (c ∷ cs) x = by_met (list_any (bytes_eq x) cs) refl (firsts_more c
         (filter-append (others c) (firsts cs) (x ∷ [])
         ∙ ap (λ (b : Bool). filter (others c) (firsts cs) ++ cond (not b) (x ∷ []) []) apart)
 
-    or_true : (b : Bool) → (b || true) ≡ true
-    or_true true = refl
-    or_true false = refl
-
     by_met : (met : Bool) → list_any (bytes_eq x) cs ≡ met
         → firsts (cs ++ x ∷ []) ≡ cond (list_any (bytes_eq x) cs) (firsts cs) (firsts cs ++ x ∷ [])
         → goes (bytes_eq x c || list_any (bytes_eq x) cs)
     by_met true e h =
         let same : firsts (cs ++ x ∷ []) ≡ firsts cs = h
         ∙ ap (λ (b : Bool). cond b (firsts cs) (firsts cs ++ x ∷ [])) e in
-        let met : (bytes_eq x c || list_any (bytes_eq x) cs) ≡ true =
-        ap (λ (b : Bool). bytes_eq x c || b) e ∙ or_true (bytes_eq x c) in
+        let met : (bytes_eq x c || list_any (bytes_eq x) cs) ≡ true = or_right (bytes_eq x c)
+        (list_any (bytes_eq x) cs) e in
         subst goes (sym met) (ap (whole c) same)
     by_met false e h =
         let more : firsts (cs ++ x ∷ []) ≡ firsts cs ++ x ∷ [] = h
