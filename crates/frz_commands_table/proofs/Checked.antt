@@ -66,7 +66,8 @@ one_by : (x : Result Contents TableFault) (bytes : List ℕ) (files : Files) (a 
 one_by (Ok contents) bytes files a b h k =
     let same : k.verdict ≡ h.verdict =
     one_verdict contents.rules (value_by contents.rules)
-    (table_exact contents.rules (value_by contents.rules)) (kept_codes contents bytes) k.verdict h.verdict k.judged h.judged in
+    (table_exact contents.rules (value_by contents.rules))
+    (kept_codes contents bytes) k.verdict h.verdict k.judged h.judged in
     let say : Verdict → Answer = λ v. says (verdict_status v)
     (verdict_line (size_of contents.rules.groups) v) files in
     k.told ∙ ap say same ∙ sym h.told

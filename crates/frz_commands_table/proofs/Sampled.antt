@@ -63,7 +63,8 @@ pub size_is : (k : ℕ) → k < 64 → (r : RuleLines) → rules_of (sample_text
     → size_of r.groups ≡ sample_size
 size_is k small r e =
     let given = text_read k small in
-    ap (λ (x : RuleLines). size_of x.groups) (same_rules r given.rules (rules_of (sample_text k)) e given.read)
+    ap (λ (x : RuleLines). size_of x.groups)
+    (same_rules r given.rules (rules_of (sample_text k)) e given.read)
     ∙ given.size
 
 -- a table by the values of equal rules, in an equal list
