@@ -1,8 +1,8 @@
 -- A command that is a stage of another.
-use Rattle.std.proofs.Common.{◌≡◌, refl, sym, ap, subst, ◌∙◌, ℕ, List, [], ◌∷◌, ◌++◌, drop, Bool, true, false, ◌&&◌, ◌||◌, ◌==◌, IsTrue, Option}
+use Rattle.std.proofs.Common.{◌≡◌, refl, sym, ap, subst, ◌∙◌, ℕ, List, [], ◌∷◌, ◌++◌, drop, Bool, true, false, ◌||◌, ◌==◌, IsTrue, Option}
 use Rattle.std.specs.Prelude.{IsSome}
 use Rattle.std.specs.Option.{option_map}
-use Rattle.std.proofs.lemmas.Bool.{eqb-true}
+use Rattle.std.proofs.lemmas.Bool.{eqb-true, and_parts}
 use Rattle.std.specs.Io.KnownBytes.{append_known}
 use Rattle.frz_store.specs.Files.{Files}
 use Rattle.frz_store.specs.Told.{Unwritten}
@@ -19,14 +19,6 @@ use Rattle.frz_answer.specs.Ends.{MayMeet, MayEnd, EndsInLines, WritesOnly, Leav
 use Rattle.frz_answer.proofs.Ending.{Found}
 use Rattle.frz_answer.proofs.Worlds.{later_on, fine_on, unwritten_on, only_unwritten, only_on, risen_later, agrees_on}
 
-and_left : (a b : Bool) → (a && b) ≡ true → a ≡ true
-and_left true b h = refl
-and_left false b h = cc
-
-and_right : (a b : Bool) → (a && b) ≡ true → b ≡ true
-and_right true b h = h
-and_right false b h = cc
-
 -- one that is among the first is among the second
 pub one_of_more : (s : Status) (xs ys : List Status) → subset xs ys ≡ true → OneOf s xs → OneOf s ys
 one_of_more s [] ys all h = cc
@@ -34,12 +26,12 @@ one_of_more s (x ∷ xs) ys all h =
     by_first (code_of s == code_of x) refl (one_of_more s xs ys rest) h
   where
     rest : subset xs ys ≡ true
-    rest = and_right (has_code ys (code_of x)) (subset xs ys) all
+    rest = (and_parts (has_code ys (code_of x)) (subset xs ys) all).1
 
     by_first : (b : Bool) → (code_of s == code_of x) ≡ b → (OneOf s xs → OneOf s ys)
         → (b || has_code xs (code_of s)) ≡ true → OneOf s ys
     by_first true e more h = ap (has_code ys) (eqb-true (code_of s) (code_of x) e)
-        ∙ and_left (has_code ys (code_of x)) (subset xs ys) all
+        ∙ (and_parts (has_code ys (code_of x)) (subset xs ys) all).0
     by_first false e more h = more h
 
 -- a job that is a stage of another

@@ -1,5 +1,6 @@
 -- The text of a rank, byte by byte.
-use Rattle.std.proofs.Common.{◌≡◌, ℕ, ◌+◌, ◌<◌, ◌≤◌, Bool, true, false, ◌&&◌, List, [], ◌∷◌, ◌++◌, length, take, get_or, replicate, refl, ap, sym, ◌∙◌, arith}
+use Rattle.std.proofs.Common.{◌≡◌, ℕ, ◌+◌, ◌<◌, ◌≤◌, true, false, List, [], ◌∷◌, ◌++◌, length, take, get_or, replicate, refl, ap, sym, ◌∙◌, arith}
+use Rattle.std.proofs.lemmas.Bool.{and_left, and_right}
 use Rattle.std.specs.Prelude.{◌==◌}
 use Rattle.std.proofs.Common.{inl, inr}
 use Rattle.std.specs.List.{list_all}
@@ -21,13 +22,6 @@ pub bytes-take : (part : List ℕ) (i : ℕ) → i < length part →
     list_all is_gap_or_man (take (i + 1) part) ≡ true
 bytes-take part i l h k = list_all_more is_gap_or_man part i 0 l ∙ rw (h, k) refl
 
-both_false : (x y : Bool) → x ≡ false → (x && y) ≡ false
-both_false x y h = rw h refl
-
-second_false : (x y : Bool) → y ≡ false → (x && y) ≡ false
-second_false true y h = h
-second_false false y h = refl
-
 not_eight : (n : ℕ) → 8 < n → (n == 8) ≡ false
 not_eight n l = elim (eqb_tells n 8) [ inl w ↦ (let e = w.1 in absurd (omega arith)) | inr w ↦ w.0 ]
 
@@ -38,7 +32,7 @@ pub wrong_byte : (part : List ℕ) (i : ℕ) → i < length part →
     is_gap_or_man (get_or part i 0) ≡ false → is_rank part ≡ false
 unfolding is_rank
 wrong_byte part i l h =
-    both_false (list_all is_gap_or_man part) (length (rank_cells part) == 8)
+    and_left (list_all is_gap_or_man part) (length (rank_cells part) == 8)
     (list_all_at is_gap_or_man part i 0 l h)
 
 pub too_wide : (part : List ℕ) (i n cell : ℕ) → i < length part →
@@ -46,7 +40,7 @@ pub too_wide : (part : List ℕ) (i n cell : ℕ) → i < length part →
     is_rank part ≡ false
 unfolding is_rank
 too_wide part i n cell l e h =
-    second_false (list_all is_gap_or_man part) (length (rank_cells part) == 8)
+    and_right (list_all is_gap_or_man part) (length (rank_cells part) == 8)
     (not_eight (length (rank_cells part))
     (let k = length-flat_map-take cells_of part i 0 l in
     let m : length (cells_of (get_or part i 0)) ≡ n = ap length e ∙ length-replicate n cell in
@@ -71,7 +65,7 @@ pub ends_short : (part row : List ℕ) (i : ℕ) → length part ≤ i → row �
 unfolding is_rank
 ends_short part row i l e h =
     let same : row ≡ rank_cells part = e ∙ ap rank_cells (take_all i part l) in
-    second_false (list_all is_gap_or_man part) (length (rank_cells part) == 8)
+    and_right (list_all is_gap_or_man part) (length (rank_cells part) == 8)
     (other_length (length (rank_cells part)) (λ k. h (ap length same ∙ k)))
 
 -- the cells with one more byte

@@ -2,7 +2,7 @@
 use Rattle.std.proofs.Common.{◌≡◌, ℕ, zero, suc, ◌+◌, ◌-◌, ◌<◌, ◌≤◌, Bool, true, false, cond, ◌&&◌, not, List, [], ◌∷◌, ◌++◌, length, replicate, drop, get_or, refl, ap, sym, subst, ◌∙◌, arith, append_assoc, inl, inr}
 use Rattle.std.specs.Prelude.{◌==◌, nat_lt, nat_le, is_some, unwrap_or}
 use Rattle.std.specs.List.{list_all, range_with_len}
-use Rattle.std.proofs.lemmas.Bool.{ltb-true, eqb-true, le-leb, leb-true, eq-eqb, and_parts, and_from}
+use Rattle.std.proofs.lemmas.Bool.{ltb-true, eqb-true, le-leb, leb-true, eq-eqb, and_parts, and_from, not-true}
 use Rattle.std.proofs.lemmas.Bool.Decides.{eqb_tells}
 use Rattle.std.proofs.lemmas.Grind.{replicate_next}
 use Rattle.std.proofs.lemmas.List.{append-nil, length-replicate, length-append, drop_all}
@@ -22,10 +22,6 @@ letters_right = refl
 letter_right : (c : ℕ) → 0 < c → c < 13 → is_letter_right c ≡ true
 letter_right c l m = all_at is_letter_right 1 12 letters_right c (omega arith) (omega arith)
 
-not_gap : (x : Bool) → not x ≡ true → x ≡ false
-not_gap true h = cc
-not_gap false h = refl
-
 pub letter-ascii : (c : ℕ) → 0 < c → c < 13 → letter_of c < 128
 letter-ascii c l m =
     ltb-true (letter_of c) 128
@@ -36,7 +32,7 @@ letter-ascii c l m =
 
 letter-gap : (c : ℕ) → 0 < c → c < 13 → is_gap (letter_of c) ≡ false
 letter-gap c l m =
-    not_gap (is_gap (letter_of c))
+    not-true (is_gap (letter_of c))
     (and_parts (nat_lt (letter_of c) 128) (not (is_gap (letter_of c)))
     (and_parts (nat_lt (letter_of c) 128 && not (is_gap (letter_of c)))
     (is_some (cell_of_letter (letter_of c)) && (unwrap_or (cell_of_letter (letter_of c)) 1 == c))

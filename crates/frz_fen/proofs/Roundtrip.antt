@@ -2,7 +2,7 @@
 use Rattle.std.proofs.Common.{◌≡◌, ℕ, ◌+◌, ◌-◌, ◌*◌, ◌<◌, Bool, true, false, cond, not, List, [], ◌∷◌, Option, None, Some, refl, ap, sym, subst, ◌∙◌, arith}
 use Rattle.std.specs.Prelude.{Ok, Err, codes, ◌==◌, ◌&&◌, nat_le}
 use Rattle.std.specs.Str.{bytes_eq}
-use Rattle.std.proofs.lemmas.Bool.{eqb-true, le-leb, and_parts, and_from}
+use Rattle.std.proofs.lemmas.Bool.{eqb-true, le-leb, and_parts, and_from, and_right}
 use Rattle.frz_board.specs.declared.man.Colour.{Colour}
 use Rattle.frz_board.specs.declared.man.Colour.TheVariants.{White, Black}
 use Rattle.frz_board.specs.Squares.{rank_of}
@@ -43,12 +43,8 @@ turn_bytes White = refl
 turn_bytes Black = refl
 
 -- the target
-never_both : (x : Bool) → (x && false) ≡ false
-never_both true = refl
-never_both false = refl
-
 two_are_no_dash : (x y : ℕ) → bytes_eq (x ∷ y ∷ []) (codes "-") ≡ false
-two_are_no_dash x y = never_both (x == 45)
+two_are_no_dash x y = and_right (x == 45) false refl
 
 square_read : (t : ℕ) → t < 64 → square_word (file_letter t ∷ rank_digit t ∷ []) ≡ Some t
 square_read t l =

@@ -4,7 +4,7 @@ use Rattle.std.specs.Prelude.{◌==◌, cond}
 use Rattle.std.specs.List.{list_all, filter, All}
 use Rattle.std.proofs.lemmas.List.Elements.{All-get_or, All-take, All-drop}
 use Rattle.std.proofs.Math.Seq.{take-add}
-use Rattle.std.proofs.lemmas.Bool.{eq-eqb, and_parts, and_from}
+use Rattle.std.proofs.lemmas.Bool.{eq-eqb, and_parts, and_from, not-true}
 use Rattle.std.proofs.lemmas.Bool.Decides.{eqb_tells}
 use Rattle.std.proofs.lemmas.List.Folds.{list_all-append}
 use Rattle.std.proofs.Common.{lit<, length-drop}
@@ -64,24 +64,16 @@ split_at c [] rest h =
 split_at c (b ∷ bs) rest h =
     let parts = and_parts (not (b == c)) (lacks c bs) h in
     ap (λ (x : Bool). cond x ([] ∷ split (λ k. k == c) (bs ++ c ∷ rest))
-    (with_first b (split (λ k. k == c) (bs ++ c ∷ rest)))) (denied (b == c) parts.0)
+    (with_first b (split (λ k. k == c) (bs ++ c ∷ rest)))) (not-true (b == c) parts.0)
     ∙ ap (with_first b) (split_at c bs rest parts.1)
-  where
-    denied : (x : Bool) → not x ≡ true → x ≡ false
-    denied true h = cc
-    denied false h = refl
 
 split_end : (c : ℕ) (word : List ℕ) → lacks c word ≡ true → split (λ b. b == c) word ≡ word ∷ []
 split_end c [] h = refl
 split_end c (b ∷ bs) h =
     let parts = and_parts (not (b == c)) (lacks c bs) h in
     ap (λ (x : Bool). cond x ([] ∷ split (λ k. k == c) bs) (with_first b (split (λ k. k == c) bs)))
-    (denied (b == c) parts.0)
+    (not-true (b == c) parts.0)
     ∙ ap (with_first b) (split_end c bs parts.1)
-  where
-    denied : (x : Bool) → not x ≡ true → x ≡ false
-    denied true h = cc
-    denied false h = refl
 
 -- the text of a rank has none of the bytes that separate
 byte_lacks : (c b : ℕ) → is_gap_or_man c ≡ false → is_gap_or_man b ≡ true → not (b == c) ≡ true

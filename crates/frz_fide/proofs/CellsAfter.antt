@@ -11,12 +11,10 @@ use Rattle.frz_board.specs.Moving.{Step}
 use Rattle.frz_board.specs.Squares.{files_apart, is_forward}
 use Rattle.frz_fide.specs.Legal.{takes_in_passing, is_target, arrives, beside_on_file, cells_after, target_after}
 use Rattle.frz_fide.specs.Valid.{IsValid}
-use Rattle.frz_board.specs.declared.man.Colour.{Colour}
-use Rattle.frz_board.specs.declared.man.Colour.TheVariants.{White, Black}
 use Rattle.frz_board.specs.declared.man.Kind.{Kind}
-use Rattle.frz_board.specs.declared.man.Kind.TheVariants.{King, Queen, Rook, Bishop, Knight, Pawn}
+use Rattle.frz_board.specs.declared.man.Kind.TheVariants.{Pawn}
 use Rattle.frz_board.specs.declared.man.Man.{Man}
-use Rattle.frz_board.proofs.Lemmas.{cell_back}
+use Rattle.frz_board.proofs.Lemmas.{cell_back, cell-small}
 use Rattle.frz_fide.proofs.LegalParts.{Move}
 use Rattle.frz_fide.proofs.Cells.{cell_then, cell_at}
 use Rattle.frz_fide.proofs.Standing.{on_board, taken, others_by, beside_apart}
@@ -36,23 +34,9 @@ none_by q t e b a v x s h0 hx hb =
       | inr w ↦ others_by q t e b a v x s h0 hx w.1
     ]
 
-cell_small : (c : Colour) (k : Kind) → cell_of_man (record { colour = c; kind = k }) < 13
-cell_small White King = omega arith
-cell_small White Queen = omega arith
-cell_small White Rook = omega arith
-cell_small White Bishop = omega arith
-cell_small White Knight = omega arith
-cell_small White Pawn = omega arith
-cell_small Black King = omega arith
-cell_small Black Queen = omega arith
-cell_small Black Rook = omega arith
-cell_small Black Bishop = omega arith
-cell_small Black Knight = omega arith
-cell_small Black Pawn = omega arith
-
 pub arrives_small : (man : Man) (promo : Option Kind) → cell_of_man (arrives man promo) < 13
-arrives_small man None = cell_small man.colour man.kind
-arrives_small man (Some k) = cell_small man.colour k
+arrives_small man None = cell-small man.colour man.kind
+arrives_small man (Some k) = cell-small man.colour k
 
 pub fit_written : (xs : List ℕ) (a b v e : ℕ) (t : Bool) → v < 13 → CellsFit xs →
     CellsFit (cond t (slice_set (slice_set (slice_set xs a 0) b v) e 0)

@@ -90,7 +90,7 @@ same_promo man c Rook b x y k hx hy e = none_of x y hx hy
 same_promo man c Bishop b x y k hx hy e = none_of x y hx hy
 same_promo man c Knight b x y k hx hy e = none_of x y hx hy
 
-same_parts : (m n : Step) → m.from ≡ n.from → m.to ≡ n.to → m.promo ≡ n.promo → m ≡ n
+pub same_parts : (m n : Step) → m.from ≡ n.from → m.to ≡ n.to → m.promo ≡ n.promo → m ≡ n
 same_parts m n from to promo =
     let made : ℕ → ℕ → Option Kind → Step = λ a b k. record { from = a; to = b; promo = k } in
     ap (λ a. made a m.to m.promo) from ∙ ap (λ b. made n.from b m.promo) to

@@ -1,5 +1,6 @@
 -- The tests of legal moves compute the relation of legal moves.
 use Rattle.std.proofs.Common.{◌≡◌, ◌≢◌, ℕ, ◌<◌, Bool, true, false, cond, ◌&&◌, ◌||◌, not, refl, ap, sym, ◌∙◌, Option, None, Some, slice_index, slice_set, ◌⊎◌, inl, inr}
+use Rattle.frz_fide.proofs.PawnsKept.{not_last}
 use Rattle.std.specs.Prelude.{◌==◌, is_none, is_some, if◌then◌else◌}
 use Rattle.std.proofs.lemmas.Bool.{eqb-true, eq-eqb, both_ways, false_from_ne_true, and_left, and_right, and_parts, and_from, or_cases}
 use Rattle.frz_board.specs.declared.man.Colour.{Colour}
@@ -330,10 +331,6 @@ no_promotion c Bishop b (Some j) n h = absurd cc
 no_promotion c Knight b (Some j) n h = absurd cc
 no_promotion c Pawn b (Some j) n h = absurd (n refl)
 
-not_last_then : (l : Bool) → (true && (if l then false else true)) ≡ true → l ≡ false
-not_last_then true h = cc
-not_last_then false h = refl
-
 last_then : (l : Bool) → (if l then true else false) ≡ true → l ≡ true
 last_then true h = refl
 last_then false h = cc
@@ -344,7 +341,7 @@ becomes_by : (p : Board) (m : Step) (x : Option Kind) → m.promo ≡ x →
 becomes_by p m None e h = (
   Pawn,
   inl (
-    (λ l. both_ways (is_last p.turn m.to) (not_last_then (is_last p.turn m.to) h)
+    (λ l. both_ways (is_last p.turn m.to) (not_last (is_last p.turn m.to) h)
         (last_test p.turn m.to l)),
     e,
     refl,

@@ -67,7 +67,7 @@ pawn_forward p c a b =
     (files_apart a b == 0) (is_empty p b) (is_home c a) (is_forward c 2 a b)
     (is_empty p b && is_empty p (passed_over a b)) (is_target p.ep b)
 
-not_last : (l : Bool) → (true && (if l then false else true)) ≡ true → l ≡ false
+pub not_last : (l : Bool) → (true && (if l then false else true)) ≡ true → l ≡ false
 not_last true h = cc
 not_last false h = refl
 

@@ -177,11 +177,8 @@ none_flat : (f : ℕ → List Step) → ((b : ℕ) → f b ≡ []) → (xs : Lis
 none_flat f h [] = refl
 none_flat f h (x ∷ xs) = ap (λ ys. ys ++ flat_map f xs) (h x) ∙ none_flat f h xs
 
-none_from : (p : Board) (a : ℕ) → holds p p.turn a ≡ false → legal_from p a ≡ []
-unfolding legal_from
-none_from p a h = none_flat (λ b. legal_between p a b) (λ b. none_between p a b h) squares
-
 pub none_here : (p : Board) (a : ℕ) → holds p p.turn a ≡ false → legal_from p a ≡ []
-none_here p a h = none_from p a h
+unfolding legal_from
+none_here p a h = none_flat (λ b. legal_between p a b) (λ b. none_between p a b h) squares
 
 pub ruleset skips = (no_way, no_choice, choices, may_choose, may_stay)

@@ -1,5 +1,5 @@
 -- A move captures exactly where a man of the opponent leaves the board.
-use Rattle.std.proofs.Common.{◌≡◌, ◌≢◌, ℕ, ◌<◌, Bool, true, false, cond, not, ◌&&◌, refl, ap, sym, ◌∙◌, arith, Option, None, Some, ◌⊎◌, inl, inr, slice_index}
+use Rattle.std.proofs.Common.{◌≡◌, ◌≢◌, ℕ, ◌<◌, Bool, true, false, cond, not, ◌&&◌, refl, ap, sym, ◌∙◌, arith, Option, None, Some, inl, inr, slice_index}
 use Rattle.std.specs.Prelude.{◌==◌, ◌↔◌}
 use Rattle.std.proofs.lemmas.Bool.Decides.{eqb_tells, nat_tests}
 use Rattle.frz_board.specs.Boards.{Board, man_on, is_empty, holds}
@@ -9,7 +9,7 @@ use Rattle.frz_board.specs.declared.man.Kind.TheVariants.{Pawn}
 use Rattle.frz_board.specs.declared.man.Man.{Man}
 use Rattle.frz_board.specs.Men.{other_of, is_pawn, is_man_of, man_of_cell, same_colour}
 use Rattle.frz_board.specs.Moving.{Step, IsStep}
-use Rattle.std.proofs.lemmas.Bool.{and_parts, or_cases}
+use Rattle.std.proofs.lemmas.Bool.{and_parts, or_cases, cases_Bool, not-true}
 use Rattle.frz_squares.proofs.Lemmas.{either_or}
 use Rattle.frz_board.proofs.Lemmas.{cell_forth, one_side}
 use Rattle.frz_fide.specs.Legal.{is_legal, takes_in_passing, beside_on_file}
@@ -35,14 +35,6 @@ of_other c (Some x) n h = by_colour c x.colour h
 
 there : (cell : ℕ) → cell < 13 → cell ≢ 0 → man_of_cell cell ≢ None
 there cell l n e = grind (arith, nat_tests)
-
-by_not : (x : Bool) → not x ≡ true → x ≡ false
-by_not true h = cc
-by_not false h = refl
-
-two_cases : (x : Bool) → (x ≡ true) ⊎ (x ≡ false)
-two_cases true = inl refl
-two_cases false = inr refl
 
 module _ (p : Board) (m : Step) (v : IsValid p) (step : IsStep m) (f : Move p m) where
   -- the man on the destination leaves the board
@@ -91,7 +83,7 @@ module _ (p : Board) (m : Step) (v : IsValid p) (step : IsStep m) (f : Move p m)
   leaves h =
       elim (or_cases (not (is_empty p m.to))
       (is_pawn f.man.kind && takes_in_passing p f.man.colour m.from m.to) h) [
-        | inl w ↦ from_destination (by_not (is_empty p m.to) w)
+        | inl w ↦ from_destination (not-true (is_empty p m.to) w)
         | inr w ↦ from_beside w
       ]
 
@@ -107,7 +99,7 @@ module _ (p : Board) (m : Step) (v : IsValid p) (step : IsStep m) (f : Move p m)
 
   captured : Leaves p m → is_capture p f.man m ≡ true
   captured l =
-      elim (two_cases (is_pawn f.man.kind && takes_in_passing p f.man.colour m.from m.to)) [
+      elim (cases_Bool (is_pawn f.man.kind && takes_in_passing p f.man.colour m.from m.to)) [
         | inl w ↦ either_or (not (is_empty p m.to))
             (is_pawn f.man.kind && takes_in_passing p f.man.colour m.from m.to) (inr w)
         | inr w ↦ elim (eqb_tells l.square m.to) [
@@ -126,14 +118,11 @@ module _ (p : Board) (m : Step) (v : IsValid p) (step : IsStep m) (f : Move p m)
         ]
       ]
 
-same_some : (x y : Man) → Some x ≡ Some y → x ≡ y
-same_some x y e = cc
-
 pub captures_in_words : (p : Board) (m : Step) (man : Man) → IsValid p → IsStep m →
     is_legal p m ≡ true → man_on p m.from ≡ Some man → (is_capture p man m ≡ true) ↔ Leaves p m
 captures_in_words p m man v step legal on =
     let f = facts p m legal in
-    let same : f.man ≡ man = same_some f.man man (sym f.on ∙ on) in (
+    let both : Some f.man ≡ Some man = sym f.on ∙ on in let same : f.man ≡ man = cc in (
       λ h. leaves p m v step f (ap (λ x. is_capture p x m) same ∙ h),
       λ l. ap (λ x. is_capture p x m)
           (sym same) ∙ captured p m v step f l,

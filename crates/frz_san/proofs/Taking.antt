@@ -110,14 +110,11 @@ by_way p man m k (double apart forward empty between) =
     (straight_file p man.colour m.from m.to apart)
     ∙ sym (ap not (eq-eqb (file_of m.from) (file_of m.to) (omega arith)))
 
-same_some : (x y : Man) → Some x ≡ Some y → x ≡ y
-same_some x y e = cc
-
 pub captures_by_file : (p : Board) (man : Man) (m : Step) → man_on p m.from ≡ Some man →
     is_legal p m ≡ true → man.kind ≡ Pawn →
     is_capture p man m ≡ not (file_of m.from == file_of m.to)
 captures_by_file p man m on h k =
     let f = facts p m h in
-    let same : f.man ≡ man = same_some f.man man (sym f.on ∙ on) in
+    let both : Some f.man ≡ Some man = sym f.on ∙ on in let same : f.man ≡ man = cc in
     sym (ap (λ x. is_capture p x m) same) ∙ by_way p f.man m (ap (λ (x : Man). x.kind) same ∙ k)
     (way_of p m f (ap (λ (x : Man). x.kind) same ∙ k))

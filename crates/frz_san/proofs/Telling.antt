@@ -16,18 +16,12 @@ use Rattle.frz_board.specs.Squares.{file_of, rank_of, files_apart, is_forward}
 use Rattle.frz_board.proofs.Lemmas.{cell_back}
 use Rattle.std.proofs.Math.Bool.{not-not}
 use Rattle.frz_fide.specs.Legal.{is_legal, promotes, takes_in_passing, passed_over}
-use Rattle.frz_fide.proofs.Lemmas.{Move, facts}
+use Rattle.frz_fide.proofs.Lemmas.{Move, facts, same_parts}
 use Rattle.frz_fide.proofs.Lemmas.{listed}
 use Rattle.frz_san.specs.Notation.{is_capture, origin, cross, pawn_text, piece_text, text_by, unsigned}
 use Rattle.frz_san.proofs.Parts.{pawn_tells, piece_tells, no_letter, same_letter}
 use Rattle.frz_san.proofs.Rivals.{rivals, origin_tells}
 use Rattle.frz_san.proofs.Taking.{Way, diagonal, straight, double, way_of, captures_by_file}
-
-same_parts : (m n : Step) → m.from ≡ n.from → m.to ≡ n.to → m.promo ≡ n.promo → m ≡ n
-same_parts m n from to promo =
-    let made : ℕ → ℕ → Option Kind → Step = λ a b k. record { from = a; to = b; promo = k } in
-    ap (λ a. made a m.to m.promo) from ∙ ap (λ b. made n.from b m.promo) to
-    ∙ ap (made n.from n.to) promo
 
 same_man : (x y : Man) → x.colour ≡ y.colour → x.kind ≡ y.kind → x ≡ y
 same_man x y c k = let made : Colour → Kind → Man = λ c k. record { colour = c; kind = k } in

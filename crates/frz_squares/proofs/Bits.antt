@@ -1,5 +1,5 @@
 -- Sets of squares as tests of their squares.
-use Rattle.std.proofs.Common.{w64, ◌≡◌, ℕ, zero, suc, ◌+◌, ◌-◌, ◌*◌, ◌^◌, ◌<◌, ◌≤◌, Bool, true, false, cond, ◌&&◌, ◌||◌, not, min, max, refl, ap, sym, ◌∙◌, arith, bit_and, bit_or, inl, inr, add-one}
+use Rattle.std.proofs.Common.{w64, ◌≡◌, ℕ, zero, suc, ◌+◌, ◌-◌, ◌*◌, ◌^◌, ◌<◌, ◌≤◌, Bool, true, false, cond, ◌&&◌, ◌||◌, not, min, max, refl, ap, sym, ◌∙◌, arith, bit_and, bit_or, inl, inr, add-one, pow-suc}
 use Rattle.std.specs.Prelude.{◌==◌}
 use Rattle.std.specs.List.{list_all, list_any}
 use Rattle.std.specs.Int.{bit_at, bit_not}
@@ -17,12 +17,9 @@ use Rattle.std.proofs.lemmas.Nat.{and_le_r, or_lt}
 and_small : (v w : ℕ) → w < 2 ^ 64 → bit_and v w < 2 ^ 64
 and_small v w h = omega (arith, and_le_r v w)
 
-double : (n : ℕ) → 2 ^ suc n ≡ 2 ^ n + 2 ^ n
-double n = grind (arith)
-
 with_bit : (x : Bool) (r n : ℕ) → r < 2 ^ n → r + cond x (2 ^ n) 0 < 2 ^ suc n
-with_bit true r n h = omega (arith, double n)
-with_bit false r n h = omega (arith, double n)
+with_bit true r n h = omega (arith, pow-suc 2 n)
+with_bit false r n h = omega (arith, pow-suc 2 n)
 
 pub bits_below-small : (f : ℕ → Bool) (n : ℕ) → bits_below f n < 2 ^ n
 bits_below-small f zero = omega arith

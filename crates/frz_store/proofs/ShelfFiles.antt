@@ -1,5 +1,6 @@
 -- What a shelf holds at a name, and after a file was put, created or grown.
 use Rattle.std.proofs.Common.{◌≡◌, refl, sym, ap, ◌∙◌, ℕ, ◌-◌, ◌<◌, ◌≤◌, suc, List, [], ◌∷◌, ◌++◌, length, take, get_or, Option, Some, true, false, arith, append-nil}
+use Rattle.std.proofs.lemmas.List.{nil_from_length}
 use Rattle.std.specs.String.{string_bytes}
 use Rattle.std.specs.Str.{bytes_eq}
 use Rattle.std.proofs.Math.Seq.{take-suc, take-length}
@@ -68,17 +69,13 @@ open_grown m o f bytes piece is b =
     ∙ ap (λ (x : Option GrowingFile). grown (name_of_newest x) piece (over m x)) (sym is)
 
 -- a list of length 0
-no_bytes : (piece : List ℕ) → length piece ≡ 0 → piece ≡ []
-no_bytes [] e = refl
-no_bytes (x ∷ xs) e = absurd (omega arith)
-
 -- an empty piece changes no file
 pub open_same : (m : Files) (o : Option GrowingFile) (f : GrowingFile) (bytes piece : List ℕ)
     → o ≡ Some f → bytes ≡ f.held.bytes.items ++ piece → length piece ≡ 0
     → put m (string_bytes f.name) bytes ≡ over m o
 open_same m o f bytes piece is b e =
     ap (put m (string_bytes f.name))
-    (b ∙ ap (λ (x : List ℕ). f.held.bytes.items ++ x) (no_bytes piece e)
+    (b ∙ ap (λ (x : List ℕ). f.held.bytes.items ++ x) (nil_from_length piece e)
     ∙ append-nil f.held.bytes.items) ∙ ap (over m) (sym is)
 
 -- bytes put under the name that was created last

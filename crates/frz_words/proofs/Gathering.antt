@@ -1,12 +1,9 @@
 -- The bits of a set, gathered square by square.
-use Rattle.std.proofs.Common.{◌≡◌, ℕ, suc, ◌+◌, ◌*◌, ◌^◌, ◌%◌, ◌<◌, ◌≤◌, Bool, true, false, refl, ap, arith, add-one}
+use Rattle.std.proofs.Common.{◌≡◌, ℕ, suc, ◌+◌, ◌*◌, ◌^◌, ◌%◌, ◌<◌, ◌≤◌, Bool, true, false, refl, ap, arith, add-one, pow-suc}
 use Rattle.std.proofs.lemmas.Nat.{pow_below}
 use Rattle.std.proofs.Math.Pow.{pow_mono}
 use Rattle.frz_squares.specs.SquareSets.{bits_below, set_of}
 use Rattle.frz_squares.proofs.Lemmas.{bits_below-small}
-
-double : (n : ℕ) → 2 ^ suc n ≡ 2 ^ n + 2 ^ n
-double n = grind (arith)
 
 -- the bits below s, as a loop keeps them
 unfoldable pub bits_to : (ℕ → Bool) → ℕ → ℕ
@@ -28,7 +25,7 @@ pub bits_to-small : (f : ℕ → Bool) (s : ℕ) → s < 64 → bits_to f s + 2 
 unfolding bits_to
 bits_to-small f s h =
     let at : suc s ≤ 64 = omega arith in let m = pow_mono at in
-    omega (arith, bits_below-small f s, double s, m)
+    omega (arith, bits_below-small f s, pow-suc 2 s, m)
 
 pub bits_to-all : (f : ℕ → Bool) → bits_to f 64 ≡ set_of f
 unfolding bits_to set_of
