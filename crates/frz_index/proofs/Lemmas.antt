@@ -5,7 +5,6 @@ pub use Rattle.frz_index.proofs.RoomForMen.{room_where, same_man}
 pub use Rattle.frz_index.proofs.Turns.{target_possible}
 pub use Rattle.frz_index.proofs.WholeNumbers.{Num_below, candidate-Num}
 pub use Rattle.frz_index.proofs.Membership.{
-  none_or_some,
   member_of,
   of_member,
   number_there,

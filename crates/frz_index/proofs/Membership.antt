@@ -1,5 +1,5 @@
 -- The test of membership is membership, and numbers go both ways.
-use Rattle.std.proofs.Common.{◌≡◌, ◌≢◌, ◌<◌, ◌↔◌, ℕ, zero, suc, ◌⊎◌, inl, inr, Bool, true, false, ◌&&◌, ◌||◌, List, [], ◌∷◌, length, Option, Some, None, refl, sym, subst, ap, ◌∙◌, arith}
+use Rattle.std.proofs.Common.{◌≡◌, ◌≢◌, ◌<◌, ◌↔◌, ℕ, zero, suc, inl, inr, Bool, true, false, ◌&&◌, ◌||◌, List, [], ◌∷◌, length, Option, Some, None, refl, sym, subst, ap, ◌∙◌, arith}
 use Rattle.std.specs.Prelude.{is_ok, not, MatchOption, ◌==◌, All, slice_index, nat_lt, nat_le, IsSome, IfSome}
 use Rattle.std.specs.List.{list_all, AllByRecursion}
 use Rattle.std.proofs.lemmas.Bool.{cases_Bool, leb-true, le-leb, eqb-true, eq-eqb, ltb-true, lt-ltb, and_parts, and_from, or_cases, false_from_ne_true}
@@ -238,18 +238,13 @@ number_answer gs q None h n =
     (false_from_ne_true (is_member gs q) (λ t. (let k = h.1 (member_of gs q t) in cc))))
 number_answer gs q (Some i) h n = ap Some n ∙ sym (number_there gs q (of_member gs q (h.0 refl)))
 
--- there is none, or one
-pub none_or_some : {X : Type 0} (o : Option X) → (o ≡ None) ⊎ ((x : X) × (o ≡ Some x))
-none_or_some None = inl refl
-none_or_some (Some x) = inr (x, refl)
-
 pub position_answer : (gs : List GroupLine) (i : ℕ) (o : Option Board) →
     ((p : Board) → (o ≡ Some p) ↔ HasNumber gs i p) → o ≡ position_at gs i
-position_answer gs i None h =
-    elim (none_or_some (position_at gs i)) [
-      | inl e ↦ sym e
-      | inr r ↦ absurd (let k = (h r.0).1 (position_tells gs i r.0 r.1) in cc)
-    ]
+position_answer gs i None h = by_number (position_at gs i) refl
+  where
+    by_number : (o : Option Board) → position_at gs i ≡ o → None ≡ position_at gs i
+    by_number None e = sym e
+    by_number (Some p) e = absurd (let k = (h p).1 (position_tells gs i p e) in cc)
 position_answer gs i (Some p) h = sym (position_of gs i p ((h p).0 refl))
 
 pub number_matches : (gs : List GroupLine) (q : Board) (o : Option ℕ) →

@@ -4,8 +4,7 @@ use Rattle.std.specs.List.{Contains, cons_option, filter_map, slice_get}
 use Rattle.std.proofs.lemmas.List.{take_more}
 use Rattle.std.proofs.lemmas.List.Elements.{Contains-append_right, filter_map-append}
 use Rattle.std.proofs.lemmas.Option.{same_Some}
-use Rattle.frz_arena.proofs.Lemmas.{none_in_empty}
-use Rattle.frz_index.proofs.Lemmas.{none_or_some}
+use Rattle.frz_arena.proofs.Lemmas.{cases_Option, none_in_empty}
 use Rattle.frz_unmove.proofs.Lemmas.{at_place}
 
 -- x is picked from the list
@@ -26,7 +25,7 @@ module _ {X Y : Type 0} (f : X → Option Y) where
 
   pub picked_from : (xs : List X) (y : Y) → Contains (filter_map f xs) y → Picked f xs y
   picked_from [] y h = absurd (none_in_empty y h)
-  picked_from (x ∷ xs) y h = elim (none_or_some (f x)) [
+  picked_from (x ∷ xs) y h = elim (cases_Option (f x)) [
     | inr s ↦ elim (cases s.0 (filter_map f xs) y
         (subst (λ ys. Contains ys y) (taken x xs s.0 s.1) h)) [
           | inl e ↦ (x, (zero, omega arith, refl), s.1 ∙ ap Some e)
@@ -43,7 +42,7 @@ module _ {X Y : Type 0} (f : X → Option Y) where
   picked_in (z ∷ xs) x y h e = elim (cases z xs x h) [
     | inl s ↦ subst (λ ys. Contains ys y) (sym (taken z xs y (ap f s ∙ e)))
         (zero, omega arith, refl)
-    | inr i ↦ let r = picked_in xs x y i e in elim (none_or_some (f z)) [
+    | inr i ↦ let r = picked_in xs x y i e in elim (cases_Option (f z)) [
       | inr s ↦ subst (λ ys. Contains ys y) (sym (taken z xs s.0 s.1))
           (Contains-append_right (s.0 ∷ []) (filter_map f xs) y r)
       | inl n ↦ subst (λ ys. Contains ys y) (sym (left z xs n)) r
@@ -68,7 +67,7 @@ pub one_place : {X Y : Type 0} (f : X → Option Y) (R : X → X → Type 0) (S 
     (k l : ℕ) (y z : Y) → slice_get (filter_map f xs) k ≡ Some y →
     slice_get (filter_map f xs) l ≡ Some z → S y z → k ≡ l
 one_place f R S [] h turn from k l y z a b s = absurd (none_in_empty y (at_place [] k y a))
-one_place {X} {Y} f R S (x ∷ xs) h turn from k l y z a b s = elim (none_or_some (f x)) [
+one_place {X} {Y} f R S (x ∷ xs) h turn from k l y z a b s = elim (cases_Option (f x)) [
   | inl n ↦ one_place f R S xs h.1 turn from k l y z
       (subst (λ ys. slice_get ys k ≡ Some y) (left f x xs n) a)
       (subst (λ ys. slice_get ys l ≡ Some z) (left f x xs n) b) s
