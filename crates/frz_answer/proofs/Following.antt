@@ -17,9 +17,10 @@ use Rattle.frz_answer.proofs.Stages.{IsStage, no_more_true, ends_later, only_lat
 use Rattle.frz_answer.proofs.Telling.{append_twice, drop_twice}
 use Rattle.frz_answer.proofs.Worlds.{later_on, unwritten_on}
 
-lines_on : (xs ys : List ℕ) → IsLines xs → IsLines ys → IsLines (xs ++ ys)
-lines_on xs ys h (inl e) = subst IsLines (sym (ap (λ (l : List ℕ). xs ++ l) e ∙ append-nil xs)) h
-lines_on xs ys h (inr k) =
+-- lines behind lines are lines
+pub lines_behind : (xs ys : List ℕ) → IsLines xs → IsLines ys → IsLines (xs ++ ys)
+lines_behind xs ys h (inl e) = subst IsLines (sym (ap (λ (l : List ℕ). xs ++ l) e ∙ append-nil xs)) h
+lines_behind xs ys h (inr k) =
     inr (xs ++ k.0, ap (λ (l : List ℕ). xs ++ l) k.1 ∙ sym (append_assoc xs k.0 (10 ∷ [])))
 
 -- what the stage is to find: the whole's answers are the stage's over the same files and the rest
@@ -79,7 +80,7 @@ module _ (part whole : Job) (text bytes : List ℕ) (old mid new : World)
   lines_too (Stopped fault) h = (
     record {
       lines = text ++ h.0.lines;
-      whole = lines_on text h.0.lines are h.0.whole;
+      whole = lines_behind text h.0.lines are h.0.whole;
       text = more_lines h.0.lines h.0.text;
     },
     λ quiet. let no : true ≡ false = sym speaks ∙ quiet in cc,
@@ -118,7 +119,7 @@ module _ (part whole : Job) (text bytes : List ℕ) (old mid new : World)
   leaves_too (Stopped fault) a h = record {
     lines = text ++ h.lines;
     rest = h.rest;
-    whole = lines_on text h.lines are h.whole;
+    whole = lines_behind text h.lines are h.whole;
     begins = append_assoc text h.lines h.rest ∙ ap (λ (l : List ℕ). text ++ l) h.begins;
     more = h.more;
     text = more_lines h.lines h.text;

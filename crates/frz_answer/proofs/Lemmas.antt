@@ -12,7 +12,7 @@ pub use Rattle.frz_answer.proofs.Ending.{
   stopped,
 }
 pub use Rattle.frz_answer.proofs.Finishing.{outcome}
-pub use Rattle.frz_answer.proofs.Following.{Follows, follows}
+pub use Rattle.frz_answer.proofs.Following.{Follows, follows, lines_behind}
 pub use Rattle.frz_answer.proofs.Lawful.{
   refused_lawful,
   one_answer,
@@ -41,6 +41,7 @@ pub use Rattle.frz_answer.proofs.Telling.{
   front_none,
   front_twice,
   left_twice,
+  behind_said,
 }
 pub use Rattle.frz_answer.proofs.Worlds.{
   fine_same,

@@ -1,5 +1,5 @@
 -- What optional bytes and files do where nothing, or one thing after the other, is put to them.
-use Rattle.std.proofs.Common.{◌≡◌, refl, sym, ap, subst, ◌∙◌, ℕ, ◌+◌, List, [], ◌++◌, take, drop, length, Option, Some, None, rules, length-append, append_assoc}
+use Rattle.std.proofs.Common.{◌≡◌, refl, sym, ap, subst, ◌∙◌, ℕ, ◌+◌, List, [], ◌++◌, take, drop, length, Option, Some, None, rules, length-append, append_assoc, ◌∷◌}
 use Rattle.std.proofs.Math.Seq.{take-add}
 use Rattle.std.proofs.lemmas.List.{drop-drop}
 use Rattle.std.specs.Prelude.{IfSome}
@@ -57,6 +57,11 @@ pub left_twice : (first next : List ℕ) (old mid new : Option (List ℕ))
 left_twice first next old mid new h k =
     k ∙ ap (option_map (drop (length next))) h ∙ drop_twice old (length first) (length next)
     ∙ ap (λ n. option_map (drop n) old) (sym (length-append first next))
+
+-- a text is not empty where what stands behind another is not
+pub behind_said : (xs ys : List ℕ) → (ys ≡ [] → ⊥) → xs ++ ys ≡ [] → ⊥
+behind_said [] ys said e = said e
+behind_said (x ∷ xs) ys said e = cc
 
 -- what is told, where it agrees
 pub agreed : {A : Type 0} (o : Option A) (x : A) → IfSome o (λ told. told ≡ x)

@@ -4,7 +4,7 @@ pub use Rattle.frz_arena.proofs.LocalCodes.ChosenCodes.{from_kept, win_and_failu
 pub use Rattle.frz_arena.proofs.LocalCodes.CodesByPlies.{AreCodes}
 pub use Rattle.frz_arena.proofs.Forcing.HoldsSafe.{forced_fails}
 pub use Rattle.frz_arena.proofs.Forcing.LawfulGame.{game_is_lawful}
-pub use Rattle.frz_arena.proofs.Lists.Members.{none_in_empty, cases_Option}
+pub use Rattle.frz_arena.proofs.Lists.Members.{none_in_empty, cases_Option, in_cases}
 pub use Rattle.frz_arena.proofs.Plies.NeverBoth.{never_both}
 pub use Rattle.frz_arena.proofs.Names.NumberedGames.{going, inside}
 pub use Rattle.frz_arena.proofs.Names.NumbersAreNames.{numbered_is, numbers_lawful}

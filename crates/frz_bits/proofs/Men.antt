@@ -1,5 +1,5 @@
 -- The men of the two sides are the men.
-use Rattle.std.proofs.Common.{◌≡◌, ℕ, ◌<◌, ◌^◌, Bool, true, false, cond, ◌&&◌, ◌||◌, not, List, refl, ap, ◌∙◌, arith, slice_index, bit_or, bit_and}
+use Rattle.std.proofs.Common.{◌≡◌, ℕ, ◌<◌, ◌^◌, ◌&&◌, ◌||◌, not, List, ap, ◌∙◌, arith, slice_index, bit_or, bit_and}
 use Rattle.std.specs.Prelude.{◌==◌, nat_lt}
 use Rattle.std.proofs.lemmas.Bool.Decides.{nat_tests}
 use Rattle.std.proofs.lemmas.Nat.{or_lt}
@@ -51,10 +51,6 @@ clear_is p a b =
     (λ s. not (is_between a s b) || is_empty p s)
     (λ k l. ap (λ x. not (is_between a k b) || x)
     (ap not (has-set_of (λ s. not (is_empty p s)) k l) ∙ not-not (is_empty p k)))
-
-pub one_or_none : (b : Bool) → (cond b 1 0 == 1) ≡ b
-one_or_none true = refl
-one_or_none false = refl
 
 white_cell : (x : ℕ) → x < 13 →
     (nat_lt x 7 && not (nat_lt x 1)) ≡ is_man_of White (man_of_cell x)

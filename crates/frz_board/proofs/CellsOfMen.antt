@@ -28,10 +28,25 @@ cell_forth Black Bishop = refl
 cell_forth Black Knight = refl
 cell_forth Black Pawn = refl
 
+-- the number of the kind of a number is the number
+pub kind-number : (m : ℕ) → m < 6 → number_of_kind (kind_of_number (m + 1)) ≡ m + 1
+kind-number zero h = refl
+kind-number (suc zero) h = refl
+kind-number (suc (suc zero)) h = refl
+kind-number (suc (suc (suc zero))) h = refl
+kind-number (suc (suc (suc (suc zero)))) h = refl
+kind-number (suc (suc (suc (suc (suc zero))))) h = refl
+kind-number (suc (suc (suc (suc (suc (suc m)))))) h = absurd (omega arith)
+
 -- the opponent's opponent is the side itself
 pub other_other : (c : Colour) → other_of (other_of c) ≡ c
 other_other White = refl
 other_other Black = refl
+
+-- and it is another side
+pub other_differs : (c : Colour) → other_of c ≡ c → ⊥
+other_differs White e = cc
+other_differs Black e = cc
 
 -- a man's number is from 1 to 12
 pub cell-some : (c : Colour) (k : Kind) → 0 < cell_of_man (record { colour = c; kind = k })

@@ -5,6 +5,8 @@ pub use Rattle.frz_board.proofs.CellsOfMen.{
   cell-some,
   cell-small,
   other_other,
+  kind-number,
+  other_differs,
 }
 pub use Rattle.frz_board.proofs.WrittenCells.{set_at}
 pub use Rattle.frz_board.proofs.AttackInWords.{test_means, means_test, forward_means, means_forward}

@@ -139,7 +139,7 @@ step_no_advance p c a b h =
     (and_right (is_home c a) (files_apart a b == 0 && is_forward c 2 a b)
     (and_right (files_apart a b == 0) (is_forward c 2 a b) (not_two c a b h)))
 
-straight_no_taking : (p : Board) (c : Colour) (a b : ℕ) → files_apart a b ≡ 0 →
+pub straight_no_taking : (p : Board) (c : Colour) (a b : ℕ) → files_apart a b ≡ 0 →
     takes_in_passing p c a b ≡ false
 straight_no_taking p c a b h = and_left (pawn_reaches c a b) (is_target p.ep b) (not_aside c a b h)
 

@@ -25,7 +25,7 @@ use Rattle.frz_fide.proofs.Kings.{zero_king}
 use Rattle.frz_fide.proofs.Colours.{same_side}
 
 -- two tests that follow from each other are the same
-same_tests : (s t : Bool) → (s ≡ true → t ≡ true) → (t ≡ true → s ≡ true) → s ≡ t
+pub same_tests : (s t : Bool) → (s ≡ true → t ≡ true) → (t ≡ true → s ≡ true) → s ≡ t
 same_tests true t f g = sym (f refl)
 same_tests false true f g = g refl
 same_tests false false f g = refl

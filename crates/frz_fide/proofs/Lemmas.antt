@@ -23,3 +23,5 @@ pub use Rattle.frz_fide.proofs.Standing.{
 }
 pub use Rattle.frz_fide.proofs.StaysValid.{valid_after, valid_then}
 pub use Rattle.frz_fide.proofs.Targets.{goes_somewhere}
+pub use Rattle.frz_fide.proofs.KingGoes.{same_tests}
+pub use Rattle.frz_fide.proofs.InWords.{straight_no_taking}

@@ -15,7 +15,7 @@ use Rattle.frz_board.specs.declared.man.Colour.{Colour}
 use Rattle.frz_board.specs.declared.man.Colour.TheVariants.{White, Black}
 use Rattle.frz_board.specs.declared.man.Kind.{Kind}
 use Rattle.frz_board.specs.declared.man.Kind.TheVariants.{King, Queen, Rook, Bishop, Knight, Pawn}
-use Rattle.frz_squares.proofs.Lemmas.{each_square, all_squares}
+use Rattle.frz_squares.proofs.Lemmas.{each_square, all_squares, or_false}
 use Rattle.frz_fide.proofs.LegalParts.{Move}
 use Rattle.frz_fide.proofs.Room.{forward_only}
 use Rattle.frz_fide.proofs.CellsAfter.{arrival, lf, none_then}
@@ -44,16 +44,12 @@ pawn_tests Black Bishop = (refl, refl)
 pawn_tests Black Knight = (refl, refl)
 pawn_tests Black Pawn = (refl, refl)
 
-or_none : (b : Bool) → (b || false) ≡ b
-or_none true = refl
-or_none false = refl
-
 pawn_test : (c : Colour) (k : Kind) →
     is_pawn_cell (cell_of_man (record { colour = c; kind = k })) ≡ is_pawn k
 pawn_test White k =
     let tests = pawn_tests White k in
     ap (λ b. b || cell_of_man (record { colour = White; kind = k }) == pawn_cell Black) tests.0
-    ∙ ap (λ b. is_pawn k || b) tests.1 ∙ or_none (is_pawn k)
+    ∙ ap (λ b. is_pawn k || b) tests.1 ∙ or_false (is_pawn k)
 pawn_test Black k =
     let tests = pawn_tests Black k in
     ap (λ b. b || cell_of_man (record { colour = Black; kind = k }) == pawn_cell Black) tests.1

@@ -1,5 +1,6 @@
 -- The men of one kind, counted over the squares of a word.
 use Rattle.std.proofs.Common.{◌≡◌, ℕ, zero, suc, ◌+◌, ◌-◌, ◌*◌, ◌<◌, ◌≤◌, Bool, true, false, cond, ◌&&◌, ◌||◌, min, List, [], ◌∷◌, length, slice_index, Some, refl, ap, sym, ◌∙◌, subst, arith, inl, inr, add-one}
+use Rattle.frz_board.proofs.Lemmas.{kind-number}
 use Rattle.std.specs.Prelude.{◌==◌}
 use Rattle.std.specs.List.{list_any, slice_get}
 use Rattle.std.proofs.lemmas.Option.{slice_get_within}
@@ -46,15 +47,6 @@ place_off f k e =
 and_off : (a b : Bool) → (a && b) ≡ false → b ≡ true → a ≡ false
 and_off false b h e = refl
 and_off true b h e = let wrong : true ≡ false = sym e ∙ h in cc
-
-pub number_back : (i : ℕ) → i < 6 → number_of_kind (kind_of_number (i + 1)) ≡ i + 1
-number_back zero h = refl
-number_back (suc zero) h = refl
-number_back (suc (suc zero)) h = refl
-number_back (suc (suc (suc zero))) h = refl
-number_back (suc (suc (suc (suc zero)))) h = refl
-number_back (suc (suc (suc (suc (suc zero))))) h = refl
-number_back (suc (suc (suc (suc (suc (suc i)))))) h = absurd (omega arith)
 
 -- the men of the colour and the kind on the squares of the kind's states
 pub record AreMen (p : Board) (g : GroupLine) (chart : Chart) (i men : ℕ) : Type 0 where
@@ -123,7 +115,7 @@ met p g chart i men s h l t =
     let word = (both_true p g chart i men s h l t).1 in
     let found = h.charted.words_are.only i s h.kind l word in
     let st : Kind × ℕ = (kind_of_number (i + 1), s) in
-    let number : state_number st ≡ 64 * i + s = let k = number_back i h.kind in omega arith in
+    let number : state_number st ≡ 64 * i + s = let k = kind-number i h.kind in omega arith in
     let here = cut p g chart i men s h (omega arith) in
     let at = cut_at g.states (64 * i + s) (slice_index chart.cuts (64 * i + s)) found.0 st
     h.charted.in_order here found.1 number in

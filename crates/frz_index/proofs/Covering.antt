@@ -1,5 +1,6 @@
 -- The squares on which men were counted.
 use Rattle.std.proofs.Common.{◌≡◌, ℕ, zero, suc, ◌+◌, ◌<◌, ◌≤◌, ◌^◌, Bool, true, false, cond, not, ◌&&◌, ◌||◌, List, ◌∷◌, length, take, get_or, slice_index, refl, ap, sym, ◌∙◌, subst, arith, bit_or, inl, inr}
+use Rattle.frz_fide.proofs.Lemmas.{same_tests}
 use Rattle.std.specs.Prelude.{◌==◌}
 use Rattle.std.specs.List.{AllByRecursion, list_any, slice_get}
 use Rattle.std.proofs.Math.Seq.{take_all}
@@ -20,7 +21,7 @@ use Rattle.frz_index.specs.Charts.{is_on}
 use Rattle.frz_index.specs.Members.{Member}
 use Rattle.frz_index.specs.Places.{AreCovered, AreSquares, IsWithinCount, places, stands}
 use Rattle.frz_index.proofs.Charting.{some_at}
-use Rattle.frz_index.proofs.RoomForMen.{any_at, any_found, same_test}
+use Rattle.frz_index.proofs.RoomForMen.{any_at, any_found}
 
 -- a place that passes both tests
 pub record Passing (f q : ℕ → Bool) (n : ℕ) : Type 0 where
@@ -77,7 +78,7 @@ pub squares_of_group : (p : Board) (g : GroupLine) (squares : ℕ) →
     (places p g)) → AreSquares p g squares
 squares_of_group p g squares h s low =
     h s low
-    ∙ same_test (list_any (λ k. is_on s (slice_get g.states k)) (places p g))
+    ∙ same_tests (list_any (λ k. is_on s (slice_get g.states k)) (places p g))
     (is_state (slice_index p.cells s) s g)
     (λ e.
     let found = passing (λ k. stands p g.colour (slice_get g.states k))

@@ -1,10 +1,10 @@
 -- A man that stands in a position of the set has room where it
 -- stands, once it is taken off the board.
 use Rattle.std.proofs.Common.{◌≡◌, ◌≢◌, ℕ, zero, suc, ◌+◌, ◌-◌, ◌<◌, ◌≤◌, Bool, true, false, ◌&&◌, ◌||◌, List, [], ◌∷◌, length, slice_index, Option, None, Some, refl, ap, sym, ◌∙◌, subst, arith, inl, inr}
+use Rattle.frz_fide.proofs.Lemmas.{same_tests}
 use Rattle.std.specs.Prelude.{◌==◌, nat_lt}
 use Rattle.std.specs.List.{AllByRecursion, list_any, slice_get}
 use Rattle.std.proofs.lemmas.Bool.{cases_Bool, cases_eq, eqb-true, eq-eqb, lt-ltb, and_parts, and_from, false_from_ne_true}
-use Rattle.std.proofs.lemmas.Bool.Decides.{same_from_decides}
 use Rattle.std.proofs.lemmas.List.Folds.{list_any_at}
 use Rattle.std.proofs.lemmas.Option.{get_or_from_slice_get, same_Some, slice_get_within}
 use Rattle.frz_board.specs.declared.man.Colour.{Colour}
@@ -44,9 +44,6 @@ any_found test (y ∷ xs) h =
           (suc rest.0, rest.1, rest.2, rest.3)
     ]
 
-pub same_test : (a b : Bool) → (a ≡ true → b ≡ true) → (b ≡ true → a ≡ true) → a ≡ b
-same_test a b f g = same_from_decides a b (f, g) (λ e. e, λ e. e)
-
 -- the same cell is the same man
 pub same_man : (m n : Man) → cell_of_man m ≡ cell_of_man n → m ≡ n
 same_man m n e =
@@ -81,7 +78,7 @@ pub state_word : (states : List (Kind × ℕ)) (chart : Chart) → IsChart state
 state_word states chart h man s low =
     let word = has_square (slice_index chart.words (number_of_kind man.kind - 1)) s in
     let numbers = kind_numbers man.kind in
-    same_test (list_any (is_at man.colour man s) states) word
+    same_tests (list_any (is_at man.colour man s) states) word
     (λ e.
     let found = any_found (is_at man.colour man s) states e in
     let parts = at_parts man.colour man s found.1 found.3 in

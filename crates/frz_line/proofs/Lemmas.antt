@@ -17,5 +17,5 @@ pub use Rattle.frz_line.proofs.Spending.{
   spends_on,
 }
 pub use Rattle.frz_line.proofs.Starting.{no_member, start_inside}
-pub use Rattle.frz_line.proofs.TextLines.{as_lines, ends_arm, ends_behind, lines_behind}
+pub use Rattle.frz_line.proofs.TextLines.{as_lines, ends_arm, ends_behind}
 pub use Rattle.frz_line.proofs.Turning.{PlyDue, never_fails, ply_due}

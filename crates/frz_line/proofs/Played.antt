@@ -10,7 +10,7 @@ use Rattle.frz_store.specs.Told.{SinkTold, StoreTold, StoreQuiet}
 use Rattle.frz_answer.specs.Answers.{IsLines}
 use Rattle.frz_answer.specs.Texts.{TookText}
 use Rattle.frz_answer.specs.World.{Spent}
-use Rattle.frz_answer.proofs.Lemmas.{took_nothing, took_behind, failed_behind}
+use Rattle.frz_answer.proofs.Lemmas.{took_nothing, took_behind, failed_behind, lines_behind}
 use Rattle.frz_arena.specs.declared.arm.Next.TheVariants.{Inside}
 use Rattle.frz_arena.specs.Arena.{Arena}
 use Rattle.frz_arena.specs.Codes.{is_win, is_failure}
@@ -29,7 +29,6 @@ use Rattle.frz_line.specs.Lines.{LinePly, EndOfLine, GoesOn}
 use Rattle.frz_line.specs.Texts.{line_text, start_line, plies_text, last_line}
 use Rattle.frz_line.specs.Turns.{TurnsTo, rest_text, GoesBy, Plays}
 use Rattle.frz_line.proofs.Options.{both, every}
-use Rattle.frz_line.proofs.TextLines.{lines_behind}
 use Rattle.frz_line.proofs.Spending.{came_on, nothing_spent, spends_last, spends_on}
 
 -- what is left of a line from the start, behind the text that

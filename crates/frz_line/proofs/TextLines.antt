@@ -1,5 +1,5 @@
 -- Texts that are whole lines.
-use Rattle.std.proofs.Common.{◌≡◌, ◌++◌, ℕ, inl, inr, List, [], ◌∷◌, refl, sym, subst, ap, ◌∙◌, append_assoc, append-nil}
+use Rattle.std.proofs.Common.{◌≡◌, ◌++◌, ℕ, inr, List, [], ◌∷◌, refl, sym, ap, ◌∙◌, append_assoc, append-nil}
 use Rattle.std.specs.Prelude.{codes}
 use Rattle.frz_board.specs.Moving.{Step}
 use Rattle.frz_board.specs.Texts.{text_of}
@@ -9,13 +9,6 @@ use Rattle.frz_arena.specs.declared.arm.Arm.{Arm}
 use Rattle.frz_arena.specs.declared.arm.Next.{Next}
 use Rattle.frz_arena.specs.declared.arm.Next.TheVariants.{Inside, Outside}
 use Rattle.frz_line.specs.Texts.{arm_text, exit_line, move_line, next_line, value_text}
-
--- one text behind the other
-pub lines_behind : (a b : List ℕ) → IsLines a → IsLines b → IsLines (a ++ b)
-lines_behind a b la (inl none) =
-    subst (λ (z : List ℕ). IsLines (a ++ z)) (sym none) (subst IsLines (sym (append-nil a)) la)
-lines_behind a b la (inr l) =
-    inr (a ++ l.0, ap (λ (z : List ℕ). a ++ z) l.1 ∙ sym (append_assoc a l.0 (10 ∷ [])))
 
 -- a text that ends with a line feed
 pub record EndsLine (text : List ℕ) : Type 0 where

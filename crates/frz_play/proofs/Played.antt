@@ -10,11 +10,11 @@ use Rattle.frz_store.specs.Told.{SourceTold, SinkTold}
 use Rattle.frz_answer.specs.Answers.{IsLines}
 use Rattle.frz_answer.specs.Texts.{TookText}
 use Rattle.frz_answer.specs.World.{Spent}
-use Rattle.frz_answer.proofs.Lemmas.{took_nothing, took_behind}
+use Rattle.frz_answer.proofs.Lemmas.{took_nothing, took_behind, lines_behind}
 use Rattle.frz_arena.specs.declared.arm.Next.TheVariants.{Inside}
 use Rattle.frz_arena.specs.Arena.{Arena}
 use Rattle.frz_line.specs.Costs.{way_numbers, SpendsAt}
-use Rattle.frz_line.proofs.Lemmas.{both, came_on, every, lines_behind, nothing_spent, spends_last, spends_on}
+use Rattle.frz_line.proofs.Lemmas.{both, came_on, every, nothing_spent, spends_last, spends_on}
 use Rattle.frz_play.specs.declared.end.SessionEnd.{SessionEnd}
 use Rattle.frz_play.specs.declared.end.PlayFault.{PlayFault}
 use Rattle.frz_play.specs.declared.end.TheConstants.{MOST_LINES}

@@ -12,7 +12,7 @@ use Rattle.frz_store.specs.declared.outside.StoreFault.{StoreFault}
 use Rattle.frz_store.specs.declared.outside.StoreFault.TheVariants.{Failed, NoMemory}
 use Rattle.frz_answer.specs.Answers.{IsLines}
 use Rattle.frz_answer.specs.Texts.{TookText, FailedWithin}
-use Rattle.frz_answer.proofs.Lemmas.{took_nothing, took_behind, failed_behind}
+use Rattle.frz_answer.proofs.Lemmas.{took_nothing, took_behind, failed_behind, lines_behind}
 use Rattle.frz_arena.specs.declared.arm.Arm.{Arm}
 use Rattle.frz_arena.specs.Arena.{Arena}
 use Rattle.frz_arena.specs.LocalCodes.{node_code}
@@ -28,7 +28,7 @@ use Rattle.frz_line.specs.declared.end.LineFault.TheVariants as faults
 use Rattle.frz_line.specs.Dues.{due_by}
 use Rattle.frz_line.specs.Faults.{fault_of}
 use Rattle.frz_line.specs.Texts.{arm_text}
-use Rattle.frz_line.proofs.Lemmas.{AsksForOne, FillsLocal, as_lines, both, ends_arm, ends_behind, every, lines_behind, stage_told}
+use Rattle.frz_line.proofs.Lemmas.{AsksForOne, FillsLocal, as_lines, both, ends_arm, ends_behind, every, stage_told}
 use Rattle.frz_play.specs.declared.end.SessionEnd.{SessionEnd}
 use Rattle.frz_play.specs.declared.end.SessionEnd.TheVariants as ends
 use Rattle.frz_play.specs.declared.end.PlayFault.{PlayFault}

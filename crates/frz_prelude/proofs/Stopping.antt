@@ -1,5 +1,5 @@
 -- How a job ends that was stopped before it came to its own work.
-use Rattle.std.proofs.Common.{◌≡◌, refl, sym, subst, ℕ, List, [], ◌∷◌, Result, Ok, Err, IsTrue, ◌++◌, codes}
+use Rattle.std.proofs.Common.{◌≡◌, refl, sym, subst, ℕ, List, [], ◌∷◌, Result, Ok, Err, IsTrue, codes}
 use Rattle.std.specs.Prelude.{IfSome}
 use Rattle.frz_store.specs.Files.{Files}
 use Rattle.frz_store.specs.Told.{StoreTold, SourceTold, SinkTold, StoreFine}
@@ -12,7 +12,7 @@ use Rattle.frz_answer.specs.Answers.{SomeAnswer, says}
 use Rattle.frz_answer.specs.World.{World, world, Agrees, Fine, Quiet}
 use Rattle.frz_answer.specs.Jobs.{Job, Never, Sees}
 use Rattle.frz_answer.specs.Ends.{MayMeet, Ran, Said}
-use Rattle.frz_answer.proofs.Lemmas.{said, stopped, fine_store, Found, SaysAll, Begun}
+use Rattle.frz_answer.proofs.Lemmas.{said, stopped, fine_store, Found, SaysAll, Begun, behind_said}
 use Rattle.frz_table.specs.declared.fault.TableFault.{TableFault}
 use Rattle.frz_table.specs.declared.fault.TableFault.TheVariants as table
 use Rattle.frz_prelude.specs.TableCauses.{due_text, file_line}
@@ -37,10 +37,6 @@ own_status (refusals.Table fault) = own_table fault
 own_status (refusals.Back fault) = own_table fault
 own_status (refusals.BackWrong wrong) = refl
 own_status refusals.Outside = refl
-
-behind_said : (xs ys : List ℕ) → (ys ≡ [] → ⊥) → xs ++ ys ≡ [] → ⊥
-behind_said [] ys said e = said e
-behind_said (x ∷ xs) ys said e = cc
 
 -- each fault of a file is said, whatever word names the file
 file_said : (word : List ℕ) (fault : TableFault) → file_line word fault ≡ [] → ⊥

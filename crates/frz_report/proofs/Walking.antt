@@ -27,7 +27,7 @@ use Rattle.frz_game.specs.Numbers.{numbers_by}
 use Rattle.frz_store.specs.Told.{SinkTold}
 use Rattle.frz_answer.specs.Answers.{IsLines}
 use Rattle.frz_answer.specs.Texts.{TookText, FailedWithin}
-use Rattle.frz_answer.proofs.Lemmas.{failed_before, failed_behind, took_behind, took_nothing}
+use Rattle.frz_answer.proofs.Lemmas.{failed_before, failed_behind, took_behind, took_nothing, lines_behind}
 use Rattle.frz_report.specs.declared.fault.ReportFault.{ReportFault}
 use Rattle.frz_report.specs.declared.fault.ReportFault.TheVariants.{Store, Output, NoMemory}
 use Rattle.frz_report.specs.Exits.{class_of, classes_after, classes_on, exits_at, exits_below, is_open}
@@ -149,12 +149,6 @@ module _ (rules : RuleLines) (kept : Colour → List ℕ) where
       let on = lines_on n (m - n) in
       let at : n + (m - n) ≡ m = omega arith in (on.0, on.1 ∙ ap lines at)
 
-  both_lines : (xs ys : List ℕ) → IsLines xs → IsLines ys → IsLines (xs ++ ys)
-  both_lines xs ys h (inl e) =
-      subst IsLines (sym (ap (λ (l : List ℕ). xs ++ l) e ∙ append-nil xs)) h
-  both_lines xs ys h (inr k) =
-      inr (xs ++ k.0, ap (λ (l : List ℕ). xs ++ l) k.1 ∙ sym (append_assoc xs k.0 (10 ∷ [])))
-
   pair_is_line : (w b : ℕ) (p : Board) → IsLines (pair_line w b p)
   pair_is_line w b p =
       let a : List ℕ = codes "squeeze " ++ decimal w in
@@ -177,7 +171,7 @@ module _ (rules : RuleLines) (kept : Colour → List ℕ) where
   are_lines zero = inl refl
   are_lines (suc n) =
       subst IsLines (sym (ap lines (sym (add-one n)) ∙ lines_more n))
-      (both_lines (lines n) (line_of (one n)) (are_lines n) (some_line (one n)))
+      (lines_behind (lines n) (line_of (one n)) (are_lines n) (some_line (one n)))
 
   module _ (n size : ℕ) (old mid new : SinkTold) (low : n < size)
       (took : TookText (lines n) old mid) where
@@ -201,7 +195,7 @@ module _ (rules : RuleLines) (kept : Colour → List ℕ) where
     front_more front = record {
       text = lines n ++ front.text;
       rest = front.rest ++ left.0;
-      lines = both_lines (lines n) front.text (are_lines n) front.lines;
+      lines = lines_behind (lines n) front.text (are_lines n) front.lines;
       took = took_behind (lines n) front.text (lines n ++ front.text) old mid new took refl
           front.took;
       begins = append_assoc (lines n) front.text (front.rest ++ left.0)

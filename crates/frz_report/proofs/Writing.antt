@@ -9,7 +9,7 @@ use Rattle.frz_sets.specs.Views.{RuleLines}
 use Rattle.frz_store.specs.Told.{SinkTold}
 use Rattle.frz_answer.specs.Answers.{IsLines}
 use Rattle.frz_answer.specs.Texts.{TookText, FailedWithin}
-use Rattle.frz_answer.proofs.Lemmas.{failed_before, failed_behind, took_behind}
+use Rattle.frz_answer.proofs.Lemmas.{failed_before, failed_behind, took_behind, behind_said}
 use Rattle.frz_report.specs.declared.fault.ReportFault.{ReportFault}
 use Rattle.frz_report.specs.declared.fault.ReportFault.TheVariants.{Store, Output, NoMemory}
 use Rattle.frz_report.specs.declared.fault.Totals.{Totals}
@@ -20,10 +20,6 @@ use Rattle.frz_report.specs.Reports.{Finishes, WritesReport, WroteBy, report_tex
 use Rattle.frz_report.specs.Squeezes.{squeezes}
 use Rattle.frz_report.specs.Walks.{TookFront, WritesSome, lines_below}
 use Rattle.frz_report.proofs.Walking.{are_lines}
-
-pub never_empty : (xs ys : List ℕ) → (ys ≡ [] → ⊥) → xs ++ ys ≡ [] → ⊥
-never_empty [] ys h e = h e
-never_empty (x ∷ xs) ys h e = cc
 
 last_said : (many exits : ℕ) → last_line many exits ≡ [] → ⊥
 last_said many exits e = cc
@@ -41,13 +37,13 @@ module _ (rules : RuleLines) (value : Board → Value) (kept : Colour → List �
   abbrev whole : List ℕ
   whole = report_text rules value kept
 
-  behind_said : classes ++ last ≡ [] → ⊥
-  behind_said = never_empty classes last
+  rest_said : classes ++ last ≡ [] → ⊥
+  rest_said = behind_said classes last
       (last_said (length (squeezes rules.groups kept)) (length (exits_of rules value)))
 
   -- a report is never empty
   pub report_said : whole ≡ [] → ⊥
-  report_said = never_empty first (classes ++ last) behind_said
+  report_said = behind_said first (classes ++ last) rest_said
 
   last_is_line : (many exits : ℕ) → (front : List ℕ) × (last_line many exits ≡ front ++ 10 ∷ [])
   last_is_line many exits = (
@@ -83,7 +79,7 @@ module _ (rules : RuleLines) (value : Board → Value) (kept : Colour → List �
     begins = sym (append_assoc front.text front.rest (classes ++ last))
         ∙ ap (λ (l : List ℕ). l ++ (classes ++ last)) front.begins;
     finishes = finishes (front.rest ++ (classes ++ last))
-        (never_empty front.rest (classes ++ last) behind_said);
+        (behind_said front.rest (classes ++ last) rest_said);
   }
 
   -- something stopped the walk

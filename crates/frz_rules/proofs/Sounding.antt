@@ -1,5 +1,6 @@
 -- The rules that a text gives are sound.
 use Rattle.std.proofs.Common.{◌≡◌, ℕ, zero, suc, ◌+◌, ◌/◌, ◌<◌, ◌≤◌, Bool, true, false, cond, ◌||◌, ◌&&◌, List, [], ◌∷◌, ◌++◌, length, Option, None, Some, Result, Ok, Err, refl, sym, subst, append_assoc, arith, length-append}
+use Rattle.frz_board.proofs.Lemmas.{kind-number}
 use Rattle.std.specs.Prelude.{codes, map, filter, nat_le, nat_lt, not, IfOk}
 use Rattle.std.specs.List.{AllByRecursion, list_all, range_with_len, before_first, after_first}
 use Rattle.std.proofs.lemmas.List.{append-nil}
@@ -8,7 +9,7 @@ use Rattle.frz_board.specs.declared.man.Colour.{Colour}
 use Rattle.frz_board.specs.declared.man.Colour.TheVariants.{White, Black}
 use Rattle.frz_board.specs.declared.man.Kind.{Kind}
 use Rattle.frz_board.specs.declared.man.Kind.TheVariants.{King, Queen, Rook, Bishop, Knight, Pawn}
-use Rattle.frz_board.specs.Men.{number_of_kind, kind_of_number}
+use Rattle.frz_board.specs.Men.{number_of_kind}
 use Rattle.frz_combinations.specs.Binomials.{capped}
 use Rattle.frz_words.specs.Numbers.{number_of, is_digit, decimal, is_short}
 use Rattle.frz_words.specs.Lines.{lines, numbered}
@@ -33,17 +34,8 @@ use Rattle.frz_rules.specs.Text.{◌>>=◌, unless, add_group, add_forbid, add_e
 use Rattle.frz_sets.specs.Sound.{AreIncreasingFrom, AreStates, AreSoundAfter, HasFewPlies, IsSoundExit, AreSoundLines, IsSound}
 
 -- the states of places are in order
-kind_back : (m : ℕ) → m < 6 → number_of_kind (kind_of_number (m + 1)) ≡ m + 1
-kind_back zero h = refl
-kind_back (suc zero) h = refl
-kind_back (suc (suc zero)) h = refl
-kind_back (suc (suc (suc zero))) h = refl
-kind_back (suc (suc (suc (suc zero)))) h = refl
-kind_back (suc (suc (suc (suc (suc zero))))) h = refl
-kind_back (suc (suc (suc (suc (suc (suc m)))))) h = absurd (omega arith)
-
 state_back : (n : ℕ) → n < 384 → state_number (state_at n) ≡ n
-state_back n h = let e = kind_back (n / 64) (omega arith) in omega (arith, e)
+state_back n h = let e = kind-number (n / 64) (omega arith) in omega (arith, e)
 
 later : (m n : ℕ) (states : List (Kind × ℕ)) → m ≤ n → AreIncreasingFrom n states →
     AreIncreasingFrom m states

@@ -12,7 +12,7 @@ use Rattle.frz_board.specs.Men.{other_of, is_pawn, is_man_of, man_of_cell}
 use Rattle.frz_board.specs.Moving.{Step}
 use Rattle.frz_board.specs.Squares.{file_of, files_apart, is_forward}
 use Rattle.frz_fide.specs.Legal.{is_legal, goes, captures, steps, advances, takes_in_passing, passed_over, is_home, is_target}
-use Rattle.frz_fide.proofs.Lemmas.{Move, facts}
+use Rattle.frz_fide.proofs.Lemmas.{Move, facts, straight_no_taking}
 use Rattle.frz_san.specs.Notation.{is_capture}
 
 -- one square diagonally, to capture; one straight on; or two straight on
@@ -89,10 +89,6 @@ keeping : (e t k : Bool) → e ≡ true → t ≡ false → (not e || (k && t)) 
 keeping e t true h w = rw (h, w)
 keeping e t false h w = rw h
 
-straight_file : (p : Board) (c : Colour) (a b : ℕ) → files_apart a b ≡ 0 →
-    takes_in_passing p c a b ≡ false
-straight_file p c a b h = rw h
-
 by_way : (p : Board) (man : Man) (m : Step) → man.kind ≡ Pawn → Way p man.colour m.from m.to →
     is_capture p man m ≡ not (file_of m.from == file_of m.to)
 by_way p man m k (diagonal apart forward taken) =
@@ -103,11 +99,11 @@ by_way p man m k (diagonal apart forward taken) =
     [ inl w ↦ absurd (differ w.1) | inr w ↦ sym (ap not w.0) ]
 by_way p man m k (straight apart forward empty) =
     keeping (is_empty p m.to) (takes_in_passing p man.colour m.from m.to) (is_pawn man.kind) empty
-    (straight_file p man.colour m.from m.to apart)
+    (straight_no_taking p man.colour m.from m.to apart)
     ∙ sym (ap not (eq-eqb (file_of m.from) (file_of m.to) (omega arith)))
 by_way p man m k (double apart forward empty between) =
     keeping (is_empty p m.to) (takes_in_passing p man.colour m.from m.to) (is_pawn man.kind) empty
-    (straight_file p man.colour m.from m.to apart)
+    (straight_no_taking p man.colour m.from m.to apart)
     ∙ sym (ap not (eq-eqb (file_of m.from) (file_of m.to) (omega arith)))
 
 pub captures_by_file : (p : Board) (man : Man) (m : Step) → man_on p m.from ≡ Some man →

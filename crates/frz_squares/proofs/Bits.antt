@@ -50,7 +50,7 @@ bit_below f (suc n) k h =
           ∙ bit_below f n k (omega arith)
     ]
 
-one_or_none : (x : Bool) → (cond x 1 0 == 1) ≡ x
+pub one_or_none : (x : Bool) → (cond x 1 0 == 1) ≡ x
 one_or_none true = refl
 one_or_none false = refl
 

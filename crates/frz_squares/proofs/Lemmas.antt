@@ -1,5 +1,12 @@
 -- The lemmas on squares and on sets of squares that other crates cite.
-pub use Rattle.frz_squares.proofs.Connectives.{either_or, implied, implies, not_same, same_not}
+pub use Rattle.frz_squares.proofs.Connectives.{
+  either_or,
+  implied,
+  implies,
+  not_same,
+  same_not,
+  or_false,
+}
 pub use Rattle.frz_squares.proofs.AllSquares.{
   length-squares,
   get_or-squares,
@@ -35,4 +42,5 @@ pub use Rattle.frz_squares.proofs.Bits.{
   set_of-none,
   set_of-some,
   set_reading,
+  one_or_none,
 }

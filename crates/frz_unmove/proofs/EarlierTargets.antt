@@ -1,12 +1,11 @@
 -- The targets that may have stood before a move.
-use Rattle.frz_board.proofs.Lemmas.{other_other}
+use Rattle.frz_board.proofs.Lemmas.{other_other, other_differs}
 use Rattle.std.proofs.Common.{◌-◌, ◌≡◌, ℕ, ◌+◌, ◌<◌, ◌≤◌, List, refl, ap, sym, ◌∙◌, true, ◌&&◌, ◌||◌, arith, Option, None, Some, slice_index, ◌⊎◌, inl, inr}
 use Rattle.std.specs.Prelude.{◌==◌}
 use Rattle.std.specs.List.{list_any}
 use Rattle.std.proofs.lemmas.Bool.Decides.{eqb_tells}
 use Rattle.std.proofs.lemmas.Bool.{eq-eqb, eqb-true, and_parts, and_from}
 use Rattle.frz_board.specs.declared.man.Colour.{Colour}
-use Rattle.frz_board.specs.declared.man.Colour.TheVariants.{White, Black}
 use Rattle.frz_board.specs.declared.man.Kind.TheVariants.{Pawn}
 use Rattle.frz_board.specs.declared.man.Man.{Man}
 use Rattle.frz_board.specs.Boards.{Board, is_empty, has}
@@ -27,16 +26,12 @@ use Rattle.frz_unmove.specs.declared.preds.Pred.{Pred}
 use Rattle.frz_unmove.specs.Gathering.{Comes, ComesTo, IsTargetWord, first_target, may_be_target, may_have_passed, target_key, target_of}
 use Rattle.frz_unmove.proofs.Coming.{target_place, first_ends, candidate_is, cell_is, f, mover_turn, target_of_set, v}
 
-other_side : (d : Colour) → other_of d ≡ d → ⊥
-other_side White h = cc
-other_side Black h = cc
-
 -- a pawn of the one side is no man of the other
 left_pawn : (d : Colour) (cell : ℕ) (man : Man) → other_of d ≡ man.colour
     → cell ≡ cell_of_man (record { colour = d; kind = Pawn }) → cell ≡ cell_of_man man → ⊥
 left_pawn d cell man side e g =
     let same = same_man (record { colour = d; kind = Pawn }) man (sym e ∙ g) in
-    other_side d (side ∙ sym (ap (λ (w : Man). w.colour) same))
+    other_differs d (side ∙ sym (ap (λ (w : Man). w.colour) same))
 
 took_target : (p : Board) (m : Step) (move : Move p m) (t : ℕ) → p.ep ≡ Some t →
     (is_pawn move.man.kind && takes_in_passing p move.man.colour m.from m.to) ≡ true → t ≡ m.to

@@ -2,7 +2,6 @@
 use Rattle.std.proofs.Common.{◌≡◌, ◌≢◌, ℕ, ◌<◌, List, length, refl, ap, sym, ◌∙◌, subst, Bool, true, false, cond, ◌&&◌, arith, Option, None, Some, slice_index}
 use Rattle.std.specs.Prelude.{◌==◌}
 use Rattle.std.proofs.lemmas.Bool.Decides.{nat_tests}
-use Rattle.frz_board.specs.declared.man.Kind.{Kind}
 use Rattle.frz_board.specs.Squares.{files_apart, is_forward}
 use Rattle.frz_board.specs.Boards.{Board}
 use Rattle.frz_board.specs.Men.{other_of}
@@ -10,7 +9,7 @@ use Rattle.frz_board.specs.Attacks.{pawn_reaches}
 use Rattle.frz_board.specs.Moving.{Step, IsStep}
 use Rattle.std.proofs.lemmas.Bool.{and_parts}
 use Rattle.frz_fide.specs.Legal.{is_legal, is_target, beside_on_file, after}
-use Rattle.frz_fide.proofs.Lemmas.{facts}
+use Rattle.frz_fide.proofs.Lemmas.{facts, same_parts}
 use Rattle.frz_fide.proofs.Lemmas.{apart as goes_off, beside_apart}
 use Rattle.frz_sets.specs.Views.{GroupLine}
 use Rattle.frz_index.specs.Candidates.{candidate}
@@ -92,12 +91,6 @@ target_by None None e = refl
 target_by None (Some t) e = absurd (omega (arith, e))
 target_by (Some s) None e = absurd (omega (arith, e))
 target_by (Some s) (Some t) e = let same : s ≡ t = omega (arith, e) in ap Some same
-
-pub same_parts : (m n : Step) → m.from ≡ n.from → m.to ≡ n.to → m.promo ≡ n.promo → m ≡ n
-same_parts m n from to promo =
-    let made : ℕ → ℕ → Option Kind → Step = λ a b k. record { from = a; to = b; promo = k } in
-    ap (λ a. made a m.to m.promo) from ∙ ap (λ b. made n.from b m.promo) to
-    ∙ ap (made n.from n.to) promo
 
 -- what has the name comes from there
 pub of_name : (gs : List GroupLine) (q : Board) (m : Step) (taken : ℕ) (target : Option ℕ)

@@ -1,12 +1,12 @@
 -- The set of a word has exactly the squares of its items.
-use Rattle.std.proofs.Common.{◌≡◌, ℕ, zero, suc, ◌+◌, ◌^◌, Bool, true, false, cond, ◌||◌, List, [], ◌∷◌, Option, None, Some, bit_or, refl, ap, sym, ◌∙◌}
+use Rattle.std.proofs.Common.{◌≡◌, ℕ, zero, suc, ◌+◌, Bool, false, ◌||◌, List, [], ◌∷◌, Option, None, Some, bit_or, refl, ap, sym, ◌∙◌}
 use Rattle.std.specs.Prelude.{option_map}
 use Rattle.std.specs.List.{list_any}
 use Rattle.std.proofs.Math.Bool.{or_assoc}
 use Rattle.frz_words.specs.Squares.{covers, with_item, all_items, is_covered}
 use Rattle.frz_words.specs.declared.squares.Rectangle.{Rectangle}
 use Rattle.frz_squares.specs.SquareSets.{bits_below, set_of}
-use Rattle.frz_squares.proofs.Lemmas.{union, set_of-same}
+use Rattle.frz_squares.proofs.Lemmas.{union, set_of-same, or_false}
 
 -- the squares of the set, and of the items
 abbrev pub with_items : ℕ → List (Option Rectangle) → Option ℕ
@@ -17,10 +17,6 @@ with_items set ((Some i) ∷ is) = with_items (bit_or set (set_of (covers i))) i
 abbrev pub set_with : (ℕ → Bool) → Option (List Rectangle) → Option ℕ
 set_with f None = None
 set_with f (Some is) = Some (set_of (λ s. f s || list_any (λ i. covers i s) is))
-
-or_false : (b : Bool) → (b || false) ≡ b
-or_false true = refl
-or_false false = refl
 
 one_more : (f : ℕ → Bool) (i : Rectangle) (o : Option (List Rectangle)) →
     set_with (λ s. f s || covers i s) o ≡ set_with f (with_item i o)

@@ -1,20 +1,15 @@
 -- What a filter with a map keeps.
-use Rattle.std.proofs.Common.{◌≡◌, ℕ, zero, suc, ◌+◌, ◌<◌, ◌⊎◌, ◌++◌, take, inl, inr, List, [], ◌∷◌, length, get_or, Option, Some, None, refl, sym, ◌∙◌, ap, subst, arith}
+use Rattle.std.proofs.Common.{◌≡◌, ℕ, zero, suc, ◌+◌, ◌<◌, ◌++◌, take, inl, inr, List, [], ◌∷◌, length, get_or, Option, Some, None, refl, sym, ◌∙◌, ap, subst, arith}
 use Rattle.std.specs.List.{Contains, cons_option, filter_map, slice_get}
 use Rattle.std.proofs.lemmas.List.{take_more}
 use Rattle.std.proofs.lemmas.List.Elements.{Contains-append_right, filter_map-append}
 use Rattle.std.proofs.lemmas.Option.{same_Some}
-use Rattle.frz_arena.proofs.Lemmas.{cases_Option, none_in_empty}
+use Rattle.frz_arena.proofs.Lemmas.{cases_Option, none_in_empty, in_cases}
 use Rattle.frz_unmove.proofs.Lemmas.{at_place}
 
 -- x is picked from the list
 abbrev pub Picked : {X Y : Type 0} → (X → Option Y) → List X → Y → Type 0
 Picked {X} f xs y = (x : X) × Contains xs x × (f x ≡ Some y)
-
-pub cases : {X : Type 0} (y : X) (xs : List X) (x : X) → Contains (y ∷ xs) x
-    → (y ≡ x) ⊎ Contains xs x
-cases y xs x (zero, h, e) = inl e
-cases y xs x (suc k, h, e) = inr (k, omega (arith, h), e)
 
 module _ {X Y : Type 0} (f : X → Option Y) where
   taken : (x : X) (xs : List X) (y : Y) → f x ≡ Some y → filter_map f (x ∷ xs) ≡ y ∷ filter_map f xs
@@ -26,7 +21,7 @@ module _ {X Y : Type 0} (f : X → Option Y) where
   pub picked_from : (xs : List X) (y : Y) → Contains (filter_map f xs) y → Picked f xs y
   picked_from [] y h = absurd (none_in_empty y h)
   picked_from (x ∷ xs) y h = elim (cases_Option (f x)) [
-    | inr s ↦ elim (cases s.0 (filter_map f xs) y
+    | inr s ↦ elim (in_cases s.0 (filter_map f xs) y
         (subst (λ ys. Contains ys y) (taken x xs s.0 s.1) h)) [
           | inl e ↦ (x, (zero, omega arith, refl), s.1 ∙ ap Some e)
           | inr i ↦ let r = picked_from xs y i in
@@ -39,7 +34,7 @@ module _ {X Y : Type 0} (f : X → Option Y) where
   pub picked_in : (xs : List X) (x : X) (y : Y) → Contains xs x → f x ≡ Some y
       → Contains (filter_map f xs) y
   picked_in [] x y h e = absurd (none_in_empty x h)
-  picked_in (z ∷ xs) x y h e = elim (cases z xs x h) [
+  picked_in (z ∷ xs) x y h e = elim (in_cases z xs x h) [
     | inl s ↦ subst (λ ys. Contains ys y) (sym (taken z xs y (ap f s ∙ e)))
         (zero, omega arith, refl)
     | inr i ↦ let r = picked_in xs x y i e in elim (cases_Option (f z)) [

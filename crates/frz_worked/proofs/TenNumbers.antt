@@ -1,5 +1,6 @@
 -- The game of ten numbers is a graph.
 use Rattle.std.proofs.Common.{◌≡◌, ◌≢◌, ◌↔◌, ℕ, zero, suc, ◌+◌, ◌<◌, ◌≤◌, ◌++◌, ◌==◌, take, append-nil, ◌&&◌, Bool, true, false, not, nat_lt, List, [], ◌∷◌, get_or, Option, Some, None, refl, sym, ◌∙◌, ap, subst, arith, cond, inl, inr}
+use Rattle.frz_arena.proofs.Lemmas.{in_cases}
 use Rattle.std.specs.List.{Contains, cons_option, list_all, filter_map}
 use Rattle.std.proofs.lemmas.Bool.{and_from, and_parts, eqb-true, eq-eqb, ne_eqb, true≢false, ltb-true}
 use Rattle.std.proofs.lemmas.List.{get_or_past}
@@ -20,7 +21,7 @@ use Rattle.frz_graph.specs.Finite.{IsFinite}
 use Rattle.frz_worked.specs.declared.ten.Edge.{Edge}
 use Rattle.frz_worked.specs.declared.ten.TheConstants.{NODES, EDGES}
 use Rattle.frz_worked.specs.Ten.{target_of, step_of, is_free, arm_of, arm_from, pred_of, pred_to, preds_to, leads_to, game}
-use Rattle.frz_worked.proofs.Picked.{Apart, cases, picked_from, picked_in, picked_more, one_place}
+use Rattle.frz_worked.proofs.Picked.{Apart, picked_from, picked_in, picked_more, one_place}
 
 -- a number at which the game goes on, and one that is not broken
 is_going : Node → Bool
@@ -75,7 +76,7 @@ each : {X : Type 0} (test : X → Bool) (xs : List X) (x : X) → list_all test 
 each test [] x h i = absurd (omega (arith, i.1))
 each test (y ∷ ys) x h i =
     let b = and_parts (test y) (list_all test ys) h in
-    elim (cases y ys x i) [ inl e ↦ ap test (sym e) ∙ b.0 | inr j ↦ each test ys x b.1 j ]
+    elim (in_cases y ys x i) [ inl e ↦ ap test (sym e) ∙ b.0 | inr j ↦ each test ys x b.1 j ]
 
 -- of one number and one target
 abbrev Clash : Edge → Edge → Type 0

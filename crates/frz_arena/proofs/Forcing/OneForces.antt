@@ -1,10 +1,10 @@
 -- Both sides never force mate.
 use Rattle.std.proofs.Common.{◌≡◌, ◌≢◌, ℕ, zero, suc, ◌⊎◌, inl, inr, [], sym, subst, ◌∙◌}
+use Rattle.frz_board.proofs.Lemmas.{other_differs}
 use Rattle.std.specs.List.{Contains}
 use Rattle.frz_board.specs.declared.man.Colour.{Colour}
 use Rattle.frz_board.specs.Men.{other_of}
 use Rattle.frz_arena.specs.Chess.{Chess, IsMated, SomeMove, EachMove, Forces, mate_alone}
-use Rattle.frz_arena.proofs.Plies.NodeKinds.{other_differs}
 use Rattle.frz_arena.proofs.Lists.Members.{none_in_empty}
 
 -- no position is to move for both

@@ -1,16 +1,12 @@
 -- What a position cannot be at once, and the two sides.
 use Rattle.std.proofs.Common.{◌≡◌}
+use Rattle.frz_board.proofs.Lemmas.{other_differs}
 use Rattle.frz_board.specs.declared.man.Colour.{Colour}
-use Rattle.frz_board.specs.declared.man.Colour.TheVariants.{White, Black}
 use Rattle.frz_arena.specs.declared.class.Class.{Class}
 use Rattle.frz_arena.specs.declared.class.Class.TheVariants.{Good, Bad}
 use Rattle.frz_board.specs.Men.{other_of}
 use Rattle.frz_arena.specs.declared.node.Node.{Node}
 use Rattle.frz_arena.specs.declared.node.Node.TheVariants.{Mate, Going}
-
-pub other_differs : (side : Colour) → other_of side ≡ side → ⊥
-other_differs White e = cc
-other_differs Black e = cc
 
 pub mate_or_going : {x : Node} (a b : Colour) → x ≡ Mate a → x ≡ Going b → ⊥
 mate_or_going a b h k = cc

@@ -1,5 +1,6 @@
 -- Each session ends, where the sides move in turn and each reply uses up some of the input.
 use Rattle.std.proofs.Common.{◌≡◌, ◌≤◌, ◌<◌, ◌+◌, ◌*◌, ℕ, zero, suc, ◌⊎◌, inl, inr, Bool, true, false, List, [], ◌∷◌, Some, refl, sym, subst, ap, ◌∙◌, arith}
+use Rattle.frz_board.proofs.Lemmas.{other_differs}
 use Rattle.std.specs.Prelude.{slice_get}
 use Rattle.frz_board.specs.declared.man.Colour.{Colour}
 use Rattle.frz_board.specs.Men.{same_colour}
@@ -16,7 +17,6 @@ use Rattle.frz_arena.specs.Inputs.{Answer, Reply, Stop, IsInput}
 use Rattle.frz_arena.specs.Turns.{Alternates}
 use Rattle.frz_arena.specs.WayEnds.{End, Exit, Stopped}
 use Rattle.frz_arena.specs.Ways.{Player, Ply, Over, Moves, Opponent, ByCodes, ByInput, IsTakenBy, IsStopBy, stage, IsWay}
-use Rattle.frz_arena.proofs.Plies.NodeKinds.{other_differs}
 use Rattle.frz_arena.proofs.Lists.FirstOnes.{at_in}
 use Rattle.frz_arena.proofs.Ways.FoundArms.{mover_is, itself, another, chosen_there}
 use Rattle.frz_arena.proofs.Ways.Stages as stages

@@ -1,5 +1,6 @@
 -- The parts of a way: how it ends where no ply is left, and its first ply.
 use Rattle.std.proofs.Common.{◌≡◌, ◌==◌, ◌||◌, ℕ, ◌⊎◌, inl, inr, Bool, true, false, [], Some, refl, sym, ap, ◌∙◌, arith}
+use Rattle.frz_board.proofs.Lemmas.{other_differs}
 use Rattle.std.specs.Prelude.{slice_get, nat_le}
 use Rattle.std.proofs.lemmas.Bool.{and_parts, eqb-true}
 use Rattle.frz_board.specs.declared.man.Colour.{Colour}
@@ -10,7 +11,6 @@ use Rattle.frz_arena.specs.LocalCodes.{arm_code, local_code}
 use Rattle.frz_arena.specs.Chosen.{IsChosen}
 use Rattle.frz_arena.specs.WayEnds.{End, Wrong, NoBound, Mated, Stalemated, Cut, Stopped}
 use Rattle.frz_arena.specs.Ways.{Player, Ply, Over, Moves, Opponent, ByCodes, ByInput, is_cut, is_line, is_by_codes, IsTakenBy, IsStopBy, IsPlyOf, stage, IsWay}
-use Rattle.frz_arena.proofs.Plies.NodeKinds.{other_differs}
 use Rattle.frz_arena.proofs.Ways.Stages as stages
 use Rattle.frz_arena.proofs.Ways.Stages.{IsSound, stage_is}
 use Rattle.frz_arena.proofs.Ways.FoundArms.{mover_is, itself, another, chosen_is_at, chosen_free, chosen_win, chosen_hold, any_win, any_hold, small_is_no_failure}

@@ -3,7 +3,7 @@ use Rattle.std.specs.Prelude.{◌==◌}
 use Rattle.std.proofs.lemmas.Simd.{bit_mask_l, bitmask_splat}
 use Rattle.std.proofs.lemmas.List.{get_or-map}
 use Rattle.frz_squares.specs.SquareSets.{has_square}
-use Rattle.frz_bits.proofs.Men.{one_or_none}
+use Rattle.frz_squares.proofs.Lemmas.{one_or_none}
 use Rattle.frz_bits.proofs.lanes.cells_equal.Goals as goal
 
 pub returns : goal.returns
