@@ -1,5 +1,5 @@
 -- Adding to a list those of some kind, each once.
-use Rattle.std.proofs.Common.{◌≡◌, ℕ, zero, suc, Some, Bool, true, false, ◌+◌, ◌<◌, ◌≤◌, List, [], ◌∷◌, ◌++◌, length, refl, ap, sym, ◌∙◌, subst, arith, append-nil, append_assoc, length-append, ◌⊎◌, inl, inr}
+use Rattle.std.proofs.Common.{◌≡◌, ℕ, zero, suc, Some, ◌+◌, ◌<◌, ◌≤◌, List, [], ◌∷◌, ◌++◌, length, refl, ap, sym, ◌∙◌, subst, arith, append-nil, append_assoc, length-append, ◌⊎◌, inl, inr}
 use Rattle.std.specs.Prelude.{Contains}
 use Rattle.std.specs.List.{slice_get}
 use Rattle.std.proofs.lemmas.Option.{same_Some, slice_get_within, get_or_from_slice_get}
@@ -148,8 +148,3 @@ once_place (y ∷ xs) o zero (suc l) x e f =
 once_place (y ∷ xs) o (suc k) zero x e f =
     absurd (o.0 (subst (Contains xs) (sym (same_Some y x f)) (at_place xs k x e)))
 once_place (y ∷ xs) o (suc k) (suc l) x e f = ap suc (once_place xs o.1 k l x e f)
-
--- a test does not pass and fail
-pub clash : (b : Bool) → b ≡ true → b ≡ false → ⊥
-clash true h k = cc
-clash false h k = cc

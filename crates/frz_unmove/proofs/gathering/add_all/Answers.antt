@@ -1,4 +1,5 @@
 use Rattle.std.proofs.Common.{◌≡◌, ℕ, ◌+◌, ◌*◌, ◌<◌, arith, sym, ap, ◌∙◌}
+use Rattle.std.proofs.lemmas.Bool.{both_ways}
 use Rattle.frz_squares.specs.SquareSets.{has_square, set_of}
 use Rattle.frz_board.specs.declared.man.Colour.{Colour}
 use Rattle.frz_board.specs.Boards.{Board, holds}
@@ -8,7 +9,7 @@ use Rattle.frz_bits.proofs.Lemmas.{in_side}
 use Rattle.frz_unmove.specs.Gathering.{Comes}
 use Rattle.frz_unmove.proofs.Coming.{held}
 use Rattle.frz_unmove.proofs.Movers.{movers_below, movers_few, movers_next}
-use Rattle.frz_unmove.proofs.Adding.{Below, adds_room, walk_next, walk_end, clash}
+use Rattle.frz_unmove.proofs.Adding.{Below, adds_room, walk_next, walk_end}
 use Rattle.frz_unmove.proofs.gathering.add_all.Goals as goal
 
 -- the word of the side that has moved
@@ -56,9 +57,8 @@ loop-to-preserved c =
           c.loop-to.n c.in-Some.to (c.number-n.result + 1) (6912 * movers_below q c.loop-to.n) 6912
           (6912 * movers_below q (c.number-n.result + 1)) c.loop-to.invariant.1 c.add_square.ensures
           (omega (arith, one_more, same)) next.from (omega (arith, e))
-          (λ x h l m. clash (has_square c.side-men.result x.mv.to)
-          (inside x.mv.to h.step.to ∙ held c.args.set.now q x h)
-          (next.first x.mv.to l m)),
+          (λ x h l m. both_ways (has_square c.side-men.result x.mv.to) (next.first x.mv.to l m)
+          (inside x.mv.to h.step.to ∙ held c.args.set.now q x h)),
     )
 
 pub returns : goal.returns
@@ -70,6 +70,5 @@ returns c =
     let few = movers_few q c.loop-to.n c.requires.valid in
     walk_end (Comes c.args.set.now q) (λ x. x.mv.to) c.args.out.now c.loop-to.out c.loop-to.n
     (6912 * movers_below q c.loop-to.n) 110592 c.loop-to.invariant.1 (omega (arith, few))
-    (λ x h l. clash (has_square c.side-men.result x.mv.to)
-    (inside x.mv.to h.step.to ∙ held c.args.set.now q x h)
-    (none.none x.mv.to l h.step.to))
+    (λ x h l. both_ways (has_square c.side-men.result x.mv.to) (none.none x.mv.to l h.step.to)
+    (inside x.mv.to h.step.to ∙ held c.args.set.now q x h))

@@ -1,8 +1,9 @@
 use Rattle.std.proofs.Common.{◌+◌, arith}
+use Rattle.std.proofs.lemmas.Bool.{both_ways}
 use Rattle.frz_squares.specs.SquareSets.{has_square}
 use Rattle.frz_bits.specs.Words.{IsNext, HasNoneFrom}
 use Rattle.frz_unmove.specs.Gathering.{ComesAt}
-use Rattle.frz_unmove.proofs.Adding.{Below, adds_room, walk_next, walk_end, clash}
+use Rattle.frz_unmove.proofs.Adding.{Below, adds_room, walk_next, walk_end}
 use Rattle.frz_unmove.proofs.gathering.add_at.Goals as goal
 
 pub add_from-requires-clause-room : goal.add_from-requires-clause-room
@@ -29,8 +30,8 @@ loop-from-preserved c =
           c.loop-from.n c.in-Some.from (c.number-n.result + 1) c.loop-from.n 1
           (c.number-n.result + 1) c.loop-from.invariant.1 c.add_from.ensures (omega (arith, low, e))
           low (omega (arith, e))
-          (λ x h l m. clash (has_square c.args.origins x.mv.from) (c.requires.origins x h.0.0)
-          (next.first x.mv.from l m)),
+          (λ x h l m. both_ways (has_square c.args.origins x.mv.from) (next.first x.mv.from l m)
+          (c.requires.origins x h.0.0)),
     )
 
 pub returns : goal.returns
@@ -40,5 +41,5 @@ returns c =
     walk_end (ComesAt c.args.set.now c.args.q.now c.args.to c.args.promo c.args.taken
     c.args.target.now) (λ x. x.mv.from) c.args.out.now c.loop-from.out c.loop-from.n c.loop-from.n
     64 c.loop-from.invariant.1 (omega (arith, within))
-    (λ x h l. clash (has_square c.args.origins x.mv.from) (c.requires.origins x h.0.0)
-    (none.none x.mv.from l h.0.0.0.0.step.from))
+    (λ x h l. both_ways (has_square c.args.origins x.mv.from)
+    (none.none x.mv.from l h.0.0.0.0.step.from) (c.requires.origins x h.0.0))

@@ -1,11 +1,12 @@
 use Rattle.std.proofs.Common.{◌≡◌, ap, sym, ◌∙◌, true}
+use Rattle.std.proofs.lemmas.Bool.{both_ways}
 use Rattle.frz_board.specs.Moving.{Step}
 use Rattle.frz_index.specs.Kept.{is_known}
 use Rattle.frz_unmove.specs.Earlier.{mover_cell}
 use Rattle.frz_unmove.specs.Gathering.{ComesFrom}
 use Rattle.frz_unmove.proofs.Coming.{known_mover}
 use Rattle.frz_unmove.proofs.Names.{same_parts}
-use Rattle.frz_unmove.proofs.Adding.{adds_none, clash}
+use Rattle.frz_unmove.proofs.Adding.{adds_none}
 use Rattle.frz_unmove.proofs.gathering.add_from.Goals as goal
 
 pub returns-else-knows : goal.returns-else-knows
@@ -18,6 +19,6 @@ returns-else-knows c =
     let there : is_known gs (mover_cell q c.args.m) c.args.m.from ≡ true =
     ap (λ m. is_known gs (mover_cell q m) m.from) (sym move) ∙ known_mover gs q x h.0.0.0.0.0 in
     let same : c.mover_cell.result ≡ mover_cell q c.args.m = c.mover_cell.ensures.cell in
-    clash (is_known gs (mover_cell q c.args.m) c.args.m.from) there
+    both_ways (is_known gs (mover_cell q c.args.m) c.args.m.from)
     (ap (λ n. is_known gs n c.args.m.from) (sym same) ∙ ap (is_known gs c.mover_cell.result)
-    (sym (ap (λ (s : Step). s.from) c.m.view_is)) ∙ sym c.knows.ensures ∙ c.if-knows.false))
+    (sym (ap (λ (s : Step). s.from) c.m.view_is)) ∙ sym c.knows.ensures ∙ c.if-knows.false) there)

@@ -1,10 +1,11 @@
 use Rattle.std.proofs.Common.{◌≡◌, sym, ◌∙◌, Some, None, arith, inl, inr, ◌&&◌, Option}
+use Rattle.std.proofs.lemmas.Bool.{both_ways}
 use Rattle.frz_board.specs.declared.man.Kind.{Kind}
 use Rattle.frz_board.specs.Moving.{is_promotion}
 use Rattle.frz_fide.specs.Legal.{is_last}
 use Rattle.frz_unmove.specs.Gathering.{ComesAs, ComesTo}
 use Rattle.frz_unmove.proofs.Begins.{promo_cases_at}
-use Rattle.frz_unmove.proofs.Adding.{adds_both, adds_same, clash}
+use Rattle.frz_unmove.proofs.Adding.{adds_both, adds_same}
 use Rattle.frz_unmove.proofs.gathering.add_man.Goals as goal
 
 not_none : (k : Kind) (o : Option Kind) → o ≡ None → o ≡ Some k → ⊥
@@ -38,6 +39,6 @@ returns-else-is_promoted c =
     (λ x h. elim (promo_cases_at gs q b x h c.args.man c.requires.man) [
       | inl e ↦ (h, e)
       | inr e ↦
-          absurd (clash (is_last c.args.man.colour b && is_promotion (Some c.args.man.kind)) e.1
-          (sym c.is_promoted.ensures ∙ c.if-is_promoted.false))
+          absurd (both_ways (is_last c.args.man.colour b && is_promotion (Some c.args.man.kind))
+          (sym c.is_promoted.ensures ∙ c.if-is_promoted.false) e.1)
     ])

@@ -1,6 +1,7 @@
+use Rattle.std.proofs.lemmas.Bool.{both_ways}
 use Rattle.frz_unmove.specs.Gathering.{ComesTaking}
 use Rattle.frz_unmove.proofs.Coming.{may_be_taken}
-use Rattle.frz_unmove.proofs.Adding.{adds_none, clash}
+use Rattle.frz_unmove.proofs.Adding.{adds_none}
 use Rattle.frz_unmove.proofs.gathering.add_taken.Goals as goal
 
 pub returns-else-may_take : goal.returns-else-may_take
@@ -8,6 +9,6 @@ returns-else-may_take c =
     let gs = c.args.set.now in
     let q = c.args.q.now in
     adds_none (ComesTaking gs q c.args.to c.args.promo c.args.taken) c.args.out.now 576
-    (λ x h. clash c.may_take.result
+    (λ x h. both_ways c.may_take.result c.if-may_take.false
     (may_be_taken gs q x c.args.to c.args.taken c.may_take.result h.0.0 h.1 c.requires.side
-    c.may_take.ensures) c.if-may_take.false)
+    c.may_take.ensures))

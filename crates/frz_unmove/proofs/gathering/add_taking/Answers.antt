@@ -1,9 +1,10 @@
 use Rattle.std.proofs.Common.{◌+◌, ◌-◌, ◌*◌, arith, inl, inr}
+use Rattle.std.proofs.lemmas.Bool.{both_ways}
 use Rattle.frz_squares.specs.SquareSets.{has_square}
 use Rattle.frz_bits.specs.Words.{IsNext, HasNoneFrom}
 use Rattle.frz_unmove.specs.Gathering.{ComesTaking, first_target, target_key, target_of}
 use Rattle.frz_unmove.proofs.EarlierTargets.{key_in_word, target_of_word}
-use Rattle.frz_unmove.proofs.Adding.{Below, adds_room, walk_first, walk_next, walk_end, clash}
+use Rattle.frz_unmove.proofs.Adding.{Below, adds_room, walk_first, walk_next, walk_end}
 use Rattle.frz_unmove.proofs.gathering.add_taking.Goals as goal
 
 pub add_at-requires-in-Some-clause-room : goal.add_at-requires-in-Some-clause-room
@@ -64,9 +65,9 @@ loop-t-preserved c =
           (omega (arith, low, from, e)) (omega (arith, from)) (omega (arith, e))
           (λ x h l m. elim (key_in_word gs q c.args.to c.args.targets x h.0.0 c.requires.targets) [
             | inl k ↦ omega (arith, k, l)
-            | inr r ↦ clash (has_square c.args.targets (target_key (target_of gs x) - 1)) r.2
+            | inr r ↦ both_ways (has_square c.args.targets (target_key (target_of gs x) - 1))
                 (next.first (target_key (target_of gs x) - 1) (omega (arith, l))
-                (let above = r.0 in omega (arith, m, above)))
+                (let above = r.0 in omega (arith, m, above))) r.2
           ]);
     }
 
@@ -82,7 +83,7 @@ returns c =
     (omega (arith, rank))
     (λ x h l. elim (key_in_word gs q c.args.to c.args.targets x h.0.0 c.requires.targets) [
       | inl k ↦ omega (arith, k, l)
-      | inr r ↦ clash (has_square c.args.targets (target_key (target_of gs x) - 1)) r.2
+      | inr r ↦ both_ways (has_square c.args.targets (target_key (target_of gs x) - 1))
           (none.none (target_key (target_of gs x) - 1) (omega (arith, l))
-          (let above = r.0 in let below = r.1 in omega (arith, above, below)))
+          (let above = r.0 in let below = r.1 in omega (arith, above, below))) r.2
     ])
