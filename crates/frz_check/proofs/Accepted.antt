@@ -7,7 +7,7 @@ use Rattle.frz_sets.specs.Sets.{size_of}
 use Rattle.frz_sets.specs.Sound.{IsSound}
 use Rattle.frz_sets.specs.Views.{RuleLines}
 use Rattle.frz_rules.specs.Text.{rules_of}
-use Rattle.frz_rules.proofs.Lemmas.{answer_sound}
+use Rattle.frz_rules.proofs.Lemmas.{text_sound}
 use Rattle.frz_exits.specs.Books.{value_by}
 use Rattle.frz_exits.proofs.Lemmas.{small_values}
 use Rattle.frz_game.specs.Bounds.{IsTableOf}
@@ -20,15 +20,12 @@ use Rattle.frz_check.specs.Kept.{kept_codes}
 use Rattle.frz_check.specs.OneFile.{IsOneFile}
 use Rattle.frz_check.proofs.OneFile.{one_file_holds}
 
-pub read_sound : (text : List ℕ) (rules : RuleLines) → rules_of text ≡ Ok rules → IsSound rules
-read_sound text rules read = answer_sound text (Ok rules) read
-
 pub small_lags : (rules : RuleLines) → IsSound rules → HasSmallLags (value_by rules)
 small_lags rules sound q valid = small_values rules sound q
 
 pub read_small : (text : List ℕ) (rules : RuleLines) → rules_of text ≡ Ok rules
     → HasSmallLags (value_by rules)
-read_small text rules read = small_lags rules (read_sound text rules read)
+read_small text rules read = small_lags rules (text_sound text rules read)
 
 -- the codes of its tables are small
 pub few_plies : (text : List ℕ) (rules : RuleLines) → rules_of text ≡ Ok rules

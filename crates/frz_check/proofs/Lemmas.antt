@@ -3,7 +3,6 @@ pub use Rattle.frz_check.proofs.Accepted.{
   few_plies,
   file_tables,
   read_small,
-  read_sound,
   small_lags,
 }
 pub use Rattle.frz_check.proofs.FileChecks.{file_not_loaded, file_opens, many_codes, same_verdict, within_file}

@@ -9,7 +9,7 @@ use Rattle.frz_sets.specs.Sets.{size_of}
 use Rattle.frz_sets.specs.Views.{RuleLines}
 use Rattle.frz_rules.specs.declared.fault.RulesFault.{RulesFault}
 use Rattle.frz_rules.specs.Text.{rules_of}
-use Rattle.frz_rules.proofs.Lemmas.{answer_sound}
+use Rattle.frz_rules.proofs.Lemmas.{text_sound}
 use Rattle.frz_game.specs.Bounds.{IsTableOf}
 use Rattle.frz_table.specs.declared.kind.FileKind.{FileKind}
 use Rattle.frz_table.specs.Layout.{codes_at, file_of, magic_of}
@@ -65,7 +65,7 @@ one_file rules value one magic text bytes others a b =
 -- sets are small
 pub size_few : (text : List ℕ) (rules : RuleLines) → rules_of text ≡ Ok rules
     → size_of rules.groups ≤ 2 ^ 27
-size_few text rules read = (answer_sound text (Ok rules) read).size
+size_few text rules read = (text_sound text rules read).size
 
 -- and so are the codes of tables
 codes_fit : (rules : RuleLines) (value : Board → Value) → size_of rules.groups ≤ 2 ^ 27 →

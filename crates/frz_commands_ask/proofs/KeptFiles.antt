@@ -31,7 +31,7 @@ use Rattle.frz_prelude.specs.declared.stop.Stop.TheVariants.{Refused, Fault}
 use Rattle.frz_prelude.proofs.Lemmas.{holding}
 use Rattle.frz_commands_ask.specs.declared.kept.KeptCodes.{KeptCodes}
 use Rattle.frz_commands_ask.specs.Kept.{code_reads, keeping_bytes, keeping_calls, kept_at, kept_by, kept_of, AreKept, IsKeptIn, IsKept}
-use Rattle.frz_check.proofs.Lemmas.{read_sound}
+use Rattle.frz_rules.proofs.Lemmas.{text_sound}
 
 -- the text of a file that opens is the one that it keeps
 pub opened_text : (kind : FileKind) (bytes : List ℕ) (contents : Contents)
@@ -153,7 +153,7 @@ some_file kind contents other opens p inside codes white_small black_small =
     let black : List ℕ = replicate size codes.black in
     let known = belongs (table_format kind) other contents opens in
     let short = known.short in
-    let few = (read_sound text contents.rules known.read).size in
+    let few = (text_sound text contents.rules known.read).size in
     let white_long : length white ≡ size = length-replicate size codes.white in
     let black_long : length black ≡ size = length-replicate size codes.black in
     let file = written_belongs magic text size white black (magic_long kind) (omega (arith, short))

@@ -21,7 +21,8 @@ use Rattle.frz_exits.specs.Books.{value_by}
 use Rattle.frz_game.specs.Numbers.{is_member}
 use Rattle.frz_index.proofs.Lemmas.{member_of, of_member}
 use Rattle.frz_game.proofs.Lemmas.{bound_there}
-use Rattle.frz_check.proofs.Lemmas.{read_sound, small_lags}
+use Rattle.frz_rules.proofs.Lemmas.{text_sound}
+use Rattle.frz_check.proofs.Lemmas.{small_lags}
 use Rattle.frz_commands_ask.specs.Solving.{AreBounds, IsSolvedBy, IsSolvedAt, solving_by}
 use Rattle.frz_commands_ask.specs.Meaning.{solving_at}
 
@@ -56,7 +57,7 @@ By p m text r a = IsSolvedBy r p m a
 pub some_solved_at : (p : Board) (rules : List ℕ) (m : Files)
     → SomeAnswer (λ a. IsSolvedAt p rules m a)
 some_solved_at p rules m =
-    some_named m (By p m) (λ text r read. some_solved_by r (read_sound text r read) p m) (m rules)
+    some_named m (By p m) (λ text r read. some_solved_by r (text_sound text r read) p m) (m rules)
 
 -- by the rules
 not_member : (groups : List GroupLine) (p : Board) (b : Bool) → is_member groups p ≡ b

@@ -17,7 +17,8 @@ use Rattle.frz_table.specs.declared.kind.FileKind.TheVariants.{Plain}
 use Rattle.frz_table.specs.Layout.{magic_of}
 use Rattle.frz_game.proofs.Lemmas.{table_there}
 use Rattle.frz_check.specs.OneFile.{IsOneFile}
-use Rattle.frz_check.proofs.Lemmas.{file_there, read_sound, small_lags}
+use Rattle.frz_rules.proofs.Lemmas.{text_sound}
+use Rattle.frz_check.proofs.Lemmas.{file_there, small_lags}
 use Rattle.frz_commands_table.specs.Building.{built_line, IsBuiltBy, IsBuiltAt, building_by}
 use Rattle.frz_commands_table.specs.BuildMeaning.{building_at}
 
@@ -51,7 +52,7 @@ By table m text r a = IsBuiltBy text r table m a
 
 pub some_built_at : (rules table : List ℕ) (m : Files) → SomeAnswer (λ a. IsBuiltAt rules table m a)
 some_built_at rules table m =
-    some_named m (By table m) (λ text r read. some_built_by text r (read_sound text r read) table m)
+    some_named m (By table m) (λ text r read. some_built_by text r (text_sound text r read) table m)
     (m rules)
 
 module _ (table : List ℕ) (m : Files) where
