@@ -1,11 +1,11 @@
 -- A man and the number that stands for it determine each other.
-use Rattle.std.proofs.Common.{◌≡◌, ℕ, ◌<◌, refl, arith, lit<, Some}
+use Rattle.std.proofs.Common.{◌≡◌, ℕ, ◌<◌, refl, arith, lit<, Some, zero, suc, ◌+◌}
 use Rattle.std.proofs.lemmas.Bool.Decides.{nat_tests}
 use Rattle.frz_board.specs.declared.man.Colour.{Colour}
 use Rattle.frz_board.specs.declared.man.Colour.TheVariants.{White, Black}
 use Rattle.frz_board.specs.declared.man.Kind.{Kind}
 use Rattle.frz_board.specs.declared.man.Kind.TheVariants.{King, Queen, Rook, Bishop, Knight, Pawn}
-use Rattle.frz_board.specs.Men.{man_of_cell, cell_of_man, other_of}
+use Rattle.frz_board.specs.Men.{man_of_cell, cell_of_man, other_of, number_of_kind, kind_of_number}
 
 pub cell_back : (x : ℕ) (c : Colour) (k : Kind)
     → man_of_cell x ≡ Some (record { colour = c; kind = k })
