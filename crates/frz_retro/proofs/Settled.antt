@@ -1,18 +1,10 @@
 -- What settles a number gives its local code.
-use Rattle.std.proofs.Common.{◌≡◌, ℕ, ◌+◌, ◌≤◌, Bool, true, false, not, List, [], ◌∷◌, slice_index, refl, sym, ◌∙◌, ap, ap₂, inl, inr, arith}
+use Rattle.std.proofs.Common.{◌≡◌, ℕ, ◌+◌, ◌≤◌, Bool, true, false, not, List, [], ◌∷◌, refl, sym, ◌∙◌, inl, inr, arith}
 use Rattle.std.proofs.lemmas.Bool.{cases_Bool}
 use Rattle.frz_board.specs.declared.man.Colour.{Colour}
 use Rattle.frz_board.specs.declared.man.Colour.TheVariants.{White, Black}
 use Rattle.frz_board.specs.Men.{same_colour, other_of}
-use Rattle.frz_board.specs.Moving.{Step}
-use Rattle.frz_sets.specs.declared.exit.Value.{Value}
-use Rattle.frz_arena.specs.Arena.{Arena}
-use Rattle.frz_arena.specs.Codes.{exit_code}
-use Rattle.frz_arena.specs.LocalCodes as local
-use Rattle.frz_arena.specs.declared.arm.Next.TheVariants.{Inside, Outside}
-use Rattle.frz_exits.specs.Values.{class_of, lag_of}
-use Rattle.frz_graph.specs.EntryCodes.{next_code}
-use Rattle.frz_retro.specs.Graphs.{Arm, Next}
+use Rattle.frz_retro.specs.Graphs.{Arm}
 use Rattle.frz_retro.specs.Kinds.{is_of}
 use Rattle.frz_retro.specs.Shape.{In, counts_for}
 use Rattle.frz_retro.specs.State.{Held, IsSettled}
@@ -67,12 +59,3 @@ by_turn P Black Black own other = own refl
 pub nothing_in : (arms : List Arm) → ((a : Arm) → In a arms → ⊥) → arms ≡ []
 nothing_in [] h = refl
 nothing_in (a ∷ arms) h = absurd (h a (inl refl))
-
--- the code of a move by the arena's values
-pub same_code : (arena : Arena Step ℕ Value) → arena.class ≡ class_of → arena.lag ≡ lag_of →
-    (side : Colour) (E : List ℕ) (n : Next) →
-    local.next_code arena side (λ k. slice_index E k) n ≡ next_code side E n
-same_code arena class lag side E (Inside q) = refl
-same_code arena class lag side E (Outside v) =
-    ap₂ exit_code (ap (λ (f : Value → Colour → _). f v side) class)
-    (ap (λ (f : Value → ℕ). f v) lag)

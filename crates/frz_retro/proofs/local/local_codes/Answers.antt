@@ -4,11 +4,12 @@ use Rattle.frz_board.specs.Men.{same_colour, other_of}
 use Rattle.frz_arena.specs.declared.node.Node.TheVariants.{Going}
 use Rattle.frz_arena.specs.LocalCodes as local
 use Rattle.frz_graph.specs.EntryCodes.{arm_code}
+use Rattle.frz_graph.proofs.Lemmas.{same_next}
 use Rattle.frz_retro.specs.Graphs.{Arm}
 use Rattle.frz_retro.specs.Kinds.{is_of}
 use Rattle.frz_retro.proofs.CodeFacts.{win_is, failure_is}
 use Rattle.frz_retro.proofs.Laws.{contains_in, in_contains}
-use Rattle.frz_retro.proofs.Settled.{Rules, settled_by, held_by, by_turn, nothing_in, same_code}
+use Rattle.frz_retro.proofs.Settled.{Rules, settled_by, held_by, by_turn, nothing_in}
 use Rattle.frz_retro.proofs.StateFacts.{settled_stays}
 use Rattle.frz_retro.proofs.local.local_codes.Goals as goal
 
@@ -33,7 +34,7 @@ returns c arena size finite side E = record {
     f a = local.arm_code arena side entry a
 
     same : (a : Arm) → local.arm_code arena side (λ k. slice_index E k) a ≡ arm_code side E a
-    same a = same_code arena finite.class finite.lag side E a.next
+    same a = sym (same_next arena finite.class finite.lag side E a.next)
 
     own : (i : ℕ) → arena.node i ≡ Going side →
         Rules true f (arena.arms i) (local.local_code arena side entry i)
