@@ -4,7 +4,7 @@ use Rattle.frz_game.specs.declared.wrong.Wrong.{Wrong as WrongEntry}
 use Rattle.frz_game.proofs.Lemmas.{table_one}
 use Rattle.frz_rules.specs.declared.fault.RulesFault.{RulesFault}
 use Rattle.frz_rules.specs.Text.{rules_of}
-use Rattle.frz_rules.proofs.Lemmas.{answer_sound}
+use Rattle.frz_rules.proofs.Lemmas.{text_sound}
 use Rattle.frz_sets.specs.Sets.{size_of}
 use Rattle.frz_sets.specs.Sound.{IsSound}
 use Rattle.frz_sets.specs.Views.{RuleLines}
@@ -120,7 +120,7 @@ module _ (rules back table : List ℕ) (m : Files) where
   by_back text r there read (wrong w e) =
       refusing_so (refusals.BackWrong w) ((r, ap rules_held there ∙ ap or_fault read), e)
   by_back text r there read (right behind e) =
-      let some = some_chained_by text r behind (answer_sound text (Ok r) read) table m in record {
+      let some = some_chained_by text r behind (text_sound text r read) table m in record {
         a = some.a;
         answer = made (record {
           text = text;

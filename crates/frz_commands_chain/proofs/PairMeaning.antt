@@ -4,7 +4,7 @@ use Rattle.frz_board.specs.declared.man.Colour.TheVariants.{White, Black}
 use Rattle.frz_exits.specs.Books.{value_by}
 use Rattle.frz_game.proofs.Lemmas.{plies_few, table_means}
 use Rattle.frz_rules.specs.Text.{rules_of}
-use Rattle.frz_rules.proofs.Lemmas.{answer_sound}
+use Rattle.frz_rules.proofs.Lemmas.{text_sound}
 use Rattle.frz_sets.specs.Sets.{size_of}
 use Rattle.frz_sets.specs.Views.{RuleLines}
 use Rattle.frz_store.specs.Files.{Files}
@@ -51,7 +51,7 @@ pub judged_on : (held back_held : Option (List ℕ)) (bytes text : List ℕ) (ru
 judged_on held back_held bytes text rules behind there back_there read one =
     let contents : Contents = record { text = text; rules = rules } in
     let value = chain_value rules behind in
-    let sound = answer_sound text (Ok rules) read in
+    let sound = text_sound text rules read in
     record {
       bytes = bytes;
       there = there;

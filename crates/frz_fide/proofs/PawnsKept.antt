@@ -1,5 +1,6 @@
 -- After a legal move no pawn stands on rank 1 or 8.
 use Rattle.std.proofs.Common.{◌≡◌, ℕ, ◌<◌, refl, ap, ◌∙◌, Bool, true, false, ◌&&◌, ◌||◌, not, arith, Option, None, Some, slice_index}
+use Rattle.std.proofs.Math.Bool.{or-false}
 use Rattle.std.specs.Prelude.{◌==◌, if◌then◌else◌}
 use Rattle.std.specs.List.{list_all}
 use Rattle.std.proofs.lemmas.Bool.Decides.{nat_tests}
@@ -15,7 +16,7 @@ use Rattle.frz_board.specs.declared.man.Colour.{Colour}
 use Rattle.frz_board.specs.declared.man.Colour.TheVariants.{White, Black}
 use Rattle.frz_board.specs.declared.man.Kind.{Kind}
 use Rattle.frz_board.specs.declared.man.Kind.TheVariants.{King, Queen, Rook, Bishop, Knight, Pawn}
-use Rattle.frz_squares.proofs.Lemmas.{each_square, all_squares, or_false}
+use Rattle.frz_squares.proofs.Lemmas.{each_square, all_squares}
 use Rattle.frz_fide.proofs.LegalParts.{Move}
 use Rattle.frz_fide.proofs.Room.{forward_only}
 use Rattle.frz_fide.proofs.CellsAfter.{arrival, lf, none_then}
@@ -49,7 +50,7 @@ pawn_test : (c : Colour) (k : Kind) →
 pawn_test White k =
     let tests = pawn_tests White k in
     ap (λ b. b || cell_of_man (record { colour = White; kind = k }) == pawn_cell Black) tests.0
-    ∙ ap (λ b. is_pawn k || b) tests.1 ∙ or_false (is_pawn k)
+    ∙ ap (λ b. is_pawn k || b) tests.1 ∙ or-false (is_pawn k)
 pawn_test Black k =
     let tests = pawn_tests Black k in
     ap (λ b. b || cell_of_man (record { colour = Black; kind = k }) == pawn_cell Black) tests.1

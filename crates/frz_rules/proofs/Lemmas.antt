@@ -1,2 +1,2 @@
 -- The lemmas that crates above cite.
-pub use Rattle.frz_rules.proofs.Sounding.{text_sound, answer_sound}
+pub use Rattle.frz_rules.proofs.Sounding.{text_sound}

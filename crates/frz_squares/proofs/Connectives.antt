@@ -8,10 +8,6 @@ either_or x y (inl h) = rw h
 either_or true y (inr h) = refl
 either_or false y (inr h) = h
 
-pub or_false : (x : Bool) → (x || false) ≡ x
-or_false true = refl
-or_false false = refl
-
 -- a test of the form 'if x then y'
 pub implied : (x y : Bool) → (not x || y) ≡ true → x ≡ true → y ≡ true
 implied true y h e = h

@@ -5,7 +5,6 @@ pub use Rattle.frz_squares.proofs.Connectives.{
   implies,
   not_same,
   same_not,
-  or_false,
 }
 pub use Rattle.frz_squares.proofs.AllSquares.{
   length-squares,

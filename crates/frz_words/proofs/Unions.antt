@@ -2,11 +2,11 @@
 use Rattle.std.proofs.Common.{◌≡◌, ℕ, zero, suc, ◌+◌, Bool, false, ◌||◌, List, [], ◌∷◌, Option, None, Some, bit_or, refl, ap, sym, ◌∙◌}
 use Rattle.std.specs.Prelude.{option_map}
 use Rattle.std.specs.List.{list_any}
-use Rattle.std.proofs.Math.Bool.{or_assoc}
+use Rattle.std.proofs.Math.Bool.{or_assoc, or-false}
 use Rattle.frz_words.specs.Squares.{covers, with_item, all_items, is_covered}
 use Rattle.frz_words.specs.declared.squares.Rectangle.{Rectangle}
 use Rattle.frz_squares.specs.SquareSets.{bits_below, set_of}
-use Rattle.frz_squares.proofs.Lemmas.{union, set_of-same, or_false}
+use Rattle.frz_squares.proofs.Lemmas.{union, set_of-same}
 
 -- the squares of the set, and of the items
 abbrev pub with_items : ℕ → List (Option Rectangle) → Option ℕ
@@ -30,7 +30,7 @@ one_more f i (Some is) =
 pub items_union : (f : ℕ → Bool) (is : List (Option Rectangle)) →
     with_items (set_of f) is ≡ set_with f (all_items is)
 items_union f [] =
-    ap (λ n. Some n) (set_of-same f (λ s. f s || false) (λ s l. sym (or_false (f s))))
+    ap (λ n. Some n) (set_of-same f (λ s. f s || false) (λ s l. sym (or-false (f s))))
 items_union f (None ∷ is) = refl
 items_union f ((Some i) ∷ is) =
     ap (λ n. with_items n is) (union f (covers i)) ∙ items_union (λ s. f s || covers i s) is
