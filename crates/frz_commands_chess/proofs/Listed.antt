@@ -1,12 +1,7 @@
 -- The answers of `moves` and `sans` are lawful, and the steps of their texts.
-use Rattle.std.proofs.Common.{◌≡◌, ℕ, ◌+◌, ◌<◌, ◌≤◌, true, List, length, get_or, sym, subst, arith}
-use Rattle.std.specs.List.{Contains}
+use Rattle.std.proofs.Common.{ℕ, ◌+◌, ◌≤◌, List, arith}
 use Rattle.frz_board.specs.Boards.{Board}
-use Rattle.frz_board.specs.Moving.{Step}
 use Rattle.frz_fen.specs.Reading.{fen_of}
-use Rattle.frz_fide.specs.Legal.{is_legal}
-use Rattle.frz_fide.specs.Listing.{legal_moves_of}
-use Rattle.frz_fide.proofs.Lemmas.{only_legal}
 use Rattle.frz_answer.specs.declared.status.Status.TheVariants.{Success}
 use Rattle.frz_answer.specs.Answers.{says}
 use Rattle.frz_answer.specs.Lawful.{IsLawful}
@@ -35,12 +30,6 @@ moves_lawful words = by_notation Coordinates words
 
 pub sans_lawful : (words : List (List ℕ)) → IsLawful (sans_words words)
 sans_lawful words = by_notation Algebraic words
-
--- a listed move is legal
-pub legal_at : (p : Board) (moves : List Step) (i : ℕ) (m : Step) → moves ≡ legal_moves_of p
-    → i < length moves → m ≡ get_or moves i m → is_legal p m ≡ true
-legal_at p moves i m all here is =
-    (only_legal p m (subst (λ (xs : List Step). Contains xs m) all (i, here, sym is))).1
 
 -- no text takes no step
 pub no_steps : (notation : Notation) → steps_by notation 0 ≤ 0

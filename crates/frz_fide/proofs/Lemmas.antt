@@ -4,7 +4,7 @@ pub use Rattle.frz_fide.proofs.CellsAfter.{cell_there, enemy, lf, mover, takes}
 pub use Rattle.frz_fide.proofs.Colours.{own_colour, same_side}
 pub use Rattle.frz_fide.proofs.Different.{same_move, same_parts}
 pub use Rattle.frz_fide.proofs.LegalParts.{Move, facts}
-pub use Rattle.frz_fide.proofs.Listed.{listed, only_legal, sorted}
+pub use Rattle.frz_fide.proofs.Listed.{listed, only_legal, sorted, legal_at}
 pub use Rattle.frz_fide.proofs.NoKingTaken.{no_king_there}
 pub use Rattle.frz_fide.proofs.PawnsKept.{pawn_tests}
 pub use Rattle.frz_fide.proofs.Room.{few}

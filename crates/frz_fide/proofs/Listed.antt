@@ -1,5 +1,5 @@
 -- The list of legal moves is in move order, and has exactly the legal moves.
-use Rattle.std.proofs.Common.{◌≡◌, ℕ, ◌+◌, ◌<◌, ◌≤◌, List, [], ◌∷◌, ◌++◌, refl, ap, sym, ◌∙◌, subst, Bool, true, false, cond, filter, arith, Option, None, Some, suc, zero, ◌⊎◌, inl, inr}
+use Rattle.std.proofs.Common.{◌≡◌, ℕ, ◌+◌, ◌<◌, ◌≤◌, List, [], ◌∷◌, ◌++◌, refl, ap, sym, ◌∙◌, subst, Bool, true, false, cond, filter, arith, Option, None, Some, suc, zero, ◌⊎◌, inl, inr, length, get_or}
 use Rattle.std.proofs.lemmas.Bool.Decides.{eqb_tells}
 use Rattle.std.specs.Prelude.{Contains}
 use Rattle.std.specs.List.{flat_map, range_with_len, AllByRecursion}
@@ -239,3 +239,9 @@ only_legal p m h =
     All-contains (λ x. IsStep x × (is_legal p x ≡ true)) (legal_moves_of p) m
     (All-from_recursion (λ x. IsStep x × (is_legal p x ≡ true)) (legal_moves_of p)
     (All_filter (is_legal p) IsStep every_step every_step_is)) h
+
+-- a move of the list is legal
+pub legal_at : (p : Board) (moves : List Step) (i : ℕ) (m : Step) → moves ≡ legal_moves_of p →
+    i < length moves → m ≡ get_or moves i m → is_legal p m ≡ true
+legal_at p moves i m all here is =
+    (only_legal p m (subst (λ (xs : List Step). Contains xs m) all (i, here, sym is))).1

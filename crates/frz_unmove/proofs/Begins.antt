@@ -1,5 +1,6 @@
 -- Where a man may have come from, and as what.
 use Rattle.std.proofs.Common.{length, ◌≡◌, ℕ, ◌<◌, List, refl, ap, sym, ◌∙◌, subst, true, ◌&&◌, Option, None, Some, ◌⊎◌}
+use Rattle.frz_fide.proofs.Lemmas.{same_parts}
 use Rattle.frz_board.specs.declared.man.Kind.{Kind}
 use Rattle.frz_board.specs.declared.man.Man.{Man}
 use Rattle.frz_board.specs.Boards.{Board, man_on, is_empty}
@@ -15,7 +16,6 @@ use Rattle.frz_unmove.specs.declared.preds.Pred.{Pred}
 use Rattle.frz_unmove.specs.Earlier.{mover_cell}
 use Rattle.frz_unmove.specs.Gathering.{Comes, ComesAs, ComesTo}
 use Rattle.frz_unmove.proofs.Coming.{room_to_begin, taken_off, promo_cases, vacated, way}
-use Rattle.frz_unmove.proofs.Names.{same_parts}
 use Rattle.frz_unmove.proofs.Ways.{way_back}
 
 -- a move begins on one of the origins

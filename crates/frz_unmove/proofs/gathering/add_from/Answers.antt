@@ -1,11 +1,11 @@
 use Rattle.std.proofs.Common.{◌≡◌, ap, sym, ◌∙◌, true}
 use Rattle.std.proofs.lemmas.Bool.{both_ways}
+use Rattle.frz_fide.proofs.Lemmas.{same_parts}
 use Rattle.frz_board.specs.Moving.{Step}
 use Rattle.frz_index.specs.Kept.{is_known}
 use Rattle.frz_unmove.specs.Earlier.{mover_cell}
 use Rattle.frz_unmove.specs.Gathering.{ComesFrom}
 use Rattle.frz_unmove.proofs.Coming.{known_mover}
-use Rattle.frz_unmove.proofs.Names.{same_parts}
 use Rattle.frz_unmove.proofs.Adding.{adds_none}
 use Rattle.frz_unmove.proofs.gathering.add_from.Goals as goal
 

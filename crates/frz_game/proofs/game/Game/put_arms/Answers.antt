@@ -1,6 +1,6 @@
 use Rattle.std.proofs.Common.{◌∙◌}
-use Rattle.frz_game.proofs.Numbers.{legal_at}
 use Rattle.frz_game.proofs.game.Game.put_arms.Goals as goal
+use Rattle.frz_fide.proofs.Lemmas.{legal_at}
 
 pub arm-requires-clause-legal : goal.arm-requires-clause-legal
 arm-requires-clause-legal g c =
