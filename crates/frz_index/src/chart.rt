@@ -26,14 +26,7 @@ pub(crate) fn kind_number(kind: Kind) -> u8
     ensures number { result ≡ number_of_kind kind - 1 }
     ensures small { result < 6 }
 {
-    match kind {
-        Kind::King => 0,
-        Kind::Queen => 1,
-        Kind::Rook => 2,
-        Kind::Bishop => 3,
-        Kind::Knight => 4,
-        Kind::Pawn => 5,
-    }
+    kind.number() - 1
 }
 
 /// The kind of a number.
@@ -41,14 +34,7 @@ pub(crate) fn kind_at(i: u8) -> Kind
     requires { i < 6 }
     ensures { result ≡ kind_of_number (i + 1) }
 {
-    match i {
-        0 => Kind::King,
-        1 => Kind::Queen,
-        2 => Kind::Rook,
-        3 => Kind::Bishop,
-        4 => Kind::Knight,
-        _ => Kind::Pawn,
-    }
+    Kind::of_number(i + 1)
 }
 
 fn state_number(kind: Kind, square: Square) -> u16

@@ -1,13 +1,13 @@
 //! The class of an exit: the letters of the men that stand after the move.
 ghost use Rattle.std.specs.Prelude.{◌≡◌, ◌≤◌, ◌<◌, ◌+◌, ◌++◌, count_by, nat_lt, length, replicate};
 ghost use Rattle.arrayvec.specs.ArrayString.{array_string_len};
-ghost use Rattle.frz_fen.specs.Writing.{letter_of};
 ghost use Rattle.frz_report.specs.Exits as words;
 ghost use Rattle.frz_report.specs.Exits.{letters_in};
 ghost use Rattle.frz_report.specs.Walks.{one_if};
 
 use arrayvec::ArrayString;
-use frz_board::{Position, man_of};
+use frz_board::Position;
+use frz_fen::cell_letter;
 
 /// How many cells a board has: no class has more letters.
 pub const MOST_LETTERS: usize = 64;
@@ -17,16 +17,6 @@ pub type Class = ArrayString<MOST_LETTERS>;
 
 /// The number of the last man, Black's pawn.
 const LAST_MAN: u8 = 12;
-
-/// The letter of a man's number.
-fn letter(cell: u8) -> u8
-    requires man { 0 < cell }
-    requires fits { cell < 13 }
-    ensures letter { result ≡ letter_of cell }
-    ensures ascii { result < 128 }
-{
-    man_of(cell).unwrap().letter()
-}
 
 /// Appends the letter, if its man is there.
 fn push_if(is_there: bool, letter: u8, class: &mut Class)
@@ -49,7 +39,7 @@ fn push_letters(cells: &[u8; 64], cell: u8, class: &mut Class)
     ensures letters { class.new.bytes ≡ class.old.bytes ++ letters_in cells.now cell }
     ensures few { array_string_len class.new ≤ count_by (λ c. nat_lt c (cell + 1)) cells.now }
 {
-    let letter = letter(cell);
+    let letter = cell_letter(cell);
     for standing in cells {
         let is_there = *standing == cell;
         push_if(is_there, letter, class);
