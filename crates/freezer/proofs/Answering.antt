@@ -1,5 +1,6 @@
 -- That each call has one answer, which means what it is to mean: a line for each command.
 use Rattle.std.proofs.Common.{ℕ, List, Option, Some, None}
+use Rattle.frz_store.specs.Files.{Files}
 use Rattle.frz_answer.specs.declared.words.Refusal.TheVariants.{NoCommand}
 use Rattle.frz_answer.specs.Lawful.{IsLawful}
 use Rattle.frz_answer.proofs.Lemmas.{refused_lawful}
@@ -19,16 +20,17 @@ use Rattle.freezer.specs.Verbs.{command_of}
 use Rattle.freezer.specs.Commands.{job_by, job_of}
 
 -- the laws of other crates that this one rests on
-module _ (line_lawful : (words : List (List ℕ)) → IsLawful (line_words words))
-    (play_lawful : (words : List (List ℕ)) → IsLawful (play_words words)) where
-  by_command : (command : Option (Verb × List (List ℕ))) → IsLawful (job_by command)
+module _ (line_lawful : (later : ℕ → Files) (words : List (List ℕ)) → IsLawful (line_words later words))
+    (play_lawful : (later : ℕ → Files) (words : List (List ℕ)) → IsLawful (play_words later words))
+    (later : ℕ → Files) where
+  by_command : (command : Option (Verb × List (List ℕ))) → IsLawful (job_by later command)
   by_command (Some (Solve, words)) = solve_lawful words
   by_command (Some (Moves, words)) = moves_lawful words
   by_command (Some (Sans, words)) = sans_lawful words
   by_command (Some (Move, words)) = move_lawful words
   by_command (Some (Query, words)) = query_lawful words
-  by_command (Some (Line, words)) = line_lawful words
-  by_command (Some (Play, words)) = play_lawful words
+  by_command (Some (Line, words)) = line_lawful later words
+  by_command (Some (Play, words)) = play_lawful later words
   by_command (Some (Check, words)) = check_lawful words
   by_command (Some (Build, words)) = build_lawful words
   by_command (Some (Migrate, words)) = migrate_lawful words
@@ -39,5 +41,5 @@ module _ (line_lawful : (words : List (List ℕ)) → IsLawful (line_words words
   by_command (Some (Report, words)) = report_lawful words
   by_command None = refused_lawful NoCommand
 
-  pub lawful_of : (words : List (List ℕ)) → IsLawful (job_of words)
+  pub lawful_of : (words : List (List ℕ)) → IsLawful (job_of later words)
   lawful_of words = by_command (command_of words)

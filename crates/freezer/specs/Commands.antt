@@ -1,6 +1,7 @@
 -- What is to be done for each verb: a line for each command, whose job stands in a module of its
 -- own.
 use Rattle.std.specs.Prelude.{ℕ, List, Option, Some, None}
+use Rattle.frz_store.specs.Files.{Files}
 use Rattle.frz_answer.specs.declared.words.Refusal.TheVariants.{NoCommand}
 use Rattle.frz_answer.specs.Jobs.{Job}
 use Rattle.frz_answer.specs.Words.{refusing}
@@ -21,24 +22,25 @@ use Rattle.freezer.specs.declared.verb.Verb.{Verb}
 use Rattle.freezer.specs.declared.verb.Verb.TheVariants.{Solve, Moves, Sans, Move, Query, Line, Play, Check, Build, Migrate, Chain, ChainCheck, ChainQuery, Sample, Report}
 use Rattle.freezer.specs.Verbs.{command_of}
 
-abbrev pub job_by : Option (Verb × List (List ℕ)) → Job
-job_by (Some (Solve, words)) = solve_words words
-job_by (Some (Moves, words)) = moves_words words
-job_by (Some (Sans, words)) = sans_words words
-job_by (Some (Move, words)) = move_words words
-job_by (Some (Query, words)) = query_words words
-job_by (Some (Line, words)) = line_words words
-job_by (Some (Play, words)) = play_words words
-job_by (Some (Check, words)) = check_words words
-job_by (Some (Build, words)) = build_words words
-job_by (Some (Migrate, words)) = migrate_words words
-job_by (Some (Chain, words)) = chain_words words
-job_by (Some (ChainCheck, words)) = chaincheck_words words
-job_by (Some (ChainQuery, words)) = chainquery_words words
-job_by (Some (Sample, words)) = sample_words words
-job_by (Some (Report, words)) = report_words words
-job_by None = refusing NoCommand
+-- by what the store holds each time that a place is read again after some plies
+abbrev pub job_by : (later : ℕ → Files) → Option (Verb × List (List ℕ)) → Job
+job_by later (Some (Solve, words)) = solve_words words
+job_by later (Some (Moves, words)) = moves_words words
+job_by later (Some (Sans, words)) = sans_words words
+job_by later (Some (Move, words)) = move_words words
+job_by later (Some (Query, words)) = query_words words
+job_by later (Some (Line, words)) = line_words later words
+job_by later (Some (Play, words)) = play_words later words
+job_by later (Some (Check, words)) = check_words words
+job_by later (Some (Build, words)) = build_words words
+job_by later (Some (Migrate, words)) = migrate_words words
+job_by later (Some (Chain, words)) = chain_words words
+job_by later (Some (ChainCheck, words)) = chaincheck_words words
+job_by later (Some (ChainQuery, words)) = chainquery_words words
+job_by later (Some (Sample, words)) = sample_words words
+job_by later (Some (Report, words)) = report_words words
+job_by later None = refusing NoCommand
 
 -- what is to be done where these are the words
-abbrev pub job_of : List (List ℕ) → Job
-job_of words = job_by (command_of words)
+abbrev pub job_of : (later : ℕ → Files) → List (List ℕ) → Job
+job_of later words = job_by later (command_of words)

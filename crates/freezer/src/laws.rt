@@ -1,14 +1,15 @@
 //! The law on the answers of the commands. The function does nothing: its clause is the law.
 ghost use Rattle.std.specs.Prelude.{ℕ, List};
+ghost use Rattle.frz_store.specs.Files.{Files};
 ghost use Rattle.freezer.specs.Commands.{job_of};
 ghost use Rattle.frz_answer.specs.Lawful.{IsLawful};
 
 use frz_commands_line::laws::{one_line_answer, one_play_answer};
 
-/// Whatever the words are, there is one answer over any files and any input, and it means what it
+/// Whatever the words are, and whatever the store holds later, there is one answer over any files and any input, and it means what it
 /// is to mean.
 pub fn one_answer()
-    ensures { (words : List (List ℕ)) → IsLawful (job_of words) }
+    ensures { (later : ℕ → Files) (words : List (List ℕ)) → IsLawful (job_of later words) }
 {
     one_line_answer();
     one_play_answer();

@@ -5,6 +5,8 @@ ghost use Rattle.std.specs.Prelude.{◌≡◌, ◌<◌, ℕ, map, drop, false, I
 ghost use Rattle.std.specs.IoError.{error_kind};
 ghost use Rattle.std.specs.String.{string_bytes};
 ghost use Rattle.std.specs.Vec.Iter.{into_iter_items};
+ghost use Rattle.frz_store.specs.Files.{Files};
+ghost use Rattle.frz_commands_line.specs.Later.{MayBeLater};
 ghost use Rattle.frz_answer.specs.World.{world_of};
 ghost use Rattle.frz_answer.specs.Outcomes.{Outcome};
 ghost use Rattle.freezer.specs.Commands.{job_of};
@@ -97,12 +99,15 @@ fn run_once<S: Store, I: Source, O: Sink>(
     input: &mut I,
     out: &mut O,
 ) -> u8
-    ensures outcome { (steps : ℕ) × Outcome (job_of (map string_bytes words.now)) result
+    ensures outcome { (steps : ℕ) × ((later : ℕ → Files) × MayBeLater (S.files store.old) later
+        × (Outcome (job_of later (map string_bytes words.now)) result
         (world_of S.Store I.Source O.Sink store.old input.old out.old 0)
-        (world_of S.Store I.Source O.Sink store.new input.new out.new steps) }
-    ensures store_unused { (job_of (map string_bytes words.now)).needs.store ≡ false
+        (world_of S.Store I.Source O.Sink store.new input.new out.new steps))) }
+    ensures store_unused { (later : ℕ → Files)
+        → (job_of later (map string_bytes words.now)).needs.store ≡ false
         → store.new ≡ store.old }
-    ensures input_unused { (job_of (map string_bytes words.now)).needs.input ≡ false
+    ensures input_unused { (later : ℕ → Files)
+        → (job_of later (map string_bytes words.now)).needs.input ≡ false
         → input.new ≡ input.old }
 {
     let blank = Blank::new(1);
@@ -121,12 +126,15 @@ fn run_uncounted<S: Store, I: Source, O: Sink, L: Ledger>(
     requires name { blank.name ≡ L.name }
     requires parts { blank.parts ≡ L.parts }
     requires some { 0 < blank.parts }
-    ensures outcome { (steps : ℕ) × Outcome (job_of (map string_bytes words.now)) result
+    ensures outcome { (steps : ℕ) × ((later : ℕ → Files) × MayBeLater (S.files store.old) later
+        × (Outcome (job_of later (map string_bytes words.now)) result
         (world_of S.Store I.Source O.Sink store.old input.old out.old 0)
-        (world_of S.Store I.Source O.Sink store.new input.new out.new steps) }
-    ensures store_unused { (job_of (map string_bytes words.now)).needs.store ≡ false
+        (world_of S.Store I.Source O.Sink store.new input.new out.new steps))) }
+    ensures store_unused { (later : ℕ → Files)
+        → (job_of later (map string_bytes words.now)).needs.store ≡ false
         → store.new ≡ store.old }
-    ensures input_unused { (job_of (map string_bytes words.now)).needs.input ≡ false
+    ensures input_unused { (later : ℕ → Files)
+        → (job_of later (map string_bytes words.now)).needs.input ≡ false
         → input.new ≡ input.old }
 {
     let mut steps = Steps::<L>::new(blank);

@@ -1,6 +1,8 @@
 //! The top call: all that the program does.
-ghost use Rattle.std.specs.Prelude.{◌≡◌, map, false};
+ghost use Rattle.std.specs.Prelude.{◌≡◌, ℕ, map, false};
 ghost use Rattle.std.specs.String.{string_bytes};
+ghost use Rattle.frz_store.specs.Files.{Files};
+ghost use Rattle.frz_commands_line.specs.Later.{MayBeLater};
 ghost use Rattle.frz_answer.specs.World.{world_of};
 ghost use Rattle.frz_answer.specs.Ends.{Ran};
 ghost use Rattle.frz_answer.specs.Outcomes.{Outcome};
@@ -28,12 +30,15 @@ fn run<S: Store, I: Source, O: Sink, L: Ledger>(
     out: &mut O,
     steps: &mut Steps<L>,
 ) -> End
-    ensures ran { Ran (job_of (map string_bytes words.now)) result
+    ensures ran { (later : ℕ → Files) × MayBeLater (S.files store.old) later
+        × (Ran (job_of later (map string_bytes words.now)) result
         (world_of S.Store I.Source O.Sink store.old input.old out.old steps.old)
-        (world_of S.Store I.Source O.Sink store.new input.new out.new steps.new) }
-    ensures store_unused { (job_of (map string_bytes words.now)).needs.store ≡ false
+        (world_of S.Store I.Source O.Sink store.new input.new out.new steps.new)) }
+    ensures store_unused { (later : ℕ → Files)
+        → (job_of later (map string_bytes words.now)).needs.store ≡ false
         → store.new ≡ store.old }
-    ensures input_unused { (job_of (map string_bytes words.now)).needs.input ≡ false
+    ensures input_unused { (later : ℕ → Files)
+        → (job_of later (map string_bytes words.now)).needs.input ≡ false
         → input.new ≡ input.old }
 {
     match read_command(words) {
@@ -68,14 +73,19 @@ pub fn freezer<S: Store, I: Source, O: Sink, L: Ledger>(
 ) -> u8
     // The status, the text, the files, the input taken, what they mean and what they cost, with
     // each status and over every object, told or not: the fields of `Outcome` say it one by one.
-    ensures outcome { Outcome (job_of (map string_bytes words.now)) result
+    // `later` is what the store held each time that a place was read again, after so many plies of
+    // a line or a session: where it tells, what it tells.
+    ensures outcome { (later : ℕ → Files) × MayBeLater (S.files store.old) later
+        × (Outcome (job_of later (map string_bytes words.now)) result
         (world_of S.Store I.Source O.Sink store.old input.old out.old steps.old)
-        (world_of S.Store I.Source O.Sink store.new input.new out.new steps.new) }
+        (world_of S.Store I.Source O.Sink store.new input.new out.new steps.new)) }
 
     // An object that the call does not use stays as it was.
-    ensures store_unused { (job_of (map string_bytes words.now)).needs.store ≡ false
+    ensures store_unused { (later : ℕ → Files)
+        → (job_of later (map string_bytes words.now)).needs.store ≡ false
         → store.new ≡ store.old }
-    ensures input_unused { (job_of (map string_bytes words.now)).needs.input ≡ false
+    ensures input_unused { (later : ℕ → Files)
+        → (job_of later (map string_bytes words.now)).needs.input ≡ false
         → input.new ≡ input.old }
 {
     one_line_answer();

@@ -59,3 +59,15 @@ pub use Rattle.frz_arena.proofs.Ways.Reaching.{
   left_after,
   few_fits,
 }
+pub use Rattle.frz_arena.proofs.Ways.Counted.{
+  counted_lawful,
+  counted_closed,
+  counted_turns,
+  counted_next,
+  counted_codes,
+  counted_local,
+  right_reader,
+  reader_moves,
+  safe_reader,
+}
+pub use Rattle.frz_arena.proofs.Ways.OneWay.{one_chosen}

@@ -14,3 +14,4 @@ pub mod SessionsEnd
 pub mod Reaching
 pub mod Turns
 pub mod ZeroWays
+pub mod Counted

@@ -14,4 +14,5 @@ pub mod Inputs
 pub mod WayEnds
 pub mod Turns
 pub mod Ways
+pub mod Counted
 pub mod Choices

@@ -44,8 +44,8 @@ wrong_there w =
 -- the end has a line, its own or the one that names it
 closing : (side : Colour) (end : EndOfLine) → 1 ≤ lines_in (last_line (told side end)) + lines_in
     (naming_line (told side end))
-closing side (Wrong number kept given) =
-    let one = wrong_there (record { side = side; number = number; kept = kept; given = given }) in
+closing side (Wrong at kept given) =
+    let one = wrong_there (record { side = side; number = at.1; kept = kept; given = given }) in
     omega (arith, one)
 closing side NoBound = let one = line_there (codes "no bound") in omega (arith, one)
 closing side (Mated mover) = let one = end_there ends.Mate in omega (arith, one)
@@ -70,8 +70,8 @@ no_right (x ∷ xs) ys e = cc
 -- something is left to say of a line that the store stopped
 pub unfinished_said : (side : Colour) (end : EndOfLine) (rest : List ℕ)
     → IsUnfinished (told side end) rest → rest ++ naming_line (told side end) ≡ [] → ⊥
-unfinished_said side (Wrong number kept given) rest left e =
-    let w : WrongEntry = record { side = side; number = number; kept = kept; given = given } in
+unfinished_said side (Wrong at kept given) rest left e =
+    let w : WrongEntry = record { side = side; number = at.1; kept = kept; given = given } in
     not_nil (wrong_line w) (wrong_there w) (no_right rest (wrong_line w) e)
 unfinished_said side NoBound rest left e =
     not_nil (codes "no bound\n") (line_there (codes "no bound"))

@@ -9,11 +9,10 @@ use Rattle.frz_exits.specs.Books.{value_by}
 use Rattle.frz_fen.specs.Reading.{fen_of}
 use Rattle.frz_index.specs.Members.{Num}
 use Rattle.frz_game.specs.Numbers.{is_member}
-use Rattle.frz_store.specs.Files.{Files, bytes_at}
+use Rattle.frz_store.specs.Files.{Files}
 use Rattle.frz_table.specs.declared.fault.TableFault.{TableFault}
 use Rattle.frz_table.specs.declared.kind.FileKind.TheVariants.{Plain}
 use Rattle.frz_table.specs.Opening.{Contents, opened, table_format}
-use Rattle.frz_check.specs.Kept.{kept_codes}
 use Rattle.frz_answer.specs.declared.status.Status.TheVariants.{Words}
 use Rattle.frz_answer.specs.declared.end.End.{End}
 use Rattle.frz_answer.specs.Answers.{Answer, says}
@@ -29,7 +28,8 @@ use Rattle.frz_prelude.specs.declared.refused.Refused.TheVariants as refusals
 use Rattle.frz_prelude.proofs.Lemmas.{fen_lawful}
 use Rattle.frz_line.specs.Ends as ends
 use Rattle.frz_line.specs.Lines.{LinePly, EndOfLine, IsLine}
-use Rattle.frz_commands_line.specs.LineOf.{code_at, line_answer, IsLined, IsLinedBy, IsLinedAt}
+use Rattle.frz_commands_line.specs.Later.{held_later}
+use Rattle.frz_commands_line.specs.LineOf.{code_at, codes_later, line_answer, IsLined, IsLinedBy, IsLinedAt}
 use Rattle.frz_commands_line.specs.Lining.{lining_at, line_words}
 use Rattle.frz_commands_line.specs.Sides.{side_of, side_line, on_side}
 use Rattle.frz_commands_line.proofs.LineMeans.{LineLaws, line_means}
@@ -38,12 +38,13 @@ use Rattle.frz_commands_line.proofs.Seen.{LineThere}
 
 -- that there is no other line
 abbrev pub LineAlone : Type 0
-LineAlone = (rules : RuleLines) (value : Board → Value) (side : Colour) (codes : List ℕ) (start : ℕ)
+LineAlone = (rules : RuleLines) (value : Board → Value) (side : Colour) (codes : ℕ → List ℕ)
+    (start : ℕ)
     (plies others : List LinePly) (end last : EndOfLine)
     → IsLine rules value side codes start plies end
     → IsLine rules value side codes start others last → (plies ≡ others) × (end ≡ last)
 
-one_by_test : LineAlone → (contents : Contents) (bytes : List ℕ) (side : Colour) (p : Board)
+one_by_test : LineAlone → (contents : Contents) (bytes : ℕ → List ℕ) (side : Colour) (p : Board)
     (files : Files) (a b : Answer) (inside : Bool)
     → MatchBool inside (IsLined contents bytes side p files a)
     (a ≡ says (status_of refusals.Outside) (refusal_line refusals.Outside) files)
@@ -51,14 +52,14 @@ one_by_test : LineAlone → (contents : Contents) (bytes : List ℕ) (side : Col
     (b ≡ says (status_of refusals.Outside) (refusal_line refusals.Outside) files) → b ≡ a
 one_by_test alone contents bytes side p files a b true h k =
     let code = code_at contents bytes side p in
-    let same = alone contents.rules (value_by contents.rules) side (kept_codes contents bytes side)
+    let same = alone contents.rules (value_by contents.rules) side (codes_later contents bytes side)
     (Num contents.rules.groups p) k.plies h.plies k.end h.end k.line h.line in
     k.told ∙ ap (λ (l : List LinePly). line_answer side code l (ends.told side k.end) files) same.0
     ∙ ap (λ (e : EndOfLine). line_answer side code h.plies (ends.told side e) files) same.1
     ∙ sym h.told
 one_by_test alone contents bytes side p files a b false h k = k ∙ sym h
 
-one_by : LineAlone → (x : Result Contents TableFault) (bytes : List ℕ) (side : Colour) (p : Board)
+one_by : LineAlone → (x : Result Contents TableFault) (bytes : ℕ → List ℕ) (side : Colour) (p : Board)
     (files : Files) (a b : Answer)
     → IsLinedBy x bytes side p files a → IsLinedBy x bytes side p files b → b ≡ a
 one_by alone (Ok contents) bytes side p files a b h k =
@@ -86,25 +87,26 @@ words_lawful job lawful words =
     (side_of names.2)
     (λ side. fen_lawful (job names.0 side) (fen_of names.1) (λ p read. lawful names.0 side p)))
 
-module _ (there : LineThere) (alone : LineAlone) (laws : LineLaws) where
+module _ (there : LineThere) (alone : LineAlone) (laws : LineLaws) (later : ℕ → Files) where
   one_at : (table : List ℕ) (side : Colour) (p : Board) (files : Files)
-      → HasOneAnswer (λ a. IsLinedAt table side p files a)
+      → HasOneAnswer (λ a. IsLinedAt later table side p files a)
   one_at table side p files =
-      let some = some_at there table side p files in (
+      let some = some_at there later table side p files in (
         some.a,
         some.answer,
         λ b k. one_by alone (opened (table_format Plain) (files table))
-            (bytes_at files table) side p files some.a b some.answer k,
+            (held_later later table) side p files some.a b some.answer k,
       )
 
-  lining_lawful : (table : List ℕ) (side : Colour) (p : Board) → IsLawful (lining_at table side p)
+  lining_lawful : (table : List ℕ) (side : Colour) (p : Board)
+      → IsLawful (lining_at later table side p)
   lining_lawful table side p = record {
     one = λ files input. one_at table side p files;
-    means = λ files input a h. line_means laws table side p files a h;
+    means = λ files input a h. line_means laws later table side p files a h;
   }
 
-  pub line_lawful : (words : List (List ℕ)) → IsLawful (line_words words)
-  line_lawful words = words_lawful lining_at lining_lawful words
+  pub line_lawful : (words : List (List ℕ)) → IsLawful (line_words later words)
+  line_lawful words = words_lawful (lining_at later) lining_lawful words
 
 -- what was done for some side was done for an equal one
 pub as_side : (end : End) (old new : World) (job : Colour → Job) (these word : Option Colour)

@@ -1,5 +1,6 @@
 mod Behind
 mod Counting
+mod Later
 mod Lawful
 mod LineMeans
 mod LineOpened
@@ -16,3 +17,4 @@ mod SessionSeen
 mod SessionTexts
 mod Stages
 mod Taken
+pub mod Lemmas

@@ -8,6 +8,7 @@ use Rattle.frz_sets.specs.Views.{RuleLines}
 use Rattle.frz_exits.specs.Books.{value_by}
 use Rattle.frz_exits.specs.Values.{lag_of}
 use Rattle.frz_index.specs.Members.{Member, Num}
+use Rattle.frz_arena.specs.Counted.{counted}
 use Rattle.frz_arena.specs.WayEnds.{Wrong, NoBound, Mated, Stalemated, Exit, Cut, Stopped, EndsWon, EndsDrawn}
 use Rattle.frz_game.specs.Bounds.{IsTableOf}
 use Rattle.frz_game.specs.Games.{graph_by}
@@ -18,7 +19,6 @@ use Rattle.frz_table.specs.declared.kind.FileKind.TheVariants.{Plain}
 use Rattle.frz_table.specs.Layout.{magic_of}
 use Rattle.frz_table.specs.Opening.{Contents, opened, table_format}
 use Rattle.frz_table.proofs.Lemmas.{belongs}
-use Rattle.frz_check.specs.Kept.{kept_codes}
 use Rattle.frz_check.specs.OneFile.{IsOneFile}
 use Rattle.frz_check.proofs.Lemmas.{file_tables}
 use Rattle.frz_answer.specs.declared.status.Status.{Status}
@@ -31,56 +31,59 @@ use Rattle.frz_line.specs.declared.end.TheConstants.{MOST_PLIES}
 use Rattle.frz_line.specs.Ends.{told}
 use Rattle.frz_line.specs.Lines.{LinePly, EndOfLine, IsLine}
 use Rattle.frz_commands_line.specs.LineEnds.{end_status}
-use Rattle.frz_commands_line.specs.LineOf.{code_at, told_text, IsLined, IsLinedBy, IsLinedAt}
+use Rattle.frz_commands_line.specs.Later.{held_later}
+use Rattle.frz_commands_line.specs.LineOf.{code_at, codes_later, told_text, IsLined, IsLinedBy, IsLinedAt}
 use Rattle.frz_commands_line.specs.LineMeaning.{KeepsWin, KeepsHold, KeepsBound, HasLine, start_code, MeansStatus, MeansLine}
 use Rattle.frz_commands_line.proofs.Meaning.{ByOpening, means_by}
 
 -- what the laws say of all lines
 pub record LineLaws : Type 0 where
-  pub won : (rules : RuleLines) (value : Board → Value) (side : Colour) (codes : List ℕ)
+  pub won : (rules : RuleLines) (value : Board → Value) (side : Colour) (codes : ℕ → List ℕ)
       (start n : ℕ) (plies : List LinePly) (end : EndOfLine)
-      → slice_index codes start ≡ 2 + 2 * n → IsLine rules value side codes start plies end
-      → EndsWon (graph_by rules value) side end
-  pub mate : (rules : RuleLines) (value : Board → Value) (side mover : Colour) (codes : List ℕ)
+      → slice_index (codes 0) start ≡ 2 + 2 * n → IsLine rules value side codes start plies end
+      → EndsWon (counted (graph_by rules value)) side end
+  pub mate : (rules : RuleLines) (value : Board → Value) (side mover : Colour) (codes : ℕ → List ℕ)
       (start n : ℕ) (plies : List LinePly)
-      → slice_index codes start ≡ 2 + 2 * n
+      → slice_index (codes 0) start ≡ 2 + 2 * n
       → IsLine rules value side codes start plies (Mated mover) → length plies ≡ n
-  pub exit : (rules : RuleLines) (value : Board → Value) (side : Colour) (codes : List ℕ)
+  pub exit : (rules : RuleLines) (value : Board → Value) (side : Colour) (codes : ℕ → List ℕ)
       (start n : ℕ) (plies : List LinePly) (v : Value)
-      → slice_index codes start ≡ 2 + 2 * n → IsLine rules value side codes start plies (Exit v)
+      → slice_index (codes 0) start ≡ 2 + 2 * n → IsLine rules value side codes start plies (Exit v)
       → length plies + lag_of v ≡ n
-  pub drawn : (rules : RuleLines) (value : Board → Value) (side : Colour) (codes : List ℕ)
+  pub drawn : (rules : RuleLines) (value : Board → Value) (side : Colour) (codes : ℕ → List ℕ)
       (start : ℕ) (plies : List LinePly) (end : EndOfLine)
-      → slice_index codes start ≡ 1 → IsLine rules value side codes start plies end
-      → EndsDrawn (graph_by rules value) side end
-  pub few : (rules : RuleLines) (value : Board → Value) (side : Colour) (codes : List ℕ) (start : ℕ)
+      → slice_index (codes 0) start ≡ 1 → IsLine rules value side codes start plies end
+      → EndsDrawn (counted (graph_by rules value)) side end
+  pub few : (rules : RuleLines) (value : Board → Value) (side : Colour) (codes : ℕ → List ℕ) (start : ℕ)
       (plies : List LinePly) (end : EndOfLine)
-      → slice_index codes start ≡ 1 → IsLine rules value side codes start plies end
+      → slice_index (codes 0) start ≡ 1 → IsLine rules value side codes start plies end
       → length plies ≤ MOST_PLIES
-  pub cut : (rules : RuleLines) (value : Board → Value) (side : Colour) (codes : List ℕ) (start : ℕ)
+  pub cut : (rules : RuleLines) (value : Board → Value) (side : Colour) (codes : ℕ → List ℕ) (start : ℕ)
       (plies : List LinePly)
-      → slice_index codes start ≡ 1 → IsLine rules value side codes start plies Cut
+      → slice_index (codes 0) start ≡ 1 → IsLine rules value side codes start plies Cut
       → length plies ≡ MOST_PLIES
-  pub right : (rules : RuleLines) (value : Board → Value) (side : Colour) (codes : List ℕ)
-      → IsTableOf rules value side codes
-      → (p : Board) → Member rules.groups p → (plies : List LinePly) (number kept given : ℕ)
-      → IsLine rules value side codes (Num rules.groups p) plies (Wrong number kept given) → ⊥
+  pub right : (rules : RuleLines) (value : Board → Value) (side : Colour) (codes : ℕ → List ℕ)
+      → ((k : ℕ) → IsTableOf rules value side (codes k))
+      → (p : Board) → Member rules.groups p → (plies : List LinePly) (at : ℕ × ℕ) (kept given : ℕ)
+      → IsLine rules value side codes (Num rules.groups p) plies (Wrong at kept given) → ⊥
 
--- the codes of the one file of a text are the table of the side
+-- the codes of the one file of a text are the table of the side, whenever they are read
 module _ (contents : Contents) (bytes : List ℕ)
-    (opens : opened (table_format Plain) (Some bytes) ≡ Ok contents)
-    (one : IsOneFile (magic_of Plain) contents.text contents.rules (value_by contents.rules) bytes)
+    (opens : opened (table_format Plain) (Some bytes) ≡ Ok contents) (held : ℕ → List ℕ)
+    (one : (k : ℕ) → IsOneFile (magic_of Plain) contents.text contents.rules
+    (value_by contents.rules) (held k))
     (side : Colour) where
-  pub table_kept : IsTableOf contents.rules (value_by contents.rules) side
-      (kept_codes contents bytes side)
-  table_kept =
-      file_tables contents bytes (belongs (table_format Plain) bytes contents opens).read one side
+  pub table_kept : (k : ℕ) → IsTableOf contents.rules (value_by contents.rules) side
+      (codes_later contents held side k)
+  table_kept k =
+      file_tables contents (held k) (belongs (table_format Plain) bytes contents opens).read (one k)
+      side
 
   pub bound_kept : (p : Board) → Member contents.rules.groups p
-      → KeepsBound contents.rules side p (code_at contents bytes side p)
+      → KeepsBound contents.rules side p (code_at contents held side p)
   bound_kept p inside =
       let b = stored_bound contents.rules (value_by contents.rules) side
-      (kept_codes contents bytes side) table_kept p inside in
+      (codes_later contents held side 0) (table_kept 0) p inside in
       record {
         bound = b.0;
         is = b.1;
@@ -89,13 +92,17 @@ module _ (contents : Contents) (bytes : List ℕ)
             (value_by contents.rules) side p b.0 inside b.2;
       }
 
-module _ (laws : LineLaws) (name : List ℕ) (side : Colour) (p : Board) (files : Files) where
+module _ (laws : LineLaws) (later : ℕ → Files) (name : List ℕ) (side : Colour) (p : Board)
+    (files : Files) where
+  abbrev held : ℕ → List ℕ
+  held = held_later later name
+
   -- a line from a win or a hold
-  keeps_win : (has : HasLine name side p files) (n : ℕ) → start_code has ≡ 2 + 2 * n
+  keeps_win : (has : HasLine later name side p files) (n : ℕ) → start_code has ≡ 2 + 2 * n
       → KeepsWin has.contents.rules side n has.plies has.end
   keeps_win has n e =
       let rules = has.contents.rules in
-      let codes = kept_codes has.contents has.bytes side in
+      let codes = codes_later has.contents held side in
       let start = Num rules.groups p in
       let line : EndOfLine → Type 0 = λ x. IsLine rules (value_by rules) side codes start has.plies
       x in
@@ -107,11 +114,11 @@ module _ (laws : LineLaws) (name : List ℕ) (side : Colour) (p : Board) (files 
             (subst line is has.line);
       }
 
-  keeps_hold : (has : HasLine name side p files) → start_code has ≡ 1
+  keeps_hold : (has : HasLine later name side p files) → start_code has ≡ 1
       → KeepsHold has.contents.rules side has.plies has.end
   keeps_hold has e =
       let rules = has.contents.rules in
-      let codes = kept_codes has.contents has.bytes side in
+      let codes = codes_later has.contents held side in
       let start = Num rules.groups p in
       record {
         ends = laws.drawn rules (value_by rules) side codes start has.plies has.end e has.line;
@@ -122,13 +129,13 @@ module _ (laws : LineLaws) (name : List ℕ) (side : Colour) (p : Board) (files 
       }
 
   -- by how the line ends
-  abbrev Says : HasLine name side p files → EndOfLine → Type 0
-  Says has end = MeansStatus name side p files (end_status (told side end))
+  abbrev Says : HasLine later name side p files → EndOfLine → Type 0
+  Says has end = MeansStatus later name side p files (end_status (told side end))
       (told_text side (start_code has) has.plies (told side end))
 
-  own_end : (has : HasLine name side p files) (end : EndOfLine) → has.end ≡ end → (last : LineEnd)
+  own_end : (has : HasLine later name side p files) (end : EndOfLine) → has.end ≡ end → (last : LineEnd)
       → told side end ≡ Ok last
-      → MeansStatus name side p files statuses.Success
+      → MeansStatus later name side p files statuses.Success
       (told_text side (start_code has) has.plies (told side end))
   own_end has end is last ends = record {
     has = has;
@@ -138,23 +145,23 @@ module _ (laws : LineLaws) (name : List ℕ) (side : Colour) (p : Board) (files 
     win = λ n e. keeps_win has n e;
     hold = λ e. keeps_hold has e;
     where_exact =
-        λ one. bound_kept has.contents has.bytes has.open_file.opens one side p has.inside;
+        λ one. bound_kept has.contents has.bytes has.open_file.opens held one side p has.inside;
   }
 
-  says_end : (has : HasLine name side p files) (end : EndOfLine) → has.end ≡ end → Says has end
-  says_end has (Wrong number kept given) is = record {
+  says_end : (has : HasLine later name side p files) (end : EndOfLine) → has.end ≡ end → Says has end
+  says_end has (Wrong at kept given) is = record {
     has = has;
     told = ap (λ (x : EndOfLine). told_text side (start_code has) has.plies (told side x)) (sym is);
-    number = number;
+    at = at;
     kept = kept;
     given = given;
     ends = is;
     not_exact = λ one.
         let rules = has.contents.rules in
-        let codes = kept_codes has.contents has.bytes side in
+        let codes = codes_later has.contents held side in
         laws.right rules (value_by rules) side codes
-        (table_kept has.contents has.bytes has.open_file.opens one side) p has.inside has.plies
-        number kept given
+        (table_kept has.contents has.bytes has.open_file.opens held one side) p has.inside has.plies
+        at kept given
         (subst (λ (x : EndOfLine). IsLine rules (value_by rules) side codes (Num rules.groups p)
         has.plies x) is has.line);
   }
@@ -173,16 +180,16 @@ module _ (laws : LineLaws) (name : List ℕ) (side : Colour) (p : Board) (files 
 
   -- an answer that is said in full, with what its status says
   means_so : (a : Answer) (status : Status) (text : List ℕ) → a ≡ says status text files
-      → MeansStatus name side p files status text → MeansLine name side p files a
+      → MeansStatus later name side p files status text → MeansLine later name side p files a
   means_so a status text e means =
-      subst (λ (x : Answer). MeansLine name side p files x) (sym e)
+      subst (λ (x : Answer). MeansLine later name side p files x) (sym e)
       (record { same = refl; untaken = refl; says = means })
 
   lined_means : (a : Answer) (bytes : List ℕ) (contents : Contents)
       → OpensAs name files bytes contents → Member contents.rules.groups p
-      → IsLined contents bytes side p files a → MeansLine name side p files a
+      → IsLined contents held side p files a → MeansLine later name side p files a
   lined_means a bytes contents open_file inside lined =
-      let has : HasLine name side p files = record {
+      let has : HasLine later name side p files = record {
         bytes = bytes;
         contents = contents;
         open_file = open_file;
@@ -196,14 +203,14 @@ module _ (laws : LineLaws) (name : List ℕ) (side : Colour) (p : Board) (files 
       (says_end has lined.end refl)
 
   lined_so : (a : Answer) (x : Result Contents TableFault) (bytes : List ℕ)
-      → IsLinedBy x bytes side p files a
-      → ByOpening p files a (λ contents bytes. IsLined contents bytes side p files a) x bytes
+      → IsLinedBy x held side p files a
+      → ByOpening p files a (λ contents bytes. IsLined contents held side p files a) x bytes
   lined_so a (Ok contents) bytes h = h
   lined_so a (Err fault) bytes h = h
 
-  pub line_means : (a : Answer) → IsLinedAt name side p files a → MeansLine name side p files a
+  pub line_means : (a : Answer) → IsLinedAt later name side p files a → MeansLine later name side p files a
   line_means a h =
-      means_by name p files a (λ contents bytes. IsLined contents bytes side p files a)
-      (MeansStatus name side p files) (means_so a) (λ text e. e) (λ text e. e) (λ text e. inl e)
+      means_by name p files a (λ contents bytes. IsLined contents held side p files a)
+      (MeansStatus later name side p files) (means_so a) (λ text e. e) (λ text e. e) (λ text e. inl e)
       (lined_means a) (files name) refl
       (lined_so a (opened (table_format Plain) (files name)) (bytes_at files name) h)

@@ -6,29 +6,30 @@ use Rattle.frz_board.specs.Boards.{Board}
 use Rattle.frz_game.specs.Numbers.{is_member}
 use Rattle.frz_exits.specs.Books.{value_by}
 use Rattle.frz_index.specs.Members.{Num}
-use Rattle.frz_store.specs.Files.{Files, bytes_at}
+use Rattle.frz_store.specs.Files.{Files}
 use Rattle.frz_table.specs.declared.fault.TableFault.{TableFault}
 use Rattle.frz_table.specs.declared.kind.FileKind.TheVariants.{Plain}
 use Rattle.frz_table.specs.Opening.{Contents, opened, table_format}
-use Rattle.frz_check.specs.Kept.{kept_codes}
 use Rattle.frz_answer.specs.Answers.{Answer, says, SomeAnswer}
 use Rattle.frz_prelude.specs.Refusals.{status_of, refusal_line}
 use Rattle.frz_prelude.specs.declared.refused.Refused.TheVariants as refusals
 use Rattle.frz_line.specs.Ends as ends
-use Rattle.frz_commands_line.specs.LineOf.{code_at, line_answer, LineComes, IsLined, IsLinedIn, IsLinedBy, IsLinedAt}
+use Rattle.frz_commands_line.specs.Later.{held_later}
+use Rattle.frz_commands_line.specs.LineOf.{code_at, codes_later, line_answer, LineComes, IsLined, IsLinedIn, IsLinedBy, IsLinedAt}
 use Rattle.frz_commands_line.proofs.Counting.{told_said}
 use Rattle.frz_prelude.proofs.Lemmas.{some_refusal}
 use Rattle.frz_commands_line.proofs.Seen.{LineThere}
 
-abbrev pub lined_by : Colour → Board → Result Contents TableFault → List ℕ → Files → List ℕ → Answer
-    → Type 0
-lined_by side p x bytes files input a = IsLinedBy x bytes side p files a
+abbrev pub lined_by : (later : ℕ → Files) → Colour → Board → (name : List ℕ)
+    → Result Contents TableFault → Files → List ℕ → Answer → Type 0
+lined_by later side p name x files input a = IsLinedBy x (held_later later name) side p files a
 
-abbrev pub line_comes : Colour → Board → (bytes input : List ℕ) → Contents → List ℕ → Type 0
-line_comes side p bytes input = LineComes bytes side p
+abbrev pub line_comes : (later : ℕ → Files) → Colour → Board → (name input : List ℕ) → Contents
+    → List ℕ → Type 0
+line_comes later side p name input = LineComes (held_later later name) side p
 
 -- there is an answer
-some_in : LineThere → (contents : Contents) (bytes : List ℕ) (side : Colour) (p : Board)
+some_in : LineThere → (contents : Contents) (bytes : ℕ → List ℕ) (side : Colour) (p : Board)
     (files : Files) → SomeAnswer (λ a. IsLinedIn contents bytes side p files a)
 some_in there contents bytes side p files = by_test (is_member contents.rules.groups p)
   where
@@ -36,7 +37,7 @@ some_in there contents bytes side p files = by_test (is_member contents.rules.gr
         → SomeAnswer (λ a. MatchBool b (IsLined contents bytes side p files a)
         (a ≡ says (status_of refusals.Outside) (refusal_line refusals.Outside) files))
     by_test true =
-        let l = there contents.rules (value_by contents.rules) side (kept_codes contents bytes side)
+        let l = there contents.rules (value_by contents.rules) side (codes_later contents bytes side)
         (Num contents.rules.groups p) in
         record {
           a = line_answer side (code_at contents bytes side p) l.0 (ends.told side l.1) files;
@@ -45,12 +46,12 @@ some_in there contents bytes side p files = by_test (is_member contents.rules.gr
         }
     by_test false = some_refusal refusals.Outside files
 
-some_by : LineThere → (x : Result Contents TableFault) (bytes : List ℕ) (side : Colour) (p : Board)
+some_by : LineThere → (x : Result Contents TableFault) (bytes : ℕ → List ℕ) (side : Colour) (p : Board)
     (files : Files) → SomeAnswer (λ a. IsLinedBy x bytes side p files a)
 some_by there (Ok contents) bytes side p files = some_in there contents bytes side p files
 some_by there (Err fault) bytes side p files = some_refusal (refusals.Table fault) files
 
-pub some_at : LineThere → (table : List ℕ) (side : Colour) (p : Board) (files : Files)
-    → SomeAnswer (λ a. IsLinedAt table side p files a)
-some_at there table side p files =
-    some_by there (opened (table_format Plain) (files table)) (bytes_at files table) side p files
+pub some_at : LineThere → (later : ℕ → Files) (table : List ℕ) (side : Colour) (p : Board)
+    (files : Files) → SomeAnswer (λ a. IsLinedAt later table side p files a)
+some_at there later table side p files =
+    some_by there (opened (table_format Plain) (files table)) (held_later later table) side p files

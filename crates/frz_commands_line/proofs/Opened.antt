@@ -1,98 +1,113 @@
 -- How a job that opens a table file first ends where it was opened, and where it was not.
-use Rattle.std.proofs.Common.{◌≡◌, refl, sym, subst, ℕ, ◌+◌, ◌≤◌, List, length, true, IsTrue, Result, Ok, Err}
-use Rattle.std.specs.Prelude.{IfSome, IsSome, ⊤}
+use Rattle.std.proofs.Common.{◌≡◌, refl, sym, subst, ap, ◌∙◌, Option, Some, ℕ, ◌+◌, ◌≤◌, List, length, true, IsTrue, Result, Ok, Err}
+use Rattle.std.specs.Prelude.{IfSome, ⊤}
 use Rattle.frz_board.specs.Boards.{Board}
-use Rattle.frz_store.specs.Files.{Files, bytes_at}
+use Rattle.frz_store.specs.Files.{Files}
 use Rattle.frz_store.specs.Told.{StoreTold, SourceTold, SinkTold, StoreQuiet, StoreFine}
 use Rattle.frz_table.specs.declared.fault.TableFault.{TableFault}
 use Rattle.frz_table.specs.declared.fault.TableFault.TheVariants.{Missing}
 use Rattle.frz_table.specs.declared.kind.FileKind.TheVariants.{Plain}
 use Rattle.frz_table.specs.Faults.{TableCauses}
-use Rattle.frz_table.specs.Opening.{Contents, contents_of, opened, Refuses, kept_text, table_format, opening_calls}
-use Rattle.frz_table.specs.Possible.{MayRefuse}
+use Rattle.frz_table.specs.Opening.{Contents, contents_of, opened, Refuses, table_format, opening_calls}
+use Rattle.frz_table.specs.Possible.{MayOpen, MayRefuse, held_text}
 use Rattle.frz_table.specs.Tables.{Table}
+use Rattle.frz_table.proofs.Lemmas.{belongs, same_held, text_kept}
 use Rattle.frz_answer.specs.declared.end.End.{End}
 use Rattle.frz_answer.specs.declared.status.Status.{Status}
 use Rattle.frz_answer.specs.declared.status.Status.TheVariants as statuses
 use Rattle.frz_answer.specs.Statuses.{OneOf, subset}
 use Rattle.frz_answer.specs.World.{World, world, spent, spent_by}
 use Rattle.frz_answer.specs.Answers.{Answer, says, SomeAnswer}
-use Rattle.frz_answer.specs.Jobs.{Job, Reads, Again, Sees}
+use Rattle.frz_answer.specs.Jobs.{Job, Reads, Never, Once}
 use Rattle.frz_answer.specs.Ends.{Ran}
-use Rattle.frz_answer.proofs.Lemmas.{as_given, fine_store, quiet_store, through}
+use Rattle.frz_answer.proofs.Lemmas.{Found, fine_store, quiet_store, through}
 use Rattle.frz_prelude.specs.Refusals.{status_of, refusal_line}
 use Rattle.frz_prelude.specs.Stops.{EndsBy, stop_of_table}
 use Rattle.frz_prelude.specs.declared.refused.Refused.TheVariants as refusals
-use Rattle.frz_prelude.proofs.Lemmas.{ended, may_stop, stop_own, stops_by, table_cause}
+use Rattle.frz_prelude.proofs.Lemmas.{Holding, ended, holding, may_stop, stop_own, stops_by, table_cause}
 use Rattle.frz_commands_line.specs.Costs.{CostsIn, CostsAt}
-use Rattle.frz_commands_line.proofs.OpeningCosts.{opening_within, playing_within, refused_calls}
-use Rattle.frz_commands_line.proofs.Seen.{of_told}
-use Rattle.frz_commands_line.proofs.Stages.{is_part}
+use Rattle.frz_commands_line.proofs.OpeningCosts.{opening_within, playing_within}
+use Rattle.frz_commands_line.proofs.Stages.{is_later_part}
 
-known : (reads : Reads) (w : World) → reads ≡ Again → Sees reads w → IsSome w.store.files
-known reads w again sees = subst (λ (r : Reads). Sees r w) again sees
+-- the text of a file that opens is the one that it keeps
+opened_text : (bytes : List ℕ) (contents : Contents)
+    → opened (table_format Plain) (Some bytes) ≡ Ok contents
+    → held_text (Some bytes) ≡ contents.text
+opened_text bytes contents opens =
+    text_kept _ _ _ bytes (belongs (table_format Plain) bytes contents opens).file
+
+once_is_not : {A : Type 0} (reads : Reads) → reads ≡ Once → reads ≡ Never → A
+once_is_not reads once never = let no : Once ≡ Never = sym once ∙ never in cc
 
 -- what is answered by how the file opens, and which numbers the way from the position comes to
-module _ (By : Result Contents TableFault → (bytes : List ℕ) → Files → List ℕ → Answer → Type 0)
-    (comes : (bytes input : List ℕ) → Contents → List ℕ → Type 0) (p : Board) (name : List ℕ)
+module _ (By : (name : List ℕ) → Result Contents TableFault → Files → List ℕ → Answer → Type 0)
+    (comes : (name input : List ℕ) → Contents → List ℕ → Type 0) (p : Board) (name : List ℕ)
     (job : Job) where
   -- the job by the file of this name
   abbrev pub by_file : Job
   by_file = record job {
-    answers = λ files input a.
-        By (opened (table_format Plain) (files name)) (bytes_at files name) files input a;
-    costs = λ files input a. CostsAt (files name) p (comes (bytes_at files name) input);
+    answers = λ files input a. By name (opened (table_format Plain) (files name)) files input a;
+    costs = λ files input a. CostsAt (files name) p (comes name input);
   }
 
   -- and by the open table
   abbrev pub by_table : List Status → Table → Job
   by_table own table = record job {
-    answers = λ files input a.
-        By (Ok (contents_of table)) (bytes_at files table.name) files input a;
+    answers = λ files input a. By table.name (Ok (contents_of table)) files input a;
     means = λ _ _ _. ⊤;
     statuses = own;
+    needs = record job.needs { reads = Never };
     costs = λ files input a.
-        CostsIn (contents_of table) p (comes (bytes_at files table.name) input (contents_of table))
-        0 0;
+        CostsIn (contents_of table) p (comes table.name input (contents_of table)) 0 0;
   }
 
-  module _ (again : job.needs.reads ≡ Again) {store now : StoreTold} {input : SourceTold}
-      {out : SinkTold} {steps : ℕ} (quiet : StoreQuiet store now)
-      (asked : IfSome store.files
-      (λ m. now.asked ≤ store.asked + (16 + length (kept_text (bytes_at m name))))) where
+  module _ (once : job.needs.reads ≡ Once) {store now : StoreTold} {input : SourceTold}
+      {out : SinkTold} {steps : ℕ} (quiet : StoreQuiet store now) where
+    -- files that hold this under the name
+    abbrev found_at : (held : Option (List ℕ)) (left : List ℕ) (free : Files)
+        → IfSome input.left (λ told. told ≡ left)
+        → (at : Holding store.files name held)
+        → Found by_file free left (world store input out steps)
+    found_at held left free source at = record {
+      files = at.files;
+      input = left;
+      agrees = record { store = at.agrees; source = source };
+      free = λ never. once_is_not job.needs.reads once never;
+      untaken = λ _. refl;
+    }
+
     -- the table was opened: what was done by it is what was to be done by its file
     pub opened_ran : (own : List Status) (table : Table) {end : End} {new : World}
         → subset own job.statuses ≡ true → StoreFine store now → table.name ≡ name
-        → IfSome store.files (λ m. opened (table_format Plain) (m name) ≡ Ok (contents_of table))
+        → MayOpen (table_format Plain) store.files name (contents_of table)
+        → now.asked ≤ store.asked + (16 + length table.text)
         → now.calls ≤ store.calls + 5
         → Ran (by_table own table) end (world now input out steps) new
         → Ran by_file end (world store input out steps) new
-    opened_ran own table {end} {new} all fine named opens few ran =
+    opened_ran own table {end} {new} all fine named may asked few ran =
         let old = world store input out steps in
+        let held = Some may.bytes in
+        let at = holding store.files name held (same_held store.files name held may.may) in
         through (by_table own table) by_file old (world now input out steps) new
         (quiet_store store now input out steps quiet)
-        (fine_store store now input out steps steps fine) (is_part by_file own all) end
+        (fine_store store now input out steps steps fine) (is_later_part by_file own all) end
         (λ sees files left agrees. record {
-          found = as_given by_file files left old agrees;
+          found = found_at held left files agrees.source at;
           answers = λ m i a fits free untaken answer.
-              subst (λ (x : Result Contents TableFault). By x (bytes_at m name) m i a)
-              (sym (of_told store.files m
-              (λ f. opened (table_format Plain) (f name) ≡ Ok (contents_of table))
-              (known job.needs.reads old again sees) fits.store opens))
-              (subst (λ (q : List ℕ). By (Ok (contents_of table)) (bytes_at m q) m i a) named
-              answer);
+              subst (λ (x : Result Contents TableFault). By name x m i a)
+              (sym (ap (λ (f : Files). opened (table_format Plain) (f name)) (free refl)
+              ∙ (ap (opened (table_format Plain)) at.holds ∙ may.opens)))
+              (subst (λ (q : List ℕ). By q (Ok (contents_of table)) m i a) named answer);
           costs = λ m i a fits free untaken answer costs.
-              let some = known job.needs.reads old again sees in
-              playing_within (m name) (contents_of table) p (comes (bytes_at m name) i)
+              let holds : m name ≡ held = ap (λ (f : Files). f name) (free refl) ∙ at.holds in
+              let text : held_text (m name) ≡ table.text = ap held_text holds
+              ∙ opened_text may.bytes (contents_of table) may.opens in
+              playing_within (m name) (contents_of table) p (comes name i)
               (spent_by store steps) (spent_by now steps) (spent new)
-              (of_told store.files m
-              (λ f. opened (table_format Plain) (f name) ≡ Ok (contents_of table)) some fits.store
-              opens) refl few
-              (of_told store.files m
-              (λ f. now.asked ≤ store.asked + (16 + length (kept_text (bytes_at f name)))) some
-              fits.store asked)
+              (ap (opened (table_format Plain)) holds ∙ may.opens) refl few
+              (subst (λ (t : List ℕ). now.asked ≤ store.asked + (16 + length t)) (sym text) asked)
               (subst (λ (q : List ℕ). CostsIn (contents_of table) p
-              (comes (bytes_at m q) i (contents_of table)) 0 0 (spent_by now steps) (spent new))
+              (comes q i (contents_of table)) 0 0 (spent_by now steps) (spent new))
               named costs);
         })
         ran
@@ -101,44 +116,43 @@ module _ (By : Result Contents TableFault → (bytes : List ℕ) → Files → L
     pub refused_ran : {T : Type 0} (fault : TableFault) {end : End} {taken : SinkTold}
         → IsTrue job.needs.store → IsTrue job.needs.memory
         → OneOf statuses.Missing job.statuses → OneOf statuses.Table job.statuses
-        → ((bytes : List ℕ) (m : Files) (i : List ℕ) → By (Err fault) bytes m i
+        → ((m : Files) (i : List ℕ) → By name (Err fault) m i
         (says (status_of (refusals.Table fault)) (refusal_line (refusals.Table fault)) m))
         → ((m : Files) (i : List ℕ) → SomeAnswer (λ a. by_file.answers m i a))
         → TableCauses {T = T} store.faults now.faults store.wants now.wants (Err fault)
-        → IfSome store.files (λ m. Refuses (opened (table_format Plain) (m name)) fault)
         → MayRefuse (table_format Plain) name store now fault
         → EndsBy (stop_of_table fault) end out taken
         → Ran by_file end (world store input out steps) (world now input taken steps)
-    refused_ran {T} fault {end} {taken} calls wants missing refused says_so some causes refuses may
-        ends =
+    refused_ran {T} fault {end} {taken} calls wants missing refused says_so some causes may ends =
         let old = world store input out steps in
         let new = world now input out steps in
+        let at = holding store.files name may.held (same_held store.files name may.held may.may) in
+        let files = at.files in
         ended by_file (stop_of_table fault) end old new taken
         (quiet_store store now input out steps quiet)
         (may_stop ℕ by_file (stop_of_table fault) store now input out steps steps calls wants
         (stop_own fault job.statuses missing refused)
         (table_cause T ℕ fault store now causes)) ends
-        (λ sees files left agrees.
-        let told = known job.needs.reads old again sees in
+        (λ sees free left agrees.
         let costs : (a : Answer) → by_file.costs files left a (spent old) (spent new) = λ a.
         opening_within (opened (table_format Plain) (files name)) p
-        (comes (bytes_at files name) left) (opening_calls (table_format Plain) (files name))
-        (16 + length (kept_text (bytes_at files name))) (spent old) (spent new) refl
-        (refused_calls name store now fault files told agrees.store may)
-        (of_told store.files files
-        (λ f. now.asked ≤ store.asked + (16 + length (kept_text (bytes_at f name)))) told
-        agrees.store asked) in
-        let found = as_given by_file files left old agrees in
+        (comes name left) (opening_calls (table_format Plain) (files name))
+        (16 + length (held_text (files name))) (spent old) (spent new) refl
+        (subst (λ (h : Option (List ℕ)). now.calls ≤ store.calls
+        + opening_calls (table_format Plain) h) (sym at.holds) may.calls)
+        (subst (λ (h : Option (List ℕ)). now.asked ≤ store.asked + (16 + length (held_text h)))
+        (sym at.holds) may.asked) in
+        let found = found_at may.held left free agrees.source at in
         let begun = some files left in
-        stops_by by_file files left old new (opened (table_format Plain) (files name)) fault
+        stops_by by_file free left old new (opened (table_format Plain) (files name)) fault
         (λ e. record {
           found = found;
-          answer = subst (λ (x : Result Contents TableFault). By x (bytes_at files name) files left
+          answer = subst (λ (x : Result Contents TableFault). By name x files left
               (says (status_of (refusals.Table fault)) (refusal_line (refusals.Table fault)) files))
-              (sym e) (says_so (bytes_at files name) files left);
+              (sym e) (says_so files left);
           costs = costs
               (says (status_of (refusals.Table fault)) (refusal_line (refusals.Table fault)) files);
         })
         (record { found = found; some = begun; costs = costs begun.a })
-        (of_told store.files files (λ f. Refuses (opened (table_format Plain) (f name)) fault) told
-        agrees.store refuses))
+        (subst (λ (h : Option (List ℕ)). Refuses (opened (table_format Plain) h) fault)
+        (sym at.holds) may.refuses))

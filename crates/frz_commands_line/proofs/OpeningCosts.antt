@@ -1,25 +1,23 @@
 -- What `line` and `play` spend, by whether the table opens and whether the position is in its set.
-use Rattle.std.proofs.Common.{◌≡◌, sym, subst, ◌∙◌, ℕ, ◌+◌, ◌≤◌, Bool, true, false, List, length, Option, Some, None, Result, Ok, Err, IfSome, arith}
-use Rattle.std.specs.Prelude.{IsSome, MatchBool}
+use Rattle.std.proofs.Common.{◌≡◌, sym, subst, ◌∙◌, ℕ, ◌+◌, ◌≤◌, Bool, true, false, List, length, Option, Some, None, Result, Ok, Err, arith}
+use Rattle.std.specs.Prelude.{MatchBool}
 use Rattle.frz_board.specs.Boards.{Board}
 use Rattle.frz_exits.specs.Books.{value_by}
 use Rattle.frz_game.specs.Games.{graph_by}
 use Rattle.frz_game.specs.Numbers.{is_member}
 use Rattle.frz_index.specs.Members.{Member}
 use Rattle.frz_index.proofs.Lemmas.{of_member}
-use Rattle.frz_store.specs.Files.{Files}
-use Rattle.frz_store.specs.Told.{StoreTold}
 use Rattle.frz_table.specs.declared.fault.TableFault.{TableFault}
 use Rattle.frz_table.specs.declared.fault.TableFault.TheVariants.{Missing}
 use Rattle.frz_table.specs.declared.kind.FileKind.TheVariants.{Plain}
 use Rattle.frz_table.specs.Opening.{Contents, opened, opening_calls, table_format}
-use Rattle.frz_table.specs.Possible.{MayRefuse, held_text}
-use Rattle.frz_table.proofs.Lemmas.{opened_calls, opened_missing, same_held}
+use Rattle.frz_table.specs.Possible.{held_text}
+use Rattle.frz_table.proofs.Lemmas.{opened_calls, opened_missing}
 use Rattle.frz_answer.specs.World.{Spent}
 use Rattle.frz_answer.specs.Jobs.{WithinCosts}
 use Rattle.frz_line.specs.Costs.{SpendsAt}
 use Rattle.frz_commands_line.specs.Costs.{opening_costs, playing_costs, CostsIn, CostsBy, CostsAt}
-use Rattle.frz_commands_line.proofs.Seen.{not_member, of_told}
+use Rattle.frz_commands_line.proofs.Seen.{not_member}
 
 module _ (contents : Contents) (p : Board) (comes : List ℕ → Type 0) where
   -- by whether the position is in the set
@@ -130,14 +128,3 @@ playing_within held contents p comes old mid new e steps few bytes costs =
     (opening_calls (table_format Plain) held) (16 + length (held_text held)) old new) (sym e)
     (behind_opening contents p (comes contents) (opening_calls (table_format Plain) held)
     (16 + length (held_text held)) old mid steps calls bytes new costs)
-
--- the calls at a table that does not open are those that opening what the name holds takes
-pub refused_calls : (name : List ℕ) (old new : StoreTold) (fault : TableFault) (files : Files)
-    → IsSome old.files → IfSome old.files (λ m. m ≡ files)
-    → MayRefuse (table_format Plain) name old new fault
-    → new.calls ≤ old.calls + opening_calls (table_format Plain) (files name)
-refused_calls name old new fault files sees agrees h =
-    let same = of_told old.files files (λ m. m name ≡ h.held) sees agrees
-    (same_held old.files name h.held h.may) in
-    subst (λ (held : Option (List ℕ)). new.calls ≤ old.calls + opening_calls (table_format Plain)
-    held) (sym same) h.calls

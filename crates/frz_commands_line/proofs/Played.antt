@@ -1,20 +1,19 @@
 -- How `line` ends by an open table.
-use Rattle.std.proofs.Common.{◌≡◌, ◌↔◌, refl, sym, ap, subst, ◌∙◌, ℕ, ◌≤◌, List, [], ◌++◌, Option, Result, Ok, Err, IfSome, arith, append_assoc, append-nil}
-use Rattle.std.specs.Prelude.{IsSome}
+use Rattle.std.proofs.Common.{◌≡◌, ◌↔◌, refl, sym, ap, subst, ◌∙◌, ℕ, ◌≤◌, List, [], ◌++◌, Result, Ok, Err, arith, append_assoc, append-nil}
 use Rattle.frz_board.specs.declared.man.Colour.{Colour}
 use Rattle.frz_board.specs.Boards.{Board}
 use Rattle.frz_index.specs.Members.{Member}
-use Rattle.frz_store.specs.Files.{Files, bytes_at}
+use Rattle.frz_store.specs.Files.{Files}
 use Rattle.frz_store.specs.Told.{StoreTold, SourceTold, SinkTold, StoreQuiet, StoreFine}
 use Rattle.frz_table.specs.Opening.{contents_of}
-use Rattle.frz_table.specs.Tables.{Table, Carries}
+use Rattle.frz_table.specs.Tables.{Table}
 use Rattle.frz_answer.specs.declared.fault.Fault.{Fault}
 use Rattle.frz_answer.specs.declared.fault.Fault.TheVariants.{Store, NoMemory}
 use Rattle.frz_answer.specs.declared.end.End.{End}
 use Rattle.frz_answer.specs.declared.end.End.TheVariants.{Stopped, SinkFault}
 use Rattle.frz_answer.specs.Statuses.{OneOf}
 use Rattle.frz_answer.specs.Texts.{TookText, FailedWithin}
-use Rattle.frz_answer.specs.World.{World, world, Agrees, Quiet, Spent, spent, spent_by}
+use Rattle.frz_answer.specs.World.{World, world, Quiet, Spent, spent, spent_by}
 use Rattle.frz_answer.specs.Answers.{Answer, says, IsLines}
 use Rattle.frz_answer.specs.Jobs.{Job}
 use Rattle.frz_answer.specs.Ends.{MayMeet, Ran, Said}
@@ -27,30 +26,29 @@ use Rattle.frz_line.specs.declared.end.LineFault.TheVariants as faults
 use Rattle.frz_line.specs.BestLine.{TellsLine}
 use Rattle.frz_line.specs.Ends.{told, IsUnfinished, Finishes}
 use Rattle.frz_line.specs.Faults.{StoreCause, WroteBy}
-use Rattle.frz_line.specs.Kept.{told_codes}
 use Rattle.frz_line.specs.Texts.{line_text}
+use Rattle.frz_commands_line.specs.Later.{held_later}
 use Rattle.frz_commands_line.specs.LineEnds.{end_status, naming_line, EndsLine}
-use Rattle.frz_commands_line.specs.LineOf.{code_at, LineComes, told_text, line_answer}
+use Rattle.frz_commands_line.specs.LineOf.{code_at, codes_later, LineComes, told_text, line_answer}
 use Rattle.frz_commands_line.specs.Lining.{lining_in}
 use Rattle.frz_commands_line.proofs.Behind.{rest_of, behind_lines, cut_within}
 use Rattle.frz_commands_line.proofs.Counting.{unfinished_said}
 use Rattle.frz_commands_line.proofs.OpeningCosts.{costs_inside, costs_outside}
 use Rattle.frz_commands_line.proofs.Seen.{LineThere, LineSo, by_member, lined_inside, lined_outside, line_so}
 
--- what was written of the line
-abbrev pub Wrote : Table → Colour → Board → Option Files → Result LineEnd LineFault → SinkTold
-    → SinkTold → (before now : Spent) → Type 0
-Wrote table side p files result old new before now =
+-- what was written of the line, by the codes that were read
+abbrev pub Wrote : Table → (later : ℕ → Files) → Colour → Board → Result LineEnd LineFault
+    → SinkTold → SinkTold → (before now : Spent) → Type 0
+Wrote table later side p result old new before now =
     (text : List ℕ) × IsLines text × WroteBy result text old new
-    × IfSome (told_codes table side files)
-    (λ codes. TellsLine table.rules side codes p text result before now)
+    × TellsLine table.rules side
+    (codes_later (contents_of table) (held_later later table.name) side) p text result before now
 
-module _ (there : LineThere) (table : Table) (side : Colour) (p : Board) (store left : StoreTold)
+module _ (there : LineThere) (later_files : ℕ → Files) (table : Table) (side : Colour) (p : Board) (store left : StoreTold)
     (input : SourceTold) (out mid taken : SinkTold) (before now : ℕ)
-    (quiet : StoreQuiet store left) (later : before ≤ now)
-    (carried : Carries store.files table) where
+    (quiet : StoreQuiet store left) (later : before ≤ now) where
   abbrev job : Job
-  job = lining_in table side p
+  job = lining_in later_files table side p
 
   abbrev old : World
   old = world store input out before
@@ -65,45 +63,46 @@ module _ (there : LineThere) (table : Table) (side : Colour) (p : Board) (store 
   quiet_with : (sink : SinkTold) → Quiet (world store input sink before) (world left input sink now)
   quiet_with sink = quiet_both store left input sink before now quiet later
 
-  abbrev Line : List ℕ → Result LineEnd LineFault → Files → Type 0
-  Line text result m = LineSo (contents_of table) (bytes_at m table.name) side p text result
+  abbrev held : ℕ → List ℕ
+  held = held_later later_files table.name
+
+  abbrev Line : List ℕ → Result LineEnd LineFault → Type 0
+  Line text result = LineSo (contents_of table) held side p text result
       (spent_by store before) (spent_by left now)
 
-  abbrev code_in : Files → ℕ
-  code_in m = code_at (contents_of table) (bytes_at m table.name) side p
+  abbrev code_in : ℕ
+  code_in = code_at (contents_of table) held side p
 
   -- the numbers of the line
-  abbrev Comes : Files → List ℕ → Type 0
-  Comes m numbers = LineComes (bytes_at m table.name) side p (contents_of table) numbers
+  abbrev Comes : List ℕ → Type 0
+  Comes numbers = LineComes held side p (contents_of table) numbers
 
   -- what was spent is within the costs of the line
   line_costs : (inside : Member table.rules.groups p) (text : List ℕ)
-      (result : Result LineEnd LineFault) (m : Files) (i : List ℕ) (so : Line text result m)
+      (result : Result LineEnd LineFault) (m : Files) (i : List ℕ) (so : Line text result)
       (a : Answer)
       → job.costs m i a (spent old) (spent played)
   line_costs inside text result m i so a =
-      costs_inside (contents_of table) p (Comes m) (spent old) (spent played) inside so.costs
+      costs_inside (contents_of table) p Comes (spent old) (spent played) inside so.costs
 
   -- an answer is this one of the line
   is_answer : (inside : Member table.rules.groups p) (text : List ℕ)
-      (result : Result LineEnd LineFault) (m : Files) (i : List ℕ) (so : Line text result m)
+      (result : Result LineEnd LineFault) (m : Files) (i : List ℕ) (so : Line text result)
       (a : Answer)
-      → a ≡ line_answer side (code_in m) so.plies (told side so.end) m → job.answers m i a
+      → a ≡ line_answer side code_in so.plies (told side so.end) m → job.answers m i a
   is_answer inside text result m i so a e =
-      lined_inside (contents_of table) (bytes_at m table.name) side p m a inside
+      lined_inside (contents_of table) held side p m a inside
       (record { plies = so.plies; end = so.end; line = so.line; told = e })
 
   module _ (inside : Member table.rules.groups p) (text : List ℕ) (lines : IsLines text) where
     abbrev TellsIt : Result LineEnd LineFault → Type 0
-    TellsIt result = IfSome (told_codes table side store.files)
-        (λ codes. TellsLine table.rules side codes p text result (spent_by store before)
-        (spent_by left now))
+    TellsIt result = TellsLine table.rules side (codes_later (contents_of table) held side) p text
+        result (spent_by store before) (spent_by left now)
 
-    so_in : (result : Result LineEnd LineFault) → TellsIt result → IsSome store.files
-        → (m : Files) (i : List ℕ) → Agrees old m i → Line text result m
-    so_in result tells sees m i agrees =
-        line_so there table side p text result (spent_by store before) (spent_by left now) inside
-        store.files m sees agrees.store carried tells
+    so_in : (result : Result LineEnd LineFault) → TellsIt result → Line text result
+    so_in result tells =
+        line_so there (contents_of table) held side p text result (spent_by store before)
+        (spent_by left now) inside tells
 
     -- the whole line was written, and its end is told
     all_told : (result : Result LineEnd LineFault) (end : End) → TellsIt result
@@ -118,21 +117,20 @@ module _ (there : LineThere) (table : Table) (side : Colour) (p : Board) (store 
         (said (rest_of job text) (end_status result) (naming_line result) end between played taken
         (quiet_with mid) (fine_store store left input mid before now fine) own said_it
         (λ sees m i agrees.
-        let so = so_in result tells sees m i
-        (record { store = agrees.store; source = agrees.source }) in
+        let so = so_in result tells in
         let ended = whole (told side so.end) so.rest so.finishes in
-        let written : text ≡ line_text side (code_in m) so.plies (told side so.end) =
+        let written : text ≡ line_text side code_in so.plies (told side so.end) =
         sym (append-nil text) ∙ ap (λ (l : List ℕ). text ++ l) (sym ended.1) ∙ so.whole in
-        let texts : text ++ naming_line result ≡ told_text side (code_in m) so.plies
+        let texts : text ++ naming_line result ≡ told_text side code_in so.plies
         (told side so.end) =
         ap (λ (l : List ℕ). l ++ naming_line result) written
-        ∙ ap (λ (r : Result LineEnd LineFault). line_text side (code_in m) so.plies
+        ∙ ap (λ (r : Result LineEnd LineFault). line_text side code_in so.plies
         (told side so.end) ++ naming_line r) ended.0 in
         let same : says (end_status result) (text ++ naming_line result) m ≡ line_answer side
-        (code_in m) so.plies (told side so.end) m =
+        code_in so.plies (told side so.end) m =
         ap (λ (l : List ℕ). says (end_status result) l m) texts
         ∙ ap (λ (r : Result LineEnd LineFault). says (end_status r)
-        (told_text side (code_in m) so.plies (told side so.end)) m) ended.0 in
+        (told_text side code_in so.plies (told side so.end)) m) ended.0 in
         record {
           found = as_given (rest_of job text) m i between agrees;
           answer = is_answer inside text result m i so
@@ -142,8 +140,8 @@ module _ (there : LineThere) (table : Table) (side : Colour) (p : Board) (store 
         }))
 
     -- the rest of the line's answer
-    rest_answer : (result : Result LineEnd LineFault) (m : Files) (so : Line text result m)
-        → text ++ (so.rest ++ naming_line (told side so.end)) ≡ told_text side (code_in m) so.plies
+    rest_answer : (result : Result LineEnd LineFault) (m : Files) (so : Line text result)
+        → text ++ (so.rest ++ naming_line (told side so.end)) ≡ told_text side code_in so.plies
         (told side so.end)
     rest_answer result m so =
         sym (append_assoc text so.rest (naming_line (told side so.end)))
@@ -159,13 +157,12 @@ module _ (there : LineThere) (table : Table) (side : Colour) (p : Board) (store 
         behind_lines job text (Stopped fault) old mid played took lines refl refl
         (stopped (rest_of job text) fault between played (quiet_with mid) meets
         (λ sees m i agrees.
-        let so = so_in result tells sees m i
-        (record { store = agrees.store; source = agrees.source }) in
+        let so = so_in result tells in
         let answer = told side so.end in
         let rest = so.rest ++ naming_line answer in
         let whole = rest_answer result m so in
         let a = says (end_status answer) rest m in
-        let same : says (end_status answer) (text ++ rest) m ≡ line_answer side (code_in m) so.plies
+        let same : says (end_status answer) (text ++ rest) m ≡ line_answer side code_in so.plies
         answer m =
         ap (λ (l : List ℕ). says (end_status answer) l m) whole in
         record {
@@ -186,10 +183,10 @@ module _ (there : LineThere) (table : Table) (side : Colour) (p : Board) (store 
         cut_within job text [] old (world left input out now) mid refl (quiet_with out).later
         quiet.unwritten (drop_none input.left) failed
         (λ sees m i agrees.
-        let so = so_in (Err faults.Output) tells sees m i agrees in
+        let so = so_in (Err faults.Output) tells in
         let answer = told side so.end in
         let whole = rest_answer (Err faults.Output) m so in
-        let a = line_answer side (code_in m) so.plies answer m in
+        let a = line_answer side code_in so.plies answer m in
         record {
           found = as_given job m i old agrees;
           a = a;
@@ -215,9 +212,9 @@ module _ (there : LineThere) (table : Table) (side : Colour) (p : Board) (store 
       end o taken) unwritten said_it)
       (λ sees m i agrees. record {
         found = as_given job m i old agrees;
-        answer = lined_outside (contents_of table) (bytes_at m table.name) side p m
+        answer = lined_outside (contents_of table) held side p m
             (says (status_of refusals.Outside) (refusal_line refusals.Outside) m) none refl;
-        costs = costs_outside (contents_of table) p (Comes m) (spent old) (spent played) none
+        costs = costs_outside (contents_of table) p Comes (spent old) (spent played) none
             (record {
               steps = omega (arith, unstepped);
               calls = (let e = ap (λ (s : StoreTold). s.calls) same in omega (arith, e));
@@ -243,7 +240,7 @@ module _ (there : LineThere) (table : Table) (side : Colour) (p : Board) (store 
       → ((result ≡ Err faults.Outside) ↔ (Member table.rules.groups p → ⊥))
       → (result ≡ Err faults.Outside → (left ≡ store) × (mid ≡ out) × (now ≡ before))
       → StoreCause result store left → EndsLine result end mid taken
-      → Wrote table side p store.files result out mid (spent_by store before) (spent_by left now)
+      → Wrote table later_files side p result out mid (spent_by store before) (spent_by left now)
       → Ran job end old (world left input taken now)
   line_ran (Ok last) end outside touched cause ends wrote =
       all_told (is_inside (Ok last) outside (λ e. cc)) wrote.0 wrote.1 (Ok last) end wrote.3 wrote.2

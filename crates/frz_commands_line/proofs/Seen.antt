@@ -27,33 +27,13 @@ use Rattle.frz_line.specs.Ends.{told, Finishes}
 use Rattle.frz_line.specs.Kept.{told_codes}
 use Rattle.frz_line.specs.Lines.{LinePly, EndOfLine, IsLine}
 use Rattle.frz_line.specs.Texts.{line_text}
-use Rattle.frz_commands_line.specs.LineOf.{code_at, IsLineBy, LineComes, line_answer, IsLined, IsLinedIn}
+use Rattle.frz_commands_line.specs.LineOf.{code_at, codes_later, IsLineBy, LineComes, line_answer, IsLined, IsLinedIn}
 
 -- that there is a line from each number
 abbrev pub LineThere : Type 0
-LineThere = (rules : RuleLines) (value : Board → Value) (side : Colour) (codes : List ℕ) (start : ℕ)
+LineThere = (rules : RuleLines) (value : Board → Value) (side : Colour) (codes : ℕ → List ℕ)
+    (start : ℕ)
     → (plies : List LinePly) × (end : EndOfLine) × IsLine rules value side codes start plies end
-
--- a fact of the files that the store tells
-pub of_told : (o : Option Files) (m : Files) (P : Files → Type 0) → IsSome o
-    → IfSome o (λ told. told ≡ m) → IfSome o P → P m
-of_told None m P some e h = let no : false ≡ true = some in cc
-of_told (Some held) m P some e h = subst P e h
-
--- a fact of the codes that the store tells, of those in the file
-pub of_file : (table : Table) (side : Colour) (P : List ℕ → Type 0) (o : Option Files) (m : Files)
-    → IsSome o → IfSome o (λ told. told ≡ m) → Carries o table → IfSome (told_codes table side o) P
-    → P (codes_at side table.text (table_size table) (bytes_at m table.name))
-of_file table side P None m some e carried told = let no : false ≡ true = some in cc
-of_file table side P (Some held) m some e carried told =
-    subst (λ (g : Files). P (codes_at side table.text (table_size table) (bytes_at g table.name))) e
-    (by_name (held table.name) carried told)
-  where
-    by_name : (o : Option (List ℕ)) → IsSomeAnd o (IsFileOf table)
-        → IfSome (option_map (codes_at side table.text (table_size table)) o) P
-        → P (codes_at side table.text (table_size table) (unwrap_or o []))
-    by_name None carried told = absurd carried
-    by_name (Some bytes) carried told = told
 
 -- the position is in the set, or not
 pub by_member : {A : Type 0} (groups : List GroupLine) (p : Board) → (Member groups p → A)
@@ -74,7 +54,7 @@ not_member groups p none = by_test (is_member groups p) refl
     by_test false e = refl
 
 -- the answer at a position of the set, and at one that is outside
-module _ (contents : Contents) (bytes : List ℕ) (side : Colour) (p : Board) (files : Files)
+module _ (contents : Contents) (bytes : ℕ → List ℕ) (side : Colour) (p : Board) (files : Files)
     (a : Answer) where
   pub lined_inside : Member contents.rules.groups p → IsLined contents bytes side p files a
       → IsLinedIn contents bytes side p files a
@@ -92,7 +72,7 @@ module _ (contents : Contents) (bytes : List ℕ) (side : Colour) (p : Board) (f
       (sym (not_member contents.rules.groups p none)) e
 
 -- the line of which this text was written, with what was spent on it
-pub record LineSo (contents : Contents) (bytes : List ℕ) (side : Colour) (p : Board) (text : List ℕ)
+pub record LineSo (contents : Contents) (bytes : ℕ → List ℕ) (side : Colour) (p : Board) (text : List ℕ)
     (result : Result LineEnd LineFault) (before now : Spent) : Type 0 where
   pub plies : List LinePly
   pub end : EndOfLine
@@ -103,35 +83,30 @@ pub record LineSo (contents : Contents) (bytes : List ℕ) (side : Colour) (p : 
   pub costs : (numbers : List ℕ) → LineComes bytes side p contents numbers
       → SpendsAt (graph_by contents.rules (value_by contents.rules)) 1 numbers before now
 
-module _ (there : LineThere) (table : Table) (side : Colour) (p : Board) (text : List ℕ)
-    (result : Result LineEnd LineFault) (before now : Spent)
-    (inside : Member table.rules.groups p) where
-  abbrev Tells : List ℕ → Type 0
-  Tells codes = TellsLine table.rules side codes p text result before now
-
-  pub line_so : (o : Option Files) (m : Files) → IsSome o → IfSome o (λ f. f ≡ m) → Carries o table
-      → IfSome (told_codes table side o) Tells
-      → LineSo (contents_of table) (bytes_at m table.name) side p text result before now
-  line_so o m some e carried told =
-      let line = there table.rules (value_by table.rules) side
-      (codes_at side table.text (table_size table) (bytes_at m table.name))
-      (Num table.rules.groups p) in
-      let tells = of_file table side Tells o m some e carried told inside in
-      let so = tells line.0 line.1 line.2 in
-      let arena = graph_by table.rules (value_by table.rules) in
-      record {
-        plies = line.0;
-        end = line.1;
-        line = line.2;
-        rest = so.0;
-        whole = so.1;
-        finishes = so.2;
-        costs = λ numbers comes. subst (λ (z : List ℕ). SpendsAt arena 1 z before now)
-            (sym comes.are) (tells comes.plies comes.end comes.line).3;
-      }
+pub line_so : LineThere → (contents : Contents) (bytes : ℕ → List ℕ) (side : Colour) (p : Board)
+    (text : List ℕ) (result : Result LineEnd LineFault) (before now : Spent)
+    → Member contents.rules.groups p
+    → TellsLine contents.rules side (codes_later contents bytes side) p text result before now
+    → LineSo contents bytes side p text result before now
+line_so there contents bytes side p text result before now inside tells =
+    let rules = contents.rules in
+    let line = there rules (value_by rules) side (codes_later contents bytes side)
+    (Num rules.groups p) in
+    let so = tells inside line.0 line.1 line.2 in
+    let arena = graph_by rules (value_by rules) in
+    record {
+      plies = line.0;
+      end = line.1;
+      line = line.2;
+      rest = so.0;
+      whole = so.1;
+      finishes = so.2;
+      costs = λ numbers comes. subst (λ (z : List ℕ). SpendsAt arena 1 z before now)
+          (sym comes.are) (tells inside comes.plies comes.end comes.line).3;
+    }
 
 -- the answer of the line
-abbrev pub answer_of : {contents : Contents} {bytes : List ℕ} {side : Colour} {p : Board}
+abbrev pub answer_of : {contents : Contents} {bytes : ℕ → List ℕ} {side : Colour} {p : Board}
     {text : List ℕ} {result : Result LineEnd LineFault} {before now : Spent}
     → LineSo contents bytes side p text result before now → Files → Answer
 answer_of {contents} {bytes} {side} {p} so files =

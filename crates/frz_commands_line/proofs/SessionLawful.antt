@@ -9,11 +9,10 @@ use Rattle.frz_exits.specs.Books.{value_by}
 use Rattle.frz_arena.specs.WayEnds.{Wrong, NoBound, Mated, Stalemated, Exit, Cut, Stopped}
 use Rattle.frz_index.specs.Members.{Num}
 use Rattle.frz_game.specs.Numbers.{is_member}
-use Rattle.frz_store.specs.Files.{Files, bytes_at}
+use Rattle.frz_store.specs.Files.{Files}
 use Rattle.frz_table.specs.declared.fault.TableFault.{TableFault}
 use Rattle.frz_table.specs.declared.kind.FileKind.TheVariants.{Plain}
 use Rattle.frz_table.specs.Opening.{Contents, opened, table_format}
-use Rattle.frz_check.specs.Kept.{kept_codes}
 use Rattle.frz_answer.specs.Answers.{Answer, says}
 use Rattle.frz_answer.specs.Lawful.{HasOneAnswer, IsLawful}
 use Rattle.frz_prelude.specs.Refusals.{status_of, refusal_line}
@@ -23,7 +22,8 @@ use Rattle.frz_play.specs.declared.end.SessionEnd.{SessionEnd}
 use Rattle.frz_play.specs.Ends.{Tells}
 use Rattle.frz_play.specs.Reading.{Input}
 use Rattle.frz_play.specs.Sessions.{SessionPly, EndOfSession, IsSession}
-use Rattle.frz_commands_line.specs.LineOf.{code_at}
+use Rattle.frz_commands_line.specs.Later.{held_later}
+use Rattle.frz_commands_line.specs.LineOf.{code_at, codes_later}
 use Rattle.frz_commands_line.specs.SessionOf.{session_answer, IsPlayed, IsPlayedBy, IsPlayedAt}
 use Rattle.frz_commands_line.specs.Playing.{playing_at, play_words}
 use Rattle.frz_commands_line.proofs.Lawful.{words_lawful}
@@ -33,7 +33,8 @@ use Rattle.frz_commands_line.proofs.SessionSeen.{SessionThere}
 
 -- that there is no other session
 abbrev pub SessionAlone : Type 0
-SessionAlone = (rules : RuleLines) (value : Board → Value) (side : Colour) (codes : List ℕ)
+SessionAlone = (rules : RuleLines) (value : Board → Value) (side : Colour)
+    (codes : ℕ → List ℕ)
     (start : ℕ) (input : List ℕ) (plies others : List SessionPly) (end last : EndOfSession)
     (left rest : Input)
     → IsSession rules value side codes start input plies end left
@@ -43,7 +44,7 @@ SessionAlone = (rules : RuleLines) (value : Board → Value) (side : Colour) (co
 -- one answer is told at an end
 one_told : (side : Colour) (end : EndOfSession) (a b : Result SessionEnd PlayFault)
     → Tells side end a → Tells side end b → a ≡ b
-one_told side (Wrong number kept given) a b h k = h ∙ sym k
+one_told side (Wrong at kept given) a b h k = h ∙ sym k
 one_told side NoBound a b h k = h ∙ sym k
 one_told side (Mated mover) a b h k = h ∙ sym k
 one_told side (Stalemated mover) a b h k = h ∙ sym k
@@ -51,7 +52,7 @@ one_told side (Exit v) a b h k = h ∙ sym k
 one_told side Cut a b h k = absurd h
 one_told side (Stopped halt) a b h k = h ∙ sym k
 
-one_by_test : SessionAlone → (contents : Contents) (bytes : List ℕ) (side : Colour) (p : Board)
+one_by_test : SessionAlone → (contents : Contents) (bytes : ℕ → List ℕ) (side : Colour) (p : Board)
     (files : Files) (input : List ℕ) (a b : Answer) (inside : Bool)
     → MatchBool inside (IsPlayed contents bytes side p files input a)
     (a ≡ says (status_of refusals.Outside) (refusal_line refusals.Outside) files)
@@ -59,7 +60,7 @@ one_by_test : SessionAlone → (contents : Contents) (bytes : List ℕ) (side : 
     (b ≡ says (status_of refusals.Outside) (refusal_line refusals.Outside) files) → b ≡ a
 one_by_test alone contents bytes side p files input a b true h k =
     let code = code_at contents bytes side p in
-    let same = alone contents.rules (value_by contents.rules) side (kept_codes contents bytes side)
+    let same = alone contents.rules (value_by contents.rules) side (codes_later contents bytes side)
     (Num contents.rules.groups p) input k.plies h.plies k.end h.end k.left h.left k.session
     h.session in
     let told = one_told side h.end k.answer h.answer
@@ -73,29 +74,31 @@ one_by_test alone contents bytes side p files input a b true h k =
     files) told ∙ sym h.told
 one_by_test alone contents bytes side p files input a b false h k = k ∙ sym h
 
-one_by : SessionAlone → (x : Result Contents TableFault) (bytes : List ℕ) (side : Colour)
+one_by : SessionAlone → (x : Result Contents TableFault) (bytes : ℕ → List ℕ) (side : Colour)
     (p : Board) (files : Files) (input : List ℕ) (a b : Answer)
     → IsPlayedBy x bytes side p files input a → IsPlayedBy x bytes side p files input b → b ≡ a
 one_by alone (Ok contents) bytes side p files input a b h k =
     one_by_test alone contents bytes side p files input a b (is_member contents.rules.groups p) h k
 one_by alone (Err fault) bytes side p files input a b h k = k ∙ sym h
 
-module _ (there : SessionThere) (alone : SessionAlone) (laws : SessionLaws) where
+module _ (there : SessionThere) (alone : SessionAlone) (laws : SessionLaws)
+    (later : ℕ → Files) where
   one_at : (table : List ℕ) (side : Colour) (p : Board) (files : Files) (input : List ℕ)
-      → HasOneAnswer (λ a. IsPlayedAt table side p files input a)
+      → HasOneAnswer (λ a. IsPlayedAt later table side p files input a)
   one_at table side p files input =
-      let some = some_at there table side p files input in (
+      let some = some_at there later table side p files input in (
         some.a,
         some.answer,
         λ b k. one_by alone (opened (table_format Plain) (files table))
-            (bytes_at files table) side p files input some.a b some.answer k,
+            (held_later later table) side p files input some.a b some.answer k,
       )
 
-  playing_lawful : (table : List ℕ) (side : Colour) (p : Board) → IsLawful (playing_at table side p)
+  playing_lawful : (table : List ℕ) (side : Colour) (p : Board)
+      → IsLawful (playing_at later table side p)
   playing_lawful table side p = record {
     one = λ files input. one_at table side p files input;
-    means = λ files input a h. play_means laws table side p files input a h;
+    means = λ files input a h. play_means laws later table side p files input a h;
   }
 
-  pub play_lawful : (words : List (List ℕ)) → IsLawful (play_words words)
-  play_lawful words = words_lawful playing_at playing_lawful words
+  pub play_lawful : (words : List (List ℕ)) → IsLawful (play_words later words)
+  play_lawful words = words_lawful (playing_at later) playing_lawful words

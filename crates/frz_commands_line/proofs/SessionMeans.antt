@@ -14,6 +14,7 @@ use Rattle.frz_exits.specs.Books.{value_by}
 use Rattle.frz_exits.specs.Values.{lag_of}
 use Rattle.frz_index.specs.Members.{Member, Num}
 use Rattle.frz_arena.specs.Chess.{NeverForcesMate}
+use Rattle.frz_arena.specs.Counted.{counted}
 use Rattle.frz_arena.specs.WayEnds.{Wrong, NoBound, Mated, Stalemated, Exit, Cut, Stopped, EndsWon, EndsHeld}
 use Rattle.frz_game.specs.Bounds.{IsTableOf}
 use Rattle.frz_game.specs.Games.{chess, graph_by}
@@ -23,7 +24,8 @@ use Rattle.frz_store.specs.Files.{Files, bytes_at}
 use Rattle.frz_table.specs.declared.fault.TableFault.{TableFault}
 use Rattle.frz_table.specs.declared.kind.FileKind.TheVariants.{Plain}
 use Rattle.frz_table.specs.Opening.{Contents, opened, table_format}
-use Rattle.frz_check.specs.Kept.{kept_codes}
+use Rattle.frz_commands_line.specs.Later.{held_later}
+use Rattle.frz_commands_line.specs.LineOf.{codes_later}
 use Rattle.frz_answer.specs.declared.status.Status.{Status}
 use Rattle.frz_answer.specs.Answers.{Answer, says}
 use Rattle.frz_prelude.specs.TableFiles.{OpensAs}
@@ -45,46 +47,49 @@ use Rattle.frz_commands_line.proofs.Meaning.{ByOpening, means_by}
 
 -- what the laws say of all sessions
 pub record SessionLaws : Type 0 where
-  pub few : (rules : RuleLines) (value : Board → Value) (side : Colour) (codes : List ℕ)
+  pub few : (rules : RuleLines) (value : Board → Value) (side : Colour) (codes : ℕ → List ℕ)
       (start n : ℕ) (input : List ℕ) (plies : List SessionPly) (end : EndOfSession) (left : Input)
-      → slice_index codes start ≡ 2 + 2 * n
+      → slice_index (codes 0) start ≡ 2 + 2 * n
       → IsSession rules value side codes start input plies end left → length plies ≤ n
-  pub won : (rules : RuleLines) (value : Board → Value) (side : Colour) (codes : List ℕ)
+  pub won : (rules : RuleLines) (value : Board → Value) (side : Colour) (codes : ℕ → List ℕ)
       (start n : ℕ) (input : List ℕ) (plies : List SessionPly) (end : EndOfSession) (left : Input)
-      → slice_index codes start ≡ 2 + 2 * n
+      → slice_index (codes 0) start ≡ 2 + 2 * n
       → IsSession rules value side codes start input plies end left
-      → EndsWon (graph_by rules value) side end
-  pub exit : (rules : RuleLines) (value : Board → Value) (side : Colour) (codes : List ℕ)
+      → EndsWon (counted (graph_by rules value)) side end
+  pub exit : (rules : RuleLines) (value : Board → Value) (side : Colour) (codes : ℕ → List ℕ)
       (start n : ℕ) (input : List ℕ) (plies : List SessionPly) (v : Value) (left : Input)
-      → slice_index codes start ≡ 2 + 2 * n → IsSession rules value side codes start input plies
+      → slice_index (codes 0) start ≡ 2 + 2 * n → IsSession rules value side codes start input plies
       (Exit v) left → length plies + lag_of v ≤ n
-  pub held : (rules : RuleLines) (value : Board → Value) (side : Colour) (codes : List ℕ)
+  pub held : (rules : RuleLines) (value : Board → Value) (side : Colour) (codes : ℕ → List ℕ)
       (start : ℕ) (input : List ℕ) (plies : List SessionPly) (end : EndOfSession) (left : Input)
-      → slice_index codes start ≡ 1 → IsSession rules value side codes start input plies end left
-      → EndsHeld (graph_by rules value) side end
-  pub right : (rules : RuleLines) (value : Board → Value) (side : Colour) (codes : List ℕ)
-      → IsTableOf rules value side codes
+      → slice_index (codes 0) start ≡ 1 → IsSession rules value side codes start input plies end left
+      → EndsHeld (counted (graph_by rules value)) side end
+  pub right : (rules : RuleLines) (value : Board → Value) (side : Colour) (codes : ℕ → List ℕ)
+      → ((k : ℕ) → IsTableOf rules value side (codes k))
       → (p : Board) → Member rules.groups p
-      → (input : List ℕ) (plies : List SessionPly) (number kept given : ℕ) (left : Input)
-      → IsSession rules value side codes (Num rules.groups p) input plies (Wrong number kept given)
+      → (input : List ℕ) (plies : List SessionPly) (at : ℕ × ℕ) (kept given : ℕ) (left : Input)
+      → IsSession rules value side codes (Num rules.groups p) input plies (Wrong at kept given)
       left → ⊥
   pub safe : (rules : RuleLines) (value : Board → Value) → AreTrueExits rules value
-      → (side : Colour) (codes : List ℕ) → IsTableOf rules value side codes
+      → (side : Colour) (codes : ℕ → List ℕ) → ((k : ℕ) → IsTableOf rules value side (codes k))
       → (start : ℕ) (input : List ℕ) (plies : List SessionPly) (end : EndOfSession) (left : Input)
       → IsSession rules value side codes start input plies end left
       → (x : SessionPly) → Contains plies x → (p : Board) (m : Step)
-      → position_at rules.groups x.from ≡ Some p
+      → position_at rules.groups x.from.1 ≡ Some p
       → slice_get (legal_moves_of p) x.place ≡ Some m
       → NeverForcesMate chess (other_of side) (after p m)
 
-module _ (laws : SessionLaws) (name : List ℕ) (side : Colour) (p : Board) (files : Files)
-    (input : List ℕ) where
+module _ (laws : SessionLaws) (later : ℕ → Files) (name : List ℕ) (side : Colour) (p : Board)
+    (files : Files) (input : List ℕ) where
+  abbrev held : ℕ → List ℕ
+  held = held_later later name
+
   -- a session from a win or a hold
-  plays_win : (has : HasSession name side p files input) (n : ℕ) → start_code has ≡ 2 + 2 * n
+  plays_win : (has : HasSession later name side p files input) (n : ℕ) → start_code has ≡ 2 + 2 * n
       → PlaysWin has.contents.rules side n has.plies has.end
   plays_win has n e =
       let rules = has.contents.rules in
-      let codes = kept_codes has.contents has.bytes side in
+      let codes = codes_later has.contents held side in
       let start = Num rules.groups p in
       record {
         few = laws.few rules (value_by rules) side codes start n input has.plies has.end has.left e
@@ -97,28 +102,28 @@ module _ (laws : SessionLaws) (name : List ℕ) (side : Colour) (p : Board) (fil
             x has.left) is has.session);
       }
 
-  plays_hold : (has : HasSession name side p files input) → start_code has ≡ 1
+  plays_hold : (has : HasSession later name side p files input) → start_code has ≡ 1
       → PlaysHold has.contents.rules side has.end
   plays_hold has e =
       let rules = has.contents.rules in
-      laws.held rules (value_by rules) side (kept_codes has.contents has.bytes side)
+      laws.held rules (value_by rules) side (codes_later has.contents held side)
       (Num rules.groups p) input has.plies has.end has.left e has.session
 
-  is_safe : (has : HasSession name side p files input) → IsExactFile has
+  is_safe : (has : HasSession later name side p files input) → IsExactFile has
       → AreTrueExits has.contents.rules (value_by has.contents.rules)
       → IsSafe has.contents.rules side has.plies
   is_safe has one true_exits =
       let rules = has.contents.rules in
-      laws.safe rules (value_by rules) true_exits side (kept_codes has.contents has.bytes side)
-      (table_kept has.contents has.bytes has.open_file.opens one side) (Num rules.groups p) input
+      laws.safe rules (value_by rules) true_exits side (codes_later has.contents held side)
+      (table_kept has.contents has.bytes has.open_file.opens held one side) (Num rules.groups p) input
       has.plies has.end has.left has.session
 
   -- by how the session ends
-  abbrev Says : HasSession name side p files input → Result SessionEnd PlayFault → Type 0
-  Says has answer = MeansStatus name side p files input (session_status answer)
+  abbrev Says : HasSession later name side p files input → Result SessionEnd PlayFault → Type 0
+  Says has answer = MeansStatus later name side p files input (session_status answer)
       (played_text side (start_code has) has.plies has.end answer)
 
-  own_end : (has : HasSession name side p files input) (last : SessionEnd)
+  own_end : (has : HasSession later name side p files input) (last : SessionEnd)
       → Tells side has.end (Ok last) → Says has (Ok last)
   own_end has last tells = record {
     has = has;
@@ -127,23 +132,23 @@ module _ (laws : SessionLaws) (name : List ℕ) (side : Colour) (p : Board) (fil
     win = λ n e. plays_win has n e;
     hold = λ e. plays_hold has e;
     where_exact =
-        λ one. bound_kept has.contents has.bytes has.open_file.opens one side p has.inside;
+        λ one. bound_kept has.contents has.bytes has.open_file.opens held one side p has.inside;
     safe = λ one true_exits. is_safe has one true_exits;
   }
 
   -- an answer that is told is one of these
-  as_told : (has : HasSession name side p files input) (answer given : Result SessionEnd PlayFault)
+  as_told : (has : HasSession later name side p files input) (answer given : Result SessionEnd PlayFault)
       → answer ≡ given → Says has given → Says has answer
   as_told has answer given e says =
       subst (λ (r : Result SessionEnd PlayFault). Says has r) (sym e) says
 
-  tells_end : (has : HasSession name side p files input) (end : EndOfSession)
+  tells_end : (has : HasSession later name side p files input) (end : EndOfSession)
       (answer : Result SessionEnd PlayFault) → has.end ≡ end → Tells side end answer
       → Tells side has.end answer
   tells_end has end answer is tells =
       subst (λ (x : EndOfSession). Tells side x answer) (sym is) tells
 
-  says_why : (has : HasSession name side p files input) (halt : Halt) (why : Why) → halt.why ≡ why
+  says_why : (has : HasSession later name side p files input) (halt : Halt) (why : Why) → halt.why ≡ why
       → has.end ≡ Stopped halt → (answer : Result SessionEnd PlayFault) → answer ≡ why_told halt.why
       → Says has answer
   says_why has halt Ended e is answer tells =
@@ -163,25 +168,25 @@ module _ (laws : SessionLaws) (name : List ℕ) (side : Colour) (p : Board) (fil
         };
       })
 
-  says_end : (has : HasSession name side p files input) (end : EndOfSession) → has.end ≡ end
+  says_end : (has : HasSession later name side p files input) (end : EndOfSession) → has.end ≡ end
       → (answer : Result SessionEnd PlayFault) → Tells side end answer → Says has answer
-  says_end has (Wrong number kept given) is answer tells =
+  says_end has (Wrong at kept given) is answer tells =
       let fault : PlayFault = plays.Line
-      (faults.Wrong (record { side = side; number = number; kept = kept; given = given })) in
+      (faults.Wrong (record { side = side; number = at.1; kept = kept; given = given })) in
       as_told has answer (Err fault) tells (record {
         has = has;
         fault = fault;
         ends = record {
-          tells = tells_end has (Wrong number kept given) (Err fault) is refl;
+          tells = tells_end has (Wrong at kept given) (Err fault) is refl;
           told = refl;
         };
-        wrong = (number, kept, given, is);
+        wrong = (at, kept, given, is);
         not_exact = λ one.
             let rules = has.contents.rules in
-            let codes = kept_codes has.contents has.bytes side in
+            let codes = codes_later has.contents held side in
             laws.right rules (value_by rules) side codes
-            (table_kept has.contents has.bytes has.open_file.opens one side) p has.inside input
-            has.plies number kept given has.left
+            (table_kept has.contents has.bytes has.open_file.opens held one side) p has.inside input
+            has.plies at kept given has.left
             (subst (λ (x : EndOfSession). IsSession rules (value_by rules) side codes
             (Num rules.groups p) input has.plies x has.left) is has.session);
       })
@@ -208,16 +213,16 @@ module _ (laws : SessionLaws) (name : List ℕ) (side : Colour) (p : Board) (fil
   -- an answer that is said in full, with what its status says
   means_so : (a : Answer) (status : Status) (text : List ℕ) (taken : ℕ) → taken ≤ length input
       → a ≡ record { status = status; text = text; files = files; taken = taken }
-      → MeansStatus name side p files input status text → MeansPlay name side p files input a
+      → MeansStatus later name side p files input status text → MeansPlay later name side p files input a
   means_so a status text taken few e means =
-      subst (λ (x : Answer). MeansPlay name side p files input x) (sym e)
+      subst (λ (x : Answer). MeansPlay later name side p files input x) (sym e)
       (record { same = refl; few = few; says = means })
 
   played_means : (a : Answer) (bytes : List ℕ) (contents : Contents)
       → OpensAs name files bytes contents → Member contents.rules.groups p
-      → IsPlayed contents bytes side p files input a → MeansPlay name side p files input a
+      → IsPlayed contents held side p files input a → MeansPlay later name side p files input a
   played_means a bytes contents open_file inside played =
-      let has : HasSession name side p files input = record {
+      let has : HasSession later name side p files input = record {
         bytes = bytes;
         contents = contents;
         open_file = open_file;
@@ -233,16 +238,16 @@ module _ (laws : SessionLaws) (name : List ℕ) (side : Colour) (p : Board) (fil
       (says_end has played.end refl played.answer played.tells)
 
   played_so : (a : Answer) (x : Result Contents TableFault) (bytes : List ℕ)
-      → IsPlayedBy x bytes side p files input a
-      → ByOpening p files a (λ contents bytes. IsPlayed contents bytes side p files input a) x bytes
+      → IsPlayedBy x held side p files input a
+      → ByOpening p files a (λ contents bytes. IsPlayed contents held side p files input a) x bytes
   played_so a (Ok contents) bytes h = h
   played_so a (Err fault) bytes h = h
 
-  pub play_means : (a : Answer) → IsPlayedAt name side p files input a
-      → MeansPlay name side p files input a
+  pub play_means : (a : Answer) → IsPlayedAt later name side p files input a
+      → MeansPlay later name side p files input a
   play_means a h =
-      means_by name p files a (λ contents bytes. IsPlayed contents bytes side p files input a)
-      (MeansStatus name side p files input)
+      means_by name p files a (λ contents bytes. IsPlayed contents held side p files input a)
+      (MeansStatus later name side p files input)
       (λ status text e means. means_so a status text 0 (omega arith) e means) (λ text e. e)
       (λ text e. e) (λ text e. inl e) (played_means a) (files name) refl
       (played_so a (opened (table_format Plain) (files name)) (bytes_at files name) h)

@@ -7,31 +7,33 @@ use Rattle.frz_game.specs.Games.{graph_by}
 use Rattle.frz_game.specs.Numbers.{is_member}
 use Rattle.frz_exits.specs.Books.{value_by}
 use Rattle.frz_index.specs.Members.{Num}
-use Rattle.frz_store.specs.Files.{Files, bytes_at}
+use Rattle.frz_store.specs.Files.{Files}
 use Rattle.frz_table.specs.declared.fault.TableFault.{TableFault}
 use Rattle.frz_table.specs.declared.kind.FileKind.TheVariants.{Plain}
 use Rattle.frz_table.specs.Opening.{Contents, opened, table_format}
-use Rattle.frz_check.specs.Kept.{kept_codes}
 use Rattle.frz_answer.specs.Answers.{Answer, says, SomeAnswer}
 use Rattle.frz_prelude.specs.Refusals.{status_of, refusal_line}
 use Rattle.frz_prelude.specs.declared.refused.Refused.TheVariants as refusals
 use Rattle.frz_play.specs.Reading as reading
 use Rattle.frz_play.specs.Sessions.{EndOfSession, IsSession}
-use Rattle.frz_commands_line.specs.LineOf.{code_at}
+use Rattle.frz_commands_line.specs.Later.{held_later}
+use Rattle.frz_commands_line.specs.LineOf.{code_at, codes_later}
 use Rattle.frz_commands_line.specs.SessionOf.{session_answer, IsPlayed, IsPlayedIn, IsPlayedBy, IsPlayedAt, SessionComes}
 use Rattle.frz_prelude.proofs.Lemmas.{some_refusal}
 use Rattle.frz_commands_line.proofs.SessionSeen.{SessionThere}
 use Rattle.frz_commands_line.proofs.SessionTexts.{answered_at, never_cut, session_said}
 
-abbrev pub played_by : Colour → Board → Result Contents TableFault → List ℕ → Files → List ℕ
-    → Answer → Type 0
-played_by side p x bytes files input a = IsPlayedBy x bytes side p files input a
+abbrev pub played_by : (later : ℕ → Files) → Colour → Board → (name : List ℕ)
+    → Result Contents TableFault → Files → List ℕ → Answer → Type 0
+played_by later side p name x files input a =
+    IsPlayedBy x (held_later later name) side p files input a
 
-abbrev pub session_comes : Colour → Board → (bytes input : List ℕ) → Contents → List ℕ → Type 0
-session_comes side p bytes input = SessionComes bytes side p input
+abbrev pub session_comes : (later : ℕ → Files) → Colour → Board → (name input : List ℕ) → Contents
+    → List ℕ → Type 0
+session_comes later side p name input = SessionComes (held_later later name) side p input
 
 -- there is an answer
-some_in : SessionThere → (contents : Contents) (bytes : List ℕ) (side : Colour) (p : Board)
+some_in : SessionThere → (contents : Contents) (bytes : ℕ → List ℕ) (side : Colour) (p : Board)
     (files : Files) (input : List ℕ)
     → SomeAnswer (λ a. IsPlayedIn contents bytes side p files input a)
 some_in there contents bytes side p files input = by_test (is_member contents.rules.groups p)
@@ -41,7 +43,7 @@ some_in there contents bytes side p files input = by_test (is_member contents.ru
         (a ≡ says (status_of refusals.Outside) (refusal_line refusals.Outside) files))
     by_test true =
         let rules = contents.rules in
-        let codes = kept_codes contents bytes side in
+        let codes = codes_later contents bytes side in
         let start = Num rules.groups p in
         let s = there rules (value_by rules) side codes start input in
         let final = answered_at side s.1
@@ -65,14 +67,16 @@ some_in there contents bytes side p files input = by_test (is_member contents.ru
         }
     by_test false = some_refusal refusals.Outside files
 
-some_by : SessionThere → (x : Result Contents TableFault) (bytes : List ℕ) (side : Colour)
+some_by : SessionThere → (x : Result Contents TableFault) (bytes : ℕ → List ℕ) (side : Colour)
     (p : Board) (files : Files) (input : List ℕ)
     → SomeAnswer (λ a. IsPlayedBy x bytes side p files input a)
 some_by there (Ok contents) bytes side p files input =
     some_in there contents bytes side p files input
 some_by there (Err fault) bytes side p files input = some_refusal (refusals.Table fault) files
 
-pub some_at : SessionThere → (table : List ℕ) (side : Colour) (p : Board) (files : Files)
-    (input : List ℕ) → SomeAnswer (λ a. IsPlayedAt table side p files input a)
-some_at there table side p files input = some_by there (opened (table_format Plain) (files table))
-    (bytes_at files table) side p files input
+pub some_at : SessionThere → (later : ℕ → Files) (table : List ℕ) (side : Colour) (p : Board)
+    (files : Files) (input : List ℕ)
+    → SomeAnswer (λ a. IsPlayedAt later table side p files input a)
+some_at there later table side p files input =
+    some_by there (opened (table_format Plain) (files table)) (held_later later table) side p files
+    input

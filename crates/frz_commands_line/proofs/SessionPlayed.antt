@@ -1,13 +1,12 @@
 -- How `play` ends by an open table.
-use Rattle.std.proofs.Common.{◌≡◌, ◌↔◌, refl, sym, ap, subst, ◌∙◌, ℕ, ◌+◌, ◌-◌, ◌≤◌, List, [], ◌++◌, length, Option, Result, Ok, Err, IfSome, arith, append_assoc, append-nil, length-append}
-use Rattle.std.specs.Prelude.{IsSome}
+use Rattle.std.proofs.Common.{◌≡◌, ◌↔◌, refl, sym, ap, subst, ◌∙◌, ℕ, ◌+◌, ◌-◌, ◌≤◌, List, [], ◌++◌, length, Result, Ok, Err, IfSome, arith, append_assoc, append-nil, length-append}
 use Rattle.frz_board.specs.declared.man.Colour.{Colour}
 use Rattle.frz_board.specs.Boards.{Board}
 use Rattle.frz_index.specs.Members.{Member}
-use Rattle.frz_store.specs.Files.{Files, bytes_at}
+use Rattle.frz_store.specs.Files.{Files}
 use Rattle.frz_store.specs.Told.{StoreTold, SourceTold, SinkTold, StoreQuiet, StoreFine}
 use Rattle.frz_table.specs.Opening.{contents_of}
-use Rattle.frz_table.specs.Tables.{Table, Carries}
+use Rattle.frz_table.specs.Tables.{Table}
 use Rattle.frz_answer.specs.declared.status.Status.{Status}
 use Rattle.frz_answer.specs.declared.fault.Fault.{Fault}
 use Rattle.frz_answer.specs.declared.fault.Fault.TheVariants as stops
@@ -23,7 +22,6 @@ use Rattle.frz_answer.proofs.Lemmas.{as_given, fine_same, quiet_same, said, stop
 use Rattle.frz_prelude.specs.Refusals.{status_of, refusal_line}
 use Rattle.frz_prelude.specs.declared.refused.Refused.TheVariants as refusals
 use Rattle.frz_line.specs.declared.end.LineFault.TheVariants as faults
-use Rattle.frz_line.specs.Kept.{told_codes}
 use Rattle.frz_play.specs.declared.end.PlayFault.{PlayFault}
 use Rattle.frz_play.specs.declared.end.PlayFault.TheVariants as plays
 use Rattle.frz_play.specs.declared.end.SessionEnd.{SessionEnd}
@@ -32,12 +30,12 @@ use Rattle.frz_play.specs.Faults.{WroteBy, StoreCause, InputCause, TookBytes, Ma
 use Rattle.frz_play.specs.PlaySession.{TellsSession}
 use Rattle.frz_play.specs.Sessions.{EndOfSession}
 use Rattle.frz_commands_line.specs.SessionEnds.{session_status, session_naming, EndsSession}
-use Rattle.frz_commands_line.specs.LineOf.{code_at}
+use Rattle.frz_commands_line.specs.Later.{held_later}
+use Rattle.frz_commands_line.specs.LineOf.{code_at, codes_later}
 use Rattle.frz_commands_line.specs.SessionOf.{SessionComes, played_text, session_answer, IsSessionBy}
 use Rattle.frz_commands_line.specs.Playing.{playing_in}
 use Rattle.frz_game.specs.Games.{graph_by}
 use Rattle.frz_exits.specs.Books.{value_by}
-use Rattle.frz_check.specs.Kept.{kept_codes as codes_in}
 use Rattle.frz_index.specs.Members.{Num}
 use Rattle.frz_play.specs.Reading.{opened}
 use Rattle.frz_commands_line.proofs.Behind.{cut_within}
@@ -47,14 +45,15 @@ use Rattle.frz_commands_line.proofs.SessionTexts.{Answered, answered_at, never_c
 use Rattle.frz_commands_line.proofs.Taken.{rest_after, Split, found_in, after_lines, rest_left}
 
 -- what was written of the session and taken of the input
-abbrev pub Played : Table → Colour → Board → Option Files → Result SessionEnd PlayFault → SourceTold
+abbrev pub Played : Table → (later : ℕ → Files) → Colour → Board → Result SessionEnd PlayFault → SourceTold
     → SourceTold → SinkTold → SinkTold → (before now : Spent) → Type 0
-Played table side p files result source gone old new before now =
+Played table later side p result source gone old new before now =
     (text : List ℕ) × (took : List ℕ) × IsLines text × WroteBy result text old new
     × TookBytes took source gone
-    × IfSome (told_codes table side files)
-    (λ codes. (whole : List ℕ) × MayHold source whole
-    × TellsSession table.rules side codes p whole took text result before now)
+    × ((whole : List ℕ) × MayHold source whole
+    × TellsSession table.rules side
+    (codes_later (contents_of table) (held_later later table.name) side) p whole took text result
+    before now)
 
 -- neither count of the input has fallen
 input_later : (result : Result SessionEnd PlayFault) (source gone : SourceTold)
@@ -64,12 +63,14 @@ input_later (Err (plays.Line fault)) source gone cause = omega (arith, cause)
 input_later (Err plays.Input) source gone cause = cause.later
 input_later (Err (plays.Limit limit)) source gone cause = omega (arith, cause)
 
-module _ (there : SessionThere) (table : Table) (side : Colour) (p : Board) (store left : StoreTold)
+module _ (there : SessionThere) (later_files : ℕ → Files) (table : Table) (side : Colour) (p : Board) (store left : StoreTold)
     (source gone : SourceTold) (out mid taken : SinkTold) (before now : ℕ)
-    (quiet : StoreQuiet store left) (later : before ≤ now)
-    (carried : Carries store.files table) where
+    (quiet : StoreQuiet store left) (later : before ≤ now) where
   abbrev job : Job
-  job = playing_in table side p
+  job = playing_in later_files table side p
+
+  abbrev held : ℕ → List ℕ
+  held = held_later later_files table.name
 
   abbrev old : World
   old = world store source out before
@@ -84,21 +85,20 @@ module _ (there : SessionThere) (table : Table) (side : Colour) (p : Board) (sto
   abbrev played : World
   played = world left gone mid now
 
-  abbrev code_in : Files → ℕ
-  code_in m = code_at (contents_of table) (bytes_at m table.name) side p
+  abbrev code_in : ℕ
+  code_in = code_at (contents_of table) held side p
 
   module _ (inside : Member table.rules.groups p) (text took : List ℕ) (lines : IsLines text)
       (bytes : TookBytes took source gone) (fell : source.faults ≤ gone.faults) where
-    abbrev Session : Result SessionEnd PlayFault → Files → Type 0
-    Session result m = SessionSo (contents_of table) (bytes_at m table.name) side p text took result
+    abbrev Session : Result SessionEnd PlayFault → Type 0
+    Session result = SessionSo (contents_of table) held side p text took result
         source (spent_by store before) (spent_by left now)
 
     abbrev TellsIt : Result SessionEnd PlayFault → Type 0
     TellsIt result =
-        IfSome (told_codes table side store.files)
-        (λ codes. (whole : List ℕ) × MayHold source whole
-        × TellsSession table.rules side codes p whole took text result (spent_by store before)
-        (spent_by left now))
+        (whole : List ℕ) × MayHold source whole
+        × TellsSession table.rules side (codes_later (contents_of table) held side) p whole took text
+        result (spent_by store before) (spent_by left now)
 
     came : TookText text out mid → Came text took old between
     came wrote = record {
@@ -132,41 +132,40 @@ module _ (there : SessionThere) (table : Table) (side : Colour) (p : Board) (sto
       taken = refl;
     }
 
-    so_in : (result : Result SessionEnd PlayFault) → TellsIt result → IsSome store.files
-        → (m : Files) → IfSome store.files (λ told. told ≡ m) → Session result m
-    so_in result tells sees m agrees =
-        session_so there table side p text took result source (spent_by store before)
-        (spent_by left now) inside store.files m sees agrees carried tells
+    so_in : (result : Result SessionEnd PlayFault) → TellsIt result → Session result
+    so_in result tells =
+        session_so there (contents_of table) held side p text took result source
+        (spent_by store before) (spent_by left now) inside tells
 
-    abbrev rest_of : (result : Result SessionEnd PlayFault) (m : Files) → Session result m → List ℕ
+    abbrev rest_of : (result : Result SessionEnd PlayFault) (m : Files) → Session result → List ℕ
     rest_of result m so = so.of.unread ++ so.left.left
 
-    split_in : (result : Result SessionEnd PlayFault) → TellsIt result → IsSome store.files
-        → (m : Files) → IfSome store.files (λ told. told ≡ m) → Split took source.left
-    split_in result tells sees m agrees =
-        let so = so_in result tells sees m agrees in
+    split_in : (result : Result SessionEnd PlayFault) → TellsIt result → (m : Files)
+        → Split took source.left
+    split_in result tells m =
+        let so = so_in result tells in
         record { input = so.input; rest = rest_of result m so; may = so.may; split = so.of.takes }
 
     -- what was spent is within the costs of the session
-    session_costs : (result : Result SessionEnd PlayFault) (m : Files) (so : Session result m)
+    session_costs : (result : Result SessionEnd PlayFault) (m : Files) (so : Session result)
         (a : Answer) → job.costs m so.input a (spent old) (spent played)
     session_costs result m so a =
         costs_inside (contents_of table) p
-        (SessionComes (bytes_at m table.name) side p so.input (contents_of table)) (spent old)
+        (SessionComes held side p so.input (contents_of table)) (spent old)
         (spent played) inside so.costs
 
-    rest_costs : (result : Result SessionEnd PlayFault) (m : Files) (so : Session result m)
+    rest_costs : (result : Result SessionEnd PlayFault) (m : Files) (so : Session result)
         (a : Answer) → job.costs m (took ++ rest_of result m so) a (spent old) (spent played)
     rest_costs result m so a = subst (λ (i : List ℕ). job.costs m i a (spent old) (spent played))
         (sym so.of.takes) (session_costs result m so a)
 
     -- an answer is this one of the session
-    is_answer : (result : Result SessionEnd PlayFault) (m : Files) (so : Session result m)
+    is_answer : (result : Result SessionEnd PlayFault) (m : Files) (so : Session result)
         (answer : Result SessionEnd PlayFault) → Tells side so.end answer → (a : Answer)
-        → a ≡ session_answer side (code_in m) so.input so.plies so.end so.left answer m
+        → a ≡ session_answer side code_in so.input so.plies so.end so.left answer m
         → job.answers m so.input a
     is_answer result m so answer tells a e =
-        played_inside (contents_of table) (bytes_at m table.name) side p m so.input a inside
+        played_inside (contents_of table) held side p m so.input a inside
         (record {
           plies = so.plies;
           end = so.end;
@@ -178,7 +177,7 @@ module _ (there : SessionThere) (table : Table) (side : Colour) (p : Board) (sto
         })
 
     -- how many bytes the session takes
-    many_taken : (result : Result SessionEnd PlayFault) (m : Files) (so : Session result m)
+    many_taken : (result : Result SessionEnd PlayFault) (m : Files) (so : Session result)
         → length took + length so.of.unread ≡ length so.input - length so.left.left
     many_taken result m so =
         let all = ap length so.of.takes in
@@ -190,19 +189,19 @@ module _ (there : SessionThere) (table : Table) (side : Colour) (p : Board) (sto
     this m status line many = record { status = status; text = line; files = m; taken = many }
 
     -- an answer behind what was written and taken is that of the session
-    behind_it : (result : Result SessionEnd PlayFault) (m : Files) (so : Session result m)
+    behind_it : (result : Result SessionEnd PlayFault) (m : Files) (so : Session result)
         (answer : Result SessionEnd PlayFault) → Tells side so.end answer
         → (line : List ℕ) (many : ℕ)
-        → text ++ line ≡ played_text side (code_in m) so.plies so.end answer
+        → text ++ line ≡ played_text side code_in so.plies so.end answer
         → many ≡ length so.of.unread
         → job.answers m (took ++ rest_of result m so)
         (behind text (length took) (this m (session_status answer) line many))
     behind_it result m so answer tells line many texts unread =
-        let whole = played_text side (code_in m) so.plies so.end answer in
+        let whole = played_text side code_in so.plies so.end answer in
         let takes : length took + many ≡ length so.input - length so.left.left =
         ap (λ n. length took + n) unread ∙ many_taken result m so in
         let same : this m (session_status answer) (text ++ line) (length took + many)
-        ≡ session_answer side (code_in m) so.input so.plies so.end so.left answer m =
+        ≡ session_answer side code_in so.input so.plies so.end so.left answer m =
         ap (λ (l : List ℕ). this m (session_status answer) l (length took + many)) texts
         ∙ ap (λ n. this m (session_status answer) whole n) takes in
         subst (λ (i : List ℕ). job.answers m i
@@ -210,7 +209,7 @@ module _ (there : SessionThere) (table : Table) (side : Colour) (p : Board) (sto
         (is_answer result m so answer tells
         (this m (session_status answer) (text ++ line) (length took + many)) same)
 
-    left_told : (result : Result SessionEnd PlayFault) (m : Files) (so : Session result m)
+    left_told : (result : Result SessionEnd PlayFault) (m : Files) (so : Session result)
         → IfSome gone.left (λ told. told ≡ rest_of result m so)
     left_told result m so = rest_left took (rest_of result m so) so.input source.left gone.left
         so.of.takes bytes.behind so.may
@@ -226,15 +225,15 @@ module _ (there : SessionThere) (table : Table) (side : Colour) (p : Board) (sto
     all_told result end tells took_text fine unfailed own said_it whole =
         after_lines job text took end old between (world left gone taken now) (came took_text) lines
         refl refl refl
-        (λ sees m agrees. split_in result tells sees m agrees)
+        (λ sees m agrees. split_in result tells m)
         (λ m i a costs. costs)
         (said (rest_after job text took) (session_status result) (session_naming result) end between
         played taken quiet_between
         (record { store = fine; input = unfailed; out = refl }) own said_it
         (λ sees m i agrees.
-        let so = so_in result tells sees m agrees.store in
+        let so = so_in result tells in
         let ended = whole so.end so.of.rest so.of.unread so.of.finishes in
-        let texts : text ++ session_naming result ≡ played_text side (code_in m) so.plies so.end
+        let texts : text ++ session_naming result ≡ played_text side code_in so.plies so.end
         result =
         ap (λ (l : List ℕ). l ++ session_naming result)
         (sym (append-nil text) ∙ ap (λ (l : List ℕ). text ++ l) (sym ended.1) ∙ so.of.begins) in
@@ -248,19 +247,19 @@ module _ (there : SessionThere) (table : Table) (side : Colour) (p : Board) (sto
         }))
 
     -- what the session answers at its end
-    answer_in : (result : Result SessionEnd PlayFault) (m : Files) (so : Session result m)
+    answer_in : (result : Result SessionEnd PlayFault) (m : Files) (so : Session result)
         → Answered side so.end
     answer_in result m so =
         answered_at side so.end
         (λ cut. never_cut (graph_by table.rules (value_by table.rules)) side
-        (codes_in (contents_of table) (bytes_at m table.name) side) 0 (opened so.input)
+        (codes_later (contents_of table) held side) 0 (opened so.input)
         (Num table.rules.groups p) so.plies so.left
-        (subst (λ (e : EndOfSession). IsSessionBy (contents_of table) (bytes_at m table.name) side p
+        (subst (λ (e : EndOfSession). IsSessionBy (contents_of table) held side p
         so.input so.plies e so.left) cut so.session))
 
-    rest_told : (result : Result SessionEnd PlayFault) (m : Files) (so : Session result m)
+    rest_told : (result : Result SessionEnd PlayFault) (m : Files) (so : Session result)
         (answer : Result SessionEnd PlayFault)
-        → text ++ (so.of.rest ++ session_naming answer) ≡ played_text side (code_in m) so.plies
+        → text ++ (so.of.rest ++ session_naming answer) ≡ played_text side code_in so.plies
         so.end answer
     rest_told result m so answer =
         sym (append_assoc text so.of.rest (session_naming answer))
@@ -275,12 +274,12 @@ module _ (there : SessionThere) (table : Table) (side : Colour) (p : Board) (sto
     stopped_short result fault tells took_text meets short =
         after_lines job text took (Stopped fault) old between played (came took_text) lines refl
         refl refl
-        (λ sees m agrees. split_in result tells sees m agrees)
+        (λ sees m agrees. split_in result tells m)
         (λ m i a costs. costs)
         (stopped (rest_after job text took) fault between played quiet_between
         (meets_rest fault meets)
         (λ sees m i agrees.
-        let so = so_in result tells sees m agrees.store in
+        let so = so_in result tells in
         let final = answer_in result m so in
         let answer = final.answer in
         let line = so.of.rest ++ session_naming answer in
@@ -312,10 +311,10 @@ module _ (there : SessionThere) (table : Table) (side : Colour) (p : Board) (sto
         quiet.unwritten bytes.behind failed
         (λ sees m i agrees.
         let result : Result SessionEnd PlayFault = Err (plays.Line faults.Output) in
-        let so = so_in result tells sees m agrees.store in
+        let so = so_in result tells in
         let final = answer_in result m so in
         let answer = final.answer in
-        let a = session_answer side (code_in m) so.input so.plies so.end so.left answer m in
+        let a = session_answer side code_in so.input so.plies so.end so.left answer m in
         let many = many_taken result m so in
         record {
           found = found_in job m i old so.input refl agrees.store so.may;
@@ -339,7 +338,7 @@ module _ (there : SessionThere) (table : Table) (side : Colour) (p : Board) (sto
       → ((result ≡ Err (plays.Line faults.Outside)) ↔ (Member table.rules.groups p → ⊥))
       → StoreCause result store left → InputCause result source gone
       → EndsSession result end mid taken
-      → Played table side p store.files result source gone out mid (spent_by store before)
+      → Played table later_files side p result source gone out mid (spent_by store before)
       (spent_by left now) → Ran job end old (world left gone taken now)
   session_ran inside (Ok last) end outside cause input ends w =
       all_told inside w.0 w.1 w.2 w.4 (input_later (Ok last) source gone input) (Ok last) end w.5
@@ -378,23 +377,26 @@ module _ (there : SessionThere) (table : Table) (side : Colour) (p : Board) (sto
       (input_later (Err (plays.Line faults.Output)) source gone input) w.5 w.3)
 
 -- the position is not in the set
-pub outside_ran : (table : Table) (side : Colour) (p : Board) (store : StoreTold)
+pub outside_ran : (later : ℕ → Files) (table : Table) (side : Colour) (p : Board)
+    (store : StoreTold)
     (source : SourceTold) (out taken : SinkTold) (steps : ℕ) (end : End)
     → (Member table.rules.groups p → ⊥)
     → Said (status_of refusals.Outside) (refusal_line refusals.Outside) end out taken
-    → Ran (playing_in table side p) end (world store source out steps)
+    → Ran (playing_in later table side p) end (world store source out steps)
     (world store source taken steps)
-outside_ran table side p store source out taken steps end none said_it =
-    said (playing_in table side p) (status_of refusals.Outside) (refusal_line refusals.Outside) end
+outside_ran later table side p store source out taken steps end none said_it =
+    let held = held_later later table.name in
+    said (playing_in later table side p) (status_of refusals.Outside)
+    (refusal_line refusals.Outside) end
     (world store source out steps) (world store source out steps) taken
     (quiet_same (world store source out steps)) (fine_same (world store source out steps)) refl
     said_it
     (λ sees m i agrees. record {
-      found = as_given (playing_in table side p) m i (world store source out steps) agrees;
-      answer = played_outside (contents_of table) (bytes_at m table.name) side p m i
+      found = as_given (playing_in later table side p) m i (world store source out steps) agrees;
+      answer = played_outside (contents_of table) held side p m i
           (says (status_of refusals.Outside) (refusal_line refusals.Outside) m) none refl;
       costs = costs_outside (contents_of table) p
-          (SessionComes (bytes_at m table.name) side p i (contents_of table)) (spent_by store steps)
+          (SessionComes held side p i (contents_of table)) (spent_by store steps)
           (spent_by store steps) none
           (record { steps = omega arith; calls = omega arith; asked = omega arith });
     })

@@ -27,19 +27,20 @@ use Rattle.frz_play.specs.Faults.{MayHold}
 use Rattle.frz_play.specs.PlaySession.{PlayedOf, TellsSession}
 use Rattle.frz_play.specs.Reading.{Input}
 use Rattle.frz_play.specs.Sessions.{SessionPly, EndOfSession, IsSession}
-use Rattle.frz_commands_line.specs.LineOf.{code_at}
+use Rattle.frz_commands_line.specs.LineOf.{code_at, codes_later}
 use Rattle.frz_commands_line.specs.SessionOf.{IsSessionBy, SessionComes, IsPlayed, IsPlayedIn}
-use Rattle.frz_commands_line.proofs.Seen.{not_member, of_file}
+use Rattle.frz_commands_line.proofs.Seen.{not_member}
 
 -- that there is a session from each number against each input
 abbrev pub SessionThere : Type 0
-SessionThere = (rules : RuleLines) (value : Board → Value) (side : Colour) (codes : List ℕ)
+SessionThere = (rules : RuleLines) (value : Board → Value) (side : Colour)
+    (codes : ℕ → List ℕ)
     (start : ℕ) (input : List ℕ)
     → (plies : List SessionPly) × (end : EndOfSession) × (left : Input)
     × IsSession rules value side codes start input plies end left
 
 -- the answer at a position of the set, and at one that is outside
-module _ (contents : Contents) (bytes : List ℕ) (side : Colour) (p : Board) (files : Files)
+module _ (contents : Contents) (bytes : ℕ → List ℕ) (side : Colour) (p : Board) (files : Files)
     (input : List ℕ) (a : Answer) where
   abbrev Refuses : Type 0
   Refuses = a ≡ says (status_of refusals.Outside) (refusal_line refusals.Outside) files
@@ -57,7 +58,7 @@ module _ (contents : Contents) (bytes : List ℕ) (side : Colour) (p : Board) (f
       (sym (not_member contents.rules.groups p none)) e
 
 -- the session of which this text was written and these bytes taken, with what was spent on it
-pub record SessionSo (contents : Contents) (bytes : List ℕ) (side : Colour) (p : Board)
+pub record SessionSo (contents : Contents) (bytes : ℕ → List ℕ) (side : Colour) (p : Board)
     (text took : List ℕ) (result : Result SessionEnd PlayFault) (source : SourceTold)
     (before now : Spent) : Type 0 where
   pub input : List ℕ
@@ -70,32 +71,28 @@ pub record SessionSo (contents : Contents) (bytes : List ℕ) (side : Colour) (p
   pub costs : (numbers : List ℕ) → SessionComes bytes side p input contents numbers
       → SpendsAt (graph_by contents.rules (value_by contents.rules)) 1 numbers before now
 
-module _ (there : SessionThere) (table : Table) (side : Colour) (p : Board) (text took : List ℕ)
+pub session_so : SessionThere → (contents : Contents) (bytes : ℕ → List ℕ) (side : Colour)
+    (p : Board) (text took : List ℕ)
     (result : Result SessionEnd PlayFault) (source : SourceTold) (before now : Spent)
-    (inside : Member table.rules.groups p) where
-  abbrev TellsIt : List ℕ → Type 0
-  TellsIt codes = (whole : List ℕ) × MayHold source whole
-      × TellsSession table.rules side codes p whole took text result before now
-
-  pub session_so : (o : Option Files) (m : Files) → IsSome o → IfSome o (λ f. f ≡ m)
-      → Carries o table → IfSome (told_codes table side o) TellsIt
-      → SessionSo (contents_of table) (bytes_at m table.name) side p text took result source before
-      now
-  session_so o m some e carried told =
-      let tells = of_file table side TellsIt o m some e carried told in
-      let session = there table.rules (value_by table.rules) side
-      (codes_at side table.text (table_size table) (bytes_at m table.name))
-      (Num table.rules.groups p) tells.0 in
-      let so = tells.2 inside session.0 session.1 session.2 session.3 in
-      let arena = graph_by table.rules (value_by table.rules) in
-      record {
-        input = tells.0;
-        may = tells.1;
-        plies = session.0;
-        end = session.1;
-        left = session.2;
-        session = session.3;
-        of = so.0;
-        costs = λ numbers comes. subst (λ (z : List ℕ). SpendsAt arena 1 z before now)
-            (sym comes.are) (tells.2 inside comes.plies comes.end comes.left comes.session).1;
-      }
+    → Member contents.rules.groups p
+    → ((whole : List ℕ) × MayHold source whole
+    × TellsSession contents.rules side (codes_later contents bytes side) p whole took text result
+    before now)
+    → SessionSo contents bytes side p text took result source before now
+session_so there contents bytes side p text took result source before now inside tells =
+    let rules = contents.rules in
+    let session = there rules (value_by rules) side (codes_later contents bytes side)
+    (Num rules.groups p) tells.0 in
+    let so = tells.2 inside session.0 session.1 session.2 session.3 in
+    let arena = graph_by rules (value_by rules) in
+    record {
+      input = tells.0;
+      may = tells.1;
+      plies = session.0;
+      end = session.1;
+      left = session.2;
+      session = session.3;
+      of = so.0;
+      costs = λ numbers comes. subst (λ (z : List ℕ). SpendsAt arena 1 z before now)
+          (sym comes.are) (tells.2 inside comes.plies comes.end comes.left comes.session).1;
+    }

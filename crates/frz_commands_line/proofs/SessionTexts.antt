@@ -15,7 +15,7 @@ use Rattle.frz_arena.specs.Codes.{is_failure}
 use Rattle.frz_arena.specs.LocalCodes.{local_code}
 use Rattle.frz_arena.specs.Plies.{LeadsTo}
 use Rattle.frz_arena.specs.WayEnds.{Wrong, NoBound, Mated, Stalemated, Exit, Cut, Stopped}
-use Rattle.frz_arena.specs.Ways.{Over, stage, stage_of, IsStopBy}
+use Rattle.frz_arena.specs.Ways.{Over, stage, stage_of, IsStopBy, IsWay}
 use Rattle.frz_line.specs.declared.end.LineFault.TheVariants as faults
 use Rattle.frz_line.specs.Texts.{exit_line}
 use Rattle.frz_play.specs.declared.end.PlayFault.{PlayFault}
@@ -34,15 +34,16 @@ use Rattle.frz_commands_line.specs.SessionOf.{played_text}
 use Rattle.frz_commands_line.proofs.Counting.{no_left, no_right}
 
 -- no session is cut
-no_cut : (node : Node) (arena : Arena Step ℕ Value) (side : Colour) (codes_of : List ℕ) (k p : ℕ)
+no_cut : (node : Node) (arena : Arena Step ℕ Value) (side : Colour) (codes_of : ℕ → List ℕ) (k : ℕ)
+    (p : ℕ × ℕ)
     → stage_of (session_player arena side codes_of) k p node ≡ Over Cut → ⊥
 no_cut Broken arena side codes_of k p e = cc
 no_cut (Mate mover) arena side codes_of k p e = cc
 no_cut (Stalemate mover) arena side codes_of k p e = cc
 no_cut (Going mover) arena side codes_of k p e = cc
 
-by_tests : (agrees starts : Bool) (arena : Arena Step ℕ Value) (side : Colour) (codes_of : List ℕ)
-    (k p kept given : ℕ) (node : Node)
+by_tests : (agrees starts : Bool) (arena : Arena Step ℕ Value) (side : Colour) (codes_of : ℕ → List ℕ)
+    (k : ℕ) (p : ℕ × ℕ) (kept given : ℕ) (node : Node)
     → (if agrees then
     (if starts then Over NoBound else stage_of (session_player arena side codes_of) k p node)
     else Over (Wrong p kept given)) ≡ Over Cut → ⊥
@@ -51,34 +52,44 @@ by_tests true false arena side codes_of k p kept given node e =
     no_cut node arena side codes_of k p e
 by_tests false starts arena side codes_of k p kept given node e = cc
 
-stage_goes : (arena : Arena Step ℕ Value) (side : Colour) (codes_of : List ℕ) (k p : ℕ)
+stage_goes : (arena : Arena Step ℕ Value) (side : Colour) (codes_of : ℕ → List ℕ) (k : ℕ)
+    (p : ℕ × ℕ)
     → stage (session_player arena side codes_of) k p ≡ Over Cut → ⊥
 stage_goes arena side codes_of k p e =
     let player = session_player arena side codes_of in
-    let given = local_code arena side player.entry p in
+    let given = local_code player.arena side player.entry p in
     by_tests (player.entry p == given) ((k == 0) && is_failure (player.entry p)) arena side codes_of
-    k p (player.entry p) given (arena.node p) e
+    k p (player.entry p) given (player.arena.node p) e
 
-no_stop : (own : Bool) (arena : Arena Step ℕ Value) (side : Colour) (codes_of : List ℕ) (s : Input)
-    (p : ℕ) (t : Input)
-    → IsStopBy {N = ℕ} {V = Value} own (session_player arena side codes_of).opponent s p Cut t → ⊥
+no_stop : (own : Bool) (arena : Arena Step ℕ Value) (side : Colour) (codes_of : ℕ → List ℕ) (s : Input)
+    (p : ℕ × ℕ) (t : Input)
+    → IsStopBy {N = ℕ × ℕ} {V = Value} own (session_player arena side codes_of).opponent s p Cut t → ⊥
 no_stop true arena side codes_of s p t h = h
 no_stop false arena side codes_of s p t h = let e = h.1 in cc
 
-cut_next : (next : Next ℕ Value) (P : ℕ → Type 0) (plies : List SessionPly) (left t : Input)
-    → ((q : ℕ) → P q → ⊥)
+cut_next : (next : Next (ℕ × ℕ) Value) (P : ℕ × ℕ → Type 0) (plies : List SessionPly) (left t : Input)
+    → ((q : ℕ × ℕ) → P q → ⊥)
     → LeadsTo P (λ v. (plies ≡ []) × (◌≡◌ {A = EndOfSession} Cut (Exit v)) × (t ≡ left)) next → ⊥
 cut_next (Inside q) P plies left t again w = again q w
 cut_next (Outside v) P plies left t again w = let e = w.1 in cc
 
-pub never_cut : (arena : Arena Step ℕ Value) (side : Colour) (codes_of : List ℕ) (k : ℕ) (s : Input)
-    (p : ℕ) (plies : List SessionPly) (t : Input) → GoesOn arena side codes_of k s p plies Cut t → ⊥
-never_cut arena side codes_of k s p [] t (inl h) = stage_goes arena side codes_of k p h.0
-never_cut arena side codes_of k s p [] t (inr h) =
+never_cut_at : (arena : Arena Step ℕ Value) (side : Colour) (codes_of : ℕ → List ℕ) (k : ℕ)
+    (s : Input) (p : ℕ × ℕ) (plies : List SessionPly) (t : Input)
+    → IsWay (session_player arena side codes_of) k s p plies Cut t → ⊥
+never_cut_at arena side codes_of k s p [] t (inl h) = stage_goes arena side codes_of k p h.0
+never_cut_at arena side codes_of k s p [] t (inr h) =
     no_stop (same_colour h.0 side) arena side codes_of s p t h.2
-never_cut arena side codes_of k s p (x ∷ plies) t h =
-    cut_next x.arm.next (λ q. GoesOn arena side codes_of (suc k) h.2.0 q plies Cut t) plies h.2.0 t
-    (λ q w. never_cut arena side codes_of (suc k) h.2.0 q plies t w) h.2.2
+never_cut_at arena side codes_of k s p (x ∷ plies) t h =
+    cut_next x.arm.next
+    (λ q. IsWay (session_player arena side codes_of) (suc k) h.2.0 q plies Cut t) plies h.2.0 t
+    (λ q w. never_cut_at arena side codes_of (suc k) h.2.0 q plies t w) h.2.2
+
+pub never_cut : (arena : Arena Step ℕ Value) (side : Colour) (codes_of : ℕ → List ℕ) (k : ℕ)
+    (s : Input) (p : ℕ) (plies : List SessionPly) (t : Input)
+    → GoesOn arena side codes_of k s p plies Cut t → ⊥
+never_cut arena side codes_of k s p plies t w =
+    never_cut_at arena side codes_of k s (k, p) plies t w
+
 
 -- what is answered at an end, and that it is said
 pub record Answered (side : Colour) (end : EndOfSession) : Type 0 where
@@ -116,9 +127,9 @@ by_why side refused (Limit LineLength) =
     (plays.Limit LineLength) refl (λ e. cc)
 
 pub answered_at : (side : Colour) (end : EndOfSession) → (end ≡ Cut → ⊥) → Answered side end
-answered_at side (Wrong number kept given) uncut =
-    let w : WrongEntry = record { side = side; number = number; kept = kept; given = given } in
-    faulted_as side (Wrong number kept given) (plays.Line (faults.Wrong w)) refl (λ e. cc)
+answered_at side (Wrong at kept given) uncut =
+    let w : WrongEntry = record { side = side; number = at.1; kept = kept; given = given } in
+    faulted_as side (Wrong at kept given) (plays.Line (faults.Wrong w)) refl (λ e. cc)
 answered_at side NoBound uncut = faulted_as side NoBound (plays.Line faults.NoBound) refl (λ e. cc)
 answered_at side (Mated mover) uncut = ended_as side (Mated mover) ends.Mate refl
 answered_at side (Stalemated mover) uncut = ended_as side (Stalemated mover) ends.Stalemate refl
@@ -129,8 +140,8 @@ answered_at side (Stopped halt) uncut = by_why side halt.refused halt.why
 -- the text of a session says something
 last_said : (side : Colour) (end : EndOfSession) (answer : Result SessionEnd PlayFault)
     → Tells side end answer → end_text end ++ session_naming answer ≡ [] → ⊥
-last_said side (Wrong number kept given) answer tells e =
-    let w : WrongEntry = record { side = side; number = number; kept = kept; given = given } in
+last_said side (Wrong at kept given) answer tells e =
+    let w : WrongEntry = record { side = side; number = at.1; kept = kept; given = given } in
     let naming : session_naming (Err (plays.Line (faults.Wrong w))) ≡ [] = subst
     (λ (r : Result SessionEnd PlayFault). session_naming r ≡ []) tells
     (no_right [] (session_naming answer) e) in cc

@@ -5,7 +5,7 @@ use Rattle.frz_answer.specs.declared.status.Status.{Status}
 use Rattle.frz_answer.specs.Statuses.{subset}
 use Rattle.frz_answer.specs.World.{Spent}
 use Rattle.frz_answer.specs.Answers.{Answer}
-use Rattle.frz_answer.specs.Jobs.{Job}
+use Rattle.frz_answer.specs.Jobs.{Job, Never}
 use Rattle.frz_answer.proofs.Lemmas.{IsStage}
 
 -- with other answers, which mean and cost something else, and none but its statuses
@@ -20,6 +20,27 @@ is_part job statuses all = record {
   store = λ h. h;
   reads = λ h. h;
   sees = λ w h. h;
+  input = λ h. h;
+  memory = λ h. h;
+  speaks = λ h. h;
+  writes = refl;
+}
+
+-- and which looks at nothing that the store holds
+pub is_later_part : (job : Job) (statuses : List Status)
+    {answers means : Files → List ℕ → Answer → Type 0}
+    {costs : Files → List ℕ → Answer → Spent → Spent → Type 0}
+    → subset statuses job.statuses ≡ true
+    → IsStage
+    (record job {
+      answers = answers; means = means; statuses = statuses; costs = costs;
+      needs = record job.needs { reads = Never };
+    }) job
+is_later_part job statuses all = record {
+  statuses = all;
+  store = λ h. h;
+  reads = λ h. refl;
+  sees = λ w h. tt;
   input = λ h. h;
   memory = λ h. h;
   speaks = λ h. h;

@@ -1,3 +1,4 @@
+pub mod Later
 pub mod Sides
 pub mod LineEnds
 pub mod LineOf

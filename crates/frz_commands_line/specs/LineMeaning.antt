@@ -15,6 +15,7 @@ use Rattle.frz_check.specs.OneFile.{IsOneFile}
 use Rattle.frz_arena.specs.declared.bound.Bound.{Bound}
 use Rattle.frz_arena.specs.declared.bound.Bound.TheVariants.{Wins, Holds}
 use Rattle.frz_arena.specs.Codes.{code_of}
+use Rattle.frz_arena.specs.Counted.{counted}
 use Rattle.frz_arena.specs.WayEnds as ways
 use Rattle.frz_arena.specs.WayEnds.{EndsWon, EndsDrawn}
 use Rattle.frz_game.specs.Bounds.{IsBoundAt}
@@ -28,13 +29,14 @@ use Rattle.frz_line.specs.declared.end.LineEnd.{LineEnd}
 use Rattle.frz_line.specs.declared.end.TheConstants.{MOST_PLIES}
 use Rattle.frz_line.specs.Ends as line_ends
 use Rattle.frz_line.specs.Lines.{LinePly, EndOfLine}
+use Rattle.frz_commands_line.specs.Later.{held_later}
 use Rattle.frz_commands_line.specs.LineOf.{code_at, IsLineBy, told_text}
 
 -- from a win within n plies: the opponent is mated after n plies, or an exit wins for the side,
 -- after n plies with its lag counted
 pub record KeepsWin (rules : RuleLines) (side : Colour) (n : ℕ) (plies : List LinePly)
     (end : EndOfLine) : Type 0 where
-  pub ends : EndsWon (graph_by rules (value_by rules)) side end
+  pub ends : EndsWon (counted (graph_by rules (value_by rules))) side end
   pub mate : (mover : Colour) → end ≡ ways.Mated mover → length plies ≡ n
   pub exit : (v : Value) → end ≡ ways.Exit v → length plies + lag_of v ≡ n
 
@@ -42,7 +44,7 @@ pub record KeepsWin (rules : RuleLines) (side : Colour) (n : ℕ) (plies : List 
 -- plies, and so many where it is cut
 pub record KeepsHold (rules : RuleLines) (side : Colour) (plies : List LinePly)
     (end : EndOfLine) : Type 0 where
-  pub ends : EndsDrawn (graph_by rules (value_by rules)) side end
+  pub ends : EndsDrawn (counted (graph_by rules (value_by rules))) side end
   pub few : length plies ≤ MOST_PLIES
   pub cut : end ≡ ways.Cut → length plies ≡ MOST_PLIES
 
@@ -54,41 +56,42 @@ pub record KeepsBound (rules : RuleLines) (side : Colour) (p : Board) (code : �
   pub means : Means rules (value_by rules) side p bound
 
 -- the file opens, the position is in its set, and this is the
--- line of the side by the codes in the file
-pub record HasLine (table : List ℕ) (side : Colour) (p : Board) (files : Files) : Type 0 where
+-- line of the side by the codes in the file, as they are read after so many plies
+pub record HasLine (later : ℕ → Files) (table : List ℕ) (side : Colour) (p : Board) (files : Files) : Type 0 where
   pub bytes : List ℕ
   pub contents : Contents
   pub open_file : OpensAs table files bytes contents
   pub inside : Member contents.rules.groups p
   pub plies : List LinePly
   pub end : EndOfLine
-  pub line : IsLineBy contents bytes side p plies end
+  pub line : IsLineBy contents (held_later later table) side p plies end
 
 -- the code of its start
-abbrev pub start_code : {table : List ℕ} {side : Colour} {p : Board} {files : Files}
-    → HasLine table side p files → ℕ
-start_code {side = side} {p = p} has = code_at has.contents has.bytes side p
+abbrev pub start_code : {later : ℕ → Files} {table : List ℕ} {side : Colour} {p : Board} {files : Files}
+    → HasLine later table side p files → ℕ
+start_code {later = later} {table = table} {side = side} {p = p} has =
+    code_at has.contents (held_later later table) side p
 
--- the file is the one file of its text
-abbrev pub IsExactFile : {table : List ℕ} {side : Colour} {p : Board} {files : Files} →
-    HasLine table side p files →
+-- whenever it is read the file is the one file of its text
+abbrev pub IsExactFile : {later : ℕ → Files} {table : List ℕ} {side : Colour} {p : Board} {files : Files} →
+    HasLine later table side p files →
     Type 0
-IsExactFile has =
+IsExactFile {later = later} {table = table} has = (k : ℕ) →
     IsOneFile (magic_of Plain) has.contents.text has.contents.rules (value_by has.contents.rules)
-    has.bytes
+    (held_later later table k)
 
 -- the text is that of the line
-abbrev pub TellsText : {table : List ℕ} {side : Colour} {p : Board} {files : Files} →
-    HasLine table side p files →
+abbrev pub TellsText : {later : ℕ → Files} {table : List ℕ} {side : Colour} {p : Board} {files : Files} →
+    HasLine later table side p files →
     List ℕ → Type 0
 TellsText {side = side} has text =
     text ≡ told_text side (start_code has) has.plies (line_ends.told side has.end)
 
 -- the whole line is told, with its end; a win is brought home in its plies, and a hold stays one;
 -- in the one file of a text the code of the start is that of the bound
-pub record TellsLine (table : List ℕ) (side : Colour) (p : Board) (files : Files)
+pub record TellsLine (later : ℕ → Files) (table : List ℕ) (side : Colour) (p : Board) (files : Files)
     (text : List ℕ) : Type 0 where
-  pub has : HasLine table side p files
+  pub has : HasLine later table side p files
   pub told : TellsText has text
   pub last : LineEnd
   pub ends : line_ends.told side has.end ≡ Ok last
@@ -98,20 +101,20 @@ pub record TellsLine (table : List ℕ) (side : Colour) (p : Board) (files : Fil
   pub where_exact : IsExactFile has → KeepsBound has.contents.rules side p (start_code has)
 
 -- a code on its way is not the local one, which does not happen in the one file of a text
-pub record TellsWrong (table : List ℕ) (side : Colour) (p : Board) (files : Files)
+pub record TellsWrong (later : ℕ → Files) (table : List ℕ) (side : Colour) (p : Board) (files : Files)
     (text : List ℕ) : Type 0 where
-  pub has : HasLine table side p files
+  pub has : HasLine later table side p files
   pub told : TellsText has text
-  pub number : ℕ
+  pub at : ℕ × ℕ
   pub kept : ℕ
   pub given : ℕ
-  pub ends : has.end ≡ ways.Wrong number kept given
+  pub ends : has.end ≡ ways.Wrong at kept given
   pub not_exact : IsExactFile has → ⊥
 
 -- the start fails
-pub record TellsNoBound (table : List ℕ) (side : Colour) (p : Board) (files : Files)
+pub record TellsNoBound (later : ℕ → Files) (table : List ℕ) (side : Colour) (p : Board) (files : Files)
     (text : List ℕ) : Type 0 where
-  pub has : HasLine table side p files
+  pub has : HasLine later table side p files
   pub told : TellsText has text
   pub ends : has.end ≡ ways.NoBound
 
@@ -124,19 +127,19 @@ pub record TellsOutside (table : List ℕ) (p : Board) (files : Files) (text : L
   pub told : text ≡ codes "outside\n"
 
 -- what an answer says, by its status
-abbrev pub MeansStatus : List ℕ → Colour → Board → Files → Status → List ℕ → Type 0
-MeansStatus table side p files Success text = TellsLine table side p files text
-MeansStatus table side p files Wrong text = TellsWrong table side p files text
-MeansStatus table side p files Table text = TellsTableFault table files text
-MeansStatus table side p files Outside text =
-    TellsOutside table p files text ⊎ TellsNoBound table side p files text
-MeansStatus table side p files Missing text = files table ≡ None
-MeansStatus table side p files status text = ⊥
+abbrev pub MeansStatus : (later : ℕ → Files) → List ℕ → Colour → Board → Files → Status → List ℕ → Type 0
+MeansStatus later table side p files Success text = TellsLine later table side p files text
+MeansStatus later table side p files Wrong text = TellsWrong later table side p files text
+MeansStatus later table side p files Table text = TellsTableFault table files text
+MeansStatus later table side p files Outside text =
+    TellsOutside table p files text ⊎ TellsNoBound later table side p files text
+MeansStatus later table side p files Missing text = files table ≡ None
+MeansStatus later table side p files status text = ⊥
 
 -- what an answer of `line` means: it changes no file and takes
 -- no input, and each status has its cause
-pub record MeansLine (table : List ℕ) (side : Colour) (p : Board) (files : Files)
+pub record MeansLine (later : ℕ → Files) (table : List ℕ) (side : Colour) (p : Board) (files : Files)
     (a : Answer) : Type 0 where
   pub same : a.files ≡ files
   pub untaken : a.taken ≡ 0
-  pub says : MeansStatus table side p files a.status a.text
+  pub says : MeansStatus later table side p files a.status a.text

@@ -7,7 +7,7 @@ use Rattle.frz_arena.specs.declared.arm.Next.TheVariants.{Inside}
 use Rattle.frz_exits.specs.Books.{value_by}
 use Rattle.frz_index.specs.Members.{Num}
 use Rattle.frz_game.specs.Numbers.{is_member}
-use Rattle.frz_store.specs.Files.{Files, bytes_at}
+use Rattle.frz_store.specs.Files.{Files}
 use Rattle.frz_table.specs.declared.fault.TableFault.{TableFault}
 use Rattle.frz_table.specs.declared.kind.FileKind.TheVariants.{Plain}
 use Rattle.frz_table.specs.Opening.{Contents, opened, table_format}
@@ -21,27 +21,32 @@ use Rattle.frz_line.specs.Costs.{way_numbers}
 use Rattle.frz_line.specs.Ends as ends
 use Rattle.frz_line.specs.Lines.{LinePly, EndOfLine, IsLine}
 use Rattle.frz_line.specs.Texts.{line_text}
+use Rattle.frz_commands_line.specs.Later.{held_later}
 use Rattle.frz_commands_line.specs.LineEnds.{end_status, naming_line}
 
--- the code that the bytes keep for the side at the number of the position
-abbrev pub code_at : Contents → List ℕ → Colour → Board → ℕ
+-- the codes that the bytes keep for the side after so many plies, as they are read then
+abbrev pub codes_later : Contents → (bytes : ℕ → List ℕ) → Colour → ℕ → List ℕ
+codes_later contents bytes side k = kept_codes contents (bytes k) side
+
+-- the code that the bytes keep for the side at the number of the position, at the start
+abbrev pub code_at : Contents → (ℕ → List ℕ) → Colour → Board → ℕ
 code_at contents bytes side p =
-    slice_index (kept_codes contents bytes side) (Num contents.rules.groups p)
+    slice_index (codes_later contents bytes side 0) (Num contents.rules.groups p)
 
 -- the line of the side from the position, by the codes that the
 -- bytes keep, in the game of their rules
-abbrev pub IsLineBy : Contents → List ℕ → Colour → Board → List LinePly → EndOfLine → Type 0
+abbrev pub IsLineBy : Contents → (ℕ → List ℕ) → Colour → Board → List LinePly → EndOfLine → Type 0
 IsLineBy contents bytes side p plies end =
-    IsLine contents.rules (value_by contents.rules) side (kept_codes contents bytes side)
+    IsLine contents.rules (value_by contents.rules) side (codes_later contents bytes side)
     (Num contents.rules.groups p) plies end
 
 -- these are the numbers that it comes to
-pub record LineComes (bytes : List ℕ) (side : Colour) (p : Board) (contents : Contents)
+pub record LineComes (bytes : ℕ → List ℕ) (side : Colour) (p : Board) (contents : Contents)
     (numbers : List ℕ) : Type 0 where
   pub plies : List LinePly
   pub end : EndOfLine
   pub line : IsLineBy contents bytes side p plies end
-  pub are : numbers ≡ way_numbers (Inside (Num contents.rules.groups p)) plies
+  pub are : numbers ≡ way_numbers (Inside (0, Num contents.rules.groups p)) plies
 
 -- its text, and the line that names an end which has none of its own
 abbrev pub told_text : Colour → ℕ → List LinePly → Result LineEnd LineFault → List ℕ
@@ -53,7 +58,7 @@ line_answer side code plies answer files =
 
 -- at a position of the set: its line is told
 pub record IsLined
-    (contents : Contents) (bytes : List ℕ) (side : Colour) (p : Board) (files : Files)
+    (contents : Contents) (bytes : ℕ → List ℕ) (side : Colour) (p : Board) (files : Files)
     (a : Answer) : Type 0 where
   pub plies : List LinePly
   pub end : EndOfLine
@@ -61,19 +66,19 @@ pub record IsLined
   pub told : a ≡ line_answer side (code_at contents bytes side p) plies (ends.told side end) files
 
 -- by a file that opens: the position has a line, or is outside the set
-abbrev pub IsLinedIn : Contents → List ℕ → Colour → Board → Files → Answer → Type 0
+abbrev pub IsLinedIn : Contents → (ℕ → List ℕ) → Colour → Board → Files → Answer → Type 0
 IsLinedIn contents bytes side p files a = MatchBool (is_member contents.rules.groups p)
     (IsLined contents bytes side p files a)
     (a ≡ says (status_of refusals.Outside) (refusal_line refusals.Outside) files)
 
 -- by how the file opens
-abbrev pub IsLinedBy : Result Contents TableFault → List ℕ → Colour → Board → Files → Answer
+abbrev pub IsLinedBy : Result Contents TableFault → (ℕ → List ℕ) → Colour → Board → Files → Answer
     → Type 0
 IsLinedBy (Ok contents) bytes side p files a = IsLinedIn contents bytes side p files a
 IsLinedBy (Err fault) bytes side p files a =
     a ≡ says (status_of (refusals.Table fault)) (refusal_line (refusals.Table fault)) files
 
--- by the file that has the name
-abbrev pub IsLinedAt : List ℕ → Colour → Board → Files → Answer → Type 0
-IsLinedAt table side p files a =
-    IsLinedBy (opened (table_format Plain) (files table)) (bytes_at files table) side p files a
+-- by the file that has the name, and by what it holds after so many plies
+abbrev pub IsLinedAt : (later : ℕ → Files) → List ℕ → Colour → Board → Files → Answer → Type 0
+IsLinedAt later table side p files a =
+    IsLinedBy (opened (table_format Plain) (files table)) (held_later later table) side p files a

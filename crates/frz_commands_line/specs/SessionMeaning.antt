@@ -20,6 +20,7 @@ use Rattle.frz_check.specs.OneFile.{IsOneFile}
 use Rattle.frz_arena.specs.declared.bound.Bound.TheVariants.{Wins, Holds}
 use Rattle.frz_arena.specs.Chess.{NeverForcesMate}
 use Rattle.frz_arena.specs.Codes.{code_of}
+use Rattle.frz_arena.specs.Counted.{counted}
 use Rattle.frz_arena.specs.WayEnds as ways
 use Rattle.frz_arena.specs.WayEnds.{EndsWon, EndsHeld}
 use Rattle.frz_game.specs.Games.{chess, graph_by}
@@ -37,6 +38,7 @@ use Rattle.frz_play.specs.Ends.{Tells}
 use Rattle.frz_play.specs.Reading.{Input}
 use Rattle.frz_play.specs.Sessions.{SessionPly, EndOfSession}
 use Rattle.frz_commands_line.specs.LineMeaning.{KeepsBound, TellsOutside}
+use Rattle.frz_commands_line.specs.Later.{held_later}
 use Rattle.frz_commands_line.specs.LineOf.{code_at}
 use Rattle.frz_commands_line.specs.SessionOf.{IsSessionBy, played_text}
 
@@ -46,24 +48,24 @@ pub record PlaysWin
     (rules : RuleLines) (side : Colour) (n : ℕ) (plies : List SessionPly)
     (end : EndOfSession) : Type 0 where
   pub few : length plies ≤ n
-  pub ends : EndsWon (graph_by rules (value_by rules)) side end
+  pub ends : EndsWon (counted (graph_by rules (value_by rules))) side end
   pub exit : (v : Value) → end ≡ ways.Exit v → length plies + lag_of v ≤ n
 
 -- from a hold: the side is not mated, and no exit is bad for it
 abbrev pub PlaysHold : RuleLines → Colour → EndOfSession → Type 0
-PlaysHold rules side end = EndsHeld (graph_by rules (value_by rules)) side end
+PlaysHold rules side end = EndsHeld (counted (graph_by rules (value_by rules))) side end
 
 -- after each ply the opponent forces no mate
 abbrev pub IsSafe : RuleLines → Colour → List SessionPly → Type 0
 IsSafe rules side plies =
     (x : SessionPly) → Contains plies x →
-    (p : Board) (m : Step) → position_at rules.groups x.from ≡ Some p →
+    (p : Board) (m : Step) → position_at rules.groups x.from.1 ≡ Some p →
     slice_get (legal_moves_of p) x.place ≡ Some m
     → NeverForcesMate chess (other_of side) (after p m)
 
 -- the file opens, the position is in its set, and this is the
--- session of the side by the codes in the file
-pub record HasSession (table : List ℕ) (side : Colour) (p : Board) (files : Files)
+-- session of the side by the codes in the file, as they are read after so many plies
+pub record HasSession (later : ℕ → Files) (table : List ℕ) (side : Colour) (p : Board) (files : Files)
     (input : List ℕ) : Type 0 where
   pub bytes : List ℕ
   pub contents : Contents
@@ -72,26 +74,27 @@ pub record HasSession (table : List ℕ) (side : Colour) (p : Board) (files : Fi
   pub plies : List SessionPly
   pub end : EndOfSession
   pub left : Input
-  pub session : IsSessionBy contents bytes side p input plies end left
+  pub session : IsSessionBy contents (held_later later table) side p input plies end left
 
 -- the code of its start
-abbrev pub start_code : {table : List ℕ} {side : Colour} {p : Board} {files : Files}
+abbrev pub start_code : {later : ℕ → Files} {table : List ℕ} {side : Colour} {p : Board} {files : Files}
     {input : List ℕ} →
-    HasSession table side p files input → ℕ
-start_code {side = side} {p = p} has = code_at has.contents has.bytes side p
+    HasSession later table side p files input → ℕ
+start_code {later = later} {table = table} {side = side} {p = p} has =
+    code_at has.contents (held_later later table) side p
 
--- the file is the one file of its text
-abbrev pub IsExactFile : {table : List ℕ} {side : Colour} {p : Board} {files : Files}
+-- whenever it is read the file is the one file of its text
+abbrev pub IsExactFile : {later : ℕ → Files} {table : List ℕ} {side : Colour} {p : Board} {files : Files}
     {input : List ℕ} →
-    HasSession table side p files input → Type 0
-IsExactFile has =
+    HasSession later table side p files input → Type 0
+IsExactFile {later = later} {table = table} has = (k : ℕ) →
     IsOneFile (magic_of Plain) has.contents.text has.contents.rules (value_by has.contents.rules)
-    has.bytes
+    (held_later later table k)
 
 -- the session answers this, and the text is its own
 pub record Ends
-    {table : List ℕ} {side : Colour} {p : Board} {files : Files} {input : List ℕ}
-    (has : HasSession table side p files input) (text : List ℕ)
+    {later : ℕ → Files} {table : List ℕ} {side : Colour} {p : Board} {files : Files} {input : List ℕ}
+    (has : HasSession later table side p files input) (text : List ℕ)
     (answer : Result SessionEnd PlayFault) : Type 0 where
   pub tells : Tells side has.end answer
   pub told : text ≡ played_text side (start_code has) has.plies has.end answer
@@ -100,9 +103,9 @@ pub record Ends
 -- code of the start is that of the bound, and where the exits
 -- are true each position after a ply is safe
 pub record TellsSession
-    (table : List ℕ) (side : Colour) (p : Board) (files : Files)
+    (later : ℕ → Files) (table : List ℕ) (side : Colour) (p : Board) (files : Files)
     (input text : List ℕ) : Type 0 where
-  pub has : HasSession table side p files input
+  pub has : HasSession later table side p files input
   pub last : SessionEnd
   pub ends : Ends has text (Ok last)
   pub win : (n : ℕ) → start_code has ≡ code_of (Wins n)
@@ -113,45 +116,45 @@ pub record TellsSession
       IsSafe has.contents.rules side has.plies
 
 -- a code on its way is not the local one, which does not happen in the one file of a text
-pub record TellsWrong (table : List ℕ) (side : Colour) (p : Board) (files : Files)
+pub record TellsWrong (later : ℕ → Files) (table : List ℕ) (side : Colour) (p : Board) (files : Files)
     (input text : List ℕ) : Type 0 where
-  pub has : HasSession table side p files input
+  pub has : HasSession later table side p files input
   pub fault : PlayFault
   pub ends : Ends has text (Err fault)
-  pub wrong : (number : ℕ) × (kept : ℕ) × (given : ℕ) × (has.end ≡ ways.Wrong number kept given)
+  pub wrong : (at : ℕ × ℕ) × (kept : ℕ) × (given : ℕ) × (has.end ≡ ways.Wrong at kept given)
   pub not_exact : IsExactFile has → ⊥
 
 -- the start fails
 pub record TellsNoBound
-    (table : List ℕ) (side : Colour) (p : Board) (files : Files)
+    (later : ℕ → Files) (table : List ℕ) (side : Colour) (p : Board) (files : Files)
     (input text : List ℕ) : Type 0 where
-  pub has : HasSession table side p files input
+  pub has : HasSession later table side p files input
   pub fault : PlayFault
   pub ends : Ends has text (Err fault)
   pub no_bound : has.end ≡ ways.NoBound
 
 -- the input has come to a limit
-pub record TellsLimit (table : List ℕ) (side : Colour) (p : Board) (files : Files)
+pub record TellsLimit (later : ℕ → Files) (table : List ℕ) (side : Colour) (p : Board) (files : Files)
     (input text : List ℕ) : Type 0 where
-  pub has : HasSession table side p files input
+  pub has : HasSession later table side p files input
   pub limit : PlayLimit
   pub ends : Ends has text (Err (plays.Limit limit))
 
 -- what an answer says, by its status
-abbrev pub MeansStatus : List ℕ → Colour → Board → Files → List ℕ → Status → List ℕ → Type 0
-MeansStatus table side p files input Success text = TellsSession table side p files input text
-MeansStatus table side p files input Wrong text = TellsWrong table side p files input text
-MeansStatus table side p files input Limit text = TellsLimit table side p files input text
-MeansStatus table side p files input Table text = TellsTableFault table files text
-MeansStatus table side p files input Outside text =
-    TellsOutside table p files text ⊎ TellsNoBound table side p files input text
-MeansStatus table side p files input Missing text = files table ≡ None
-MeansStatus table side p files input status text = ⊥
+abbrev pub MeansStatus : (later : ℕ → Files) → List ℕ → Colour → Board → Files → List ℕ → Status → List ℕ → Type 0
+MeansStatus later table side p files input Success text = TellsSession later table side p files input text
+MeansStatus later table side p files input Wrong text = TellsWrong later table side p files input text
+MeansStatus later table side p files input Limit text = TellsLimit later table side p files input text
+MeansStatus later table side p files input Table text = TellsTableFault table files text
+MeansStatus later table side p files input Outside text =
+    TellsOutside table p files text ⊎ TellsNoBound later table side p files input text
+MeansStatus later table side p files input Missing text = files table ≡ None
+MeansStatus later table side p files input status text = ⊥
 
 -- what an answer of `play` means: it changes no file, and each status has its cause
 pub record MeansPlay
-    (table : List ℕ) (side : Colour) (p : Board) (files : Files) (input : List ℕ)
+    (later : ℕ → Files) (table : List ℕ) (side : Colour) (p : Board) (files : Files) (input : List ℕ)
     (a : Answer) : Type 0 where
   pub same : a.files ≡ files
   pub few : a.taken ≤ length input
-  pub says : MeansStatus table side p files input a.status a.text
+  pub says : MeansStatus later table side p files input a.status a.text

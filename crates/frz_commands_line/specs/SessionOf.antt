@@ -7,11 +7,10 @@ use Rattle.frz_arena.specs.declared.arm.Next.TheVariants.{Inside}
 use Rattle.frz_exits.specs.Books.{value_by}
 use Rattle.frz_index.specs.Members.{Num}
 use Rattle.frz_game.specs.Numbers.{is_member}
-use Rattle.frz_store.specs.Files.{Files, bytes_at}
+use Rattle.frz_store.specs.Files.{Files}
 use Rattle.frz_table.specs.declared.fault.TableFault.{TableFault}
 use Rattle.frz_table.specs.declared.kind.FileKind.TheVariants.{Plain}
 use Rattle.frz_table.specs.Opening.{Contents, opened, table_format}
-use Rattle.frz_check.specs.Kept.{kept_codes}
 use Rattle.frz_answer.specs.Answers.{Answer, says}
 use Rattle.frz_prelude.specs.Refusals.{status_of, refusal_line}
 use Rattle.frz_prelude.specs.declared.refused.Refused.TheVariants as refusals
@@ -22,28 +21,29 @@ use Rattle.frz_play.specs.Ends.{Tells}
 use Rattle.frz_play.specs.Reading.{Input}
 use Rattle.frz_play.specs.Sessions.{SessionPly, EndOfSession, IsSession}
 use Rattle.frz_play.specs.Texts.{session_text}
-use Rattle.frz_commands_line.specs.LineOf.{code_at}
+use Rattle.frz_commands_line.specs.Later.{held_later}
+use Rattle.frz_commands_line.specs.LineOf.{code_at, codes_later}
 use Rattle.frz_commands_line.specs.SessionEnds.{session_status, session_naming}
 
 -- the session of the side from the position against the input, by the codes that the bytes keep, in
 -- the game of their rules; and what it leaves of the input
-abbrev pub IsSessionBy : Contents → List ℕ → Colour → Board → (input : List ℕ) → List SessionPly →
+abbrev pub IsSessionBy : Contents → (ℕ → List ℕ) → Colour → Board → (input : List ℕ) → List SessionPly →
     EndOfSession →
     Input → Type 0
 IsSessionBy contents bytes side p input plies end left =
-    IsSession contents.rules (value_by contents.rules) side (kept_codes contents bytes side)
+    IsSession contents.rules (value_by contents.rules) side (codes_later contents bytes side)
     (Num contents.rules.groups p) input plies end left
 
 -- these are the numbers that it comes to
 pub record SessionComes
-    (bytes : List ℕ) (side : Colour) (p : Board) (input : List ℕ) (contents : Contents)
+    (bytes : ℕ → List ℕ) (side : Colour) (p : Board) (input : List ℕ) (contents : Contents)
     (numbers : List ℕ)
     : Type 0 where
   pub plies : List SessionPly
   pub end : EndOfSession
   pub left : Input
   pub session : IsSessionBy contents bytes side p input plies end left
-  pub are : numbers ≡ way_numbers (Inside (Num contents.rules.groups p)) plies
+  pub are : numbers ≡ way_numbers (Inside (0, Num contents.rules.groups p)) plies
 
 -- its text, and the line that names an end which has none of its own
 abbrev pub played_text : Colour → ℕ → List SessionPly → EndOfSession → Result SessionEnd PlayFault
@@ -62,7 +62,7 @@ session_answer side code input plies end left answer files = record {
 
 -- at a position of the set: its session is told
 pub record IsPlayed
-    (contents : Contents) (bytes : List ℕ) (side : Colour) (p : Board) (files : Files)
+    (contents : Contents) (bytes : ℕ → List ℕ) (side : Colour) (p : Board) (files : Files)
     (input : List ℕ) (a : Answer)
     : Type 0 where
   pub plies : List SessionPly
@@ -75,20 +75,21 @@ pub record IsPlayed
       files
 
 -- by a file that opens: the position has a session, or is outside the set
-abbrev pub IsPlayedIn : Contents → List ℕ → Colour → Board → Files → List ℕ → Answer → Type 0
+abbrev pub IsPlayedIn : Contents → (ℕ → List ℕ) → Colour → Board → Files → List ℕ → Answer → Type 0
 IsPlayedIn contents bytes side p files input a = MatchBool (is_member contents.rules.groups p)
     (IsPlayed contents bytes side p files input a)
     (a ≡ says (status_of refusals.Outside) (refusal_line refusals.Outside) files)
 
 -- by how the file opens
-abbrev pub IsPlayedBy : Result Contents TableFault → List ℕ → Colour → Board → Files → List ℕ
+abbrev pub IsPlayedBy : Result Contents TableFault → (ℕ → List ℕ) → Colour → Board → Files → List ℕ
     → Answer → Type 0
 IsPlayedBy (Ok contents) bytes side p files input a = IsPlayedIn contents bytes side p files input a
 IsPlayedBy (Err fault) bytes side p files input a =
     a ≡ says (status_of (refusals.Table fault)) (refusal_line (refusals.Table fault)) files
 
--- by the file that has the name
-abbrev pub IsPlayedAt : List ℕ → Colour → Board → Files → List ℕ → Answer → Type 0
-IsPlayedAt table side p files input a =
-    IsPlayedBy (opened (table_format Plain) (files table)) (bytes_at files table) side p files input
-    a
+-- by the file that has the name, and by what it holds after so many plies
+abbrev pub IsPlayedAt : (later : ℕ → Files) → List ℕ → Colour → Board → Files → List ℕ → Answer
+    → Type 0
+IsPlayedAt later table side p files input a =
+    IsPlayedBy (opened (table_format Plain) (files table)) (held_later later table) side p files
+    input a

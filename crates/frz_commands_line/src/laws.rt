@@ -1,6 +1,7 @@
 //! The law on the answers of the commands that play. Each function does nothing: its clause is
 //! the law.
 ghost use Rattle.std.specs.Prelude.{ℕ, List};
+ghost use Rattle.frz_store.specs.Files.{Files};
 ghost use Rattle.frz_answer.specs.Lawful.{IsLawful};
 ghost use Rattle.frz_commands_line.specs.Lining.{line_words};
 ghost use Rattle.frz_commands_line.specs.Playing.{play_words};
@@ -8,10 +9,10 @@ ghost use Rattle.frz_commands_line.specs.Playing.{play_words};
 use frz_line::laws::{holds_are_drawn, least_plies, one_line, tables_are_never_wrong};
 use frz_play::laws as sessions;
 
-/// Whatever the words behind `line` are, there is one answer over any files and any input, and it
+/// Whatever the words behind `line` are, and whatever the store holds later, there is one answer over any files and any input, and it
 /// means what it is to mean.
 pub fn one_line_answer()
-    ensures { (words : List (List ℕ)) → IsLawful (line_words words) }
+    ensures { (later : ℕ → Files) (words : List (List ℕ)) → IsLawful (line_words later words) }
 {
     one_line();
     least_plies();
@@ -21,7 +22,7 @@ pub fn one_line_answer()
 
 /// The same of the words behind `play`.
 pub fn one_play_answer()
-    ensures { (words : List (List ℕ)) → IsLawful (play_words words) }
+    ensures { (later : ℕ → Files) (words : List (List ℕ)) → IsLawful (play_words later words) }
 {
     sessions::one_session();
     sessions::wins_are_kept();

@@ -4,11 +4,13 @@ ghost use Rattle.std.specs.String.{string_bytes};
 ghost use Rattle.frz_fide.specs.Valid.{IsValid};
 ghost use Rattle.frz_fen.specs.Reading.{fen_of};
 ghost use Rattle.frz_table.specs.Tables.{Carries};
+ghost use Rattle.frz_store.specs.Files.{Files};
 ghost use Rattle.frz_store.specs.Told.{SourceTold, store_of, sink_of};
 ghost use Rattle.frz_answer.specs.World.{world};
 ghost use Rattle.frz_answer.specs.Ends.{Ran};
 ghost use Rattle.frz_prelude.specs.Positions.{on_position};
 ghost use Rattle.frz_commands_line.specs.LineEnds.{EndsLine};
+ghost use Rattle.frz_commands_line.specs.Later.{MayBeLater};
 ghost use Rattle.frz_commands_line.specs.Lining.{lining_in, lining_at, line_words};
 ghost use Rattle.frz_commands_line.specs.Sides.{on_side, side_of};
 
@@ -51,9 +53,10 @@ fn line_in<S: Store, O: Sink, L: Ledger>(
 ) -> End
     requires valid { IsValid p.now }
     requires carried { Carries (S.files store.old) table.now }
-    ensures { (input : SourceTold) → Ran (lining_in table.now side p.now) result
+    ensures { (later : ℕ → Files) × MayBeLater (S.files store.old) later
+        × ((input : SourceTold) → Ran (lining_in later table.now side p.now) result
         (world (store_of S.Store store.old) input (sink_of O.Sink out.old) steps.old)
-        (world (store_of S.Store store.new) input (sink_of O.Sink out.new) steps.new) }
+        (world (store_of S.Store store.new) input (sink_of O.Sink out.new) steps.new)) }
 {
     one_line();
     let line = best_line(table, store, p, side, out, steps);
@@ -71,9 +74,10 @@ fn line_at<S: Store, O: Sink, L: Ledger>(
     steps: &mut Steps<L>,
 ) -> End
     requires { IsValid p.now }
-    ensures { (input : SourceTold) → Ran (lining_at table.now side p.now) result
+    ensures { (later : ℕ → Files) × MayBeLater (S.files store.old) later
+        × ((input : SourceTold) → Ran (lining_at later table.now side p.now) result
         (world (store_of S.Store store.old) input (sink_of O.Sink out.old) steps.old)
-        (world (store_of S.Store store.new) input (sink_of O.Sink out.new) steps.new) }
+        (world (store_of S.Store store.new) input (sink_of O.Sink out.new) steps.new)) }
 {
     one_line();
     match open_table(alloc, store, table) {
@@ -92,11 +96,13 @@ fn line_from<S: Store, O: Sink, L: Ledger>(
     out: &mut O,
     steps: &mut Steps<L>,
 ) -> End
-    ensures ran { (input : SourceTold)
-        → Ran (on_position (lining_at table.now side) (fen_of fen.now)) result
+    ensures ran { (later : ℕ → Files) × MayBeLater (S.files store.old) later
+        × ((input : SourceTold)
+        → Ran (on_position (lining_at later table.now side) (fen_of fen.now)) result
         (world (store_of S.Store store.old) input (sink_of O.Sink out.old) steps.old)
-        (world (store_of S.Store store.new) input (sink_of O.Sink out.new) steps.new) }
-    ensures store_unused { (on_position (lining_at table.now side) (fen_of fen.now)).needs.store
+        (world (store_of S.Store store.new) input (sink_of O.Sink out.new) steps.new)) }
+    ensures store_unused { (later : ℕ → Files)
+        → (on_position (lining_at later table.now side) (fen_of fen.now)).needs.store
         ≡ false
         → store.new ≡ store.old }
 {
@@ -116,12 +122,14 @@ fn line_for<S: Store, O: Sink, L: Ledger>(
     out: &mut O,
     steps: &mut Steps<L>,
 ) -> End
-    ensures ran { (input : SourceTold)
-        → Ran (on_side (λ x. on_position (lining_at table.now x) (fen_of fen.now))
+    ensures ran { (later : ℕ → Files) × MayBeLater (S.files store.old) later
+        × ((input : SourceTold)
+        → Ran (on_side (λ x. on_position (lining_at later table.now x) (fen_of fen.now))
         (side_of side.now)) result
         (world (store_of S.Store store.old) input (sink_of O.Sink out.old) steps.old)
-        (world (store_of S.Store store.new) input (sink_of O.Sink out.new) steps.new) }
-    ensures store_unused { (on_side (λ x. on_position (lining_at table.now x) (fen_of fen.now))
+        (world (store_of S.Store store.new) input (sink_of O.Sink out.new) steps.new)) }
+    ensures store_unused { (later : ℕ → Files)
+        → (on_side (λ x. on_position (lining_at later table.now x) (fen_of fen.now))
         (side_of side.now)).needs.store ≡ false → store.new ≡ store.old }
 {
     match read_side(side) {
@@ -138,10 +146,13 @@ pub fn run_line<S: Store, O: Sink, L: Ledger>(
     out: &mut O,
     steps: &mut Steps<L>,
 ) -> End
-    ensures ran { (input : SourceTold) → Ran (line_words (map string_bytes words.now)) result
+    // What the store held after each number of plies: where it tells, what it tells.
+    ensures ran { (later : ℕ → Files) × MayBeLater (S.files store.old) later
+        × ((input : SourceTold) → Ran (line_words later (map string_bytes words.now)) result
         (world (store_of S.Store store.old) input (sink_of O.Sink out.old) steps.old)
-        (world (store_of S.Store store.new) input (sink_of O.Sink out.new) steps.new) }
-    ensures store_unused { (line_words (map string_bytes words.now)).needs.store ≡ false
+        (world (store_of S.Store store.new) input (sink_of O.Sink out.new) steps.new)) }
+    ensures store_unused { (later : ℕ → Files)
+        → (line_words later (map string_bytes words.now)).needs.store ≡ false
         → store.new ≡ store.old }
 {
     match three_words(words) {

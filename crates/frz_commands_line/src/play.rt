@@ -1,14 +1,16 @@
 //! The command `play TABLE FEN SIDE`: a side that plays by a table against the input.
-ghost use Rattle.std.specs.Prelude.{◌≡◌, map, false};
+ghost use Rattle.std.specs.Prelude.{◌≡◌, ℕ, map, false};
 ghost use Rattle.std.specs.String.{string_bytes};
 ghost use Rattle.frz_fide.specs.Valid.{IsValid};
 ghost use Rattle.frz_fen.specs.Reading.{fen_of};
 ghost use Rattle.frz_table.specs.Tables.{Carries};
+ghost use Rattle.frz_store.specs.Files.{Files};
 ghost use Rattle.frz_store.specs.Told.{sink_of};
 ghost use Rattle.frz_answer.specs.World.{world_of};
 ghost use Rattle.frz_answer.specs.Ends.{Ran};
 ghost use Rattle.frz_prelude.specs.Positions.{on_position};
 ghost use Rattle.frz_commands_line.specs.SessionEnds.{EndsSession};
+ghost use Rattle.frz_commands_line.specs.Later.{MayBeLater};
 ghost use Rattle.frz_commands_line.specs.Playing.{playing_in, playing_at, play_words};
 ghost use Rattle.frz_commands_line.specs.Sides.{on_side, side_of};
 
@@ -53,9 +55,10 @@ fn play_in<S: Store, I: Source, O: Sink, L: Ledger>(
 ) -> End
     requires valid { IsValid p.now }
     requires carried { Carries (S.files store.old) table.now }
-    ensures { Ran (playing_in table.now side p.now) result
+    ensures { (later : ℕ → Files) × MayBeLater (S.files store.old) later
+        × (Ran (playing_in later table.now side p.now) result
         (world_of S.Store I.Source O.Sink store.old input.old out.old steps.old)
-        (world_of S.Store I.Source O.Sink store.new input.new out.new steps.new) }
+        (world_of S.Store I.Source O.Sink store.new input.new out.new steps.new)) }
 {
     one_session();
     match number_in(table.set(), p) {
@@ -79,9 +82,10 @@ fn play_at<S: Store, I: Source, O: Sink, L: Ledger>(
     steps: &mut Steps<L>,
 ) -> End
     requires { IsValid p.now }
-    ensures { Ran (playing_at table.now side p.now) result
+    ensures { (later : ℕ → Files) × MayBeLater (S.files store.old) later
+        × (Ran (playing_at later table.now side p.now) result
         (world_of S.Store I.Source O.Sink store.old input.old out.old steps.old)
-        (world_of S.Store I.Source O.Sink store.new input.new out.new steps.new) }
+        (world_of S.Store I.Source O.Sink store.new input.new out.new steps.new)) }
 {
     one_session();
     match open_table(alloc, store, table) {
@@ -101,13 +105,16 @@ fn play_from<S: Store, I: Source, O: Sink, L: Ledger>(
     out: &mut O,
     steps: &mut Steps<L>,
 ) -> End
-    ensures ran { Ran (on_position (playing_at table.now side) (fen_of fen.now)) result
+    ensures ran { (later : ℕ → Files) × MayBeLater (S.files store.old) later
+        × (Ran (on_position (playing_at later table.now side) (fen_of fen.now)) result
         (world_of S.Store I.Source O.Sink store.old input.old out.old steps.old)
-        (world_of S.Store I.Source O.Sink store.new input.new out.new steps.new) }
-    ensures store_unused { (on_position (playing_at table.now side) (fen_of fen.now)).needs.store
+        (world_of S.Store I.Source O.Sink store.new input.new out.new steps.new)) }
+    ensures store_unused { (later : ℕ → Files)
+        → (on_position (playing_at later table.now side) (fen_of fen.now)).needs.store
         ≡ false
         → store.new ≡ store.old }
-    ensures input_unused { (on_position (playing_at table.now side) (fen_of fen.now)).needs.input
+    ensures input_unused { (later : ℕ → Files)
+        → (on_position (playing_at later table.now side) (fen_of fen.now)).needs.input
         ≡ false
         → input.new ≡ input.old }
 {
@@ -128,13 +135,16 @@ fn play_for<S: Store, I: Source, O: Sink, L: Ledger>(
     out: &mut O,
     steps: &mut Steps<L>,
 ) -> End
-    ensures ran { Ran (on_side (λ x. on_position (playing_at table.now x) (fen_of fen.now))
+    ensures ran { (later : ℕ → Files) × MayBeLater (S.files store.old) later
+        × (Ran (on_side (λ x. on_position (playing_at later table.now x) (fen_of fen.now))
         (side_of side.now)) result
         (world_of S.Store I.Source O.Sink store.old input.old out.old steps.old)
-        (world_of S.Store I.Source O.Sink store.new input.new out.new steps.new) }
-    ensures store_unused { (on_side (λ x. on_position (playing_at table.now x) (fen_of fen.now))
+        (world_of S.Store I.Source O.Sink store.new input.new out.new steps.new)) }
+    ensures store_unused { (later : ℕ → Files)
+        → (on_side (λ x. on_position (playing_at later table.now x) (fen_of fen.now))
         (side_of side.now)).needs.store ≡ false → store.new ≡ store.old }
-    ensures input_unused { (on_side (λ x. on_position (playing_at table.now x) (fen_of fen.now))
+    ensures input_unused { (later : ℕ → Files)
+        → (on_side (λ x. on_position (playing_at later table.now x) (fen_of fen.now))
         (side_of side.now)).needs.input ≡ false → input.new ≡ input.old }
 {
     match read_side(side) {
@@ -152,12 +162,16 @@ pub fn run_play<S: Store, I: Source, O: Sink, L: Ledger>(
     out: &mut O,
     steps: &mut Steps<L>,
 ) -> End
-    ensures ran { Ran (play_words (map string_bytes words.now)) result
+    // What the store held after each number of plies: where it tells, what it tells.
+    ensures ran { (later : ℕ → Files) × MayBeLater (S.files store.old) later
+        × (Ran (play_words later (map string_bytes words.now)) result
         (world_of S.Store I.Source O.Sink store.old input.old out.old steps.old)
-        (world_of S.Store I.Source O.Sink store.new input.new out.new steps.new) }
-    ensures store_unused { (play_words (map string_bytes words.now)).needs.store ≡ false
+        (world_of S.Store I.Source O.Sink store.new input.new out.new steps.new)) }
+    ensures store_unused { (later : ℕ → Files)
+        → (play_words later (map string_bytes words.now)).needs.store ≡ false
         → store.new ≡ store.old }
-    ensures input_unused { (play_words (map string_bytes words.now)).needs.input ≡ false
+    ensures input_unused { (later : ℕ → Files)
+        → (play_words later (map string_bytes words.now)).needs.input ≡ false
         → input.new ≡ input.old }
 {
     match three_words(words) {

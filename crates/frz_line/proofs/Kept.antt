@@ -13,7 +13,7 @@ use Rattle.frz_exits.specs.Books.{value_by}
 use Rattle.frz_game.specs.Games.{graph_by}
 use Rattle.frz_table.specs.Layout.{codes_at}
 use Rattle.frz_table.specs.Tables.{Table, table_size}
-use Rattle.frz_line.specs.Kept.{told_codes}
+use Rattle.frz_line.specs.Kept.{told_codes, MayRead}
 
 code_in : (f : List ℕ → List ℕ) (start code : ℕ) (o : Option (List ℕ))
     → IfSome o (λ bytes. slice_get (f bytes) start ≡ Some code)
@@ -30,21 +30,18 @@ code_kept table side None start code h = tt
 code_kept table side (Some m) start code h =
     code_in (codes_at side table.text (table_size table)) start code (m table.name) h
 
--- what holds of the codes that are told holds of those that were told with the same files
-pub told_before : (table : Table) (side : Colour) {files now : Option Files} (P : List ℕ → Type 0)
-    → now ≡ files → IfSome (told_codes table side now) P → IfSome (told_codes table side files) P
-told_before table side P same h =
-    subst (λ (f : Option Files). IfSome (told_codes table side f) P) same h
+-- the codes that may be read are those that might be read before, with the same files
+pub may_before : (table : Table) (side : Colour) {files now : Option Files} (size : ℕ)
+    (codes : List ℕ) → now ≡ files → MayRead (told_codes table side now) size codes
+    → MayRead (told_codes table side files) size codes
+may_before table side size codes same h =
+    subst (λ (f : Option Files). MayRead (told_codes table side f) size codes) same h
 
--- what holds of them in the game by the rules that were read, with their book, holds of them in the
--- game by the table's rules
-pub told_by_table : (table : Table) (side : Colour) {files now : Option Files}
-    {rules book : RuleLines} (P : Arena Step ℕ Value → List ℕ → Type 0) → now ≡ files
-    → book ≡ rules → rules ≡ table.rules
-    → IfSome (told_codes table side now) (P (graph_by rules (value_by book)))
-    → IfSome (told_codes table side files) (P (graph_by table.rules (value_by table.rules)))
-told_by_table table side {files} {rules = rules} {book = book} P same by is h =
-    subst (λ (r : RuleLines). IfSome (told_codes table side files) (P (graph_by r (value_by r)))) is
-    (subst (λ (r : RuleLines). IfSome (told_codes table side files)
-    (P (graph_by rules (value_by r)))) by
-    (told_before table side (P (graph_by rules (value_by book))) same h))
+-- what holds in the game by the rules that were read, with their book, holds in the game by the
+-- table's rules
+pub by_table : {table : RuleLines} {rules book : RuleLines} (P : Arena Step ℕ Value → Type 0)
+    → book ≡ rules → rules ≡ table
+    → P (graph_by rules (value_by book)) → P (graph_by table (value_by table))
+by_table {table} {rules} {book} P by is h =
+    subst (λ (r : RuleLines). P (graph_by r (value_by r))) is
+    (subst (λ (r : RuleLines). P (graph_by rules (value_by r))) by h)

@@ -1,10 +1,11 @@
 -- The lemmas that the crates above use.
 pub use Rattle.frz_line.proofs.Choices.{found_code}
-pub use Rattle.frz_line.proofs.Chosen.{AsksForOne, FillsLocal, arm_found, at_in, local_code_of}
+pub use Rattle.frz_line.proofs.Chosen.{AsksForOne, FillsLocal, arm_found, at_in, known, local_code_of}
 pub use Rattle.frz_line.proofs.Goings.{GoesTo, over_here, stage_due, stage_told}
-pub use Rattle.frz_line.proofs.Kept.{code_kept, told_before, told_by_table}
+pub use Rattle.frz_line.proofs.Gathered.{any_read, small_codes, start_read}
+pub use Rattle.frz_line.proofs.Kept.{by_table, code_kept, may_before}
 pub use Rattle.frz_line.proofs.Options.{both, every}
-pub use Rattle.frz_line.proofs.Played.{quiet_here}
+pub use Rattle.frz_line.proofs.Played.{and_now, before_is, now_is, now_may, quiet_here}
 pub use Rattle.frz_line.proofs.Seen.{move_there, next_code_is}
 pub use Rattle.frz_line.proofs.Spending.{
   at_one,
@@ -16,6 +17,6 @@ pub use Rattle.frz_line.proofs.Spending.{
   spends_last,
   spends_on,
 }
-pub use Rattle.frz_line.proofs.Starting.{no_member, start_inside}
+pub use Rattle.frz_line.proofs.Starting.{from_start, from_start_may, no_member, start_inside}
 pub use Rattle.frz_line.proofs.TextLines.{as_lines, ends_arm, ends_behind}
 pub use Rattle.frz_line.proofs.Turning.{PlyDue, never_fails, ply_due}

@@ -1,5 +1,6 @@
 mod Choices
 mod Chosen
+mod Gathered
 mod Goings
 mod Kept
 mod Options

@@ -1,7 +1,7 @@
 -- A line as far as it was played.
-use Rattle.std.proofs.Common.{◌≡◌, ◌≤◌, ◌<◌, ◌+◌, ◌==◌, ◌++◌, ℕ, suc, ◌⊎◌, inl, inr, Bool, true, false, List, [], ◌∷◌, Option, refl, sym, subst, ap, ◌∙◌, arith, if◌then◌else◌, Result, Ok, Err, IfSome, append_assoc}
+use Rattle.std.proofs.Common.{◌≡◌, ◌≤◌, ◌<◌, ◌+◌, ◌==◌, ◌++◌, ℕ, suc, ◌⊎◌, inl, inr, Bool, true, false, List, [], ◌∷◌, Option, refl, sym, subst, ap, ◌∙◌, arith, if◌then◌else◌, Result, Ok, Err, append_assoc, eq-eqb}
 use Rattle.std.specs.Prelude.{slice_index}
-use Rattle.std.proofs.lemmas.Bool.Decides.{nat_tests}
+use Rattle.std.proofs.lemmas.Bool.Decides.{eqb_tells, nat_tests}
 use Rattle.frz_board.specs.declared.man.Colour.{Colour}
 use Rattle.frz_board.specs.Moving.{Step}
 use Rattle.frz_sets.specs.declared.exit.Value.{Value}
@@ -25,48 +25,54 @@ use Rattle.frz_line.specs.declared.playing.Turn.TheVariants.{Over, On}
 use Rattle.frz_line.specs.Costs.{way_numbers, SpendsAt}
 use Rattle.frz_line.specs.Ends.{told, Finishes}
 use Rattle.frz_line.specs.Faults.{WroteBy}
+use Rattle.frz_line.specs.Kept.{MayRead}
 use Rattle.frz_line.specs.Lines.{LinePly, EndOfLine, GoesOn}
 use Rattle.frz_line.specs.Texts.{line_text, start_line, plies_text, last_line}
 use Rattle.frz_line.specs.Turns.{TurnsTo, rest_text, GoesBy, Plays}
-use Rattle.frz_line.proofs.Options.{both, every}
+use Rattle.frz_line.proofs.Gathered.{any_read}
 use Rattle.frz_line.proofs.Spending.{came_on, nothing_spent, spends_last, spends_on}
 
 -- what is left of a line from the start, behind the text that
 -- was written and the numbers that it came to
-pub record IsLeft (arena : Arena Step ℕ Value) (side : Colour) (kept : List ℕ) (start code : ℕ)
+pub record IsLeft (arena : Arena Step ℕ Value) (side : Colour) (kept : ℕ → List ℕ) (start code : ℕ)
     (spot : Spot) (numbers text : List ℕ) (plies : List LinePly) (end : EndOfLine) : Type 0 where
-  pub agrees : slice_index kept spot.number ≡ spot.code
+  pub agrees : slice_index (kept spot.played) spot.number ≡ spot.code
   pub others : List LinePly
   pub way : GoesOn arena side kept spot.played spot.number others end
   pub is : text ++ rest_text side spot others (told side end) ≡ line_text side code plies
       (told side end)
-  pub came : numbers ++ way_numbers (Inside spot.number) others ≡ way_numbers (Inside start) plies
+  pub came : numbers ++ way_numbers (Inside (spot.played, spot.number)) others
+      ≡ way_numbers (Inside (0, start)) plies
 
 -- each line from the start comes by here
-abbrev pub ComeBy : Arena Step ℕ Value → Colour → List ℕ → (start code : ℕ) → Spot
+abbrev pub ComeBy : Arena Step ℕ Value → Colour → (ℕ → List ℕ) → (start code : ℕ) → Spot
     → (numbers text : List ℕ) → Type 0
 ComeBy arena side kept start code spot numbers text =
-    slice_index kept start ≡ code →
+    slice_index (kept 0) start ≡ code →
     (plies : List LinePly) (end : EndOfLine) → GoesOn arena side kept 0 start plies end →
     IsLeft arena side kept start code spot numbers text plies end
 
-pub record SoFar (known : Option (List ℕ)) (arena : Arena Step ℕ Value) (side : Colour)
+pub record SoFar (known : Option (List ℕ)) (size : ℕ) (arena : Arena Step ℕ Value) (side : Colour)
     (start code : ℕ) (spot : Spot) (old new : SinkTold) (before now : Spent) : Type 0 where
   pub text : List ℕ
   pub numbers : List ℕ
   pub lines : IsLines text
   pub took : TookText text old new
   pub spent : SpendsAt arena 0 numbers before now
-  pub comes : IfSome known (λ kept. ComeBy arena side kept start code spot numbers text)
+  -- what was read after each ply
+  pub read : ℕ → List ℕ
+  pub may : (k : ℕ) → MayRead known size (read k)
+  pub comes : (kept : ℕ → List ℕ) → ((k : ℕ) → k < spot.played → kept (suc k) ≡ read k) →
+      ComeBy arena side kept start code spot numbers text
 
 more_is : (k : ℕ) → (k + 1 == 0) ≡ false
 more_is k = grind (arith, nat_tests)
 
-pub at_start : (known : Option (List ℕ)) (arena : Arena Step ℕ Value) (side : Colour)
+pub at_start : (known : Option (List ℕ)) (size : ℕ) (arena : Arena Step ℕ Value) (side : Colour)
     (start code : ℕ) (out : SinkTold) (now : Spent)
-    → SoFar known arena side start code (record { number = start; code = code; played = 0 }) out out
+    → SoFar known size arena side start code (record { number = start; code = code; played = 0 }) out out
     now now
-at_start known arena side start code out now =
+at_start known size arena side start code out now =
     let spot : Spot = record { number = start; code = code; played = 0 } in
     record {
       text = [];
@@ -74,13 +80,14 @@ at_start known arena side start code out now =
       lines = inl refl;
       took = took_nothing out;
       spent = nothing_spent arena now;
-      comes = every known (λ kept. ComeBy arena side kept start code spot [] [])
-          (λ kept agrees plies end w.
-          record { agrees = agrees; others = plies; way = w; is = refl; came = refl });
+      read = λ k. (any_read known size).0;
+      may = λ k. (any_read known size).1;
+      comes = λ kept same agrees plies end w.
+          record { agrees = agrees; others = plies; way = w; is = refl; came = refl };
     }
 
 -- a ply was played
-after_ply : (arena : Arena Step ℕ Value) (side : Colour) (kept : List ℕ) (start code : ℕ)
+after_ply : (arena : Arena Step ℕ Value) (side : Colour) (kept : ℕ → List ℕ) (start code : ℕ)
     (spot next : Spot) (numbers text more : List ℕ) → next.played ≡ spot.played + 1
     → ComeBy arena side kept start code spot numbers text
     → GoesBy arena side kept spot more (Ok (On next.number next.code))
@@ -98,26 +105,28 @@ after_ply arena side kept start code spot next numbers text more e comes goes =
     ap (λ (b : Bool). (if b then start_line side next.code others answer else [])
     ++ (plies_text others ++ last_line answer)) later ∙ sym g.2.1.5 in
     record {
-      agrees = g.2.0;
+      agrees = subst (λ k. slice_index (kept k) next.number ≡ next.code) played g.2.0;
       others = others;
       way = subst (λ k. GoesOn arena side kept k next.number others end) played g.2.1.4;
       is = ap (λ (z : List ℕ). (text ++ more) ++ z) rest
           ∙ (append_assoc text more g.0 ∙ (ap (λ (z : List ℕ). text ++ z) g.1 ∙ l.is));
-      came = came_on numbers spot.number next.number l.others others g.2.1.0
-          (way_numbers (Inside start) plies) l.came g.2.1.2 g.2.1.3;
+      came = subst (λ k. (numbers ++ spot.number ∷ []) ++ way_numbers (Inside (k, next.number)) others
+          ≡ way_numbers (Inside (0, start)) plies) played
+          (came_on numbers spot.played spot.number (suc spot.played, next.number) l.others others
+          g.2.1.0 (way_numbers (Inside (0, start)) plies) l.came g.2.1.2 g.2.1.3);
     }
 
 -- a turn as the line's last: with its end, or with a fault
-abbrev pub AtEnd : Arena Step ℕ Value → Colour → List ℕ → Spot → (more : List ℕ)
+abbrev pub AtEnd : Arena Step ℕ Value → Colour → (ℕ → List ℕ) → Spot → (more : List ℕ)
     → Result LineEnd LineFault → Type 0
 AtEnd arena side kept spot more result =
-    slice_index kept spot.number ≡ spot.code →
+    slice_index (kept spot.played) spot.number ≡ spot.code →
     (plies : List LinePly) (end : EndOfLine) →
     GoesOn arena side kept spot.played spot.number plies end →
     (rest : List ℕ) × (more ++ rest ≡ rest_text side spot plies (told side end))
     × Finishes result (told side end) rest
 
-played_out : (arena : Arena Step ℕ Value) (side : Colour) (kept : List ℕ) (start code : ℕ)
+played_out : (arena : Arena Step ℕ Value) (side : Colour) (kept : ℕ → List ℕ) (start code : ℕ)
     (spot : Spot) (numbers text more : List ℕ) (result : Result LineEnd LineFault)
     (before mid now : Spent) → SpendsAt arena 0 numbers before mid
     → SpendsAt arena 0 (spot.number ∷ []) mid now
@@ -127,16 +136,27 @@ played_out arena side kept start code spot numbers text more result before mid n
     λ agrees plies end w.
     let l = comes agrees plies end w in
     let g = ends l.agrees l.others end l.way in
-    let spent = spends_last arena numbers spot.number l.others (way_numbers (Inside start) plies)
-    before mid now l.came b n in
+    let spent = spends_last arena numbers spot.played spot.number l.others
+    (way_numbers (Inside (0, start)) plies) before mid now l.came b n in
     (g.0, append_assoc text more g.0 ∙ (ap (λ (z : List ℕ). text ++ z) g.1 ∙ l.is), g.2, spent)
 
 -- what a line wrote
-abbrev pub LineWrote : Option (List ℕ) → Arena Step ℕ Value → Colour → (start code : ℕ)
-    → Result LineEnd LineFault → (old new : SinkTold) → (before now : Spent) → Type 0
-LineWrote known arena side start code result old new before now =
+abbrev pub LineWrote : Option (List ℕ) → (size : ℕ) → Arena Step ℕ Value → Colour
+    → (start code : ℕ) → Result LineEnd LineFault → (old new : SinkTold) → (before now : Spent)
+    → Type 0
+LineWrote known size arena side start code result old new before now =
     (text : List ℕ) × IsLines text × WroteBy result text old new
-    × IfSome known (λ kept. Plays arena side kept start code text result before now)
+    × ((read : ℕ → List ℕ) × ((k : ℕ) → MayRead known size (read k))
+    × ((kept : ℕ → List ℕ) → ((k : ℕ) → kept (suc k) ≡ read k)
+    → Plays arena side kept start code text result before now))
+
+-- what was read in a turn
+abbrev pub TurnRead : Option (List ℕ) → (size : ℕ) → Arena Step ℕ Value → Colour → Spot
+    → (more : List ℕ) → Result Turn LineFault → Type 0
+TurnRead known size arena side spot more result =
+    (now : List ℕ) × MayRead known size now
+    × ((kept : ℕ → List ℕ) → kept (suc spot.played) ≡ now
+    → GoesBy arena side kept spot more result)
 
 wrote_after : (text more : List ℕ) (result : Result LineEnd LineFault) (old mid new : SinkTold)
     → TookText text old mid → WroteBy result more mid new → WroteBy result (text ++ more) old new
@@ -156,14 +176,14 @@ wrote_after text more (Err faults.NoMemory) old mid new t w =
     took_behind text more (text ++ more) old mid new t refl w
 
 -- a fault that was answered
-fault_wrote : (known : Option (List ℕ)) (arena : Arena Step ℕ Value) (side : Colour)
+fault_wrote : (known : Option (List ℕ)) (size : ℕ) (arena : Arena Step ℕ Value) (side : Colour)
     (start code : ℕ) (old new : SinkTold) (before now : Spent) (fault : LineFault)
     (result : Result LineEnd LineFault) → IsErrAnd result (λ e. e ≡ fault)
-    → LineWrote known arena side start code (Err fault) old new before now
-    → LineWrote known arena side start code result old new before now
-fault_wrote known arena side start code old new before now fault (Ok end) h w = absurd h
-fault_wrote known arena side start code old new before now fault (Err e) h w =
-    subst (λ (f : LineFault). LineWrote known arena side start code (Err f) old new before now)
+    → LineWrote known size arena side start code (Err fault) old new before now
+    → LineWrote known size arena side start code result old new before now
+fault_wrote known size arena side start code old new before now fault (Ok end) h w = absurd h
+fault_wrote known size arena side start code old new before now fault (Err e) h w =
+    subst (λ (f : LineFault). LineWrote known size arena side start code (Err f) old new before now)
     (sym h) w
 
 wrote_same : (fault : LineFault) (more : List ℕ) (old new : SinkTold)
@@ -175,16 +195,40 @@ wrote_same faults.Store more old new w = w
 wrote_same faults.Output more old new w = w
 wrote_same faults.NoMemory more old new w = w
 
+-- what was read until now, and in this turn
+abbrev pub and_now : (ℕ → List ℕ) → (played : ℕ) → List ℕ → ℕ → List ℕ
+and_now read played now k = if k == played then now else read k
+
+pub now_is : (read : ℕ → List ℕ) (played : ℕ) (now : List ℕ) → and_now read played now played ≡ now
+now_is read played now = let e = eq-eqb played played refl in rw e refl
+
+pub before_is : (read : ℕ → List ℕ) (played : ℕ) (now : List ℕ) (k : ℕ) → k < played
+    → and_now read played now k ≡ read k
+before_is read played now k l =
+    elim (eqb_tells k played) [
+      | inl w ↦ absurd (let e = w.1 in omega (arith, e, l))
+      | inr w ↦ rw w.0 refl
+    ]
+
+pub now_may : (known : Option (List ℕ)) (size : ℕ) (read : ℕ → List ℕ) (played : ℕ) (now : List ℕ)
+    → ((k : ℕ) → MayRead known size (read k)) → MayRead known size now → (k : ℕ)
+    → MayRead known size (and_now read played now k)
+now_may known size read played now may this k = by_test (k == played)
+  where
+    by_test : (b : Bool) → MayRead known size (if b then now else read k)
+    by_test true = this
+    by_test false = may k
+
 -- one turn more
-module _ {known : Option (List ℕ)} {arena : Arena Step ℕ Value} {side : Colour} {start code : ℕ}
-    {spot : Spot} {old mid : SinkTold} (new : SinkTold) {before middle now : Spent}
-    (far : SoFar known arena side start code spot old mid before middle)
+module _ {known : Option (List ℕ)} {size : ℕ} {arena : Arena Step ℕ Value} {side : Colour}
+    {start code : ℕ} {spot : Spot} {old mid : SinkTold} (new : SinkTold) {before middle now : Spent}
+    (far : SoFar known size arena side start code spot old mid before middle)
     (few : SpendsAt arena 0 (spot.number ∷ []) middle now) (more : List ℕ) (lines : IsLines more)
   where
     -- a ply was played
     pub next_far : {turn : Turn} {number read : ℕ} → turn ≡ On number read → TookText more mid new
-        → IfSome known (λ kept. GoesBy arena side kept spot more (Ok turn))
-        → SoFar known arena side start code
+        → TurnRead known size arena side spot more (Ok turn)
+        → SoFar known size arena side start code
         (record { number = number; code = read; played = spot.played + 1 }) old new before now
     next_far {turn} {number} {read} on took goes =
         let next : Spot = record { number = number; code = read; played = spot.played + 1 } in
@@ -194,46 +238,53 @@ module _ {known : Option (List ℕ)} {arena : Arena Step ℕ Value} {side : Colo
           lines = lines_behind far.text more far.lines lines;
           took = took_behind far.text more (far.text ++ more) old mid new far.took refl took;
           spent = spends_on arena far.numbers (spot.number ∷ []) before middle now far.spent few;
-          comes = both known (λ kept. ComeBy arena side kept start code spot far.numbers far.text)
-              (λ kept. GoesBy arena side kept spot more (Ok turn))
-              (λ kept. ComeBy arena side kept start code next (far.numbers ++ spot.number ∷ [])
-              (far.text ++ more))
-              (λ kept c g.
-              after_ply arena side kept start code spot next far.numbers far.text more refl c
-              (subst (λ (t : Turn). GoesBy arena side kept spot more (Ok t)) on g)) far.comes goes;
+          read = and_now far.read spot.played goes.0;
+          may = now_may known size far.read spot.played goes.0 far.may goes.1;
+          comes = λ kept same.
+              after_ply arena side kept start code spot next far.numbers far.text more refl
+              (far.comes kept (λ k l. same k (omega (arith, l))
+              ∙ before_is far.read spot.played goes.0 k l))
+              (subst (λ (t : Turn). GoesBy arena side kept spot more (Ok t)) on
+              (goes.2 kept (same spot.played (omega arith)
+              ∙ now_is far.read spot.played goes.0)));
         }
 
     last_far : (result : Result LineEnd LineFault) → WroteBy result more mid new
-        → IfSome known (λ kept. AtEnd arena side kept spot more result)
-        → LineWrote known arena side start code result old new before now
-    last_far result wrote ends = (
+        → (read : List ℕ) → MayRead known size read
+        → ((kept : ℕ → List ℕ) → kept (suc spot.played) ≡ read
+        → AtEnd arena side kept spot more result)
+        → LineWrote known size arena side start code result old new before now
+    last_far result wrote read this ends = (
       far.text ++ more,
       lines_behind far.text more far.lines lines,
       wrote_after far.text more result old mid new far.took wrote,
-      both known (λ kept. ComeBy arena side kept start code spot far.numbers far.text)
-          (λ kept. AtEnd arena side kept spot more result)
-          (λ kept. Plays arena side kept start code (far.text ++ more) result before now)
-          (λ kept c g. played_out arena side kept start code spot far.numbers far.text more result
-          before middle now far.spent few c g) far.comes ends,
+      (
+        and_now far.read spot.played read,
+        now_may known size far.read spot.played read far.may this,
+        λ kept same. played_out arena side kept start code spot far.numbers far.text more result
+            before middle now far.spent few
+            (far.comes kept (λ k l. same k ∙ before_is far.read spot.played read k l))
+            (ends kept (same spot.played ∙ now_is far.read spot.played read)),
+      ),
     )
 
     -- the line's end
     pub over_far : {turn : Turn} {last : LineEnd} → turn ≡ Over last → TookText more mid new
-        → IfSome known (λ kept. GoesBy arena side kept spot more (Ok turn))
-        → LineWrote known arena side start code (Ok last) old new before now
+        → TurnRead known size arena side spot more (Ok turn)
+        → LineWrote known size arena side start code (Ok last) old new before now
     over_far {turn} {last} over took goes =
-        last_far (Ok last) took
-        (subst (λ (t : Turn). IfSome known (λ kept. GoesBy arena side kept spot more (Ok t))) over
-        goes)
+        last_far (Ok last) took goes.0 goes.1
+        (λ kept same. subst (λ (t : Turn). GoesBy arena side kept spot more (Ok t)) over
+        (goes.2 kept same))
 
     -- a fault on its way
     pub fault_far : (fault : LineFault) (result : Result LineEnd LineFault)
         → IsErrAnd result (λ e. e ≡ fault) → WroteBy {T = Turn} (Err fault) more mid new
-        → IfSome known (λ kept. GoesBy arena side kept spot more (Err fault))
-        → LineWrote known arena side start code result old new before now
+        → TurnRead known size arena side spot more (Err fault)
+        → LineWrote known size arena side start code result old new before now
     fault_far fault result is wrote goes =
-        fault_wrote known arena side start code old new before now fault result is
-        (last_far (Err fault) (wrote_same fault more mid new wrote) goes)
+        fault_wrote known size arena side start code old new before now fault result is
+        (last_far (Err fault) (wrote_same fault more mid new wrote) goes.0 goes.1 goes.2)
 
 -- the store was not called
 pub quiet_here : (store : StoreTold) → StoreQuiet store store

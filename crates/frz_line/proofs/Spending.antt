@@ -61,19 +61,19 @@ spends_less arena xs ys before now spent =
     }
 
 -- a way that is at a number comes to it
-comes_here : (number : ℕ) (plies : List (Ply Step ℕ Value)) → (others : List ℕ)
-    × (way_numbers (Inside number) plies ≡ number ∷ others)
-comes_here number [] = ([], refl)
-comes_here number (x ∷ plies) = (way_numbers x.arm.next plies, refl)
+comes_here : (at : ℕ × ℕ) (plies : List (Ply Step (ℕ × ℕ) Value)) → (others : List ℕ)
+    × (way_numbers (Inside at) plies ≡ at.1 ∷ others)
+comes_here at [] = ([], refl)
+comes_here at (x ∷ plies) = (way_numbers x.arm.next plies, refl)
 
 -- a way that went by some numbers, and was at one when it stopped
-pub spends_last : (arena : Arena Step ℕ Value) (xs : List ℕ) (number : ℕ)
-    (plies : List (Ply Step ℕ Value)) (whole : List ℕ) (before mid now : Spent)
-    → xs ++ way_numbers (Inside number) plies ≡ whole
+pub spends_last : (arena : Arena Step ℕ Value) (xs : List ℕ) (played number : ℕ)
+    (plies : List (Ply Step (ℕ × ℕ) Value)) (whole : List ℕ) (before mid now : Spent)
+    → xs ++ way_numbers (Inside (played, number)) plies ≡ whole
     → SpendsAt arena 0 xs before mid → SpendsAt arena 0 (number ∷ []) mid now
     → SpendsAt arena 0 whole before now
-spends_last arena xs number plies whole before mid now are first last =
-    let here = comes_here number plies in
+spends_last arena xs played number plies whole before mid now are first last =
+    let here = comes_here (played, number) plies in
     let all : (xs ++ number ∷ []) ++ here.0 ≡ whole = append_assoc xs (number ∷ []) here.0
     ∙ (ap (λ (l : List ℕ). xs ++ l) (sym here.1) ∙ are) in
     subst (λ (l : List ℕ). SpendsAt arena 0 l before now) all
@@ -81,14 +81,15 @@ spends_last arena xs number plies whole before mid now are first last =
     (spends_on arena xs (number ∷ []) before mid now first last))
 
 -- a way that went by some numbers goes on behind this one, by its first ply
-pub came_on : (xs : List ℕ) (number next : ℕ) (plies others : List (Ply Step ℕ Value))
-    (first : Ply Step ℕ Value) (whole : List ℕ) → xs ++ way_numbers (Inside number) plies ≡ whole
+pub came_on : (xs : List ℕ) (played number : ℕ) (next : ℕ × ℕ)
+    (plies others : List (Ply Step (ℕ × ℕ) Value)) (first : Ply Step (ℕ × ℕ) Value)
+    (whole : List ℕ) → xs ++ way_numbers (Inside (played, number)) plies ≡ whole
     → plies ≡ first ∷ others → first.arm.next ≡ Inside next
     → (xs ++ number ∷ []) ++ way_numbers (Inside next) others ≡ whole
-came_on xs number next plies others first whole came are to =
-    let on : way_numbers (Inside number) plies ≡ number ∷ way_numbers (Inside next) others =
-    ap (way_numbers (Inside number)) are
-    ∙ ap (λ (z : Next ℕ Value). number ∷ way_numbers z others) to in
+came_on xs played number next plies others first whole came are to =
+    let on : way_numbers (Inside (played, number)) plies ≡ number ∷ way_numbers (Inside next) others =
+    ap (way_numbers (Inside (played, number))) are
+    ∙ ap (λ (z : Next (ℕ × ℕ) Value). number ∷ way_numbers z others) to in
     append_assoc xs (number ∷ []) (way_numbers (Inside next) others)
     ∙ (ap (λ (l : List ℕ). xs ++ l) (sym on) ∙ came)
 

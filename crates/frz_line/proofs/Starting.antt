@@ -1,5 +1,5 @@
 -- A line from the number of a position.
-use Rattle.std.proofs.Common.{◌≡◌, ◌<◌, ℕ, inl, List, [], Option, Some, None, IfSome, Result, Ok, Err, refl, sym, subst, ap, ◌∙◌}
+use Rattle.std.proofs.Common.{◌≡◌, ◌<◌, ◌^◌, ℕ, zero, suc, inl, List, [], Option, Some, None, IfSome, Result, Ok, Err, refl, sym, subst, ap, ◌∙◌}
 use Rattle.std.specs.Prelude.{slice_index, ◌↔◌, IsSome}
 use Rattle.std.specs.Result.{IsErrAnd}
 use Rattle.frz_board.specs.declared.man.Colour.{Colour}
@@ -28,7 +28,8 @@ use Rattle.frz_line.specs.Faults.{WroteBy, fault_of}
 use Rattle.frz_line.specs.Lines.{GoesOn}
 use Rattle.frz_line.specs.Texts.{start_line, line_text}
 use Rattle.frz_line.specs.Turns.{Plays}
-use Rattle.frz_line.proofs.Options.{both, every}
+use Rattle.frz_line.specs.Kept.{MayRead}
+use Rattle.frz_line.proofs.Gathered.{any_read, start_read}
 use Rattle.frz_line.proofs.Spending.{read_alone, read_first}
 use Rattle.frz_line.proofs.Turned.{unfinished}
 
@@ -48,77 +49,81 @@ no_member p same is member =
     (let no = is.1 (subst (λ (z : List GroupLine). Member z p) (sym same) member) in cc)
 
 -- what was written of the line
-abbrev pub WroteLine : Option (List ℕ) → RuleLines → Colour → Board → Result LineEnd LineFault
-    → (old new : SinkTold) → (before now : Spent) → Type 0
-WroteLine known rules side p result old new before now =
-    (text : List ℕ) × IsLines text × WroteBy result text old new
-    × IfSome known (λ codes. TellsLine rules side codes p text result before now)
+abbrev pub WroteLine : Option (List ℕ) → (size : ℕ) → RuleLines → Colour → Board
+    → Result LineEnd LineFault → (old new : SinkTold) → (before now : Spent) → Type 0
+WroteLine told_by size rules side p result old new before now =
+    (text : List ℕ) × (read : ℕ → List ℕ) × IsLines text × WroteBy result text old new
+    × ((k : ℕ) → MayRead told_by size (read k))
+    × ((codes : ℕ → List ℕ) → ((k : ℕ) → codes k ≡ read k)
+    → TellsLine rules side codes p text result before now)
 
 -- a position that is not in the set
-pub nothing_told : (known : Option (List ℕ)) (rules : RuleLines) (side : Colour) (p : Board)
-    (out : SinkTold) (before : Spent) → (Member rules.groups p → ⊥)
-    → WroteLine known rules side p (Err faults.Outside) out out before before
-nothing_told known rules side p out before none = (
+pub nothing_told : (known : Option (List ℕ)) (size : ℕ) (rules : RuleLines) (side : Colour)
+    (p : Board) (out : SinkTold) (before : Spent) → (Member rules.groups p → ⊥)
+    → WroteLine known size rules side p (Err faults.Outside) out out before before
+nothing_told known size rules side p out before none = (
   [],
+  λ k. (any_read known size).0,
   inl refl,
   took_nothing out,
-  every known (λ codes. TellsLine rules side codes p [] (Err faults.Outside) before before)
-      (λ codes member plies end w. absurd (none member)),
+  λ k. (any_read known size).1,
+  λ codes same member plies end w. absurd (none member),
 )
 
 -- nothing was written of the line
-whole_left : (rules : RuleLines) (side : Colour) (codes : List ℕ) (p : Board)
+whole_left : (rules : RuleLines) (side : Colour) (codes : ℕ → List ℕ) (p : Board)
     (result : Result LineEnd LineFault) (before now : Spent) → Spends 1 0 before now
     → ((answer : Result LineEnd LineFault) (rest : List ℕ) → IsUnfinished answer rest
     → Finishes result answer rest) → TellsLine rules side codes p [] result before now
 whole_left rules side codes p result before now l stops = λ member plies end w.
-    let code : ℕ = slice_index codes (Num rules.groups p) in
+    let code : ℕ = slice_index (codes 0) (Num rules.groups p) in
     let text = line_text side code plies (told side end) in (
       text,
       refl,
       stops (told side end) text
           (unfinished (start_line side code plies (told side end)) plies (told side end)),
-      read_alone (graph_by rules (value_by rules)) (way_numbers (Inside (Num rules.groups p)) plies)
-          before now l,
+      read_alone (graph_by rules (value_by rules))
+          (way_numbers (Inside (0, Num rules.groups p)) plies) before now l,
     )
 
 -- the code of the start was not read, for a fault that leaves a line unfinished
-unread : (known : Option (List ℕ)) (rules : RuleLines) (side : Colour) (p : Board) (out : SinkTold)
-    (before now : Spent) → Spends 1 0 before now → (fault : LineFault)
+unread : (known : Option (List ℕ)) (size : ℕ) (rules : RuleLines) (side : Colour) (p : Board)
+    (out : SinkTold) (before now : Spent) → Spends 1 0 before now → (fault : LineFault)
     → WroteBy {T = LineEnd} (Err fault) [] out out
     → ((answer : Result LineEnd LineFault) (rest : List ℕ) → IsUnfinished answer rest
     → Finishes (Err fault) answer rest)
-    → WroteLine known rules side p (Err fault) out out before now
-unread known rules side p out before now l fault wrote leaves = (
+    → WroteLine known size rules side p (Err fault) out out before now
+unread known size rules side p out before now l fault wrote leaves = (
   [],
+  λ k. (any_read known size).0,
   inl refl,
   wrote,
-  every known (λ codes. TellsLine rules side codes p [] (Err fault) before now)
-      (λ codes. whole_left rules side codes p (Err fault) before now l leaves),
+  λ k. (any_read known size).1,
+  λ codes same. whole_left rules side codes p (Err fault) before now l leaves,
 )
 
-pub start_unread : (known : Option (List ℕ)) (rules : RuleLines) (side : Colour) (p : Board)
-    (out : SinkTold) {before now : Spent} → Spends 1 0 before now
+pub start_unread : (known : Option (List ℕ)) (size : ℕ) (rules : RuleLines) (side : Colour)
+    (p : Board) (out : SinkTold) {before now : Spent} → Spends 1 0 before now
     → (fault : StoreFault) (result : Result LineEnd LineFault)
     → IsErrAnd result (λ e. e ≡ fault_of fault)
-    → WroteLine known rules side p result out out before now
-start_unread known rules side p out l fault (Ok end) h = absurd h
-start_unread known rules side p out {before} {now} l fault (Err f) h =
-    subst (λ (z : LineFault). WroteLine known rules side p (Err z) out out before now) (sym h)
+    → WroteLine known size rules side p result out out before now
+start_unread known size rules side p out l fault (Ok end) h = absurd h
+start_unread known size rules side p out {before} {now} l fault (Err f) h =
+    subst (λ (z : LineFault). WroteLine known size rules side p (Err z) out out before now) (sym h)
     (by_fault fault)
   where
     by_fault : (fault : StoreFault)
-        → WroteLine known rules side p (Err (fault_of fault)) out out before now
+        → WroteLine known size rules side p (Err (fault_of fault)) out out before now
     by_fault Failed =
-        unread known rules side p out before now l faults.Store (took_nothing out)
+        unread known size rules side p out before now l faults.Store (took_nothing out)
         (λ answer rest left. left)
     by_fault NoMemory =
-        unread known rules side p out before now l faults.NoMemory (took_nothing out)
+        unread known size rules side p out before now l faults.NoMemory (took_nothing out)
         (λ answer rest left. left)
 
-tells : (rules : RuleLines) (side : Colour) (codes : List ℕ) (p : Board) (text : List ℕ)
+tells : (rules : RuleLines) (side : Colour) (codes : ℕ → List ℕ) (p : Board) (text : List ℕ)
     (result : Result LineEnd LineFault) (before mid now : Spent) (start code : ℕ)
-    → start ≡ Num rules.groups p → Spends 1 0 before mid → slice_index codes start ≡ code
+    → start ≡ Num rules.groups p → Spends 1 0 before mid → slice_index (codes 0) start ≡ code
     → Plays (graph_by rules (value_by rules)) side codes start code text result mid now
     → TellsLine rules side codes p text result before now
 tells rules side codes p text result before mid now start code is few agrees plays =
@@ -126,33 +131,48 @@ tells rules side codes p text result before mid now start code is few agrees pla
     let h = plays agrees plies end
     (subst (λ i. GoesOn (graph_by rules (value_by rules)) side codes 0 i plies end)
     (sym is) w) in
-    let same : code ≡ slice_index codes (Num rules.groups p) = sym agrees
-    ∙ ap (slice_index codes) is in
+    let same : code ≡ slice_index (codes 0) (Num rules.groups p) = sym agrees
+    ∙ ap (slice_index (codes 0)) is in
     let at_it = subst (λ i. SpendsAt (graph_by rules (value_by rules)) 0
-    (way_numbers (Inside i) plies) mid now) is h.3 in (
+    (way_numbers (Inside (0, i)) plies) mid now) is h.3 in (
       h.0,
       h.1 ∙ ap (λ c. line_text side c plies (told side end)) same,
       h.2,
-      read_first (graph_by rules (value_by rules)) (way_numbers (Inside (Num rules.groups p)) plies)
-          before mid now few at_it,
+      read_first (graph_by rules (value_by rules))
+          (way_numbers (Inside (0, Num rules.groups p)) plies) before mid now few at_it,
     )
 
-pub line_told : (known : Option (List ℕ)) (rules : RuleLines) (side : Colour) (p : Board)
+-- the codes that were read of the start, and then after each ply
+abbrev pub from_start : List ℕ → (ℕ → List ℕ) → ℕ → List ℕ
+from_start first read zero = first
+from_start first read (suc k) = read k
+
+pub from_start_may : (known : Option (List ℕ)) (size : ℕ) (first : List ℕ) (read : ℕ → List ℕ)
+    → MayRead known size first → ((k : ℕ) → MayRead known size (read k)) → (k : ℕ)
+    → MayRead known size (from_start first read k)
+from_start_may known size first read here rest zero = here
+from_start_may known size first read here rest (suc k) = rest k
+
+pub line_told : (known : Option (List ℕ)) (size : ℕ) (rules : RuleLines) (side : Colour) (p : Board)
     (result : Result LineEnd LineFault) (old new : SinkTold) {before mid : Spent}
     (now : Spent) (start code : ℕ) → start ≡ Num rules.groups p → Spends 1 0 before mid
+    → start < size → code < 2 ^ 32
     → IfSome known (λ codes. slice_index codes start ≡ code) → (text : List ℕ) → IsLines text
     → WroteBy result text old new
-    → IfSome known (λ codes. Plays (graph_by rules (value_by rules)) side codes start code text
-    result mid now) → WroteLine known rules side p result old new before now
-line_told known rules side p result old new {before} {mid} now start code is few agrees text lines
-    wrote plays = (
+    → (read : ℕ → List ℕ) → ((k : ℕ) → MayRead known size (read k))
+    → ((codes : ℕ → List ℕ) → ((k : ℕ) → codes (suc k) ≡ read k)
+    → Plays (graph_by rules (value_by rules)) side codes start code text result mid now)
+    → WroteLine known size rules side p result old new before now
+line_told known size rules side p result old new {before} {mid} now start code is few inside small
+    agrees text lines wrote read may plays =
+    let first = start_read known size start code inside small agrees in
+    let all = from_start first.0 read in (
       text,
+      all,
       lines,
       wrote,
-      both known (λ codes. slice_index codes start ≡ code)
-          (λ codes. Plays (graph_by rules (value_by rules)) side codes start code text result mid
-          now)
-          (λ codes. TellsLine rules side codes p text result before now)
-          (λ codes. tells rules side codes p text result before mid now start code is few) agrees
-          plays,
+      from_start_may known size first.0 read first.1 may,
+      λ codes same. tells rules side codes p text result before mid now start code is few
+          (ap (λ (l : List ℕ). slice_index l start) (same 0) ∙ first.2)
+          (plays codes (λ k. same (suc k))),
     )

@@ -1,5 +1,5 @@
 -- What a turn of a line leaves: its text, where it leads, and how the line goes on.
-use Rattle.std.proofs.Common.{◌≡◌, ◌<◌, ◌==◌, ◌&&◌, ◌++◌, ℕ, suc, ◌⊎◌, inl, inr, Bool, true, false, List, [], ◌∷◌, Option, Some, map, length, refl, sym, subst, ap, ◌∙◌, if◌then◌else◌, nat_le, Result, Ok, Err, IfOk, IfSome, append_assoc, append-nil}
+use Rattle.std.proofs.Common.{◌≡◌, ◌<◌, ◌==◌, ◌&&◌, ◌++◌, ℕ, suc, ◌⊎◌, inl, inr, Bool, true, false, List, [], ◌∷◌, Some, map, length, refl, sym, subst, ap, ◌∙◌, if◌then◌else◌, nat_le, Result, Ok, Err, IfOk, append_assoc, append-nil}
 use Rattle.std.specs.Prelude.{slice_get, slice_index, codes}
 use Rattle.std.specs.List.{Contains}
 use Rattle.frz_board.specs.declared.man.Colour.{Colour}
@@ -18,8 +18,10 @@ use Rattle.frz_arena.specs.Arena.{Arena, IsArm}
 use Rattle.frz_arena.specs.Choices.{has_code}
 use Rattle.frz_arena.specs.Chosen.{IsFound}
 use Rattle.frz_arena.specs.Codes.{is_win, is_failure}
+use Rattle.frz_arena.specs.Counted.{after, counted}
 use Rattle.frz_arena.specs.LocalCodes as words
 use Rattle.frz_arena.specs.LocalCodes.{node_code}
+use Rattle.frz_arena.specs.Names.{named, named_next}
 use Rattle.frz_arena.specs.Plies.{LeadsTo}
 use Rattle.frz_arena.specs.WayEnds.{Wrong, NoBound, Mated, Stalemated, Exit, Cut}
 use Rattle.frz_arena.specs.Ways.{Over as OverWay, Moves, stage, IsWay}
@@ -30,7 +32,6 @@ use Rattle.frz_game.specs.declared.wrong.Wrong.{Wrong as WrongEntry}
 use Rattle.frz_store.specs.declared.outside.StoreFault.{StoreFault}
 use Rattle.frz_store.specs.declared.outside.StoreFault.TheVariants.{Failed, NoMemory}
 use Rattle.std.specs.Result.{IsErrAnd}
-use Rattle.std.proofs.lemmas.Option.{IfSome_then}
 use Rattle.frz_line.specs.declared.due.Due.{Due}
 use Rattle.frz_line.specs.declared.due.Due.TheVariants as dues
 use Rattle.frz_line.specs.declared.end.LineEnd.{LineEnd}
@@ -48,9 +49,8 @@ use Rattle.frz_line.specs.Lines.{LinePly, EndOfLine, line_player}
 use Rattle.frz_line.specs.Sights.{choices_by, IsNextCode}
 use Rattle.frz_line.specs.Texts.{arm_text, end_line, exit_line, move_line, next_line, plies_text, start_line, last_line}
 use Rattle.frz_line.specs.Turns.{first_line, moved_text, over_text, turn_of, Answers, IsPlayed, TurnsTo, rest_text, Leaves, GoesBy}
-use Rattle.frz_line.proofs.Chosen.{AsksForOne, FillsLocal, arm_found, at_in, local_code_of}
+use Rattle.frz_line.proofs.Chosen.{AsksForOne, FillsLocal, arm_found, at_in, known, local_code_of}
 use Rattle.frz_line.proofs.Goings.{stage_told, stage_due, over_here, moves_on}
-use Rattle.frz_line.proofs.Options.{every}
 use Rattle.frz_line.proofs.Seen.{next_code_is}
 use Rattle.frz_line.proofs.TextLines.{EndsLine, as_lines, ends_arm, ends_behind, ends_exit}
 use Rattle.frz_line.proofs.Turning.{ply_due, never_failing, still_early}
@@ -151,15 +151,15 @@ turn_next {arena} {size} finite side spot {arms} cs are many stands (dues.Ply m)
     (still_early spot.code spot.played MOST_PLIES d.early)) h.5
 
 -- a line that is over here
-over_goes : (arena : Arena Step ℕ Value) (side : Colour) (kept : List ℕ) (spot : Spot)
+over_goes : (arena : Arena Step ℕ Value) (side : Colour) (kept : ℕ → List ℕ) (spot : Spot)
     (text : List ℕ) (result : Result Turn LineFault) (f : EndOfLine)
-    → (slice_index kept spot.number ≡ spot.code
-    → stage (line_player arena side kept) spot.played spot.number ≡ OverWay f)
+    → (slice_index (kept spot.played) spot.number ≡ spot.code
+    → stage (line_player arena side kept) spot.played (spot.played, spot.number) ≡ OverWay f)
     → text ≡ rest_text side spot [] (told side f) → Leaves arena side kept spot [] f [] result
     → GoesBy arena side kept spot text result
 over_goes arena side kept spot text result f stops is leaves = λ agrees plies end w.
-    let o = over_here (line_player arena side kept) MOST_PLIES spot.played refl tt tt spot.number
-    plies end f w (stops agrees) in
+    let o = over_here (line_player arena side kept) MOST_PLIES spot.played refl tt tt
+    (spot.played, spot.number) plies end f w (stops agrees) in
     subst (λ (e : EndOfLine). (rest : List ℕ)
     × (text ++ rest ≡ rest_text side spot plies (told side e))
     × Leaves arena side kept spot plies e rest result) (sym o.1)
@@ -168,7 +168,7 @@ over_goes arena side kept spot text result f stops is leaves = λ agrees plies e
     × Leaves arena side kept spot ys f rest result) (sym o.0)
     ([], append-nil text ∙ is, leaves))
 
-leaves_by : (arena : Arena Step ℕ Value) (side : Colour) (kept : List ℕ) (spot : Spot)
+leaves_by : (arena : Arena Step ℕ Value) (side : Colour) (kept : ℕ → List ℕ) (spot : Spot)
     (plies : List LinePly) (e : EndOfLine) (rest : List ℕ) (turn : Turn) (text : List ℕ)
     (result : Result Turn LineFault) (old new : SinkTold)
     → Leaves arena side kept spot plies e rest (Ok turn) → Answers turn text result old new
@@ -192,13 +192,14 @@ joined_exit : (first move exit : List ℕ) → (first ++ (move ++ exit)) ++ [] �
 joined_exit first move exit = simp (append_assoc, append-nil)
 
 -- a ply that was played
-ply_leaves : (arena : Arena Step ℕ Value) (side : Colour) (kept : List ℕ) (spot : Spot)
+ply_leaves : (arena : Arena Step ℕ Value) (side : Colour) (kept : ℕ → List ℕ) (spot : Spot)
     (a : Arm Step ℕ Value) (next : Next ℕ Value) (code : ℕ) (first : LinePly)
     (others : List LinePly) (end : EndOfLine) (result : Result Turn LineFault) (old new : SinkTold)
-    → ((n : ℕ) → next ≡ Inside n → slice_index kept n ≡ code) → first.arm.mv ≡ a.mv
-    → first.arm.next ≡ next
+    → ((n : ℕ) → next ≡ Inside n → slice_index (kept (suc spot.played)) n ≡ code) → first.arm.mv ≡ a.mv
+    → first.arm.next ≡ named_next (after (suc spot.played)) next
     → LeadsTo (λ p. IsWay (line_player arena side kept) (suc spot.played) tt p others end tt)
-    (λ v. (others ≡ []) × (end ≡ Exit v) × (tt {0} ≡ tt)) next
+    (λ v. (others ≡ []) × (end ≡ Exit v) × (tt {0} ≡ tt))
+    (named_next (after (suc spot.played)) next)
     → Answers (turn_of next code) (first_line side spot ++ (move_line a.mv ++ next_line next))
     result old new → (rest : List ℕ)
     × ((first_line side spot ++ (move_line a.mv ++ next_line next)) ++ rest ≡ rest_text side spot
@@ -239,20 +240,21 @@ ply_leaves arena side kept spot a (Outside v) code first others end result old n
 
 -- by what is due, the stage of the line's player
 line_stage : FillsLocal → (arena : Arena Step ℕ Value) (size : ℕ) → IsFinite arena size
-    → (side : Colour) (spot : Spot) (arms : List (Arm Step ℕ Value)) (cs kept : List ℕ)
-    → arms ≡ arena.arms spot.number → cs ≡ map (arm_code side kept) arms
-    → slice_index kept spot.number ≡ spot.code → (due : Due)
+    → (side : Colour) (spot : Spot) (arms : List (Arm Step ℕ Value)) (cs : List ℕ) (kept : ℕ → List ℕ)
+    → arms ≡ arena.arms spot.number → cs ≡ map (arm_code side (kept (suc spot.played))) arms
+    → slice_index (kept spot.played) spot.number ≡ spot.code → (due : Due)
     → due ≡ due_by (spot.played == 0) (nat_le MOST_PLIES spot.played) spot.code
     (node_code side (arena.node spot.number) (free_among arms cs) cs) (arena.node spot.number)
-    → stage (line_player arena side kept) spot.played spot.number ≡ stage_told spot.number spot.code
-    due
+    → stage (line_player arena side kept) spot.played (spot.played, spot.number)
+    ≡ stage_told (spot.played, spot.number) spot.code due
 line_stage fills arena size finite side spot arms cs kept are same agrees due e =
-    let local = local_code_of fills arena size finite side kept spot.number arms cs are same in
+    let local = local_code_of fills arena size finite side kept spot.played spot.number arms cs are
+    same in
     let cut = ap (λ (c : ℕ). (c == 1) && nat_le MOST_PLIES spot.played) agrees in
-    stage_due (line_player arena side kept) spot.played spot.number spot.code
+    stage_due (line_player arena side kept) spot.played (spot.played, spot.number) spot.code
     (node_code side (arena.node spot.number) (free_among arms cs) cs) (spot.played == 0)
     (nat_le MOST_PLIES spot.played) agrees (sym local) refl cut
-    ∙ ap (stage_told spot.number spot.code) (sym e)
+    ∙ ap (stage_told (spot.played, spot.number) spot.code) (sym e)
 
 inside_code : (arena : Arena Step ℕ Value) (side : Colour) (kept : List ℕ) (next : Next ℕ Value)
     (code : ℕ) → words.next_code arena side (λ i. slice_index kept i) next ≡ code → (n : ℕ)
@@ -261,10 +263,10 @@ inside_code arena side kept next code is n e =
     ap (λ (z : Next ℕ Value). words.next_code arena side (λ i. slice_index kept i) z) (sym e) ∙ is
 
 ply_goes : AsksForOne → (arena : Arena Step ℕ Value) (size : ℕ) → IsFinite arena size
-    → (side mover : Colour) (spot : Spot) (arms : List (Arm Step ℕ Value)) (cs kept : List ℕ)
-    → arms ≡ arena.arms spot.number → cs ≡ map (arm_code side kept) arms
-    → (slice_index kept spot.number ≡ spot.code
-    → stage (line_player arena side kept) spot.played spot.number ≡ Moves mover)
+    → (side mover : Colour) (spot : Spot) (arms : List (Arm Step ℕ Value)) (cs : List ℕ) (kept : ℕ → List ℕ)
+    → arms ≡ arena.arms spot.number → cs ≡ map (arm_code side (kept (suc spot.played))) arms
+    → (slice_index (kept spot.played) spot.number ≡ spot.code
+    → stage (line_player arena side kept) spot.played (spot.played, spot.number) ≡ Moves mover)
     → (place : ℕ) (x : Choice) (a : Arm Step ℕ Value)
     → IsFound has_code (is_win spot.code) spot.code (choices_by (same_colour mover side) arms cs)
     place x → slice_get arms place ≡ Some a → (result : Result Turn LineFault) (old new : SinkTold)
@@ -272,138 +274,148 @@ ply_goes : AsksForOne → (arena : Arena Step ℕ Value) (size : ℕ) → IsFini
     → GoesBy arena side kept spot (moved_text side spot a) result
 ply_goes one arena size finite side mover spot arms cs kept are same due place x a found there
     result old new answers = λ agrees plies end w.
-    let g = moves_on (line_player arena side kept) MOST_PLIES spot.played refl tt tt spot.number
-    plies end mover w (due agrees) in
-    let f = arm_found arena size finite side mover kept spot.number spot.code arms cs are same
-    agrees place x a found there in
-    let arm : g.first.arm ≡ a =
-    (one arena side (λ i. slice_index kept i) mover spot.number g.first.place place g.first.arm
-    a g.chosen f.chosen).1 in
-    let leads = subst (λ (z : Arm Step ℕ Value). LeadsTo
+    let g = moves_on (line_player arena side kept) MOST_PLIES spot.played refl tt tt
+    (spot.played, spot.number) plies end mover w (due agrees) in
+    let f = arm_found arena size finite side mover kept spot.played spot.number spot.code arms cs are
+    same agrees place x a found there in
+    let turn : Arm Step ℕ Value → Arm Step (ℕ × ℕ) Value = named (after (suc spot.played)) in
+    let arm : g.first.arm ≡ turn a =
+    (one (counted arena) side (known kept) mover (spot.played, spot.number) g.first.place place
+    g.first.arm (turn a) g.chosen f.chosen).1 in
+    let leads = subst (λ (z : Arm Step (ℕ × ℕ) Value). LeadsTo
     (λ p. IsWay (line_player arena side kept) (suc spot.played) tt p g.others end tt)
     (λ v. (g.others ≡ []) × (end ≡ Exit v) × (tt {0} ≡ tt)) z.next) arm g.leads in
     subst (λ (ys : List LinePly). (rest : List ℕ)
     × (moved_text side spot a ++ rest ≡ rest_text side spot ys (told side end))
     × Leaves arena side kept spot ys end rest result) (sym g.are)
     (ply_leaves arena side kept spot a a.next x.code g.first g.others end result old new
-    (inside_code arena side kept a.next x.code f.is) (ap (λ (z : Arm Step ℕ Value). z.mv) arm)
-    (ap (λ (z : Arm Step ℕ Value). z.next) arm) leads answers)
+    (inside_code arena side (kept (suc spot.played)) a.next x.code f.is)
+    (ap (λ (z : Arm Step (ℕ × ℕ) Value). z.mv) arm)
+    (ap (λ (z : Arm Step (ℕ × ℕ) Value). z.next) arm) leads answers)
+
+-- what a turn wrote, over codes like these
+abbrev pub TurnWrote : ((ℕ → List ℕ) → Type 0) → Arena Step ℕ Value → Colour → Spot
+    → Result Turn LineFault → (old new : SinkTold) → Type 0
+TurnWrote is arena side spot result old new =
+    (text : List ℕ) × IsLines text × WroteBy result text old new
+    × ((kept : ℕ → List ℕ) → is kept → GoesBy arena side kept spot text result)
 
 -- nothing but a fault was answered
-stop_wrote : (known : Option (List ℕ)) (arena : Arena Step ℕ Value) (side : Colour) (spot : Spot)
+stop_wrote : (is : (ℕ → List ℕ) → Type 0) (arena : Arena Step ℕ Value) (side : Colour) (spot : Spot)
     (result : Result Turn LineFault) (old new : SinkTold) (fault : LineFault)
     → WroteBy {T = Turn} (Err fault) [] old new → result ≡ Err fault
-    → IfSome known (λ kept. GoesBy arena side kept spot [] result) → (text : List ℕ) × IsLines text
-    × WroteBy result text old new × IfSome known (λ kept. GoesBy arena side kept spot text result)
-stop_wrote known arena side spot result old new fault w e goes =
+    → ((kept : ℕ → List ℕ) → is kept → GoesBy arena side kept spot [] result)
+    → TurnWrote is arena side spot result old new
+stop_wrote is arena side spot result old new fault w e goes =
     ([], inl refl, by_stop fault result old new w e, goes)
 
-over_wrote : FillsLocal → (known : Option (List ℕ)) (arena : Arena Step ℕ Value) (size : ℕ)
+-- these codes were read for these moves in this turn
+abbrev pub IsReadBy : Colour → Spot → List (Arm Step ℕ Value) → List ℕ → (ℕ → List ℕ) → Type 0
+IsReadBy side spot arms cs kept = cs ≡ map (arm_code side (kept (suc spot.played))) arms
+
+over_wrote : FillsLocal → (arena : Arena Step ℕ Value) (size : ℕ)
     → IsFinite arena size → (side : Colour) (spot : Spot) (arms : List (Arm Step ℕ Value))
     (cs : List ℕ) → arms ≡ arena.arms spot.number → (due : Due)
     → due ≡ due_by (spot.played == 0) (nat_le MOST_PLIES spot.played) spot.code
     (node_code side (arena.node spot.number) (free_among arms cs) cs) (arena.node spot.number)
-    → IfSome known (λ kept. cs ≡ map (arm_code side kept) arms) → (f : EndOfLine) (last : LineEnd)
-    → stage_told spot.number spot.code due ≡ OverWay f → told side f ≡ Ok last
+    → (f : EndOfLine) (last : LineEnd)
+    → stage_told (spot.played, spot.number) spot.code due ≡ OverWay f → told side f ≡ Ok last
     → (result : Result Turn LineFault) (old new : SinkTold)
-    → Answers (Over last) (over_text side spot last) result old new → (text : List ℕ) × IsLines text
-    × WroteBy result text old new × IfSome known (λ kept. GoesBy arena side kept spot text result)
-over_wrote fills known arena size finite side spot arms cs are due e codes_told f last stops is
-    result old new h =
+    → Answers (Over last) (over_text side spot last) result old new
+    → TurnWrote (IsReadBy side spot arms cs) arena side spot result old new
+over_wrote fills arena size finite side spot arms cs are due e f last stops is result old new h =
     let text = over_text side spot last in
     let whole : text ≡ rest_text side spot [] (told side f) =
     ap (λ (z : Result LineEnd LineFault). rest_text side spot [] z) (sym is) in
-    let leaves : (kept : List ℕ) → Leaves arena side kept spot [] f [] result = λ kept.
+    let leaves : (kept : ℕ → List ℕ) → Leaves arena side kept spot [] f [] result = λ kept.
     leaves_by arena side kept spot [] f [] (Over last) text result old new
     (subst (λ (z : Result LineEnd LineFault). Finishes (Ok last) z []) (sym is) (refl, refl))
     h in (
       text,
       as_lines text (ends_behind (first_line side spot) (end_line last) (ends_end last)),
       by_answers (Over last) text result old new h,
-      IfSome_then known codes_told (λ kept same.
+      (λ kept same.
           over_goes arena side kept spot text result f
           (λ agrees. line_stage fills arena size finite side spot arms cs kept are same agrees due e
           ∙ stops) whole (leaves kept)),
     )
 
 -- what a turn wrote, by what was due
-module _ (one : AsksForOne) (fills : FillsLocal) (known : Option (List ℕ))
+module _ (one : AsksForOne) (fills : FillsLocal)
     {arena : Arena Step ℕ Value} {size : ℕ} (finite : IsFinite arena size) (side : Colour)
     (spot : Spot) {arms : List (Arm Step ℕ Value)} (cs : List ℕ)
     (are : arms ≡ arena.arms spot.number) where
   pub turn_wrote : (due : Due)
       → due ≡ due_by (spot.played == 0) (nat_le MOST_PLIES spot.played) spot.code
       (node_code side (arena.node spot.number) (free_among arms cs) cs) (arena.node spot.number)
-      → IfSome known (λ kept. cs ≡ map (arm_code side kept) arms)
       → (result : Result Turn LineFault) (old new : SinkTold)
-      → IsPlayed side spot due arms cs result old new → (text : List ℕ) × IsLines text
-      × WroteBy result text old new × IfSome known (λ kept. GoesBy arena side kept spot text result)
-  turn_wrote (dues.Wrong given) e codes_told result old new h =
+      → IsPlayed side spot due arms cs result old new
+      → TurnWrote (IsReadBy side spot arms cs) arena side spot result old new
+  turn_wrote (dues.Wrong given) e result old new h =
       let w : WrongEntry =
       record { side = side; number = spot.number; kept = spot.code; given = given } in
-      let f : EndOfLine = Wrong spot.number spot.code given in
-      stop_wrote known arena side spot result old new (faults.Wrong w) h.1 h.0
-      (IfSome_then known codes_told (λ kept same.
+      let f : EndOfLine = Wrong (spot.played, spot.number) spot.code given in
+      stop_wrote (IsReadBy side spot arms cs) arena side spot result old new (faults.Wrong w) h.1 h.0
+      (λ kept same.
       over_goes arena side kept spot [] result f
       (λ agrees. line_stage fills arena size finite side spot arms cs kept are same agrees
       (dues.Wrong given) e) (none_text (spot.played == 0))
       (subst (λ (z : Result Turn LineFault). Leaves arena side kept spot [] f [] z) (sym h.0)
-      (refl, refl))))
-  turn_wrote dues.NoBound e codes_told result old new h =
+      (refl, refl)))
+  turn_wrote dues.NoBound e result old new h =
       let f : EndOfLine = NoBound in
-      stop_wrote known arena side spot result old new faults.NoBound h.1 h.0
-      (IfSome_then known codes_told (λ kept same.
+      stop_wrote (IsReadBy side spot arms cs) arena side spot result old new faults.NoBound h.1 h.0
+      (λ kept same.
       over_goes arena side kept spot [] result f
       (λ agrees. line_stage fills arena size finite side spot arms cs kept are same agrees
       dues.NoBound e) (none_text (spot.played == 0))
       (subst (λ (z : Result Turn LineFault). Leaves arena side kept spot [] f [] z) (sym h.0)
-      (refl, refl))))
-  turn_wrote (dues.Mate m) e codes_told result old new h =
-      over_wrote fills known arena size finite side spot arms cs are (dues.Mate m) e codes_told
+      (refl, refl)))
+  turn_wrote (dues.Mate m) e result old new h =
+      over_wrote fills arena size finite side spot arms cs are (dues.Mate m) e
       (Mated m) ends.Mate refl refl result old new h
-  turn_wrote (dues.Stalemate m) e codes_told result old new h =
-      over_wrote fills known arena size finite side spot arms cs are (dues.Stalemate m) e codes_told
+  turn_wrote (dues.Stalemate m) e result old new h =
+      over_wrote fills arena size finite side spot arms cs are (dues.Stalemate m) e
       (Stalemated m) ends.Stalemate refl refl result old new h
-  turn_wrote dues.Cut e codes_told result old new h =
-      over_wrote fills known arena size finite side spot arms cs are dues.Cut e codes_told Cut
+  turn_wrote dues.Cut e result old new h =
+      over_wrote fills arena size finite side spot arms cs are dues.Cut e Cut
       ends.Cut refl refl result old new h
-  turn_wrote (dues.Ply m) e codes_told result old new h =
+  turn_wrote (dues.Ply m) e result old new h =
       let a = h.2 in
       let text = moved_text side spot a in (
         text,
         as_lines text (ends_behind (first_line side spot) (arm_text a) (ends_arm a)),
         by_answers (turn_of a.next h.1.code) text result old new h.5,
-        IfSome_then known codes_told (λ kept same.
+        (λ kept same.
             ply_goes one arena size finite side m spot arms cs kept are same
             (λ agrees. line_stage fills arena size finite side spot arms cs kept are same agrees
             (dues.Ply m) e) h.0 h.1 a h.3 h.4 result old new h.5),
       )
 
 -- the store stopped a turn before anything was written, by a fault that leaves a line unfinished
-stopped_before : (known : Option (List ℕ)) (arena : Arena Step ℕ Value) (side : Colour)
+stopped_before : (is : (ℕ → List ℕ) → Type 0) (arena : Arena Step ℕ Value) (side : Colour)
     (spot : Spot) (fault : LineFault) (result : Result Turn LineFault) (out : SinkTold)
     → WroteBy {T = Turn} (Err fault) [] out out
     → ((answer : Result LineEnd LineFault) (rest : List ℕ) → IsUnfinished answer rest
-    → Finishes (Err fault) answer rest) → result ≡ Err fault → (text : List ℕ) × IsLines text
-    × WroteBy result text out out × IfSome known (λ kept. GoesBy arena side kept spot text result)
-stopped_before known arena side spot fault result out wrote leaves e =
-    stop_wrote known arena side spot result out out fault wrote e
-    (every known (λ kept. GoesBy arena side kept spot [] result) (λ kept agrees plies end w.
+    → Finishes (Err fault) answer rest) → result ≡ Err fault
+    → TurnWrote is arena side spot result out out
+stopped_before is arena side spot fault result out wrote leaves e =
+    stop_wrote is arena side spot result out out fault wrote e
+    (λ kept any agrees plies end w.
     let rest = rest_text side spot plies (told side end) in (
       rest,
       refl,
       subst (λ (z : Result Turn LineFault). Leaves arena side kept spot plies end rest z) (sym e)
           (leaves (told side end) rest (rest_unfinished side spot plies (told side end))),
-    )))
+    ))
 
-pub stopped_by : (known : Option (List ℕ)) (arena : Arena Step ℕ Value) (side : Colour)
+pub stopped_by : (is : (ℕ → List ℕ) → Type 0) (arena : Arena Step ℕ Value) (side : Colour)
     (spot : Spot) (fault : StoreFault) (result : Result Turn LineFault) (out : SinkTold)
-    → IsErrAnd result (λ e. e ≡ fault_of fault) → (text : List ℕ) × IsLines text
-    × WroteBy result text out out × IfSome known (λ kept. GoesBy arena side kept spot text result)
-stopped_by known arena side spot fault (Ok turn) out h = absurd h
-stopped_by known arena side spot Failed (Err e) out h =
-    stopped_before known arena side spot faults.Store (Err e) out (took_nothing out)
+    → IsErrAnd result (λ e. e ≡ fault_of fault) → TurnWrote is arena side spot result out out
+stopped_by is arena side spot fault (Ok turn) out h = absurd h
+stopped_by is arena side spot Failed (Err e) out h =
+    stopped_before is arena side spot faults.Store (Err e) out (took_nothing out)
     (λ answer rest left. left) (ap Err h)
-stopped_by known arena side spot NoMemory (Err e) out h =
-    stopped_before known arena side spot faults.NoMemory (Err e) out (took_nothing out)
+stopped_by is arena side spot NoMemory (Err e) out h =
+    stopped_before is arena side spot faults.NoMemory (Err e) out (took_nothing out)
     (λ answer rest left. left) (ap Err h)

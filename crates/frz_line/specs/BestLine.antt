@@ -18,7 +18,7 @@ use Rattle.frz_line.specs.Texts.{line_text}
 -- the text begins the text of the line from the position's number, and is all of it where the
 -- line's end is answered; the code of the start is read once, and at each number that the line
 -- comes to the moves are made once, and the code is read once of each that stays inside
-abbrev pub TellsLine : RuleLines → Colour → List ℕ → Board → (text : List ℕ) →
+abbrev pub TellsLine : RuleLines → Colour → (codes : ℕ → List ℕ) → Board → (text : List ℕ) →
     Result LineEnd LineFault →
     (before now : Spent) → Type 0
 TellsLine rules side codes p text result before now =
@@ -26,7 +26,7 @@ TellsLine rules side codes p text result before now =
     (plies : List LinePly) (end : EndOfLine) →
     IsLine rules (value_by rules) side codes (Num rules.groups p) plies end →
     (rest : List ℕ)
-    × (text ++ rest ≡ line_text side (slice_index codes (Num rules.groups p)) plies (told side end))
+    × (text ++ rest ≡ line_text side (slice_index (codes 0) (Num rules.groups p)) plies (told side end))
     × Finishes result (told side end) rest
-    × SpendsAt (graph_by rules (value_by rules)) 1 (way_numbers (Inside (Num rules.groups p)) plies)
+    × SpendsAt (graph_by rules (value_by rules)) 1 (way_numbers (Inside (0, Num rules.groups p)) plies)
     before now

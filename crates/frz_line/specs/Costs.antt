@@ -23,10 +23,10 @@ abbrev pub reads_at : Arena Step ℕ Value → (numbers : List ℕ) → ℕ
 reads_at arena numbers = sum_by (λ n. arms_reads (arena.arms n)) numbers
 
 -- the numbers that these plies come to, from where a move has led
-abbrev pub way_numbers : Next ℕ Value → List (Ply Step ℕ Value) → List ℕ
+abbrev pub way_numbers : Next (ℕ × ℕ) Value → List (Ply Step (ℕ × ℕ) Value) → List ℕ
 way_numbers (Outside v) plies = []
-way_numbers (Inside n) [] = n ∷ []
-way_numbers (Inside n) (x ∷ plies) = n ∷ way_numbers x.arm.next plies
+way_numbers (Inside p) [] = p.1 ∷ []
+way_numbers (Inside p) (x ∷ plies) = p.1 ∷ way_numbers x.arm.next plies
 
 -- at most so many codes were read, each by a call that asks for four bytes, and so many steps made
 pub record Spends (reads steps : ℕ) (before now : Spent) : Type 0 where

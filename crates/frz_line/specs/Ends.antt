@@ -9,8 +9,8 @@ use Rattle.frz_line.specs.declared.end.LineFault.TheVariants as faults
 use Rattle.frz_line.specs.Lines.{EndOfLine}
 
 abbrev pub told : Colour → EndOfLine → Result LineEnd LineFault
-told side (Wrong number kept given) =
-    Err (faults.Wrong (record { side = side; number = number; kept = kept; given = given }))
+told side (Wrong at kept given) =
+    Err (faults.Wrong (record { side = side; number = at.1; kept = kept; given = given }))
 told side NoBound = Err faults.NoBound
 told side (Mated mover) = Ok ends.Mate
 told side (Stalemated mover) = Ok ends.Stalemate

@@ -1,5 +1,6 @@
 pub mod Faults
 pub mod Kept
+pub mod Reads
 pub mod Costs
 pub mod Dues
 pub mod Sights

@@ -105,13 +105,13 @@ rest_text side spot plies answer =
 
 -- how a turn leaves a line: it goes on behind its first ply,
 -- which leads to this number, or it finished
-abbrev pub Leaves : Arena Step ℕ Value → Colour → List ℕ → Spot → List LinePly → EndOfLine →
+abbrev pub Leaves : Arena Step ℕ Value → Colour → (ℕ → List ℕ) → Spot → List LinePly → EndOfLine →
     (rest : List ℕ) →
     Result Turn LineFault → Type 0
 Leaves arena side codes spot plies end rest (Ok (On number code)) =
-    (slice_index codes number ≡ code)
+    (slice_index (codes (suc spot.played)) number ≡ code)
     × ((first : LinePly) × (others : List LinePly) × (plies ≡ first ∷ others)
-    × (first.arm.next ≡ Inside number)
+    × (first.arm.next ≡ Inside (suc spot.played, number))
     × GoesOn arena side codes (suc spot.played) number others end
     × (rest ≡ plies_text others ++ last_line (told side end)))
 Leaves arena side codes spot plies end rest (Ok (Over last)) =
@@ -120,10 +120,10 @@ Leaves arena side codes spot plies end rest (Err fault) =
     Finishes (Err fault) (told side end) rest
 
 -- the text is what the turn adds to each line that goes on from here
-abbrev pub GoesBy : Arena Step ℕ Value → Colour → List ℕ → Spot → (text : List ℕ)
+abbrev pub GoesBy : Arena Step ℕ Value → Colour → (ℕ → List ℕ) → Spot → (text : List ℕ)
     → Result Turn LineFault → Type 0
 GoesBy arena side codes spot text result =
-    slice_index codes spot.number ≡ spot.code →
+    slice_index (codes spot.played) spot.number ≡ spot.code →
     (plies : List LinePly) (end : EndOfLine) →
     GoesOn arena side codes spot.played spot.number plies end →
     (rest : List ℕ) × (text ++ rest ≡ rest_text side spot plies (told side end))
@@ -131,11 +131,11 @@ GoesBy arena side codes spot text result =
 
 -- the text begins the text of each line from the start, and is all of it at the line's end; at each
 -- number that it comes to the moves were made once, and their codes read
-abbrev pub Plays : Arena Step ℕ Value → Colour → List ℕ → (start code : ℕ) → (text : List ℕ) →
+abbrev pub Plays : Arena Step ℕ Value → Colour → (ℕ → List ℕ) → (start code : ℕ) → (text : List ℕ) →
     Result LineEnd LineFault → (before now : Spent) → Type 0
 Plays arena side codes start code text result before now =
-    slice_index codes start ≡ code →
+    slice_index (codes 0) start ≡ code →
     (plies : List LinePly) (end : EndOfLine) → GoesOn arena side codes 0 start plies end →
     (rest : List ℕ) × (text ++ rest ≡ line_text side code plies (told side end))
     × Finishes result (told side end) rest
-    × SpendsAt arena 0 (way_numbers (Inside start) plies) before now
+    × SpendsAt arena 0 (way_numbers (Inside (0, start)) plies) before now

@@ -1,13 +1,13 @@
 //! The best line of a side from a position of a table file's set.
-ghost use Rattle.std.specs.Prelude.{◌≡◌, ◌↔◌, ◌≤◌, ℕ, List, Err, IfSome};
+ghost use Rattle.std.specs.Prelude.{◌≡◌, ◌↔◌, ◌≤◌, ℕ, List, Err};
 ghost use Rattle.frz_fide.specs.Valid.{IsValid};
 ghost use Rattle.frz_index.specs.Members.{Member};
 ghost use Rattle.frz_store.specs.Told.{store_of, sink_of, StoreQuiet};
 ghost use Rattle.frz_answer.specs.Answers.{IsLines};
 ghost use Rattle.frz_answer.specs.World.{spent_by};
-ghost use Rattle.frz_table.specs.Tables.{Carries};
+ghost use Rattle.frz_table.specs.Tables.{Carries, table_size};
 ghost use Rattle.frz_line.specs.Faults.{StoreCause, WroteBy};
-ghost use Rattle.frz_line.specs.Kept.{told_codes};
+ghost use Rattle.frz_line.specs.Kept.{told_codes, MayRead};
 ghost use Rattle.frz_line.specs.BestLine.{TellsLine};
 
 use crate::end::{LineEnd, LineFault};
@@ -15,7 +15,7 @@ use crate::line::play_line;
 use frz_board::{Colour, Position};
 use frz_exits::RuleBook;
 use frz_game::Game;
-use frz_game::laws::numbers::numbered;
+use frz_game::laws::numbers::{different_arms, numbered};
 use frz_steps::Steps;
 use frz_store::{Sink, Store};
 use frz_table::TableFile;
@@ -37,10 +37,15 @@ pub fn best_line<S: Store, O: Sink, L: Ledger>(
     ensures outside { (result ≡ Err LineFault.Outside) ↔ (Member table.now.rules.groups p.now → ⊥) }
     ensures untouched { result ≡ Err LineFault.Outside
         → (store.new ≡ store.old) × (out.new ≡ out.old) × (steps.new ≡ steps.old) }
-    ensures wrote { (text : List ℕ) × IsLines text
+
+    // The text is that of the line by the codes that were read after each number of plies. Where
+    // the store tells, they are those that it tells.
+    ensures wrote { (text : List ℕ) × (read : ℕ → List ℕ) × IsLines text
         × WroteBy result text (sink_of O.Sink out.old) (sink_of O.Sink out.new)
-        × IfSome (told_codes table.now side (S.files store.old))
-        (λ codes. TellsLine table.now.rules side codes p.now text result
+        × ((k : ℕ) → MayRead (told_codes table.now side (S.files store.old)) (table_size table.now)
+        (read k))
+        × ((codes : ℕ → List ℕ) → ((k : ℕ) → codes k ≡ read k)
+        → TellsLine table.now.rules side codes p.now text result
         (spent_by (store_of S.Store store.old) steps.old)
         (spent_by (store_of S.Store store.new) steps.new)) }
     ensures quiet { StoreQuiet (store_of S.Store store.old) (store_of S.Store store.new) }
@@ -51,6 +56,7 @@ pub fn best_line<S: Store, O: Sink, L: Ledger>(
         return Err(LineFault::Outside);
     };
     numbered();
+    different_arms();
     let rules = table.rules();
     let book = RuleBook::new(rules);
     let game = Game {

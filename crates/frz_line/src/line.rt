@@ -1,5 +1,5 @@
 //! The loop that plays a line.
-ghost use Rattle.std.specs.Prelude.{◌≡◌, ◌⊎◌, ◌≤◌, ◌<◌, ◌+◌, ◌*◌, ℕ, List, false, Err, IfOk, IfSome};
+ghost use Rattle.std.specs.Prelude.{◌≡◌, ◌⊎◌, ◌≤◌, ◌<◌, ◌+◌, ◌*◌, ℕ, suc, List, false, Err, IfOk};
 ghost use Rattle.frz_store.specs.Told.{store_of, sink_of, StoreQuiet};
 ghost use Rattle.frz_answer.specs.Answers.{IsLines};
 ghost use Rattle.frz_answer.specs.World.{spent_by};
@@ -7,17 +7,16 @@ ghost use Rattle.frz_table.specs.Tables.{Carries, table_size};
 ghost use Rattle.frz_arena.specs.Codes.{is_failure};
 ghost use Rattle.frz_line.specs.Costs.{arms_reads};
 ghost use Rattle.frz_line.specs.Faults.{StoreCause, WroteBy};
-ghost use Rattle.frz_line.specs.Kept.{told_codes};
+ghost use Rattle.frz_line.specs.Kept.{told_codes, MayRead};
+ghost use Rattle.frz_line.specs.Reads.{HasDifferentArms};
 ghost use Rattle.frz_line.specs.Turns.{GoesBy, TurnsTo, Plays};
 
 use crate::end::{LineEnd, LineFault, MOST_PLIES};
 use crate::playing::{Spot, Turn, play};
 use crate::seeing::sight;
-use frz_arena::laws::ways::arms_are_found;
-use frz_board::{Colour, Move};
+use frz_board::Colour;
 use frz_graph::laws::filled;
 use frz_graph::{Lists, NumberedGame};
-use frz_sets::Value;
 use frz_steps::Steps;
 use frz_store::{Sink, Store};
 use frz_table::TableFile;
@@ -37,13 +36,16 @@ fn turn<G: NumberedGame<L>, S: Store, O: Sink, L: Ledger>(
     requires sound { G.sound game.now }
     requires inside { spot.number < G.count game.now }
     requires many { table_size table.now ≡ G.count game.now }
+    requires different { HasDifferentArms (G.arena game.now) }
     requires carried { Carries (S.files store.old) table.now }
     requires stands { (spot.played ≡ 0) ⊎ (is_failure spot.code ≡ false) }
     ensures next { IfOk result (TurnsTo (G.count game.now) spot) }
     ensures wrote { (text : List ℕ) × IsLines text
         × WroteBy result text (sink_of O.Sink out.old) (sink_of O.Sink out.new)
-        × IfSome (told_codes table.now side (S.files store.old))
-        (λ codes. GoesBy (G.arena game.now) side codes spot text result) }
+        × ((read : List ℕ)
+        × MayRead (told_codes table.now side (S.files store.old)) (table_size table.now) read
+        × ((codes : ℕ → List ℕ) → codes (suc spot.played) ≡ read
+        → GoesBy (G.arena game.now) side codes spot text result)) }
     ensures placed { result ≡ Err LineFault.Outside → ⊥ }
     ensures quiet { StoreQuiet (store_of S.Store store.old) (store_of S.Store store.new) }
     ensures asked { S.asked store.new ≤
@@ -54,7 +56,6 @@ fn turn<G: NumberedGame<L>, S: Store, O: Sink, L: Ledger>(
     ensures step { steps.new ≤ steps.old + 1 }
     ensures later { steps.old ≤ steps.new }
 {
-    arms_are_found::<Move, u32, Value>();
     filled();
     let due = sight(
         game,
@@ -85,13 +86,17 @@ pub fn play_line<G: NumberedGame<L>, S: Store, O: Sink, L: Ledger>(
     requires sound { G.sound game.now }
     requires inside { start < G.count game.now }
     requires many { table_size table.now ≡ G.count game.now }
+    requires different { HasDifferentArms (G.arena game.now) }
     requires carried { Carries (S.files store.old) table.now }
     ensures wrote { (text : List ℕ) × IsLines text
         × WroteBy result text (sink_of O.Sink out.old) (sink_of O.Sink out.new)
-        × IfSome (told_codes table.now side (S.files store.old))
-        (λ codes. Plays (G.arena game.now) side codes start code text result
+        × ((read : ℕ → List ℕ)
+        × ((k : ℕ) → MayRead (told_codes table.now side (S.files store.old)) (table_size table.now)
+        (read k))
+        × ((codes : ℕ → List ℕ) → ((k : ℕ) → codes (suc k) ≡ read k)
+        → Plays (G.arena game.now) side codes start code text result
         (spent_by (store_of S.Store store.old) steps.old)
-        (spent_by (store_of S.Store store.new) steps.new)) }
+        (spent_by (store_of S.Store store.new) steps.new))) }
     ensures placed { result ≡ Err LineFault.Outside → ⊥ }
     ensures quiet { StoreQuiet (store_of S.Store store.old) (store_of S.Store store.new) }
     ensures cause { StoreCause result (store_of S.Store store.old) (store_of S.Store store.new) }

@@ -6,6 +6,7 @@ ghost use Rattle.frz_table.specs.Tables.{Carries, table_size};
 ghost use Rattle.frz_graph.specs.EntryCodes.{next_code, arm_code, IsWithin};
 ghost use Rattle.frz_line.specs.Costs.{arms_reads, next_reads};
 ghost use Rattle.frz_line.specs.Kept.{told_codes};
+ghost use Rattle.frz_line.specs.Reads.{IsCodeFor, AreCodesFor};
 
 use frz_board::Colour;
 use frz_graph::{CodeList, Next, NextList, exit_code};
@@ -23,6 +24,7 @@ fn read_code<S: Store>(
     requires carried { Carries (S.files store.old) table.now }
     ensures code { IfOk result (λ code. IfSome (told_codes table.now side (S.files store.old))
         (λ codes. code ≡ next_code side codes next)) }
+    ensures read { IfOk result (IsCodeFor side next) }
     ensures quiet { StoreQuiet (store_of S.Store store.old) (store_of S.Store store.new) }
     ensures asked { S.asked store.new ≤ S.asked store.old + 4 * next_reads next }
     ensures calls { S.calls store.new ≤ S.calls store.old + next_reads next }
@@ -49,6 +51,7 @@ pub fn read_codes<S: Store>(
     ensures many { OnOk result (length codes.new.items ≡ length list.now.items) }
     ensures codes { OnOk result (IfSome (told_codes table.now side (S.files store.old))
         (λ kept. codes.new.items ≡ map (arm_code side kept) list.now.items)) }
+    ensures read { OnOk result (AreCodesFor side list.now.items codes.new.items) }
     ensures quiet { StoreQuiet (store_of S.Store store.old) (store_of S.Store store.new) }
     ensures asked { S.asked store.new ≤ S.asked store.old + 4 * arms_reads list.now.items }
     ensures calls { S.calls store.new ≤ S.calls store.old + arms_reads list.now.items }

@@ -1,6 +1,6 @@
 //! What a player by a table file sees at a number: its moves and their codes, and what is due
 //! there. Lines and sessions share it.
-ghost use Rattle.std.specs.Prelude.{◌≡◌, ◌≤◌, ◌<◌, ◌+◌, ◌*◌, length, map, IfOk, IfSome, OnOk};
+ghost use Rattle.std.specs.Prelude.{◌≡◌, ◌≤◌, ◌<◌, ◌+◌, ◌*◌, ℕ, List, length, map, IfOk, OnOk};
 ghost use Rattle.frz_store.specs.Outside.{StoreCauses};
 ghost use Rattle.frz_store.specs.Told.{store_of, StoreQuiet};
 ghost use Rattle.frz_table.specs.Tables.{Carries, table_size};
@@ -8,7 +8,8 @@ ghost use Rattle.frz_arena.specs.LocalCodes.{node_code};
 ghost use Rattle.frz_graph.specs.EntryCodes.{arm_code};
 ghost use Rattle.frz_graph.specs.FreeCodes.{free_among};
 ghost use Rattle.frz_line.specs.Costs.{arms_reads};
-ghost use Rattle.frz_line.specs.Kept.{told_codes};
+ghost use Rattle.frz_line.specs.Kept.{told_codes, MayRead};
+ghost use Rattle.frz_line.specs.Reads.{HasDifferentArms};
 ghost use Rattle.frz_line.specs.Dues.{due_by};
 
 use crate::due::{Due, what_is_due};
@@ -38,6 +39,7 @@ pub fn sight<G: NumberedGame<L>, S: Store, L: Ledger>(
     requires sound { G.sound game.now }
     requires inside { number < G.count game.now }
     requires many { table_size table.now ≡ G.count game.now }
+    requires different { HasDifferentArms (G.arena game.now) }
     requires carried { Carries (S.files store.old) table.now }
     ensures due { IfOk result (λ due. due ≡ due_by is_start is_late kept
         (node_code side ((G.arena game.now).node number)
@@ -45,8 +47,9 @@ pub fn sight<G: NumberedGame<L>, S: Store, L: Ledger>(
         ((G.arena game.now).node number)) }
     ensures arms { OnOk result (lists.new.nexts.items ≡ (G.arena game.now).arms number) }
     ensures read { OnOk result (length lists.new.codes.items ≡ length lists.new.nexts.items) }
-    ensures codes { OnOk result (IfSome (told_codes table.now side (S.files store.old))
-        (λ codes. lists.new.codes.items ≡ map (arm_code side codes) lists.new.nexts.items)) }
+    ensures codes { OnOk result ((codes : List ℕ)
+        × MayRead (told_codes table.now side (S.files store.old)) (table_size table.now) codes
+        × (lists.new.codes.items ≡ map (arm_code side codes) lists.new.nexts.items)) }
     ensures quiet { StoreQuiet (store_of S.Store store.old) (store_of S.Store store.new) }
     ensures asked { S.asked store.new ≤
         S.asked store.old + 4 * arms_reads ((G.arena game.now).arms number) }

@@ -1,5 +1,5 @@
 -- The input of a session as that of an arena: each reply is a legal move, and leaves fewer lines.
-use Rattle.std.proofs.Common.{◌≡◌, ◌<◌, refl, sym, ap, ◌∙◌, ℕ, zero, suc, inl, inr, List, [], ◌∷◌, Option, Some, None, nat_lt, length, arith}
+use Rattle.std.proofs.Common.{◌≡◌, ◌<◌, refl, sym, ap, map, ◌∙◌, ℕ, zero, suc, inl, inr, List, [], ◌∷◌, Option, Some, None, nat_lt, length, arith}
 use Rattle.std.specs.Prelude.{slice_get}
 use Rattle.std.specs.Str.{bytes_eq}
 use Rattle.std.proofs.lemmas.List.Quantifiers.{position-Some}
@@ -8,7 +8,10 @@ use Rattle.frz_board.specs.Moving.{Step}
 use Rattle.frz_board.specs.Texts.{text_of}
 use Rattle.frz_sets.specs.declared.exit.Value.{Value}
 use Rattle.frz_arena.specs.declared.arm.Arm.{Arm}
+use Rattle.std.proofs.lemmas.Option.{slice_get-map}
 use Rattle.frz_arena.specs.Arena.{Arena}
+use Rattle.frz_arena.specs.Counted.{after, counted}
+use Rattle.frz_arena.specs.Names.{named}
 use Rattle.frz_arena.specs.Inputs.{Answer, Reply, Stop, IsInput}
 use Rattle.frz_words.specs.Words.{words}
 use Rattle.frz_play.specs.declared.end.TheConstants.{MOST_LENGTH}
@@ -67,10 +70,20 @@ replies arms (suc more) (b ∷ bs) =
           (replies arms more (behind_line (b ∷ bs))))
     ]
 
+counted_there : (arms : List (Arm Step ℕ Value)) (k place : ℕ) (a : Arm Step ℕ Value)
+    → slice_get arms place ≡ Some a
+    → (b : Arm Step (ℕ × ℕ) Value) × (slice_get (map (named (after k)) arms) place ≡ Some b)
+counted_there arms k place a there =
+    let turn : Arm Step ℕ Value → Arm Step (ℕ × ℕ) Value = named (after k) in
+    let m = slice_get-map turn arms place in
+    (turn a, rw (m, there) refl)
+
 pub reads_input : (arena : Arena Step ℕ Value)
-    → IsInput arena (λ (s : Input). s.more) (λ i (s : Input). reads (arena.arms i) s.more s.left)
+    → IsInput (counted arena) (λ (s : Input). s.more)
+    (λ p (s : Input). reads (arena.arms p.1) s.more s.left)
 reads_input arena = record {
   there = λ p mover s t refused place going e.
-      (replies (arena.arms p) s.more s.left refused place t e).0;
-  less = λ p s t refused place e. (replies (arena.arms p) s.more s.left refused place t e).1;
+      (let r = (replies (arena.arms p.1) s.more s.left refused place t e).0 in
+      counted_there (arena.arms p.1) (suc p.0) place r.0 r.1);
+  less = λ p s t refused place e. (replies (arena.arms p.1) s.more s.left refused place t e).1;
 }

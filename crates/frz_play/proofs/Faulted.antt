@@ -80,19 +80,20 @@ short_of fault side end rest unread is short =
     ]
 
 -- nothing was written or taken
-pub store_goes : (arena : Arena Step ℕ Value) (side : Colour) (kept : List ℕ) (spot : Spot)
+pub store_goes : (arena : Arena Step ℕ Value) (side : Colour) (kept : ℕ → List ℕ) (played : ℕ)
+    (spot : Spot)
     (reader : Reader) (fault : PlayFault) → IsStoreFault fault
-    → GoesBy arena side kept spot reader reader [] [] (Err fault)
-store_goes arena side kept spot reader fault is = λ agrees played start left may plies end last w.
+    → GoesBy arena side kept played spot reader reader [] [] (Err fault)
+store_goes arena side kept played spot reader fault is = λ agrees start left may plies end last w.
     let front = way_front arena side kept played (record { left = left; more = reader.more }) last
-    spot.number plies end w in
+    (played, spot.number) plies end w in
     let rest = rest_text side spot plies end in
     let short = short_text side end
     (if spot.is_start then start_line side spot.code plies end else [])
     (plies_text side plies) in
     (rest, refl, (front.0, front.1, short_of fault side end rest front.0 is short))
 
-stop_is : (own : Bool) (read : ℕ → Input → Answer Input Halt) (s t : Input) (q : ℕ)
+stop_is : (own : Bool) (read : ℕ × ℕ → Input → Answer Input Halt) (s t : Input) (q : ℕ × ℕ)
     (e : EndOfSession) → IsStopBy own (ByInput read) s q e t → (halt : Halt) × (e ≡ Stopped halt)
 stop_is true read s t q e h = absurd h
 stop_is false read s t q e h = (h.0, h.1)
@@ -104,82 +105,84 @@ nothing_both : (b : Bool) → let none : List ℕ = [] in none ≡ (if b then no
 nothing_both true = refl
 nothing_both false = refl
 
-module _ (arena : Arena Step ℕ Value) (side : Colour) (kept : List ℕ) (spot : Spot) where
-  over_start : (played : ℕ) (s last : Input) (plies : List SessionPly) (end f : EndOfSession)
+module _ (arena : Arena Step ℕ Value) (side : Colour) (kept : ℕ → List ℕ) (played : ℕ)
+    (spot : Spot) where
+  over_start : (s last : Input) (plies : List SessionPly) (end f : EndOfSession)
       → GoesOn arena side kept played s spot.number plies end last
-      → stage (session_player arena side kept) played spot.number ≡ OverWay f
+      → stage (session_player arena side kept) played (played, spot.number) ≡ OverWay f
       → start_line side spot.code [] f ≡ start_line side spot.code plies end
-  over_start played s last plies end f w over =
+  over_start s last plies end f w over =
       let o = over_here arena side kept played s last spot.number plies end f w over in
       ap (λ (e : EndOfSession). start_line side spot.code [] e) (sym o.1)
       ∙ ap (λ (ys : List SessionPly). start_line side spot.code ys end) (sym o.0)
 
-  moved_start : (played : ℕ) (s last : Input) (plies : List SessionPly) (end : EndOfSession)
+  moved_start : (s last : Input) (plies : List SessionPly) (end : EndOfSession)
       (mover : Colour) → GoesOn arena side kept played s spot.number plies end last
-      → stage (session_player arena side kept) played spot.number ≡ Moves mover
+      → stage (session_player arena side kept) played (played, spot.number) ≡ Moves mover
       → kept_line side spot.code ≡ start_line side spot.code plies end
-  moved_start played s last [] end mover (inl w) due = absurd (let h = w.0 in cc)
-  moved_start played s last [] end mover (inr w) due =
+  moved_start s last [] end mover (inl w) due = absurd (let h = w.0 in cc)
+  moved_start s last [] end mover (inr w) due =
       let stop = stop_is (same_colour w.0 side)
-      (λ i input. reads (arena.arms i) input.more input.left) s last spot.number end w.2 in
+      (λ i input. reads (arena.arms i.1) input.more input.left) s last (played, spot.number)
+      end w.2 in
       ap (λ (e : EndOfSession). start_line side spot.code [] e) (sym stop.1)
-  moved_start played s last (x ∷ plies) end mover w due = refl
+  moved_start s last (x ∷ plies) end mover w due = refl
 
   -- what opens a session is the line of its start
-  opening_is : (due : Due) (played : ℕ) (s last : Input) (plies : List SessionPly)
+  opening_is : (due : Due) (s last : Input) (plies : List SessionPly)
       (end : EndOfSession) → GoesOn arena side kept played s spot.number plies end last
-      → stage (session_player arena side kept) played spot.number ≡ stage_told spot.number spot.code
-      due → opening side spot due
+      → stage (session_player arena side kept) played (played, spot.number)
+      ≡ stage_told (played, spot.number) spot.code due → opening side spot due
       ≡ (if spot.is_start then start_line side spot.code plies end else [])
-  opening_is (dues.Wrong given) played s last plies end w stands =
+  opening_is (dues.Wrong given) s last plies end w stands =
       nothing_both spot.is_start ∙ same_start spot.is_start [] (start_line side spot.code plies end)
-      (over_start played s last plies end (Wrong spot.number spot.code given) w stands)
-  opening_is dues.NoBound played s last plies end w stands =
+      (over_start s last plies end (Wrong (played, spot.number) spot.code given) w stands)
+  opening_is dues.NoBound s last plies end w stands =
       nothing_both spot.is_start ∙ same_start spot.is_start [] (start_line side spot.code plies end)
-      (over_start played s last plies end NoBound w stands)
-  opening_is (dues.Mate m) played s last plies end w stands =
+      (over_start s last plies end NoBound w stands)
+  opening_is (dues.Mate m) s last plies end w stands =
       same_start spot.is_start (kept_line side spot.code) (start_line side spot.code plies end)
-      (over_start played s last plies end (Mated m) w stands)
-  opening_is (dues.Stalemate m) played s last plies end w stands =
+      (over_start s last plies end (Mated m) w stands)
+  opening_is (dues.Stalemate m) s last plies end w stands =
       same_start spot.is_start (kept_line side spot.code) (start_line side spot.code plies end)
-      (over_start played s last plies end (Stalemated m) w stands)
-  opening_is dues.Cut played s last plies end w stands =
+      (over_start s last plies end (Stalemated m) w stands)
+  opening_is dues.Cut s last plies end w stands =
       same_start spot.is_start (kept_line side spot.code) (start_line side spot.code plies end)
-      (over_start played s last plies end Cut w stands)
-  opening_is (dues.Ply m) played s last plies end w stands =
+      (over_start s last plies end Cut w stands)
+  opening_is (dues.Ply m) s last plies end w stands =
       same_start spot.is_start (kept_line side spot.code) (start_line side spot.code plies end)
-      (moved_start played s last plies end m w stands)
+      (moved_start s last plies end m w stands)
 
   -- the sink failed within the opening
   pub opening_failed : (due : Due) (reader : Reader)
-      → Stands arena side kept spot (stage_told spot.number spot.code due)
-      → GoesBy arena side kept spot reader reader [] (opening side spot due)
+      → Stands arena side kept played spot (stage_told (played, spot.number) spot.code due)
+      → GoesBy arena side kept played spot reader reader [] (opening side spot due)
       (Err (plays.Line faults.Output))
-  opening_failed due reader stands = λ agrees played start left may plies end last w.
+  opening_failed due reader stands = λ agrees start left may plies end last w.
       let here : Input = record { left = left; more = reader.more } in
-      let front = way_front arena side kept played here last spot.number plies end w in
+      let front = way_front arena side kept played here last (played, spot.number) plies end w in
       let rest = plies_text side plies ++ end_text end in (
         rest,
         ap (λ (l : List ℕ). l ++ rest)
-            (opening_is due played here last plies end w (stands agrees played start)),
+            (opening_is due here last plies end w (stands agrees start)),
         (front.0, front.1, tt),
       )
 
   -- behind the opening
   pub opened_tail : (due : Due) (old new : Reader) (bytes text : List ℕ)
       (result : Result Turn PlayFault)
-      → Stands arena side kept spot (stage_told spot.number spot.code due)
-      → TailBy arena side kept spot old new bytes text result
-      → GoesBy arena side kept spot old new bytes (opening side spot due ++ text) result
+      → Stands arena side kept played spot (stage_told (played, spot.number) spot.code due)
+      → TailBy arena side kept played spot old new bytes text result
+      → GoesBy arena side kept played spot old new bytes (opening side spot due ++ text) result
   opened_tail due old new bytes text result stands tail =
-      λ agrees played start left may plies end last w.
-      let t = tail agrees played start left may plies end last w in
+      λ agrees start left may plies end last w.
+      let t = tail agrees start left may plies end last w in
       let here : Input = record { left = bytes ++ left; more = old.more } in (
         t.0,
         append_assoc (opening side spot due) text t.0
             ∙ (ap (λ (l : List ℕ). opening side spot due ++ l) t.1
             ∙ ap (λ (l : List ℕ). l ++ (plies_text side plies ++ end_text end))
-            (opening_is due played here last plies end w (stands agrees played start))),
+            (opening_is due here last plies end w (stands agrees start))),
         t.2,
       )
 
@@ -222,23 +225,24 @@ front_of_text : (a b : List ℕ) (word move rest last : List ℕ)
     ++ last
 front_of_text a b word move rest last = simp append_assoc
 
-module _ (arena : Arena Step ℕ Value) (side mover : Colour) (kept : List ℕ) (spot : Spot)
-    (own : same_colour mover side ≡ false) (stands : Stands arena side kept spot (Moves mover))
+module _ (arena : Arena Step ℕ Value) (side mover : Colour) (kept : ℕ → List ℕ) (played : ℕ)
+    (spot : Spot)
+    (own : same_colour mover side ≡ false) (stands : Stands arena side kept played spot (Moves mover))
     (fault : PlayFault) (fails : MayFail fault) where
   -- what the text still lacks where a fault stops the lines of a reply
-  abbrev Lacks : (n played : ℕ) (here : Input) (plies : List SessionPly) (end : EndOfSession)
+  abbrev Lacks : (n : ℕ) (here : Input) (plies : List SessionPly) (end : EndOfSession)
       (last : Input) → Type 0
-  Lacks n played here plies end last =
+  Lacks n here plies end last =
       (rest : List ℕ) × (refused_text n ++ rest ≡ plies_text side plies ++ end_text end)
       × Leaves arena side kept played here plies end last rest (Err fault)
 
-  lacks_by : (n : ℕ) (later : Answer Input Halt) (played : ℕ) (s here last : Input)
+  lacks_by : (n : ℕ) (later : Answer Input Halt) (s here last : Input)
       (plies : List SessionPly) (end : EndOfSession)
       → GoesOn arena side kept played s spot.number plies end last
-      → stage (session_player arena side kept) played spot.number ≡ Moves mover
+      → stage (session_player arena side kept) played (played, spot.number) ≡ Moves mover
       → reads (arena.arms spot.number) s.more s.left ≡ refuse n later
-      → EndsWith (left_by later) here.left → Lacks n played here plies end last
-  lacks_by n (Reply m place u) played s here last plies end w due gives ends =
+      → EndsWith (left_by later) here.left → Lacks n here plies end last
+  lacks_by n (Reply m place u) s here last plies end w due gives ends =
       let r = replies_here arena side kept played s last u spot.number plies end mover (n + m) place
       own w due (gives ∙ refuse_replies n m place u) in
       let first = r.on.first in
@@ -261,7 +265,7 @@ module _ (arena : Arena Step ℕ Value) (side mover : Colour) (kept : List ℕ) 
       (leads_front arena side kept played u last others end
       (λ p h. way_front arena side kept (suc played) u last p others end h) first.arm.next
       r.on.leads) ends in
-      subst (λ (ys : List SessionPly). Lacks n played here ys end last) (sym r.on.are) (
+      subst (λ (ys : List SessionPly). Lacks n here ys end last) (sym r.on.are) (
         rest,
         whole,
         (
@@ -271,7 +275,7 @@ module _ (arena : Arena Step ℕ Value) (side mover : Colour) (kept : List ℕ) 
               (λ answer tells. some),
         ),
       )
-  lacks_by n (Stop halt u) played s here last plies end w due gives ends =
+  lacks_by n (Stop halt u) s here last plies end w due gives ends =
       let all : Halt = record { refused = n + halt.refused; why = halt.why } in
       let o = stops_here arena side kept played s last u spot.number plies end mover all own w due
       (gives ∙ refuse_stops n halt u) in
@@ -283,8 +287,8 @@ module _ (arena : Arena Step ℕ Value) (side mover : Colour) (kept : List ℕ) 
       (refused_text halt.refused) (why_line halt.why) (some_why halt.why answer tells) in
       let front : EndsWith last.left here.left = subst (λ (z : Input). EndsWith z.left here.left)
       (sym o.2) ends in
-      subst (λ (ys : List SessionPly). Lacks n played here ys end last) (sym o.0)
-      (subst (λ (e : EndOfSession). Lacks n played here [] e last) (sym o.1) (
+      subst (λ (ys : List SessionPly). Lacks n here ys end last) (sym o.0)
+      (subst (λ (e : EndOfSession). Lacks n here [] e last) (sym o.1) (
         rest,
         whole,
         (
@@ -298,14 +302,14 @@ module _ (arena : Arena Step ℕ Value) (side mover : Colour) (kept : List ℕ) 
   pub fault_tail : (old new : Reader) (arms : List (Arm Step ℕ Value))
       → arms ≡ arena.arms spot.number → (source left : SourceTold) (out taken : SinkTold)
       → (hears : Hears arms old new (Err fault) source left out taken)
-      → TailBy arena side kept spot old new hears.bytes (refused_text hears.refused) (Err fault)
+      → TailBy arena side kept played spot old new hears.bytes (refused_text hears.refused) (Err fault)
   fault_tail old new arms are source left out taken hears =
-      λ agrees played start rest_in may plies end last w.
+      λ agrees start rest_in may plies end last w.
       let h = hears.heard rest_in may in
       let gives : reads (arena.arms spot.number) old.more (hears.bytes ++ rest_in)
       ≡ refuse hears.refused h.0 =
       subst (λ (z : List (Arm Step ℕ Value)). reads z old.more (hears.bytes ++ rest_in)
       ≡ refuse hears.refused h.0) are h.1 in
-      lacks_by hears.refused h.0 played (record { left = hears.bytes ++ rest_in; more = old.more })
-      (record { left = rest_in; more = new.more }) last plies end w (stands agrees played start)
+      lacks_by hears.refused h.0 (record { left = hears.bytes ++ rest_in; more = old.more })
+      (record { left = rest_in; more = new.more }) last plies end w (stands agrees start)
       gives h.2

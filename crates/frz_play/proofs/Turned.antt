@@ -2,6 +2,7 @@
 use Rattle.std.proofs.Common.{◌≡◌, ◌==◌, ◌++◌, ℕ, suc, inl, inr, true, false, List, [], ◌∷◌, Some, map, refl, sym, subst, ap, ◌∙◌, get_or, Result, Ok, Err, append_assoc, append-nil}
 use Rattle.std.specs.Prelude.{slice_get, slice_index, codes}
 use Rattle.std.proofs.lemmas.Bool.{and_right}
+use Rattle.std.proofs.lemmas.Option.{slice_get-map}
 use Rattle.frz_board.specs.declared.man.Colour.{Colour}
 use Rattle.frz_board.specs.Men.{same_colour}
 use Rattle.frz_board.specs.Moving.{Step}
@@ -15,11 +16,13 @@ use Rattle.frz_arena.specs.Arena.{Arena}
 use Rattle.frz_arena.specs.Chosen.{IsFound}
 use Rattle.frz_arena.specs.Choices.{has_code}
 use Rattle.frz_arena.specs.Codes.{is_win}
+use Rattle.frz_arena.specs.Counted.{after, counted}
 use Rattle.frz_arena.specs.Inputs.{Reply, Stop}
 use Rattle.frz_arena.specs.LocalCodes.{node_code}
+use Rattle.frz_arena.specs.Names.{named, named_next}
 use Rattle.frz_arena.specs.Plies.{LeadsTo}
 use Rattle.frz_arena.specs.WayEnds.{Exit, Stopped}
-use Rattle.frz_arena.specs.Ways.{Stage, Over as OverWay, Moves, stage}
+use Rattle.frz_arena.specs.Ways.{Stage, Over as OverWay, Moves, stage, IsWay}
 use Rattle.frz_graph.specs.EntryCodes.{arm_code}
 use Rattle.frz_graph.specs.Finite.{IsFinite}
 use Rattle.frz_graph.specs.FreeCodes.{free_among}
@@ -28,7 +31,7 @@ use Rattle.frz_line.specs.declared.end.LineFault.TheVariants as faults
 use Rattle.frz_line.specs.Dues.{due_by}
 use Rattle.frz_line.specs.Sights.{choices_by}
 use Rattle.frz_line.specs.Texts.{exit_line, move_line, next_line}
-use Rattle.frz_line.proofs.Lemmas.{AsksForOne, FillsLocal, arm_found, local_code_of, stage_told, stage_due}
+use Rattle.frz_line.proofs.Lemmas.{AsksForOne, FillsLocal, arm_found, known, local_code_of, stage_told, stage_due}
 use Rattle.frz_play.specs.declared.end.SessionEnd.{SessionEnd}
 use Rattle.frz_play.specs.declared.end.SessionEnd.TheVariants as ends
 use Rattle.frz_play.specs.declared.end.PlayFault.{PlayFault}
@@ -49,31 +52,31 @@ use Rattle.frz_play.proofs.Chosen.{code_inside}
 use Rattle.frz_play.proofs.Goings.{over_here, moves_own, stops_here, replies_here, leads_front, way_front}
 
 -- what is due at the spot, in the session's words
-abbrev pub Stands : Arena Step ℕ Value → Colour → List ℕ → Spot → Stage ℕ Value Halt → Type 0
-Stands arena side kept spot x =
-    slice_index kept spot.number ≡ spot.code → (played : ℕ) → (played == 0) ≡ spot.is_start →
-    stage (session_player arena side kept) played spot.number ≡ x
+abbrev pub Stands : Arena Step ℕ Value → Colour → (ℕ → List ℕ) → (played : ℕ) → Spot
+    → Stage (ℕ × ℕ) Value Halt → Type 0
+Stands arena side kept played spot x =
+    slice_index (kept played) spot.number ≡ spot.code → (played == 0) ≡ spot.is_start →
+    stage (session_player arena side kept) played (played, spot.number) ≡ x
 
 pub session_stage : FillsLocal → (arena : Arena Step ℕ Value) (size : ℕ) → IsFinite arena size
-    → (side : Colour) (spot : Spot) (arms : List (Arm Step ℕ Value)) (cs kept : List ℕ)
-    → arms ≡ arena.arms spot.number → cs ≡ map (arm_code side kept) arms → (due : Due)
+    → (side : Colour) (spot : Spot) (arms : List (Arm Step ℕ Value)) (cs : List ℕ) (kept : ℕ → List ℕ) (played : ℕ)
+    → arms ≡ arena.arms spot.number → cs ≡ map (arm_code side (kept (suc played))) arms → (due : Due)
     → due ≡ due_by spot.is_start false spot.code
     (node_code side (arena.node spot.number) (free_among arms cs) cs) (arena.node spot.number)
-    → Stands arena side kept spot (stage_told spot.number spot.code due)
-session_stage fills arena size finite side spot arms cs kept are same due e = λ agrees played start.
-    let local = local_code_of fills arena size finite side kept spot.number arms cs are same in
-    stage_due (session_player arena side kept) played spot.number spot.code
+    → Stands arena side kept played spot (stage_told (played, spot.number) spot.code due)
+session_stage fills arena size finite side spot arms cs kept played are same due e = λ agrees start.
+    let local = local_code_of fills arena size finite side kept played spot.number arms cs are same in
+    stage_due (session_player arena side kept) played (played, spot.number) spot.code
     (node_code side (arena.node spot.number) (free_among arms cs) cs) spot.is_start false agrees
     (sym local) start (sym (and_right (spot.code == 1) false refl))
-    ∙ ap (stage_told spot.number spot.code) (sym e)
+    ∙ ap (stage_told (played, spot.number) spot.code) (sym e)
 
 -- the text and the bytes are what the turn adds to each session
 -- from here, but for the line of the start
-abbrev pub TailBy : Arena Step ℕ Value → Colour → List ℕ → Spot → (old new : Reader)
+abbrev pub TailBy : Arena Step ℕ Value → Colour → (ℕ → List ℕ) → (played : ℕ) → Spot → (old new : Reader)
     → (bytes text : List ℕ) → Result Turn PlayFault → Type 0
-TailBy arena side kept spot old new bytes text result =
-    slice_index kept spot.number ≡ spot.code →
-    (played : ℕ) → (played == 0) ≡ spot.is_start →
+TailBy arena side kept played spot old new bytes text result =
+    slice_index (kept played) spot.number ≡ spot.code → (played == 0) ≡ spot.is_start →
     (left : List ℕ) → MayFollow new left →
     (plies : List SessionPly) (end : EndOfSession) (last : Input) →
     GoesOn arena side kept played (record { left = bytes ++ left; more = old.more }) spot.number
@@ -87,7 +90,7 @@ abbrev pub turn_over : Result SessionEnd PlayFault → Result Turn PlayFault
 turn_over (Ok answer) = Ok (Over answer)
 turn_over (Err fault) = Err fault
 
-pub leaves_over : (arena : Arena Step ℕ Value) (side : Colour) (kept : List ℕ) (played : ℕ)
+pub leaves_over : (arena : Arena Step ℕ Value) (side : Colour) (kept : ℕ → List ℕ) (played : ℕ)
     (left : Input) (plies : List SessionPly) (end : EndOfSession) (last : Input) (rest : List ℕ)
     (answer : Result SessionEnd PlayFault) (unread : List ℕ) → unread ++ last.left ≡ left.left
     → Finishes answer side end rest unread → Leaves arena side kept played left plies end last rest
@@ -96,15 +99,16 @@ leaves_over arena side kept played left plies end last rest (Ok answer) unread e
 leaves_over arena side kept played left plies end last rest (Err fault) unread e f = (unread, e, f)
 
 -- a session that is over here
-pub over_tail : (arena : Arena Step ℕ Value) (side : Colour) (kept : List ℕ) (spot : Spot)
+pub over_tail : (arena : Arena Step ℕ Value) (side : Colour) (kept : ℕ → List ℕ) (played : ℕ)
+    (spot : Spot)
     (reader : Reader) (text : List ℕ) (f : EndOfSession) (answer : Result SessionEnd PlayFault)
-    → Stands arena side kept spot (OverWay f) → text ≡ end_text f → Finishes answer side f [] []
-    → TailBy arena side kept spot reader reader [] text (turn_over answer)
-over_tail arena side kept spot reader text f answer stands is finishes =
-    λ agrees played start left may plies end last w.
+    → Stands arena side kept played spot (OverWay f) → text ≡ end_text f → Finishes answer side f [] []
+    → TailBy arena side kept played spot reader reader [] text (turn_over answer)
+over_tail arena side kept played spot reader text f answer stands is finishes =
+    λ agrees start left may plies end last w.
     let here : Input = record { left = left; more = reader.more } in
     let o = over_here arena side kept played here last spot.number plies end f w
-    (stands agrees played start) in (
+    (stands agrees start) in (
       [],
       append-nil text ∙ (is
           ∙ (ap end_text (sym o.1)
@@ -123,13 +127,15 @@ joined_exit : (first move exit : List ℕ) → (first ++ (move ++ exit)) ++ [] �
 joined_exit first move exit = simp (append_assoc, append-nil)
 
 -- a ply that was played, behind this front
-pub ply_leaves : (arena : Arena Step ℕ Value) (side : Colour) (kept : List ℕ) (played : ℕ)
+pub ply_leaves : (arena : Arena Step ℕ Value) (side : Colour) (kept : ℕ → List ℕ) (played : ℕ)
     (u last : Input) (front : List ℕ) (move : Step) (next : Next ℕ Value) (code : ℕ)
     (first : SessionPly) (others : List SessionPly) (end : EndOfSession)
-    → ((n : ℕ) → next ≡ Inside n → slice_index kept n ≡ code)
-    → ply_text side first ≡ front ++ move_line move → first.arm.next ≡ next
-    → LeadsTo (λ p. GoesOn arena side kept (suc played) u p others end last)
-    (λ v. (others ≡ []) × (end ≡ Exit v) × (last ≡ u)) next → (rest : List ℕ)
+    → ((n : ℕ) → next ≡ Inside n → slice_index (kept (suc played)) n ≡ code)
+    → ply_text side first ≡ front ++ move_line move
+    → first.arm.next ≡ named_next (after (suc played)) next
+    → LeadsTo (λ p. IsWay (session_player arena side kept) (suc played) u p others end last)
+    (λ v. (others ≡ []) × (end ≡ Exit v) × (last ≡ u)) (named_next (after (suc played)) next)
+    → (rest : List ℕ)
     × ((front ++ (move_line move ++ next_line next)) ++ rest ≡ plies_text side (first ∷ others)
     ++ end_text end) × Leaves arena side kept played u (first ∷ others) end last rest
     (Ok (turn_of next code))
@@ -160,7 +166,7 @@ ply_leaves arena side kept played u last front move (Outside v) code first other
     ([], whole, ([], ap (λ (z : Input). z.left) leads.2, (refl, refl, refl))))
 
 -- the same where the sink failed, with the same text
-pub failed_leaves : (arena : Arena Step ℕ Value) (side : Colour) (kept : List ℕ) (played : ℕ)
+pub failed_leaves : (arena : Arena Step ℕ Value) (side : Colour) (kept : ℕ → List ℕ) (played : ℕ)
     (u last : Input) (plies : List SessionPly) (end : EndOfSession) (text : List ℕ) (turn : Turn)
     → EndsWith last.left u.left → (rest : List ℕ)
     × (text ++ rest ≡ plies_text side plies ++ end_text end)
@@ -170,7 +176,7 @@ pub failed_leaves : (arena : Arena Step ℕ Value) (side : Colour) (kept : List 
 failed_leaves arena side kept played u last plies end text turn front h =
     (h.0, h.1, (front.0, front.1, tt))
 
-answered_leaves : (arena : Arena Step ℕ Value) (side : Colour) (kept : List ℕ) (played : ℕ)
+answered_leaves : (arena : Arena Step ℕ Value) (side : Colour) (kept : ℕ → List ℕ) (played : ℕ)
     (u last : Input) (plies : List SessionPly) (end : EndOfSession) (text written : List ℕ)
     (turn : Turn) (result : Result Turn PlayFault) (old new : SinkTold) → EndsWith last.left u.left
     → (rest : List ℕ) × (text ++ rest ≡ plies_text side plies ++ end_text end)
@@ -209,55 +215,57 @@ reply_text side mover x move n m own refused is =
 -- the own ply
 pub own_tail : AsksForOne → (arena : Arena Step ℕ Value) (size : ℕ) → IsFinite arena size
     → (side mover : Colour) (spot : Spot) (reader : Reader) (arms : List (Arm Step ℕ Value))
-    (cs kept : List ℕ) → same_colour mover side ≡ true → arms ≡ arena.arms spot.number
-    → cs ≡ map (arm_code side kept) arms → Stands arena side kept spot (Moves mover)
+    (cs : List ℕ) (kept : ℕ → List ℕ) (played : ℕ) → same_colour mover side ≡ true → arms ≡ arena.arms spot.number
+    → cs ≡ map (arm_code side (kept (suc played))) arms → Stands arena side kept played spot (Moves mover)
     → (place : ℕ) (x : Choice) (a : Arm Step ℕ Value)
     → IsFound has_code (is_win spot.code) spot.code (choices_by true arms cs) place x
     → slice_get arms place ≡ Some a → (result : Result Turn PlayFault) (old new : SinkTold)
     → Answers (turn_of a.next (get_or cs place 0)) (moved_text (codes "move ") a) result old new
-    → TailBy arena side kept spot reader reader [] (moved_text (codes "move ") a) result
-own_tail one arena size finite side mover spot reader arms cs kept own are same stands place x a
-    found there result old new answers = λ agrees played start left may plies end last w.
+    → TailBy arena side kept played spot reader reader [] (moved_text (codes "move ") a) result
+own_tail one arena size finite side mover spot reader arms cs kept played own are same stands place x a
+    found there result old new answers = λ agrees start left may plies end last w.
     let here : Input = record { left = left; more = reader.more } in
     let g = moves_own arena side kept played here last spot.number plies end mover own w
-    (stands agrees played start) in
-    let chosen = (arm_found arena size finite side mover kept spot.number spot.code arms cs are same
-    agrees place x a
+    (stands agrees start) in
+    let chosen = (arm_found arena size finite side mover kept played spot.number spot.code arms cs are
+    same agrees place x a
     (subst (λ b. IsFound has_code (is_win spot.code) spot.code (choices_by b arms cs) place x)
     (sym own) found) there).chosen in
-    let arm : g.0.first.arm ≡ a =
-    (one arena side (λ i. slice_index kept i) mover spot.number g.0.first.place place
-    g.0.first.arm a g.1 chosen).1 in
-    let leads = subst (λ (z : Arm Step ℕ Value). LeadsTo
-    (λ p. GoesOn arena side kept (suc played) here p g.0.others end last)
+    let turn : Arm Step ℕ Value → Arm Step (ℕ × ℕ) Value = named (after (suc played)) in
+    let arm : g.0.first.arm ≡ turn a =
+    (one (counted arena) side (known kept) mover (played, spot.number) g.0.first.place place
+    g.0.first.arm (turn a) g.1 chosen).1 in
+    let leads = subst (λ (z : Arm Step (ℕ × ℕ) Value). LeadsTo
+    (λ p. IsWay (session_player arena side kept) (suc played) here p g.0.others end last)
     (λ v. (g.0.others ≡ []) × (end ≡ Exit v) × (last ≡ here)) z.next) arm g.0.leads in
     let text = own_text side mover g.0.first a.mv g.0.moves own
-    (ap (λ (z : Arm Step ℕ Value). z.mv) arm) in
+    (ap (λ (z : Arm Step (ℕ × ℕ) Value). z.mv) arm) in
     subst (λ (ys : List SessionPly). (rest : List ℕ)
     × (moved_text (codes "move ") a ++ rest ≡ plies_text side ys ++ end_text end)
     × Leaves arena side kept played here ys end last rest result) (sym g.0.are)
     (answered_leaves arena side kept played here last (g.0.first ∷ g.0.others) end
     (moved_text (codes "move ") a) (moved_text (codes "move ") a)
     (turn_of a.next (get_or cs place 0)) result old new
-    (way_front arena side kept played here last spot.number plies end w)
+    (way_front arena side kept played here last (played, spot.number) plies end w)
     (ply_leaves arena side kept played here last (codes "move ") a.mv a.next (get_or cs place 0)
-    g.0.first g.0.others end (code_inside side kept arms cs same place a there) text
-    (ap (λ (z : Arm Step ℕ Value). z.next) arm) leads) answers)
+    g.0.first g.0.others end (code_inside side (kept (suc played)) arms cs same place a there) text
+    (ap (λ (z : Arm Step (ℕ × ℕ) Value). z.next) arm) leads) answers)
 
-module _ (arena : Arena Step ℕ Value) (side mover : Colour) (kept : List ℕ) (spot : Spot)
+module _ (arena : Arena Step ℕ Value) (side mover : Colour) (kept : ℕ → List ℕ) (played : ℕ)
+    (spot : Spot)
     (old new : Reader) (own : same_colour mover side ≡ false)
-    (stands : Stands arena side kept spot (Moves mover)) where
+    (stands : Stands arena side kept played spot (Moves mover)) where
   -- the reply, behind the refused lines
   pub reply_tail : (arms : List (Arm Step ℕ Value)) (cs : List ℕ) → arms ≡ arena.arms spot.number
-      → cs ≡ map (arm_code side kept) arms
+      → cs ≡ map (arm_code side (kept (suc played))) arms
       → (source left : SourceTold) (out between taken : SinkTold) (place : ℕ)
       → (hears : Hears arms old new (Ok (heard.Reply place)) source left out between)
       → (a : Arm Step ℕ Value) → slice_get arms place ≡ Some a → (result : Result Turn PlayFault)
       → Answers (turn_of a.next (get_or cs place 0)) (moved_text (codes "reply ") a) result between
-      taken → TailBy arena side kept spot old new hears.bytes
+      taken → TailBy arena side kept played spot old new hears.bytes
       (refused_text hears.refused ++ moved_text (codes "reply ") a) result
   reply_tail arms cs are same source left out between taken place hears a there result answers =
-      λ agrees played start rest_in may plies end last w.
+      λ agrees start rest_in may plies end last w.
       let u : Input = record { left = rest_in; more = new.more } in
       let n = hears.refused in
       let gives : reads (arena.arms spot.number) old.more (hears.bytes ++ rest_in) ≡ Reply n place
@@ -265,19 +273,24 @@ module _ (arena : Arena Step ℕ Value) (side mover : Colour) (kept : List ℕ) 
       ≡ Reply n place u) are (hears.heard rest_in may) in
       let r = replies_here arena side kept played
       (record { left = hears.bytes ++ rest_in; more = old.more }) last u spot.number plies end
-      mover n place own w (stands agrees played start) gives in
+      mover n place own w (stands agrees start) gives in
       let r_there = r.there in
       let a_there : slice_get (arena.arms spot.number) place ≡ Some a = subst
       (λ (z : List (Arm Step ℕ Value)). slice_get z place ≡ Some a) are there in
-      let arm : r.on.first.arm ≡ a = cc in
-      let leads = subst (λ (z : Arm Step ℕ Value). LeadsTo
-      (λ p. GoesOn arena side kept (suc played) u p r.on.others end last)
+      let turn : Arm Step ℕ Value → Arm Step (ℕ × ℕ) Value = named (after (suc played)) in
+      let counts = slice_get-map turn (arena.arms spot.number) place in
+      let c_there : slice_get (map turn (arena.arms spot.number)) place ≡ Some (turn a) =
+      rw (counts, a_there) refl in
+      let arm : r.on.first.arm ≡ turn a = cc in
+      let leads = subst (λ (z : Arm Step (ℕ × ℕ) Value). LeadsTo
+      (λ p. IsWay (session_player arena side kept) (suc played) u p r.on.others end last)
       (λ v. (r.on.others ≡ []) × (end ≡ Exit v) × (last ≡ u)) z.next) arm r.on.leads in
       let front = refused_text n ++ codes "reply " in
       let text = reply_text side mover r.on.first a.mv n r.on.moves own r.refused_is
-      (ap (λ (z : Arm Step ℕ Value). z.mv) arm) in
+      (ap (λ (z : Arm Step (ℕ × ℕ) Value). z.mv) arm) in
       let ends = leads_front arena side kept played u last r.on.others end
-      (λ p h. way_front arena side kept (suc played) u last p r.on.others end h) a.next leads in
+      (λ p h. way_front arena side kept (suc played) u last p r.on.others end h) (turn a).next
+      leads in
       let behind : front ++ (move_line a.mv ++ next_line a.next) ≡ refused_text n ++ moved_text
       (codes "reply ") a = append_assoc (refused_text n) (codes "reply ")
       (move_line a.mv ++ next_line a.next) in
@@ -291,8 +304,8 @@ module _ (arena : Arena Step ℕ Value) (side mover : Colour) (kept : List ℕ) 
       (front ++ (move_line a.mv ++ next_line a.next)) (moved_text (codes "reply ") a)
       (turn_of a.next (get_or cs place 0)) result between taken ends
       (ply_leaves arena side kept played u last front a.mv a.next (get_or cs place 0) r.on.first
-      r.on.others end (code_inside side kept arms cs same place a there) text
-      (ap (λ (z : Arm Step ℕ Value). z.next) arm) leads) answers))
+      r.on.others end (code_inside side (kept (suc played)) arms cs same place a there) text
+      (ap (λ (z : Arm Step (ℕ × ℕ) Value). z.next) arm) leads) answers))
 
   -- the input stops, behind them
   pub stop_tail : (arms : List (Arm Step ℕ Value)) → arms ≡ arena.arms spot.number
@@ -300,10 +313,10 @@ module _ (arena : Arena Step ℕ Value) (side mover : Colour) (kept : List ℕ) 
       → (hears : Hears arms old new (Ok (heard.Stop why)) source left out between)
       → (answer : Result SessionEnd PlayFault)
       → Finishes answer side (Stopped (record { refused = hears.refused; why = why })) [] []
-      → TailBy arena side kept spot old new hears.bytes (refused_text hears.refused ++ why_line why)
+      → TailBy arena side kept played spot old new hears.bytes (refused_text hears.refused ++ why_line why)
       (turn_over answer)
   stop_tail arms are source left out between why hears answer finishes =
-      λ agrees played start rest_in may plies end last w.
+      λ agrees start rest_in may plies end last w.
       let u : Input = record { left = rest_in; more = new.more } in
       let halt : Halt = record { refused = hears.refused; why = why } in
       let gives : reads (arena.arms spot.number) old.more (hears.bytes ++ rest_in) ≡ Stop halt u =
@@ -311,7 +324,7 @@ module _ (arena : Arena Step ℕ Value) (side mover : Colour) (kept : List ℕ) 
       ≡ Stop halt u) are (hears.heard rest_in may) in
       let o = stops_here arena side kept played
       (record { left = hears.bytes ++ rest_in; more = old.more }) last u spot.number plies end
-      mover halt own w (stands agrees played start) gives in (
+      mover halt own w (stands agrees start) gives in (
         [],
         append-nil (refused_text hears.refused ++ why_line why)
             ∙ (ap end_text (sym o.1)

@@ -2,7 +2,6 @@
 use Rattle.std.proofs.Common.{◌≡◌, ◌++◌, ℕ, zero, suc, inl, inr, Bool, true, false, List, [], Option, map, refl, sym, subst, ap, ◌∙◌, get_or, if◌then◌else◌, Result, Ok, Err, IfSome, append-nil}
 use Rattle.std.specs.Prelude.{codes}
 use Rattle.std.specs.Result.{IsErrAnd}
-use Rattle.std.proofs.lemmas.Option.{IfSome_then}
 use Rattle.frz_board.specs.declared.man.Colour.{Colour}
 use Rattle.frz_board.specs.Men.{same_colour}
 use Rattle.frz_board.specs.Moving.{Step}
@@ -45,7 +44,7 @@ use Rattle.frz_play.specs.Faults.{WroteBy, TookBytes}
 use Rattle.frz_play.specs.Hearing.{StaysEnded, Hears}
 use Rattle.frz_play.specs.Sessions.{EndOfSession}
 use Rattle.frz_play.specs.Texts.{refused_text, end_text}
-use Rattle.frz_play.specs.Turns.{moved_text, opening, turn_of, Answers, PlaysOwn, PlaysPly, AfterHeard, Unread, IsPlayed, GoesBy}
+use Rattle.frz_play.specs.Turns.{moved_text, opening, turn_of, Answers, PlaysOwn, PlaysPly, AfterHeard, Unread, IsPlayed, GoesBy, wrong_at}
 use Rattle.frz_play.proofs.Faulted.{IsStoreFault, store_goes, opening_failed, opened_tail, fault_tail}
 use Rattle.frz_play.proofs.Taking.{took_none}
 use Rattle.frz_play.proofs.Turned.{Stands, TailBy, turn_over, session_stage, over_tail, own_tail, reply_tail, stop_tail}
@@ -120,16 +119,17 @@ by_answers turn text result old new (inr a) =
     subst (λ (z : Result Turn PlayFault). WroteBy z text old new) (sym a.0) a.1
 
 -- what a turn wrote and took
-abbrev pub TurnWrote : Option (List ℕ) → Arena Step ℕ Value → Colour → Spot → (old new : Reader)
+abbrev pub TurnWrote : ((ℕ → List ℕ) → (played : ℕ) → Type 0) → Arena Step ℕ Value → Colour → Spot → (old new : Reader)
     → Result Turn PlayFault → (source left : SourceTold) → (out taken : SinkTold) → Type 0
-TurnWrote told arena side spot old new result source left out taken =
+TurnWrote is arena side spot old new result source left out taken =
     (text bytes : List ℕ) × IsLines text × WroteBy result text out taken
     × TookBytes bytes source left
     × StaysEnded old new bytes
-    × IfSome told (λ kept. GoesBy arena side kept spot old new bytes text result)
+    × ((kept : ℕ → List ℕ) (played : ℕ) → is kept played
+    → GoesBy arena side kept played spot old new bytes text result)
 
 -- the same behind the opening
-record Tail (told : Option (List ℕ)) (arena : Arena Step ℕ Value) (side : Colour) (spot : Spot)
+record Tail (is : (ℕ → List ℕ) → (played : ℕ) → Type 0) (arena : Arena Step ℕ Value) (side : Colour) (spot : Spot)
     (old new : Reader) (result : Result Turn PlayFault) (source left : SourceTold)
     (out taken : SinkTold) : Type 0 where
   pub text : List ℕ
@@ -138,7 +138,8 @@ record Tail (told : Option (List ℕ)) (arena : Arena Step ℕ Value) (side : Co
   pub wrote : WroteBy result text out taken
   pub took : TookBytes bytes source left
   pub stays : StaysEnded old new bytes
-  pub goes : IfSome told (λ kept. TailBy arena side kept spot old new bytes text result)
+  pub goes : (kept : ℕ → List ℕ) (played : ℕ) → is kept played
+      → TailBy arena side kept played spot old new bytes text result
 
 pub store_fault : (fault : StoreFault) → IsStoreFault (plays.Line (fault_of fault))
 store_fault Failed = record { is = inl refl }
@@ -150,13 +151,13 @@ store_wrote Failed out = took_nothing out
 store_wrote NoMemory out = took_nothing out
 
 -- the store failed before anything was written
-pub stopped_by : (told : Option (List ℕ)) (arena : Arena Step ℕ Value) (side : Colour) (spot : Spot)
+pub stopped_by : (is : (ℕ → List ℕ) → (played : ℕ) → Type 0) (arena : Arena Step ℕ Value) (side : Colour) (spot : Spot)
     (reader : Reader) (fault : StoreFault) (result : Result Turn PlayFault) (source : SourceTold)
     (out : SinkTold) → IsErrAnd result (λ e. e ≡ plays.Line (fault_of fault))
-    → TurnWrote told arena side spot reader reader result source source out out
-stopped_by told arena side spot reader fault (Ok turn) source out h = absurd h
-stopped_by told arena side spot reader fault (Err e) source out h =
-    subst (λ (f : PlayFault). TurnWrote told arena side spot reader reader (Err f) source source out
+    → TurnWrote is arena side spot reader reader result source source out out
+stopped_by is arena side spot reader fault (Ok turn) source out h = absurd h
+stopped_by is arena side spot reader fault (Err e) source out h =
+    subst (λ (f : PlayFault). TurnWrote is arena side spot reader reader (Err f) source source out
     out) (sym h) (
       [],
       [],
@@ -164,36 +165,37 @@ stopped_by told arena side spot reader fault (Err e) source out h =
       store_wrote fault out,
       took_none source source refl,
       λ e. (refl, e),
-      every told (λ kept. GoesBy arena side kept spot reader reader [] []
-          (Err (plays.Line (fault_of fault))))
-          (λ kept. store_goes arena side kept spot reader (plays.Line (fault_of fault))
-          (store_fault fault)),
+      λ kept played any. store_goes arena side kept played spot reader
+          (plays.Line (fault_of fault)) (store_fault fault),
     )
 
-module _ (one : AsksForOne) (fills : FillsLocal) (told : Option (List ℕ))
+module _ (one : AsksForOne) (fills : FillsLocal)
     {arena : Arena Step ℕ Value} {size : ℕ} (finite : IsFinite arena size) (side : Colour)
     (spot : Spot) {arms : List (Arm Step ℕ Value)} (cs : List ℕ)
-    (are : arms ≡ arena.arms spot.number)
-    (codes_told : IfSome told (λ kept. cs ≡ map (arm_code side kept) arms)) where
+    (are : arms ≡ arena.arms spot.number) where
+  -- these codes were read for these moves in this turn
+  abbrev pub IsReadBy : (ℕ → List ℕ) → (played : ℕ) → Type 0
+  IsReadBy kept played = cs ≡ map (arm_code side (kept (suc played))) arms
+
   abbrev IsDue : Due → Type 0
   IsDue due =
       due ≡ due_by spot.is_start false spot.code
       (node_code side (arena.node spot.number) (free_among arms cs) cs) (arena.node spot.number)
 
-  standing : (due : Due) → IsDue due → (kept : List ℕ) → cs ≡ map (arm_code side kept) arms
-      → Stands arena side kept spot (stage_told spot.number spot.code due)
-  standing due e kept same =
-      session_stage fills arena size finite side spot arms cs kept are same due e
+  standing : (due : Due) → IsDue due → (kept : ℕ → List ℕ) (played : ℕ) → IsReadBy kept played
+      → Stands arena side kept played spot (stage_told (played, spot.number) spot.code due)
+  standing due e kept played same =
+      session_stage fills arena size finite side spot arms cs kept played are same due e
 
   -- the sink failed within the opening
   pub opening_wrote : (due : Due) → IsDue due → (reader : Reader) (result : Result Turn PlayFault)
       (source : SourceTold) (out taken : SinkTold)
       → IsErrAnd result (λ e. e ≡ plays.Line faults.Output)
       → FailedWithin (opening side spot due) out taken
-      → TurnWrote told arena side spot reader reader result source source out taken
+      → TurnWrote IsReadBy arena side spot reader reader result source source out taken
   opening_wrote due e reader (Ok turn) source out taken h failed = absurd h
   opening_wrote due e reader (Err f) source out taken h failed =
-      subst (λ (z : PlayFault). TurnWrote told arena side spot reader reader (Err z) source source
+      subst (λ (z : PlayFault). TurnWrote IsReadBy arena side spot reader reader (Err z) source source
       out taken) (sym h) (
         opening side spot due,
         [],
@@ -201,18 +203,18 @@ module _ (one : AsksForOne) (fills : FillsLocal) (told : Option (List ℕ))
         failed,
         took_none source source refl,
         λ x. (refl, x),
-        IfSome_then told codes_told (λ kept same.
-            opening_failed arena side kept spot due reader (standing due e kept same)),
+        λ kept played same.
+            opening_failed arena side kept played spot due reader (standing due e kept played same),
       )
 
   -- a session that is over here: its text is that of its end
   over_wrote : (due : Due) → IsDue due → (f : EndOfSession)
-      → stage_told spot.number spot.code due ≡ OverWay f
+      → ((played : ℕ) → stage_told (played, spot.number) spot.code due ≡ OverWay f)
       → (old new : Reader) (answer : Result SessionEnd PlayFault) (result : Result Turn PlayFault)
       (source left : SourceTold) (out taken : SinkTold) → Unread old new source left
       → result ≡ turn_over answer → IsLines (end_text f) → WroteBy result (end_text f) out taken
       → Finishes answer side f [] []
-      → Tail told arena side spot old new result source left out taken
+      → Tail IsReadBy arena side spot old new result source left out taken
   over_wrote due e f stops old new answer result source left out taken unread is lines wrote
       finishes = record {
         text = end_text f;
@@ -221,23 +223,47 @@ module _ (one : AsksForOne) (fills : FillsLocal) (told : Option (List ℕ))
         wrote = wrote;
         took = took_none source left (ap (λ (z : SourceTold). z.left) unread.1);
         stays = λ x. (refl, ap (λ (z : Reader). z.ended) unread.0 ∙ x);
-        goes = IfSome_then told codes_told (λ kept same.
-            subst (λ (z : Reader). TailBy arena side kept spot old z [] (end_text f) result)
+        goes = λ kept played same.
+            subst (λ (z : Reader). TailBy arena side kept played spot old z [] (end_text f) result)
             (sym unread.0)
-            (subst (λ (z : Result Turn PlayFault). TailBy arena side kept spot old old []
+            (subst (λ (z : Result Turn PlayFault). TailBy arena side kept played spot old old []
             (end_text f) z) (sym is)
-            (over_tail arena side kept spot old (end_text f) f answer
-            (λ agrees played start. standing due e kept same agrees played start ∙ stops) refl
-            finishes)));
+            (over_tail arena side kept played spot old (end_text f) f answer
+            (λ agrees start. standing due e kept played same agrees start ∙ stops played) refl
+            finishes));
       }
 
+  -- the kept code is not the local one
+  wrong_wrote : (given : ℕ) → IsDue (dues.Wrong given) → (old new : Reader)
+      (result : Result Turn PlayFault) (source left : SourceTold) (out taken : SinkTold)
+      → Unread old new source left → result ≡ Err (wrong_at side spot given)
+      → WroteBy result [] out taken
+      → Tail IsReadBy arena side spot old new result source left out taken
+  wrong_wrote given e old new result source left out taken unread is wrote = record {
+    text = [];
+    bytes = [];
+    lines = inl refl;
+    wrote = wrote;
+    took = took_none source left (ap (λ (z : SourceTold). z.left) unread.1);
+    stays = λ x. (refl, ap (λ (z : Reader). z.ended) unread.0 ∙ x);
+    goes = λ kept played same.
+        subst (λ (z : Reader). TailBy arena side kept played spot old z [] [] result)
+        (sym unread.0)
+        (subst (λ (z : Result Turn PlayFault). TailBy arena side kept played spot old old []
+        [] z) (sym is)
+        (over_tail arena side kept played spot old [] (Wrong (played, spot.number) spot.code given)
+        (Err (wrong_at side spot given))
+        (λ agrees start. standing (dues.Wrong given) e kept played same agrees start) refl
+        (refl, refl, refl)));
+  }
+
   ends_wrote : (due : Due) → IsDue due → (f : EndOfSession)
-      → stage_told spot.number spot.code due ≡ OverWay f
+      → ((played : ℕ) → stage_told (played, spot.number) spot.code due ≡ OverWay f)
       → (old new : Reader) (last : SessionEnd) (result : Result Turn PlayFault)
       (source left : SourceTold) (out taken : SinkTold) → Unread old new source left
       → IsLines (end_text f) → Tells side f (Ok last)
       → Answers (Over last) (end_text f) result out taken
-      → Tail told arena side spot old new result source left out taken
+      → Tail IsReadBy arena side spot old new result source left out taken
   ends_wrote due e f stops old new last result source left out taken unread lines tells (inl a) =
       over_wrote due e f stops old new (Ok last) result source left out taken unread a.0 lines
       (by_answers (Over last) (end_text f) result out taken (inl a)) (tells, refl, refl)
@@ -256,9 +282,9 @@ module _ (one : AsksForOne) (fills : FillsLocal) (told : Option (List ℕ))
   tail_with : {old new : Reader} {heard_is : Result Heard PlayFault}
       {result : Result Turn PlayFault} {source left : SourceTold} {out between taken : SinkTold}
       (hears : Hears arms old new heard_is source left out between) (text : List ℕ) → IsLines text
-      → WroteBy result text out taken → ((kept : List ℕ) → cs ≡ map (arm_code side kept) arms
-      → TailBy arena side kept spot old new hears.bytes text result)
-      → Tail told arena side spot old new result source left out taken
+      → WroteBy result text out taken → ((kept : ℕ → List ℕ) (played : ℕ) → IsReadBy kept played
+      → TailBy arena side kept played spot old new hears.bytes text result)
+      → Tail IsReadBy arena side spot old new result source left out taken
   tail_with {old} {new} {result = result} hears text lines wrote goes = record {
     text = text;
     bytes = hears.bytes;
@@ -266,7 +292,7 @@ module _ (one : AsksForOne) (fills : FillsLocal) (told : Option (List ℕ))
     wrote = wrote;
     took = hears.took;
     stays = hears.stays;
-    goes = IfSome_then told codes_told goes;
+    goes = goes;
   }
 
   -- the input has ended
@@ -276,7 +302,7 @@ module _ (one : AsksForOne) (fills : FillsLocal) (told : Option (List ℕ))
       → (hears : Hears arms old new (Ok (heard.Stop Ended)) source left out between)
       → result ≡ turn_over answer → WroteBy result (codes "input ended\n") between taken
       → Finishes answer side (Stopped (record { refused = hears.refused; why = Ended })) [] []
-      → Tail told arena side spot old new result source left out taken
+      → Tail IsReadBy arena side spot old new result source left out taken
   ended_by m e own old new answer result source left out between taken hears is wrote finishes =
       let text = refused_text hears.refused ++ codes "input ended\n" in
       tail_with hears text
@@ -284,10 +310,10 @@ module _ (one : AsksForOne) (fills : FillsLocal) (told : Option (List ℕ))
       (refused_lines hears.refused) (inr (codes "input ended", refl)))
       (wrote_after (refused_text hears.refused) (codes "input ended\n") result out between taken
       hears.wrote wrote)
-      (λ kept same.
-      subst (λ (z : Result Turn PlayFault). TailBy arena side kept spot old new hears.bytes text z)
+      (λ kept played same.
+      subst (λ (z : Result Turn PlayFault). TailBy arena side kept played spot old new hears.bytes text z)
       (sym is)
-      (stop_tail arena side m kept spot old new own (standing (dues.Ply m) e kept same) arms are
+      (stop_tail arena side m kept played spot old new own (standing (dues.Ply m) e kept played same) arms are
       source left out between Ended hears answer finishes))
 
   ended_wrote : (m : Colour) → IsDue (dues.Ply m) → same_colour m side ≡ false
@@ -295,7 +321,7 @@ module _ (one : AsksForOne) (fills : FillsLocal) (told : Option (List ℕ))
       (out between taken : SinkTold)
       → (hears : Hears arms old new (Ok (heard.Stop Ended)) source left out between)
       → Answers (Over ends.InputEnded) (codes "input ended\n") result between taken
-      → Tail told arena side spot old new result source left out taken
+      → Tail IsReadBy arena side spot old new result source left out taken
   ended_wrote m e own old new result source left out between taken hears (inl a) =
       ended_by m e own old new (Ok ends.InputEnded) result source left out between taken hears a.0
       (by_answers (Over ends.InputEnded) (codes "input ended\n") result between taken (inl a))
@@ -311,7 +337,7 @@ module _ (one : AsksForOne) (fills : FillsLocal) (told : Option (List ℕ))
       (source left : SourceTold) (out between taken : SinkTold)
       → Hears arms old new heard_is source left out between
       → AfterHeard arms cs heard_is result between taken
-      → Tail told arena side spot old new result source left out taken
+      → Tail IsReadBy arena side spot old new result source left out taken
   reply_wrote m e own old new (Ok (heard.Reply place)) result source left out between taken
       hears h =
       let text = refused_text hears.refused ++ moved_text (codes "reply ") h.0 in
@@ -322,8 +348,8 @@ module _ (one : AsksForOne) (fills : FillsLocal) (told : Option (List ℕ))
       taken hears.wrote
       (by_answers (turn_of h.0.next (get_or cs place 0)) (moved_text (codes "reply ") h.0) result
       between taken h.2))
-      (λ kept same.
-      reply_tail arena side m kept spot old new own (standing (dues.Ply m) e kept same) arms cs are
+      (λ kept played same.
+      reply_tail arena side m kept played spot old new own (standing (dues.Ply m) e kept played same) arms cs are
       same source left out between taken place hears h.0 h.1 result h.2)
   reply_wrote m e own old new (Ok (heard.Stop Ended)) result source left out between taken hears h =
       ended_wrote m e own old new result source left out between taken hears h
@@ -333,12 +359,12 @@ module _ (one : AsksForOne) (fills : FillsLocal) (told : Option (List ℕ))
       tail_with hears text (refused_lines hears.refused)
       (subst (λ (z : Result Turn PlayFault). WroteBy z text out taken) (sym h.0)
       (subst (λ (z : SinkTold). TookText text out z) (sym h.1) hears.wrote))
-      (λ kept same.
-      subst (λ (z : Result Turn PlayFault). TailBy arena side kept spot old new hears.bytes text z)
+      (λ kept played same.
+      subst (λ (z : Result Turn PlayFault). TailBy arena side kept played spot old new hears.bytes text z)
       (sym h.0)
-      (subst (λ (t : List ℕ). TailBy arena side kept spot old new hears.bytes t
+      (subst (λ (t : List ℕ). TailBy arena side kept played spot old new hears.bytes t
       (Err (plays.Limit limit))) (append-nil text)
-      (stop_tail arena side m kept spot old new own (standing (dues.Ply m) e kept same) arms are
+      (stop_tail arena side m kept played spot old new own (standing (dues.Ply m) e kept played same) arms are
       source left out between (Limit limit) hears (Err (plays.Limit limit)) (refl, refl, refl))))
   reply_wrote m e own old new (Err fault) result source left out between taken hears h =
       let text = refused_text hears.refused in
@@ -346,16 +372,16 @@ module _ (one : AsksForOne) (fills : FillsLocal) (told : Option (List ℕ))
       (subst (λ (z : Result Turn PlayFault). WroteBy z text out taken) (sym h.0)
       (subst (λ (z : SinkTold). WroteBy {T = Turn} (Err fault) text out z) (sym h.1)
       (same_wrote Heard Turn fault text out between hears.wrote)))
-      (λ kept same.
-      subst (λ (z : Result Turn PlayFault). TailBy arena side kept spot old new hears.bytes text z)
+      (λ kept played same.
+      subst (λ (z : Result Turn PlayFault). TailBy arena side kept played spot old new hears.bytes text z)
       (sym h.0)
-      (fault_tail arena side m kept spot own (standing (dues.Ply m) e kept same) fault
+      (fault_tail arena side m kept played spot own (standing (dues.Ply m) e kept played same) fault
       (hears.fails fault refl) old new arms are source left out between hears))
 
   own_wrote : (m : Colour) → IsDue (dues.Ply m) → same_colour m side ≡ true
       → (old new : Reader) (result : Result Turn PlayFault) (source left : SourceTold)
       (out taken : SinkTold) → Unread old new source left → PlaysOwn spot arms cs result out taken
-      → Tail told arena side spot old new result source left out taken
+      → Tail IsReadBy arena side spot old new result source left out taken
   own_wrote m e own old new result source left out taken unread h =
       let place = h.0 in
       let a = h.3.0 in
@@ -367,16 +393,16 @@ module _ (one : AsksForOne) (fills : FillsLocal) (told : Option (List ℕ))
         wrote = by_answers (turn_of a.next (get_or cs place 0)) text result out taken h.3.2;
         took = took_none source left (ap (λ (z : SourceTold). z.left) unread.1);
         stays = λ x. (refl, ap (λ (z : Reader). z.ended) unread.0 ∙ x);
-        goes = IfSome_then told codes_told (λ kept same.
-            subst (λ (z : Reader). TailBy arena side kept spot old z [] text result) (sym unread.0)
-            (own_tail one arena size finite side m spot old arms cs kept own are same
-            (standing (dues.Ply m) e kept same) place h.1 a h.2 h.3.1 result out taken h.3.2));
+        goes = λ kept played same.
+            subst (λ (z : Reader). TailBy arena side kept played spot old z [] text result) (sym unread.0)
+            (own_tail one arena size finite side m spot old arms cs kept played own are same
+            (standing (dues.Ply m) e kept played same) place h.1 a h.2 h.3.1 result out taken h.3.2);
       }
 
   ply_wrote : (m : Colour) → IsDue (dues.Ply m) → (own : Bool) → same_colour m side ≡ own
       → (old new : Reader) (result : Result Turn PlayFault) (source left : SourceTold)
       (out taken : SinkTold) → PlaysPly own spot arms cs old new result source left out taken
-      → Tail told arena side spot old new result source left out taken
+      → Tail IsReadBy arena side spot old new result source left out taken
   ply_wrote m e true own old new result source left out taken h =
       own_wrote m e own old new result source left out taken h.0 h.1
   ply_wrote m e false own old new result source left out taken h =
@@ -385,28 +411,20 @@ module _ (one : AsksForOne) (fills : FillsLocal) (told : Option (List ℕ))
   tail_wrote : (due : Due) → IsDue due → (old new : Reader) (result : Result Turn PlayFault)
       (source left : SourceTold) (out taken : SinkTold)
       → IsPlayed side spot due arms cs old new result source left out taken
-      → Tail told arena side spot old new result source left out taken
+      → Tail IsReadBy arena side spot old new result source left out taken
   tail_wrote (dues.Wrong given) e old new result source left out taken h =
-      let fault : PlayFault = plays.Line
-      (faults.Wrong (record {
-        side = side;
-        number = spot.number;
-        kept = spot.code;
-        given = given;
-      })) in
-      over_wrote (dues.Wrong given) e (Wrong spot.number spot.code given) refl old new
-      (Err fault) result source left out taken h.0 h.1.0 (inl refl)
-      (untouched fault result out taken (took_nothing out) h.1.0 h.1.1) (refl, refl, refl)
+      wrong_wrote given e old new result source left out taken h.0 h.1.0
+      (untouched (wrong_at side spot given) result out taken (took_nothing out) h.1.0 h.1.1)
   tail_wrote dues.NoBound e old new result source left out taken h =
-      over_wrote dues.NoBound e NoBound refl old new (Err (plays.Line faults.NoBound)) result source
+      over_wrote dues.NoBound e NoBound (λ played. refl) old new (Err (plays.Line faults.NoBound)) result source
       left out taken h.0 h.1.0 (inl refl)
       (untouched (plays.Line faults.NoBound) result out taken (took_nothing out) h.1.0 h.1.1)
       (refl, refl, refl)
   tail_wrote (dues.Mate m) e old new result source left out taken h =
-      ends_wrote (dues.Mate m) e (Mated m) refl old new ends.Mate result source left out taken h.0
+      ends_wrote (dues.Mate m) e (Mated m) (λ played. refl) old new ends.Mate result source left out taken h.0
       (inr (codes "mate", refl)) refl h.1
   tail_wrote (dues.Stalemate m) e old new result source left out taken h =
-      ends_wrote (dues.Stalemate m) e (Stalemated m) refl old new ends.Stalemate result source left
+      ends_wrote (dues.Stalemate m) e (Stalemated m) (λ played. refl) old new ends.Stalemate result source left
       out taken h.0 (inr (codes "stalemate", refl)) refl h.1
   tail_wrote dues.Cut e old new result source left out taken h = absurd h
   tail_wrote (dues.Ply m) e old new result source left out taken h =
@@ -417,7 +435,7 @@ module _ (one : AsksForOne) (fills : FillsLocal) (told : Option (List ℕ))
       (source left : SourceTold) (out mid taken : SinkTold)
       → TookText (opening side spot due) out mid
       → IsPlayed side spot due arms cs old new result source left mid taken
-      → TurnWrote told arena side spot old new result source left out taken
+      → TurnWrote IsReadBy arena side spot old new result source left out taken
   turn_wrote due e old new result source left out mid taken opened h =
       let t = tail_wrote due e old new result source left mid taken h in (
         opening side spot due ++ t.text,
@@ -426,10 +444,7 @@ module _ (one : AsksForOne) (fills : FillsLocal) (told : Option (List ℕ))
         wrote_after (opening side spot due) t.text result out mid taken opened t.wrote,
         t.took,
         t.stays,
-        both told (λ kept. cs ≡ map (arm_code side kept) arms)
-            (λ kept. TailBy arena side kept spot old new t.bytes t.text result)
-            (λ kept. GoesBy arena side kept spot old new t.bytes (opening side spot due ++ t.text)
-            result) (λ kept same tail.
-            opened_tail arena side kept spot due old new t.bytes t.text result
-            (standing due e kept same) tail) codes_told t.goes,
+        λ kept played same.
+            opened_tail arena side kept played spot due old new t.bytes t.text result
+            (standing due e kept played same) (t.goes kept played same),
       )

@@ -17,9 +17,9 @@ why_told (Limit limit) = Err (plays.Limit limit)
 
 -- this is answered at the end. No session is cut
 abbrev pub Tells : Colour → EndOfSession → Result SessionEnd PlayFault → Type 0
-Tells side (Wrong number kept given) answer =
+Tells side (Wrong at kept given) answer =
     answer ≡ Err (plays.Line
-    (faults.Wrong (record { side = side; number = number; kept = kept; given = given })))
+    (faults.Wrong (record { side = side; number = at.1; kept = kept; given = given })))
 Tells side NoBound answer = answer ≡ Err (plays.Line faults.NoBound)
 Tells side (Mated mover) answer = answer ≡ Ok ends.Mate
 Tells side (Stalemated mover) answer = answer ≡ Ok ends.Stalemate

@@ -173,13 +173,13 @@ rest_text side spot plies end =
 
 -- how a turn leaves a session: it goes on behind its first ply,
 -- which leads to this number, or it finished
-abbrev pub Leaves : Arena Step ℕ Value → Colour → List ℕ → (played : ℕ) → Input → List SessionPly →
+abbrev pub Leaves : Arena Step ℕ Value → Colour → (ℕ → List ℕ) → (played : ℕ) → Input → List SessionPly →
     EndOfSession →
     (last : Input) → (rest : List ℕ) → Result Turn PlayFault → Type 0
 Leaves arena side kept played left plies end last rest (Ok (On number code)) =
-    (slice_index kept number ≡ code)
+    (slice_index (kept (suc played)) number ≡ code)
     × ((first : SessionPly) × (others : List SessionPly) × (plies ≡ first ∷ others)
-    × (first.arm.next ≡ Inside number)
+    × (first.arm.next ≡ Inside (suc played, number))
     × GoesOn arena side kept (suc played) left number others end last
     × (rest ≡ plies_text side others ++ end_text end))
 Leaves arena side kept played left plies end last rest (Ok (Over answer)) =
@@ -190,12 +190,11 @@ Leaves arena side kept played left plies end last rest (Err fault) =
     × Finishes (Err fault) side end rest unread
 
 -- the text and the bytes are what the turn adds to each session that goes on from here
-abbrev pub GoesBy : Arena Step ℕ Value → Colour → List ℕ → Spot → (old new : Reader) →
+abbrev pub GoesBy : Arena Step ℕ Value → Colour → (ℕ → List ℕ) → (played : ℕ) → Spot → (old new : Reader) →
     (bytes text : List ℕ) →
     Result Turn PlayFault → Type 0
-GoesBy arena side kept spot old new bytes text result =
-    slice_index kept spot.number ≡ spot.code →
-    (played : ℕ) → (played == 0) ≡ spot.is_start →
+GoesBy arena side kept played spot old new bytes text result =
+    slice_index (kept played) spot.number ≡ spot.code → (played == 0) ≡ spot.is_start →
     (left : List ℕ) → MayFollow new left →
     (plies : List SessionPly) (end : EndOfSession) (last : Input) →
     GoesOn arena side kept played (record { left = bytes ++ left; more = old.more }) spot.number
@@ -205,13 +204,13 @@ GoesBy arena side kept spot old new bytes text result =
     result
 
 -- the same of all turns from the start, against some input that may be the one that is told
-abbrev pub Plays : Arena Step ℕ Value → Colour → List ℕ → (start code : ℕ) → SourceTold →
+abbrev pub Plays : Arena Step ℕ Value → Colour → (ℕ → List ℕ) → (start code : ℕ) → SourceTold →
     (bytes text : List ℕ) →
     Result SessionEnd PlayFault → (before now : Spent) → Type 0
 Plays arena side kept start code source bytes text result before now =
     (input : List ℕ) × MayHold source input
-    × (slice_index kept start ≡ code →
+    × (slice_index (kept 0) start ≡ code →
     (plies : List SessionPly) (end : EndOfSession) (last : Input) →
     GoesOn arena side kept 0 (opened input) start plies end last →
     PlayedOf side code input bytes text result plies end last
-    × SpendsAt arena 0 (way_numbers (Inside start) plies) before now)
+    × SpendsAt arena 0 (way_numbers (Inside (0, start)) plies) before now)

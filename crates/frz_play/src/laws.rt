@@ -10,6 +10,7 @@ ghost use Rattle.frz_fide.specs.Listing.{legal_moves_of};
 ghost use Rattle.frz_sets.specs.declared.exit.Value.{Value};
 ghost use Rattle.frz_sets.specs.Views.{RuleLines};
 ghost use Rattle.frz_arena.specs.Chess.{NeverForcesMate};
+ghost use Rattle.frz_arena.specs.Counted.{counted};
 ghost use Rattle.frz_arena.specs.WayEnds.{Wrong, Exit, EndsWon, EndsHeld};
 ghost use Rattle.frz_exits.specs.Values.{lag_of};
 ghost use Rattle.frz_game.specs.Bounds.{IsTableOf};
@@ -53,22 +54,23 @@ impl Model for HaltedInput {
     ghost view = { λ _. halted Ended };
 }
 
-/// From each number there is one session over each list of codes and each input.
+/// From each number there is one session over the codes, as they are known after each
+/// number of plies, and each input.
 pub fn one_session()
     ensures there { (rules : RuleLines) (value : Board → Value)
-        (side : Colour) (codes : List ℕ) (start : ℕ) (input : List ℕ) →
+        (side : Colour) (codes : ℕ → List ℕ) (start : ℕ) (input : List ℕ) →
         (plies : List SessionPly) × (end : EndOfSession) × (left : Input)
         × IsSession rules value side codes start input plies end left }
     ensures one { (rules : RuleLines) (value : Board → Value)
-        (side : Colour) (codes : List ℕ) (start : ℕ) (input : List ℕ)
+        (side : Colour) (codes : ℕ → List ℕ) (start : ℕ) (input : List ℕ)
         (plies others : List SessionPly) (end last : EndOfSession) (left rest : Input) →
         IsSession rules value side codes start input plies end left →
         IsSession rules value side codes start input others last rest →
         (plies ≡ others) × (end ≡ last) × (left ≡ rest) }
 {
-    sessions_end::<Move, u32, ExitValue, LeftInput, HaltedInput>();
+    sessions_end::<Move, (u32, u32), ExitValue, LeftInput, HaltedInput>();
     sides_move_in_turn::<Position, Move, ExitValue>();
-    ways::one_way::<Move, u32, ExitValue, LeftInput, HaltedInput>();
+    ways::one_way::<Move, (u32, u32), ExitValue, LeftInput, HaltedInput>();
     all_listed();
     numbered();
 }
@@ -78,79 +80,76 @@ pub fn one_session()
 /// way or its input ends it otherwise.
 pub fn wins_are_kept()
     ensures few { (rules : RuleLines) (value : Board → Value)
-        (side : Colour) (codes : List ℕ) (start n : ℕ) (input : List ℕ)
+        (side : Colour) (codes : ℕ → List ℕ) (start n : ℕ) (input : List ℕ)
         (plies : List SessionPly) (end : EndOfSession) (left : Input) →
-        slice_index codes start ≡ 2 + 2 * n →
+        slice_index (codes 0) start ≡ 2 + 2 * n →
         IsSession rules value side codes start input plies end left → length plies ≤ n }
     ensures won { (rules : RuleLines) (value : Board → Value)
-        (side : Colour) (codes : List ℕ) (start n : ℕ) (input : List ℕ)
+        (side : Colour) (codes : ℕ → List ℕ) (start n : ℕ) (input : List ℕ)
         (plies : List SessionPly) (end : EndOfSession) (left : Input) →
-        slice_index codes start ≡ 2 + 2 * n →
+        slice_index (codes 0) start ≡ 2 + 2 * n →
         IsSession rules value side codes start input plies end left →
-        EndsWon (graph_by rules value) side end }
+        EndsWon (counted (graph_by rules value)) side end }
     ensures exit { (rules : RuleLines) (value : Board → Value)
-        (side : Colour) (codes : List ℕ) (start n : ℕ) (input : List ℕ)
+        (side : Colour) (codes : ℕ → List ℕ) (start n : ℕ) (input : List ℕ)
         (plies : List SessionPly) (v : Value) (left : Input) →
-        slice_index codes start ≡ 2 + 2 * n →
+        slice_index (codes 0) start ≡ 2 + 2 * n →
         IsSession rules value side codes start input plies (Exit v) left →
         length plies + lag_of v ≤ n }
 {
-    ways::wins_are_kept::<Move, u32, ExitValue, LeftInput, HaltedInput>();
+    ways::wins_are_kept::<Move, (u32, u32), ExitValue, LeftInput, HaltedInput>();
 }
 
 /// From the kept code of a hold the side is not mated in a session, and no exit is bad for it.
 pub fn holds_are_kept()
     ensures { (rules : RuleLines) (value : Board → Value)
-        (side : Colour) (codes : List ℕ) (start : ℕ) (input : List ℕ)
+        (side : Colour) (codes : ℕ → List ℕ) (start : ℕ) (input : List ℕ)
         (plies : List SessionPly) (end : EndOfSession) (left : Input) →
-        slice_index codes start ≡ 1 →
+        slice_index (codes 0) start ≡ 1 →
         IsSession rules value side codes start input plies end left →
-        EndsHeld (graph_by rules value) side end }
+        EndsHeld (counted (graph_by rules value)) side end }
 {
-    ways::holds_are_kept::<Move, u32, ExitValue, LeftInput, HaltedInput>();
+    ways::holds_are_kept::<Move, (u32, u32), ExitValue, LeftInput, HaltedInput>();
 }
 
 /// Each ply of a session is a legal move at the position of its number.
 pub fn plies_are_legal()
     ensures { (rules : RuleLines) (value : Board → Value)
-        (side : Colour) (codes : List ℕ) (start : ℕ) (input : List ℕ)
+        (side : Colour) (codes : ℕ → List ℕ) (start : ℕ) (input : List ℕ)
         (plies : List SessionPly) (end : EndOfSession) (left : Input) →
         IsSession rules value side codes start input plies end left →
         (x : SessionPly) → Contains plies x →
-        (p : Board) × (m : Step) × (position_at rules.groups x.from ≡ Some p)
+        (p : Board) × (m : Step) × (position_at rules.groups x.from.1 ≡ Some p)
         × (slice_get (legal_moves_of p) x.place ≡ Some m) }
 {
-    ways::plies_are_moves::<Position, Move, ExitValue, LeftInput, HaltedInput>();
 }
 
-/// Over the table of the side no session from a position of the set ends as wrong.
+/// Where the codes are each time those of the table of the side, no session from a position of the set ends as wrong.
 pub fn tables_are_never_wrong()
-    ensures { (rules : RuleLines) (value : Board → Value) (side : Colour) (codes : List ℕ) →
-        IsTableOf rules value side codes → (p : Board) → Member rules.groups p →
-        (input : List ℕ) (plies : List SessionPly) (number kept given : ℕ) (left : Input) →
+    ensures { (rules : RuleLines) (value : Board → Value) (side : Colour) (codes : ℕ → List ℕ) →
+        ((k : ℕ) → IsTableOf rules value side (codes k)) → (p : Board) → Member rules.groups p →
+        (input : List ℕ) (plies : List SessionPly) (at : ℕ × ℕ) (kept given : ℕ) (left : Input) →
         IsSession rules value side codes (Num rules.groups p) input plies
-        (Wrong number kept given) left → ⊥ }
+        (Wrong at kept given) left → ⊥ }
 {
-    ways::right_codes::<Move, Position, ExitValue, LeftInput, HaltedInput>();
     ways::games_are_closed::<Position, Move, ExitValue>();
     membership();
     numbered();
 }
 
-/// Over the table of the side, where the exits are true, the opponent forces no mate after any ply
+/// Where the codes are each time those of the table of the side and the exits are true, the opponent forces no mate after any ply
 /// of a session, in the set or out of it.
 pub fn sessions_are_safe()
     ensures { (rules : RuleLines) (value : Board → Value) → AreTrueExits rules value →
-        (side : Colour) (codes : List ℕ) → IsTableOf rules value side codes →
+        (side : Colour) (codes : ℕ → List ℕ) → ((k : ℕ) → IsTableOf rules value side (codes k)) →
         (start : ℕ) (input : List ℕ)
         (plies : List SessionPly) (end : EndOfSession) (left : Input) →
         IsSession rules value side codes start input plies end left →
         (x : SessionPly) → Contains plies x →
-        (p : Board) (m : Step) → position_at rules.groups x.from ≡ Some p →
+        (p : Board) (m : Step) → position_at rules.groups x.from.1 ≡ Some p →
         slice_get (legal_moves_of p) x.place ≡ Some m →
         NeverForcesMate chess (other_of side) (after p m) }
 {
-    ways::ways_are_safe::<Position, Move, ExitValue, LeftInput, HaltedInput>();
     true_values();
     numbered();
 }

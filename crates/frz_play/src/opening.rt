@@ -1,12 +1,12 @@
 //! The session of a side from a position of a table file's set.
-ghost use Rattle.std.specs.Prelude.{◌≡◌, ◌↔◌, ◌≤◌, ℕ, List, Err, IfSome};
+ghost use Rattle.std.specs.Prelude.{◌≡◌, ◌↔◌, ◌≤◌, ℕ, List, Err};
 ghost use Rattle.frz_fide.specs.Valid.{IsValid};
 ghost use Rattle.frz_index.specs.Members.{Member};
 ghost use Rattle.frz_store.specs.Told.{store_of, source_of, sink_of, StoreQuiet};
 ghost use Rattle.frz_answer.specs.Answers.{IsLines};
 ghost use Rattle.frz_answer.specs.World.{spent_by};
-ghost use Rattle.frz_table.specs.Tables.{Carries};
-ghost use Rattle.frz_line.specs.Kept.{told_codes};
+ghost use Rattle.frz_table.specs.Tables.{Carries, table_size};
+ghost use Rattle.frz_line.specs.Kept.{told_codes, MayRead};
 ghost use Rattle.frz_line.specs.declared.end.LineFault.TheVariants as faults;
 ghost use Rattle.frz_play.specs.declared.end.PlayFault.TheVariants.{Line};
 ghost use Rattle.frz_play.specs.Faults.{WroteBy, StoreCause, InputCause, TookBytes, MayHold};
@@ -19,7 +19,7 @@ use frz_board::{Colour, Move, Position};
 use frz_exits::RuleBook;
 use frz_fide::laws::all_listed;
 use frz_game::Game;
-use frz_game::laws::numbers::numbered;
+use frz_game::laws::numbers::{different_arms, numbered};
 use frz_line::LineFault;
 use frz_sets::Value;
 use frz_steps::Steps;
@@ -45,16 +45,20 @@ pub fn play_session<S: Store, I: Source, O: Sink, L: Ledger>(
     ensures outside { (result ≡ Err (Line faults.Outside))
         ↔ (Member table.now.rules.groups p.now → ⊥) }
 
-    // Where the store tells its codes, the text and the bytes are those of the session against
-    // some input, which is the one that is told, if it is.
+    // The text and the bytes are those of the session by the codes that were read after each
+    // number of plies, against some input. Where the store and the input tell, they are those that
+    // these tell.
     ensures played { (text bytes : List ℕ) × IsLines text
         × WroteBy result text (sink_of O.Sink out.old) (sink_of O.Sink out.new)
         × TookBytes bytes (source_of I.Source input.old) (source_of I.Source input.new)
-        × IfSome (told_codes table.now side (S.files store.old))
-        (λ codes. (whole : List ℕ) × MayHold (source_of I.Source input.old) whole
+        × ((read : ℕ → List ℕ)
+        × ((k : ℕ) → MayRead (told_codes table.now side (S.files store.old)) (table_size table.now)
+        (read k))
+        × ((codes : ℕ → List ℕ) → ((k : ℕ) → codes k ≡ read k)
+        → (whole : List ℕ) × MayHold (source_of I.Source input.old) whole
         × TellsSession table.now.rules side codes p.now whole bytes text result
         (spent_by (store_of S.Store store.old) steps.old)
-        (spent_by (store_of S.Store store.new) steps.new)) }
+        (spent_by (store_of S.Store store.new) steps.new))) }
     ensures quiet { StoreQuiet (store_of S.Store store.old) (store_of S.Store store.new) }
     ensures cause { StoreCause result (store_of S.Store store.old) (store_of S.Store store.new) }
     ensures input { InputCause result (source_of I.Source input.old)
@@ -65,6 +69,7 @@ pub fn play_session<S: Store, I: Source, O: Sink, L: Ledger>(
         return Err(PlayFault::Line(LineFault::Outside));
     };
     numbered();
+    different_arms();
     all_listed();
     sides_move_in_turn::<Position, Move, Value>();
     let rules = table.rules();

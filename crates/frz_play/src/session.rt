@@ -1,5 +1,5 @@
 //! The loop that plays a session.
-ghost use Rattle.std.specs.Prelude.{◌≡◌, ◌⊎◌, ◌≤◌, ◌<◌, ◌+◌, ◌*◌, ℕ, List, true, false, Err, IfOk, IfSome};
+ghost use Rattle.std.specs.Prelude.{◌≡◌, ◌⊎◌, ◌≤◌, ◌<◌, ◌+◌, ◌*◌, ℕ, suc, List, true, false, Err, IfOk};
 ghost use Rattle.frz_store.specs.Told.{store_of, source_of, sink_of, StoreQuiet};
 ghost use Rattle.frz_answer.specs.Answers.{IsLines};
 ghost use Rattle.frz_answer.specs.World.{spent_by};
@@ -7,7 +7,8 @@ ghost use Rattle.frz_table.specs.Tables.{Carries, table_size};
 ghost use Rattle.frz_arena.specs.Codes.{is_failure};
 ghost use Rattle.frz_arena.specs.Turns.{Alternates};
 ghost use Rattle.frz_line.specs.Costs.{arms_reads};
-ghost use Rattle.frz_line.specs.Kept.{told_codes};
+ghost use Rattle.frz_line.specs.Kept.{told_codes, MayRead};
+ghost use Rattle.frz_line.specs.Reads.{HasDifferentArms};
 ghost use Rattle.frz_line.specs.declared.end.LineFault.TheVariants as faults;
 ghost use Rattle.frz_play.specs.declared.end.PlayFault.TheVariants.{Line};
 ghost use Rattle.frz_play.specs.Faults.{WroteBy, StoreCause, InputCause, TookBytes};
@@ -17,12 +18,10 @@ ghost use Rattle.frz_play.specs.Turns.{GoesBy, TurnsTo, Plays};
 use crate::end::{MOST_LINES, PlayFault, SessionEnd};
 use crate::hearing::Reader;
 use crate::playing::{Spot, Turn, play, write_opening};
-use frz_arena::laws::ways::arms_are_found;
-use frz_board::{Colour, Move};
+use frz_board::Colour;
 use frz_graph::laws::filled;
 use frz_graph::{Lists, NumberedGame};
 use frz_line::sight;
-use frz_sets::Value;
 use frz_steps::Steps;
 use frz_store::{Sink, Source, Store};
 use frz_table::TableFile;
@@ -45,6 +44,7 @@ fn turn<G: NumberedGame<L>, S: Store, I: Source, O: Sink, L: Ledger>(
     requires turns { Alternates (G.arena game.now) }
     requires inside { spot.number < G.count game.now }
     requires many { table_size table.now ≡ G.count game.now }
+    requires different { HasDifferentArms (G.arena game.now) }
     requires carried { Carries (S.files store.old) table.now }
     requires stands { (spot.is_start ≡ true) ⊎ (is_failure spot.code ≡ false) }
     requires ended { reader.old.ended ≡ true → HasEnded (source_of I.Source input.old) }
@@ -54,9 +54,11 @@ fn turn<G: NumberedGame<L>, S: Store, I: Source, O: Sink, L: Ledger>(
         × WroteBy result text (sink_of O.Sink out.old) (sink_of O.Sink out.new)
         × TookBytes bytes (source_of I.Source input.old) (source_of I.Source input.new)
         × StaysEnded reader.old reader.new bytes
-        × IfSome (told_codes table.now side (S.files store.old))
-        (λ codes. GoesBy (G.arena game.now) side codes spot reader.old reader.new bytes text
-        result) }
+        × ((read : List ℕ)
+        × MayRead (told_codes table.now side (S.files store.old)) (table_size table.now) read
+        × ((codes : ℕ → List ℕ) (played : ℕ) → codes (suc played) ≡ read
+        → GoesBy (G.arena game.now) side codes played spot reader.old reader.new bytes text
+        result)) }
     ensures still_ended { reader.new.ended ≡ true → HasEnded (source_of I.Source input.new) }
     ensures placed { result ≡ Err (Line faults.Outside) → ⊥ }
     ensures quiet { StoreQuiet (store_of S.Store store.old) (store_of S.Store store.new) }
@@ -70,7 +72,6 @@ fn turn<G: NumberedGame<L>, S: Store, I: Source, O: Sink, L: Ledger>(
     ensures step { steps.new ≤ steps.old + 1 }
     ensures later { steps.old ≤ steps.new }
 {
-    arms_are_found::<Move, u32, Value>();
     filled();
     let due = sight(
         game,
@@ -104,15 +105,19 @@ pub fn play_from<G: NumberedGame<L>, S: Store, I: Source, O: Sink, L: Ledger>(
     requires turns { Alternates (G.arena game.now) }
     requires inside { start < G.count game.now }
     requires many { table_size table.now ≡ G.count game.now }
+    requires different { HasDifferentArms (G.arena game.now) }
     requires carried { Carries (S.files store.old) table.now }
     ensures wrote { (text bytes : List ℕ) × IsLines text
         × WroteBy result text (sink_of O.Sink out.old) (sink_of O.Sink out.new)
         × TookBytes bytes (source_of I.Source input.old) (source_of I.Source input.new)
-        × IfSome (told_codes table.now side (S.files store.old))
-        (λ codes. Plays (G.arena game.now) side codes start code
+        × ((read : ℕ → List ℕ)
+        × ((k : ℕ) → MayRead (told_codes table.now side (S.files store.old)) (table_size table.now)
+        (read k))
+        × ((codes : ℕ → List ℕ) → ((k : ℕ) → codes (suc k) ≡ read k)
+        → Plays (G.arena game.now) side codes start code
         (source_of I.Source input.old) bytes text result
         (spent_by (store_of S.Store store.old) steps.old)
-        (spent_by (store_of S.Store store.new) steps.new)) }
+        (spent_by (store_of S.Store store.new) steps.new))) }
     ensures placed { result ≡ Err (Line faults.Outside) → ⊥ }
     ensures quiet { StoreQuiet (store_of S.Store store.old) (store_of S.Store store.new) }
     ensures cause { StoreCause result (store_of S.Store store.old) (store_of S.Store store.new) }

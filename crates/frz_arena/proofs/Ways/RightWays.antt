@@ -112,7 +112,7 @@ pub numbers_closed : {M N V : Type 0} (numbers : Numbering N) (arena : Arena M N
 numbers_closed numbers arena law closed =
     record { unbroken = λ i a h. arms_there numbers arena law closed (numbers.at i) a h }
 
-number_there : {M N V : Type 0} (numbers : Numbering N) (arena : Arena M N V) →
+pub number_there : {M N V : Type 0} (numbers : Numbering N) (arena : Arena M N V) →
     IsNumbering numbers arena → (p : N) (i : ℕ) → numbers.number p ≡ Some i →
     node_at arena (numbers.at i) ≢ Broken
 number_there numbers arena law p i e b =

@@ -26,7 +26,7 @@ use Rattle.frz_arena.proofs.Lists.Members.{cases_Option}
 use Rattle.frz_arena.proofs.Ways.RightWays.{member_there, in_set}
 
 -- a position whose code, inside or outside, is no failure
-safe_next : {P M V : Type 0} (game : Game P M V) → TrueExits game → (numbers : Numbering P) →
+pub safe_next : {P M V : Type 0} (game : Game P M V) → TrueExits game → (numbers : Numbering P) →
     IsNumbering numbers (arena_of game) → (side : Colour) (codes : List ℕ) →
     IsTable numbers (arena_of game) side codes → (q : P) (b : Bool) → game.member q ≡ b →
     (b ≡ false → IsExit game q) →
@@ -51,7 +51,7 @@ safe_next game exits numbers law side codes table q false e exit f n g =
     ]
 
 -- the arm of a number's move
-arm_is : {P M V : Type 0} (game : Game P M V) (numbers : Numbering P) (i place : ℕ) (a : Arm M ℕ V)
+pub arm_is : {P M V : Type 0} (game : Game P M V) (numbers : Numbering P) (i place : ℕ) (a : Arm M ℕ V)
     (p : P) (m : M) → numbers.at i ≡ Some p
     → slice_get ((numbers_of numbers (arena_of game)).arms i) place ≡ Some a
     → slice_get (game.chess.moves p) place ≡ Some m → a ≡ named (name_in numbers) (arm_of game p m)
@@ -100,7 +100,7 @@ safe_way game exits numbers law side codes table opponent s t i xs e w x h p m a
     n g
 
 -- the position and the move of a ply
-move_of_arm : {P M V : Type 0} (game : Game P M V) (numbers : Numbering P) (o : Option P)
+pub move_of_arm : {P M V : Type 0} (game : Game P M V) (numbers : Numbering P) (o : Option P)
     (place : ℕ) (a : Arm M ℕ V) → slice_get (arms_at (arena_of game) (name_in numbers) o) place
     ≡ Some a → (p : P) × (m : M) × (o ≡ Some p) × (slice_get (game.chess.moves p) place ≡ Some m)
     × (game.free p m ≡ a.free)

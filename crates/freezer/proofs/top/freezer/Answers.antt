@@ -7,7 +7,11 @@ use Rattle.freezer.proofs.top.freezer.Goals as goal
 
 pub returns-clause-outcome : goal.returns-clause-outcome
 returns-clause-outcome g c =
-    outcome _ _ _ (world _ _ _ _) _ _
-    (λ files input a h. let law = lawful_of c.one_line_answer.ensures c.one_play_answer.ensures
-    (map string_bytes c.args.words.now) in law.means files input a h) c.run-end.ensures.ran
-    c.finish.ensures
+    let w = c.run-end.ensures.ran in (
+      w.0,
+      w.1,
+      outcome _ _ _ (world _ _ _ _) _ _
+          (λ files input a h. let law = lawful_of c.one_line_answer.ensures
+          c.one_play_answer.ensures w.0 (map string_bytes c.args.words.now) in
+          law.means files input a h) w.2 c.finish.ensures,
+    )

@@ -1,23 +1,38 @@
 use Rattle.std.proofs.Common.{refl}
 use Rattle.frz_commands_line.specs.Lining.{lining_at}
+use Rattle.frz_commands_line.proofs.Later.{any_later, later_before}
 use Rattle.frz_commands_line.proofs.LineOpened.{line_comes, lined_by, some_at}
 use Rattle.frz_commands_line.proofs.Opened.{opened_ran, refused_ran}
 use Rattle.frz_commands_line.proofs.line.line_at.Goals as goal
 
 pub returns-in-Ok : goal.returns-in-Ok
-returns-in-Ok g c = λ input.
+returns-in-Ok g c =
     let e = c.in-Ok.ensures in
-    opened_ran (lined_by c.args.side c.args.p.now) (line_comes c.args.side c.args.p.now)
-    c.args.p.now c.args.table.now (lining_at c.args.table.now c.args.side c.args.p.now) refl
-    e.quiet e.asked_told _ c.in-Ok.table refl
-    (record { faults = e.causes.fine; wants = e.causes.wants_fine }) e.name e.opened e.calls
-    (c.line_in.ensures input)
+    let w = c.line_in.ensures in
+    let side = c.args.side in
+    let p = c.args.p.now in (
+      w.0,
+      later_before w.0 e.quiet.unwritten.files w.1,
+      λ input.
+          opened_ran (lined_by w.0 side p) (line_comes w.0 side p)
+          p c.args.table.now (lining_at w.0 c.args.table.now side p) refl
+          e.quiet _ c.in-Ok.table refl
+          (record { faults = e.causes.fine; wants = e.causes.wants_fine }) e.name e.may_open
+          e.asked e.calls (w.2 input),
+    )
 
 pub returns-in-Err : goal.returns-in-Err
-returns-in-Err g c = λ input.
+returns-in-Err g c =
     let e = c.in-Err.ensures in
-    refused_ran (lined_by c.args.side c.args.p.now) (line_comes c.args.side c.args.p.now)
-    c.args.p.now c.args.table.now (lining_at c.args.table.now c.args.side c.args.p.now) refl
-    e.quiet e.asked_told c.in-Err.fault refl refl refl refl (λ bytes m i. refl)
-    (λ m i. some_at c.one_line.ensures.there c.args.table.now c.args.side c.args.p.now m)
-    e.causes e.refused e.may_refuse (rw c.from.ensures at c.end.ensures)
+    let any = any_later (g.S.Store.files c.args.store.now) in
+    let side = c.args.side in
+    let p = c.args.p.now in (
+      any.0,
+      any.1,
+      λ input.
+          refused_ran (lined_by any.0 side p) (line_comes any.0 side p)
+          p c.args.table.now (lining_at any.0 c.args.table.now side p) refl
+          e.quiet c.in-Err.fault refl refl refl refl (λ m i. refl)
+          (λ m i. some_at c.one_line.ensures.there any.0 c.args.table.now side p m)
+          e.causes e.may_refuse (rw c.from.ensures at c.end.ensures),
+    )

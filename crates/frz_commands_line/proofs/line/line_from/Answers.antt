@@ -1,13 +1,24 @@
 use Rattle.frz_prelude.proofs.Lemmas.{as_read}
 use Rattle.frz_commands_line.specs.Lining.{lining_at}
+use Rattle.frz_commands_line.proofs.Later.{any_later}
 use Rattle.frz_commands_line.proofs.line.line_from.Goals as goal
 
 pub returns-in-Ok-clause-ran : goal.returns-in-Ok-clause-ran
-returns-in-Ok-clause-ran g c = λ input.
-    as_read (lining_at c.args.table.now c.args.side) _ _ _ _ _ _ c.in-Ok.ensures.read
-    c.as_bytes.ensures.value (c.line_at.ensures input)
+returns-in-Ok-clause-ran g c =
+    let w = c.line_at.ensures in (
+      w.0,
+      w.1,
+      λ input.
+          as_read (lining_at w.0 c.args.table.now c.args.side) _ _ _ _ _ _ c.in-Ok.ensures.read
+          c.as_bytes.ensures.value (w.2 input),
+    )
 
 pub returns-in-Err-clause-ran : goal.returns-in-Err-clause-ran
-returns-in-Err-clause-ran g c = λ input.
-    as_read (lining_at c.args.table.now c.args.side) _ _ _ _ _ _ c.in-Err.ensures.read
-    c.as_bytes.ensures.value (c.refuse_named.ensures _ input _)
+returns-in-Err-clause-ran g c =
+    let any = any_later (g.S.Store.files c.args.store.now) in (
+      any.0,
+      any.1,
+      λ input.
+          as_read (lining_at any.0 c.args.table.now c.args.side) _ _ _ _ _ _ c.in-Err.ensures.read
+          c.as_bytes.ensures.value (c.refuse_named.ensures _ input _),
+    )

@@ -5,17 +5,28 @@ use Rattle.frz_answer.proofs.Lemmas.{as_taken}
 use Rattle.frz_prelude.specs.Positions.{on_position}
 use Rattle.frz_commands_line.specs.Lining.{lining_at}
 use Rattle.frz_commands_line.specs.Sides.{on_side, side_of}
+use Rattle.frz_commands_line.proofs.Later.{any_later}
 use Rattle.frz_commands_line.proofs.line.run_line.Goals as goal
 
 pub returns-in-Some-clause-ran : goal.returns-in-Some-clause-ran
-returns-in-Some-clause-ran g c = λ input.
-    as_taken _ _ _ (λ (names : List ℕ × List ℕ × List ℕ). on_side
-    (λ x. on_position (lining_at names.0 x) (fen_of names.1)) (side_of names.2)) _ _
-    c.in-Some.ensures (c.line_for.ensures.ran input)
+returns-in-Some-clause-ran g c =
+    let w = c.line_for.ensures.ran in (
+      w.0,
+      w.1,
+      λ input.
+          as_taken _ _ _ (λ (names : List ℕ × List ℕ × List ℕ). on_side
+          (λ x. on_position (lining_at w.0 names.0 x) (fen_of names.1)) (side_of names.2)) _ _
+          c.in-Some.ensures (w.2 input),
+    )
 
 pub returns-in-None-clause-ran : goal.returns-in-None-clause-ran
-returns-in-None-clause-ran g c = λ input.
-    as_taken _ _ _ (λ (names : List ℕ × List ℕ × List ℕ). on_side
-    (λ x. on_position (lining_at names.0 x) (fen_of names.1)) (side_of names.2)) _ _
-    c.in-None.ensures
-    (c.refuse.ensures (store_of g.S.Store c.args.store.now) input _)
+returns-in-None-clause-ran g c =
+    let any = any_later (g.S.Store.files c.args.store.now) in (
+      any.0,
+      any.1,
+      λ input.
+          as_taken _ _ _ (λ (names : List ℕ × List ℕ × List ℕ). on_side
+          (λ x. on_position (lining_at any.0 names.0 x) (fen_of names.1)) (side_of names.2)) _ _
+          c.in-None.ensures
+          (c.refuse.ensures (store_of g.S.Store c.args.store.now) input _),
+    )

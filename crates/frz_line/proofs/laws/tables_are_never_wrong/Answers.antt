@@ -1,3 +1,4 @@
+use Rattle.frz_arena.proofs.Lemmas.{right_reader}
 use Rattle.frz_arena.specs.Ways.{ByCodes}
 use Rattle.frz_game.specs.Games.{game_of, arena_by}
 use Rattle.frz_game.specs.Numbers.{numbers_by}
@@ -6,9 +7,9 @@ use Rattle.frz_line.specs.declared.end.TheConstants.{MOST_PLIES}
 use Rattle.frz_line.proofs.laws.tables_are_never_wrong.Goals as goal
 
 pub returns : goal.returns
-returns c = λ rules value side codes table p member plies number kept given w.
-    c.right_codes.ensures.table (numbers_by rules.groups) (arena_by rules value)
+returns c = λ rules value side codes tables p member plies at kept given w.
+    right_reader (numbers_by rules.groups) (arena_by rules value)
     (c.numbered.ensures.numbering rules value) (c.numbered.ensures.lawful rules value)
-    (c.games_are_closed.ensures.game (game_of rules value)) side codes table (ByCodes MOST_PLIES) p
+    (c.games_are_closed.ensures.game (game_of rules value)) side codes tables (ByCodes MOST_PLIES) p
     (Num rules.groups p)
-    (c.membership.ensures.number rules.groups p member) tt tt plies number kept given w
+    (c.membership.ensures.number rules.groups p member) tt tt plies at kept given w

@@ -5,8 +5,9 @@ use Rattle.frz_table.proofs.Lemmas.{fine_after, quiet_after}
 use Rattle.frz_line.specs.declared.playing.Turn.{Turn}
 use Rattle.frz_line.specs.declared.playing.Turn.TheVariants.{On}
 use Rattle.frz_line.specs.Kept.{told_codes}
-use Rattle.frz_line.specs.Turns.{TurnsTo, GoesBy}
-use Rattle.frz_line.proofs.Kept.{told_before}
+use Rattle.frz_line.specs.Turns.{TurnsTo}
+use Rattle.frz_line.proofs.Kept.{may_before}
+use Rattle.frz_table.specs.Tables.{table_size}
 use Rattle.frz_line.proofs.Played.{at_start, next_far, over_far, fault_far, quiet_here, few_at_start, few_on, left_on, stands_on}
 use Rattle.frz_line.proofs.Spending.{at_one}
 use Rattle.frz_line.proofs.line.play_line.Goals as goal
@@ -17,6 +18,7 @@ plies-init g c = record {
   stands = inl refl;
   few = few_at_start c.args.code c.ranges.code.fits;
   far = at_start (told_codes c.args.table.now c.args.side (g.S.Store.files c.args.store.now))
+      (table_size c.args.table.now)
       (g.G.NumberedGame.arena c.args.game.now) c.args.side c.args.start c.args.code
       (sink_of g.O.Sink c.args.out.now)
       (spent_by (store_of g.S.Store c.args.store.now) c.args.steps.now);
@@ -32,9 +34,8 @@ returns-in_err-end-clause-wrote g c =
     let w = e.wrote in
     fault_far _ c.plies.invariant.far (at_one arena c.plies.spot.number e.asked e.calls e.step) w.0
     w.1 c.in_err-end.field-0.0 c.from_residual.result c.from_residual.ensures.1 w.2
-    (told_before c.args.table.now c.args.side
-    (λ codes. GoesBy arena c.args.side codes c.plies.spot w.0
-    (Err c.in_err-end.field-0.0)) c.plies.invariant.quiet.unwritten.files w.3)
+    (w.3.0, may_before c.args.table.now c.args.side (table_size c.args.table.now) w.3.0
+    c.plies.invariant.quiet.unwritten.files w.3.1, w.3.2)
 
 pub returns-in-Over-clause-wrote : goal.returns-in-Over-clause-wrote
 returns-in-Over-clause-wrote g c =
@@ -43,9 +44,8 @@ returns-in-Over-clause-wrote g c =
     let w = e.wrote in
     over_far _ c.plies.invariant.far (at_one arena c.plies.spot.number e.asked e.calls e.step) w.0
     w.1 c.in-Over.is w.2
-    (told_before c.args.table.now c.args.side
-    (λ codes. GoesBy arena c.args.side codes c.plies.spot w.0
-    (Ok c.in_ok-end.field-0)) c.plies.invariant.quiet.unwritten.files w.3)
+    (w.3.0, may_before c.args.table.now c.args.side (table_size c.args.table.now) w.3.0
+    c.plies.invariant.quiet.unwritten.files w.3.1, w.3.2)
 
 pub plies-preserved : goal.plies-preserved
 plies-preserved g c =
@@ -64,9 +64,8 @@ plies-preserved g c =
       few = few_on size spot number code c.plies.invariant.few to;
       far = next_far _ c.plies.invariant.far (at_one arena spot.number e.asked e.calls e.step) w.0
           w.1 c.in-On.is w.2
-          (told_before c.args.table.now c.args.side
-          (λ codes. GoesBy arena c.args.side codes spot w.0
-          (Ok c.in_ok-end.field-0)) c.plies.invariant.quiet.unwritten.files w.3);
+          (w.3.0, may_before c.args.table.now c.args.side (table_size c.args.table.now) w.3.0
+          c.plies.invariant.quiet.unwritten.files w.3.1, w.3.2);
       quiet = quiet_after (store_of g.S.Store c.args.store.now) (store_of g.S.Store c.plies.store)
           (store_of g.S.Store c.turn.new.store) c.plies.invariant.quiet e.quiet;
       fine = fine_after (store_of g.S.Store c.args.store.now) (store_of g.S.Store c.plies.store)

@@ -1,6 +1,7 @@
 use Rattle.std.proofs.Common.{◌≡◌, ◌≤◌, ◌<◌, ◌⊎◌, false}
 use Rattle.frz_store.specs.Told.{store_of, sink_of, StoreQuiet, StoreFine}
 use Rattle.frz_answer.specs.World.{spent_by}
+use Rattle.frz_table.specs.Tables.{table_size}
 use Rattle.frz_arena.specs.Codes.{is_failure}
 use Rattle.frz_arena.proofs.Lemmas.{IsFew, line_left}
 use Rattle.frz_line.specs.declared.end.TheConstants.{MOST_PLIES}
@@ -13,7 +14,7 @@ invariant-plies g l = record {
   inside : l.spot.number < g.G.NumberedGame.count l.game;
   stands : (l.spot.played ≡ 0) ⊎ (is_failure l.spot.code ≡ false);
   few : IsFew MOST_PLIES l.spot.played l.spot.code;
-  far : SoFar (told_codes l.table l.side (g.S.Store.files l.initial.store))
+  far : SoFar (told_codes l.table l.side (g.S.Store.files l.initial.store)) (table_size l.table)
       (g.G.NumberedGame.arena l.game) l.side l.start l.code l.spot (sink_of g.O.Sink l.initial.out)
       (sink_of g.O.Sink l.out) (spent_by (store_of g.S.Store l.initial.store) l.initial.steps)
       (spent_by (store_of g.S.Store l.store) l.steps);

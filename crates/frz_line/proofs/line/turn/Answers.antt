@@ -1,4 +1,9 @@
-use Rattle.std.specs.Prelude.{nat_le}
+use Rattle.std.proofs.Common.{◌≡◌, ℕ, List, map, sym, subst}
+use Rattle.std.specs.Prelude.{nat_le, ⊤}
+use Rattle.frz_arena.proofs.Lemmas.{one_chosen}
+use Rattle.frz_graph.specs.EntryCodes.{arm_code}
+use Rattle.frz_table.specs.Tables.{table_size}
+use Rattle.frz_line.proofs.Gathered.{any_read}
 use Rattle.frz_store.specs.Told.{sink_of}
 use Rattle.frz_line.specs.declared.end.TheConstants.{MOST_PLIES}
 use Rattle.frz_line.specs.Kept.{told_codes}
@@ -8,9 +13,12 @@ use Rattle.frz_line.proofs.line.turn.Goals as goal
 
 pub returns-in_err-due-clause-wrote : goal.returns-in_err-due-clause-wrote
 returns-in_err-due-clause-wrote g c =
-    stopped_by (told_codes c.args.table.now c.args.side (g.S.Store.files c.args.store.now))
+    let known = told_codes c.args.table.now c.args.side (g.S.Store.files c.args.store.now) in
+    let any = any_read known (table_size c.args.table.now) in
+    let h = stopped_by (λ codes. ⊤)
     (g.G.NumberedGame.arena c.args.game.now) c.args.side c.args.spot c.in_err-due.field-0.0
-    c.from_residual.result (sink_of g.O.Sink c.args.out.now) c.from_residual.ensures.1
+    c.from_residual.result (sink_of g.O.Sink c.args.out.now) c.from_residual.ensures.1 in
+    (h.0, h.1, h.2, (any.0, any.1, λ codes same. h.3 codes tt))
 
 pub play-requires-clause-there : goal.play-requires-clause-there
 play-requires-clause-there g c =
@@ -27,9 +35,14 @@ returns-clause-next g c =
 
 pub returns-clause-wrote : goal.returns-clause-wrote
 returns-clause-wrote g c =
-    turn_wrote c.arms_are_found.ensures.one c.filled.ensures
-    (told_codes c.args.table.now c.args.side (g.S.Store.files c.args.store.now))
+    let e = c.in_ok-due.ensures in
+    let read = e.codes in
+    let cs = c.sight.new.lists.codes.items in
+    let arms = c.sight.new.lists.nexts.items in
+    let h = turn_wrote one_chosen c.filled.ensures
     (g.met.G.NumberedGame.finite c.args.game.now c.requires.sound) c.args.side c.args.spot
-    c.sight.new.lists.codes.items c.in_ok-due.ensures.arms c.in_ok-due.due c.in_ok-due.ensures.due
-    c.in_ok-due.ensures.codes c.play.result (sink_of g.O.Sink c.args.out.now)
-    (sink_of g.O.Sink c.play.new.out) c.play.ensures
+    cs e.arms c.in_ok-due.due e.due
+    c.play.result (sink_of g.O.Sink c.args.out.now)
+    (sink_of g.O.Sink c.play.new.out) c.play.ensures in
+    (h.0, h.1, h.2, (read.0, read.1, λ codes same. h.3 codes
+    (subst (λ (z : List ℕ). cs ≡ map (arm_code c.args.side z) arms) (sym same) read.2)))

@@ -1,4 +1,4 @@
-use Rattle.std.proofs.Common.{◌≡◌, ◌<◌, List, sym, subst}
+use Rattle.std.proofs.Common.{◌≡◌, ◌<◌, List, sym, subst, arith}
 use Rattle.frz_board.specs.Boards.{Board}
 use Rattle.frz_sets.specs.declared.exit.Value.{Value}
 use Rattle.frz_sets.specs.Sets.{size_of}
@@ -12,7 +12,8 @@ use Rattle.frz_game.proofs.Lemmas.{finite}
 use Rattle.frz_index.specs.Members.{Num}
 use Rattle.frz_answer.specs.World.{spent_by}
 use Rattle.frz_line.specs.Kept.{told_codes}
-use Rattle.frz_line.proofs.Lemmas.{code_kept, code_read, no_member, start_inside, told_by_table}
+use Rattle.frz_line.proofs.Lemmas.{by_table, code_kept, code_read, may_before, no_member, start_inside}
+use Rattle.frz_table.specs.Tables.{table_size}
 use Rattle.frz_play.specs.Turns.{Plays}
 use Rattle.frz_play.proofs.Alternating.{turn_after}
 use Rattle.frz_play.proofs.Starting.{nothing_told, start_unread, session_told}
@@ -20,7 +21,7 @@ use Rattle.frz_play.proofs.opening.play_session.Goals as goal
 
 pub returns-in_default-clause-played : goal.returns-in_default-clause-played
 returns-in_default-clause-played g c =
-    nothing_told _ c.args.table.now.rules _ _ _ _
+    nothing_told _ (table_size c.args.table.now) c.args.table.now.rules _ _ _ _
     (spent_by (store_of g.S.Store c.args.store.now) c.args.steps.now)
     (no_member c.args.p.now c.set.ensures c.in_default.ensures.member)
 
@@ -32,7 +33,7 @@ entry-requires-clause-number g c =
 
 pub returns-in_err-code-clause-played : goal.returns-in_err-code-clause-played
 returns-in_err-code-clause-played g c =
-    start_unread _ c.args.table.now.rules _ _ _ _
+    start_unread _ (table_size c.args.table.now) c.args.table.now.rules _ _ _ _
     (code_read (store_of g.S.Store c.args.store.now) (store_of g.S.Store c.entry.new.store)
     c.args.steps.now c.in_err-code.ensures.asked c.in_err-code.ensures.calls)
     c.in_err-code.field-0.0 c.from_residual.result c.from_residual.ensures.1
@@ -69,14 +70,24 @@ returns-clause-played g c =
     let mid = spent_by (store_of g.S.Store c.entry.new.store) c.args.steps.now in
     let now = spent_by (store_of g.S.Store c.play_from.new.store) c.play_from.new.steps in
     let w = c.play_from.ensures.wrote in
-    session_told (told_codes table side files) table.rules side c.args.p.now c.play_from.result
+    session_told (told_codes table side files) (table_size table) table.rules side c.args.p.now c.play_from.result
     source (source_of g.I.Source c.play_from.new.input) (sink_of g.O.Sink c.args.out.now)
     (sink_of g.O.Sink c.play_from.new.out) now start code
     (subst (λ (z : List GroupLine). start ≡ Num z c.args.p.now) c.set.ensures
     c.in-Some.ensures.number)
     (code_read (store_of g.S.Store c.args.store.now) (store_of g.S.Store c.entry.new.store)
     c.args.steps.now c.in_ok-code.ensures.asked c.in_ok-code.ensures.calls)
-    (code_kept table side files start code c.in_ok-code.ensures.code) w.0 w.1 w.2 w.3 w.4
-    (told_by_table table side
-    (λ arena codes. Plays arena side codes start code source w.1 w.0 c.play_from.result mid now)
-    c.in_ok-code.ensures.quiet.unwritten.files c.new-book.ensures c.rules-rules.ensures.rules w.5)
+    (start_inside table.rules c.args.p.now
+    (c.numbered.ensures.numbering table.rules (value_by table.rules))
+    c.set.ensures c.number.ensures.function c.in-Some.is) (search arith)
+    (code_kept table side files start code c.in_ok-code.ensures.code) w.0 w.1 w.2 w.3 w.4 w.5.0
+    (λ k. may_before table side (table_size table) (w.5.0 k)
+    c.in_ok-code.ensures.quiet.unwritten.files (w.5.1 k))
+    (λ codes same. by_table {table = table.rules}
+    (λ arena. Plays arena side codes start code source w.1 w.0 c.play_from.result mid now)
+    c.new-book.ensures c.rules-rules.ensures.rules (w.5.2 codes same))
+
+pub play_from-requires-clause-different : goal.play_from-requires-clause-different
+play_from-requires-clause-different g c = λ i k l n.
+    c.different_arms.ensures c.rules-rules.result.now
+    (λ q. value_by c.new-book.result.rules.now q) i k l n

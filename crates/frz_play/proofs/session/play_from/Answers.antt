@@ -3,10 +3,11 @@ use Rattle.frz_store.specs.Told.{store_of, source_of, sink_of}
 use Rattle.frz_answer.specs.World.{spent_by}
 use Rattle.frz_table.proofs.Lemmas.{fine_after, quiet_after}
 use Rattle.frz_line.specs.Kept.{told_codes}
-use Rattle.frz_line.proofs.Lemmas.{at_one, quiet_here, told_before}
+use Rattle.frz_line.proofs.Lemmas.{at_one, may_before, quiet_here}
 use Rattle.frz_play.specs.declared.playing.Turn.{Turn}
 use Rattle.frz_play.specs.declared.playing.Turn.TheVariants.{On}
-use Rattle.frz_play.specs.Turns.{TurnsTo, GoesBy}
+use Rattle.frz_table.specs.Tables.{table_size}
+use Rattle.frz_play.specs.Turns.{TurnsTo}
 use Rattle.frz_play.proofs.Played.{at_start, next_far, over_far, fault_far}
 use Rattle.frz_play.proofs.session.play_from.Goals as goal
 
@@ -16,6 +17,7 @@ plies-init g c = record {
   stands = inl refl;
   ended = λ e. absurd (cc);
   far = at_start (told_codes c.args.table.now c.args.side (g.S.Store.files c.args.store.now))
+      (table_size c.args.table.now)
       (g.G.NumberedGame.arena c.args.game.now) c.args.side c.args.start c.args.code
       (source_of g.I.Source c.args.input.now) (sink_of g.O.Sink c.args.out.now)
       (spent_by (store_of g.S.Store c.args.store.now) c.args.steps.now);
@@ -33,9 +35,8 @@ returns-in_err-end-clause-wrote g c =
     fault_far c.turn.new.reader _ c.plies.invariant.far
     (at_one arena c.plies.spot.number e.asked e.calls e.step) w.0 w.1 w.2 w.4 w.5
     c.in_err-end.field-0.0 c.from_residual.result c.from_residual.ensures.1 e.still_ended w.3
-    (told_before c.args.table.now c.args.side
-    (λ codes. GoesBy arena c.args.side codes c.plies.spot c.plies.reader c.turn.new.reader w.1 w.0
-    (Err c.in_err-end.field-0.0)) c.plies.invariant.quiet.unwritten.files w.6)
+    (w.6.0, may_before c.args.table.now c.args.side (table_size c.args.table.now) w.6.0
+    c.plies.invariant.quiet.unwritten.files w.6.1, w.6.2)
 
 pub returns-in-Over-clause-wrote : goal.returns-in-Over-clause-wrote
 returns-in-Over-clause-wrote g c =
@@ -45,9 +46,8 @@ returns-in-Over-clause-wrote g c =
     over_far c.turn.new.reader _ c.plies.invariant.far
     (at_one arena c.plies.spot.number e.asked e.calls e.step) w.0 w.1 w.2 w.4 w.5 c.in-Over.is
     e.still_ended w.3
-    (told_before c.args.table.now c.args.side
-    (λ codes. GoesBy arena c.args.side codes c.plies.spot c.plies.reader c.turn.new.reader w.1 w.0
-    (Ok c.in_ok-end.field-0)) c.plies.invariant.quiet.unwritten.files w.6)
+    (w.6.0, may_before c.args.table.now c.args.side (table_size c.args.table.now) w.6.0
+    c.plies.invariant.quiet.unwritten.files w.6.1, w.6.2)
 
 pub plies-preserved : goal.plies-preserved
 plies-preserved g c =
@@ -65,9 +65,8 @@ plies-preserved g c =
       far = next_far c.turn.new.reader _ c.plies.invariant.far
           (at_one arena c.plies.spot.number e.asked e.calls e.step) w.0 w.1 w.2 w.4 w.5 c.in-On.is
           w.3
-          (told_before c.args.table.now c.args.side
-          (λ codes. GoesBy arena c.args.side codes c.plies.spot c.plies.reader c.turn.new.reader w.1
-          w.0 (Ok c.in_ok-end.field-0)) c.plies.invariant.quiet.unwritten.files w.6);
+          (w.6.0, may_before c.args.table.now c.args.side (table_size c.args.table.now) w.6.0
+    c.plies.invariant.quiet.unwritten.files w.6.1, w.6.2);
       quiet = quiet_after (store_of g.S.Store c.args.store.now) (store_of g.S.Store c.plies.store)
           (store_of g.S.Store c.turn.new.store) c.plies.invariant.quiet e.quiet;
       fine = fine_after (store_of g.S.Store c.args.store.now) (store_of g.S.Store c.plies.store)

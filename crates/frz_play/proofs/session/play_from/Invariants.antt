@@ -2,6 +2,7 @@ use Rattle.std.proofs.Common.{◌≡◌, ◌≤◌, ◌<◌, ◌⊎◌, true, fa
 use Rattle.frz_store.specs.Told.{store_of, source_of, sink_of, StoreQuiet, StoreFine}
 use Rattle.frz_arena.specs.Codes.{is_failure}
 use Rattle.frz_answer.specs.World.{spent_by}
+use Rattle.frz_table.specs.Tables.{table_size}
 use Rattle.frz_line.specs.Kept.{told_codes}
 use Rattle.frz_play.specs.Hearing.{HasEnded}
 use Rattle.frz_play.specs.Turns.{session_left}
@@ -13,7 +14,7 @@ invariant-plies g l = record {
   inside : l.spot.number < g.G.NumberedGame.count l.game;
   stands : (l.spot.is_start ≡ true) ⊎ (is_failure l.spot.code ≡ false);
   ended : l.reader.ended ≡ true → HasEnded (source_of g.I.Source l.input);
-  far : SoFar (told_codes l.table l.side (g.S.Store.files l.initial.store))
+  far : SoFar (told_codes l.table l.side (g.S.Store.files l.initial.store)) (table_size l.table)
       (g.G.NumberedGame.arena l.game) l.side l.start l.code l.spot l.reader
       (source_of g.I.Source l.initial.input) (source_of g.I.Source l.input)
       (sink_of g.O.Sink l.initial.out) (sink_of g.O.Sink l.out)

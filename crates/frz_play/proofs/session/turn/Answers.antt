@@ -1,3 +1,9 @@
+use Rattle.std.proofs.Common.{◌≡◌, ℕ, List, map, sym, subst}
+use Rattle.std.specs.Prelude.{⊤}
+use Rattle.frz_arena.proofs.Lemmas.{one_chosen}
+use Rattle.frz_graph.specs.EntryCodes.{arm_code}
+use Rattle.frz_table.specs.Tables.{table_size}
+use Rattle.frz_line.proofs.Lemmas.{any_read}
 use Rattle.frz_store.specs.Told.{store_of, source_of, sink_of}
 use Rattle.frz_arena.specs.LocalCodes.{node_code}
 use Rattle.frz_graph.specs.FreeCodes.{free_among}
@@ -9,21 +15,28 @@ use Rattle.frz_play.proofs.session.turn.Goals as goal
 
 pub returns-in_err-due-clause-wrote : goal.returns-in_err-due-clause-wrote
 returns-in_err-due-clause-wrote g c =
-    stopped_by (told_codes c.args.table.now c.args.side (g.S.Store.files c.args.store.now))
+    let known = told_codes c.args.table.now c.args.side (g.S.Store.files c.args.store.now) in
+    let any = any_read known (table_size c.args.table.now) in
+    let h = stopped_by (λ codes played. ⊤)
     (g.G.NumberedGame.arena c.args.game.now) c.args.side c.args.spot c.args.reader.now
     c.in_err-due.field-0.0 c.from_residual.result (source_of g.I.Source c.args.input.now)
-    (sink_of g.O.Sink c.args.out.now) c.from_residual.ensures.1
+    (sink_of g.O.Sink c.args.out.now) c.from_residual.ensures.1 in
+    (h.0, h.1, h.2, h.3, h.4, h.5, (any.0, any.1, λ codes played same. h.6 codes played tt))
 
 pub returns-in_err-write_opening-clause-wrote : goal.returns-in_err-write_opening-clause-wrote
 returns-in_err-write_opening-clause-wrote g c =
-    opening_wrote c.arms_are_found.ensures.one c.filled.ensures
-    (told_codes c.args.table.now c.args.side (g.S.Store.files c.args.store.now))
+    let read = c.in_ok-due.ensures.codes in
+    let cs = c.sight.new.lists.codes.items in
+    let arms = c.sight.new.lists.nexts.items in
+    let h = opening_wrote one_chosen c.filled.ensures
     (g.met.G.NumberedGame.finite c.args.game.now c.requires.sound) c.args.side c.args.spot
-    c.sight.new.lists.codes.items c.in_ok-due.ensures.arms c.in_ok-due.ensures.codes c.in_ok-due.due
+    cs c.in_ok-due.ensures.arms c.in_ok-due.due
     c.in_ok-due.ensures.due c.args.reader.now c.from_residual-in_err-write_opening.result
     (source_of g.I.Source c.args.input.now) (sink_of g.O.Sink c.args.out.now)
     (sink_of g.O.Sink c.write_opening.new.out) c.from_residual-in_err-write_opening.ensures.1
-    c.in_err-write_opening.ensures.failed
+    c.in_err-write_opening.ensures.failed in
+    (h.0, h.1, h.2, h.3, h.4, h.5, (read.0, read.1, λ codes played same. h.6 codes played
+    (subst (λ (z : List ℕ). cs ≡ map (arm_code c.args.side z) arms) (sym same) read.2)))
 
 pub play-requires-clause-there : goal.play-requires-clause-there
 play-requires-clause-there g c =
@@ -51,14 +64,18 @@ returns-clause-next g c =
 
 pub returns-clause-wrote : goal.returns-clause-wrote
 returns-clause-wrote g c =
-    turn_wrote c.arms_are_found.ensures.one c.filled.ensures
-    (told_codes c.args.table.now c.args.side (g.S.Store.files c.args.store.now))
+    let read = c.in_ok-due.ensures.codes in
+    let cs = c.sight.new.lists.codes.items in
+    let arms = c.sight.new.lists.nexts.items in
+    let h = turn_wrote one_chosen c.filled.ensures
     (g.met.G.NumberedGame.finite c.args.game.now c.requires.sound) c.args.side c.args.spot
-    c.sight.new.lists.codes.items c.in_ok-due.ensures.arms c.in_ok-due.ensures.codes c.in_ok-due.due
+    cs c.in_ok-due.ensures.arms c.in_ok-due.due
     c.in_ok-due.ensures.due c.args.reader.now c.play.new.reader c.play.result
     (source_of g.I.Source c.args.input.now) (source_of g.I.Source c.play.new.input)
     (sink_of g.O.Sink c.args.out.now) (sink_of g.O.Sink c.write_opening.new.out)
-    (sink_of g.O.Sink c.play.new.out) c.in_ok-write_opening.ensures.ok c.play.ensures.played
+    (sink_of g.O.Sink c.play.new.out) c.in_ok-write_opening.ensures.ok c.play.ensures.played in
+    (h.0, h.1, h.2, h.3, h.4, h.5, (read.0, read.1, λ codes played same. h.6 codes played
+    (subst (λ (z : List ℕ). cs ≡ map (arm_code c.args.side z) arms) (sym same) read.2)))
 
 pub returns-clause-still_ended : goal.returns-clause-still_ended
 returns-clause-still_ended g c =
