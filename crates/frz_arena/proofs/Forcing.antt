@@ -4,3 +4,4 @@ pub mod OneForces
 pub mod TrueWins
 pub mod HoldsSafe
 pub mod LawfulGame
+pub mod NeverByPositions

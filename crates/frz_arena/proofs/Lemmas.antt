@@ -71,3 +71,21 @@ pub use Rattle.frz_arena.proofs.Ways.Counted.{
   safe_reader,
 }
 pub use Rattle.frz_arena.proofs.Ways.OneWay.{one_chosen}
+pub use Rattle.frz_arena.proofs.Forcing.NeverByPositions.{never_by}
+pub use Rattle.frz_arena.proofs.Exactness.ExactWins.{
+  exact_win,
+  exact_least,
+  exact_plies,
+  more_wins_mate,
+  true_wins_mate,
+}
+pub use Rattle.frz_arena.proofs.Exactness.ExactFailures.{
+  exact_failure,
+  exact_hold,
+  exact_failure_plies,
+  exact_failure_least,
+  forced_fails_in,
+}
+pub use Rattle.frz_arena.proofs.Comparing.Agreeing.{true_wins, true_holds, no_contradiction}
+pub use Rattle.frz_arena.proofs.Comparing.Freer.{no_worse}
+pub use Rattle.frz_arena.proofs.Exactness.Decided.{decided_wins, decided_losses, none_won}

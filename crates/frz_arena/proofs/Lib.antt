@@ -4,6 +4,8 @@ mod Plies
 mod LocalCodes
 mod Bounds
 mod Forcing
+mod Exactness
+mod Comparing
 mod Names
 mod Tables
 mod Ways

@@ -7,6 +7,8 @@ pub mod Tallies
 pub mod Chess
 pub mod Games
 pub mod Exits
+pub mod WholeTruth
+pub mod Comparing
 pub mod Names
 pub mod Tables
 pub mod Chosen

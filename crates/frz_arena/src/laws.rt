@@ -2,6 +2,8 @@
 
 pub mod bounds;
 pub mod codes;
+pub mod comparing;
+pub mod exactness;
 pub mod forcing;
 pub mod lines;
 pub mod local;

@@ -9,3 +9,4 @@ mod ExactBacks
 mod Backs
 mod Checked
 mod Chained
+mod ChainPlies

@@ -6,3 +6,4 @@ pub mod ExactBacks
 pub mod Causes
 pub mod Chains
 pub mod Transfer
+pub mod ChainPlies

@@ -1,12 +1,17 @@
 //! What values told by a second table say of chess, and which back tables are exact. Each law is
 //! the contract of a function that does nothing.
-ghost use Rattle.std.specs.Prelude.{◌≡◌, ℕ, List, true, false, Option, Some, Err};
+ghost use Rattle.std.specs.Prelude.{◌≡◌, ◌+◌, ℕ, List, true, false, Option, Some, Err};
 ghost use Rattle.frz_board.specs.Boards.{Board};
 ghost use Rattle.frz_board.specs.declared.man.Colour.{Colour};
 ghost use Rattle.frz_sets.specs.declared.exit.Value.{Value};
 ghost use Rattle.frz_sets.specs.Views.{RuleLines};
 ghost use Rattle.frz_exits.specs.Books.{value_by};
-ghost use Rattle.frz_game.specs.Bounds.{IsTableOf};
+ghost use Rattle.frz_arena.specs.declared.bound.Bound.TheVariants.{Wins};
+ghost use Rattle.frz_arena.specs.Chess.{ForcesMate};
+ghost use Rattle.frz_arena.specs.Exits.{AllNumbered};
+ghost use Rattle.frz_game.specs.Bounds.{IsTableOf, IsBoundAt};
+ghost use Rattle.frz_game.specs.Games.{chess, game_of};
+ghost use Rattle.frz_chain.specs.ChainPlies.{WinsWithinPlies, OwnWinsNumbered};
 ghost use Rattle.frz_game.specs.Values.{AreTrueExits, IsTrueValue};
 ghost use Rattle.frz_game.specs.declared.wrong.Wrong.{Wrong};
 ghost use Rattle.frz_table.specs.declared.fault.TableFault.{TableFault};
@@ -54,4 +59,15 @@ pub fn exact_by_verdict()
         is_exact held ≡ false }
     ensures refused { (held : Option (List ℕ)) (fault : TableFault) →
         opened (table_format Plain) held ≡ Err fault → is_exact held ≡ false }
+{}
+
+/// Where every win of the back table is within some number of plies, a win of a table over it forces
+/// mate within its own plies and that number.
+pub fn plies_over_a_chain()
+    ensures { (rules backs : RuleLines) (value : Board → Value) (back : Back) →
+        IsExactBack backs value back → AreTrueExits rules (value_by rules) →
+        AreTrueExits backs value → (side : Colour) → OwnWinsNumbered rules back side →
+        AllNumbered (game_of backs value) side → (most : ℕ) → WinsWithinPlies back side most →
+        (n : ℕ) (p : Board) → IsBoundAt rules (chain_value rules back) side p (Wins n) →
+        ForcesMate chess side (n + most) p }
 {}

@@ -23,7 +23,6 @@ use Rattle.frz_table.specs.Tables.{IsTableFile, Table, table_size}
 use Rattle.frz_table.proofs.Lemmas.{belongs, length-numbers, loading_calls, opened_calls, opens_by, outside_refuses, read_short, text_kept}
 use Rattle.frz_game.specs.Bounds.{IsTableOf}
 use Rattle.frz_check.specs.declared.verdict.Verdict.{Verdict}
-use Rattle.frz_check.specs.declared.verdict.Verdict.TheVariants as verdict
 use Rattle.frz_check.specs.Kept.{ChecksFile, ChecksTable, IsVerdictOn, RefusesFile, WithinFile, kept_codes, opened_size}
 use Rattle.frz_check.specs.Verdicts.{IsVerdict}
 use Rattle.frz_check.proofs.OneFile.{verdict_on}

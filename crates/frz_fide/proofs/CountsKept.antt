@@ -1,18 +1,21 @@
 -- A legal move keeps the kings, and gives no side more men.
-use Rattle.std.proofs.Common.{◌≡◌, ◌≢◌, ℕ, ◌+◌, ◌<◌, ◌≤◌, List, length, refl, ap, sym, ◌∙◌, Bool, true, false, cond, ◌&&◌, arith, slice_index, slice_set, length-set, get_or-set_other}
+use Rattle.std.proofs.Common.{◌≡◌, ◌≢◌, ℕ, None, ◌+◌, ◌<◌, ◌≤◌, List, length, refl, ap, sym, ◌∙◌, Bool, true, false, cond, ◌&&◌, arith, slice_index, slice_set, length-set, get_or-set_other}
 use Rattle.std.specs.Prelude.{◌==◌, nat_le, count_by}
 use Rattle.std.proofs.lemmas.Bool.{le-leb}
+use Rattle.std.proofs.lemmas.Bool.Decides.{nat_tests}
 use Rattle.std.proofs.lemmas.List.Sums.{sum_by-set}
 use Rattle.frz_board.specs.Boards.{Board}
 use Rattle.frz_board.specs.Men.{man_of_cell, cell_of_man, other_of, is_man_of, same_colour}
 use Rattle.frz_board.specs.Moving.{Step}
 use Rattle.frz_board.specs.Shapes.{count_of, men_of}
-use Rattle.frz_fide.specs.Legal.{arrives, cells_after}
+use Rattle.frz_fide.specs.Legal.{arrives, cells_after, after, after_man, is_legal}
 use Rattle.frz_fide.specs.Exposing.{is_king}
 use Rattle.frz_fide.specs.Valid.{IsValid}
 use Rattle.frz_board.specs.declared.man.Colour.{Colour}
+use Rattle.frz_board.specs.declared.man.Kind.{Kind}
 use Rattle.frz_board.specs.declared.man.Kind.TheVariants.{King, Pawn}
-use Rattle.frz_fide.proofs.LegalParts.{Move}
+use Rattle.frz_board.proofs.Lemmas.{cell-some}
+use Rattle.frz_fide.proofs.LegalParts.{Move, facts}
 use Rattle.frz_fide.proofs.Standing.{apart, arrives_own, arrives_colour}
 use Rattle.frz_fide.proofs.Room.{few}
 use Rattle.frz_fide.proofs.Kings.{king_test, same_king, zero_king}
@@ -56,6 +59,9 @@ no_part : (t : Bool) (n : ℕ) → (t ≡ true → n ≡ 0) → cond t n 0 ≡ 0
 no_part true n h = h refl
 no_part false n h = refl
 
+zero_no_man : (n : ℕ) → 0 < n → (0 == n) ≡ false
+zero_no_man n h = grind (arith, nat_tests)
+
 module _ (p : Board) (m : Step) (v : IsValid p) (lt : m.to < 64) (f : Move p m) where
   counted : (q : ℕ → Bool) → q 0 ≡ false →
       count_by q (cells_after p f.man m)
@@ -69,6 +75,20 @@ module _ (p : Board) (m : Step) (v : IsValid p) (lt : m.to < 64) (f : Move p m) 
       count_then q p.cells m.from m.to (arrival p m v lt f) (beside p m v lt f) (takes p m v lt f)
       h0 (omega arith) (omega arith) (omega arith) (apart p m f) (beside_from p m v lt f)
       (beside_to p m v lt f)
+
+  -- where no pawn becomes another man, no side has more men of a kind
+  pub no_more : m.promo ≡ None → (d : Colour) (k : Kind) →
+      count_by (λ x. x == cell_of_man (record { colour = d; kind = k })) (cells_after p f.man m)
+      ≤ count_of p d k
+  no_more none d k =
+      let q : ℕ → Bool = λ x. x == cell_of_man (record { colour = d; kind = k }) in
+      let count = counted q (zero_no_man (cell_of_man (record { colour = d; kind = k }))
+      (cell-some d k)) in
+      let stays : arrival p m v lt f ≡ cell_of_man f.man = ap (λ o. cell_of_man (arrives f.man o))
+      none in
+      let same : one q (slice_index p.cells m.from) ≡ one q (arrival p m v lt f) =
+      ap (one q) (mover p m v lt f ∙ sym stays) in
+      omega (arith, count, same)
 
   pub kings_kept : (d : Colour) →
       count_by (λ x. x == cell_of_man (record { colour = d; kind = King })) (cells_after p f.man m)
@@ -113,3 +133,11 @@ module _ (p : Board) (m : Step) (v : IsValid p) (lt : m.to < 64) (f : Move p m) 
   few_kept d =
       let kept = men_kept d in let few_before = few p d v.men in
       le-leb (men_of (next p m v lt f) d) 16 (omega arith)
+
+pub counts_fall : (p : Board) (m : Step) (c : Colour) (k : Kind) → IsValid p → m.to < 64 →
+    is_legal p m ≡ true → m.promo ≡ None → count_of (after p m) c k ≤ count_of p c k
+counts_fall p m c k v lt h none =
+    let f = facts p m h in
+    let here = ap (λ o. count_of (after_man p o m) c k) f.on in
+    let fewer = no_more p m v lt f none c k in
+    omega (arith, here, fewer)

@@ -7,7 +7,7 @@ pub use Rattle.frz_fide.proofs.LegalParts.{Move, facts}
 pub use Rattle.frz_fide.proofs.Listed.{listed, only_legal, sorted, legal_at}
 pub use Rattle.frz_fide.proofs.NoKingTaken.{no_king_there}
 pub use Rattle.frz_fide.proofs.PawnsKept.{pawn_tests}
-pub use Rattle.frz_fide.proofs.Room.{few}
+pub use Rattle.frz_fide.proofs.Room.{few, count_by_squares}
 pub use Rattle.frz_fide.proofs.Standing.{
   others_by,
   after_at,
@@ -25,3 +25,6 @@ pub use Rattle.frz_fide.proofs.StaysValid.{valid_after, valid_then}
 pub use Rattle.frz_fide.proofs.Targets.{goes_somewhere}
 pub use Rattle.frz_fide.proofs.KingGoes.{same_tests}
 pub use Rattle.frz_fide.proofs.InWords.{straight_no_taking}
+pub use Rattle.frz_fide.proofs.Bare.{Came, stayed, moved, came, no_bare_check, stays_bare, stays_minor, same_man}
+pub use Rattle.frz_fide.proofs.MinorMates.{no_minor_mate, bare_by_counts, minor_by_counts, bare_is_minor, one_place, man_counted, one_of, is_king_or_not, kings_are}
+pub use Rattle.frz_fide.proofs.CountsKept.{counts_fall}

@@ -26,3 +26,5 @@ mod Checking
 mod Choosing
 mod RankTests
 mod InWords
+mod Bare
+mod MinorMates

@@ -201,6 +201,13 @@ unfolding has_few_men
 few p White h = le_from_test _ _ (and_parts _ _ h).0
 few p Black h = le_from_test _ _ (and_parts _ _ h).1
 
+-- a count over the cells, square by square
+pub count_by_squares : (t : ℕ → Bool) (xs : List ℕ) → length xs ≡ 64 →
+    count_by (λ s. t (slice_index xs s)) squares ≡ count_by t xs
+count_by_squares t xs h =
+    sym (sum_by-map (λ x. cond (t x) 1 0) (λ s. slice_index xs s) squares)
+    ∙ ap (λ ys. count_by t ys) (reads xs h)
+
 men_by_squares : (p : Board) (c : Colour) → length p.cells ≡ 64 →
     count_by (λ s. holds p c s) squares ≡ men_of p c
 unfolding men_of

@@ -7,3 +7,4 @@ pub mod SquareBySquare
 pub mod Valid
 pub mod Ends
 pub mod LegalMoves
+pub mod Bare

@@ -1,11 +1,16 @@
 //! Laws of the rules of chess, each the contract of a function that does nothing.
 
-ghost use Rattle.std.specs.Prelude.{ℕ, ◌≡◌, ◌<◌, true, Contains, ◌↔◌};
+ghost use Rattle.std.specs.Prelude.{ℕ, ◌≡◌, ◌≢◌, ◌≤◌, ◌<◌, ◌+◌, true, false, None, [], Contains, ◌↔◌};
 ghost use Rattle.std.specs.List.Sorted.{IsStrictlySortedBy};
 ghost use Rattle.frz_board.specs.declared.man.Colour.{Colour};
+ghost use Rattle.frz_board.specs.declared.man.Kind.{Kind};
+ghost use Rattle.frz_board.specs.declared.man.Kind.TheVariants.{King, Queen, Rook, Bishop, Knight, Pawn};
+ghost use Rattle.frz_board.specs.Shapes.{count_of};
 ghost use Rattle.frz_board.specs.Attacks.{is_attacked, is_in_check};
 ghost use Rattle.frz_board.specs.Boards.{Board};
 ghost use Rattle.frz_board.specs.Moving.{Step, IsStep, step_cmp};
+ghost use Rattle.frz_board.specs.Men.{other_of};
+ghost use Rattle.frz_fide.specs.Bare.{IsBare, HasOneMinor};
 ghost use Rattle.frz_fide.specs.Checks.{Attacker, Check};
 ghost use Rattle.frz_fide.specs.Legal.{is_legal, after};
 ghost use Rattle.frz_fide.specs.LegalMoves.{Legal};
@@ -54,4 +59,33 @@ pub fn all_listed()
 pub fn moves_in_words()
     ensures { (p : Board) (m : Step) (q : Board) → IsValid p
         → Legal p m q ↔ (IsStep m × (is_legal p m ≡ true) × (q ≡ after p m)) }
+{}
+
+/// A bare king never gives check in a valid position, and a side with a bare king keeps it so.
+pub fn bare_kings()
+    ensures no_check { (p : Board) → IsValid p → IsBare p (other_of p.turn) →
+        is_in_check p p.turn ≡ false }
+    ensures stays { (p : Board) (m : Step) (c : Colour) → IsValid p → IsStep m →
+        is_legal p m ≡ true → IsBare p c → IsBare (after p m) c }
+{}
+
+/// A king with one bishop or knight at most never mates a bare king: where the bare king is in check
+/// it has a legal move. And a side that has no more keeps it so.
+pub fn one_minor()
+    ensures no_mate { (p : Board) → IsValid p → HasOneMinor p (other_of p.turn) → IsBare p p.turn →
+        is_in_check p p.turn ≡ true → legal_moves_of p ≢ [] }
+    ensures stays { (p : Board) (m : Step) (c : Colour) → IsValid p → IsStep m →
+        is_legal p m ≡ true → HasOneMinor p c → HasOneMinor (after p m) c }
+{}
+
+/// What counts say of a side's men; and a legal move in which no pawn becomes another man gives no side
+/// more men of any kind.
+pub fn counted_men()
+    ensures bare { (p : Board) (c : Colour) → IsValid p →
+        ((k : Kind) → k ≢ King → count_of p c k ≡ 0) → IsBare p c }
+    ensures minor { (p : Board) (c : Colour) → IsValid p → count_of p c Queen ≡ 0 →
+        count_of p c Rook ≡ 0 → count_of p c Pawn ≡ 0 →
+        count_of p c Bishop + count_of p c Knight ≤ 1 → HasOneMinor p c }
+    ensures fall { (p : Board) (m : Step) (c : Colour) (k : Kind) → IsValid p → IsStep m →
+        is_legal p m ≡ true → m.promo ≡ None → count_of (after p m) c k ≤ count_of p c k }
 {}

@@ -7,3 +7,9 @@ mod Bounded
 mod DifferentArms
 mod NoExits
 mod Meaning
+mod MenAlone
+mod ExactTables
+mod DecidedExits
+mod TextsByMen
+mod WholeSets
+mod KingAndRook

@@ -4,3 +4,8 @@ pub mod Values
 pub mod SmallLags
 pub mod Bounds
 pub mod Meaning
+pub mod MenAlone
+pub mod ExactTables
+pub mod TextsByMen
+pub mod WholeSets
+pub mod KingAndRook

@@ -9,3 +9,5 @@ mod Sums
 mod Walking
 mod Writing
 pub mod Lemmas
+mod Zugzwangs
+mod OpenExits

@@ -4,3 +4,4 @@ pub mod Census
 pub mod Lines
 pub mod Reports
 pub mod Walks
+pub mod Zugzwangs

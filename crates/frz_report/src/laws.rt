@@ -1,10 +1,20 @@
 //! The laws of reports. Each is the contract of a function that does nothing.
-ghost use Rattle.std.specs.Prelude.{◌≡◌, ◌↔◌, ◌<◌, ℕ, List, Contains, AllPairs, length, sum_by};
+ghost use Rattle.std.specs.Prelude.{true, ◌≡◌, ◌↔◌, ◌<◌, ℕ, List, Contains, AllPairs, length, sum_by};
 ghost use Rattle.std.specs.List.{IsDistinct, list_any};
 ghost use Rattle.std.specs.Str.{bytes_eq};
 ghost use Rattle.frz_board.specs.declared.man.Colour.{Colour};
-ghost use Rattle.frz_sets.specs.Views.{GroupLine};
-ghost use Rattle.frz_report.specs.Squeezes.{Squeeze, IsSqueeze, squeezes};
+ghost use Rattle.frz_board.specs.declared.man.Colour.TheVariants.{White, Black};
+ghost use Rattle.frz_board.specs.Boards.{Board};
+ghost use Rattle.frz_sets.specs.declared.exit.Value.{Value};
+ghost use Rattle.frz_sets.specs.Views.{GroupLine, RuleLines};
+ghost use Rattle.frz_exits.specs.Books.{value_by};
+ghost use Rattle.frz_game.specs.Bounds.{IsTableOf};
+ghost use Rattle.frz_game.specs.ExactTables.{HasNoForbid, IsExactInChess};
+ghost use Rattle.frz_game.specs.TextsByMen.{are_drawn_by_men, HasNoOpenExit};
+ghost use Rattle.frz_game.specs.Values.{AreTrueExits};
+ghost use Rattle.frz_report.specs.Squeezes.{Squeeze, IsSqueeze, squeezes, rank_at};
+ghost use Rattle.frz_report.specs.Reports.{totals_of};
+ghost use Rattle.frz_report.specs.Zugzwangs.{IsZugzwang};
 ghost use Rattle.frz_report.specs.Census.{census, firsts};
 
 /// The squeezes of a report are exactly the pairs that are squeezes, each once and by increasing
@@ -23,4 +33,36 @@ pub fn classes_in_words()
         list_any (bytes_eq class) (firsts exits) ≡ list_any (bytes_eq class) exits }
     ensures once { (exits : List (List ℕ)) → IsDistinct bytes_eq (firsts exits) }
     ensures sum { (exits : List (List ℕ)) → sum_by (λ e. e.1) (census exits) ≡ length exits }
+{}
+
+/// A squeeze of the tables of both sides that shows a win is a mutual zugzwang of chess, where the
+/// exits are true: the side that wins forces mate where its opponent is to move, and not where it is
+/// to move itself.
+pub fn squeezes_are_zugzwangs()
+    ensures white { (rules : RuleLines) (value : Board → Value) → AreTrueExits rules value →
+        (codes : Colour → List ℕ) →
+        ((side : Colour) → IsTableOf rules value side (codes side)) →
+        (s : Squeeze) (squeeze : IsSqueeze rules.groups codes s) →
+        rank_at codes White s.black_to_move ≡ 2 →
+        IsZugzwang White squeeze.other s.position }
+    ensures black { (rules : RuleLines) (value : Board → Value) → AreTrueExits rules value →
+        (codes : Colour → List ℕ) →
+        ((side : Colour) → IsTableOf rules value side (codes side)) →
+        (s : Squeeze) (squeeze : IsSqueeze rules.groups codes s) →
+        rank_at codes Black s.white_to_move ≡ 2 →
+        IsZugzwang Black s.position squeeze.other }
+{}
+
+/// Where a report counts no open exit, no move out of the set leads to a position of unknown value.
+/// So where each exit line is a draw by the men too, the tables of the sides that no line forbids a
+/// move are exact in chess.
+pub fn none_unassigned()
+    ensures closed { (rules : RuleLines) (value : Board → Value) (codes : Colour → List ℕ) →
+        (totals_of rules value codes).unassigned ≡ 0 → HasNoOpenExit rules value }
+    ensures exact { (rules : RuleLines) (codes : Colour → List ℕ) →
+        are_drawn_by_men rules ≡ true →
+        (totals_of rules (value_by rules) codes).unassigned ≡ 0 →
+        (side : Colour) → HasNoForbid rules side →
+        IsTableOf rules (value_by rules) side (codes side) →
+        IsExactInChess rules side (codes side) }
 {}

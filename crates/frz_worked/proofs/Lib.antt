@@ -1,2 +1,4 @@
 mod Picked
 pub mod TenNumbers
+mod RookText
+mod FortressText

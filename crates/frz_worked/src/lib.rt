@@ -13,6 +13,7 @@ mod codes;
 mod exits;
 #[cfg(test)]
 mod games;
+pub mod laws;
 #[cfg(test)]
 mod moves_back;
 #[cfg(test)]

@@ -1,11 +1,12 @@
 //! What the restricted game says of chess.
 
-ghost use Rattle.std.specs.Prelude.{◌≡◌, ℕ, true};
+ghost use Rattle.std.specs.Prelude.{◌≡◌, ℕ, Bool, true};
+ghost use Rattle.std.specs.List.{Contains};
 ghost use Rattle.frz_board.specs.declared.man.Colour.{Colour};
 ghost use Rattle.frz_board.specs.Men.{other_of};
 ghost use Rattle.frz_arena.specs.declared.class.Class.TheVariants.{Good, Bad};
 ghost use Rattle.frz_arena.specs.Arena.{IsLawful};
-ghost use Rattle.frz_arena.specs.Chess.{Chess, Forces, ForcesMate, NeverForcesMate};
+ghost use Rattle.frz_arena.specs.Chess.{Chess, IsMated, Forces, ForcesMate, NeverForcesMate};
 ghost use Rattle.frz_arena.specs.Exits.{TrueExits, AllNumbered};
 ghost use Rattle.frz_arena.specs.Games.{Game, arena_of, goals_of};
 ghost use Rattle.frz_arena.specs.Plies.{WinsWithin, FailsWithin};
@@ -44,4 +45,14 @@ pub fn holds_are_safe<P, M, V>()
         game.member p ≡ true →
         ((n : ℕ) → FailsWithin (arena_of game) side n p → ⊥) →
         NeverForcesMate game.chess (other_of side) p }
+{}
+
+/// Where no move leaves certain positions, and the opponent is mated at none of them, the side never
+/// forces mate at one of them.
+pub fn never_by_positions<P, M>()
+    ensures { (chess : Chess P M) (side : Colour) (here : P → Bool) →
+        ((p : P) (m : M) → here p ≡ true → Contains (chess.moves p) m
+        → here (chess.play p m) ≡ true) →
+        ((p : P) → here p ≡ true → IsMated chess (other_of side) p → ⊥) →
+        (p : P) → here p ≡ true → NeverForcesMate chess side p }
 {}

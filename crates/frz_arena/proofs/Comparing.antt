@@ -1,0 +1,3 @@
+-- Two games over the same chess.
+pub mod Agreeing
+pub mod Freer

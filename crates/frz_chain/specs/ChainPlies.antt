@@ -1,0 +1,30 @@
+-- The plies of a chain.
+use Rattle.std.specs.Prelude.{◌≡◌, ◌≤◌, ◌+◌, ◌*◌, ℕ, true, List, slice_index}
+use Rattle.frz_board.specs.declared.man.Colour.{Colour}
+use Rattle.frz_board.specs.declared.man.Colour.TheVariants.{White, Black}
+use Rattle.frz_board.specs.Boards.{Board}
+use Rattle.frz_sets.specs.Views.{RuleLines}
+use Rattle.frz_arena.specs.declared.class.Class.TheVariants.{Good}
+use Rattle.frz_arena.specs.Codes.{is_win}
+use Rattle.frz_arena.specs.Exits.{IsExit}
+use Rattle.frz_exits.specs.Books.{value_by}
+use Rattle.frz_exits.specs.Values.{class_of, is_numbered}
+use Rattle.frz_game.specs.Games.{game_of}
+use Rattle.frz_chain.specs.Books.{Back, chain_value}
+
+-- the back table's codes of a side
+abbrev pub back_codes : Back → Colour → List ℕ
+back_codes back White = back.white
+back_codes back Black = back.black
+
+-- each win of the back table is within so many plies
+abbrev pub WinsWithinPlies : Back → Colour → ℕ → Type 0
+WinsWithinPlies back side most =
+    (i : ℕ) → is_win (slice_index (back_codes back side) i) ≡ true
+    → slice_index (back_codes back side) i ≤ 2 + 2 * most
+
+-- each value by which the side wins just outside by the rules' own exit lines has a number
+abbrev pub OwnWinsNumbered : RuleLines → Back → Colour → Type 0
+OwnWinsNumbered rules back side =
+    (q : Board) → IsExit (game_of rules (chain_value rules back)) q →
+    class_of (value_by rules q) side ≡ Good → is_numbered (value_by rules q) ≡ true

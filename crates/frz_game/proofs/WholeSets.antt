@@ -1,0 +1,370 @@
+-- A move out of a set with all squares leaves a group short of men.
+use Rattle.std.proofs.Common.{◌≡◌, ◌≢◌, ◌≤◌, ◌<◌, ◌+◌, ℕ, zero, suc, inl, inr, Bool, true, false, cond, ◌&&◌, ◌||◌, List, [], ◌∷◌, ◌++◌, map, length, Option, Some, None, refl, sym, subst, ap, ◌∙◌, arith, slice_index}
+use Rattle.std.specs.Prelude.{◌==◌, nat_le, count_by, slice_get}
+use Rattle.std.specs.List.{Contains, AllByRecursion, list_any, list_all, range_with_len}
+use Rattle.std.proofs.lemmas.Bool.{eqb-true, eq-eqb, cases_Bool, cases_lt, and_parts, and_from}
+use Rattle.std.proofs.lemmas.Bool.Decides.{nat_tests}
+use Rattle.std.proofs.lemmas.List.FromFn.{length-map-range_with_len, get_or-map-range_with_len}
+use Rattle.std.proofs.lemmas.List.Sums.{sum_by-cons, sum_by-append}
+use Rattle.std.proofs.lemmas.Option.{slice_get-get_or}
+use Rattle.frz_board.specs.declared.man.Colour.{Colour}
+use Rattle.frz_board.specs.declared.man.Colour.TheVariants.{White, Black}
+use Rattle.frz_board.specs.declared.man.Kind.{Kind}
+use Rattle.frz_board.specs.declared.man.Kind.TheVariants.{King, Queen, Rook, Bishop, Knight, Pawn}
+use Rattle.frz_board.specs.Attacking.{Stands}
+use Rattle.frz_board.specs.Boards.{Board, has}
+use Rattle.frz_board.specs.Men.{cell_of_man}
+use Rattle.frz_board.specs.Shapes.{count_of}
+use Rattle.frz_board.specs.Squares.{squares}
+use Rattle.frz_board.proofs.Lemmas.{cell-some, cell_back}
+use Rattle.frz_combinations.specs.Combinations.{places_below}
+use Rattle.frz_fide.specs.Legal.{after, promotes}
+use Rattle.frz_fide.specs.Valid.{IsValid}
+use Rattle.frz_fide.proofs.Lemmas.{only_legal, facts, stayed, moved, came, same_man, counts_fall, count_by_squares, kings_are}
+use Rattle.frz_sets.specs.declared.exit.Test.TheVariants.{Count}
+use Rattle.frz_sets.specs.declared.exit.Value.{Value}
+use Rattle.frz_sets.specs.declared.exit.Value.TheVariants.{Unknown}
+use Rattle.frz_sets.specs.Views.{Condition, GroupLine, ExitLine, RuleLines}
+use Rattle.frz_sets.specs.Sets.{has_state, is_state}
+use Rattle.frz_index.specs.Members.{Member}
+use Rattle.frz_index.specs.Places.{stands, places, places_among, IsWithinCount}
+use Rattle.frz_index.proofs.Lemmas.{member_of, of_member}
+use Rattle.frz_arena.specs.Exits.{IsExit}
+use Rattle.frz_arena.proofs.Lemmas.{none_in_empty, in_cases, from_mapped}
+use Rattle.frz_exits.specs.Books.{value_by, first_value}
+use Rattle.frz_exits.specs.Conditions.{conditions_hold}
+use Rattle.frz_game.specs.Games.{game_of}
+use Rattle.frz_game.specs.MenAlone.{IsDrawnOutside}
+use Rattle.frz_game.specs.TextsByMen.{leave_dead, is_draw, are_drawn_by_men}
+use Rattle.frz_game.specs.WholeSets.{everywhere, IsWholeGroup, IsClosed, by_king, by_line, IsWholeSet}
+use Rattle.frz_game.proofs.MenAlone.{exit_valid}
+use Rattle.frz_game.proofs.TextsByMen.{or_first, or_second, draw_is, drawn_text}
+
+-- lists
+first_there : {X : Type 0} (x : X) (xs : List X) → Contains (x ∷ xs) x
+first_there x xs = (zero, omega arith, refl)
+
+later_there : {X : Type 0} (y : X) (xs : List X) (x : X) → Contains xs x → Contains (y ∷ xs) x
+later_there y xs x h = let l = h.1 in (suc h.0, omega arith, h.2)
+
+mapped_there : {X Y : Type 0} (f : X → Y) (xs : List X) (x : X) → Contains xs x →
+    Contains (map f xs) (f x)
+mapped_there f [] x h = absurd (none_in_empty x h)
+mapped_there f (y ∷ xs) x h =
+    elim (in_cases y xs x h) [
+      | inl e ↦ subst (λ z. Contains (map f (y ∷ xs)) (f z)) e (first_there (f y) (map f xs))
+      | inr i ↦ later_there (f y) (map f xs) (f x) (mapped_there f xs x i)
+    ]
+
+number_in : (a n i : ℕ) → a ≤ i → i < a + n → Contains (range_with_len a n) i
+number_in a zero i h l = absurd (omega arith)
+number_in a (suc n) i h l =
+    elim (cases_lt a i) [
+      | inl less ↦ later_there a (range_with_len (a + 1) n) i
+          (number_in (a + 1) n i (omega arith) (omega arith))
+      | inr least ↦ (let e : a ≡ i = omega arith in
+          subst (λ z. Contains (range_with_len a (suc n)) z) e
+          (first_there a (range_with_len (a + 1) n)))
+    ]
+
+some_in : {X : Type 0} (f : X → Bool) (xs : List X) → list_any f xs ≡ true →
+    (x : X) × Contains xs x × (f x ≡ true)
+some_in f [] h = absurd (cc)
+some_in f (x ∷ xs) h =
+    elim (cases_Bool (f x)) [
+      | inl e ↦ (x, first_there x xs, e)
+      | inr e ↦ (let w = some_in f xs (ap (λ b. b || list_any f xs) (sym e) ∙ h) in
+          (w.0, later_there x xs w.0 w.1, w.2))
+    ]
+
+any_in : {X : Type 0} (f : X → Bool) (xs : List X) (x : X) → Contains xs x → f x ≡ true →
+    list_any f xs ≡ true
+any_in f [] x h e = absurd (none_in_empty x h)
+any_in f (y ∷ xs) x h e =
+    elim (in_cases y xs x h) [
+      | inl same ↦ or_first (f y) (list_any f xs) (ap f same ∙ e)
+      | inr i ↦ or_second (f y) (list_any f xs) (any_in f xs x i e)
+    ]
+
+all_in : {X : Type 0} (P : X → Type 0) (xs : List X) → AllByRecursion P xs → (x : X) →
+    Contains xs x → P x
+all_in P [] h x i = absurd (none_in_empty x i)
+all_in P (y ∷ xs) h x i =
+    elim (in_cases y xs x i) [
+      | inl same ↦ subst P same h.0
+      | inr j ↦ all_in P xs h.1 x j
+    ]
+
+all_by : {X : Type 0} (P : X → Type 0) (xs : List X) → ((x : X) → Contains xs x → P x) →
+    AllByRecursion P xs
+all_by P [] h = tt
+all_by P (x ∷ xs) h = (h x (first_there x xs), all_by P xs (λ y i. h y (later_there x xs y i)))
+
+-- places and counts
+range_more : (a n : ℕ) → range_with_len a (suc n) ≡ range_with_len a n ++ (a + n) ∷ []
+range_more a zero = ap (λ (k : ℕ). k ∷ []) (omega arith)
+range_more a (suc n) =
+    ap (λ (l : List ℕ). a ∷ l) (range_more (a + 1) n)
+    ∙ ap (λ (k : ℕ). a ∷ (range_with_len (a + 1) n ++ k ∷ [])) (omega arith)
+
+abbrev number : Bool → ℕ
+number b = cond b 1 0
+
+place_more : (f : ℕ → Bool) (n : ℕ) (b : Bool) → f n ≡ b →
+    length (places_below f (suc n)) ≡ length (places_below f n) + number b
+place_more f n true e = rw e (omega arith)
+place_more f n false e = rw e (omega arith)
+
+places_count : (f t : ℕ → Bool) (n : ℕ) → ((j : ℕ) → j < n → f j ≡ t j) →
+    length (places_below f n) ≡ count_by t (range_with_len 0 n)
+places_count f t zero same = refl
+places_count f t (suc n) same =
+    let more = ap (count_by t) (range_more 0 n) in
+    let split = sum_by-append (λ j. cond (t j) 1 0) (range_with_len 0 n) ((0 + n) ∷ []) in
+    let last = sum_by-cons (λ j. cond (t j) 1 0) (0 + n) [] in
+    let at : 0 + n ≡ n = omega arith in
+    let there : number (t (0 + n)) ≡ number (t n) = ap (λ j. number (t j)) at in
+    let before = places_count f t n (λ j h. same j (omega arith)) in
+    let here = place_more f n (t n) (same n (omega arith)) in
+    omega (arith, more, split, last, there, before, here)
+
+abbrev state_of : Kind → ℕ → Kind × ℕ
+state_of k s = (k, s)
+
+state_there : (k : Kind) (j : ℕ) → j < 64 → slice_get (everywhere k) j ≡ Some (k, j)
+unfolding squares
+state_there k j h =
+    let long = length-map-range_with_len (state_of k) 0 64 in
+    slice_get-get_or (everywhere k) j (k, 0) (omega (arith, long))
+    ∙ ap (λ (state : Kind × ℕ). Some state)
+    (get_or-map-range_with_len (state_of k) 0 64 j j (k, 0) (omega (arith, long)) (omega arith))
+
+length-everywhere : (k : Kind) → length (everywhere k) ≡ 64
+unfolding squares
+length-everywhere k = length-map-range_with_len (state_of k) 0 64
+
+count_squares : (q : Board) (c : Colour) (k : Kind) → length q.cells ≡ 64 →
+    count_by (λ s. has q c k s) (range_with_len 0 64) ≡ count_of q c k
+unfolding squares
+count_squares q c k h =
+    count_by_squares (λ x. x == cell_of_man (record { colour = c; kind = k })) q.cells h
+
+pub places_of : (q : Board) (g : GroupLine) (k : Kind) → length q.cells ≡ 64 →
+    g.states ≡ everywhere k → length (places q g) ≡ count_of q g.colour k
+places_of q g k size e =
+    ap (λ (states : List (Kind × ℕ)). length (places_among q g.colour states (length states))) e
+    ∙ ap (λ n. length (places_among q g.colour (everywhere k) n)) (length-everywhere k)
+    ∙ places_count (λ j. stands q g.colour (slice_get (everywhere k) j)) (λ j. has q g.colour k j)
+    64 (λ j h. ap (stands q g.colour) (state_there k j h))
+    ∙ count_squares q g.colour k size
+
+square_in : (s : ℕ) → s < 64 → Contains squares s
+unfolding squares
+square_in s h = number_in 0 64 s (omega arith) (omega arith)
+
+le_test : (m n : ℕ) → m ≤ n → nat_le m n ≡ true
+le_test m n h = grind (arith, nat_tests)
+
+line_holds : (n most : ℕ) → n ≤ most → ((nat_le 0 n && nat_le n most) && true) ≡ true
+line_holds n most h =
+    and_from (nat_le 0 n && nat_le n most) true
+    (and_from (nat_le 0 n) (nat_le n most) (le_test 0 n (omega arith)) (le_test n most h)) refl
+
+-- the man of a cell
+man_at : (x : ℕ) → x ≢ 0 → x < 13 →
+    (c : Colour) × (k : Kind) × (x ≡ cell_of_man (record { colour = c; kind = k }))
+man_at zero n h = absurd (n refl)
+man_at (suc zero) n h = (White, King, refl)
+man_at (suc (suc zero)) n h = (White, Queen, refl)
+man_at (suc (suc (suc zero))) n h = (White, Rook, refl)
+man_at (suc (suc (suc (suc zero)))) n h = (White, Bishop, refl)
+man_at (suc (suc (suc (suc (suc zero))))) n h = (White, Knight, refl)
+man_at (suc (suc (suc (suc (suc (suc zero)))))) n h = (White, Pawn, refl)
+man_at (suc (suc (suc (suc (suc (suc (suc zero))))))) n h = (Black, King, refl)
+man_at (suc (suc (suc (suc (suc (suc (suc (suc zero)))))))) n h = (Black, Queen, refl)
+man_at (suc (suc (suc (suc (suc (suc (suc (suc (suc zero))))))))) n h = (Black, Rook, refl)
+man_at (suc (suc (suc (suc (suc (suc (suc (suc (suc (suc zero)))))))))) n h = (Black, Bishop, refl)
+man_at (suc (suc (suc (suc (suc (suc (suc (suc (suc (suc (suc zero))))))))))) n h =
+    (Black, Knight, refl)
+man_at (suc (suc (suc (suc (suc (suc (suc (suc (suc (suc (suc (suc zero)))))))))))) n h =
+    (Black, Pawn, refl)
+man_at (suc (suc (suc (suc (suc (suc (suc (suc (suc (suc (suc (suc (suc x))))))))))))) n h =
+    absurd (omega arith)
+
+-- no other man than a pawn becomes another
+promotes_none : (c : Colour) (k : Kind) (b : ℕ) (o : Option Kind) → k ≢ Pawn →
+    promotes c k b o ≡ true → o ≡ None
+promotes_none c k b None n h = refl
+promotes_none c King b (Some j) n h = absurd (cc)
+promotes_none c Queen b (Some j) n h = absurd (cc)
+promotes_none c Rook b (Some j) n h = absurd (cc)
+promotes_none c Bishop b (Some j) n h = absurd (cc)
+promotes_none c Knight b (Some j) n h = absurd (cc)
+promotes_none c Pawn b (Some j) n h = absurd (n refl)
+
+-- a line that holds says a draw, or an earlier one does
+not_unknown : (groups : List GroupLine) (q : Board) (lines : List ExitLine) (line : ExitLine) →
+    Contains lines line → conditions_hold q line.conds ≡ true →
+    list_all (λ l. is_draw l.value && leave_dead groups l.conds) lines ≡ true →
+    first_value lines q ≢ Unknown
+not_unknown groups q [] line i h all = absurd (none_in_empty line i)
+not_unknown groups q (l ∷ lines) line i h all =
+    let both = and_parts (is_draw l.value && leave_dead groups l.conds)
+    (list_all (λ z. is_draw z.value && leave_dead groups z.conds) lines) all in
+    elim (cases_Bool (conditions_hold q l.conds)) [
+      | inl e ↦ rw e (λ unknown. (
+          let drawn = draw_is l.value (and_parts (is_draw l.value) (leave_dead groups l.conds)
+          both.0).0 in cc))
+      | inr e ↦ rw e (elim (in_cases l lines line i) [
+        | inl same ↦ absurd (let there = ap (λ (z : ExitLine). conditions_hold q z.conds) same in
+            cc)
+        | inr j ↦ not_unknown groups q lines line j h both.1
+      ])
+    ]
+
+module _ (rules : RuleLines) (w : IsWholeSet rules) (value : Board → Value) (q : Board)
+    (x : IsExit (game_of rules value) q) where
+  -- what is said of a group
+  at_group : (g : GroupLine) → Contains rules.groups g →
+      (whole : IsWholeGroup g) × IsClosed rules.exits g whole.kind
+  at_group g i =
+      all_in (λ (h : GroupLine). (whole : IsWholeGroup h) × IsClosed rules.exits h whole.kind)
+      rules.groups w.groups g i
+
+  from_member : Member rules.groups x.from
+  from_member = member_of rules.groups x.from x.begins
+
+  there_valid : IsValid q
+  there_valid = exit_valid rules value q x
+
+  -- the group of a man of the set
+  group_of : (c : Colour) (k : Kind) (s : ℕ) → s < 64 → Stands x.from c k s →
+      (g : GroupLine) × (i : Contains rules.groups g) × (g.colour ≡ c)
+      × ((at_group g i).0.kind ≡ k)
+  group_of c k s ls h =
+      let cell = cell_of_man (record { colour = c; kind = k }) in
+      let some : slice_index x.from.cells s ≢ 0 = λ e. (let n = cell-some c k in omega arith) in
+      let state : has_state rules.groups cell s ≡ true =
+      subst (λ z. has_state rules.groups z s ≡ true) h (from_member.men s ls some) in
+      let g = some_in (is_state cell s) rules.groups state in
+      let whole = (at_group g.0 g.1).0 in
+      let test : Kind × ℕ → Bool = λ (st : Kind × ℕ).
+      cell_of_man (record { colour = g.0.colour; kind = st.0 }) == cell && st.1 == s in
+      let listed : list_any test (everywhere whole.kind) ≡ true =
+      subst (λ (states : List (Kind × ℕ)). list_any test states ≡ true) whole.states g.2 in
+      let st = some_in test (everywhere whole.kind) listed in
+      let on = from_mapped (λ (z : ℕ). (whole.kind, z)) squares st.0 st.1 in
+      let kind : whole.kind ≡ st.0.0 = ap (λ (z : Kind × ℕ). z.0) on.2 in
+      let man = same_man g.0.colour c st.0.0 k (eqb-true
+      (cell_of_man (record { colour = g.0.colour; kind = st.0.0 })) cell
+      (and_parts (cell_of_man (record { colour = g.0.colour; kind = st.0.0 }) == cell)
+      (st.0.1 == s) st.2).0) in
+      (g.0, g.1, man.0, kind ∙ man.1)
+
+  no_pawn : (c : Colour) (k : Kind) (s : ℕ) → s < 64 → Stands x.from c k s → k ≢ Pawn
+  no_pawn c k s ls h e =
+      let g = group_of c k s ls h in (at_group g.0 g.1).0.no_pawn (g.3 ∙ e)
+
+  no_promotion : x.move.promo ≡ None
+  no_promotion =
+      let l = only_legal x.from x.move x.legal in
+      let f = facts x.from x.move l.1 in
+      let stood : Stands x.from f.man.colour f.man.kind x.move.from =
+      cell_back (slice_index x.from.cells x.move.from) f.man.colour f.man.kind f.on in
+      promotes_none f.man.colour f.man.kind x.move.to x.move.promo
+      (no_pawn f.man.colour f.man.kind x.move.from l.0.from stood) f.promo
+
+  -- a man outside is of a kind that stood inside
+  stood_before : (c : Colour) (k : Kind) (s : ℕ) → s < 64 → Stands q c k s →
+      (t : ℕ) × (t < 64) × Stands x.from c k t
+  stood_before c k s ls h =
+      let l = only_legal x.from x.move x.legal in
+      let there : Stands (after x.from x.move) c k s =
+      subst (λ (p : Board). Stands p c k s) (sym x.ends) h in
+      elim (came x.from x.move from_member.valid l.0 l.1 c k s there) [
+        | stayed stood ne ↦ (s, ls, stood)
+        | moved j own stood was to ↦ elim was [
+          | inl e ↦ (
+            x.move.from,
+            l.0.from,
+            subst (λ (i : Kind). Stands x.from c i x.move.from) e
+                stood,
+          )
+          | inr e ↦ absurd (no_pawn c j x.move.from l.0.from stood e)
+        ]
+      ]
+
+  covered : (s : ℕ) → s < 64 → slice_index q.cells s ≢ 0 →
+      has_state rules.groups (slice_index q.cells s) s ≡ true
+  covered s ls some =
+      let size = there_valid.fits.size in
+      let small = there_valid.fits.men s 0 (omega arith) in
+      let man = man_at (slice_index q.cells s) some small in
+      let before = stood_before man.0 man.1 s ls man.2 in
+      let g = group_of man.0 man.1 before.0 before.1 before.2 in
+      let whole = (at_group g.0 g.1).0 in
+      let cell = slice_index q.cells s in
+      let test : Kind × ℕ → Bool = λ (st : Kind × ℕ).
+      cell_of_man (record { colour = g.0.colour; kind = st.0 }) == cell && st.1 == s in
+      let same : cell_of_man (record { colour = g.0.colour; kind = whole.kind }) ≡ cell =
+      ap (λ (c : Colour). cell_of_man (record { colour = c; kind = whole.kind })) g.2
+      ∙ ap (λ (k : Kind). cell_of_man (record { colour = man.0; kind = k })) g.3 ∙ sym man.2 in
+      let listed : Contains (everywhere whole.kind) (whole.kind, s) =
+      mapped_there (λ (z : ℕ). (whole.kind, z)) squares s (square_in s ls) in
+      any_in (is_state cell s) rules.groups g.0 g.1
+      (subst (λ (states : List (Kind × ℕ)). list_any test states ≡ true) (sym whole.states)
+      (any_in test (everywhere whole.kind) (whole.kind, s) listed
+      (and_from (cell_of_man (record { colour = g.0.colour; kind = whole.kind }) == cell) (s == s)
+      (eq-eqb (cell_of_man (record { colour = g.0.colour; kind = whole.kind })) cell same)
+      (eq-eqb s s refl))))
+
+  -- where no line holds, each group has its men
+  counted : are_drawn_by_men rules ≡ true → value_by rules q ≡ Unknown → (g : GroupLine) →
+      Contains rules.groups g → IsWithinCount q g
+  unfolding are_drawn_by_men
+  counted drawn unknown g i =
+      let whole = (at_group g i).0 in
+      let k = whole.kind in
+      let l = only_legal x.from x.move x.legal in
+      let now = places_of q g k there_valid.fits.size whole.states in
+      let before = places_of x.from g k from_member.valid.fits.size whole.states in
+      let within = all_in (IsWithinCount x.from) rules.groups from_member.counts g i in
+      let fall = counts_fall x.from x.move g.colour k from_member.valid l.0.to l.1 no_promotion in
+      let same = ap (λ (p : Board). count_of p g.colour k) x.ends in
+      let most = within.most in
+      record {
+        least = elim ((at_group g i).1) [
+          | by_king e few ↦ (
+              let one = kings_are q g.colour there_valid in
+              let king = ap (λ (j : Kind). count_of q g.colour j) e in
+              omega arith)
+          | by_line line bound there conds least ↦ elim (cases_lt (count_of q g.colour k) g.least) [
+            | inr enough ↦ omega arith
+            | inl short ↦ absurd (
+                let few : count_of q g.colour k ≤ bound = omega arith in
+                let holds : conditions_hold q (record {
+                  negated = false;
+                  test = Count g.colour k 0 bound;
+                } ∷ []) ≡ true =
+                line_holds (count_of q g.colour k) bound few in
+                not_unknown rules.groups q rules.exits line there
+                (subst (λ (z : List Condition). conditions_hold q z ≡ true) (sym conds) holds) drawn
+                unknown)
+          ]
+        ];
+        most = omega arith;
+      }
+
+  pub none_open : are_drawn_by_men rules ≡ true → value_by rules q ≡ Unknown → ⊥
+  none_open drawn unknown =
+      let inside = of_member rules.groups q (record {
+        valid = there_valid;
+        men = covered;
+        counts = all_by (IsWithinCount q) rules.groups (counted drawn unknown);
+      }) in
+      let outside = x.outside in cc
+
+pub whole_set_drawn : (rules : RuleLines) → IsWholeSet rules → are_drawn_by_men rules ≡ true →
+    IsDrawnOutside rules (value_by rules)
+whole_set_drawn rules w drawn =
+    drawn_text rules drawn (λ q x unknown. none_open rules w (value_by rules) q x drawn unknown)
