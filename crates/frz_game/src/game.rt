@@ -10,6 +10,7 @@ ghost use Rattle.frz_fide.specs.Listing.{legal_moves_of};
 ghost use Rattle.frz_fide.specs.Valid.{IsValid};
 ghost use Rattle.frz_game.specs.Numbers.{is_member, number_of, numbers_by, position_at};
 ghost use Rattle.frz_game.specs.Games.{arm_at, graph_by};
+ghost use Rattle.frz_index.specs.Members.{HasNumber};
 
 use frz_arena::Node;
 use frz_bits::Bitboards;
@@ -57,6 +58,7 @@ fn number(set: &Set, q: &Bitboards) -> Option<u32>
 /// The position of a number, as the set gives it.
 fn position(set: &Set, i: u32) -> Option<Bitboards>
     ensures position { result ≡ position_at set.now i }
+    ensures number { IfSome result (λ p. HasNumber set.now i p) }
     ensures valid { IfSome result IsValid }
 {
     set.boards_at(i)
@@ -76,44 +78,56 @@ fn node(p: &Position, moves: &MoveList) -> Node
 }
 
 impl<B: ExitBook> Game<'_, B> {
+    /// What a position is to the move that leads to it.
+    fn next_of(&self, q: &Bitboards) -> Next
+        requires { IsValid q.now }
+        ensures { let groups = self.now.rules.now.groups in
+            result ≡ named_next (name_in (numbers_by groups))
+            (next_by (is_member groups q.now) q.now (B.value_at self.now.book.now q.now)) }
+    {
+        match number(self.set, q) {
+            Some(n) => Next::Inside(n),
+            None => Next::Outside(self.book.value(q.as_position())),
+        }
+    }
+
     /// Where a legal move leads.
-    fn next(&self, p: &Bitboards, m: Move) -> Next
-        requires valid { IsValid p.now }
+    fn next(&self, i: u32, p: &Bitboards, m: Move) -> Next
+        requires number { HasNumber self.now.set.now i p.now }
         requires legal { is_legal p.now m ≡ true }
         ensures { let groups = self.now.rules.now.groups in
             let q = board_after p.now m in
             result ≡ named_next (name_in (numbers_by groups))
             (next_by (is_member groups q) q (B.value_at self.now.book.now q)) }
     {
-        let q = after(p, m);
-        match number(self.set, &q) {
+        match self.set.number_after_move(i, p, m) {
             Some(n) => Next::Inside(n),
-            None => Next::Outside(self.book.value(q.as_position())),
+            None => self.next_of(&after(p, m)),
         }
     }
 
-    fn arm(&self, p: &Bitboards, m: Move) -> Arm
-        requires valid { IsValid p.now }
+    fn arm(&self, i: u32, p: &Bitboards, m: Move) -> Arm
+        requires number { HasNumber self.now.set.now i p.now }
         requires legal { is_legal p.now m ≡ true }
         ensures { result ≡ arm_at self.now.rules.now (B.value_at self.now.book.now) p.now m }
     {
         Arm {
             mv: m,
             free: allowed(self.rules, p.turn(), p.as_position(), m),
-            next: self.next(p, m),
+            next: self.next(i, p, m),
         }
     }
 
     /// Puts the arms of the legal moves into the list.
-    fn put_arms(&self, p: &Bitboards, moves: &MoveList, list: &mut NextList)
-        requires valid { IsValid p.now }
+    fn put_arms(&self, i: u32, p: &Bitboards, moves: &MoveList, list: &mut NextList)
+        requires number { HasNumber self.now.set.now i p.now }
         requires moves { moves.now.items ≡ legal_moves_of p.now }
         ensures { list.new.items
             ≡ map (arm_at self.now.rules.now (B.value_at self.now.book.now) p.now) moves.now.items }
     {
         list.clear();
         for m in moves.as_slice() {
-            list.push(self.arm(p, *m));
+            list.push(self.arm(i, p, *m));
         }
     }
 
@@ -140,7 +154,7 @@ impl<B: ExitBook> Game<'_, B> {
             }
             Some(p) => {
                 put_legal_moves(&p, moves, steps);
-                self.put_arms(&p, moves, list);
+                self.put_arms(i, &p, moves, list);
                 node(p.as_position(), moves)
             }
         }

@@ -19,7 +19,7 @@ use Rattle.frz_index.specs.declared.chart.Chart.{Chart}
 use Rattle.frz_index.proofs.GroupSteps.{all_drop, drop_read}
 use Rattle.frz_sets.specs.Views.{GroupLine}
 
-pair_is : (s : Kind × ℕ) (k : Kind) (q : ℕ) → s.0 ≡ k → s.1 ≡ q → s ≡ (k, q)
+pub pair_is : (s : Kind × ℕ) (k : Kind) (q : ℕ) → s.0 ≡ k → s.1 ≡ q → s ≡ (k, q)
 pair_is s k q e f =
     let first : s ≡ (k, s.1) = ap (λ (x : Kind). let y : Kind × ℕ = (x, s.1) in y) e in
     first ∙ ap (λ (x : ℕ). let y : Kind × ℕ = (k, x) in y) f

@@ -17,3 +17,5 @@ pub mod Covering
 pub mod DigitByDigit
 pub mod RadixProducts
 pub mod FormerNumbers
+pub mod Stepping
+pub mod Quotients

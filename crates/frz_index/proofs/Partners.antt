@@ -24,7 +24,7 @@ same_stands : (p : Board) (c : Colour) (o : Option (Kind × ℕ)) →
 same_stands p c None = refl
 same_stands p c (Some state) = refl
 
-same_below : (f h : ℕ → Bool) → ((k : ℕ) → f k ≡ h k) → (n : ℕ) →
+pub same_below : (f h : ℕ → Bool) → ((k : ℕ) → f k ≡ h k) → (n : ℕ) →
     places_below f n ≡ places_below h n
 same_below f h e zero = refl
 same_below f h e (suc n) =

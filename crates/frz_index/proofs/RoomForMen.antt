@@ -49,11 +49,11 @@ pub same_man : (m n : Man) → cell_of_man m ≡ cell_of_man n → m ≡ n
 same_man m n e =
     same_Some m n (sym (cell_forth m.colour m.kind) ∙ ap man_of_cell e ∙ cell_forth n.colour n.kind)
 
-abbrev is_at : Colour → Man → ℕ → Kind × ℕ → Bool
+abbrev pub is_at : Colour → Man → ℕ → Kind × ℕ → Bool
 is_at c man s state =
     cell_of_man (record { colour = c; kind = state.0 }) == cell_of_man man && state.1 == s
 
-at_parts : (c : Colour) (man : Man) (s : ℕ) (state : Kind × ℕ) → is_at c man s state ≡ true →
+pub at_parts : (c : Colour) (man : Man) (s : ℕ) (state : Kind × ℕ) → is_at c man s state ≡ true →
     (c ≡ man.colour) × (state.0 ≡ man.kind) × (state.1 ≡ s)
 at_parts c man s state h =
     let parts = and_parts (cell_of_man (record { colour = c; kind = state.0 }) == cell_of_man man)
@@ -63,7 +63,7 @@ at_parts c man s state h =
     parts.0) in
     (ap (λ (m : Man). m.colour) same, ap (λ (m : Man). m.kind) same, eqb-true state.1 s parts.1)
 
-at_itself : (man : Man) (s : ℕ) (kind : Kind) → kind ≡ man.kind →
+pub at_itself : (man : Man) (s : ℕ) (kind : Kind) → kind ≡ man.kind →
     is_at man.colour man s (kind, s) ≡ true
 at_itself man s kind e =
     and_from _ _ (eq-eqb (cell_of_man (record { colour = man.colour; kind = kind }))
@@ -146,7 +146,7 @@ places_lt f h (suc n) j more l off on =
           ]
     ]
 
-counted_at : (P : GroupLine → Type 0) (gs : List GroupLine) (i : ℕ) (g : GroupLine) →
+pub counted_at : (P : GroupLine → Type 0) (gs : List GroupLine) (i : ℕ) (g : GroupLine) →
     AllByRecursion P gs → slice_get gs i ≡ Some g → P g
 counted_at P [] i g all e = absurd (cc)
 counted_at P (x ∷ gs) zero g all e = subst P (same_Some x g e) all.0

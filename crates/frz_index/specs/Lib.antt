@@ -9,3 +9,4 @@ pub mod Kept
 pub mod Room
 pub mod OldNumbers
 pub mod OldDigits
+pub mod Stepping

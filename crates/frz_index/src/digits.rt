@@ -12,6 +12,7 @@ ghost use Rattle.frz_sets.specs.declared.limits.TheConstants.{MOST_STATES};
 use crate::chart::Chart;
 use crate::digit::digit;
 use crate::placing::put;
+use crate::quotient::{left_over, quotient};
 use frz_bits::Bitboards;
 use frz_combinations::Triangle;
 use frz_sets::Group;
@@ -67,7 +68,7 @@ pub(crate) fn put_all(
     for i in 0..groups.len() {
         let group = &groups[i];
         let weight = weights[i];
-        put(p, triangle, group, rest / weight);
-        rest %= weight;
+        put(p, triangle, group, quotient(rest, weight));
+        rest = left_over(rest, weight);
     }
 }

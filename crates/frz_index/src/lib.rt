@@ -2,6 +2,7 @@
 //! have the same.
 #![tactic(auto)]
 
+mod across;
 mod chart;
 mod digit;
 mod digits;
@@ -9,6 +10,7 @@ pub mod laws;
 mod old;
 mod placing;
 mod plan;
+mod quotient;
 mod room;
 mod set;
 mod turn;

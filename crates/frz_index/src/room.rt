@@ -16,7 +16,7 @@ use frz_combinations::Triangle;
 use frz_sets::Group;
 
 /// Has the group the man on the square as a state?
-fn has_state(group: &Group, chart: &Chart, man: Man, s: Square) -> bool
+pub(crate) fn has_state(group: &Group, chart: &Chart, man: Man, s: Square) -> bool
     requires { IsChart group.now.states chart.now }
     ensures { result ≡ is_state (cell_of_man man) s group.now }
 {

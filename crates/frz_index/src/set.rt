@@ -1,8 +1,9 @@
 //! The set of positions that the groups of some rules describe.
-ghost use Rattle.std.specs.Prelude.{◌≡◌, ◌↔◌, ◌<◌, ◌≤◌, IfOk, IfSome, IsNone, IsSome, IsTrue, MatchOption, None, Some, ◌/◌, map};
-ghost use Rattle.frz_board.specs.Boards.{Board};
+ghost use Rattle.std.specs.Prelude.{◌≡◌, ◌↔◌, ◌<◌, ◌≤◌, IfOk, IfSome, IsNone, IsSome, IsTrue, MatchOption, None, Some, ◌/◌, map, true};
+ghost use Rattle.frz_board.specs.Boards.{Board, is_empty, man_on};
 ghost use Rattle.frz_board.specs.declared.man.Colour.TheVariants.{White};
 ghost use Rattle.frz_combinations.specs.MixedRadix.{product};
+ghost use Rattle.frz_fide.specs.Legal.{after, is_legal};
 ghost use Rattle.frz_fide.specs.Valid.{IsValid};
 ghost use Rattle.frz_sets.specs.Sets.{radix_of, size_of, targets};
 ghost use Rattle.frz_sets.specs.Sound.{IsSound};
@@ -14,13 +15,16 @@ ghost use Rattle.frz_index.specs.Candidates.{candidate, no_men};
 ghost use Rattle.frz_index.specs.Kept.{IsPlan, is_known};
 ghost use Rattle.frz_index.specs.TurnStates.{turn_in};
 ghost use Rattle.frz_index.specs.Room.{has_room};
+ghost use Rattle.frz_index.specs.Stepping.{stepped};
 
+use crate::across::{number_after_in, stepping_man};
 use crate::digits::{number_of_digits, put_all};
 use crate::plan::{Plan, plan_of};
+use crate::quotient::{left_over, quotient};
 use crate::room::any_takes_one_more;
 use crate::turn::{turn_at, turn_number};
 use frz_bits::{Bitboards, without};
-use frz_board::{Colour, Man, NoMemory, Position, Square, cell_of};
+use frz_board::{Colour, Man, Move, NoMemory, Position, Square, cell_of};
 use frz_fide::valid_boards;
 use frz_sets::Rules;
 use std::alloc::Global;
@@ -81,7 +85,7 @@ fn turn_state_in(plan: &Plan, i: u32) -> (Colour, Option<Square>)
     ensures { let gs = plan.now.groups.items in
         result ≡ turn_in (targets gs) (i / product (map radix_of gs)) }
 {
-    turn_at(&plan.targets, i / plan.whole)
+    turn_at(&plan.targets, quotient(i, plan.whole))
 }
 
 /// The only position that may have this number.
@@ -96,7 +100,7 @@ fn candidate_in(plan: &Plan, i: u32) -> Bitboards
         &plan.triangle,
         &plan.groups,
         &plan.weights,
-        i % plan.whole,
+        left_over(i, plan.whole),
     );
     p
 }
@@ -179,6 +183,39 @@ impl Set {
         ensures function { result ≡ number_of self.now p.now }
     {
         number_in(&self.plan, p)
+    }
+
+    /// The number of the position after this man has gone to an empty square, with the other side to
+    /// move, where that can be told by what it changes. There is no target before.
+    pub fn number_after_step(
+        &self,
+        i: u32,
+        p: &Bitboards,
+        man: Man,
+        from: Square,
+        to: Square,
+    ) -> Option<u32>
+        requires number { HasNumber self.now i p.now }
+        requires man { man_on p.now from ≡ Some man }
+        requires free { is_empty p.now to ≡ true }
+        requires target { p.now.ep ≡ None }
+        requires valid { IsValid (stepped p.now man from to) }
+        ensures { IfSome result (λ n. HasNumber self.now n (stepped p.now man from to)) }
+    {
+        number_after_in(&self.plan, i, p, man, from, to)
+    }
+
+    /// The number of the position after a legal move, where that can be told by what it changes.
+    pub fn number_after_move(&self, i: u32, p: &Bitboards, m: Move) -> Option<u32>
+        requires number { HasNumber self.now i p.now }
+        requires legal { is_legal p.now m ≡ true }
+        ensures { IfSome result (λ n. HasNumber self.now n (after p.now m)) }
+    {
+        let _to = m.to.number();
+        match stepping_man(p, m) {
+            None => None,
+            Some(man) => self.number_after_step(i, p, man, m.from, m.to),
+        }
     }
 
     /// The side to move of the number's turn state: where the number is not broken, that of its

@@ -8,3 +8,7 @@ pub mod Begins
 pub mod Movers
 pub mod EarlierTargets
 pub mod Whole
+pub mod StepsBack
+pub mod StepsValid
+pub mod StepsSafe
+pub mod StepsTold

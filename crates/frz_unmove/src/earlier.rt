@@ -1,11 +1,13 @@
 //! The position before a move, and whether the set has it and the move leads on.
-ghost use Rattle.std.specs.Prelude.{◌≡◌, ◌≤◌, ◌&&◌, ◌↔◌, IsTrue, Some, true, ℕ};
+ghost use Rattle.std.specs.Prelude.{◌≡◌, ◌≤◌, ◌&&◌, ◌↔◌, IfSome, IsTrue, Some, true, ℕ};
 ghost use Rattle.frz_board.specs.Moving.{IsStep};
 ghost use Rattle.frz_fide.specs.Legal.{after, is_legal, is_target};
 ghost use Rattle.frz_fide.specs.Valid.{IsValid};
 ghost use Rattle.frz_index.specs.Members.{HasNumber};
+ghost use Rattle.frz_unmove.specs.Quiet.{IsReady};
 ghost use Rattle.frz_unmove.specs.Earlier.{before, mover_cell as cell_of_mover, name, was_en_passant};
 
+use crate::quiet::{Ready, number_before_step, stepped_man};
 use frz_bits::Bitboards;
 use frz_board::{Move, Square};
 use frz_fide::{beside, leads, valid_boards};
@@ -57,14 +59,14 @@ fn earlier(q: &Bitboards, m: Move, taken: u8, target: &Option<Square>) -> Bitboa
     p
 }
 
-fn is_valid(p: &Bitboards) -> bool
+pub(crate) fn is_valid(p: &Bitboards) -> bool
     ensures { IsTrue result ↔ IsValid p.now }
 {
     valid_boards(p).is_ok()
 }
 
-/// The number of that earlier position, if the set has it and the move leads from it to this one.
-pub(crate) fn number_before(
+/// The number of that earlier position, by its cells.
+fn number_of_earlier(
     set: &Set,
     q: &Bitboards,
     m: Move,
@@ -85,5 +87,32 @@ pub(crate) fn number_before(
         set.number_on(&p)
     } else {
         None
+    }
+}
+
+/// The number of that earlier position, if the set has it and the move leads from it to this one.
+pub(crate) fn number_before(
+    set: &Set,
+    at: u32,
+    q: &Bitboards,
+    m: Move,
+    taken: u8,
+    target: &Option<Square>,
+    ready: &Option<Ready>,
+) -> Option<u32>
+    requires number { HasNumber set.now at q.now }
+    requires valid { IsValid q.now }
+    requires taken { taken ≤ 12 }
+    requires ready { IfSome ready.now (λ r. IsReady q.now m.to r) }
+    ensures step { IsStep m }
+    ensures number { let p = before q.now (name m taken target.now) in
+        (i : ℕ) → (result ≡ Some i)
+        ↔ (HasNumber set.now i p × (is_legal p m ≡ true) × (after p m ≡ q.now)) }
+{
+    let _from = m.from.number();
+    let _to = m.to.number();
+    match stepped_man(q, m, taken, target) {
+        Some(man) => number_before_step(set, at, q, man, m, taken, target, ready),
+        None => number_of_earlier(set, q, m, taken, target),
     }
 }

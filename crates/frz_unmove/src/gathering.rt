@@ -1,50 +1,76 @@
 //! The walk over the names of earlier positions.
-ghost use Rattle.std.specs.Prelude.{ℕ, ◌≡◌, ◌≤◌, ◌<◌, ◌+◌, ◌&&◌, MatchOption, None, Some, false, true, length};
+ghost use Rattle.std.specs.Prelude.{ℕ, ◌≡◌, ◌≤◌, ◌<◌, ◌+◌, ◌&&◌, IfSome, MatchOption, None, Some, false, true, length};
 ghost use Rattle.frz_board.specs.Boards.{holds, man_on};
 ghost use Rattle.frz_board.specs.Men.{cell_of_man, is_man_of, man_of_cell, other_of};
 ghost use Rattle.frz_board.specs.Moving.{is_promotion};
 ghost use Rattle.frz_fide.specs.Legal.{is_last};
 ghost use Rattle.frz_fide.specs.Valid.{IsValid};
+ghost use Rattle.frz_index.specs.Members.{HasNumber};
 ghost use Rattle.frz_index.specs.Room.{has_room};
 ghost use Rattle.frz_unmove.specs.Earlier.{mover_cell as cell_of_mover};
+ghost use Rattle.frz_unmove.specs.Quiet.{IsReady};
 ghost use Rattle.frz_unmove.specs.Adding.{Adds};
 ghost use Rattle.frz_unmove.specs.Gathering.{Comes, ComesAs, ComesAt, ComesFrom, ComesTaking, ComesTo, HasOrigins, IsTargetWord, first_taken as first_taken_of};
 
 use crate::earlier::{mover_cell, number_before};
 use crate::origins::origins;
 use crate::preds::{Pred, Preds};
+use crate::quiet::{Ready, ready_for};
 use crate::targets::earlier_targets;
 use frz_bits::{Bitboards, next_square};
 use frz_board::{Colour, Kind, Man, Move, Square, man_of};
 use frz_index::Set;
 
 /// Adds the move from the earlier position of this name, if the set has it.
-fn add_named(set: &Set, q: &Bitboards, m: Move, taken: u8, target: &Option<Square>, out: &mut Preds)
+fn add_named(
+    set: &Set,
+    at: u32,
+    q: &Bitboards,
+    m: Move,
+    taken: u8,
+    target: &Option<Square>,
+    ready: &Option<Ready>,
+    out: &mut Preds,
+)
     requires taken { taken ≤ 12 }
+    requires number { HasNumber set.now at q.now }
+    requires ready { IfSome ready.now (λ r. IsReady q.now m.to r) }
     requires valid { IsValid q.now }
     requires room { length out.old + 1 ≤ 131072 }
     ensures { Adds (ComesFrom set.now q.now m taken target.now) out.old out.new 1 }
 {
-    if let Some(number) = number_before(set, q, m, taken, target) {
+    if let Some(number) = number_before(set, at, q, m, taken, target, ready) {
         out.push(Pred { number, mv: m });
     }
 }
 
 /// Adds it, if the set knows the man where the move begins.
-fn add_from(set: &Set, q: &Bitboards, m: Move, taken: u8, target: &Option<Square>, out: &mut Preds)
+fn add_from(
+    set: &Set,
+    at: u32,
+    q: &Bitboards,
+    m: Move,
+    taken: u8,
+    target: &Option<Square>,
+    ready: &Option<Ready>,
+    out: &mut Preds,
+)
     requires taken { taken ≤ 12 }
+    requires number { HasNumber set.now at q.now }
+    requires ready { IfSome ready.now (λ r. IsReady q.now m.to r) }
     requires valid { IsValid q.now }
     requires room { length out.old + 1 ≤ 131072 }
     ensures { Adds (ComesFrom set.now q.now m taken target.now) out.old out.new 1 }
 {
     if set.knows(mover_cell(q, m), m.from) {
-        add_named(set, q, m, taken, target, out);
+        add_named(set, at, q, m, taken, target, ready, out);
     }
 }
 
 /// Adds the moves from these origins, with this earlier target.
 fn add_at(
     set: &Set,
+    at: u32,
     q: &Bitboards,
     to: Square,
     promo: Option<Kind>,
@@ -56,13 +82,24 @@ fn add_at(
     requires promo { is_promotion promo ≡ true }
     requires taken { taken ≤ 12 }
     requires origins { HasOrigins set.now q.now to promo origins }
+    requires number { HasNumber set.now at q.now }
     requires valid { IsValid q.now }
     requires room { length out.old + 64 ≤ 131072 }
     ensures { Adds (ComesAt set.now q.now to promo taken target.now) out.old out.new 64 }
 {
+    let ready = ready_for(q, to, promo, taken, target);
     let mut n = 0;
     while let Some(from) = next_square(origins, n) {
-        add_from(set, q, Move { from, to, promo }, taken, target, out);
+        add_from(
+            set,
+            at,
+            q,
+            Move { from, to, promo },
+            taken,
+            target,
+            &ready,
+            out,
+        );
         n = from.number() + 1;
     }
 }
@@ -70,6 +107,7 @@ fn add_at(
 /// Adds the moves that took this: without an earlier target, and with each.
 fn add_taking(
     set: &Set,
+    at: u32,
     q: &Bitboards,
     to: Square,
     promo: Option<Kind>,
@@ -82,14 +120,15 @@ fn add_taking(
     requires taken { taken ≤ 12 }
     requires origins { HasOrigins set.now q.now to promo origins }
     requires targets { IsTargetWord set.now q.now to targets }
+    requires number { HasNumber set.now at q.now }
     requires valid { IsValid q.now }
     requires room { length out.old + 576 ≤ 131072 }
     ensures { Adds (ComesTaking set.now q.now to promo taken) out.old out.new 576 }
 {
-    add_at(set, q, to, promo, origins, taken, &None, out);
+    add_at(set, at, q, to, promo, origins, taken, &None, out);
     let mut n = 0;
     while let Some(t) = next_square(targets, n) {
-        add_at(set, q, to, promo, origins, taken, &Some(t), out);
+        add_at(set, at, q, to, promo, origins, taken, &Some(t), out);
         n = t.number() + 1;
     }
 }
@@ -109,6 +148,7 @@ fn may_take(set: &Set, q: &Bitboards, taken: u8, to: Square) -> bool
 /// Adds the moves that took this man, if the set has room for it.
 fn add_taken(
     set: &Set,
+    at: u32,
     q: &Bitboards,
     to: Square,
     promo: Option<Kind>,
@@ -122,12 +162,13 @@ fn add_taken(
     requires side { is_man_of q.now.turn (man_of_cell taken) ≡ true }
     requires origins { HasOrigins set.now q.now to promo origins }
     requires targets { IsTargetWord set.now q.now to targets }
+    requires number { HasNumber set.now at q.now }
     requires valid { IsValid q.now }
     requires room { length out.old + 576 ≤ 131072 }
     ensures { Adds (ComesTaking set.now q.now to promo taken) out.old out.new 576 }
 {
     if may_take(set, q, taken, to) {
-        add_taking(set, q, to, promo, origins, targets, taken, out);
+        add_taking(set, at, q, to, promo, origins, targets, taken, out);
     }
 }
 
@@ -145,6 +186,7 @@ fn first_taken(c: Colour) -> u8
 /// Adds the moves from these origins: those that take nothing, or a man of one of five kinds.
 fn add_from_origins(
     set: &Set,
+    at: u32,
     q: &Bitboards,
     to: Square,
     promo: Option<Kind>,
@@ -153,29 +195,39 @@ fn add_from_origins(
 )
     requires promo { is_promotion promo ≡ true }
     requires origins { HasOrigins set.now q.now to promo origins }
+    requires number { HasNumber set.now at q.now }
     requires valid { IsValid q.now }
     requires room { length out.old + 3456 ≤ 131072 }
     ensures { Adds (ComesAs set.now q.now to promo) out.old out.new 3456 }
 {
     let targets = earlier_targets(set, q, to);
-    add_taking(set, q, to, promo, origins, targets, 0, out);
+    add_taking(set, at, q, to, promo, origins, targets, 0, out);
     let first = first_taken(q.turn());
     for k in 0..5 {
-        add_taken(set, q, to, promo, origins, targets, first + k, out);
+        add_taken(set, at, q, to, promo, origins, targets, first + k, out);
     }
 }
 
 /// Adds the moves of this man to the square.
-fn add_as(set: &Set, q: &Bitboards, to: Square, promo: Option<Kind>, man: Man, out: &mut Preds)
+fn add_as(
+    set: &Set,
+    at: u32,
+    q: &Bitboards,
+    to: Square,
+    promo: Option<Kind>,
+    man: Man,
+    out: &mut Preds,
+)
     requires promo { is_promotion promo ≡ true }
     requires mover { (a : ℕ) →
         cell_of_mover q.now (record { from = a; to = to; promo = promo }) ≡ cell_of_man man }
+    requires number { HasNumber set.now at q.now }
     requires valid { IsValid q.now }
     requires room { length out.old + 3456 ≤ 131072 }
     ensures { Adds (ComesAs set.now q.now to promo) out.old out.new 3456 }
 {
     let origins = origins(set, q, to, promo, man);
-    add_from_origins(set, q, to, promo, origins, out);
+    add_from_origins(set, at, q, to, promo, origins, out);
 }
 
 /// May a pawn have become this man on the square?
@@ -190,35 +242,38 @@ fn is_promoted(man: Man, to: Square) -> bool
 }
 
 /// Adds the moves of the man on the square, to it: of itself, or of a pawn that became it.
-fn add_man(set: &Set, q: &Bitboards, to: Square, man: Man, out: &mut Preds)
+fn add_man(set: &Set, at: u32, q: &Bitboards, to: Square, man: Man, out: &mut Preds)
     requires man { man_on q.now to ≡ Some man }
     requires own { man.colour ≡ other_of q.now.turn }
+    requires number { HasNumber set.now at q.now }
     requires valid { IsValid q.now }
     requires room { length out.old + 6912 ≤ 131072 }
     ensures { Adds (ComesTo set.now q.now to) out.old out.new 6912 }
 {
-    add_as(set, q, to, None, man, out);
+    add_as(set, at, q, to, None, man, out);
     if is_promoted(man, to) {
         let colour = man.colour;
         let kind = Kind::Pawn;
-        add_as(set, q, to, Some(man.kind), Man { colour, kind }, out);
+        add_as(set, at, q, to, Some(man.kind), Man { colour, kind }, out);
     }
 }
 
 /// Adds the moves to the square, where a man of the side stands that has moved.
-fn add_square(set: &Set, q: &Bitboards, to: Square, out: &mut Preds)
+fn add_square(set: &Set, at: u32, q: &Bitboards, to: Square, out: &mut Preds)
     requires own { holds q.now (other_of q.now.turn) to ≡ true }
+    requires number { HasNumber set.now at q.now }
     requires valid { IsValid q.now }
     requires room { length out.old + 6912 ≤ 131072 }
     ensures { Adds (ComesTo set.now q.now to) out.old out.new 6912 }
 {
     if let Some(man) = q.man(to) {
-        add_man(set, q, to, man, out);
+        add_man(set, at, q, to, man, out);
     }
 }
 
 /// Adds all moves from earlier positions: it goes over the men of the side that has moved.
-pub(crate) fn add_all(set: &Set, q: &Bitboards, out: &mut Preds)
+pub(crate) fn add_all(set: &Set, at: u32, q: &Bitboards, out: &mut Preds)
+    requires number { HasNumber set.now at q.now }
     requires valid { IsValid q.now }
     requires room { length out.old + 110592 ≤ 131072 }
     ensures { Adds (Comes set.now q.now) out.old out.new 110592 }
@@ -226,7 +281,7 @@ pub(crate) fn add_all(set: &Set, q: &Bitboards, out: &mut Preds)
     let men = q.side(q.turn().other());
     let mut n = 0;
     while let Some(to) = next_square(men, n) {
-        add_square(set, q, to, out);
+        add_square(set, at, q, to, out);
         n = to.number() + 1;
     }
 }

@@ -5,6 +5,7 @@ mod earlier;
 mod gathering;
 mod origins;
 mod preds;
+mod quiet;
 mod targets;
 mod unmoving;
 

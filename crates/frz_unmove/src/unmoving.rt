@@ -23,6 +23,6 @@ pub fn unmoves<L: Ledger>(set: &Set, q: u32, out: &mut Preds, steps: &mut Steps<
     out.clear();
     match set.boards_at(q) {
         None => unreachable!(),
-        Some(p) => add_all(set, &p, out),
+        Some(p) => add_all(set, q, &p, out),
     }
 }

@@ -1,12 +1,12 @@
 use Rattle.frz_index.proofs.GroupSteps.{at_read}
 use Rattle.frz_index.proofs.digits.put_all.Goals as goal
 
-pub nonzero_div-rest : goal.nonzero_div-rest
-nonzero_div-rest c =
+pub quotient-requires : goal.quotient-requires
+quotient-requires c =
     (at_read c.args.groups.now c.args.weights.now c.loop-i.i c.index-groups-i.result
     c.requires.numberable c.requires.weights c.loop-i-test.true c.index-groups-i.is).some
 
-pub nonzero_rem-rest : goal.nonzero_rem-rest
-nonzero_rem-rest c =
+pub left_over-rest-requires : goal.left_over-rest-requires
+left_over-rest-requires c =
     (at_read c.args.groups.now c.args.weights.now c.loop-i.i c.index-groups-i.result
     c.requires.numberable c.requires.weights c.loop-i-test.true c.index-groups-i.is).some

@@ -2,8 +2,8 @@ use Rattle.std.proofs.Common.{sym, subst, All, ◌<◌, ◌∙◌}
 use Rattle.frz_index.proofs.Bounds.{targets_low, whole_some}
 use Rattle.frz_index.proofs.set.turn_state_in.Goals as goal
 
-pub nonzero_div-i : goal.nonzero_div-i
-nonzero_div-i c =
+pub quotient-requires : goal.quotient-requires
+quotient-requires c =
     whole_some c.args.plan.now.groups.items c.args.plan.now.whole c.requires.numberable
     c.requires.whole_is
 

@@ -1,9 +1,8 @@
 use Rattle.std.proofs.Common.{◌∙◌, ap, sym}
-use Rattle.frz_board.specs.Boards.{Board}
 use Rattle.frz_fide.specs.Legal.{after}
-use Rattle.frz_arena.specs.declared.arm.Next.TheVariants.{Outside}
 use Rattle.frz_game.specs.Numbers.{number_of}
-use Rattle.frz_game.proofs.Graph.{next_inside, next_outside}
+use Rattle.frz_game.proofs.Graph.{next_inside}
+use Rattle.frz_index.proofs.Lemmas.{number_found}
 use Rattle.frz_game.proofs.game.Game.next.Goals as goal
 
 pub returns-in-Some : goal.returns-in-Some
@@ -11,17 +10,5 @@ returns-in-Some g c =
     let groups = c.args.self.now.rules.now.groups in
     let q = after c.args.p.now c.args.m in
     sym (next_inside groups q (g.B.ExitBook.value_at c.args.self.now.book.now q) c.in-Some.n
-    (sym (c.number.ensures
-    ∙ (ap (λ gs. number_of gs c.after-q.result) c.args.self.now.fits
-    ∙ ap (λ (r : Board). number_of groups r) c.after-q.ensures.position)) ∙ c.in-Some.is))
-
-pub returns-in-None : goal.returns-in-None
-returns-in-None g c =
-    let groups = c.args.self.now.rules.now.groups in
-    let value = g.B.ExitBook.value_at c.args.self.now.book.now in
-    let q = after c.args.p.now c.args.m in
-    ap Outside (c.value.ensures ∙ ap value (c.as_position.ensures ∙ c.after-q.ensures.position))
-    ∙ sym (next_outside groups q (value q)
-    (sym (c.number.ensures
-    ∙ (ap (λ gs. number_of gs c.after-q.result) c.args.self.now.fits
-    ∙ ap (λ (r : Board). number_of groups r) c.after-q.ensures.position)) ∙ c.in-None.is))
+    (ap (λ gs. number_of gs q) (sym c.args.self.now.fits)
+    ∙ number_found c.args.self.now.set.now q c.in-Some.n c.in-Some.ensures))

@@ -1,0 +1,511 @@
+-- What a man's step to an empty square changes in the digits of the groups.
+use Rattle.std.proofs.Common.{◌≡◌, ◌≢◌, ℕ, zero, suc, ◌+◌, ◌-◌, ◌*◌, ◌<◌, ◌≤◌, Bool, true, false, cond, Option, None, Some, List, [], ◌∷◌, length, map, slice_index, refl, ap, sym, subst, ◌∙◌, arith, inl, inr, ◌⊎◌}
+use Rattle.std.proofs.Common.{length-set, slice_set}
+use Rattle.std.specs.Prelude.{◌==◌}
+use Rattle.std.proofs.Math.Nat.{add-mul}
+use Rattle.std.specs.List.{AllByRecursion, slice_get}
+use Rattle.std.proofs.lemmas.Bool.{and_from, cases_Bool, cases_eq, eqb-true, eq-eqb, false_from_ne_true}
+use Rattle.std.proofs.lemmas.Option.{same_Some, slice_get_within}
+use Rattle.frz_board.proofs.Lemmas.{cell-some, set_at, cell_back}
+use Rattle.frz_board.specs.declared.man.Colour.{Colour}
+use Rattle.frz_board.specs.declared.man.Colour.TheVariants.{White, Black}
+use Rattle.frz_board.specs.declared.man.Kind.{Kind}
+use Rattle.frz_board.specs.declared.man.Kind.TheVariants.{King, Queen, Rook, Bishop, Knight, Pawn}
+use Rattle.frz_board.specs.Moving.{Step}
+use Rattle.frz_fide.specs.Legal.{after, after_man}
+use Rattle.frz_board.specs.declared.man.Man.{Man}
+use Rattle.frz_board.specs.Boards.{Board, is_empty, man_on}
+use Rattle.frz_board.specs.Men.{cell_of_man, is_pawn, number_of_kind, other_of}
+use Rattle.frz_combinations.proofs.Lemmas.{choose-one, place_counts}
+use Rattle.frz_combinations.specs.Binomials.{choose}
+use Rattle.frz_combinations.specs.Combinations.{places_below}
+use Rattle.frz_combinations.specs.MixedRadix.{product}
+use Rattle.frz_combinations.specs.Selections.{choices, digit}
+use Rattle.frz_fide.specs.Valid.{IsValid}
+use Rattle.frz_sets.specs.Groups.{state_number}
+use Rattle.frz_sets.specs.Sets.{has_state, is_state, radix_of}
+use Rattle.frz_sets.specs.Sound.{AreStates}
+use Rattle.frz_sets.specs.Views.{GroupLine}
+use Rattle.frz_index.proofs.Charting.{cut_at, kind_numbers, pair_is, state_order}
+use Rattle.frz_index.specs.Charts.{IsChart}
+use Rattle.frz_index.specs.declared.chart.Chart.{Chart}
+use Rattle.frz_index.proofs.Counting.{skip}
+use Rattle.frz_index.proofs.GroupSteps.{At, drop_end}
+use Rattle.frz_index.proofs.Partners.{same_below}
+use Rattle.frz_index.proofs.RoomForMen.{any_at, any_found, at_itself, at_parts, is_at, same_man}
+use Rattle.frz_index.specs.Members.{HasNumber, Member, Num}
+use Rattle.frz_index.specs.Places.{IsWithinCount, digit_of, places, stands}
+use Rattle.frz_index.specs.Stepping.{AlwaysShifted, IsPlace, IsQuiet, IsStep, Shifted, Shifts, digits_of, stepped}
+use Rattle.frz_index.specs.TurnStates.{turn_number}
+
+-- where a test holds at one place at most, it holds there alone
+single : (f : ℕ → Bool) (n k : ℕ) → k < n → f k ≡ true → length (places_below f n) ≤ 1 →
+    places_below f n ≡ k ∷ []
+single f zero k l e one = absurd (omega arith)
+single f (suc n) k l e one =
+    elim (cases_eq k n) [
+      | inl here ↦
+          let on : f n ≡ true = ap f (sym here) ∙ e in
+          let is : places_below f (suc n) ≡ n ∷ places_below f n =
+          ap (λ b. cond b (n ∷ places_below f n) (places_below f n)) on in
+          is ∙ ap (λ ks. n ∷ ks) (none_left (places_below f n) (omega (arith, one, ap length is)))
+          ∙ ap (λ j. j ∷ []) (sym here)
+      | inr other ↦
+          let less : k < n = omega (arith, l, other) in
+          elim (cases_Bool (f n)) [
+            | inl on ↦
+                let is : places_below f (suc n) ≡ n ∷ places_below f n =
+                ap (λ b. cond b (n ∷ places_below f n) (places_below f n)) on in
+                absurd (omega (arith, one, ap length is, place_counts f k n less e))
+            | inr off ↦
+                let is : places_below f (suc n) ≡ places_below f n =
+                ap (λ b. cond b (n ∷ places_below f n) (places_below f n)) off in
+                is ∙ single f n k less e (omega (arith, one, ap length is))
+          ]
+    ]
+  where
+    none_left : (ks : List ℕ) → length ks ≤ 0 → ks ≡ []
+    none_left [] h = refl
+    none_left (x ∷ ks) h = absurd (omega arith)
+
+-- so two such places are one
+one_place : (f : ℕ → Bool) (n j k : ℕ) → j < n → k < n → f j ≡ true → f k ≡ true →
+    length (places_below f n) ≤ 1 → j ≡ k
+one_place f n j k lj lk ej ek one = heads (sym (single f n j lj ej one) ∙ single f n k lk ek one)
+  where
+    heads : {x y : ℕ} → x ∷ [] ≡ y ∷ [] → x ≡ y
+    heads e = cc
+
+-- where a test holds at one place alone
+only : (f : ℕ → Bool) (n k : ℕ) → k < n → f k ≡ true →
+    ((j : ℕ) → j < n → f j ≡ true → j ≡ k) → places_below f n ≡ k ∷ []
+only f zero k l e alone = absurd (omega arith)
+only f (suc n) k l e alone =
+    elim (cases_eq k n) [
+      | inl here ↦
+          let on : f n ≡ true = ap f (sym here) ∙ e in
+          let is : places_below f (suc n) ≡ n ∷ places_below f n =
+          ap (λ b. cond b (n ∷ places_below f n) (places_below f n)) on in
+          let none : places_below f n ≡ [] =
+          skip f 0 n (omega arith)
+          (λ j low less. false_from_ne_true (f j)
+          (λ t. let same = alone j (omega (arith, less)) t in absurd (omega (arith, same, here, less)))) in
+          is ∙ ap (λ ks. n ∷ ks) none ∙ ap (λ j. j ∷ []) (sym here)
+      | inr other ↦
+          let less : k < n = omega (arith, l, other) in
+          let off : f n ≡ false = false_from_ne_true (f n)
+          (λ t. let same = alone n (omega arith) t in absurd (omega (arith, same, less))) in
+          let is : places_below f (suc n) ≡ places_below f n =
+          ap (λ b. cond b (n ∷ places_below f n) (places_below f n)) off in
+          is ∙ only f n k less e (λ j lj t. alone j (omega (arith, lj)) t)
+    ]
+
+-- a state stands at one place
+state_once : (states : List (Kind × ℕ)) (j k : ℕ) (s t : Kind × ℕ) → AreStates states →
+    slice_get states j ≡ Some s → slice_get states k ≡ Some t → state_number s ≡ state_number t →
+    j ≡ k
+state_once states j k s t h ej ek same =
+    elim (cases_eq j k) [
+      | inl e ↦ e
+      | inr other ↦ elim (apart j k other) [
+        | inl less ↦ absurd (let o = state_order 0 states j k s t h.increasing less ej ek in
+            omega (arith, o, same))
+        | inr more ↦ absurd (let o = state_order 0 states k j t s h.increasing more ek ej in
+            omega (arith, o, same))
+      ]
+    ]
+  where
+    apart : (j k : ℕ) → j ≢ k → (j < k) ⊎ (k < j)
+    apart zero zero n = absurd (n refl)
+    apart zero (suc k) n = inl (omega arith)
+    apart (suc j) zero n = inr (omega arith)
+    apart (suc j) (suc k) n = elim (apart j k (λ e. n (ap suc e))) [
+      | inl l ↦ inl (omega (arith, l))
+      | inr l ↦ inr (omega (arith, l))
+    ]
+
+no_man : (x : ℕ) (c : Colour) (k : Kind) → x ≡ 0 →
+    (x == cell_of_man (record { colour = c; kind = k })) ≡ false
+no_man x c k e =
+    false_from_ne_true (x == cell_of_man (record { colour = c; kind = k }))
+    (λ t. absurd (let same = eqb-true x (cell_of_man (record { colour = c; kind = k })) t in
+    let some = cell-some c k in omega (arith, e, same, some)))
+
+module _ (p : Board) (man : Man) (a b : ℕ) (h : IsStep p man a b) where
+  abbrev pub q : Board
+  q = stepped p man a b
+
+  apart : a ≢ b
+  apart e = let some = cell-some man.colour man.kind in
+      let here = ap (slice_index p.cells) e in
+      omega (arith, h.stood, h.free, here, some)
+
+  pub at_to : slice_index q.cells b ≡ cell_of_man man
+  at_to =
+      set_at (slice_set p.cells a 0) b (cell_of_man man) b
+      (rw length-set (omega (arith, h.size, h.to)))
+      ∙ ap (λ t. cond t (cell_of_man man)
+      (slice_index (slice_set p.cells a 0) b)) (eq-eqb b b refl)
+
+  at_other : (s : ℕ) → s ≢ b → slice_index q.cells s ≡ (cond (s == a) 0 (slice_index p.cells s))
+  at_other s n =
+      set_at (slice_set p.cells a 0) b (cell_of_man man) s
+      (rw length-set (omega (arith, h.size, h.to)))
+      ∙ ap (λ t. cond t (cell_of_man man)
+      (slice_index (slice_set p.cells a 0) s))
+      (false_from_ne_true (s == b) (λ t. n (eqb-true s b t)))
+      ∙ set_at p.cells a 0 s (omega (arith, h.size, h.from))
+
+  pub at_from : slice_index q.cells a ≡ 0
+  at_from = at_other a apart ∙ ap (λ t. cond t 0 (slice_index p.cells a)) (eq-eqb a a refl)
+
+  pub at_rest : (s : ℕ) → s ≢ a → s ≢ b → slice_index q.cells s ≡ slice_index p.cells s
+  at_rest s n m =
+      at_other s m
+      ∙ ap (λ t. cond t 0 (slice_index p.cells s)) (false_from_ne_true (s == a) (λ t. n (eqb-true s a t)))
+
+  -- a group that has the man on neither square
+  module _ (g : GroupLine) (off_a : is_state (cell_of_man man) a g ≡ false)
+      (off_b : is_state (cell_of_man man) b g ≡ false) where
+    not_the_man : (j : ℕ) (st : Kind × ℕ) (s : ℕ) → slice_get g.states j ≡ Some st → st.1 ≡ s →
+        is_state (cell_of_man man) s g ≡ false →
+        (cell_of_man man == cell_of_man (record { colour = g.colour; kind = st.0 })) ≡ false
+    not_the_man j st s e at off =
+        false_from_ne_true
+        (cell_of_man man == cell_of_man (record { colour = g.colour; kind = st.0 }))
+        (λ t.
+        let same = same_man man (record { colour = g.colour; kind = st.0 })
+        (eqb-true (cell_of_man man) (cell_of_man (record { colour = g.colour; kind = st.0 })) t) in
+        let there = any_at (is_at g.colour man s) g.states j st e
+        (and_from _ _
+        (eq-eqb (cell_of_man (record { colour = g.colour; kind = st.0 })) (cell_of_man man)
+        (ap cell_of_man (sym same))) (eq-eqb st.1 s at)) in
+        absurd cc)
+
+    same_stand : (j : ℕ) (o : Option (Kind × ℕ)) → slice_get g.states j ≡ o →
+        stands q g.colour o ≡ stands p g.colour o
+    same_stand j None e = refl
+    same_stand j (Some st) e =
+        elim (cases_eq st.1 a) [
+          | inl here ↦
+              no_man (slice_index q.cells st.1) g.colour st.0 (ap (slice_index q.cells) here ∙ at_from)
+              ∙ sym (ap (λ x. x == cell_of_man (record { colour = g.colour; kind = st.0 }))
+              (ap (slice_index p.cells) here ∙ h.stood) ∙ not_the_man j st a e here off_a)
+          | inr left ↦ elim (cases_eq st.1 b) [
+            | inl here ↦
+                ap (λ x. x == cell_of_man (record { colour = g.colour; kind = st.0 }))
+                (ap (slice_index q.cells) here ∙ at_to) ∙ not_the_man j st b e here off_b
+                ∙ sym (no_man (slice_index p.cells st.1) g.colour st.0
+                (ap (slice_index p.cells) here ∙ h.free))
+            | inr right ↦
+                ap (λ x. x == cell_of_man (record { colour = g.colour; kind = st.0 }))
+                (at_rest st.1 left right)
+          ]
+        ]
+
+    same_places : places q g ≡ places p g
+    same_places =
+        same_below (λ k. stands q g.colour (slice_get g.states k))
+        (λ k. stands p g.colour (slice_get g.states k))
+        (λ k. same_stand k (slice_get g.states k) refl) (length g.states)
+
+    pub stays : IsWithinCount p g → Shifts p q (cell_of_man man) a b g 0 0
+    stays w =
+        let same = sym (ap length same_places) in
+        record {
+          digit = ap (λ d. d + 0) (ap (digit (length g.states) g.least) same_places);
+          counted = record {
+            least = subst (λ n. g.least ≤ n) same w.least;
+            most = subst (λ n. n ≤ g.most) same w.most;
+          };
+          covered = λ t. absurd cc;
+        }
+
+  -- a group that has the man on both, and no other man
+  module _ (g : GroupLine) (in_order : AreStates g.states) (ka kb : ℕ) (pa : IsPlace g man a ka)
+      (pb : IsPlace g man b kb) (one : g.most ≡ 1) where
+    stands_there : (r : Board) (s k : ℕ) → IsPlace g man s k →
+        slice_index r.cells s ≡ cell_of_man man →
+        stands r g.colour (slice_get g.states k) ≡ true
+    stands_there r s k pl is =
+        ap (stands r g.colour) pl.1
+        ∙ eq-eqb (slice_index r.cells s)
+        (cell_of_man (record { colour = g.colour; kind = man.kind }))
+        (is ∙ ap (λ c. cell_of_man (record { colour = c; kind = man.kind })) (sym pl.0))
+
+    before_is : IsWithinCount p g → places p g ≡ ka ∷ []
+    before_is w =
+        single (λ k. stands p g.colour (slice_get g.states k)) (length g.states) ka
+        (slice_get_within g.states ka (man.kind, a) pa.1) (stands_there p a ka pa h.stood)
+        (omega (arith, w.most, one))
+
+    alone : IsWithinCount p g → (j : ℕ) (o : Option (Kind × ℕ)) → slice_get g.states j ≡ o →
+        j < length g.states → stands q g.colour o ≡ true → j ≡ kb
+    alone w j None e l t = absurd cc
+    alone w j (Some st) e l t =
+        elim (cases_eq st.1 b) [
+          | inl here ↦
+              let same = same_man man (record { colour = g.colour; kind = st.0 })
+              (sym (ap (slice_index q.cells) here ∙ at_to)
+              ∙ eqb-true (slice_index q.cells st.1)
+              (cell_of_man (record { colour = g.colour; kind = st.0 })) t) in
+              let kinds : st.0 ≡ man.kind = ap (λ (m : Man). m.kind) (sym same) in
+              state_once g.states j kb st (man.kind, b) in_order e pb.1
+              (numbers st.0 man.kind st.1 b kinds here)
+          | inr right ↦ elim (cases_eq st.1 a) [
+            | inl here ↦
+                let off = no_man (slice_index q.cells st.1) g.colour st.0
+                (ap (slice_index q.cells) here ∙ at_from) in
+                absurd cc
+            | inr left ↦
+                let on : stands p g.colour (slice_get g.states j) ≡ true =
+                ap (stands p g.colour) e
+                ∙ ap (λ x. x == cell_of_man (record { colour = g.colour; kind = st.0 }))
+                (sym (at_rest st.1 left right)) ∙ t in
+                let same = one_place (λ k. stands p g.colour (slice_get g.states k))
+                (length g.states) j ka l (slice_get_within g.states ka (man.kind, a) pa.1) on
+                (stands_there p a ka pa h.stood) (omega (arith, w.most, one)) in
+                let states = same_Some st (man.kind, a)
+                (sym e ∙ ap (slice_get g.states) same ∙ pa.1) in
+                absurd (left (ap (λ (x : Kind × ℕ). x.1) states))
+          ]
+        ]
+      where
+        numbers : (k l : Kind) (s t : ℕ) → k ≡ l → s ≡ t →
+            state_number (k, s) ≡ state_number (l, t)
+        numbers k l s t e f =
+            ap (λ (x : Kind). state_number (x, s)) e ∙ ap (λ (x : ℕ). state_number (l, x)) f
+
+    after_is : IsWithinCount p g → places q g ≡ kb ∷ []
+    after_is w =
+        only (λ k. stands q g.colour (slice_get g.states k)) (length g.states) kb
+        (slice_get_within g.states kb (man.kind, b) pb.1) (stands_there q b kb pb at_to)
+        (λ j l t. alone w j (slice_get g.states j) refl l t)
+
+    pub moves : IsWithinCount p g → Shifts p q (cell_of_man man) a b g kb ka
+    moves w =
+        let before = before_is w in
+        let after = after_is w in
+        let size_before = ap length before in
+        let size_after = ap length after in
+        record {
+          digit =
+              let dp : digit_of p g ≡ choices (length g.states) g.least (1 - g.least) + (choose ka 1 + 0)
+              = ap (digit (length g.states) g.least) before in
+              let dq : digit_of q g ≡ choices (length g.states) g.least (1 - g.least) + (choose kb 1 + 0)
+              = ap (digit (length g.states) g.least) after in
+              omega (arith, dp, dq, choose-one ka, choose-one kb);
+          counted = record {
+            least = omega (arith, w.least, size_before, size_after);
+            most = omega (arith, w.most, size_before, size_after);
+          };
+          covered = λ _. any_at (is_at g.colour man b) g.states kb (man.kind, b) pb.1
+              (ap (λ c. is_at c man b (man.kind, b)) pb.0 ∙ at_itself man b man.kind refl);
+        }
+
+-- no group yet
+pub shifted_start : (gs : List GroupLine) (p q : Board) (cell a b : ℕ) →
+    Shifted gs p q cell a b 0 0 0
+shifted_start gs p q cell a b =
+    record { counted = λ h. h; sum = omega arith; covered = λ j g l e t. absurd (omega (arith, l)) }
+
+-- one more group
+pub shifted_step : (gs : List GroupLine) (p q : Board) (cell a b i up down more less w : ℕ)
+    (g : GroupLine) → At gs i g w → slice_get gs i ≡ Some g →
+    Shifted gs p q cell a b i up down → Shifts p q cell a b g more less →
+    Shifted gs p q cell a b (i + 1) (up + more * w) (down + less * w)
+shifted_step gs p q cell a b i up down more less w g at here h s =
+    let split_p = ap (digits_of p) at.is in
+    let split_q = ap (digits_of q) at.is in
+    let one_p = ap (λ n. digit_of p g * n) at.weight in
+    let one_q = ap (λ n. digit_of q g * n) at.weight in
+    let moved = ap (λ n. n * w) s.digit in
+    let left = add-mul (digit_of q g) less w in
+    let right = add-mul (digit_of p g) more w in
+    record {
+      counted = λ k. h.counted (subst (AllByRecursion (IsWithinCount q)) (sym at.is) (s.counted, k));
+      sum = omega (arith, split_p, split_q, one_p, one_q, moved, left, right, h.sum);
+      covered = λ j x l e t.
+          elim (cases_eq j i) [
+            | inl same ↦
+                let is : g ≡ x = same_Some g x (sym here ∙ ap (slice_get gs) (sym same) ∙ e) in
+                subst (λ (y : GroupLine). is_state cell b y ≡ true) is
+                (s.covered (subst (λ (y : GroupLine). is_state cell a y ≡ true) (sym is) t))
+            | inr other ↦ h.covered j x (omega (arith, l, other)) e t
+          ];
+    }
+
+-- all groups
+pub shifted_end : (gs : List GroupLine) (p q : Board) (cell a b i up down : ℕ) →
+    length gs ≤ i → Shifted gs p q cell a b i up down →
+    Shifted gs p q cell a b (length gs) up down
+shifted_end gs p q cell a b i up down past h =
+    let e = drop_end gs i past ∙ sym (drop_end gs (length gs) (omega arith)) in
+    let vp = ap (digits_of p) e in
+    let vq = ap (digits_of q) e in
+    record {
+      counted = λ k. h.counted (subst (AllByRecursion (IsWithinCount q)) (sym e) k);
+      sum = omega (arith, vp, vq, h.sum);
+      covered = λ j g l f t. h.covered j g (omega (arith, l, past)) f t;
+    }
+
+-- the position after the step is in the set where it is valid
+pub Member-stepped : (gs : List GroupLine) (p : Board) (man : Man) (a b up down : ℕ) →
+    Member gs p → IsStep p man a b → IsValid (stepped p man a b) →
+    Shifted gs p (stepped p man a b) (cell_of_man man) a b (length gs) up down →
+    Member gs (stepped p man a b)
+Member-stepped gs p man a b up down m h v s = record {
+  valid = v;
+  men = λ x l some.
+      elim (cases_eq x b) [
+        | inl here ↦
+            subst (λ n. has_state gs n x ≡ true)
+            (sym (ap (slice_index (stepped p man a b).cells) here ∙ at_to p man a b h))
+            (subst (λ n. has_state gs (cell_of_man man) n ≡ true) (sym here)
+            (let some_there : slice_index p.cells a ≢ 0 = λ e.
+            let n = cell-some man.colour man.kind in omega (arith, e, h.stood, n) in
+            let before : has_state gs (cell_of_man man) a ≡ true =
+            subst (λ n. has_state gs n a ≡ true) h.stood (m.men a h.from some_there) in
+            let found = any_found (is_state (cell_of_man man) a) gs before in
+            any_at (is_state (cell_of_man man) b) gs found.0 found.1 found.2
+            (s.covered found.0 found.1 (slice_get_within gs found.0 found.1 found.2) found.2
+            found.3)))
+        | inr right ↦ elim (cases_eq x a) [
+          | inl here ↦
+              absurd (some (ap (slice_index (stepped p man a b).cells) here ∙ at_from p man a b h))
+          | inr left ↦
+              let same = at_rest p man a b h x left right in
+              subst (λ n. has_state gs n x ≡ true) (sym same)
+              (m.men x l (λ e. some (same ∙ e)))
+        ]
+      ];
+  counts = s.counted (subst (AllByRecursion (IsWithinCount (stepped p man a b)))
+      (sym (drop_end gs (length gs) (omega arith))) tt);
+}
+
+-- the sums of the digits
+pub sums : (gs : List GroupLine) (p q : Board) (cell a b up down : ℕ) →
+    Shifted gs p q cell a b (length gs) up down →
+    digits_of q gs + down ≡ digits_of p gs + up
+sums gs p q cell a b up down h =
+    let e = drop_end gs (length gs) (omega arith) in
+    let vp = ap (digits_of p) e in
+    let vq = ap (digits_of q) e in
+    omega (arith, vp, vq, h.sum)
+
+-- the number of a position without a target: of White's turn, and of Black's
+pub number_white : (gs : List GroupLine) (p : Board) → p.turn ≡ White → p.ep ≡ None →
+    Num gs p ≡ digits_of p gs
+number_white gs p turn none =
+    let first : turn_number gs p.turn p.ep ≡ 0 = ap (λ c. turn_number gs c p.ep) turn
+    ∙ ap (turn_number gs White) none in
+    let t = ap (λ t. t * product (map radix_of gs)) first in
+    omega (arith, t)
+
+pub number_black : (gs : List GroupLine) (p : Board) → p.turn ≡ Black → p.ep ≡ None →
+    Num gs p ≡ product (map radix_of gs) + digits_of p gs
+number_black gs p turn none =
+    let first : turn_number gs p.turn p.ep ≡ 1 = ap (λ c. turn_number gs c p.ep) turn
+    ∙ ap (turn_number gs Black) none in
+    let t = ap (λ t. t * product (map radix_of gs)) first in
+    omega (arith, t)
+
+-- where the group has the man on the square, the chart has its place
+pub placed : (g : GroupLine) (chart : Chart) (man : Man) (s k n : ℕ) → IsChart g.states chart →
+    s < 64 → is_state (cell_of_man man) s g ≡ true → k ≡ number_of_kind man.kind - 1 → n ≡ s →
+    IsPlace g man s (slice_index chart.cuts (64 * k + n))
+placed g chart man s k n h low t ek en =
+    let found = any_found (is_at g.colour man s) g.states t in
+    let parts = at_parts g.colour man s found.1 found.3 in
+    let numbers = kind_numbers man.kind in
+    let is : found.1 ≡ (man.kind, s) = pair_is found.1 man.kind s parts.1 parts.2 in
+    let number : state_number found.1 ≡ 64 * k + n =
+    ap state_number is ∙ (let e = ek in omega (arith, e, en)) in
+    let x = 64 * k + n in
+    let at = cut_at g.states x (slice_index chart.cuts x) found.0 found.1 h.in_order
+    (h.cuts_are.cut x (omega (arith, ek, en, numbers.1, low))) found.2 number in
+    (parts.0, ap (slice_get g.states) (sym at) ∙ found.2 ∙ ap Some is)
+
+pub shifts_read : (p q : Board) (cell a b : ℕ) (g : GroupLine) (up down more less : ℕ) →
+    up ≡ more → down ≡ less → Shifts p q cell a b g more less → Shifts p q cell a b g up down
+shifts_read p q cell a b g up down more less e f s = record {
+  digit = omega (arith, s.digit, e, f);
+  counted = s.counted;
+  covered = s.covered;
+}
+
+-- what tells the number after a step
+pub record Told (gs : List GroupLine) (p : Board) (man : Man) (a b i up down whole : ℕ) : Type 0 where
+  pub number : HasNumber gs i p
+  pub from : a < 64
+  pub to : b < 64
+  pub stood : man_on p a ≡ Some man
+  pub free : is_empty p b ≡ true
+  pub target : p.ep ≡ None
+  pub valid : IsValid (stepped p man a b)
+  pub whole_is : whole ≡ product (map radix_of gs)
+  pub shifted : AlwaysShifted gs man a b (length gs) up down
+
+module _ (gs : List GroupLine) (p : Board) (man : Man) (a b i up down whole : ℕ)
+    (t : Told gs p man a b i up down whole) where
+  is_step : IsStep p man a b
+  is_step = record {
+    size = t.number.member.valid.fits.size;
+    from = t.from;
+    to = t.to;
+    stood = cell_back (slice_index p.cells a) man.colour man.kind t.stood;
+    free = eqb-true (slice_index p.cells b) 0 t.free;
+  }
+
+  shifted_by : Shifted gs p (stepped p man a b) (cell_of_man man) a b (length gs) up down
+  shifted_by = t.shifted p is_step t.number.member.counts
+
+  after_member : Member gs (stepped p man a b)
+  after_member = Member-stepped gs p man a b up down t.number.member is_step t.valid shifted_by
+
+  pub after_white : p.turn ≡ White →
+      (down ≤ i + up + whole) × HasNumber gs (i + up + whole - down) (stepped p man a b)
+  after_white turn =
+      let before = number_white gs p turn t.target in
+      let after = number_black gs (stepped p man a b) (ap other_of turn) refl in
+      let sum = sums gs p (stepped p man a b) (cell_of_man man) a b up down shifted_by in
+      let there = t.number.number in (
+        omega (arith, before, sum, there, t.whole_is),
+        record {
+          member = after_member;
+          number = omega (arith, before, after, sum, there, t.whole_is);
+        },
+      )
+
+  pub after_black : p.turn ≡ Black →
+      (whole + down ≤ i + up) × HasNumber gs (i + up - whole - down) (stepped p man a b)
+  after_black turn =
+      let before = number_black gs p turn t.target in
+      let after = number_white gs (stepped p man a b) (ap other_of turn) refl in
+      let sum = sums gs p (stepped p man a b) (cell_of_man man) a b up down shifted_by in
+      let there = t.number.number in (
+        omega (arith, before, sum, there, t.whole_is),
+        record {
+          member = after_member;
+          number = omega (arith, before, after, sum, there, t.whole_is);
+        },
+      )
+
+-- the position after a quiet move
+quiet_kind : (p : Board) (c : Colour) (k : Kind) (a b : ℕ) → is_pawn k ≡ false →
+    after_man p (Some (record { colour = c; kind = k })) (record { from = a; to = b; promo = None })
+    ≡ stepped p (record { colour = c; kind = k }) a b
+quiet_kind p c King a b e = refl
+quiet_kind p c Queen a b e = refl
+quiet_kind p c Rook a b e = refl
+quiet_kind p c Bishop a b e = refl
+quiet_kind p c Knight a b e = refl
+quiet_kind p c Pawn a b e = cc
+
+pub after_quiet : (p : Board) (m : Step) (man : Man) → IsQuiet p m man →
+    after p m ≡ stepped p man m.from m.to
+after_quiet p m man h =
+    ap (λ o. after_man p o m) h.man_is
+    ∙ ap (λ (o : Option Kind). let s : Step = record { from = m.from; to = m.to; promo = o } in
+    after_man p (Some man) s) h.promo
+    ∙ quiet_kind p man.colour man.kind m.from m.to h.piece

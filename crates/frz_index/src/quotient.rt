@@ -1,0 +1,24 @@
+//! Quotients and what is left over, without a division where the divisor is a power of two.
+ghost use Rattle.std.specs.Prelude.{◌≡◌, ◌<◌, ◌/◌, ◌%◌};
+
+/// The quotient. What a shift gives is looked at by a multiplication.
+pub(crate) fn quotient(n: u32, d: u32) -> u32
+    requires { 0 < d }
+    ensures { result ≡ n / d }
+{
+    let guess = n >> d.trailing_zeros().min(31);
+    let back = u64::from(guess) * u64::from(d);
+    let whole = u64::from(n);
+    if back <= whole && whole - back < u64::from(d) {
+        return guess;
+    }
+    n / d
+}
+
+/// What is left over.
+pub(crate) fn left_over(n: u32, d: u32) -> u32
+    requires { 0 < d }
+    ensures { result ≡ n % d }
+{
+    n - quotient(n, d) * d
+}

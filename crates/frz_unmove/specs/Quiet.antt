@@ -1,0 +1,28 @@
+-- A move taken back that took nothing and is no pawn's.
+use Rattle.std.specs.Prelude.{ℕ, ◌≡◌, ◌<◌, true, false, Option, None, Some, slice_set}
+use Rattle.frz_board.specs.declared.man.Kind.TheVariants.{King}
+use Rattle.frz_board.specs.Attacks.{is_in_check}
+use Rattle.frz_unmove.specs.declared.quiet.Ready.{Ready}
+use Rattle.frz_board.specs.declared.man.Man.{Man}
+use Rattle.frz_board.specs.Boards.{Board, has, holds, is_empty, man_on}
+use Rattle.frz_board.specs.Men.{is_pawn, other_of}
+use Rattle.frz_board.specs.Moving.{Step}
+
+-- this man has moved, no pawn; it took nothing, and there was no target, nor is there one
+pub record IsQuietBack (q : Board) (m : Step) (taken : ℕ) (target : Option ℕ) (man : Man) : Type 0 where
+  pub none_taken : taken ≡ 0
+  pub no_target : target ≡ None
+  pub no_later : q.ep ≡ None
+  pub promo : m.promo ≡ None
+  pub free : is_empty q m.from ≡ true
+  pub own : holds q (other_of q.turn) m.to ≡ true
+  pub man_is : man_on q m.to ≡ Some man
+  pub piece : is_pawn man.kind ≡ false
+
+-- the board without the man on the square, where the king of the side to move is not attacked, and
+-- that king's square
+pub record IsReady (q : Board) (to : ℕ) (ready : Ready) : Type 0 where
+  pub bare_is : ready.bare ≡ record q { cells = slice_set q.cells to 0 }
+  pub safe : is_in_check ready.bare q.turn ≡ false
+  pub on_board : ready.king < 64
+  pub king_is : has q q.turn King ready.king ≡ true
