@@ -84,6 +84,8 @@ pub use Rattle.frz_arena.proofs.Exactness.ExactFailures.{
   exact_hold,
   exact_failure_plies,
   exact_failure_least,
+  fails_forced,
+  fails_forced_within,
   forced_fails_in,
 }
 pub use Rattle.frz_arena.proofs.Comparing.Agreeing.{true_wins, true_holds, no_contradiction}

@@ -62,6 +62,18 @@ LossesAreKnown {P} game side =
     (q : P) → IsExit game q →
     (game.class (game.value q) side ≡ Bad) ↔ CanForceMate game.chess (other_of side) q
 
+-- each value that is bad for the side just outside the set is a true win of its opponent
+abbrev pub TrueLosses : {P M V : Type 0} → Game P M V → Colour → Type 0
+TrueLosses {P} game side =
+    (q : P) → IsExit game q → game.class (game.value q) side ≡ Bad
+    → CanForceMate game.chess (other_of side) q
+
+-- within at most so many plies
+abbrev pub LossesWithin : {P M V : Type 0} → Game P M V → Colour → ℕ → Type 0
+LossesWithin {P} game side most =
+    (q : P) → IsExit game q → game.class (game.value q) side ≡ Bad
+    → ForcesMate game.chess (other_of side) most q
+
 -- no value just outside the set is bad for the side
 abbrev pub NoneIsBad : {P M V : Type 0} → Game P M V → Colour → Type 0
 NoneIsBad {P} game side = (q : P) → IsExit game q → game.class (game.value q) side ≡ Bad → ⊥

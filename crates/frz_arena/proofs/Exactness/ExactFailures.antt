@@ -1,5 +1,5 @@
 -- Where a side moves freely and its losses outside are known, what it fails the opponent forces.
-use Rattle.std.proofs.Common.{◌≡◌, ◌≢◌, ◌↔◌, ℕ, zero, suc, inl, inr, true, [], refl, sym, subst, ap, ◌∙◌}
+use Rattle.std.proofs.Common.{◌≡◌, ◌≢◌, ◌≤◌, ◌+◌, ◌↔◌, ℕ, zero, suc, inl, inr, true, [], refl, sym, subst, ap, ◌∙◌, arith}
 use Rattle.std.specs.List.{Contains}
 use Rattle.frz_board.specs.declared.man.Colour.{Colour}
 use Rattle.frz_board.specs.Men.{other_of}
@@ -15,7 +15,7 @@ use Rattle.frz_arena.specs.Plies.{LeadsTo, IsBadExit, FailsWithin}
 use Rattle.frz_arena.specs.Chess.{Forces, ForcesMate, mate_alone}
 use Rattle.frz_arena.specs.Exits.{IsExit}
 use Rattle.frz_arena.specs.Games.{Game, arm_of, arena_of}
-use Rattle.frz_arena.specs.WholeTruth.{CanForceMate, MatesIn, IsDead, MovesFreely, TrueHolds, WinsAreKnown, LossesAreKnown, NoneIsBad, IsFailure}
+use Rattle.frz_arena.specs.WholeTruth.{CanForceMate, MatesIn, IsDead, MovesFreely, TrueHolds, WinsAreKnown, LossesAreKnown, TrueLosses, LossesWithin, NoneIsBad, IsFailure}
 use Rattle.frz_arena.proofs.Lists.Members.{passes_or_none}
 use Rattle.frz_arena.proofs.Plies.NeverBoth.{never_both}
 use Rattle.frz_arena.proofs.Plies.Opposed.{fails_at_once}
@@ -129,10 +129,10 @@ module _ {P M V : Type 0} (game : Game P M V) (side : Colour) (free : MovesFreel
       (f.2 (arm_of game p m) (arm_at game p m i) (free p m g.0 g.2 i)))
 
 module _ {P M V : Type 0} (game : Game P M V) (side : Colour) (free : MovesFreely game side) where
-  -- what the side fails the opponent forces, where the losses outside are known
-  pub fails_forced : LossesAreKnown game side → (n : ℕ) (p : P) →
+  -- what the side fails the opponent forces, where its losses outside are true
+  pub fails_forced : TrueLosses game side → (n : ℕ) (p : P) →
       FailsWithin (arena_of game) side n p → CanForceMate game.chess (other_of side) p
-  fails_forced known =
+  fails_forced losses =
       holds_of_failure game side free
       (λ n p. (k : ℕ) × Forces game.chess mate_alone (other_of side) k p) (record {
         lost = λ p f. (0, f);
@@ -145,7 +145,26 @@ module _ {P M V : Type 0} (game : Game P M V) (side : Colour) (free : MovesFreel
             (game.chess.play p m) l g)
             (game.chess.moves p) f in
             (suc k.0, inr (inr (inr (t ∙ sym (other_other side), some, k.1)))));
-        exits = λ n q x e. (known q x).0 e;
+        exits = λ n q x e. losses q x e;
+      })
+
+  -- within some plies more, where these take at most so many
+  pub fails_forced_within : (most : ℕ) → LossesWithin game side most → (n : ℕ) (p : P) →
+      FailsWithin (arena_of game) side n p → ForcesMate game.chess (other_of side) (n + most) p
+  fails_forced_within most losses =
+      let F : ℕ → P → Type 0 = λ n p. ForcesMate game.chess (other_of side) (n + most) p in
+      let later : (k n : ℕ) (p : P) → k ≤ n → ForcesMate game.chess (other_of side) k p →
+      ForcesMate game.chess (other_of side) n p =
+      forces_later game.chess mate_alone (other_of side) in
+      let up : (n : ℕ) (p : P) → ForcesMate game.chess (other_of side) (suc (n + most)) p →
+      F (suc n) p =
+      λ n p f. later (suc (n + most)) (suc n + most) p (omega arith) f in
+      holds_of_failure game side free F (record {
+        lost = λ p f. later 0 (0 + most) p (omega arith) f;
+        later = λ n p f. up n p (inl f);
+        theirs = λ n p m t i f. up n p (inr (inr (inl (t, (m, i, f)))));
+        ours = λ n p t some f. up n p (inr (inr (inr (t ∙ sym (other_other side), some, f))));
+        exits = λ n q x e. later most (n + most) q (omega arith) (losses q x e);
       })
 
   -- within as many plies, where none is bad outside
@@ -170,7 +189,7 @@ module _ {P M V : Type 0} (game : Game P M V) (side : Colour) (free : MovesFreel
   pub exact_failure : LossesAreKnown game side → (p : P) (b : Bound) → game.member p ≡ true →
       IsBound (arena_of game) side p b → IsFailure b ↔ CanForceMate game.chess (other_of side) p
   exact_failure known p b here h = (
-    λ w. fails_forced known w.0 p
+    λ w. fails_forced (λ q x. (known q x).0) w.0 p
         (subst (λ (x : Bound). IsBound (arena_of game) side p x) w.1 h).0,
     λ f. failure_of_bound p f.0
         (forced_fails_in game side (λ q x k. (known q x).1 k) f.0 p here f.1) b h,
@@ -188,7 +207,7 @@ module _ {P M V : Type 0} (game : Game P M V) (side : Colour) (free : MovesFreel
     λ d. (
       λ n w. (let f = true_wins_mate game side (λ q x g. (wins q x).0 g) n p w in
           d.no_win f.0 f.1),
-      λ n w. (let f = fails_forced losses n p w in d.no_loss f.0 f.1),
+      λ n w. (let f = fails_forced (λ q x. (losses q x).0) n p w in d.no_loss f.0 f.1),
     ),
   )
 

@@ -1,11 +1,10 @@
 -- What holds of an arena holds of it with its plies counted.
-use Rattle.std.proofs.Common.{◌≡◌, ◌≢◌, ℕ, suc, inl, inr, Bool, true, false, List, [], ◌∷◌, Option, None, Some, map, filter, refl, sym, subst, ap, ◌∙◌}
+use Rattle.std.proofs.Common.{◌≡◌, ℕ, suc, inl, inr, false, List, [], ◌∷◌, Some, map, filter, refl, sym, subst, ap, ◌∙◌}
 use Rattle.std.specs.Prelude.{slice_get, slice_index, ⊤}
 use Rattle.std.specs.List.{Contains}
-use Rattle.std.proofs.lemmas.Option.{slice_get-map}
 use Rattle.frz_board.specs.declared.man.Colour.{Colour}
 use Rattle.frz_board.specs.Men.{other_of}
-use Rattle.frz_arena.specs.declared.node.Node.TheVariants.{Broken, Going}
+use Rattle.frz_arena.specs.declared.node.Node.TheVariants.{Broken}
 use Rattle.frz_arena.specs.declared.arm.Arm.{Arm}
 use Rattle.frz_arena.specs.declared.arm.Next.{Next}
 use Rattle.frz_arena.specs.declared.arm.Next.TheVariants.{Inside, Outside}
@@ -13,10 +12,10 @@ use Rattle.frz_arena.specs.Arena.{Arena, IsLawful}
 use Rattle.frz_arena.specs.Chess.{Forces, mate_alone}
 use Rattle.frz_arena.specs.Codes.{is_failure}
 use Rattle.frz_arena.specs.Counted.{after, counted, reader}
-use Rattle.frz_arena.specs.Exits.{IsExit, TrueExits}
-use Rattle.frz_arena.specs.Games.{Game, arm_of, arena_of}
+use Rattle.frz_arena.specs.Exits.{TrueExits}
+use Rattle.frz_arena.specs.Games.{Game, arena_of}
 use Rattle.frz_arena.specs.LocalCodes.{arm_code, next_code, local_code, codes_of, node_code, MeetsEquations}
-use Rattle.frz_arena.specs.Names.{Numbering, IsNumbering, named_next, named, node_at, numbers_of, name_in}
+use Rattle.frz_arena.specs.Names.{Numbering, IsNumbering, named_next, named, numbers_of}
 use Rattle.frz_arena.specs.Plies.{LeadsTo}
 use Rattle.frz_arena.specs.Tables.{IsTable}
 use Rattle.frz_arena.specs.Turns.{IsClosed, Alternates}

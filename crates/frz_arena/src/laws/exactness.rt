@@ -11,7 +11,7 @@ ghost use Rattle.frz_arena.specs.declared.class.Class.TheVariants.{Good, Bad};
 ghost use Rattle.frz_arena.specs.Exits.{TrueExits};
 ghost use Rattle.frz_arena.specs.Games.{Game, arena_of};
 ghost use Rattle.frz_arena.specs.Plies.{WinsWithin, FailsWithin};
-ghost use Rattle.frz_arena.specs.WholeTruth.{CanForceMate, MatesIn, IsDead, MovesFreely, TrueHolds, WinsAreKnown, WinsAreCounted, LossesAreKnown, NoneIsBad, IsDecided, IsWin, IsFailure, WinsWithinMore};
+ghost use Rattle.frz_arena.specs.WholeTruth.{CanForceMate, MatesIn, IsDead, MovesFreely, TrueHolds, WinsAreKnown, WinsAreCounted, LossesAreKnown, TrueLosses, LossesWithin, NoneIsBad, IsDecided, IsWin, IsFailure, WinsWithinMore};
 
 /// Where a side moves freely, and what it wins and loses just outside the set is known, its bound
 /// at a position of the set is a win exactly where it forces mate in chess, a failure exactly where
@@ -64,6 +64,19 @@ pub fn known_outside<P, M, V>()
     ensures none_won { (game : Game P M V) → TrueExits game → (side : Colour) →
         ((v : V) (c : Colour) → game.class v c ≡ Good → game.class v (other_of c) ≡ Bad) →
         NoneIsBad game (other_of side) → WinsAreCounted game side }
+{}
+
+/// Where a side moves freely, and each value that is bad for it just outside the set is a true win of
+/// its opponent, a failure of the side is a win of its opponent in chess. Where each of these wins
+/// takes at most so many plies, it takes the plies of the failure and so many.
+pub fn failures_are_lost<P, M, V>()
+    ensures lost { (game : Game P M V) (side : Colour) → MovesFreely game side →
+        TrueLosses game side → (n : ℕ) (p : P) → FailsWithin (arena_of game) side n p →
+        CanForceMate game.chess (other_of side) p }
+    ensures within { (game : Game P M V) (side : Colour) → MovesFreely game side →
+        (most : ℕ) → LossesWithin game side most →
+        (n : ℕ) (p : P) → FailsWithin (arena_of game) side n p →
+        ForcesMate game.chess (other_of side) (n + most) p }
 {}
 
 /// Where each win just outside the set takes at most so many plies more than its value says, so
