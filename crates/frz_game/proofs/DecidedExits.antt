@@ -48,7 +48,7 @@ lost_to WhiteHolds side d s = absurd (cc)
 lost_to BlackHolds side d s = absurd (cc)
 lost_to Unknown side d s = absurd (cc)
 
-decided_game : (rules : RuleLines) (value : Board → Value) → AreDecidedOutside rules value →
+pub decided_game : (rules : RuleLines) (value : Board → Value) → AreDecidedOutside rules value →
     IsDecided (game_of rules value)
 decided_game rules value decided = record {
   safe = λ q x side s. held_both (value q) side (decided q x) s;

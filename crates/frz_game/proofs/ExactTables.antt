@@ -27,7 +27,7 @@ use Rattle.frz_game.specs.ExactTables.{HasNoForbid, HasExactOutcomes, IsExactInC
 use Rattle.frz_game.specs.Games.{chess, game_of, arena_by}
 use Rattle.frz_game.specs.MenAlone.{IsDrawnOutside}
 use Rattle.frz_game.proofs.Bounded.{stored_bound}
-use Rattle.frz_game.proofs.MenAlone.{exit_valid, dead_never}
+use Rattle.frz_game.proofs.DrawnOutside.{wins_counted, not_bad, holds_true, wins_known, losses_known}
 
 none_here : (a b r f : Bool) → (a || r) ≡ false → (r ≡ false → f ≡ false) →
     ((a && b) || f) ≡ false
@@ -132,40 +132,10 @@ module _ (rules : RuleLines) (value : Board → Value) (side : Colour) (codes : 
     }
 
     -- where each way out of the set is drawn by the men
-    module _ (drawn : IsDrawnOutside rules value) where
-      class_there : (q : Board) → IsExit (game_of rules value) q → class_of (value q) side ≡ Safe
-      class_there q x = ap (λ (v : Value). class_of v side) (drawn q x).0
-
-      never_there : (q : Board) → IsExit (game_of rules value) q → (c : Colour) →
-          NeverForcesMate chess c q
-      never_there q x c = dead_never q (exit_valid rules value q x) (drawn q x).1 c
-
-      not_good : (q : Board) → IsExit (game_of rules value) q → class_of (value q) side ≡ Good → ⊥
-      not_good q x g = let s = class_there q x in cc
-
-      not_bad : NoneIsBad (game_of rules value) side
-      not_bad q x g = let s = class_there q x in cc
-
-      wins_counted : WinsAreCounted (game_of rules value) side
-      wins_counted q x n =
-          (λ g. absurd (not_good q x g.0), λ f. absurd (never_there q x side n f))
-
-      wins_known : WinsAreKnown (game_of rules value) side
-      wins_known q x = (
-        λ g. absurd (not_good q x g),
-        λ f. absurd (never_there q x side f.0 f.1),
-      )
-
-      losses_known : LossesAreKnown (game_of rules value) side
-      losses_known q x = (
-        λ g. absurd (not_bad q x g),
-        λ f. absurd (never_there q x (other_of side) f.0 f.1),
-      )
-
-      pub exact_where_drawn : IsExactInChess rules side codes
-      exact_where_drawn = record {
-        win = exact_wins wins_counted;
-        failure = exact_failures not_bad
-            (λ q x f. absurd (never_there q x (other_of side) f.0 f.1));
-        hold = exact_holds wins_known losses_known;
-      }
+    pub exact_where_drawn : IsDrawnOutside rules value → IsExactInChess rules side codes
+    exact_where_drawn drawn = record {
+      win = exact_wins (wins_counted rules value side drawn);
+      failure = exact_failures (not_bad rules value side drawn)
+          (holds_true rules value side drawn);
+      hold = exact_holds (wins_known rules value side drawn) (losses_known rules value side drawn);
+    }

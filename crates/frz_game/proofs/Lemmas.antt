@@ -14,6 +14,8 @@ pub use Rattle.frz_game.proofs.Graph.{lawful, graph_lawful, finite, arms_there}
 pub use Rattle.frz_game.proofs.TrueValues.{true_exits}
 pub use Rattle.frz_game.proofs.Meaning.{bound_means, wins_alone, code_means, table_means}
 pub use Rattle.frz_game.proofs.MenAlone.{bare_never, dead_never, exit_valid, exits_by_men}
+pub use Rattle.frz_game.proofs.ExactBounds.{bound_exactly, table_exactly}
+pub use Rattle.frz_game.proofs.DrawnOutside.{drawn_true}
 pub use Rattle.frz_game.proofs.ExactTables.{moves_freely, win_code, exact_wins, exact_outcomes, exact_where_drawn}
 pub use Rattle.frz_game.proofs.TextsByMen.{text_by_men, drawn_text}
 pub use Rattle.frz_game.proofs.WholeSets.{whole_set_drawn}

@@ -8,8 +8,10 @@ mod DifferentArms
 mod NoExits
 mod Meaning
 mod MenAlone
+mod DrawnOutside
 mod ExactTables
 mod DecidedExits
+mod ExactBounds
 mod TextsByMen
 mod WholeSets
 mod KingAndRook

@@ -8,10 +8,12 @@ use Rattle.frz_sets.specs.declared.exit.Value.{Value}
 use Rattle.frz_sets.specs.declared.exit.Value.TheVariants.{WhiteWins, BlackWins, Draw, WhiteHolds, BlackHolds, Unknown, WhiteWinsIn, BlackWinsIn}
 use Rattle.frz_sets.specs.Views.{RuleLines}
 use Rattle.frz_index.specs.Members.{Member, Num}
+use Rattle.frz_arena.specs.declared.class.Class.TheVariants.{Good, Bad}
 use Rattle.frz_arena.specs.declared.bound.Bound.TheVariants.{Wins, Holds, Fails}
 use Rattle.frz_arena.specs.Codes.{code_of, is_win, is_failure}
 use Rattle.frz_arena.specs.WholeTruth.{CanForceMate, MatesIn, IsDead}
 use Rattle.frz_arena.specs.Exits.{IsExit}
+use Rattle.frz_exits.specs.Values.{class_of}
 use Rattle.frz_game.specs.Games.{chess, game_of}
 
 -- the rules forbid the side no move
@@ -33,6 +35,12 @@ is_decided Unknown = false
 abbrev pub AreDecidedOutside : RuleLines → (Board → Value) → Type 0
 AreDecidedOutside rules value =
     (q : Board) → IsExit (game_of rules value) q → is_decided (value q) ≡ true
+
+-- each value that is bad for the side one legal move outside the set is a win of its opponent
+abbrev pub IsLostOutside : RuleLines → (Board → Value) → Colour → Type 0
+IsLostOutside rules value side =
+    (q : Board) → IsExit (game_of rules value) q → class_of (value q) side ≡ Bad →
+    class_of (value q) (other_of side) ≡ Good
 
 -- the outcomes of the table are those of chess: the code of a position is a win exactly where the
 -- side forces mate, a failure exactly where its opponent does, and a hold exactly where neither does

@@ -6,6 +6,7 @@ pub mod Bounds
 pub mod Meaning
 pub mod MenAlone
 pub mod ExactTables
+pub mod ExactBounds
 pub mod TextsByMen
 pub mod WholeSets
 pub mod KingAndRook

@@ -6,13 +6,15 @@ ghost use Rattle.frz_board.specs.Boards.{Board};
 ghost use Rattle.frz_sets.specs.declared.exit.Value.{Value};
 ghost use Rattle.frz_sets.specs.Views.{RuleLines};
 ghost use Rattle.frz_index.specs.Members.{Member, Num};
+ghost use Rattle.frz_arena.specs.declared.bound.Bound.{Bound};
 ghost use Rattle.frz_arena.specs.declared.bound.Bound.TheVariants.{Wins};
 ghost use Rattle.frz_arena.specs.Codes.{code_of};
 ghost use Rattle.frz_arena.specs.WholeTruth.{MatesIn, WinsAreKnown, WinsAreCounted, LossesAreKnown};
 ghost use Rattle.frz_exits.specs.Books.{value_by};
-ghost use Rattle.frz_game.specs.Bounds.{IsTableOf};
+ghost use Rattle.frz_game.specs.Bounds.{IsBoundAt, IsTableOf};
 ghost use Rattle.frz_game.specs.KingAndRook.{king_and_rook as rook};
 ghost use Rattle.frz_game.specs.ExactTables.{HasNoForbid, AreDecidedOutside, HasExactOutcomes, IsExactInChess};
+ghost use Rattle.frz_game.specs.ExactBounds.{IsExactWhereFree, TableIsExactWhereFree};
 ghost use Rattle.frz_game.specs.Games.{chess, game_of};
 ghost use Rattle.frz_game.specs.MenAlone.{IsDrawnOutside};
 ghost use Rattle.frz_game.specs.Values.{AreTrueExits};
@@ -39,6 +41,16 @@ pub fn exact_tables()
     ensures drawn { (rules : RuleLines) (value : Board → Value) (side : Colour) (codes : List ℕ) →
         IsTableOf rules value side codes → HasNoForbid rules side → IsDrawnOutside rules value →
         IsExactInChess rules side codes }
+{}
+
+/// What the bounds and the table of a side say of chess, both ways, where no line forbids the side a
+/// move.
+pub fn exact_where_free()
+    ensures bound { (rules : RuleLines) (value : Board → Value) (side : Colour) (p : Board)
+        (b : Bound) → Member rules.groups p → IsBoundAt rules value side p b →
+        IsExactWhereFree rules value side p b }
+    ensures table { (rules : RuleLines) (value : Board → Value) (side : Colour) (codes : List ℕ) →
+        IsTableOf rules value side codes → TableIsExactWhereFree rules value side codes }
 {}
 
 /// The table of king and rook against king is exact in chess, for both sides.
