@@ -13,5 +13,6 @@ mod ExactTables
 mod DecidedExits
 mod ExactBounds
 mod TextsByMen
+mod MenCounted
 mod WholeSets
 mod KingAndRook

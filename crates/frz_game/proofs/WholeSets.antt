@@ -5,7 +5,7 @@ use Rattle.std.specs.List.{Contains, AllByRecursion, list_any, list_all, range_w
 use Rattle.std.proofs.lemmas.Bool.{eqb-true, eq-eqb, cases_Bool, cases_lt, and_parts, and_from}
 use Rattle.std.proofs.lemmas.Bool.Decides.{nat_tests}
 use Rattle.std.proofs.lemmas.List.FromFn.{length-map-range_with_len, get_or-map-range_with_len}
-use Rattle.std.proofs.lemmas.List.Sums.{sum_by-cons, sum_by-append}
+use Rattle.std.proofs.lemmas.List.Elements.{Contains-append_left, Contains-append_right, Contains-append_cases}
 use Rattle.std.proofs.lemmas.Option.{slice_get-get_or}
 use Rattle.frz_board.specs.declared.man.Colour.{Colour}
 use Rattle.frz_board.specs.declared.man.Colour.TheVariants.{White, Black}
@@ -32,12 +32,13 @@ use Rattle.frz_index.proofs.Lemmas.{member_of, of_member}
 use Rattle.frz_arena.specs.Exits.{IsExit}
 use Rattle.frz_arena.proofs.Lemmas.{none_in_empty, in_cases, from_mapped}
 use Rattle.frz_exits.specs.Books.{value_by, first_value}
-use Rattle.frz_exits.specs.Conditions.{conditions_hold}
+use Rattle.frz_exits.specs.Conditions.{condition_holds, conditions_hold}
 use Rattle.frz_game.specs.Games.{game_of}
 use Rattle.frz_game.specs.MenAlone.{IsDrawnOutside}
 use Rattle.frz_game.specs.TextsByMen.{leave_dead, is_draw, are_drawn_by_men}
-use Rattle.frz_game.specs.WholeSets.{everywhere, IsWholeGroup, IsClosed, by_king, by_line, IsWholeSet}
+use Rattle.frz_game.specs.WholeSets.{everywhere, each_everywhere, IsWholeGroup, IsClosed, AsksAtMost, by_king, by_none, by_line, IsWholeSet}
 use Rattle.frz_game.proofs.MenAlone.{exit_valid}
+use Rattle.frz_game.proofs.MenCounted.{count_each, places_of}
 use Rattle.frz_game.proofs.TextsByMen.{or_first, or_second, draw_is, drawn_text}
 
 -- lists
@@ -100,75 +101,69 @@ all_by : {X : Type 0} (P : X → Type 0) (xs : List X) → ((x : X) → Contains
 all_by P [] h = tt
 all_by P (x ∷ xs) h = (h x (first_there x xs), all_by P xs (λ y i. h y (later_there x xs y i)))
 
--- places and counts
-range_more : (a n : ℕ) → range_with_len a (suc n) ≡ range_with_len a n ++ (a + n) ∷ []
-range_more a zero = ap (λ (k : ℕ). k ∷ []) (omega arith)
-range_more a (suc n) =
-    ap (λ (l : List ℕ). a ∷ l) (range_more (a + 1) n)
-    ∙ ap (λ (k : ℕ). a ∷ (range_with_len (a + 1) n ++ k ∷ [])) (omega arith)
-
-abbrev number : Bool → ℕ
-number b = cond b 1 0
-
-place_more : (f : ℕ → Bool) (n : ℕ) (b : Bool) → f n ≡ b →
-    length (places_below f (suc n)) ≡ length (places_below f n) + number b
-place_more f n true e = rw e (omega arith)
-place_more f n false e = rw e (omega arith)
-
-places_count : (f t : ℕ → Bool) (n : ℕ) → ((j : ℕ) → j < n → f j ≡ t j) →
-    length (places_below f n) ≡ count_by t (range_with_len 0 n)
-places_count f t zero same = refl
-places_count f t (suc n) same =
-    let more = ap (count_by t) (range_more 0 n) in
-    let split = sum_by-append (λ j. cond (t j) 1 0) (range_with_len 0 n) ((0 + n) ∷ []) in
-    let last = sum_by-cons (λ j. cond (t j) 1 0) (0 + n) [] in
-    let at : 0 + n ≡ n = omega arith in
-    let there : number (t (0 + n)) ≡ number (t n) = ap (λ j. number (t j)) at in
-    let before = places_count f t n (λ j h. same j (omega arith)) in
-    let here = place_more f n (t n) (same n (omega arith)) in
-    omega (arith, more, split, last, there, before, here)
-
-abbrev state_of : Kind → ℕ → Kind × ℕ
-state_of k s = (k, s)
-
-state_there : (k : Kind) (j : ℕ) → j < 64 → slice_get (everywhere k) j ≡ Some (k, j)
-unfolding squares
-state_there k j h =
-    let long = length-map-range_with_len (state_of k) 0 64 in
-    slice_get-get_or (everywhere k) j (k, 0) (omega (arith, long))
-    ∙ ap (λ (state : Kind × ℕ). Some state)
-    (get_or-map-range_with_len (state_of k) 0 64 j j (k, 0) (omega (arith, long)) (omega arith))
-
-length-everywhere : (k : Kind) → length (everywhere k) ≡ 64
-unfolding squares
-length-everywhere k = length-map-range_with_len (state_of k) 0 64
-
-count_squares : (q : Board) (c : Colour) (k : Kind) → length q.cells ≡ 64 →
-    count_by (λ s. has q c k s) (range_with_len 0 64) ≡ count_of q c k
-unfolding squares
-count_squares q c k h =
-    count_by_squares (λ x. x == cell_of_man (record { colour = c; kind = k })) q.cells h
-
-pub places_of : (q : Board) (g : GroupLine) (k : Kind) → length q.cells ≡ 64 →
-    g.states ≡ everywhere k → length (places q g) ≡ count_of q g.colour k
-places_of q g k size e =
-    ap (λ (states : List (Kind × ℕ)). length (places_among q g.colour states (length states))) e
-    ∙ ap (λ n. length (places_among q g.colour (everywhere k) n)) (length-everywhere k)
-    ∙ places_count (λ j. stands q g.colour (slice_get (everywhere k) j)) (λ j. has q g.colour k j)
-    64 (λ j h. ap (stands q g.colour) (state_there k j h))
-    ∙ count_squares q g.colour k size
-
 square_in : (s : ℕ) → s < 64 → Contains squares s
 unfolding squares
 square_in s h = number_in 0 64 s (omega arith) (omega arith)
 
+-- the states of kinds on every square
+kind_in : (kinds : List Kind) (st : Kind × ℕ) → Contains (each_everywhere kinds) st →
+    Contains kinds st.0
+kind_in [] st h = absurd (none_in_empty st h)
+kind_in (k ∷ kinds) st h =
+    elim (Contains-append_cases (everywhere k) (each_everywhere kinds) st h) [
+      | inl i ↦ (let on = from_mapped (λ (z : ℕ). (k, z)) squares st i in
+          subst (λ (j : Kind). Contains (k ∷ kinds) j) (ap (λ (z : Kind × ℕ). z.0) on.2)
+          (first_there k kinds))
+      | inr i ↦ later_there k kinds st.0 (kind_in kinds st i)
+    ]
+
+state_in : (kinds : List Kind) (k : Kind) (s : ℕ) → Contains kinds k → s < 64 →
+    Contains (each_everywhere kinds) (k, s)
+state_in [] k s h ls = absurd (none_in_empty k h)
+state_in (j ∷ kinds) k s h ls =
+    elim (in_cases j kinds k h) [
+      | inl same ↦ subst (λ (i : Kind). Contains (each_everywhere (j ∷ kinds)) (i, s)) same
+          (Contains-append_left (everywhere j) (each_everywhere kinds) (j, s)
+          (mapped_there (λ (z : ℕ). (j, z)) squares s (square_in s ls)))
+      | inr i ↦ Contains-append_right (everywhere j) (each_everywhere kinds) (k, s)
+          (state_in kinds k s i ls)
+    ]
+
+-- a side has no more men of one kind than of several
+one_of_each : (q : Board) (c : Colour) (kinds : List Kind) (k : Kind) → Contains kinds k →
+    count_of q c k ≤ count_each q c kinds
+one_of_each q c [] k h = absurd (none_in_empty k h)
+one_of_each q c (j ∷ kinds) k h =
+    elim (in_cases j kinds k h) [
+      | inl same ↦ (let e = ap (λ (i : Kind). count_of q c i) same in omega arith)
+      | inr i ↦ (let l = one_of_each q c kinds k i in omega arith)
+    ]
+
+-- where no side has more men of a kind, none has more of several
+each_falls : (q p : Board) (c : Colour) → ((k : Kind) → count_of q c k ≤ count_of p c k) →
+    (kinds : List Kind) → count_each q c kinds ≤ count_each p c kinds
+each_falls q p c falls [] = omega arith
+each_falls q p c falls (k ∷ kinds) =
+    let a = falls k in let b = each_falls q p c falls kinds in omega arith
+
 le_test : (m n : ℕ) → m ≤ n → nat_le m n ≡ true
 le_test m n h = grind (arith, nat_tests)
 
-line_holds : (n most : ℕ) → n ≤ most → ((nat_le 0 n && nat_le n most) && true) ≡ true
-line_holds n most h =
-    and_from (nat_le 0 n && nat_le n most) true
-    (and_from (nat_le 0 n) (nat_le n most) (le_test 0 n (omega arith)) (le_test n most h)) refl
+count_holds : (n most : ℕ) → n ≤ most → (nat_le 0 n && nat_le n most) ≡ true
+count_holds n most h =
+    and_from (nat_le 0 n) (nat_le n most) (le_test 0 n (omega arith)) (le_test n most h)
+
+-- conditions that each ask for at most so many men hold where no more stand
+line_holds : (q : Board) (c : Colour) (kinds : List Kind) (most : ℕ) →
+    count_each q c kinds ≤ most → (conds : List Condition) →
+    AllByRecursion (AsksAtMost c kinds most) conds → conditions_hold q conds ≡ true
+line_holds q c kinds most few [] all = refl
+line_holds q c kinds most few (cond ∷ conds) all =
+    let k = all.0.0 in
+    let less = one_of_each q c kinds k all.0.1 in
+    and_from (condition_holds q cond) (conditions_hold q conds)
+    (ap (condition_holds q) all.0.2 ∙ count_holds (count_of q c k) most (omega arith))
+    (line_holds q c kinds most few conds all.1)
 
 -- the man of a cell
 man_at : (x : ℕ) → x ≢ 0 → x < 13 →
@@ -226,9 +221,9 @@ module _ (rules : RuleLines) (w : IsWholeSet rules) (value : Board → Value) (q
     (x : IsExit (game_of rules value) q) where
   -- what is said of a group
   at_group : (g : GroupLine) → Contains rules.groups g →
-      (whole : IsWholeGroup g) × IsClosed rules.exits g whole.kind
+      (whole : IsWholeGroup g) × IsClosed rules.exits g whole.kinds
   at_group g i =
-      all_in (λ (h : GroupLine). (whole : IsWholeGroup h) × IsClosed rules.exits h whole.kind)
+      all_in (λ (h : GroupLine). (whole : IsWholeGroup h) × IsClosed rules.exits h whole.kinds)
       rules.groups w.groups g i
 
   from_member : Member rules.groups x.from
@@ -240,7 +235,7 @@ module _ (rules : RuleLines) (w : IsWholeSet rules) (value : Board → Value) (q
   -- the group of a man of the set
   group_of : (c : Colour) (k : Kind) (s : ℕ) → s < 64 → Stands x.from c k s →
       (g : GroupLine) × (i : Contains rules.groups g) × (g.colour ≡ c)
-      × ((at_group g i).0.kind ≡ k)
+      × Contains (at_group g i).0.kinds k
   group_of c k s ls h =
       let cell = cell_of_man (record { colour = c; kind = k }) in
       let some : slice_index x.from.cells s ≢ 0 = λ e. (let n = cell-some c k in omega arith) in
@@ -250,20 +245,19 @@ module _ (rules : RuleLines) (w : IsWholeSet rules) (value : Board → Value) (q
       let whole = (at_group g.0 g.1).0 in
       let test : Kind × ℕ → Bool = λ (st : Kind × ℕ).
       cell_of_man (record { colour = g.0.colour; kind = st.0 }) == cell && st.1 == s in
-      let listed : list_any test (everywhere whole.kind) ≡ true =
+      let listed : list_any test (each_everywhere whole.kinds) ≡ true =
       subst (λ (states : List (Kind × ℕ)). list_any test states ≡ true) whole.states g.2 in
-      let st = some_in test (everywhere whole.kind) listed in
-      let on = from_mapped (λ (z : ℕ). (whole.kind, z)) squares st.0 st.1 in
-      let kind : whole.kind ≡ st.0.0 = ap (λ (z : Kind × ℕ). z.0) on.2 in
+      let st = some_in test (each_everywhere whole.kinds) listed in
+      let kind = kind_in whole.kinds st.0 st.1 in
       let man = same_man g.0.colour c st.0.0 k (eqb-true
       (cell_of_man (record { colour = g.0.colour; kind = st.0.0 })) cell
       (and_parts (cell_of_man (record { colour = g.0.colour; kind = st.0.0 }) == cell)
       (st.0.1 == s) st.2).0) in
-      (g.0, g.1, man.0, kind ∙ man.1)
+      (g.0, g.1, man.0, subst (λ (j : Kind). Contains whole.kinds j) man.1 kind)
 
   no_pawn : (c : Colour) (k : Kind) (s : ℕ) → s < 64 → Stands x.from c k s → k ≢ Pawn
   no_pawn c k s ls h e =
-      let g = group_of c k s ls h in (at_group g.0 g.1).0.no_pawn (g.3 ∙ e)
+      let g = group_of c k s ls h in (at_group g.0 g.1).0.no_pawn k g.3 e
 
   no_promotion : x.move.promo ≡ None
   no_promotion =
@@ -306,16 +300,14 @@ module _ (rules : RuleLines) (w : IsWholeSet rules) (value : Board → Value) (q
       let cell = slice_index q.cells s in
       let test : Kind × ℕ → Bool = λ (st : Kind × ℕ).
       cell_of_man (record { colour = g.0.colour; kind = st.0 }) == cell && st.1 == s in
-      let same : cell_of_man (record { colour = g.0.colour; kind = whole.kind }) ≡ cell =
-      ap (λ (c : Colour). cell_of_man (record { colour = c; kind = whole.kind })) g.2
-      ∙ ap (λ (k : Kind). cell_of_man (record { colour = man.0; kind = k })) g.3 ∙ sym man.2 in
-      let listed : Contains (everywhere whole.kind) (whole.kind, s) =
-      mapped_there (λ (z : ℕ). (whole.kind, z)) squares s (square_in s ls) in
+      let same : cell_of_man (record { colour = g.0.colour; kind = man.1 }) ≡ cell =
+      ap (λ (c : Colour). cell_of_man (record { colour = c; kind = man.1 })) g.2 ∙ sym man.2 in
+      let listed = state_in whole.kinds man.1 s g.3 ls in
       any_in (is_state cell s) rules.groups g.0 g.1
       (subst (λ (states : List (Kind × ℕ)). list_any test states ≡ true) (sym whole.states)
-      (any_in test (everywhere whole.kind) (whole.kind, s) listed
-      (and_from (cell_of_man (record { colour = g.0.colour; kind = whole.kind }) == cell) (s == s)
-      (eq-eqb (cell_of_man (record { colour = g.0.colour; kind = whole.kind })) cell same)
+      (any_in test (each_everywhere whole.kinds) (man.1, s) listed
+      (and_from (cell_of_man (record { colour = g.0.colour; kind = man.1 }) == cell) (s == s)
+      (eq-eqb (cell_of_man (record { colour = g.0.colour; kind = man.1 })) cell same)
       (eq-eqb s s refl))))
 
   -- where no line holds, each group has its men
@@ -324,32 +316,27 @@ module _ (rules : RuleLines) (w : IsWholeSet rules) (value : Board → Value) (q
   unfolding are_drawn_by_men
   counted drawn unknown g i =
       let whole = (at_group g i).0 in
-      let k = whole.kind in
+      let kinds = whole.kinds in
       let l = only_legal x.from x.move x.legal in
-      let now = places_of q g k there_valid.fits.size whole.states in
-      let before = places_of x.from g k from_member.valid.fits.size whole.states in
+      let now = places_of q g kinds there_valid.fits.size whole.states in
+      let before = places_of x.from g kinds from_member.valid.fits.size whole.states in
       let within = all_in (IsWithinCount x.from) rules.groups from_member.counts g i in
-      let fall = counts_fall x.from x.move g.colour k from_member.valid l.0.to l.1 no_promotion in
-      let same = ap (λ (p : Board). count_of p g.colour k) x.ends in
+      let fall = each_falls q x.from g.colour
+      (λ k. subst (λ (p : Board). count_of p g.colour k ≤ count_of x.from g.colour k) x.ends
+      (counts_fall x.from x.move g.colour k from_member.valid l.0.to l.1 no_promotion)) kinds in
       let most = within.most in
       record {
         least = elim ((at_group g i).1) [
           | by_king e few ↦ (
               let one = kings_are q g.colour there_valid in
-              let king = ap (λ (j : Kind). count_of q g.colour j) e in
-              omega arith)
-          | by_line line bound there conds least ↦ elim (cases_lt (count_of q g.colour k) g.least) [
+              let king = ap (count_each q g.colour) e in
+              omega (arith, now, few, one, king))
+          | by_none e ↦ omega arith
+          | by_line line bound there conds least ↦
+            elim (cases_lt (count_each q g.colour kinds) g.least) [
             | inr enough ↦ omega arith
-            | inl short ↦ absurd (
-                let few : count_of q g.colour k ≤ bound = omega arith in
-                let holds : conditions_hold q (record {
-                  negated = false;
-                  test = Count g.colour k 0 bound;
-                } ∷ []) ≡ true =
-                line_holds (count_of q g.colour k) bound few in
-                not_unknown rules.groups q rules.exits line there
-                (subst (λ (z : List Condition). conditions_hold q z ≡ true) (sym conds) holds) drawn
-                unknown)
+            | inl short ↦ absurd (not_unknown rules.groups q rules.exits line there
+                (line_holds q g.colour kinds bound (omega arith) line.conds conds) drawn unknown)
           ]
         ];
         most = omega arith;
