@@ -4,7 +4,7 @@ pub use Rattle.frz_arena.proofs.LocalCodes.ChosenCodes.{from_kept, win_and_failu
 pub use Rattle.frz_arena.proofs.LocalCodes.CodesByPlies.{AreCodes}
 pub use Rattle.frz_arena.proofs.Forcing.HoldsSafe.{forced_fails}
 pub use Rattle.frz_arena.proofs.Forcing.LawfulGame.{game_is_lawful}
-pub use Rattle.frz_arena.proofs.Lists.Members.{none_in_empty, cases_Option, in_cases}
+pub use Rattle.frz_arena.proofs.Lists.Members.{none_in_empty, first_in, later_in, cases_Option, in_cases}
 pub use Rattle.frz_arena.proofs.Plies.NeverBoth.{never_both}
 pub use Rattle.frz_arena.proofs.Names.NumberedGames.{going, inside}
 pub use Rattle.frz_arena.proofs.Names.NumbersAreNames.{numbered_is, numbers_lawful}
@@ -39,7 +39,8 @@ pub use Rattle.frz_arena.proofs.LocalCodes.UniqueCodes.{
   as_failure,
   codes_meet,
 }
-pub use Rattle.frz_arena.proofs.Forcing.WinsForced.{mated_by, goes, wins_forces}
+pub use Rattle.frz_arena.proofs.Forcing.OneForces.{one_forces}
+pub use Rattle.frz_arena.proofs.Forcing.WinsForced.{forces_later, mated_by, goes, wins_forces}
 pub use Rattle.frz_arena.proofs.Ways.Stages.{IsSound, StageIs, stage_is}
 pub use Rattle.frz_arena.proofs.Ways.FoundArms.{found_at, small_is_no_failure, win_is_no_failure}
 pub use Rattle.frz_arena.proofs.Ways.FoundChoices.{choice_is_arm}
@@ -75,19 +76,13 @@ pub use Rattle.frz_arena.proofs.Forcing.NeverByPositions.{never_by}
 pub use Rattle.frz_arena.proofs.Exactness.ExactWins.{
   exact_win,
   exact_least,
-  exact_plies,
   more_wins_mate,
-  true_wins_mate,
 }
 pub use Rattle.frz_arena.proofs.Exactness.ExactFailures.{
   exact_failure,
   exact_hold,
-  exact_failure_plies,
   exact_failure_least,
   fails_forced,
-  fails_forced_within,
-  forced_fails_in,
 }
-pub use Rattle.frz_arena.proofs.Comparing.Agreeing.{true_wins, true_holds, no_contradiction}
-pub use Rattle.frz_arena.proofs.Comparing.Freer.{no_worse}
+pub use Rattle.frz_arena.proofs.Comparing.Agreeing.{true_wins, true_holds}
 pub use Rattle.frz_arena.proofs.Exactness.Decided.{decided_wins, decided_losses, none_won}

@@ -69,8 +69,8 @@ pub fn bare_kings()
         is_legal p m ≡ true → IsBare p c → IsBare (after p m) c }
 {}
 
-/// A king with one bishop or knight at most never mates a bare king: where the bare king is in check
-/// it has a legal move. And a side that has no more keeps it so.
+/// A king with one bishop or knight at most never mates a bare king: where the bare king is in
+/// check it has a legal move. And a side that has no more keeps it so.
 pub fn one_minor()
     ensures no_mate { (p : Board) → IsValid p → HasOneMinor p (other_of p.turn) → IsBare p p.turn →
         is_in_check p p.turn ≡ true → legal_moves_of p ≢ [] }
@@ -78,8 +78,8 @@ pub fn one_minor()
         is_legal p m ≡ true → HasOneMinor p c → HasOneMinor (after p m) c }
 {}
 
-/// What counts say of a side's men; and a legal move in which no pawn becomes another man gives no side
-/// more men of any kind.
+/// What counts say of a side's men; and a legal move in which no pawn becomes another man gives no
+/// side more men of any kind.
 pub fn counted_men()
     ensures bare { (p : Board) (c : Colour) → IsValid p →
         ((k : Kind) → k ≢ King → count_of p c k ≡ 0) → IsBare p c }

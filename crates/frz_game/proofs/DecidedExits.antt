@@ -1,5 +1,5 @@
 -- Values that say who wins, or that the game is drawn.
-use Rattle.std.proofs.Common.{◌≡◌, ℕ, true, List, refl}
+use Rattle.std.proofs.Common.{◌≡◌, ℕ, true, List, refl, ap}
 use Rattle.frz_board.specs.declared.man.Colour.{Colour}
 use Rattle.frz_board.specs.declared.man.Colour.TheVariants.{White, Black}
 use Rattle.frz_board.specs.Boards.{Board}
@@ -14,6 +14,7 @@ use Rattle.frz_exits.specs.Values.{class_of}
 use Rattle.frz_game.specs.Bounds.{IsTableOf}
 use Rattle.frz_game.specs.ExactTables.{HasNoForbid, is_decided, AreDecidedOutside, HasExactOutcomes}
 use Rattle.frz_game.specs.Games.{game_of}
+use Rattle.frz_game.specs.MenAlone.{IsDrawnOutside}
 use Rattle.frz_game.specs.Values.{AreTrueExits}
 use Rattle.frz_game.proofs.ExactTables.{exact_outcomes}
 use Rattle.frz_game.proofs.TrueValues.{true_exits}
@@ -64,3 +65,8 @@ exact_where_decided rules value side codes table none exits decided =
     let d = decided_game rules value decided in
     exact_outcomes rules value side codes table none (decided_wins game truth side d)
     (decided_losses game truth side d)
+
+-- where each way out of the set is drawn by the men, each value decides the game
+pub drawn_decided : (rules : RuleLines) (value : Board → Value) → IsDrawnOutside rules value →
+    AreDecidedOutside rules value
+drawn_decided rules value drawn q x = ap is_decided (drawn q x).0

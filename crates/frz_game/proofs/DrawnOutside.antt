@@ -1,10 +1,9 @@
 -- What is known of the exits where each of them is drawn by the men.
-use Rattle.std.proofs.Common.{◌≡◌, ap, sym, subst, ◌∙◌}
+use Rattle.std.proofs.Common.{◌≡◌, ap, sym, subst}
 use Rattle.frz_board.specs.declared.man.Colour.{Colour}
 use Rattle.frz_board.specs.Boards.{Board}
 use Rattle.frz_board.specs.Men.{other_of}
 use Rattle.frz_sets.specs.declared.exit.Value.{Value}
-use Rattle.frz_sets.specs.declared.exit.Value.TheVariants.{Draw}
 use Rattle.frz_sets.specs.Views.{RuleLines}
 use Rattle.frz_arena.specs.declared.class.Class.TheVariants.{Good, Safe}
 use Rattle.frz_arena.specs.Chess.{NeverForcesMate}

@@ -1,16 +1,14 @@
 -- What a bound says of chess where no line forbids the side a move.
-use Rattle.std.proofs.Common.{◌≡◌, ℕ, List, refl, subst, sym, ◌∙◌}
-use Rattle.std.specs.Prelude.{slice_index}
+use Rattle.std.proofs.Common.{ℕ, List, refl, subst, sym, ◌∙◌}
 use Rattle.frz_board.specs.declared.man.Colour.{Colour}
 use Rattle.frz_board.specs.Boards.{Board}
 use Rattle.frz_board.specs.Men.{other_of}
 use Rattle.frz_sets.specs.declared.exit.Value.{Value}
 use Rattle.frz_sets.specs.Views.{RuleLines}
-use Rattle.frz_index.specs.Members.{Member, Num}
+use Rattle.frz_index.specs.Members.{Member}
 use Rattle.frz_index.proofs.Lemmas.{of_member}
 use Rattle.frz_arena.specs.declared.bound.Bound.{Bound}
 use Rattle.frz_arena.specs.declared.bound.Bound.TheVariants.{Wins, Holds, Fails}
-use Rattle.frz_arena.specs.Codes.{code_of}
 use Rattle.frz_arena.specs.WholeTruth.{WinsAreKnown, LossesAreKnown}
 use Rattle.frz_arena.proofs.Lemmas.{codes_differ, exact_win, exact_least, exact_failure, exact_hold, exact_failure_least, fails_forced, decided_wins, decided_losses, none_won, true_wins, true_holds}
 use Rattle.frz_game.specs.Bounds.{IsBoundAt, IsTableOf}

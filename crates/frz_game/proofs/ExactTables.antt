@@ -11,17 +11,13 @@ use Rattle.frz_sets.specs.declared.forbid.Forbid.{Forbid}
 use Rattle.frz_sets.specs.Views.{RuleLines}
 use Rattle.frz_index.specs.Members.{Member, Num}
 use Rattle.frz_index.proofs.Lemmas.{of_member}
-use Rattle.frz_arena.specs.declared.class.Class.TheVariants.{Good, Safe}
 use Rattle.frz_arena.specs.declared.bound.Bound.{Bound}
 use Rattle.frz_arena.specs.declared.bound.Bound.TheVariants.{Wins, Holds, Fails}
 use Rattle.frz_arena.specs.Bounds.{IsBound}
-use Rattle.frz_arena.specs.Chess.{NeverForcesMate}
 use Rattle.frz_arena.specs.Codes.{code_of, is_win, is_failure}
-use Rattle.frz_arena.specs.Exits.{IsExit}
 use Rattle.frz_arena.specs.WholeTruth.{CanForceMate, MatesIn, IsDead, IsWin, IsFailure, MovesFreely, TrueHolds, WinsAreKnown, WinsAreCounted, LossesAreKnown, NoneIsBad}
 use Rattle.frz_arena.proofs.Lemmas.{codes_differ, one_bound, win_of, win_and_failure, as_failure, exact_win, exact_least, exact_failure, exact_hold, exact_failure_least}
 use Rattle.frz_exits.specs.Forbidding.{covers, is_forbidden}
-use Rattle.frz_exits.specs.Values.{class_of}
 use Rattle.frz_game.specs.Bounds.{IsTableOf}
 use Rattle.frz_game.specs.ExactTables.{HasNoForbid, HasExactOutcomes, IsExactInChess}
 use Rattle.frz_game.specs.Games.{chess, game_of, arena_by}

@@ -13,11 +13,10 @@ pub use Rattle.frz_game.proofs.Bounded.{
 pub use Rattle.frz_game.proofs.Graph.{lawful, graph_lawful, finite, arms_there}
 pub use Rattle.frz_game.proofs.TrueValues.{true_exits}
 pub use Rattle.frz_game.proofs.Meaning.{bound_means, wins_alone, code_means, table_means}
-pub use Rattle.frz_game.proofs.MenAlone.{bare_never, dead_never, exit_valid, exits_by_men}
+pub use Rattle.frz_game.proofs.MenAlone.{exits_by_men}
 pub use Rattle.frz_game.proofs.ExactBounds.{bound_exactly, table_exactly}
-pub use Rattle.frz_game.proofs.DrawnOutside.{drawn_true}
-pub use Rattle.frz_game.proofs.ExactTables.{moves_freely, win_code, exact_wins, exact_outcomes, exact_where_drawn}
+pub use Rattle.frz_game.proofs.ExactTables.{win_code, exact_where_drawn}
 pub use Rattle.frz_game.proofs.TextsByMen.{text_by_men, drawn_text}
 pub use Rattle.frz_game.proofs.WholeSets.{whole_set_drawn}
-pub use Rattle.frz_game.proofs.KingAndRook.{rook_drawn, rook_exact}
-pub use Rattle.frz_game.proofs.DecidedExits.{exact_where_decided}
+pub use Rattle.frz_game.proofs.KingAndRook.{rook_exact}
+pub use Rattle.frz_game.proofs.LongestMate.{longest_mate}

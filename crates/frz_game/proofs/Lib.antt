@@ -12,7 +12,12 @@ mod DrawnOutside
 mod ExactTables
 mod DecidedExits
 mod ExactBounds
-mod TextsByMen
+mod Elements
+mod SameKinds
 mod MenCounted
+mod MenWithin
+mod TextsByMen
 mod WholeSets
 mod KingAndRook
+mod LongestMate
+mod TrueAtEnds

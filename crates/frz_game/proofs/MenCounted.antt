@@ -1,8 +1,7 @@
 -- How many men stand as the states of a group say.
-use Rattle.std.proofs.Common.{◌≡◌, ◌≤◌, ◌<◌, ◌+◌, ℕ, zero, suc, inl, inr, Bool, true, false, not, cond, ◌&&◌, List, [], ◌∷◌, ◌++◌, map, length, Option, Some, refl, sym, subst, ap, ◌∙◌, arith}
-use Rattle.std.specs.Prelude.{◌==◌, count_by, slice_get, sum_by}
-use Rattle.std.specs.List.{Contains, range_with_len}
-use Rattle.std.proofs.lemmas.Bool.{eq-eqb, eqb-true, cases_Bool, cases_lt, and_parts, and_from}
+use Rattle.std.proofs.Common.{◌≡◌, ◌+◌, ℕ, zero, suc, Bool, true, false, cond, List, [], ◌∷◌, ◌++◌, map, length, Option, Some, refl, sym, ap, ◌∙◌, arith}
+use Rattle.std.specs.Prelude.{◌==◌, count_by, slice_get}
+use Rattle.std.specs.List.{range_with_len}
 use Rattle.std.proofs.lemmas.List.Sums.{sum_by-cons, sum_by-append}
 use Rattle.frz_board.specs.declared.man.Colour.{Colour}
 use Rattle.frz_board.specs.declared.man.Kind.{Kind}
@@ -14,10 +13,9 @@ use Rattle.frz_combinations.specs.Combinations.{places_below}
 use Rattle.frz_fide.proofs.Lemmas.{count_by_squares}
 use Rattle.frz_index.specs.Places.{stands, places}
 use Rattle.frz_sets.specs.Views.{GroupLine}
-use Rattle.frz_arena.proofs.Lemmas.{none_in_empty, in_cases}
 use Rattle.frz_game.specs.WholeSets.{everywhere, each_everywhere}
 
-abbrev number : Bool → ℕ
+abbrev pub number : Bool → ℕ
 number b = cond b 1 0
 
 -- one more element
@@ -69,7 +67,8 @@ pub places_counted : (p : Board) (g : GroupLine) →
 places_counted p g =
     places_count (λ k. stands p g.colour (slice_get g.states k)) (length g.states)
     ∙ listed_count (stands p g.colour) g.states 0
-    (λ k. stands p g.colour (slice_get g.states k)) (λ i. ap (λ j. stands p g.colour (slice_get g.states j)) (omega arith))
+    (λ k. stands p g.colour (slice_get g.states k))
+    (λ i. ap (λ j. stands p g.colour (slice_get g.states j)) (omega arith))
 
 -- a count by the images
 count_mapped : {X Y : Type 0} (t : Y → Bool) (f : X → Y) (xs : List X) →
@@ -81,7 +80,7 @@ count_mapped t f (x ∷ xs) =
     let rest = count_mapped t f xs in
     omega (arith, first, second, rest)
 
-count_squares : (q : Board) (c : Colour) (k : Kind) → length q.cells ≡ 64 →
+pub count_squares : (q : Board) (c : Colour) (k : Kind) → length q.cells ≡ 64 →
     count_by (λ s. has q c k s) squares ≡ count_of q c k
 count_squares q c k h =
     count_by_squares (λ x. x == cell_of_man (record { colour = c; kind = k })) q.cells h
@@ -112,4 +111,3 @@ places_of q g kinds size e =
     ∙ ap (λ (states : List (Kind × ℕ)). count_by (λ (state : Kind × ℕ).
     has q g.colour state.0 state.1) states) e
     ∙ everywhere_counted q g.colour size kinds
-

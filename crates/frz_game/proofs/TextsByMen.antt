@@ -1,5 +1,5 @@
 -- Rules whose exit lines the men alone show to be true.
-use Rattle.std.proofs.Common.{◌≡◌, ◌≢◌, ◌≤◌, ◌<◌, ℕ, ◌⊎◌, inl, inr, Bool, true, false, not, ◌&&◌, ◌||◌, List, [], ◌∷◌, refl, sym, subst, ap, ◌∙◌, arith, slice_index}
+use Rattle.std.proofs.Common.{◌≡◌, ◌≢◌, ◌≤◌, ◌<◌, ℕ, ◌⊎◌, inl, inr, Option, Some, None, Bool, true, false, not, ◌&&◌, ◌||◌, List, [], ◌∷◌, refl, sym, subst, ap, ◌∙◌, arith, slice_index}
 use Rattle.std.specs.Prelude.{◌==◌, nat_le, if◌then◌else◌}
 use Rattle.std.specs.List.{list_any, list_all}
 use Rattle.std.proofs.lemmas.Bool.{eqb-true, cases_Bool, and_parts, and_from, or_cases}
@@ -10,13 +10,13 @@ use Rattle.frz_board.specs.declared.man.Kind.{Kind}
 use Rattle.frz_board.specs.declared.man.Kind.TheVariants.{King, Queen, Rook, Bishop, Knight, Pawn}
 use Rattle.frz_board.specs.Boards.{Board}
 use Rattle.frz_board.specs.Attacking.{Stands}
-use Rattle.frz_board.specs.Men.{same_colour, number_of_kind, kind_of_number, cell_of_man}
+use Rattle.frz_board.specs.Men.{same_colour, cell_of_man}
 use Rattle.frz_board.specs.Shapes.{count_of}
-use Rattle.frz_board.proofs.Lemmas.{cell-some}
+use Rattle.frz_board.proofs.Lemmas.{cell-some, cell_back}
 use Rattle.frz_fide.specs.Bare.{IsBare, HasOneMinor}
-use Rattle.frz_fide.specs.Legal.{after}
+use Rattle.frz_fide.specs.Legal.{after, promotes}
 use Rattle.frz_fide.specs.Valid.{IsValid}
-use Rattle.frz_fide.proofs.Lemmas.{same_side, own_colour, only_legal, stayed, moved, came, same_man, man_counted, one_of}
+use Rattle.frz_fide.proofs.Lemmas.{same_side, own_colour, only_legal, facts, counts_fall, stayed, moved, came, same_man, man_counted, one_of}
 use Rattle.frz_sets.specs.declared.exit.Test.{Test}
 use Rattle.frz_sets.specs.declared.exit.Test.TheVariants.{Turn, Count, On, Distance, Check, Always}
 use Rattle.frz_sets.specs.declared.exit.Value.{Value}
@@ -30,8 +30,11 @@ use Rattle.frz_exits.specs.Books.{value_by, first_value}
 use Rattle.frz_exits.specs.Conditions.{test_holds, condition_holds, conditions_hold}
 use Rattle.frz_game.specs.Games.{game_of}
 use Rattle.frz_game.specs.MenAlone.{HasDeadMen, IsTrueByMen, AreTrueByMen, IsDrawnOutside}
-use Rattle.frz_game.specs.TextsByMen.{same_kind, has_kind, may_have, asks_at_most, say_at_most, leave_at_most, leave_bare, leave_minor, leave_dead, is_true_by, are_true_by_men, is_draw, are_drawn_by_men, HasNoOpenExit}
+use Rattle.frz_game.specs.TextsByMen.{same_kind, has_kind, may_have, asks_at_most, say_at_most, most_of, groups_leave_at_most, leave_at_most, leave_bare, leave_minor, leave_dead, is_true_by, are_true_by_men, is_draw, are_drawn_by_men, HasNoOpenExit}
+use Rattle.frz_game.proofs.Elements.{or_first, or_second}
+use Rattle.frz_game.proofs.SameKinds.{same_kind_of, same_kind_means}
 use Rattle.frz_game.proofs.MenAlone.{exit_valid}
+use Rattle.frz_game.proofs.MenWithin.{men_within}
 
 le_of : (m n : ℕ) → nat_le m n ≡ true → m ≤ n
 le_of m n h = grind (arith, nat_tests)
@@ -45,14 +48,6 @@ some_passes f (x ∷ xs) h =
       | inl e ↦ (x, e)
       | inr e ↦ some_passes f xs (ap (λ b. b || list_any f xs) (sym e) ∙ h)
     ]
-
-pub or_first : (b c : Bool) → b ≡ true → (b || c) ≡ true
-or_first true c e = refl
-or_first false c e = absurd (cc)
-
-pub or_second : (b c : Bool) → c ≡ true → (b || c) ≡ true
-or_second true c e = refl
-or_second false c e = e
 
 any_more : {X : Type 0} (f g : X → Bool) → ((x : X) → f x ≡ true → g x ≡ true) → (xs : List X) →
     list_any f xs ≡ true → list_any g xs ≡ true
@@ -73,31 +68,6 @@ some_and_all f g (x ∷ xs) h k =
       | inl e ↦ (x, e, both.0)
       | inr e ↦ some_and_all f g xs (ap (λ b. b || list_any f xs) (sym e) ∙ h) both.1
     ]
-
--- kinds and their numbers
-kind_itself : (k : Kind) → same_kind k k ≡ true
-kind_itself King = refl
-kind_itself Queen = refl
-kind_itself Rook = refl
-kind_itself Bishop = refl
-kind_itself Knight = refl
-kind_itself Pawn = refl
-
-same_kind_of : (j k : Kind) → j ≡ k → same_kind j k ≡ true
-same_kind_of j k e = ap (λ (i : Kind). same_kind j i) (sym e) ∙ kind_itself j
-
-kind_back : (k : Kind) → kind_of_number (number_of_kind k) ≡ k
-kind_back King = refl
-kind_back Queen = refl
-kind_back Rook = refl
-kind_back Bishop = refl
-kind_back Knight = refl
-kind_back Pawn = refl
-
-same_kind_means : (j k : Kind) → same_kind j k ≡ true → j ≡ k
-same_kind_means j k h =
-    sym (kind_back j) ∙ ap kind_of_number (eqb-true (number_of_kind j) (number_of_kind k) h)
-    ∙ kind_back k
 
 same_colour_of : (c d : Colour) → c ≡ d → same_colour c d ≡ true
 same_colour_of c d e = ap (λ (x : Colour). same_colour c x) (sym e) ∙ own_colour c
@@ -154,6 +124,25 @@ asked (Distance side square least most) q c k n h e = absurd (cc)
 asked Check q c k n h e = absurd (cc)
 asked Always q c k n h e = absurd (cc)
 
+-- no other man than a pawn becomes another
+pub promotes_none : (c : Colour) (k : Kind) (b : ℕ) (o : Option Kind) → k ≢ Pawn →
+    promotes c k b o ≡ true → o ≡ None
+promotes_none c k b None n h = refl
+promotes_none c King b (Some j) n h = absurd (cc)
+promotes_none c Queen b (Some j) n h = absurd (cc)
+promotes_none c Rook b (Some j) n h = absurd (cc)
+promotes_none c Bishop b (Some j) n h = absurd (cc)
+promotes_none c Knight b (Some j) n h = absurd (cc)
+promotes_none c Pawn b (Some j) n h = absurd (n refl)
+
+-- a side with a pawn is one of the two
+no_pawn_of : (white black : Bool) → not (white || black) ≡ true → (has_pawn : Colour → Bool) →
+    has_pawn White ≡ white → has_pawn Black ≡ black → (c : Colour) → has_pawn c ≡ true → ⊥
+no_pawn_of true black h has_pawn w b c e = cc
+no_pawn_of false true h has_pawn w b c e = cc
+no_pawn_of false false h has_pawn w b White e = cc
+no_pawn_of false false h has_pawn w b Black e = cc
+
 not_negated : (b t : Bool) → not b ≡ true → (if b then not t else t) ≡ true → t ≡ true
 not_negated true t h e = absurd (cc)
 not_negated false t h e = e
@@ -184,18 +173,45 @@ module _ (rules : RuleLines) (value : Board → Value) (q : Board)
         ]
       ]
 
+  -- where the set has no pawn, no man of a kind comes to those that the groups allow
+  few_in_groups : (c : Colour) (k : Kind) (n : ℕ) →
+      groups_leave_at_most rules.groups c k n ≡ true → count_of q c k ≤ n
+  few_in_groups c k n h =
+      let W = has_kind rules.groups White Pawn in
+      let B = has_kind rules.groups Black Pawn in
+      let both = and_parts (not (W || B)) (nat_le (most_of rules.groups c k) n) h in
+      let member = member_of rules.groups x.from x.begins in
+      let l = only_legal x.from x.move x.legal in
+      let f = facts x.from x.move l.1 in
+      let stood : Stands x.from f.man.colour f.man.kind x.move.from =
+      cell_back (slice_index x.from.cells x.move.from) f.man.colour f.man.kind f.on in
+      let no_pawn : f.man.kind ≢ Pawn = λ e. no_pawn_of W B both.0
+      (λ d. has_kind rules.groups d Pawn) refl refl f.man.colour
+      (subst (λ (i : Kind). has_kind rules.groups f.man.colour i ≡ true) e
+      (kind_there rules.groups x.from member f.man.colour f.man.kind x.move.from l.0.from stood)) in
+      let none = promotes_none f.man.colour f.man.kind x.move.to x.move.promo no_pawn f.promo in
+      let fall = counts_fall x.from x.move c k member.valid l.0.to l.1 none in
+      let same = ap (λ (p : Board). count_of p c k) x.ends in
+      let within = men_within rules.groups x.from member c k in
+      let few = le_of (most_of rules.groups c k) n both.1 in
+      omega arith
+
   few_there : (c : Colour) (k : Kind) (n s : ℕ) → leave_at_most rules.groups conds c k n ≡ true →
       s < 64 → Stands q c k s → count_of q c k ≤ n
   few_there c k n s h ls e =
-      elim (or_cases (not (may_have rules.groups c k)) (say_at_most conds c k n) h) [
+      let G = groups_leave_at_most rules.groups c k n in
+      elim (or_cases (not (may_have rules.groups c k)) (G || say_at_most conds c k n) h) [
         | inl none ↦ absurd (let may = kind_may c k s ls e in
             let no : not true ≡ true = ap not (sym may) ∙ none in cc)
-        | inr says ↦ (
-            let w = some_and_all (λ (cond : Condition). not cond.negated
-            && asks_at_most cond.test c k n) (condition_holds q) conds says hold in
-            let both = and_parts (not w.0.negated) (asks_at_most w.0.test c k n) w.1 in
-            asked w.0.test q c k n both.1
-            (not_negated w.0.negated (test_holds w.0.test q) both.0 w.2))
+        | inr few ↦ elim (or_cases G (say_at_most conds c k n) few) [
+          | inl within ↦ few_in_groups c k n within
+          | inr says ↦ (
+              let w = some_and_all (λ (cond : Condition). not cond.negated
+              && asks_at_most cond.test c k n) (condition_holds q) conds says hold in
+              let both = and_parts (not w.0.negated) (asks_at_most w.0.test c k n) w.1 in
+              asked w.0.test q c k n both.1
+              (not_negated w.0.negated (test_holds w.0.test q) both.0 w.2))
+        ]
       ]
 
   none_there : (c : Colour) (k : Kind) (s : ℕ) → leave_at_most rules.groups conds c k 0 ≡ true →
@@ -273,14 +289,14 @@ module _ (rules : RuleLines) (value : Board → Value) (q : Board)
       let kinds = officer c first.0 second.0 second.1 in
       record {
         minor = λ s k ls e n. kinds k s ls e n;
-        one = λ s t j k ls lt e f nj nk. elim (or_cases (L Bishop 1 && L Knight 0) (L Bishop 0 && L Knight 1)
-            parts.1) [
+        one = λ s t j k ls lt e f nj nk.
+            elim (or_cases (L Bishop 1 && L Knight 0) (L Bishop 0 && L Knight 1) parts.1) [
               | inl w ↦ (let both = and_parts (L Bishop 1) (L Knight 0) w in
                   one_left c Bishop Knight both.0 both.1 j k s t ls lt e f (kinds j s ls e nj)
                   (kinds k t lt f nk))
               | inr w ↦ (let both = and_parts (L Bishop 0) (L Knight 1) w in
-                  one_left c Knight Bishop both.1 both.0 j k s t ls lt e f (turned (kinds j s ls e nj))
-                  (turned (kinds k t lt f nk)))
+                  one_left c Knight Bishop both.1 both.0 j k s t ls lt e f
+                  (turned (kinds j s ls e nj)) (turned (kinds k t lt f nk)))
             ];
       }
 

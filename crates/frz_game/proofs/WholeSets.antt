@@ -1,105 +1,42 @@
 -- A move out of a set with all squares leaves a group short of men.
-use Rattle.std.proofs.Common.{◌≡◌, ◌≢◌, ◌≤◌, ◌<◌, ◌+◌, ℕ, zero, suc, inl, inr, Bool, true, false, cond, ◌&&◌, ◌||◌, List, [], ◌∷◌, ◌++◌, map, length, Option, Some, None, refl, sym, subst, ap, ◌∙◌, arith, slice_index}
-use Rattle.std.specs.Prelude.{◌==◌, nat_le, count_by, slice_get}
-use Rattle.std.specs.List.{Contains, AllByRecursion, list_any, list_all, range_with_len}
+use Rattle.std.proofs.Common.{◌≡◌, ◌≢◌, ◌≤◌, ◌<◌, ℕ, zero, suc, inl, inr, Bool, true, cond, ◌&&◌, List, [], ◌∷◌, None, refl, sym, subst, ap, ◌∙◌, arith, slice_index}
+use Rattle.std.specs.Prelude.{◌==◌, nat_le}
+use Rattle.std.specs.List.{Contains, AllByRecursion, list_any, list_all}
 use Rattle.std.proofs.lemmas.Bool.{eqb-true, eq-eqb, cases_Bool, cases_lt, and_parts, and_from}
 use Rattle.std.proofs.lemmas.Bool.Decides.{nat_tests}
-use Rattle.std.proofs.lemmas.List.FromFn.{length-map-range_with_len, get_or-map-range_with_len}
 use Rattle.std.proofs.lemmas.List.Elements.{Contains-append_left, Contains-append_right, Contains-append_cases}
-use Rattle.std.proofs.lemmas.Option.{slice_get-get_or}
 use Rattle.frz_board.specs.declared.man.Colour.{Colour}
 use Rattle.frz_board.specs.declared.man.Colour.TheVariants.{White, Black}
 use Rattle.frz_board.specs.declared.man.Kind.{Kind}
 use Rattle.frz_board.specs.declared.man.Kind.TheVariants.{King, Queen, Rook, Bishop, Knight, Pawn}
 use Rattle.frz_board.specs.Attacking.{Stands}
-use Rattle.frz_board.specs.Boards.{Board, has}
+use Rattle.frz_board.specs.Boards.{Board}
 use Rattle.frz_board.specs.Men.{cell_of_man}
 use Rattle.frz_board.specs.Shapes.{count_of}
 use Rattle.frz_board.specs.Squares.{squares}
 use Rattle.frz_board.proofs.Lemmas.{cell-some, cell_back}
-use Rattle.frz_combinations.specs.Combinations.{places_below}
-use Rattle.frz_fide.specs.Legal.{after, promotes}
+use Rattle.frz_fide.specs.Legal.{after}
 use Rattle.frz_fide.specs.Valid.{IsValid}
-use Rattle.frz_fide.proofs.Lemmas.{only_legal, facts, stayed, moved, came, same_man, counts_fall, count_by_squares, kings_are}
-use Rattle.frz_sets.specs.declared.exit.Test.TheVariants.{Count}
+use Rattle.frz_fide.proofs.Lemmas.{only_legal, facts, stayed, moved, came, same_man, counts_fall, kings_are}
 use Rattle.frz_sets.specs.declared.exit.Value.{Value}
 use Rattle.frz_sets.specs.declared.exit.Value.TheVariants.{Unknown}
 use Rattle.frz_sets.specs.Views.{Condition, GroupLine, ExitLine, RuleLines}
 use Rattle.frz_sets.specs.Sets.{has_state, is_state}
 use Rattle.frz_index.specs.Members.{Member}
-use Rattle.frz_index.specs.Places.{stands, places, places_among, IsWithinCount}
+use Rattle.frz_index.specs.Places.{IsWithinCount}
 use Rattle.frz_index.proofs.Lemmas.{member_of, of_member}
 use Rattle.frz_arena.specs.Exits.{IsExit}
-use Rattle.frz_arena.proofs.Lemmas.{none_in_empty, in_cases, from_mapped}
+use Rattle.frz_arena.proofs.Lemmas.{none_in_empty, first_in, later_in, in_cases, from_mapped}
 use Rattle.frz_exits.specs.Books.{value_by, first_value}
 use Rattle.frz_exits.specs.Conditions.{condition_holds, conditions_hold}
 use Rattle.frz_game.specs.Games.{game_of}
 use Rattle.frz_game.specs.MenAlone.{IsDrawnOutside}
 use Rattle.frz_game.specs.TextsByMen.{leave_dead, is_draw, are_drawn_by_men}
 use Rattle.frz_game.specs.WholeSets.{everywhere, each_everywhere, IsWholeGroup, IsClosed, AsksAtMost, by_king, by_none, by_line, IsWholeSet}
+use Rattle.frz_game.proofs.Elements.{mapped_there, number_in, some_in, any_in, all_in, all_by}
 use Rattle.frz_game.proofs.MenAlone.{exit_valid}
 use Rattle.frz_game.proofs.MenCounted.{count_each, places_of}
-use Rattle.frz_game.proofs.TextsByMen.{or_first, or_second, draw_is, drawn_text}
-
--- lists
-first_there : {X : Type 0} (x : X) (xs : List X) → Contains (x ∷ xs) x
-first_there x xs = (zero, omega arith, refl)
-
-later_there : {X : Type 0} (y : X) (xs : List X) (x : X) → Contains xs x → Contains (y ∷ xs) x
-later_there y xs x h = let l = h.1 in (suc h.0, omega arith, h.2)
-
-mapped_there : {X Y : Type 0} (f : X → Y) (xs : List X) (x : X) → Contains xs x →
-    Contains (map f xs) (f x)
-mapped_there f [] x h = absurd (none_in_empty x h)
-mapped_there f (y ∷ xs) x h =
-    elim (in_cases y xs x h) [
-      | inl e ↦ subst (λ z. Contains (map f (y ∷ xs)) (f z)) e (first_there (f y) (map f xs))
-      | inr i ↦ later_there (f y) (map f xs) (f x) (mapped_there f xs x i)
-    ]
-
-number_in : (a n i : ℕ) → a ≤ i → i < a + n → Contains (range_with_len a n) i
-number_in a zero i h l = absurd (omega arith)
-number_in a (suc n) i h l =
-    elim (cases_lt a i) [
-      | inl less ↦ later_there a (range_with_len (a + 1) n) i
-          (number_in (a + 1) n i (omega arith) (omega arith))
-      | inr least ↦ (let e : a ≡ i = omega arith in
-          subst (λ z. Contains (range_with_len a (suc n)) z) e
-          (first_there a (range_with_len (a + 1) n)))
-    ]
-
-some_in : {X : Type 0} (f : X → Bool) (xs : List X) → list_any f xs ≡ true →
-    (x : X) × Contains xs x × (f x ≡ true)
-some_in f [] h = absurd (cc)
-some_in f (x ∷ xs) h =
-    elim (cases_Bool (f x)) [
-      | inl e ↦ (x, first_there x xs, e)
-      | inr e ↦ (let w = some_in f xs (ap (λ b. b || list_any f xs) (sym e) ∙ h) in
-          (w.0, later_there x xs w.0 w.1, w.2))
-    ]
-
-any_in : {X : Type 0} (f : X → Bool) (xs : List X) (x : X) → Contains xs x → f x ≡ true →
-    list_any f xs ≡ true
-any_in f [] x h e = absurd (none_in_empty x h)
-any_in f (y ∷ xs) x h e =
-    elim (in_cases y xs x h) [
-      | inl same ↦ or_first (f y) (list_any f xs) (ap f same ∙ e)
-      | inr i ↦ or_second (f y) (list_any f xs) (any_in f xs x i e)
-    ]
-
-all_in : {X : Type 0} (P : X → Type 0) (xs : List X) → AllByRecursion P xs → (x : X) →
-    Contains xs x → P x
-all_in P [] h x i = absurd (none_in_empty x i)
-all_in P (y ∷ xs) h x i =
-    elim (in_cases y xs x i) [
-      | inl same ↦ subst P same h.0
-      | inr j ↦ all_in P xs h.1 x j
-    ]
-
-all_by : {X : Type 0} (P : X → Type 0) (xs : List X) → ((x : X) → Contains xs x → P x) →
-    AllByRecursion P xs
-all_by P [] h = tt
-all_by P (x ∷ xs) h = (h x (first_there x xs), all_by P xs (λ y i. h y (later_there x xs y i)))
+use Rattle.frz_game.proofs.TextsByMen.{promotes_none, draw_is, drawn_text}
 
 square_in : (s : ℕ) → s < 64 → Contains squares s
 unfolding squares
@@ -113,8 +50,8 @@ kind_in (k ∷ kinds) st h =
     elim (Contains-append_cases (everywhere k) (each_everywhere kinds) st h) [
       | inl i ↦ (let on = from_mapped (λ (z : ℕ). (k, z)) squares st i in
           subst (λ (j : Kind). Contains (k ∷ kinds) j) (ap (λ (z : Kind × ℕ). z.0) on.2)
-          (first_there k kinds))
-      | inr i ↦ later_there k kinds st.0 (kind_in kinds st i)
+          (first_in k kinds))
+      | inr i ↦ later_in k kinds st.0 (kind_in kinds st i)
     ]
 
 state_in : (kinds : List Kind) (k : Kind) (s : ℕ) → Contains kinds k → s < 64 →
@@ -185,17 +122,6 @@ man_at (suc (suc (suc (suc (suc (suc (suc (suc (suc (suc (suc (suc zero)))))))))
     (Black, Pawn, refl)
 man_at (suc (suc (suc (suc (suc (suc (suc (suc (suc (suc (suc (suc (suc x))))))))))))) n h =
     absurd (omega arith)
-
--- no other man than a pawn becomes another
-promotes_none : (c : Colour) (k : Kind) (b : ℕ) (o : Option Kind) → k ≢ Pawn →
-    promotes c k b o ≡ true → o ≡ None
-promotes_none c k b None n h = refl
-promotes_none c King b (Some j) n h = absurd (cc)
-promotes_none c Queen b (Some j) n h = absurd (cc)
-promotes_none c Rook b (Some j) n h = absurd (cc)
-promotes_none c Bishop b (Some j) n h = absurd (cc)
-promotes_none c Knight b (Some j) n h = absurd (cc)
-promotes_none c Pawn b (Some j) n h = absurd (n refl)
 
 -- a line that holds says a draw, or an earlier one does
 not_unknown : (groups : List GroupLine) (q : Board) (lines : List ExitLine) (line : ExitLine) →
@@ -333,11 +259,12 @@ module _ (rules : RuleLines) (w : IsWholeSet rules) (value : Board → Value) (q
               omega (arith, now, few, one, king))
           | by_none e ↦ omega arith
           | by_line line bound there conds least ↦
-            elim (cases_lt (count_each q g.colour kinds) g.least) [
-            | inr enough ↦ omega arith
-            | inl short ↦ absurd (not_unknown rules.groups q rules.exits line there
-                (line_holds q g.colour kinds bound (omega arith) line.conds conds) drawn unknown)
-          ]
+              elim (cases_lt (count_each q g.colour kinds) g.least) [
+                | inr enough ↦ omega arith
+                | inl short ↦ absurd (not_unknown rules.groups q rules.exits line there
+                    (line_holds q g.colour kinds bound (omega arith) line.conds conds) drawn
+                    unknown)
+              ]
         ];
         most = omega arith;
       }

@@ -1,5 +1,5 @@
 -- Tables that are exact in chess.
-use Rattle.std.specs.Prelude.{◌≡◌, ◌↔◌, ℕ, Bool, true, false, List, slice_index}
+use Rattle.std.specs.Prelude.{◌≡◌, ◌≤◌, ◌↔◌, ℕ, Bool, true, false, List, slice_index}
 use Rattle.std.specs.List.{list_any}
 use Rattle.frz_board.specs.declared.man.Colour.{Colour}
 use Rattle.frz_board.specs.Boards.{Board}
@@ -11,6 +11,7 @@ use Rattle.frz_index.specs.Members.{Member, Num}
 use Rattle.frz_arena.specs.declared.class.Class.TheVariants.{Good, Bad}
 use Rattle.frz_arena.specs.declared.bound.Bound.TheVariants.{Wins, Holds, Fails}
 use Rattle.frz_arena.specs.Codes.{code_of, is_win, is_failure}
+use Rattle.frz_arena.specs.Chess.{ForcesMate}
 use Rattle.frz_arena.specs.WholeTruth.{CanForceMate, MatesIn, IsDead}
 use Rattle.frz_arena.specs.Exits.{IsExit}
 use Rattle.frz_exits.specs.Values.{class_of}
@@ -43,7 +44,7 @@ IsLostOutside rules value side =
     class_of (value q) (other_of side) ≡ Good
 
 -- the outcomes of the table are those of chess: the code of a position is a win exactly where the
--- side forces mate, a failure exactly where its opponent does, and a hold exactly where neither does
+-- side forces mate, a failure exactly where its opponent does, a hold exactly where neither does
 pub record HasExactOutcomes (rules : RuleLines) (side : Colour) (codes : List ℕ) : Type 0 where
   pub win : (p : Board) → Member rules.groups p →
       (is_win (slice_index codes (Num rules.groups p)) ≡ true) ↔ CanForceMate chess side p
@@ -62,3 +63,15 @@ pub record IsExactInChess (rules : RuleLines) (side : Colour) (codes : List ℕ)
       ↔ MatesIn chess (other_of side) n p
   pub hold : (p : Board) → Member rules.groups p →
       (slice_index codes (Num rules.groups p) ≡ code_of Holds) ↔ IsDead chess side p
+
+-- no win of the table takes more plies than this
+abbrev pub HasWinsUpTo : List ℕ → ℕ → Type 0
+HasWinsUpTo codes n =
+    (i : ℕ) → is_win (slice_index codes i) ≡ true → slice_index codes i ≤ code_of (Wins n)
+
+-- the longest mate of the side in the set: at some position it takes n plies and no fewer, and
+-- wherever the side forces mate it does so within n
+pub record IsLongestMate (rules : RuleLines) (side : Colour) (n : ℕ) : Type 0 where
+  pub reached : (p : Board) × Member rules.groups p × MatesIn chess side n p
+  pub longest : (p : Board) → Member rules.groups p → CanForceMate chess side p →
+      ForcesMate chess side n p

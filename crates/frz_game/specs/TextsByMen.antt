@@ -1,5 +1,5 @@
 -- Rules whose exit lines the men alone show to be true, by a test of the lines.
-use Rattle.std.specs.Prelude.{◌≢◌, not, ℕ, Bool, true, false, ◌==◌, ◌&&◌, ◌||◌, nat_le, List}
+use Rattle.std.specs.Prelude.{◌≢◌, not, ℕ, Bool, true, false, ◌==◌, ◌&&◌, ◌||◌, ◌+◌, nat_le, List, [], ◌∷◌, if◌then◌else◌}
 use Rattle.std.specs.List.{list_any, list_all}
 use Rattle.frz_board.specs.declared.man.Colour.{Colour}
 use Rattle.frz_board.specs.declared.man.Colour.TheVariants.{White, Black}
@@ -43,9 +43,22 @@ asks_at_most Always c k n = false
 abbrev pub say_at_most : List Condition → Colour → Kind → ℕ → Bool
 say_at_most conds c k n = list_any (λ cond. not cond.negated && asks_at_most cond.test c k n) conds
 
+-- the groups of the side with men of this kind have together at most so many men
+abbrev pub most_of : List GroupLine → Colour → Kind → ℕ
+most_of [] c k = 0
+most_of (g ∷ groups) c k =
+    (if same_colour g.colour c && list_any (λ state. same_kind state.0 k) g.states
+    then g.most else 0) + most_of groups c k
+
+-- the set has no pawns, and its groups no more such men
+abbrev pub groups_leave_at_most : List GroupLine → Colour → Kind → ℕ → Bool
+groups_leave_at_most groups c k n =
+    not (has_kind groups White Pawn || has_kind groups Black Pawn) && nat_le (most_of groups c k) n
+
 -- where the conditions hold one move outside the set, the side has at most so many such men
 abbrev pub leave_at_most : List GroupLine → List Condition → Colour → Kind → ℕ → Bool
-leave_at_most groups conds c k n = not (may_have groups c k) || say_at_most conds c k n
+leave_at_most groups conds c k n =
+    not (may_have groups c k) || (groups_leave_at_most groups c k n || say_at_most conds c k n)
 
 -- there the side has its king alone
 unfoldable pub leave_bare : List GroupLine → List Condition → Colour → Bool

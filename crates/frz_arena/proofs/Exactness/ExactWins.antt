@@ -84,8 +84,16 @@ module _ {P M V : Type 0} (game : Game P M V) (side : Colour) (free : MovesFreel
       leads_inside (WinsWithin (arena_of game) side n) (IsGoodExit (arena_of game) side n)
       (game.member q) q (game.value q)
       (λ e. ih q e f)
-      (λ o. (counts q (record { from = p; move = m; begins = b; legal = i; ends = refl; outside = o })
-      n).1 f)
+      (λ o. (
+      let x : IsExit game q = record {
+        from = p;
+        move = m;
+        begins = b;
+        legal = i;
+        ends = refl;
+        outside = o;
+      } in
+      (counts q x n).1 f))
 
   pub forced_wins_in : WinsAreCounted game side → (n : ℕ) (p : P) → game.member p ≡ true →
       ForcesMate game.chess side n p → WinsWithin (arena_of game) side n p

@@ -66,9 +66,9 @@ pub fn known_outside<P, M, V>()
         NoneIsBad game (other_of side) → WinsAreCounted game side }
 {}
 
-/// Where a side moves freely, and each value that is bad for it just outside the set is a true win of
-/// its opponent, a failure of the side is a win of its opponent in chess. Where each of these wins
-/// takes at most so many plies, it takes the plies of the failure and so many.
+/// Where a side moves freely, and each value that is bad for it just outside the set is a true win
+/// of its opponent, a failure of the side is a win of its opponent in chess. Where each of these
+/// wins takes at most so many plies, it takes the plies of the failure and so many.
 pub fn failures_are_lost<P, M, V>()
     ensures lost { (game : Game P M V) (side : Colour) → MovesFreely game side →
         TrueLosses game side → (n : ℕ) (p : P) → FailsWithin (arena_of game) side n p →

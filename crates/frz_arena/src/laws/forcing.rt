@@ -47,8 +47,8 @@ pub fn holds_are_safe<P, M, V>()
         NeverForcesMate game.chess (other_of side) p }
 {}
 
-/// Where no move leaves certain positions, and the opponent is mated at none of them, the side never
-/// forces mate at one of them.
+/// Where no move leaves certain positions, and the opponent is mated at none of them, the side
+/// never forces mate at one of them.
 pub fn never_by_positions<P, M>()
     ensures { (chess : Chess P M) (side : Colour) (here : P → Bool) →
         ((p : P) (m : M) → here p ≡ true → Contains (chess.moves p) m

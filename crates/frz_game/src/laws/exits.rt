@@ -1,16 +1,20 @@
 //! What bounds say of chess.
 
-ghost use Rattle.std.specs.Prelude.{◌≡◌, ℕ, []};
+ghost use Rattle.std.specs.Prelude.{◌≡◌, ◌≢◌, ℕ, false, []};
 ghost use Rattle.frz_board.specs.declared.man.Colour.{Colour};
 ghost use Rattle.frz_board.specs.Men.{other_of};
+ghost use Rattle.frz_board.specs.Attacks.{is_in_check};
 ghost use Rattle.frz_board.specs.Boards.{Board};
+ghost use Rattle.frz_fide.specs.Listing.{legal_moves_of};
 ghost use Rattle.frz_sets.specs.declared.exit.Value.{Value};
 ghost use Rattle.frz_sets.specs.Views.{RuleLines};
 ghost use Rattle.frz_index.specs.Members.{Member};
 ghost use Rattle.frz_arena.specs.declared.bound.Bound.TheVariants.{Wins, Holds};
-ghost use Rattle.frz_arena.specs.Chess.{ForcesMate, NeverForcesMate};
+ghost use Rattle.frz_arena.specs.declared.class.Class.TheVariants.{Good};
+ghost use Rattle.frz_arena.specs.Chess.{IsMated, ForcesMate, NeverForcesMate};
 ghost use Rattle.frz_arena.specs.Exits.{TrueExits, AllNumbered, IsTrueAt};
 ghost use Rattle.frz_exits.specs.Books.{value_by};
+ghost use Rattle.frz_exits.specs.Values.{class_of};
 ghost use Rattle.frz_game.specs.Games.{chess, game_of};
 ghost use Rattle.frz_game.specs.Bounds.{ForcesWin, IsBoundAt};
 ghost use Rattle.frz_game.specs.Values.{AreTrueExits, IsTrueValue};
@@ -54,4 +58,13 @@ pub fn no_exit_line()
         → AreTrueExits rules (value_by rules) }
     ensures numbered { (rules : RuleLines) → rules.exits ≡ [] →
         (side : Colour) → AllNumbered (game_of rules (value_by rules)) side }
+{}
+
+/// Where the mover is mated, the value that the other side wins is true there, with any number or
+/// none; where he is stalemated, so is each value by which nobody wins.
+pub fn true_at_ends()
+    ensures mate { (q : Board) (side : Colour) → IsMated chess (other_of side) q →
+        (v : Value) → class_of v side ≡ Good → IsTrueValue v q }
+    ensures stalemate { (q : Board) → legal_moves_of q ≡ [] → is_in_check q q.turn ≡ false →
+        (v : Value) → ((side : Colour) → class_of v side ≢ Good) → IsTrueValue v q }
 {}

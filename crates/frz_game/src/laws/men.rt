@@ -12,6 +12,7 @@ ghost use Rattle.frz_arena.specs.declared.class.Class.TheVariants.{Safe};
 ghost use Rattle.frz_arena.specs.Chess.{NeverForcesMate};
 ghost use Rattle.frz_exits.specs.Books.{value_by};
 ghost use Rattle.frz_exits.specs.Values.{class_of};
+ghost use Rattle.frz_game.specs.ExactTables.{AreDecidedOutside};
 ghost use Rattle.frz_game.specs.Games.{chess};
 ghost use Rattle.frz_game.specs.MenAlone.{HasDeadMen, IsTrueByMen, AreTrueByMen, IsDrawnOutside};
 ghost use Rattle.frz_game.specs.TextsByMen.{are_true_by_men, are_drawn_by_men, HasNoOpenExit};
@@ -39,6 +40,14 @@ pub fn true_by_men()
         AreTrueExits rules value }
 {}
 
+/// Where each way out of the set is drawn by the men, the exits are true and decide the game.
+pub fn drawn_outside()
+    ensures exits { (rules : RuleLines) (value : Board → Value) → IsDrawnOutside rules value →
+        AreTrueExits rules value }
+    ensures decided { (rules : RuleLines) (value : Board → Value) → IsDrawnOutside rules value →
+        AreDecidedOutside rules value }
+{}
+
 /// Rules whose exit lines are true by the men, by a test of their lines, have true exits; and where
 /// all of them are draws, and no exit is open, each way out of the set is drawn by the men.
 pub fn texts_by_men()
@@ -48,9 +57,9 @@ pub fn texts_by_men()
         HasNoOpenExit rules (value_by rules) → IsDrawnOutside rules (value_by rules) }
 {}
 
-/// Only captures leave a set that has men of each kind on every square, and no pawns. Where an exit
-/// line stands for each group that may be short of men, and all lines are draws by the men, each way
-/// out of the set is drawn by the men.
+/// Only captures leave a set whose groups have their men on every square, and no pawns. Where each
+/// group but the kings' may be empty, or an exit line stands for its want of men, and all lines are
+/// draws by the men, each way out of the set is drawn by the men.
 pub fn whole_sets()
     ensures { (rules : RuleLines) → IsWholeSet rules → are_drawn_by_men rules ≡ true →
         IsDrawnOutside rules (value_by rules) }

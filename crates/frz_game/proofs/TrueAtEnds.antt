@@ -1,0 +1,61 @@
+-- What is true of values where the mover is mated or stalemated.
+use Rattle.std.proofs.Common.{◌≡◌, ◌≢◌, ℕ, zero, inr, false, [], refl, subst, arith}
+use Rattle.std.specs.List.{Contains}
+use Rattle.frz_board.specs.declared.man.Colour.{Colour}
+use Rattle.frz_board.specs.declared.man.Colour.TheVariants.{White, Black}
+use Rattle.frz_board.specs.Attacks.{is_in_check}
+use Rattle.frz_board.specs.Boards.{Board}
+use Rattle.frz_board.specs.Men.{other_of}
+use Rattle.frz_fide.specs.Listing.{legal_moves_of}
+use Rattle.frz_sets.specs.declared.exit.Value.{Value}
+use Rattle.frz_sets.specs.declared.exit.Value.TheVariants.{WhiteWins, BlackWins, Draw, WhiteHolds, BlackHolds, Unknown, WhiteWinsIn, BlackWinsIn}
+use Rattle.frz_arena.specs.declared.class.Class.TheVariants.{Good}
+use Rattle.frz_arena.specs.Chess.{IsMated, ForcesMate, NeverForcesMate, mate_alone}
+use Rattle.frz_arena.proofs.Lemmas.{forces_later, never_by, none_in_empty}
+use Rattle.frz_exits.specs.Values.{class_of}
+use Rattle.frz_game.specs.Games.{chess}
+use Rattle.frz_game.specs.Values.{IsTrueValue}
+
+mated_in : (q : Board) (side : Colour) → IsMated chess (other_of side) q → (n : ℕ) →
+    ForcesMate chess side n q
+mated_in q side mated n = forces_later chess mate_alone side zero n q (omega arith) (inr mated)
+
+pub true_at_mate : (q : Board) (side : Colour) → IsMated chess (other_of side) q → (v : Value) →
+    class_of v side ≡ Good → IsTrueValue v q
+true_at_mate q White mated WhiteWins good = (0, mated_in q White mated 0)
+true_at_mate q White mated (WhiteWinsIn n) good = mated_in q White mated n
+true_at_mate q White mated BlackWins good = absurd (cc)
+true_at_mate q White mated (BlackWinsIn n) good = absurd (cc)
+true_at_mate q White mated WhiteHolds good = absurd (cc)
+true_at_mate q White mated BlackHolds good = absurd (cc)
+true_at_mate q White mated Draw good = absurd (cc)
+true_at_mate q White mated Unknown good = absurd (cc)
+true_at_mate q Black mated BlackWins good = (0, mated_in q Black mated 0)
+true_at_mate q Black mated (BlackWinsIn n) good = mated_in q Black mated n
+true_at_mate q Black mated WhiteWins good = absurd (cc)
+true_at_mate q Black mated (WhiteWinsIn n) good = absurd (cc)
+true_at_mate q Black mated WhiteHolds good = absurd (cc)
+true_at_mate q Black mated BlackHolds good = absurd (cc)
+true_at_mate q Black mated Draw good = absurd (cc)
+true_at_mate q Black mated Unknown good = absurd (cc)
+
+-- from a stalemate nobody forces mate
+stalemate_never : (q : Board) → legal_moves_of q ≡ [] → is_in_check q q.turn ≡ false →
+    (side : Colour) → NeverForcesMate chess side q
+stalemate_never q none quiet side =
+    never_by chess side (λ p. (legal_moves_of p ≡ []) × (is_in_check p p.turn ≡ false))
+    (λ p m h i. absurd (none_in_empty m (subst (λ ms. Contains ms m) h.0 i)))
+    (λ p h mated. (let attacked = mated.attacked in let safe = h.1 in cc))
+    q (none, quiet)
+
+pub true_at_stalemate : (q : Board) → legal_moves_of q ≡ [] → is_in_check q q.turn ≡ false →
+    (v : Value) → ((side : Colour) → class_of v side ≢ Good) → IsTrueValue v q
+true_at_stalemate q none quiet WhiteWins h = absurd (h White refl)
+true_at_stalemate q none quiet (WhiteWinsIn n) h = absurd (h White refl)
+true_at_stalemate q none quiet BlackWins h = absurd (h Black refl)
+true_at_stalemate q none quiet (BlackWinsIn n) h = absurd (h Black refl)
+true_at_stalemate q none quiet WhiteHolds h = stalemate_never q none quiet Black
+true_at_stalemate q none quiet BlackHolds h = stalemate_never q none quiet White
+true_at_stalemate q none quiet Draw h =
+    (stalemate_never q none quiet Black, stalemate_never q none quiet White)
+true_at_stalemate q none quiet Unknown h = tt
