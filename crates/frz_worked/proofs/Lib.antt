@@ -1,4 +1,5 @@
 mod Picked
 pub mod TenNumbers
 mod RookText
-mod FortressText
+mod Unconditional
+mod PawnBackText

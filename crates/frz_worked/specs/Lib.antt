@@ -1,3 +1,5 @@
 pub mod Ten
 pub mod RookText
 pub mod FortressText
+pub mod WorkedTexts
+pub mod PawnBack
