@@ -8,8 +8,7 @@ ghost use Rattle.frz_sets.specs.Sets.{size_of};
 ghost use Rattle.frz_sets.specs.Views.{RuleLines};
 ghost use Rattle.frz_rules.specs.Text.{rules_of};
 ghost use Rattle.frz_game.specs.Bounds.{IsTableOf};
-ghost use Rattle.frz_game.specs.ExactTables.{HasNoForbid, IsExactInChess};
-ghost use Rattle.frz_game.specs.MenAlone.{IsDrawnOutside};
+ghost use Rattle.frz_game.specs.ExactBounds.{TableIsExactWhereFree};
 ghost use Rattle.frz_game.specs.SmallLags.{HasSmallLags};
 ghost use Rattle.frz_table.specs.declared.kind.FileKind.{FileKind};
 ghost use Rattle.frz_table.specs.Layout.{magic_of};
@@ -77,15 +76,12 @@ pub fn what_is_exact()
     tables();
 }
 
-/// The one file of rules is exact in chess for each side that no line forbids a move, where each way
-/// out of the set is drawn by the men.
+/// What the one file of rules says of chess, both ways, for each side that no line forbids a move.
 pub fn exact_files()
     ensures white { (rules : RuleLines) (value : Board → Value) (magic text bytes : List ℕ)
         (file : IsOneFile magic text rules value bytes) →
-        HasNoForbid rules White → IsDrawnOutside rules value →
-        IsExactInChess rules White file.white }
+        TableIsExactWhereFree rules value White file.white }
     ensures black { (rules : RuleLines) (value : Board → Value) (magic text bytes : List ℕ)
         (file : IsOneFile magic text rules value bytes) →
-        HasNoForbid rules Black → IsDrawnOutside rules value →
-        IsExactInChess rules Black file.black }
+        TableIsExactWhereFree rules value Black file.black }
 {}

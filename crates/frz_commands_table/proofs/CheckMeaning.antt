@@ -4,7 +4,7 @@ use Rattle.std.specs.Option.{unwrap_or}
 use Rattle.frz_board.specs.declared.man.Colour.{Colour}
 use Rattle.frz_board.specs.declared.man.Colour.TheVariants.{White, Black}
 use Rattle.frz_exits.specs.Books.{value_by}
-use Rattle.frz_game.proofs.Lemmas.{table_exact, table_means, exits_by_men, text_by_men, exact_where_drawn}
+use Rattle.frz_game.proofs.Lemmas.{table_exact, table_means, table_exactly, exits_by_men, text_by_men}
 use Rattle.frz_game.specs.Bounds.{IsTableOf}
 use Rattle.frz_sets.specs.Sets.{size_of}
 use Rattle.frz_store.specs.Files.{Files}
@@ -56,10 +56,10 @@ module _ (table : List ℕ) (files : Files) where
             (kept_codes contents bytes Black) (tables Black);
         true_by_men = λ men. exits_by_men contents.rules (value_by contents.rules)
             (text_by_men contents.rules men);
-        white_exact = λ free drawn. exact_where_drawn contents.rules (value_by contents.rules) White
-            (kept_codes contents bytes White) (tables White) free drawn;
-        black_exact = λ free drawn. exact_where_drawn contents.rules (value_by contents.rules) Black
-            (kept_codes contents bytes Black) (tables Black) free drawn;
+        white_exact = table_exactly contents.rules (value_by contents.rules) White
+            (kept_codes contents bytes White) (tables White);
+        black_exact = table_exactly contents.rules (value_by contents.rules) Black
+            (kept_codes contents bytes Black) (tables Black);
       }
 
   says_verdict : (bytes : List ℕ) → files table ≡ Some bytes → (contents : Contents)

@@ -3,9 +3,8 @@ use Rattle.std.specs.Prelude.{◌≡◌, ℕ, true, List, Some, Ok}
 use Rattle.frz_board.specs.declared.man.Colour.TheVariants.{White, Black}
 use Rattle.frz_exits.specs.Books.{value_by}
 use Rattle.frz_game.specs.Bounds.{IsTableOf}
-use Rattle.frz_game.specs.ExactTables.{HasNoForbid, IsExactInChess}
+use Rattle.frz_game.specs.ExactBounds.{TableIsExactWhereFree}
 use Rattle.frz_game.specs.Meaning.{TableMeans}
-use Rattle.frz_game.specs.MenAlone.{IsDrawnOutside}
 use Rattle.frz_game.specs.TextsByMen.{are_true_by_men}
 use Rattle.frz_game.specs.Values.{AreTrueExits}
 use Rattle.frz_rules.specs.Text.{rules_of}
@@ -46,10 +45,8 @@ pub record Headline (table : List ℕ) (files : Files) : Type 0 where
   pub black_means : TableMeans rules (value_by rules) Black black
   -- where the exit lines are true by the men, the exits are true
   pub true_by_men : are_true_by_men rules ≡ true → AreTrueExits rules (value_by rules)
-  -- and where each way out of the set is drawn by the men, the codes of a side that no line forbids a
-  -- move are exact in chess: no quicker mate exists, with a failure the opponent mates within just
-  -- so many plies, and with a hold neither side forces mate
-  pub white_exact : HasNoForbid rules White → IsDrawnOutside rules (value_by rules) →
-      IsExactInChess rules White white
-  pub black_exact : HasNoForbid rules Black → IsDrawnOutside rules (value_by rules) →
-      IsExactInChess rules Black black
+  -- where no line forbids a side a move, its codes say of chess both ways what TableMeansExactly
+  -- says: so where each way out of the set is drawn by the men, a win within n is a mate in just n
+  -- plies, with a failure the opponent mates in just so many, and with a hold neither side can
+  pub white_exact : TableIsExactWhereFree rules (value_by rules) White white
+  pub black_exact : TableIsExactWhereFree rules (value_by rules) Black black
