@@ -17,7 +17,7 @@ use Rattle.frz_index.specs.Members.{Member}
 use Rattle.frz_arena.specs.declared.bound.Bound.{Bound}
 use Rattle.frz_exits.specs.Books.{value_by}
 use Rattle.frz_game.specs.Numbers.{is_member}
-use Rattle.frz_game.proofs.Lemmas.{bound_means, wins_alone}
+use Rattle.frz_game.proofs.Lemmas.{bound_means, wins_alone, bound_exactly, exits_by_men, text_by_men}
 use Rattle.frz_index.proofs.Lemmas.{member_of, of_member}
 use Rattle.frz_prelude.specs.BoundLines.{bounds_text}
 use Rattle.frz_prelude.specs.Causes.{rules_line}
@@ -37,6 +37,8 @@ tells_bounds r value p white black inside s = record {
   black_means = bound_means r value Black p black inside s.black_is;
   white_alone = wins_alone r value White p white black s.white_is s.black_is;
   black_alone = wins_alone r value Black p black white s.black_is s.white_is;
+  white_exact = λ free. bound_exactly r value White free p inside white s.white_is;
+  black_exact = λ free. bound_exactly r value Black free p inside black s.black_is;
 }
 
 module _ (rules : List ℕ) (p : Board) (files : Files) (a : Answer) where
@@ -58,6 +60,7 @@ module _ (rules : List ℕ) (p : Board) (files : Files) (a : Answer) where
           accepted = accepted;
           inside = inside;
           tells = tells_bounds r (value_by r) p white black inside s;
+          true_by_men = λ men. exits_by_men r (value_by r) (text_by_men r men);
         })
 
     by_rules : (r : RuleLines) → rules_of source ≡ Ok r → (b : Bool) → is_member r.groups p ≡ b

@@ -19,7 +19,10 @@ use Rattle.frz_sets.specs.declared.exit.Value.{Value}
 use Rattle.frz_rules.specs.Text.{rules_of}
 use Rattle.frz_arena.specs.declared.bound.Bound.{Bound}
 use Rattle.frz_exits.specs.Books.{value_by}
+use Rattle.frz_game.specs.ExactBounds.{IsExactWhereFree}
 use Rattle.frz_game.specs.Meaning.{Means, WinsAlone}
+use Rattle.frz_game.specs.TextsByMen.{are_true_by_men}
+use Rattle.frz_game.specs.Values.{AreTrueExits}
 use Rattle.frz_prelude.specs.BoundLines.{bounds_text}
 use Rattle.frz_commands_ask.specs.Solving.{Solves, IsSolvedAt}
 
@@ -35,6 +38,11 @@ pub record TellsBounds (lines : RuleLines) (value : Board → Value) (p : Board)
   pub black_means : Means lines value Black p black
   pub white_alone : WinsAlone white black
   pub black_alone : WinsAlone black white
+  -- where no line forbids a side a move, its bound says of chess both ways what MeansExactly
+  -- says: so where each way out of the set is drawn by the men, `wins within N` is a mate in just
+  -- N plies, `none` a forced loss, and with `holds` neither side can force mate
+  pub white_exact : IsExactWhereFree lines value White p white
+  pub black_exact : IsExactWhereFree lines value Black p black
 
 -- the rules file is there and accepted, the position is in its set, and the text tells its bounds
 pub record TellsSolved (rules : List ℕ) (p : Board) (files : Files) (text : List ℕ) : Type 0 where
@@ -44,6 +52,8 @@ pub record TellsSolved (rules : List ℕ) (p : Board) (files : Files) (text : Li
   pub accepted : rules_of source ≡ Ok lines
   pub inside : Member lines.groups p
   pub tells : TellsBounds lines (value_by lines) p text
+  -- where the exit lines are true by the men, the exits are true
+  pub true_by_men : are_true_by_men lines ≡ true → AreTrueExits lines (value_by lines)
 
 -- the rules file is there and accepted, and the position is not in its set
 pub record IsOutside (rules : List ℕ) (p : Board) (files : Files) : Type 0 where
