@@ -15,10 +15,10 @@ use Rattle.frz_index.proofs.Lemmas.{member_of, number_there, number_missing}
 use Rattle.frz_arena.specs.declared.bound.Bound.{Bound}
 use Rattle.frz_arena.specs.declared.bound.Bound.TheVariants.{Wins}
 use Rattle.frz_arena.specs.declared.class.Class.TheVariants.{Good}
-use Rattle.frz_arena.specs.Chess.{ForcesMate}
+use Rattle.frz_arena.specs.Chess.{ForcesMate, mate_alone}
 use Rattle.frz_arena.specs.Codes.{code_of, is_win}
 use Rattle.frz_arena.specs.Exits.{IsExit, AllNumbered}
-use Rattle.frz_arena.proofs.Lemmas.{more_wins_mate, wins_mates_in}
+use Rattle.frz_arena.proofs.Lemmas.{forces_later, more_wins_mate, wins_mates_in}
 use Rattle.frz_game.specs.Bounds.{IsBoundAt, IsTableOf}
 use Rattle.frz_game.specs.Games.{chess, game_of}
 use Rattle.frz_game.specs.Values.{AreTrueExits}
@@ -32,21 +32,6 @@ use Rattle.frz_chain.proofs.Pairs.{of_pairs}
 -- a value by which the side wins is a mate within so many plies more
 abbrev Forced : Colour → ℕ → Board → Value → Type 0
 Forced side most q v = class_of v side ≡ Good → ForcesMate chess side (lag_of v + most) q
-
--- more plies
-up : (side : Colour) (q : Board) (k n : ℕ) → ForcesMate chess side n q →
-    ForcesMate chess side (n + k) q
-up side q zero n f = let e : n ≡ n + zero = omega arith in subst (λ i. ForcesMate chess side i q) e f
-up side q (suc k) n f =
-    let e : suc (n + k) ≡ n + suc k = omega arith in
-    let more : ForcesMate chess side (suc (n + k)) q = inl (up side q k n f) in
-    subst (λ i. ForcesMate chess side i q) e more
-
-later : (side : Colour) (q : Board) (n k : ℕ) → n ≤ k → ForcesMate chess side n q →
-    ForcesMate chess side k q
-later side q n k h f =
-    let e : n + (k - n) ≡ k = omega arith in
-    subst (λ i. ForcesMate chess side i q) e (up side q (k - n) n f)
 
 -- what holds of the first value, and of the second one where the first is unknown
 of_either : (P : Value → Type 0) (first second : Value) → P first → P second →
@@ -83,13 +68,14 @@ module _ (backs : RuleLines) (value : Board → Value) (back : Back)
       let bound = subst (λ (b : Bound). IsBoundAt backs value side q b) won.1 stored.2 in
       let few = short i win in
       let code : slice_index codes i ≡ 2 + 2 * won.0 = stored.1 ∙ ap code_of won.1 in
-      later side q won.0 most (omega arith)
+      forces_later chess mate_alone side won.0 most q (omega arith)
       (wins_mates_in (game_of backs value) (true_exits backs value exits) side numbered won.0 q
       bound.0)
 
 zero_more : (side : Colour) (most : ℕ) (q : Board) → ForcesMate chess side most q →
     ForcesMate chess side (0 + most) q
-zero_more side most q f = later side q most (0 + most) (omega arith) f
+zero_more side most q f =
+    forces_later chess mate_alone side most (0 + most) q (omega arith) f
 
 -- the values of two codes, for each side
 white_pair : (most : ℕ) (q : Board) (white black : ℕ) →
@@ -159,7 +145,8 @@ chain_within rules backs value back exact own others side own_numbered numbered 
       outside = x.outside;
     } in
     of_either (Forced side most q) (value_by rules q) (back_value back q)
-    (λ good. later side q (lag_of (value_by rules q)) (lag_of (value_by rules q) + most)
+    (λ good. forces_later chess mate_alone side (lag_of (value_by rules q))
+    (lag_of (value_by rules q) + most) q
     (omega arith)
     ((true_exits rules (value_by rules) own q y).wins_in side good (own_numbered q x good)))
     (back_forced backs value back exact others side numbered most short q)))

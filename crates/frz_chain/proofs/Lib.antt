@@ -10,3 +10,4 @@ mod Backs
 mod Checked
 mod Chained
 mod ChainPlies
+mod DecidedBacks

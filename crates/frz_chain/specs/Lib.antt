@@ -7,3 +7,4 @@ pub mod Causes
 pub mod Chains
 pub mod Transfer
 pub mod ChainPlies
+pub mod DecidedBacks

@@ -11,6 +11,9 @@ ghost use Rattle.frz_arena.specs.Chess.{ForcesMate};
 ghost use Rattle.frz_arena.specs.Exits.{AllNumbered};
 ghost use Rattle.frz_game.specs.Bounds.{IsTableOf, IsBoundAt};
 ghost use Rattle.frz_game.specs.Games.{chess, game_of};
+ghost use Rattle.frz_game.specs.ExactTables.{HasExactOutcomes, AreDecidedOutside};
+ghost use Rattle.frz_board.specs.declared.man.Colour.TheVariants.{White, Black};
+ghost use Rattle.frz_chain.specs.DecidedBacks.{AreLinesOrBehind};
 ghost use Rattle.frz_chain.specs.ChainPlies.{WinsWithinPlies, OwnWinsNumbered};
 ghost use Rattle.frz_game.specs.Values.{AreTrueExits, IsTrueValue};
 ghost use Rattle.frz_game.specs.declared.wrong.Wrong.{Wrong};
@@ -61,8 +64,8 @@ pub fn exact_by_verdict()
         opened (table_format Plain) held ≡ Err fault → is_exact held ≡ false }
 {}
 
-/// Where every win of the back table is within some number of plies, a win of a table over it forces
-/// mate within its own plies and that number.
+/// Where every win of the back table is within some number of plies, a win of a table over it
+/// forces mate within its own plies and that number.
 pub fn plies_over_a_chain()
     ensures { (rules backs : RuleLines) (value : Board → Value) (back : Back) →
         IsExactBack backs value back → AreTrueExits rules (value_by rules) →
@@ -70,4 +73,13 @@ pub fn plies_over_a_chain()
         AllNumbered (game_of backs value) side → (most : ℕ) → WinsWithinPlies back side most →
         (n : ℕ) (p : Board) → IsBoundAt rules (chain_value rules back) side p (Wins n) →
         ForcesMate chess side (n + most) p }
+{}
+
+/// Where the outcomes of the back table are those of chess, and each way out of the set is decided
+/// by an exit line or lies in the back table's set, each value outside decides the game.
+pub fn exact_backs()
+    ensures decided { (rules backs : RuleLines) (value : Board → Value) (back : Back) →
+        IsExactBack backs value back → HasExactOutcomes backs White back.white →
+        HasExactOutcomes backs Black back.black → AreLinesOrBehind rules backs back →
+        AreDecidedOutside rules (chain_value rules back) }
 {}

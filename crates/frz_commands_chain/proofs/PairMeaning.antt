@@ -2,7 +2,7 @@
 use Rattle.std.proofs.Common.{Some, ◌≡◌, refl, sym, ap, subst, ℕ, List, Option, Ok}
 use Rattle.frz_board.specs.declared.man.Colour.TheVariants.{White, Black}
 use Rattle.frz_exits.specs.Books.{value_by}
-use Rattle.frz_game.proofs.Lemmas.{plies_few, table_means}
+use Rattle.frz_game.proofs.Lemmas.{plies_few, table_means, table_exactly}
 use Rattle.frz_rules.specs.Text.{rules_of}
 use Rattle.frz_rules.proofs.Lemmas.{text_sound}
 use Rattle.frz_sets.specs.Sets.{size_of}
@@ -18,7 +18,7 @@ use Rattle.frz_check.specs.Kept.{kept_codes}
 use Rattle.frz_check.proofs.Lemmas.{file_tables, one_file_holds, one_file_opens, tables_are_one}
 use Rattle.frz_chain.specs.Books.{Back, chain_value}
 use Rattle.frz_chain.specs.FileOn.{IsExactBack, IsFileOn, back_of}
-use Rattle.frz_chain.proofs.Lemmas.{chain_small, chained_true}
+use Rattle.frz_chain.proofs.Lemmas.{chain_small, chained_true, chain_decided}
 use Rattle.frz_answer.specs.declared.status.Status.{Status}
 use Rattle.frz_answer.specs.declared.status.Status.TheVariants as statuses
 use Rattle.frz_answer.specs.Answers.{Answer, says}
@@ -104,6 +104,17 @@ module _ (table back : List ℕ) (files : Files) where
             table_means rules value Black (kept_codes h.contents h.bytes Black) (h.judged Black);
         true_exits = λ own others. chained_true rules k.contents.rules (value_by k.contents.rules)
             h.behind exact own others;
+        back_white_exact =
+            table_exactly k.contents.rules (value_by k.contents.rules) White h.behind.white
+            exact.white;
+        back_black_exact =
+            table_exactly k.contents.rules (value_by k.contents.rules) Black h.behind.black
+            exact.black;
+        white_exact =
+            table_exactly rules value White (kept_codes h.contents h.bytes White) (h.judged White);
+        black_exact =
+            table_exactly rules value Black (kept_codes h.contents h.bytes Black) (h.judged Black);
+        decided = chain_decided rules k.contents.rules (value_by k.contents.rules) h.behind exact;
       }
 
   says_verdict : (v : Verdict) → (h : IsJudgedPair (files table) (files back) v)

@@ -3,6 +3,8 @@ use Rattle.std.specs.Prelude.{◌≡◌, ℕ, List, Some, Ok}
 use Rattle.frz_board.specs.declared.man.Colour.TheVariants.{White, Black}
 use Rattle.frz_exits.specs.Books.{value_by}
 use Rattle.frz_game.specs.Bounds.{IsTableOf}
+use Rattle.frz_game.specs.ExactBounds.{TableIsExactWhereFree}
+use Rattle.frz_game.specs.ExactTables.{HasExactOutcomes, AreDecidedOutside}
 use Rattle.frz_game.specs.Meaning.{TableMeans}
 use Rattle.frz_game.specs.Values.{AreTrueExits}
 use Rattle.frz_rules.specs.Text.{rules_of}
@@ -15,6 +17,7 @@ use Rattle.frz_table.specs.Numbers.{AreBytes}
 use Rattle.frz_table.specs.Tables.{IsTableFile}
 use Rattle.frz_check.specs.OneFile.{IsOneFile}
 use Rattle.frz_chain.specs.Books.{Back, back_with, chain_value}
+use Rattle.frz_chain.specs.DecidedBacks.{AreLinesOrBehind}
 use Rattle.frz_chain.specs.FileOn.{IsExactBack, IsFileOn}
 
 -- BACK is an exact table by its own exit lines, and TABLE one over it
@@ -56,3 +59,15 @@ pub record ChainHeadline (table back : List ℕ) (files : Files) : Type 0 where
   pub true_exits : AreTrueExits rules (value_by rules)
       → AreTrueExits back_rules (value_by back_rules)
       → AreTrueExits rules (chain_value rules behind)
+  -- where no line of BACK forbids a side a move, its codes there say of chess both ways what
+  -- TableMeansExactly says; and so do those of TABLE, by its exit lines and BACK behind them
+  pub back_white_exact : TableIsExactWhereFree back_rules (value_by back_rules) White behind.white
+  pub back_black_exact : TableIsExactWhereFree back_rules (value_by back_rules) Black behind.black
+  pub white_exact : TableIsExactWhereFree rules (chain_value rules behind) White white
+  pub black_exact : TableIsExactWhereFree rules (chain_value rules behind) Black black
+  -- where the outcomes in BACK are those of chess, and each way out of TABLE's set is decided by an
+  -- exit line or lies in BACK's set, each value outside TABLE's set decides the game
+  pub decided : HasExactOutcomes back_rules White behind.white →
+      HasExactOutcomes back_rules Black behind.black →
+      AreLinesOrBehind rules back_rules behind →
+      AreDecidedOutside rules (chain_value rules behind)
