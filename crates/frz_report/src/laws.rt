@@ -36,8 +36,8 @@ pub fn classes_in_words()
 {}
 
 /// A squeeze of the tables of both sides that shows a win is a mutual zugzwang of chess, where the
-/// exits are true: the side that wins forces mate where its opponent is to move, and not where it is
-/// to move itself.
+/// exits are true: the side that wins forces mate where its opponent is to move, and not where it
+/// is to move itself.
 pub fn squeezes_are_zugzwangs()
     ensures white { (rules : RuleLines) (value : Board → Value) → AreTrueExits rules value →
         (codes : Colour → List ℕ) →
