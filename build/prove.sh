@@ -7,7 +7,7 @@
 . "$top/build/machine.sh"
 
 most_left=$((2 * 1000 * 1000)) # kilobytes in crates/*/out when the program is built
-short_check=2                  # seconds that rt takes for a crate of which all is proved
+sums_a_second=120              # of the sources of a crate below, which rt makes once for each path to it
 
 is_built() {
     [ -x "$program" ] && [ -z "$(find "$top/crates.txt" "$top"/crates/*/src -newer "$program" -print -quit)" ]
@@ -87,10 +87,11 @@ gather() {
 }
 
 # What each check is expected to take: the seconds of build/seconds; for a crate that is not there,
-# their mean; and next to nothing for a crate that is proved already. This machine counts as quick as
+# their mean; and what rt takes to see it for a crate that is proved already. This machine counts as quick as
 # the one of those seconds until it has shown otherwise: a twentieth of all weighs for that.
 read_seconds() {
-    local name seconds sum=0 count=0 mean
+    local name below seconds sum=0 count=0 mean
+    local -A paths=()
     declare -gA expected=() kept=()
     while read -r name seconds; do
         case "$name" in '' | '#'*) continue ;; esac
@@ -100,9 +101,13 @@ read_seconds() {
     mean=$((count > 0 ? sum / count : 60))
     seconds_gone=$((sum / 20)) seconds_expected=$((sum / 20))
     for name in "${upwards[@]}"; do
+        paths[$name]=1
+        for below in ${stands_on[$name]}; do
+            paths[$name]=$((${paths[$name]} + ${paths[$below]:-0}))
+        done
         if is_kept "$name"; then
             kept[$name]="yes"
-            expected[$name]=$short_check
+            expected[$name]=$((1 + ${paths[$name]} / sums_a_second))
         else
             expected[$name]=${expected[$name]:-$mean}
         fi

@@ -17,8 +17,11 @@ test_crates_are_proved_in_order() {
     has "$err" "built in 0 min"
 }
 
+one_processor() { printf '#!/bin/sh\necho 1\n' > "$room/bin/nproc"; }
+
 test_what_most_waits_for_goes_first() {
     make_toy
+    one_processor
     echo "b 40" >> "$toy/build/seconds"
     run "$toy/freezer" words
     before "begin b" "begin c"
@@ -31,12 +34,14 @@ test_what_most_waits_for_goes_first() {
 
 test_as_many_at_once_as_processors() {
     make_toy
-    takes b 0.4
-    takes c 0.4
+    takes b 2
+    takes c 2
     run "$toy/freezer" words
     before "begin b" "end c"
     before "begin c" "end b"
-    printf '#!/bin/sh\necho 1\n' > "$room/bin/nproc"
+    one_processor
+    takes b 0
+    takes c 0
     rm -rf "$toy"/crates/*/out
     : > "$FAKE_LOG"
     run "$toy/freezer" words
@@ -178,7 +183,7 @@ test_what_is_left_is_told() {
     has "$err" "5 crates, 2 at a time; about 16 s left, by the last build's times; the longest chain: a b d freezer (16 s)"
     rm -rf "$toy"/crates/freezer/out
     run "$toy/freezer" words
-    has "$err" "5 crates, 2 at a time; about 10 s left"
+    has "$err" "5 crates, 2 at a time; about 7 s left"
 }
 
 left() { awk -v places="$1" -f "$repository/build/left.awk"; }
