@@ -55,8 +55,8 @@ has_disk() {
 # The build writes into out/ at the top, and into crates/*/out.
 has_folder() {
     local folder
-    for folder in "$top" "$top"/crates/*/; do
-        if ! [ -w "$folder" ] || ! [ -x "$folder" ]; then
+    for folder in "$top" "$top"/crates/*/ "$top"/crates/*/out/; do
+        if [ -e "$folder" ] && { [ ! -w "$folder" ] || [ ! -x "$folder" ]; }; then
             tell "wanted: a folder that can be written. ${folder%/} is read-only"
             return 1
         fi

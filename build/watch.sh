@@ -13,8 +13,8 @@ is_watched() {
     case "${words[0]-}/${#words[@]}" in build/3 | check/2 | chain/4 | chaincheck/3) ;; *) return 1 ;; esac
 }
 
-# Rewrites a line each few seconds, as long as the process is there. The line stands one below the
-# place where the program goes on to write, which is where it leaves the cursor.
+# Rewrites a line each three seconds (FREEZER_EVERY is for the tests), as long as the process is there.
+# The line stands one below the place where the program goes on to write, and the cursor is left there.
 watch_process() {
     local never columns text
     exec {never}<> <(:)
@@ -22,7 +22,7 @@ watch_process() {
         columns=$(stty size <&2 2>/dev/null | cut -d ' ' -f 2)
         [[ $columns =~ ^[1-9] ]] || columns=80
         text="freezer: $(how_far "$2"), $(clock "$SECONDS")$(of_expected "$2")"
-        printf '\n\r\e[K%s\e[A\r' "${text:0:columns-1}" >&2
+        printf '\e[J\n\r%s\e[A\r' "${text:0:columns-1}" >&2
     done
 }
 

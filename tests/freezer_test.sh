@@ -77,6 +77,14 @@ test_a_table_that_is_there_is_replaced_by_a_whole_one() {
     files_are $'link_to_table\ntable'
 }
 
+test_a_run_that_replaces_a_table_has_its_input() {
+    make_built_toy
+    echo 'cat; echo new > "$3"' > A
+    echo old > table
+    out=$(printf 'in\nput' | "$toy/freezer" build A table)
+    is "$? $out" $'0 in\nput' "the answer"
+}
+
 test_a_run_that_fails_leaves_the_old_table() {
     make_built_toy
     echo 'echo half > "$3"; echo "store fault"; exit 8' > A

@@ -5,15 +5,15 @@ on_terminal() { out=$(FREEZER_EVERY=0.2 "$repository/tests/terminal" "" 0 "$@");
 
 slow_build() {
     make_built_toy
-    echo 'sleep 0.7; head_of_table > "$3"; sleep 0.7; codes_of_a_side >> "$3"; sleep 0.7; codes_of_a_side >> "$3"; sleep 0.5; echo "built 1000"' > A
+    echo 'sleep 2; head_of_table > "$3"; sleep 2; codes_of_a_side >> "$3"; sleep 2; codes_of_a_side >> "$3"; sleep 0.2; echo "built 1000"' > A
 }
 
 test_a_build_tells_numbers_and_sides() {
     slow_build
     on_terminal "$toy/freezer" build A table
-    has "$out" "freezer: reading the rules, 0:00"
+    has "$out" "freezer: reading the rules, 0:0"
     has "$out" "freezer: 1000 numbers: solving White, 0:0"
-    has "$out" "freezer: 1000 numbers: White solved, solving Black, 0:0"
+    has "$out" "freezer: 1000 numbers: White solved, solving Black, 0:"
     has "$out" " of about 0:01"
     has "$out" "built 1000"
     has "$out" "status 0"
@@ -23,7 +23,7 @@ test_a_build_over_an_old_table_tells_of_the_new_one() {
     slow_build
     echo old > table
     on_terminal "$toy/freezer" build A table
-    has "$out" "freezer: 1000 numbers: White solved, solving Black, 0:0"
+    has "$out" "freezer: 1000 numbers: White solved, solving Black, 0:"
     is "$(stat -c %s table)" 8016 "bytes of the table"
 }
 
@@ -31,13 +31,13 @@ test_the_line_is_taken_away() {
     slow_build
     on_terminal "$toy/freezer" build A table
     has "$out" $'built 1000\r\n'
-    is "${out##*$'built 1000\r\n'}" $'\r\e[J\nstatus 0' "what comes behind the answer"
+    case "$out" in *$'\r\e[J\nstatus 0') ;; *) fail "the last that comes is: $out" ;; esac
 }
 
 test_a_check_tells_of_its_table() {
     make_built_toy
     (printf 'FREEZER2\0\0\0\0\0\0\0\4'; printf '') > table
-    printf '#\nsleep 0.7; echo "exact"\n' > check_me
+    printf '#\nsleep 2; echo "exact"\n' > check_me
     on_terminal "$toy/freezer" check check_me
     has "$out" "freezer: checking, 0:0"
     has "$out" "exact"
@@ -49,7 +49,7 @@ test_a_check_tells_of_its_table() {
 
 test_a_chain_tells_of_both_tables() {
     make_built_toy
-    echo 'sleep 0.7; head_of_table > "$4"; sleep 0.7; echo chained' > A
+    echo 'sleep 2; head_of_table > "$4"; sleep 2; echo chained' > A
     printf 'FREEZER2\0\0\0\0\0\0\0\4' > back
     on_terminal "$toy/freezer" chain A back table
     has "$out" "freezer: 67108864 numbers: checking the table behind, 0:0"
