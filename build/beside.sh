@@ -13,7 +13,7 @@ begin_beside() {
     IFS= read -r -d '' target < <(realpath -z -- "${words[makes]}")
     folder=${target%/*}/ name=${target##*/}
     if ! half=$(mktemp "$folder${name:0:200}.unfinished-XXXXXX" 2>/dev/null); then
-        tell "wanted: a folder that can be written. A new file is made beside the old one, and ${folder} is read-only"
+        tell "wanted: a folder that can be written. The new file is made beside the old one in $folder"
         printf 'store fault\n' 2>/dev/null || exit 9
         exit 8
     fi

@@ -119,7 +119,7 @@ read_seconds() {
 is_kept() {
     local below stamp="$top/crates/$1/out/rlib/stamp"
     [ -f "$stamp" ] || return 1
-    [ -z "$(find "$top/crates/$1" -path '*/out' -prune -o -newer "$stamp" -type f -print -quit)" ] || return 1
+    find "$top/crates/$1" -path '*/out' -prune -o -newer "$stamp" -type f -print -quit | grep -q . && return 1
     for below in ${stands_on[$1]}; do
         [ -z "${stands_on[$below]+there}" ] || [ -n "${kept[$below]+there}" ] || return 1
     done
@@ -136,7 +136,9 @@ rank_crates() {
             [ "${rank[$below]:-0}" -ge "${rank[$name]}" ] || rank[$below]=${rank[$name]}
         done
     done
-    mapfile -t crates < <(for name in "${upwards[@]}"; do echo "${rank[$name]} $name"; done | sort -rn | cut -d ' ' -f 2)
+    mapfile -t crates < <(
+        for name in "${upwards[@]}"; do echo "${rank[$name]} $name"; done | sort -rn | cut -d ' ' -f 2
+    )
 }
 
 # As many checks at once as there are processors, and 4 GB of free memory for each.
@@ -151,10 +153,11 @@ count_places() {
 # The end of a line: how long the build has still to go, and by what chain of crates. The seconds
 # expected are those of another machine; what has been proved shows how this one compares with it.
 what_is_left() {
-    local name below time chain names minutes
+    local name below gone time chain names minutes
     read -r time chain names < <(
         for name in "${crates[@]}"; do
-            printf '%s %s %s %s' "$name" "${state[$name]}" "$(scaled "$name")" "$((SECONDS - ${started[$name]:-SECONDS}))"
+            gone=$((SECONDS - ${started[$name]:-SECONDS}))
+            printf '%s %s %s %s' "$name" "${state[$name]}" "$(scaled "$name")" "$gone"
             for below in ${stands_on[$name]}; do
                 [ -z "${stands_on[$below]+there}" ] || printf ' %s' "$below"
             done
@@ -301,5 +304,6 @@ free_most() {
         rm -rf "$top/crates/$name/out/rlib"
         left=$((left - sizes[$name]))
     done
-    tell "left behind: $(in_gigabytes "$left") in crates/*/out, which a build after a change begins with (all of it with FREEZER_KEEP=1); the program runs without it: rm -rf $(printf '%q' "$top")/crates/*/out/{rlib,incremental} frees it"
+    tell "left behind: $(in_gigabytes "$left") in crates/*/out, with which a build after a change begins"
+    tell "the program runs without it: rm -rf $(printf '%q' "$top")/crates/*/out/{rlib,incremental} frees it"
 }

@@ -16,13 +16,14 @@ is_watched() {
 # Rewrites a line each three seconds (FREEZER_EVERY is for the tests), as long as the process is there.
 # The line stands one below the place where the program goes on to write, and the cursor is left there.
 watch_process() {
-    local never columns text
-    exec {never}<> <(:)
+    local never screen columns text
+    # What is cut off in the middle, when this ends, has nothing to say.
+    exec {never}<> <(:) {screen}>&2 2>/dev/null
     while read -r -t "${FREEZER_EVERY:-3}" -u "$never"; [ -d "/proc/$1" ]; do
-        columns=$(stty size <&2 2>/dev/null | cut -d ' ' -f 2)
+        columns=$(stty size <&"$screen" | cut -d ' ' -f 2)
         [[ $columns =~ ^[1-9] ]] || columns=80
         text="freezer: $(how_far "$2"), $(clock "$SECONDS")$(of_expected "$2")"
-        printf '\e[J\n\r%s\e[A\r' "${text:0:columns-1}" >&2
+        printf '\e[J\n\r%s\e[A\r' "${text:0:columns-1}" >&"$screen"
     done
 }
 

@@ -154,7 +154,7 @@ test_little_is_left_behind() {
     for name in a b c d; do
         is "$(kept $name incremental) $(kept $name rlib)" "no yes" "what is left of $name"
     done
-    has "$err" "left behind: 0.0 GB in crates/*/out"
+    has "$err" "left behind: 0.0 GB in crates/*/out, with which a build after a change begins"
     has "$err" "rm -rf $toy/crates/*/out/{rlib,incremental} frees it"
 }
 
@@ -201,10 +201,10 @@ test_what_is_left_goes_through_the_build() {
 test_what_is_left_comes_true() {
     local name told began ended
     make_toy
-    for name in a b c d freezer; do takes $name 2; done
-    sed -i 's/ 4$/ 8/' "$toy/build/seconds"
+    for name in a b c d freezer; do takes $name 4; done
+    sed -i 's/ 4$/ 16/' "$toy/build/seconds"
     run "$toy/freezer" words
-    has "$err" "about 32 s left"
+    has "$err" "about 64 s left"
     told=$(sed -n 's/^freezer: 3 of 5: .*about \([0-9]*\) s left.*/\1/p' <<<"$err")
     began=$(awk '/^end [bc] / { print $3 }' "$FAKE_LOG" | tail -n 1)
     ended=$(awk '/^end freezer / { print $3 }' "$FAKE_LOG")
