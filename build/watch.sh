@@ -1,0 +1,96 @@
+# shellcheck shell=bash
+# Tells how far a command over a large set is, while it runs. Sourced by ./freezer.
+# It looks at the files alone: the numbers of a set stand in the head of its table, and build writes
+# White's codes before it solves Black.
+
+# Nanoseconds a number, by docs/SPEED.md: the sets as large as a set may be.
+to_build=4600
+to_check=1000
+
+# One of the long commands is given, and somebody sees what is told.
+is_watched() {
+    [ -t 2 ] && [ -z "${FREEZER_QUIET+set}" ] && [ "${TERM:-dumb}" != dumb ] || return 1
+    case "${words[0]-}/${#words[@]}" in build/3 | check/2 | chain/4 | chaincheck/3) ;; *) return 1 ;; esac
+}
+
+# Rewrites a line each three seconds (FREEZER_EVERY is for the tests), as long as the process is there.
+# The line stands one below the place where the program goes on to write, and the cursor is left there.
+watch_process() {
+    local never screen columns text
+    # What is cut off in the middle, when this ends, has nothing to say.
+    exec {never}<> <(:) {screen}>&2 2>/dev/null
+    while read -r -t "${FREEZER_EVERY:-3}" -u "$never"; [ -d "/proc/$1" ]; do
+        columns=$(stty size <&"$screen" | cut -d ' ' -f 2)
+        [[ $columns =~ ^[1-9] ]] || columns=80
+        text="freezer: $(how_far "$2"), $(clock "$SECONDS")$(of_expected "$2")"
+        printf '\e[J\n\r%s\e[A\r' "${text:0:columns-1}" >&"$screen"
+    done
+}
+
+# Takes the line away.
+end_watch() { printf '\r\e[J' >&2; }
+
+# What the command does now; $1 is the file that it makes, if it makes one.
+how_far() {
+    local numbers
+    case "${words[0]}" in
+        check) told_of "$(numbers_of "${words[1]}")" "checking" ;;
+        chaincheck) told_of "$(numbers_of "${words[1]}")" "checking it and the table behind" ;;
+        *)
+            numbers=$(numbers_of "$1")
+            if [ -n "$numbers" ]; then
+                told_of "$numbers" "$(side_of "$1" "$numbers")"
+            elif [ "${words[0]}" = chain ]; then
+                told_of "$(numbers_of "${words[2]}")" "checking the table behind"
+            else
+                echo "reading the rules"
+            fi
+            ;;
+    esac
+}
+
+told_of() { echo "${1:+$1 numbers: }$2"; }
+
+# How far the file of a table has grown says which side is solved.
+side_of() {
+    local size whole
+    size=$(stat -L -c %s -- "$1" 2>/dev/null) || size=0
+    whole=$(($(word_at "$1" 8) + 16 + 8 * $2))
+    if [ "$size" -lt $((whole - 4 * $2)) ]; then
+        echo "solving White"
+    elif [ "$size" -lt "$whole" ]; then
+        echo "White solved, solving Black"
+    else
+        echo "both sides solved"
+    fi
+}
+
+# The time that the sets' numbers let expect.
+of_expected() {
+    local numbers back time
+    case "${words[0]}" in
+        build) numbers=$(numbers_of "$1") time=$((${numbers:-0} * to_build)) ;;
+        check) numbers=$(numbers_of "${words[1]}") time=$((${numbers:-0} * to_check)) ;;
+        chain) numbers=$(numbers_of "$1") back=$(numbers_of "${words[2]}")
+            time=$((${numbers:-0} * to_build + ${back:-0} * to_check)) ;;
+        chaincheck) numbers=$(numbers_of "${words[1]}") back=$(numbers_of "${words[2]}")
+            time=$((${numbers:-0} * to_check + ${back:-0} * to_check)) ;;
+    esac
+    [ -z "$numbers" ] || echo " of about $(clock $((time / 1000000000 + 1)))"
+}
+
+clock() { printf '%d:%02d' $(($1 / 60)) $(($1 % 60)); }
+
+# The numbers of the set whose table begins in this file; nothing where they are not there yet.
+numbers_of() {
+    local length
+    length=$(word_at "$1" 8)
+    [ -z "$length" ] || [ "$length" -gt 65536 ] || word_at "$1" $((12 + length))
+}
+
+# The number that the four bytes behind this place of the file make.
+word_at() {
+    local bytes
+    bytes=$(od -An -v -tu4 --endian=little -j "$2" -N 4 -- "$1" 2>/dev/null)
+    [ -z "$bytes" ] || echo $((bytes))
+}
