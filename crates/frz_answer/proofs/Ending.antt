@@ -17,7 +17,7 @@ use Rattle.frz_answer.specs.Statuses.{OneOf, end_of_fault}
 use Rattle.frz_answer.specs.Texts.{TookText, FailedWithin}
 use Rattle.frz_answer.specs.World.{World, Agrees, Later, Fine, Quiet, spent}
 use Rattle.frz_answer.specs.Answers.{Answer, says, SomeAnswer, held, NoMore}
-use Rattle.frz_answer.specs.Jobs.{Job, Sees, Never}
+use Rattle.frz_answer.specs.Jobs.{Job, Never}
 use Rattle.frz_answer.specs.Ends.{MayMeet, MayHaveWritten, WritesOnly, Leaves, Answered, Ran, Said}
 use Rattle.frz_answer.proofs.Telling.{agreed, drop_none, append_nothing, append_twice}
 use Rattle.frz_answer.proofs.Worlds.{only_unwritten, risen_later, given_part}
@@ -66,7 +66,7 @@ pub stopped_doing : (job : Job) (fault : Fault) (old new : World) → Later old 
     → MayMeet job fault old new → WritesOnly job.writes old.store new.store
     → ((MayHaveWritten (Stopped fault) → ⊥) → Unwritten old.store new.store)
     → new.out.taken ≡ old.out.taken
-    → (Sees job.needs.reads old → (files : Files) (input : List ℕ) → Agrees old files input
+    → ((files : Files) (input : List ℕ) → Agrees old files input
     → Doing job files input old new) → Ran job (Stopped fault) old new
 stopped_doing job fault old new later meets only unwritten same doing =
     let text : new.out.taken ≡ append_known old.out.taken [] = same
@@ -78,8 +78,8 @@ stopped_doing job fault old new later meets only unwritten same doing =
       only = only;
       unwritten = unwritten;
       room = tt;
-      answered = λ sees files input agrees.
-          let here = doing sees files input agrees in
+      answered = λ files input agrees.
+          let here = doing files input agrees in
           answered_over here.found here.some.a here.some.answer
           (record {
             lines = [];
@@ -107,13 +107,13 @@ nothing_done a old new quiet = record {
 -- a fault before anything was written
 pub stopped : (job : Job) (fault : Fault) (old new : World) → Quiet old new
     → MayMeet job fault old new
-    → (Sees job.needs.reads old → (files : Files) (input : List ℕ) → Agrees old files input
+    → ((files : Files) (input : List ℕ) → Agrees old files input
     → Begun job files input old new) → Ran job (Stopped fault) old new
 stopped job fault old new quiet meets begun =
     stopped_doing job fault old new quiet.later meets
     (only_unwritten job.writes old.store new.store quiet.store) (λ _. quiet.store) quiet.taken
-    (λ sees files input agrees.
-    let here = begun sees files input agrees in
+    (λ files input agrees.
+    let here = begun files input agrees in
     record {
       found = here.found;
       some = here.some;
@@ -126,7 +126,7 @@ pub refused : (job : Job) (refusal : StoreFault) (end : End) (old new : World)
     → end ≡ end_of_fault refusal → Quiet old new
     → IsTrue job.needs.store → IsTrue job.needs.memory
     → (refusal ≡ refusals.Failed → Rose old.store.faults new.store.faults)
-    → (Sees job.needs.reads old → (files : Files) (input : List ℕ) → Agrees old files input
+    → ((files : Files) (input : List ℕ) → Agrees old files input
     → Begun job files input old new) → Ran job end old new
 refused job refusals.Failed end old new e quiet asks wants rose begun =
     subst (λ (x : End). Ran job x old new) (sym e)
@@ -164,7 +164,7 @@ module _ (job : Job) (status : Status) (line : List ℕ) (old mid : World) (out 
       → WritesOnly job.writes old.store mid.store → (old.store.room ≡ 0 → mid.store.room ≡ 0)
       → ((MayHaveWritten (Done status) → ⊥) → Unwritten old.store mid.store)
       → OneOf status job.statuses → Said status line end mid.out out
-      → (Sees job.needs.reads old → (files : Files) (input : List ℕ) → Agrees old files input
+      → ((files : Files) (input : List ℕ) → Agrees old files input
       → Closes job status line files input old mid) → Ran job end old (record mid { out = out })
   closed end later fine only room unwritten one said closes = by_end said.says
     where
@@ -195,8 +195,8 @@ module _ (job : Job) (status : Status) (line : List ℕ) (old mid : World) (out 
             only = only;
             unwritten = unwritten;
             room = room;
-            answered = λ sees files input agrees.
-                let here = closes sees files input agrees in
+            answered = λ files input agrees.
+                let here = closes files input agrees in
                 answered_over here.found here.a here.answer (
                   here.status_is,
                   record {
@@ -217,8 +217,8 @@ module _ (job : Job) (status : Status) (line : List ℕ) (old mid : World) (out 
             only = only;
             unwritten = λ none. absurd (none tt);
             room = tt;
-            answered = λ sees files input agrees.
-                let here = closes sees files input agrees in
+            answered = λ files input agrees.
+                let here = closes files input agrees in
                 answered_over here.found here.a here.answer
                 (record {
                   written = here.lines ++ take k line;
@@ -243,14 +243,14 @@ pub record SaysAll (job : Job) (status : Status) (line : List ℕ) (files : File
 pub said : (job : Job) (status : Status) (line : List ℕ) (end : End) (old mid : World)
     (out : SinkTold) → Quiet old mid → Fine old mid → OneOf status job.statuses
     → Said status line end mid.out out
-    → (Sees job.needs.reads old → (files : Files) (input : List ℕ) → Agrees old files input
+    → ((files : Files) (input : List ℕ) → Agrees old files input
     → SaysAll job status line files input old mid) → Ran job end old (record mid { out = out })
 said job status line end old mid out quiet fine one says_it answers =
     closed job status line old mid out end quiet.later fine
     (only_unwritten job.writes old.store mid.store quiet.store) (λ none. quiet.store.room ∙ none)
     (λ _. quiet.store) one says_it
-    (λ sees files input agrees.
-    let here = answers sees files input agrees in record {
+    (λ files input agrees.
+    let here = answers files input agrees in record {
       found = here.found;
       a = says status line here.found.files;
       answer = here.answer;

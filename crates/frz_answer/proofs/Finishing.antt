@@ -14,7 +14,7 @@ use Rattle.frz_answer.specs.Statuses.{code_of, fault_code, sink_code, fault_line
 use Rattle.frz_store.specs.Told.{SinkTold}
 use Rattle.frz_answer.specs.World.{World, Agrees}
 use Rattle.frz_answer.specs.Answers.{Answer, TookLines, NoMore, Begins}
-use Rattle.frz_answer.specs.Jobs.{Job, Sees}
+use Rattle.frz_answer.specs.Jobs.{Job}
 use Rattle.frz_answer.specs.Ends.{MayMeet, MayHaveWritten, LeavesNoRoom, Answered, Ran}
 use Rattle.frz_answer.specs.Outcomes.{NamesFault, Gave, Finished, HasStatus, Answering, IsComplete, Whole, Halted, CutOff, Outcome}
 use Rattle.frz_answer.proofs.Telling.{append_twice}
@@ -117,9 +117,8 @@ module _ (job : Job) (status : ℕ) (old mid : World) (out : SinkTold) where
   new = record mid { out = out }
 
   -- the answer over what is told, or over some files and input where nothing is
-  abbrev told_answer : (end : End) → Ran job end old mid → Sees job.needs.reads old
-      → Answered job (unwrap_or old.store.files no_files) (unwrap_or old.input.left []) end old mid
-  told_answer end ran sees = ran.answered sees _ _ (agrees_told old)
+  abbrev told_answer : (end : End) → Ran job end old mid → Answered job (unwrap_or old.store.files no_files) (unwrap_or old.input.left []) end old mid
+  told_answer end ran = ran.answered _ _ (agrees_told old)
 
   abbrev answering : (end : End) (files : Files) (input : List ℕ)
       → ((f : Files) (i : List ℕ) (a : Answer) → job.answers f i a → job.means f i a)
@@ -205,9 +204,9 @@ module _ (job : Job) (status : ℕ) (old mid : World) (out : SinkTold) where
     module _ (law : (f : Files) (i : List ℕ) (a : Answer) → job.answers f i a
         → job.means f i a) where
       honest : (end : End) → Ran job end old mid → Gave end status mid.out out → (s : Status)
-          → status ≡ code_of s → Sees job.needs.reads old → Whole job status old new
-      honest (Done t) ran gave s e sees =
-          let here = told_answer (Done t) ran sees in
+          → status ≡ code_of s → Whole job status old new
+      honest (Done t) ran gave s e =
+          let here = told_answer (Done t) ran in
           let files : Files = unwrap_or old.store.files no_files in
           let input : List ℕ = unwrap_or old.input.left [] in
           record {
@@ -219,28 +218,28 @@ module _ (job : Job) (status : ℕ) (old mid : World) (out : SinkTold) where
               text = ap (λ (o : SinkTold). o.taken) gave.1 ∙ here.leaves.1.text;
             };
           }
-      honest SinkFault ran gave s e sees = own_nine s status e gave.0
-      honest (Stopped met) ran (inl h) s e sees = own_fault s met status e h.0
-      honest (Stopped met) ran (inr h) s e sees = own_nine s status e h.0
+      honest SinkFault ran gave s e = own_nine s status e gave.0
+      honest (Stopped met) ran (inl h) s e = own_fault s met status e h.0
+      honest (Stopped met) ran (inr h) s e = own_nine s status e h.0
 
       halted : (end : End) → Ran job end old mid → Gave end status mid.out out → (fault : Fault)
-          → status ≡ fault_code fault → Sees job.needs.reads old → Halted job fault old new
-      halted (Done s) ran gave fault e sees = own_fault s fault status gave.0 e
-      halted SinkFault ran gave fault e sees = nine_fault fault status gave.0 e
-      halted (Stopped met) ran (inl h) fault e sees =
+          → status ≡ fault_code fault → Halted job fault old new
+      halted (Done s) ran gave fault e = own_fault s fault status gave.0 e
+      halted SinkFault ran gave fault e = nine_fault fault status gave.0 e
+      halted (Stopped met) ran (inl h) fault e =
           subst (λ f. Halted job f old new) (one_fault met fault status h.0 e)
-          (let here = told_answer (Stopped met) ran sees in
+          (let here = told_answer (Stopped met) ran in
           record {
             of = answering (Stopped met) _ _ law here;
             begins = extend here.a (fault_line met) here.leaves h.1.taken;
           })
-      halted (Stopped met) ran (inr h) fault e sees = nine_fault fault status h.0 e
+      halted (Stopped met) ran (inr h) fault e = nine_fault fault status h.0 e
 
       cut : (end : End) → Ran job end old mid → Gave end status mid.out out → status ≡ sink_code
-          → Sees job.needs.reads old → CutOff job old new
-      cut (Done s) ran gave e sees = own_nine s status gave.0 e
-      cut SinkFault ran gave e sees =
-          let here = told_answer SinkFault ran sees in record {
+          → CutOff job old new
+      cut (Done s) ran gave e = own_nine s status gave.0 e
+      cut SinkFault ran gave e =
+          let here = told_answer SinkFault ran in record {
             of = answering SinkFault _ _ law here;
             cut = inl (record {
               written = here.leaves.written;
@@ -250,9 +249,9 @@ module _ (job : Job) (status : ℕ) (old mid : World) (out : SinkTold) where
               others = no_more here.a here.leaves.others;
             });
           }
-      cut (Stopped met) ran (inl h) e sees = nine_fault met status e h.0
-      cut (Stopped met) ran (inr h) e sees =
-          let here = told_answer (Stopped met) ran sees in record {
+      cut (Stopped met) ran (inl h) e = nine_fault met status e h.0
+      cut (Stopped met) ran (inr h) e =
+          let here = told_answer (Stopped met) ran in record {
             of = answering (Stopped met) _ _ law here;
             cut = inr (
               met,
@@ -272,11 +271,10 @@ module _ (job : Job) (status : ℕ) (old mid : World) (out : SinkTold) where
   room (Stopped met) leaves (inl h) s e = own_fault s met status e h.0
   room (Stopped met) leaves (inr h) s e = own_nine s status e h.0
 
-  complete : Sees job.needs.reads old
-      → ((s : Status) → status ≡ code_of s → Sees job.needs.reads old → Whole job status old new)
+  complete : ((s : Status) → status ≡ code_of s → Whole job status old new)
       → HasStatus job status old new → IsComplete job status old new
-  complete sees whole (inl own) no_store no_input no_out = inl (whole own.0 own.2 sees)
-  complete sees whole (inr (inl h)) no_store no_input no_out = by_fault h.0 h.1 h.2
+  complete whole (inl own) no_store no_input no_out = inl (whole own.0 own.2)
+  complete whole (inr (inl h)) no_store no_input no_out = by_fault h.0 h.1 h.2
     where
       by_fault : (fault : Fault) → MayMeet job fault old new → status ≡ fault_code fault
           → Whole job status old new
@@ -284,7 +282,7 @@ module _ (job : Job) (status : ℕ) (old mid : World) (out : SinkTold) where
       by_fault faults.Store m e = absurd (no_store m.1)
       by_fault faults.Input m e = absurd (no_input m.1)
       by_fault faults.NoMemory m e = inr (m, e)
-  complete sees whole (inr (inr h)) no_store no_input no_out = absurd (no_out h.0)
+  complete whole (inr (inr h)) no_store no_input no_out = absurd (no_out h.0)
 
   -- what the program gives, where the command ended so and the line of its fault was written
   pub outcome : (end : End)
@@ -307,6 +305,6 @@ module _ (job : Job) (status : ℕ) (old mid : World) (out : SinkTold) where
     honest = honest finished.later law end ran finished.gave;
     halted = halted finished.later law end ran finished.gave;
     cut = cut finished.later law end ran finished.gave;
-    complete = λ sees. complete sees (honest finished.later law end ran finished.gave)
+    complete = complete (honest finished.later law end ran finished.gave)
         (can finished.later end ran finished.gave);
   }

@@ -10,10 +10,10 @@ use Rattle.frz_answer.specs.declared.end.End.{End}
 use Rattle.frz_answer.specs.declared.end.End.TheVariants.{Done, SinkFault, Stopped}
 use Rattle.frz_answer.specs.World.{World, Agrees, Came, spent}
 use Rattle.frz_answer.specs.Answers.{Answer, behind, IsLines, NoMore}
-use Rattle.frz_answer.specs.Jobs.{Job, Never, Sees}
+use Rattle.frz_answer.specs.Jobs.{Job, Never}
 use Rattle.frz_answer.specs.Ends.{EndsInLines, Leaves, Ran}
 use Rattle.frz_answer.proofs.Ending.{Found}
-use Rattle.frz_answer.proofs.Stages.{IsStage, no_more_true, ends_later, only_later, room_later, sees_later, part_later}
+use Rattle.frz_answer.proofs.Stages.{IsStage, no_more_true, ends_later, only_later, room_later, part_later}
 use Rattle.frz_answer.proofs.Telling.{append_twice, drop_twice}
 use Rattle.frz_answer.proofs.Worlds.{later_on, unwritten_on}
 
@@ -136,7 +136,7 @@ module _ (part whole : Job) (text bytes : List ℕ) (old mid new : World)
 
   -- the stage was done, behind these lines and these bytes of the input
   pub follows : (end : End) → (whole.needs.input ≡ false → bytes ≡ [])
-      → (Sees whole.needs.reads old → (files : Files) (input : List ℕ) → Agrees old files input
+      → ((files : Files) (input : List ℕ) → Agrees old files input
       → Follows part whole text bytes files input old mid new)
       → Ran part end mid new → Ran whole end old new
   follows end none follow ran = record {
@@ -147,11 +147,9 @@ module _ (part whole : Job) (text bytes : List ℕ) (old mid new : World)
     unwritten =
         λ written. unwritten_on old.store mid.store new.store came.store (ran.unwritten written);
     room = room_later part whole old mid new came.later came.fine came.store stage end ran.room;
-    answered = λ sees files input agrees.
-        let here = follow sees files input agrees in
+    answered = λ files input agrees.
+        let here = follow files input agrees in
         let found = here.found in
-        let part_sees = sees_later part whole old mid new came.later came.fine came.store stage
-        part.needs.reads (stage.sees old sees) in
         let fits : Agrees mid found.files here.rest = record {
           store = subst (λ (o : Option Files). IfSome o (λ told. told ≡ found.files))
               (sym came.store.files) found.agrees.store;
@@ -159,7 +157,7 @@ module _ (part whole : Job) (text bytes : List ℕ) (old mid new : World)
               (subst (λ (l : List ℕ). IfSome old.input.left (λ told. told ≡ l)) (sym here.split)
               found.agrees.source);
         } in
-        let given = ran.answered part_sees found.files here.rest fits in record {
+        let given = ran.answered found.files here.rest fits in record {
           files = given.files;
           input = bytes ++ given.input;
           agrees = record {

@@ -14,7 +14,7 @@ use Rattle.frz_answer.specs.declared.end.End.TheVariants.{Stopped}
 use Rattle.frz_answer.specs.Statuses.{OneOf, end_of_fault}
 use Rattle.frz_answer.specs.World.{World, Agrees, Later, spent}
 use Rattle.frz_answer.specs.Answers.{says, SomeAnswer}
-use Rattle.frz_answer.specs.Jobs.{Job, Sees}
+use Rattle.frz_answer.specs.Jobs.{Job}
 use Rattle.frz_answer.specs.Ends.{WritesOnly, Ran, Said}
 use Rattle.frz_answer.proofs.Ending.{Found, stopped, stopped_doing, closed}
 use Rattle.frz_answer.proofs.Telling.{drop_none, append_nothing}
@@ -56,14 +56,14 @@ module _ (job : Job) (name whole : List ℕ) (old : World) (store : StoreTold) (
 
   -- the store failed within the bytes
   pub failed_within : Rose old.store.faults store.faults → WrotePart name whole old.store store
-      → (Sees job.needs.reads old → (files : Files) (input : List ℕ) → Agrees old files input
+      → ((files : Files) (input : List ℕ) → Agrees old files input
       → GivesName job name whole files input old mid)
       → Ran job (Stopped faults.Store) old mid
   failed_within rose part gives =
       stopped_doing job faults.Store old mid (store_later part.later) (asks, rose) (only_it part)
       (λ none. absurd (none tt)) refl
-      (λ sees files input agrees.
-      let here = gives sees files input agrees in record {
+      (λ files input agrees.
+      let here = gives files input agrees in record {
         found = here.found;
         some = here.some;
         others = record {
@@ -78,7 +78,7 @@ module _ (job : Job) (name whole : List ℕ) (old : World) (store : StoreTold) (
   pub not_written : (T : Type 0) (refusal : StoreFault) (end : End) → end ≡ end_of_fault refusal
       → IsTrue job.needs.memory
       → Written {T = T} name whole (Err refusal) old.store store
-      → (Sees job.needs.reads old → (files : Files) (input : List ℕ) → Agrees old files input
+      → ((files : Files) (input : List ℕ) → Agrees old files input
       → GivesName job name whole files input old mid)
       → Ran job end old mid
   not_written T refusals.NoMemory end e wants quiet gives =
@@ -90,7 +90,7 @@ module _ (job : Job) (name whole : List ℕ) (old : World) (store : StoreTold) (
         left = refl;
         taken = refl;
       }) wants
-      (λ sees files input agrees. let here = gives sees files input agrees in
+      (λ files input agrees. let here = gives files input agrees in
       record { found = here.found; some = here.some; costs = here.costs }))
   not_written T refusals.Failed end e wants part gives =
       subst (λ (x : End). Ran job x old mid) (sym e) (failed_within part.1 part.0 gives)
@@ -99,7 +99,7 @@ module _ (job : Job) (name whole : List ℕ) (old : World) (store : StoreTold) (
   pub wrote_it : (line : List ℕ) (end : End) (out : SinkTold) → OneOf statuses.Success job.statuses
       → Wrote name whole old.store store → StoreFine old.store store → store.room ≡ 0
       → Said statuses.Success line end old.out out
-      → (Sees job.needs.reads old → (files : Files) (input : List ℕ) → Agrees old files input
+      → ((files : Files) (input : List ℕ) → Agrees old files input
       → SaysName job line name whole files input old mid)
       → Ran job end old (record mid { out = out })
   wrote_it line end out one wrote fine full says_it answers =
@@ -107,8 +107,8 @@ module _ (job : Job) (name whole : List ℕ) (old : World) (store : StoreTold) (
       closed job statuses.Success line old mid out end (store_later wrote.later)
       (record { store = fine; input = refl; out = refl })
       (only_it part) (λ _. full) (λ none. absurd (none tt)) one says_it
-      (λ sees files input agrees.
-      let here = answers sees files input agrees in record {
+      (λ files input agrees.
+      let here = answers files input agrees in record {
         found = here.found;
         a = says statuses.Success line (put here.found.files name whole);
         answer = here.answer;

@@ -1,6 +1,5 @@
 -- A command that is a stage of another.
 use Rattle.std.proofs.Common.{◌≡◌, refl, sym, ap, subst, ◌∙◌, ℕ, List, [], ◌∷◌, ◌++◌, drop, Bool, true, false, ◌||◌, ◌==◌, IsTrue, Option}
-use Rattle.std.specs.Prelude.{IsSome}
 use Rattle.std.specs.Option.{option_map}
 use Rattle.std.proofs.lemmas.Bool.{eqb-true, and_parts}
 use Rattle.std.specs.Io.KnownBytes.{append_known}
@@ -14,7 +13,7 @@ use Rattle.frz_answer.specs.declared.end.End.TheVariants.{Done, SinkFault, Stopp
 use Rattle.frz_answer.specs.Statuses.{code_of, has_code, subset, OneOf}
 use Rattle.frz_answer.specs.World.{World, Agrees, Later, Quiet, Fine, spent}
 use Rattle.frz_answer.specs.Answers.{Answer, IsPart, NoMore}
-use Rattle.frz_answer.specs.Jobs.{Job, Reads, Never, Once, Again, Sees}
+use Rattle.frz_answer.specs.Jobs.{Job, Never}
 use Rattle.frz_answer.specs.Ends.{MayMeet, MayEnd, EndsInLines, WritesOnly, LeavesNoRoom, Leaves, Ran}
 use Rattle.frz_answer.proofs.Ending.{Found}
 use Rattle.frz_answer.proofs.Worlds.{later_on, fine_on, unwritten_on, only_unwritten, only_on, risen_later, agrees_on}
@@ -39,7 +38,6 @@ pub record IsStage (part whole : Job) : Type 0 where
   pub statuses : subset part.statuses whole.statuses ≡ true
   pub store : IsTrue part.needs.store → IsTrue whole.needs.store
   pub reads : whole.needs.reads ≡ Never → part.needs.reads ≡ Never
-  pub sees : (w : World) → Sees whole.needs.reads w → Sees part.needs.reads w
   pub input : IsTrue part.needs.input → IsTrue whole.needs.input
   pub memory : IsTrue part.needs.memory → IsTrue whole.needs.memory
   pub speaks : whole.speaks ≡ false → part.speaks ≡ false
@@ -98,11 +96,6 @@ module _ (part whole : Job) (old mid new : World) (later : Later old mid) (fine 
   room_later SinkFault h = tt
   room_later (Stopped fault) h = tt
 
-  pub sees_later : (reads : Reads) → Sees reads old → Sees reads mid
-  sees_later Never h = h
-  sees_later Once h = h
-  sees_later Again h = subst (λ (o : Option Files). IsSome o) (sym same.files) h
-
   pub part_later : (a : Answer) (name : List ℕ) → IsPart a name mid.store.files new.store.files
       → IsPart a name old.store.files new.store.files
   part_later a name h = subst (λ (o : Option Files). IsPart a name o new.store.files) same.files h
@@ -158,7 +151,7 @@ module _ (part whole : Job) (old mid new : World) (quiet : Quiet old mid) (fine 
 
   -- the stage was done, after nothing but calls and steps
   pub through : (end : End)
-      → (Sees whole.needs.reads old → (files : Files) (input : List ℕ) → Agrees old files input
+      → ((files : Files) (input : List ℕ) → Agrees old files input
       → Stages part whole files input old mid new)
       → Ran part end mid new → Ran whole end old new
   through end stages ran = record {
@@ -168,12 +161,10 @@ module _ (part whole : Job) (old mid new : World) (quiet : Quiet old mid) (fine 
     only = only_later part whole old mid new quiet.later fine quiet.store stage ran.only;
     unwritten = λ none. unwritten_on old.store mid.store new.store quiet.store (ran.unwritten none);
     room = room_later part whole old mid new quiet.later fine quiet.store stage end ran.room;
-    answered = λ sees files input agrees.
-        let here = stages sees files input agrees in
+    answered = λ files input agrees.
+        let here = stages files input agrees in
         let found = here.found in
-        let part_sees = sees_later part whole old mid new quiet.later fine quiet.store stage
-        part.needs.reads (stage.sees old sees) in
-        let given = ran.answered part_sees found.files found.input
+        let given = ran.answered found.files found.input
         (agrees_on old mid found.files found.input quiet.store.files quiet.left found.agrees) in
         let fits = agrees_on mid old given.files given.input (sym quiet.store.files)
         (sym quiet.left) given.agrees in record {

@@ -13,7 +13,7 @@ use Rattle.frz_answer.specs.Statuses.{OneOf}
 use Rattle.frz_answer.specs.Texts.{TookText, FailedWithin}
 use Rattle.frz_answer.specs.World.{World, Agrees, Later, Fine, spent}
 use Rattle.frz_answer.specs.Answers.{Answer, Gives, Begins, Cuts, TookLines, held}
-use Rattle.frz_answer.specs.Jobs.{Job, Never, Sees}
+use Rattle.frz_answer.specs.Jobs.{Job, Never}
 
 -- the job may meet this fault, and has met its cause
 abbrev pub MayMeet : Job → Fault → World → World → Type 0
@@ -80,7 +80,7 @@ pub record Ran (job : Job) (end : End) (old new : World) : Type 0 where
   pub only : WritesOnly job.writes old.store new.store
   pub unwritten : (MayHaveWritten end → ⊥) → Unwritten old.store new.store
   pub room : LeavesNoRoom end old.store new.store
-  pub answered : Sees job.needs.reads old → (files : Files) (input : List ℕ) →
+  pub answered : (files : Files) (input : List ℕ) →
       Agrees old files input → Answered job files input end old new
 
 -- the text was written and the command ends with this status, or the sink failed within the text

@@ -1,17 +1,15 @@
 -- What a command is to do, all in one record: its answers and what they mean, which statuses and
 -- faults it may meet, what it writes, and what it costs.
-use Rattle.std.specs.Prelude.{ℕ, ◌+◌, ◌≤◌, List, Bool, false, Option, Some, None, IsSome, ⊤}
+use Rattle.std.specs.Prelude.{ℕ, ◌+◌, ◌≤◌, List, Bool, false, Option, Some, None, ⊤}
 use Rattle.frz_store.specs.Files.{Files}
 use Rattle.frz_answer.specs.declared.status.Status.{Status}
-use Rattle.frz_answer.specs.World.{World, Spent}
+use Rattle.frz_answer.specs.World.{Spent}
 use Rattle.frz_answer.specs.Answers.{Answer}
 
--- how a job reads the store: not at all; each place once; or some place again, where a store that
--- does not tell may have changed its mind
+-- whether what a job answers is said over the files: it reads none of them, or each place once
 pub data Reads : Type 0 where
   Never : Reads
   Once : Reads
-  Again : Reads
 
 -- what a job uses of the outside beside the sink
 pub record Needs : Type 0 where
@@ -72,8 +70,3 @@ plain statuses answers = record {
   writes = None;
   costs = λ _ _ _. WithinCosts (steps_alone (Some 0));
 }
-
--- where a place is read again, answers are said only over a store that tells
-abbrev pub Sees : Reads → World → Type 0
-Sees Again old = IsSome old.store.files
-Sees _ old = ⊤

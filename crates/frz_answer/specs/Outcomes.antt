@@ -14,7 +14,7 @@ use Rattle.frz_answer.specs.Statuses.{code_of, fault_code, sink_code, fault_line
 use Rattle.frz_answer.specs.Texts.{TookText, FailedWithin}
 use Rattle.frz_answer.specs.World.{World, Agrees, Later, Fine, spent}
 use Rattle.frz_answer.specs.Answers.{Answer, Gives, Begins, Cuts, TookLines}
-use Rattle.frz_answer.specs.Jobs.{Job, Sees}
+use Rattle.frz_answer.specs.Jobs.{Job}
 use Rattle.frz_answer.specs.Ends.{MayMeet, WritesOnly}
 
 -- the line of a fault was written and its status given, or the sink failed within the line
@@ -102,11 +102,9 @@ pub record Outcome (job : Job) (status : ℕ) (old new : World) : Type 0 where
   pub alone : (fault : Fault) → status ≡ fault_code fault → job.speaks ≡ false
       → new.out.taken ≡ append_known old.out.taken (fault_line fault)
   -- with a status of its own, all is as an answer says, and the answer means what it is to mean
-  pub honest : (s : Status) → status ≡ code_of s → Sees job.needs.reads old →
-      Whole job status old new
+  pub honest : (s : Status) → status ≡ code_of s → Whole job status old new
   -- with that of a fault, whole lines begin an answer, and then comes the fault's line;
   -- where the sink failed, an answer is cut off
-  pub halted : (fault : Fault) → status ≡ fault_code fault → Sees job.needs.reads old →
-      Halted job fault old new
-  pub cut : status ≡ sink_code → Sees job.needs.reads old → CutOff job old new
-  pub complete : Sees job.needs.reads old → IsComplete job status old new
+  pub halted : (fault : Fault) → status ≡ fault_code fault → Halted job fault old new
+  pub cut : status ≡ sink_code → CutOff job old new
+  pub complete : IsComplete job status old new

@@ -111,7 +111,7 @@ module _ (name : List ℕ) (contents : Contents) (bytes : List ℕ) (old new : S
       (world new input out_old now) out_new
       (quiet_both old new input out_old before now quiet later)
       (fine_store old new input out_old before now fine) refl says_it
-      (λ sees files left agrees.
+      (λ files left agrees.
       let here = given_by name contents bytes files left start (world new input out_old now) agrees
       seen in
       record { found = here.found; answer = here.answer; costs = here.costs })
@@ -137,7 +137,7 @@ module _ (name : List ℕ) (contents : Contents) (bytes : List ℕ) (old new : S
         only = quiet.unwritten;
         unwritten = λ none. quiet.unwritten;
         room = tt;
-        answered = λ sees files left agrees.
+        answered = λ files left agrees.
             let here = given_by name contents bytes files left start finish agrees seen in
             answered_over here.found (says Success (report_of contents bytes) here.found.files)
             here.answer

@@ -94,7 +94,6 @@ at_stage r rules p =
       statuses = refl;
       store = λ h. cc;
       reads = λ e. refl;
-      sees = λ w h. tt;
       input = λ h. cc;
       memory = λ h. h;
       speaks = λ e. e;

@@ -1,7 +1,9 @@
 -- What `chain` has read, under both names.
-use Rattle.std.proofs.Common.{◌≡◌, sym, ap, subst, ◌∙◌, ℕ, ◌+◌, ◌≤◌, List, Option, Some, Result, Ok, Err, arith}
+use Rattle.std.proofs.Common.{◌≡◌, false, sym, ap, subst, ◌∙◌, ℕ, ◌+◌, ◌≤◌, List, Option, Some, Result, Ok, Err, arith}
+use Rattle.std.specs.Str.{bytes_eq}
 use Rattle.frz_store.specs.Files.{Files}
-use Rattle.frz_store.specs.Told.{StoreTold, SourceTold, SinkTold}
+use Rattle.frz_store.specs.Told.{StoreTold}
+use Rattle.frz_table.specs.declared.fault.TableFault.{TableFault}
 use Rattle.frz_table.specs.declared.kind.FileKind.TheVariants.{Plain}
 use Rattle.frz_table.specs.Opening.{opened, table_format}
 use Rattle.frz_table.specs.Possible.{MayHold}
@@ -12,14 +14,12 @@ use Rattle.frz_chain.specs.FileOn.{loaded_back}
 use Rattle.frz_chain.specs.declared.fault.ChainFault.{ChainFault}
 use Rattle.frz_chain.specs.declared.fault.ChainFault.TheVariants as chain
 use Rattle.frz_check.specs.Kept.{WithinFile}
-use Rattle.frz_answer.specs.Jobs.{Sees}
-use Rattle.frz_answer.specs.World.{world}
 use Rattle.frz_prelude.specs.RulesFiles.{GivesText, IsTextRead, asked_of, or_fault, reads_of as rules_reads, rules_held}
+use Rattle.frz_prelude.specs.declared.refused.Refused.TheVariants as refusals
 use Rattle.frz_prelude.specs.declared.rules_at.RulesText.{RulesText}
 use Rattle.frz_prelude.specs.declared.stop.Stop.{Stop}
 use Rattle.frz_prelude.specs.declared.stop.Stop.TheVariants.{Refused, Fault}
 use Rattle.frz_prelude.proofs.Lemmas.{of_rules}
-use Rattle.frz_commands_chain.specs.Backs.{reads_of}
 use Rattle.frz_commands_chain.specs.Reading.{AreBothRead, GivesBoth, HasRules, IsRefusedBoth, StopsReading, if_accepted}
 use Rattle.frz_commands_chain.specs.Stops.{stop_of_chain}
 use Rattle.frz_commands_chain.specs.declared.reading.BothRead.{BothRead}
@@ -62,15 +62,33 @@ not_read rules back stop old new steps read =
       calls = omega (arith, calls);
     }
 
+-- the rules file was read, and is to be the back table too
+pub not_again : (rules : List ℕ) (read : RulesText) (fault : TableFault) (old new : StoreTold)
+    (steps : ℕ) → IsTextRead rules (Ok read) old new
+    → opened (table_format Plain) (Some read.text.items) ≡ Err fault
+    → AreBothRead rules rules (Err (Refused (refusals.Back fault))) old new steps steps
+not_again rules read fault old new steps there refused =
+    let asked = there.asked in
+    let calls = there.calls in record {
+      files = there.files;
+      agrees = there.agrees;
+      due = (
+        (read.rules, ap rules_held there.due.0 ∙ ap or_fault there.due.1),
+        ap (opened (table_format Plain)) there.due.0 ∙ refused,
+      );
+      steps = omega arith;
+      asked = omega (arith, asked);
+      calls = omega (arith, calls);
+    }
+
 -- the rules file was read, and then the back table was looked for
-module _ (rules back : List ℕ) (read : RulesText) (old mid new : StoreTold) (input : SourceTold)
-    (out : SinkTold) (before now : ℕ)
+module _ (rules back : List ℕ) (read : RulesText) (old mid new : StoreTold) (before now : ℕ)
     (there : IsTextRead rules (Ok read) old mid) (same : mid.files ≡ old.files)
-    (sees : Sees (reads_of rules back) (world old input out before)) where
+    (differ : bytes_eq rules back ≡ false) where
   both : (back_held : Option (List ℕ)) → MayHold mid.files back back_held
       → HoldBoth old.files rules back (there.files rules) back_held
   both back_held may =
-      hold_both (world old input out before) rules back (there.files rules) back_held sees
+      hold_both old.files rules back (there.files rules) back_held differ
       (agreed_at old.files there.files rules there.agrees)
       (same_held old.files back back_held
       (subst (λ (o : Option Files). MayHold o back back_held) same may))

@@ -1,22 +1,11 @@
 -- Two names, and files in which they hold what they may hold.
-use Rattle.std.proofs.Common.{◌≡◌, refl, sym, ap, ◌∙◌, ℕ, List, Bool, true, false, Option, Some, None, if◌then◌else◌}
+use Rattle.std.proofs.Common.{◌≡◌, refl, sym, ap, ◌∙◌, ℕ, List, true, false, Option, Some, None}
 use Rattle.std.proofs.lemmas.Bool.{false_from_ne_true}
 use Rattle.std.proofs.lemmas.Slice.Eq.{bytes_eq-Decides}
-use Rattle.std.specs.Prelude.{IfSome, IsSome}
+use Rattle.std.specs.Prelude.{IfSome}
 use Rattle.std.specs.Str.{bytes_eq}
 use Rattle.frz_store.specs.Files.{Files, no_files, put}
 use Rattle.frz_store.proofs.Lemmas.{put-off, put-same}
-use Rattle.frz_answer.specs.Jobs.{Never, Once, Again, Sees}
-use Rattle.frz_answer.specs.World.{World}
-use Rattle.frz_commands_chain.specs.Backs.{reads_of}
-
-by_name : (same : Bool) → (if same then Again else Once) ≡ Never → ⊥
-by_name true e = cc
-by_name false e = cc
-
--- both names are read
-pub reads_some : (name other : List ℕ) → reads_of name other ≡ Never → ⊥
-reads_some name other e = by_name (bytes_eq name other) e
 
 -- files that agree with what is told, where the names hold these
 pub record HoldBoth (told : Option Files) (name other : List ℕ)
@@ -53,15 +42,13 @@ pub agreed_at : (told : Option Files) (m : Files) (name : List ℕ) → IfSome t
 agreed_at None m name e = tt
 agreed_at (Some t) m name e = ap (λ (f : Files). f name) e
 
-by_told : (told : Option Files) (name other : List ℕ) (held other_held : Option (List ℕ))
-    (same : Bool) → bytes_eq name other ≡ same
-    → (same ≡ true → IsSome told) → IfSome told (λ m. m name ≡ held)
+-- two names that differ hold what each of them may hold
+pub hold_both : (told : Option Files) (name other : List ℕ) (held other_held : Option (List ℕ))
+    → bytes_eq name other ≡ false → IfSome told (λ m. m name ≡ held)
     → IfSome told (λ m. m other ≡ other_held) → HoldBoth told name other held other_held
-by_told (Some m) name other held other_held same e sees may other_may =
+hold_both (Some m) name other held other_held e may other_may =
     record { files = m; agrees = refl; first = may; second = other_may }
-by_told None name other held other_held true e sees may other_may =
-    let no : false ≡ true = sees refl in cc
-by_told None name other held other_held false e sees may other_may =
+hold_both None name other held other_held e may other_may =
     let behind : Files = place no_files other other_held in
     record {
       files = place behind name held;
@@ -70,16 +57,3 @@ by_told None name other held other_held false e sees may other_may =
           (place_off no_files other other_held name (other_way name other e));
       second = place_off behind name held other e ∙ place_at no_files other other_held refl;
     }
-
-seen : (same : Bool) (w : World) → Sees (if same then Again else Once) w → same ≡ true
-    → IsSome w.store.files
-seen true w h e = h
-seen false w h e = cc
-
-pub hold_both : (w : World) (name other : List ℕ) (held other_held : Option (List ℕ))
-    → Sees (reads_of name other) w
-    → IfSome w.store.files (λ m. m name ≡ held) → IfSome w.store.files (λ m. m other ≡ other_held)
-    → HoldBoth w.store.files name other held other_held
-hold_both w name other held other_held sees may other_may =
-    by_told w.store.files name other held other_held (bytes_eq name other) refl
-    (seen (bytes_eq name other) w sees) may other_may

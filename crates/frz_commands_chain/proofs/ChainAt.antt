@@ -16,7 +16,6 @@ use Rattle.frz_prelude.proofs.Lemmas.{StopsWith, found_where, table_own}
 use Rattle.frz_commands_chain.specs.Chaining.{chaining_at, chaining_by, refused}
 use Rattle.frz_commands_chain.specs.Reading.{AreBothRead, StopsReading}
 use Rattle.frz_commands_chain.specs.declared.reading.BothRead.{BothRead}
-use Rattle.frz_commands_chain.proofs.BothHeld.{reads_some}
 use Rattle.frz_commands_chain.proofs.ChainOnce.{some_chained}
 
 abbrev own : (why : Refusal) → Type 0
@@ -43,7 +42,6 @@ at_stage text r behind rules back table =
       statuses = refl;
       store = λ h. h;
       reads = λ e. refl;
-      sees = λ w h. tt;
       input = λ h. cc;
       memory = λ h. h;
       speaks = λ e. e;
@@ -56,8 +54,7 @@ abbrev pub found_both : (rules back table : List ℕ) (stop : Result BothRead St
     → (h : AreBothRead rules back stop old.store new.store old.steps new.steps)
     → Agrees old files input → Found (chaining_at rules back table) files input old
 found_both rules back table stop files input old new h agrees =
-    found_where (chaining_at rules back table) h.files files input old (reads_some rules back)
-    h.agrees agrees
+    found_where (chaining_at rules back table) h.files files input old (λ e. cc) h.agrees agrees
 
 pub stopped_at : (rules back table : List ℕ) (stop : Stop) (files : Files) (input : List ℕ)
     (old new : World)

@@ -8,5 +8,7 @@ mod BothFound
 mod ChainOnce
 mod ChainAccepted
 mod ChainAt
+mod NoTable
+mod OnItself
 mod Chains
 pub mod Lemmas

@@ -1,5 +1,6 @@
 -- How `chaincheck` ends.
-use Rattle.std.proofs.Common.{◌≡◌, refl, sym, subst, ℕ, List, [], ◌∷◌, Option, Some}
+use Rattle.std.proofs.Common.{◌≡◌, false, refl, sym, subst, ℕ, List, [], ◌∷◌, Option, Some}
+use Rattle.std.specs.Str.{bytes_eq}
 use Rattle.frz_store.specs.Files.{Files}
 use Rattle.frz_table.specs.Possible.{MayHold}
 use Rattle.frz_table.proofs.Lemmas.{same_held}
@@ -13,7 +14,7 @@ use Rattle.frz_chain.specs.declared.fault.ChainFault.{ChainFault}
 use Rattle.frz_chain.specs.declared.fault.ChainFault.TheVariants as chain
 use Rattle.frz_answer.specs.declared.status.Status.TheVariants.{Success, Wrong, Table, Missing}
 use Rattle.frz_answer.specs.Statuses.{OneOf}
-use Rattle.frz_answer.specs.Jobs.{Sees, WithinCosts}
+use Rattle.frz_answer.specs.Jobs.{WithinCosts}
 use Rattle.frz_answer.specs.World.{World, Agrees, spent}
 use Rattle.frz_answer.proofs.Lemmas.{SaysAll}
 use Rattle.frz_prelude.specs.Refusals.{refusal_line, status_of}
@@ -21,11 +22,10 @@ use Rattle.frz_prelude.specs.declared.refused.Refused.{Refused as Refusal}
 use Rattle.frz_prelude.specs.declared.refused.Refused.TheVariants as refusals
 use Rattle.frz_prelude.specs.declared.stop.Stop.TheVariants.{Refused}
 use Rattle.frz_prelude.proofs.Lemmas.{StopsWith, found_where, table_own}
-use Rattle.frz_commands_chain.specs.Backs.{reads_of}
 use Rattle.frz_commands_chain.specs.Checking.{IsRefusedPair, refused, judged, chain_status, chain_verdict_line, pair_costs}
 use Rattle.frz_commands_chain.specs.CheckMeans.{checking_pair}
 use Rattle.frz_commands_chain.specs.Stops.{stop_of_chain}
-use Rattle.frz_commands_chain.proofs.BothHeld.{HoldBoth, hold_both, reads_some}
+use Rattle.frz_commands_chain.proofs.BothHeld.{HoldBoth, hold_both}
 use Rattle.frz_commands_chain.proofs.PairOnce.{some_pair}
 
 -- the statuses of `chaincheck`
@@ -63,13 +63,14 @@ within_pair table back m held back_held old new e f h =
     (sym f) (record { steps = h.steps; calls = h.calls; asked = h.asked }))
 
 module _ (table back : List ℕ) (files : Files) (input : List ℕ) (old new : World)
-    (sees : Sees (reads_of table back) old) (agrees : Agrees old files input) where
+    (differ : bytes_eq table back ≡ false) (agrees : Agrees old files input) where
   -- files in which the names hold what they may hold
   both : (held back_held : Option (List ℕ)) → MayHold old.store.files table held
       → MayHold old.store.files back back_held
       → HoldBoth old.store.files table back held back_held
   both held back_held may back_may =
-      hold_both old table back held back_held sees (same_held old.store.files table held may)
+      hold_both old.store.files table back held back_held differ
+      (same_held old.store.files table held may)
       (same_held old.store.files back back_held back_may)
 
   -- the verdict was told
@@ -81,7 +82,7 @@ module _ (table back : List ℕ) (files : Files) (input : List ℕ) (old new : W
   judged_so v h =
       let at = both (Some h.bytes) (Some h.back_bytes) h.may h.back_may in record {
         found = found_where (checking_pair table back) at.files files input old
-            (reads_some table back) at.agrees agrees;
+            (λ e. cc) at.agrees agrees;
         answer =
             judged (judgement v)
             (record {
@@ -113,7 +114,7 @@ module _ (table back : List ℕ) (files : Files) (input : List ℕ) (old new : W
   refused_so why held back_held may back_may h within =
       let at = both held back_held may back_may in record {
         found = found_where (checking_pair table back) at.files files input old
-            (reads_some table back) at.agrees agrees;
+            (λ e. cc) at.agrees agrees;
         answer =
             refused why
             (subst (λ (x : Option (List ℕ)). IsRefusedPair x (at.files back) why) (sym at.first)
@@ -128,7 +129,7 @@ module _ (table back : List ℕ) (files : Files) (input : List ℕ) (old new : W
   begun_so fault h =
       let at = both h.held h.back_held h.may h.back_may in record {
         found = found_where (checking_pair table back) at.files files input old
-            (reads_some table back) at.agrees agrees;
+            (λ e. cc) at.agrees agrees;
         some = some_pair table back at.files;
         costs = within_pair table back at.files h.held h.back_held old new at.first at.second
             h.within;

@@ -3,7 +3,6 @@ use Rattle.std.proofs.Common.{subst, ℕ, Err}
 use Rattle.frz_store.specs.Outside.{Rose}
 use Rattle.frz_store.specs.Told.{StoreTold, StoreFine}
 use Rattle.frz_table.proofs.Lemmas.{fine_after}
-use Rattle.frz_answer.specs.declared.status.Status.TheVariants.{Table}
 use Rattle.frz_prelude.specs.Stops.{HasItsCause}
 use Rattle.frz_chain.specs.Causes.{HasChainCause}
 use Rattle.frz_chain.specs.declared.fault.ChainFault.{ChainFault}

@@ -6,7 +6,7 @@ use Rattle.frz_store.specs.Files.{Files, put}
 use Rattle.frz_answer.specs.declared.status.Status.{Status}
 use Rattle.frz_answer.specs.declared.status.Status.TheVariants as statuses
 use Rattle.frz_answer.specs.Answers.{Answer, says}
-use Rattle.frz_answer.specs.Jobs.{Costs, Job, plain, nothing, WithinCosts}
+use Rattle.frz_answer.specs.Jobs.{Costs, Job, Once, plain, nothing, WithinCosts}
 use Rattle.frz_answer.specs.Words.{taking, three_words_of, unless}
 use Rattle.frz_prelude.specs.Refusals.{refusal_line, status_of}
 use Rattle.frz_prelude.specs.RulesFiles.{rules_held}
@@ -18,7 +18,7 @@ use Rattle.frz_build.specs.Building.{writing_calls}
 use Rattle.frz_chain.specs.Books.{Back}
 use Rattle.frz_chain.specs.ExactBacks.{if_exact}
 use Rattle.frz_chain.specs.FileOn.{IsFileOn}
-use Rattle.frz_commands_chain.specs.Backs.{IsBackIn, reads_of}
+use Rattle.frz_commands_chain.specs.Backs.{IsBackIn}
 use Rattle.frz_commands_chain.specs.Reading.{IsRefusedBoth, reading_bytes, reading_calls, reading_steps}
 
 -- the size of the set
@@ -99,7 +99,7 @@ chaining_at rules back table = record (plain
     (statuses.Success ∷ statuses.Rules ∷ statuses.Table ∷ statuses.Wrong ∷ statuses.Missing ∷ [])
     (λ files input a. IsChainedAt rules back table files a)) {
       means = λ files input a. MeansChain rules back table files a;
-      needs = record { store = true; reads = reads_of rules back; input = false; memory = true };
+      needs = record { store = true; reads = Once; input = false; memory = true };
       writes = Some table;
       costs = λ files input a. WithinCosts (chain_costs (files rules) (files back));
     }

@@ -15,12 +15,11 @@ use Rattle.frz_chain.specs.FileOn.{IsFileOn, back_of}
 use Rattle.frz_answer.specs.declared.status.Status.{Status}
 use Rattle.frz_answer.specs.declared.status.Status.TheVariants as statuses
 use Rattle.frz_answer.specs.Answers.{Answer}
-use Rattle.frz_answer.specs.Jobs.{Job, plain, WithinCosts}
+use Rattle.frz_answer.specs.Jobs.{Job, Once, plain, WithinCosts}
 use Rattle.frz_answer.specs.Words.{taking, two_words_of}
 use Rattle.frz_prelude.specs.Refusals.{refusal_line, status_of}
 use Rattle.frz_prelude.specs.WrongLines.{wrong_line}
 use Rattle.frz_prelude.specs.declared.refused.Refused.{Refused}
-use Rattle.frz_commands_chain.specs.Backs.{reads_of}
 use Rattle.frz_commands_chain.specs.ChainHeadline.{ChainHeadline}
 use Rattle.frz_commands_chain.specs.Checking.{IsCheckedPair, IsJudgedPair, IsRefusedPair, exact_on_line, pair_costs}
 
@@ -87,7 +86,7 @@ checking_pair table back = record (plain
     (statuses.Success ∷ statuses.Wrong ∷ statuses.Table ∷ statuses.Missing ∷ [])
     (λ files input a. IsCheckedPair table back files a)) {
       means = λ files input a. MeansChainCheck table back files a;
-      needs = record { store = true; reads = reads_of table back; input = false; memory = true };
+      needs = record { store = true; reads = Once; input = false; memory = true };
       costs = λ files input a. WithinCosts (pair_costs (files table) (files back));
     }
 

@@ -13,9 +13,10 @@ ghost use Rattle.frz_commands_chain.specs.CheckMeans.{checking_pair, chaincheck_
 use crate::stopping::stop_of;
 use frz_answer::{End, Refusal, Status, refuse, said, two_words, write_numbered, write_piece};
 use frz_chain::{ChainVerdict, check_chain};
-use frz_prelude::write_wrong;
+use frz_prelude::{Refused, Stop, write_wrong};
 use frz_steps::Steps;
 use frz_store::{Failed, Sink, Store};
+use frz_table::{FileKind, TableFault, open_kind};
 use std::alloc::Global;
 use std::sync::ledger::Ledger;
 
@@ -44,6 +45,19 @@ fn tell<O: Sink>(verdict: ChainVerdict, out: &mut O) -> End
     }
 }
 
+/// Checks the table of a name that names the back table too. Where the file opens it is no plain
+/// table, and it is not read again.
+fn check_on_itself<S: Store, O: Sink>(alloc: Global, table: &str, store: &mut S, out: &mut O) -> End
+    ensures { (input : SourceTold) (steps : ℕ) → Ran (checking_pair table.now table.now) result
+        (world (store_of S.Store store.old) input (sink_of O.Sink out.old) steps)
+        (world (store_of S.Store store.new) input (sink_of O.Sink out.new) steps) }
+{
+    match open_kind(alloc, store, table, FileKind::Chained) {
+        Ok(_opened) => Stop::Refused(Refused::Back(TableFault::Magic)).end(out),
+        Err(fault) => Stop::from(fault).end(out),
+    }
+}
+
 /// Checks the table of the one name over the back table of the other.
 fn check<S: Store, O: Sink, L: Ledger>(
     alloc: Global,
@@ -57,6 +71,9 @@ fn check<S: Store, O: Sink, L: Ledger>(
         (world (store_of S.Store store.old) input (sink_of O.Sink out.old) steps.old)
         (world (store_of S.Store store.new) input (sink_of O.Sink out.new) steps.new) }
 {
+    if table == back {
+        return check_on_itself(alloc, table, store, out);
+    }
     match check_chain(alloc, store, table, back, steps) {
         Ok(verdict) => tell(verdict, out),
         Err(fault) => stop_of(fault).end(out),

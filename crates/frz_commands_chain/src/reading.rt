@@ -1,18 +1,20 @@
 //! The files that `chain` reads: a rules text, and the back table behind its exit lines.
-ghost use Rattle.std.specs.Prelude.{◌≤◌, length, IfOk, IfErr};
+ghost use Rattle.std.specs.Prelude.{◌≡◌, ◌≤◌, length, IfOk, IfErr, Some, Ok, Err};
 ghost use Rattle.frz_sets.specs.Sound.{IsSound};
+ghost use Rattle.frz_sets.specs.Views.{RuleLines};
+ghost use Rattle.frz_rules.specs.Text.{rules_of};
 ghost use Rattle.frz_rules.specs.declared.fault.TheConstants.{LONGEST_TEXT};
-ghost use Rattle.frz_store.specs.Told.{SinkTold, SourceTold, store_of, StoreQuiet};
-ghost use Rattle.frz_answer.specs.Jobs.{Sees};
-ghost use Rattle.frz_answer.specs.World.{world};
+ghost use Rattle.frz_store.specs.Told.{store_of, StoreQuiet};
+ghost use Rattle.frz_table.specs.declared.kind.FileKind.TheVariants.{Plain};
+ghost use Rattle.frz_table.specs.Opening.{opened, table_format};
 ghost use Rattle.frz_prelude.specs.Stops.{HasItsCause};
-ghost use Rattle.frz_commands_chain.specs.Backs.{reads_of};
 
 use crate::stopping::stop_of;
 use frz_chain::{BackTable, open_back};
-use frz_prelude::{RulesText, Stop, read_rules_text};
+use frz_prelude::{Refused, RulesText, Stop, read_rules_text};
 use frz_steps::Steps;
 use frz_store::Store;
+use frz_table::TableFault;
 use std::alloc::Global;
 use std::sync::ledger::Ledger;
 
@@ -25,7 +27,21 @@ pub struct BothRead {
 
 ghost use Rattle.frz_commands_chain.specs.Reading.{AreBothRead, StopsReading};
 
-/// Reads the rules file of the one name, then opens and checks the back table of the other.
+/// Why a file that holds a rules text is no table: it is too short for one, or does not begin as
+/// one.
+fn why_no_table(text: &[u8]) -> TableFault
+    ensures { (rules : RuleLines) → rules_of text.now ≡ Ok rules
+        → opened (table_format Plain) (Some text.now) ≡ Err result }
+{
+    if text.len() < 16 {
+        TableFault::Truncated(text.len() as u64, 16)
+    } else {
+        TableFault::Magic
+    }
+}
+
+/// Reads the rules file of the one name, then opens and checks the back table of the other. Where
+/// the two names are one, it is not read again: a rules text is no table.
 pub fn read_both<S: Store, L: Ledger>(
     alloc: Global,
     rules: &str,
@@ -33,10 +49,7 @@ pub fn read_both<S: Store, L: Ledger>(
     store: &mut S,
     steps: &mut Steps<L>,
 ) -> Result<BothRead, Stop>
-    ensures read { (input : SourceTold) (out : SinkTold)
-        → Sees (reads_of rules.now back.now)
-        (world (store_of S.Store store.old) input out steps.old)
-        → AreBothRead rules.now back.now result
+    ensures read { AreBothRead rules.now back.now result
         (store_of S.Store store.old) (store_of S.Store store.new) steps.old steps.new }
     ensures quiet { StoreQuiet (store_of S.Store store.old) (store_of S.Store store.new) }
     ensures cause { HasItsCause result (store_of S.Store store.old) (store_of S.Store store.new) }
@@ -46,6 +59,9 @@ pub fn read_both<S: Store, L: Ledger>(
     ensures short { IfOk result (λ both. length both.read.text.items ≤ LONGEST_TEXT) }
 {
     let read = read_rules_text(alloc, rules, store)?;
+    if rules == back {
+        return Err(Stop::Refused(Refused::Back(why_no_table(&read.text))));
+    }
     match open_back(alloc, store, back, steps) {
         Ok(back) => Ok(BothRead { read, back }),
         Err(fault) => Err(stop_of(fault)),

@@ -11,7 +11,7 @@ use Rattle.frz_answer.specs.Statuses.{subset}
 use Rattle.frz_answer.specs.Texts.{TookText, FailedWithin}
 use Rattle.frz_answer.specs.World.{World, Agrees, Later, spent}
 use Rattle.frz_answer.specs.Answers.{Answer, behind, held, IsLines}
-use Rattle.frz_answer.specs.Jobs.{Job, Sees}
+use Rattle.frz_answer.specs.Jobs.{Job}
 use Rattle.frz_answer.specs.Ends.{WritesOnly, Ran}
 use Rattle.frz_answer.proofs.Lemmas.{Found, answered_over, as_given, follows, text_came}
 use Rattle.frz_commands_line.proofs.Stages.{is_part}
@@ -32,7 +32,7 @@ pub behind_lines : (job : Job) (text : List ℕ) (end : End) (old : World) (out 
 behind_lines job text end old out new took lines speaks all ran =
     follows (rest_of job text) job text [] old (record old { out = out }) new
     (text_came text old out took) lines speaks (is_part job job.statuses all) end (λ _. refl)
-    (λ sees files input agrees. record {
+    (λ files input agrees. record {
       found = as_given job files input old agrees;
       rest = input;
       split = refl;
@@ -57,7 +57,7 @@ pub cut_within : (job : Job) (text bytes : List ℕ) (old mid : World) (out : Si
     → job.writes ≡ None → Later old mid → Unwritten old.store mid.store
     → mid.input.left ≡ option_map (drop (length bytes)) old.input.left
     → FailedWithin text old.out out
-    → (Sees job.needs.reads old → (files : Files) (input : List ℕ) → Agrees old files input
+    → ((files : Files) (input : List ℕ) → Agrees old files input
     → Beginning job text bytes files input old mid)
     → Ran job SinkFault old (record mid { out = out })
 cut_within job text bytes old mid out none later same left failed begun = record {
@@ -72,8 +72,8 @@ cut_within job text bytes old mid out none later same left failed begun = record
   only = only_quiet job.writes none;
   unwritten = λ _. same;
   room = tt;
-  answered = λ sees files input agrees.
-      let here = begun sees files input agrees in
+  answered = λ files input agrees.
+      let here = begun files input agrees in
       let k = failed.taken.0 in
       answered_over here.found here.a here.answer
       (record {

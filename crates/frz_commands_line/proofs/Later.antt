@@ -1,22 +1,53 @@
 -- What a store may have held when it was asked again.
-use Rattle.std.proofs.Common.{◌≡◌, refl, sym, subst, ap, ◌∙◌, ℕ, List, [], length, Option, Some, None, IfSome}
+use Rattle.std.proofs.Common.{◌≡◌, refl, sym, subst, ap, ◌∙◌, ℕ, zero, suc, ◌<◌, ◌^◌, List, [], length, Option, Some, None, IfSome, Ok, arith}
 use Rattle.std.specs.Prelude.{IsSomeAnd}
 use Rattle.std.specs.Option.{option_map, unwrap_or}
 use Rattle.frz_board.specs.declared.man.Colour.{Colour}
 use Rattle.frz_board.specs.declared.man.Colour.TheVariants.{White, Black}
 use Rattle.frz_store.specs.Files.{Files, bytes_at, no_files, put}
 use Rattle.frz_store.proofs.Lemmas.{put-same}
+use Rattle.frz_rules.proofs.Lemmas.{text_sound}
+use Rattle.frz_table.specs.declared.kind.FileKind.TheVariants.{Plain}
 use Rattle.frz_table.specs.Layout.{codes_at, file_of, magic_of}
 use Rattle.frz_table.specs.Numbers.{AreNumbers}
+use Rattle.frz_table.specs.Opening.{contents_of, opened, table_format}
+use Rattle.frz_table.specs.Possible.{MayOpen}
 use Rattle.frz_table.specs.Tables.{Table, Carries, IsFileOf, table_size}
-use Rattle.frz_table.proofs.Lemmas.{magic_long, written_is_loaded}
+use Rattle.frz_table.proofs.Lemmas.{belongs, magic_long, opens_by, written_belongs, written_is_loaded}
 use Rattle.frz_line.specs.Kept.{told_codes, MayRead}
-use Rattle.frz_commands_line.specs.Later.{MayBeLater, held_later}
+use Rattle.frz_commands_line.specs.Later.{MayBeLater, OpensAtStart, from_opening, held_later}
 
 -- something that it may have held
 pub any_later : (told : Option Files) → (later : ℕ → Files) × MayBeLater told later
 any_later None = (λ k. no_files, tt)
 any_later (Some m) = (λ k. m, λ k. refl)
+
+-- where the store tells, it is what is told at ply 0 too
+pub told_first : (told : Option Files) (later : ℕ → Files) → MayBeLater told later
+    → IfSome told (λ m. m ≡ later 0)
+told_first None later may = tt
+told_first (Some m) later may = sym (may 0)
+
+-- it is the same from an opening in what was held at ply 0
+pub as_opened : (later : ℕ → Files) (files : Files) → files ≡ later 0
+    → later ≡ from_opening files later
+as_opened later files e = λ i k. by_ply k i
+  where
+    by_ply : (k : ℕ) → later k ≡ from_opening files later k
+    by_ply zero = sym e
+    by_ply (suc k) = refl
+
+-- something that it may have held, and in which the table opens at the start
+pub opening_later : (told : Option Files) (table : Table)
+    → MayOpen (table_format Plain) told table.name (contents_of table)
+    → (later : ℕ → Files) × MayBeLater told later × OpensAtStart later table
+opening_later None table may = (
+  λ k. put no_files table.name may.bytes,
+  tt,
+  ap (opened (table_format Plain)) (put-same no_files table.name may.bytes) ∙ may.opens,
+)
+opening_later (Some m) table may =
+    (λ k. m, λ k. refl, ap (opened (table_format Plain)) may.may ∙ may.opens)
 
 -- the same files are told
 pub later_before : {told now : Option Files} (later : ℕ → Files) → now ≡ told
@@ -28,19 +59,20 @@ pub record Held (told : Option Files) (table : Table) (side : Colour)
     (read : ℕ → List ℕ) : Type 0 where
   pub later : ℕ → Files
   pub may : MayBeLater told later
+  pub opens : OpensAtStart later table
   pub same : (k : ℕ) → codes_at side table.text (table_size table)
       (held_later later table.name k) ≡ read k
 
 side_codes : (side : Colour) (table : Table) (codes : List ℕ) → length codes ≡ table_size table
     → AreNumbers codes
     → codes_at side table.text (table_size table)
-    (file_of (magic_of table.kind) table.text (table_size table) codes codes) ≡ codes
+    (file_of (magic_of Plain) table.text (table_size table) codes codes) ≡ codes
 side_codes White table codes long small =
-    (written_is_loaded (magic_of table.kind) table.text (table_size table) codes codes
-    (magic_long table.kind) long long small small).0
+    (written_is_loaded (magic_of Plain) table.text (table_size table) codes codes
+    (magic_long Plain) long long small small).0
 side_codes Black table codes long small =
-    (written_is_loaded (magic_of table.kind) table.text (table_size table) codes codes
-    (magic_long table.kind) long long small small).1
+    (written_is_loaded (magic_of Plain) table.text (table_size table) codes codes
+    (magic_long Plain) long long small small).1
 
 by_name : (table : Table) (side : Colour) (o : Option (List ℕ)) (codes : List ℕ)
     → IsSomeAnd o (IsFileOf table)
@@ -49,22 +81,46 @@ by_name : (table : Table) (side : Colour) (o : Option (List ℕ)) (codes : List 
 by_name table side None codes carried may = absurd carried
 by_name table side (Some bytes) codes carried may = sym may
 
+-- a file of the table's text opens, whatever codes it has
+file_opens : {told : Option Files} (table : Table) (codes : List ℕ)
+    → MayOpen (table_format Plain) told table.name (contents_of table)
+    → length codes ≡ table_size table
+    → opened (table_format Plain)
+    (Some (file_of (magic_of Plain) table.text (table_size table) codes codes))
+    ≡ Ok (contents_of table)
+file_opens table codes may long =
+    let is = belongs (table_format Plain) may.bytes (contents_of table) may.opens in
+    let few = (text_sound table.text table.rules is.read).size in
+    opens_by (table_format Plain)
+    (file_of (magic_of Plain) table.text (table_size table) codes codes) (contents_of table)
+    (record {
+      file = written_belongs (magic_of Plain) table.text (table_size table) codes codes
+          (magic_long Plain) (let short = is.short in omega (arith, short)) (omega (arith, few))
+          long long;
+      short = is.short;
+      read = is.read;
+    })
+
 pub held_codes : (told : Option Files) (table : Table) (side : Colour) (read : ℕ → List ℕ)
     → Carries told table
+    → MayOpen (table_format Plain) told table.name (contents_of table)
     → ((k : ℕ) → MayRead (told_codes table side told) (table_size table) (read k))
     → Held told table side read
-held_codes None table side read carried may =
-    let file : ℕ → List ℕ = λ k. file_of (magic_of table.kind) table.text (table_size table)
+held_codes None table side read carried opens may =
+    let file : ℕ → List ℕ = λ k. file_of (magic_of Plain) table.text (table_size table)
     (read k) (read k) in
     record {
       later = λ k. put no_files table.name (file k);
       may = tt;
+      opens = ap (opened (table_format Plain)) (put-same no_files table.name (file 0))
+          ∙ file_opens table (read 0) opens (may 0).0;
       same = λ k. ap (λ (o : Option (List ℕ)). codes_at side table.text (table_size table)
           (unwrap_or o [])) (put-same no_files table.name (file k))
           ∙ side_codes side table (read k) (may k).0 (may k).1;
     }
-held_codes (Some m) table side read carried may = record {
+held_codes (Some m) table side read carried opens may = record {
   later = λ k. m;
   may = λ k. refl;
+  opens = ap (opened (table_format Plain)) opens.may ∙ opens.opens;
   same = λ k. by_name table side (m table.name) (read k) carried (may k);
 }

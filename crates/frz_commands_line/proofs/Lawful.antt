@@ -28,7 +28,7 @@ use Rattle.frz_prelude.specs.declared.refused.Refused.TheVariants as refusals
 use Rattle.frz_prelude.proofs.Lemmas.{fen_lawful}
 use Rattle.frz_line.specs.Ends as ends
 use Rattle.frz_line.specs.Lines.{LinePly, EndOfLine, IsLine}
-use Rattle.frz_commands_line.specs.Later.{held_later}
+use Rattle.frz_commands_line.specs.Later.{from_opening, held_later}
 use Rattle.frz_commands_line.specs.LineOf.{code_at, codes_later, line_answer, IsLined, IsLinedBy, IsLinedAt}
 use Rattle.frz_commands_line.specs.Lining.{lining_at, line_words}
 use Rattle.frz_commands_line.specs.Sides.{side_of, side_line, on_side}
@@ -89,20 +89,21 @@ words_lawful job lawful words =
 
 module _ (there : LineThere) (alone : LineAlone) (laws : LineLaws) (later : ℕ → Files) where
   one_at : (table : List ℕ) (side : Colour) (p : Board) (files : Files)
-      → HasOneAnswer (λ a. IsLinedAt later table side p files a)
+      → HasOneAnswer (λ a. IsLinedAt (from_opening files later) table side p files a)
   one_at table side p files =
-      let some = some_at there later table side p files in (
+      let some = some_at there (from_opening files later) table side p files in (
         some.a,
         some.answer,
         λ b k. one_by alone (opened (table_format Plain) (files table))
-            (held_later later table) side p files some.a b some.answer k,
+            (held_later (from_opening files later) table) side p files some.a b some.answer k,
       )
 
   lining_lawful : (table : List ℕ) (side : Colour) (p : Board)
       → IsLawful (lining_at later table side p)
   lining_lawful table side p = record {
     one = λ files input. one_at table side p files;
-    means = λ files input a h. line_means laws later table side p files a h;
+    means = λ files input a h. line_means laws (from_opening files later) table side p files a
+        h;
   }
 
   pub line_lawful : (words : List (List ℕ)) → IsLawful (line_words later words)

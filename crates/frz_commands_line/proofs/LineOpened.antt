@@ -20,13 +20,13 @@ use Rattle.frz_commands_line.proofs.Counting.{told_said}
 use Rattle.frz_prelude.proofs.Lemmas.{some_refusal}
 use Rattle.frz_commands_line.proofs.Seen.{LineThere}
 
-abbrev pub lined_by : (later : ℕ → Files) → Colour → Board → (name : List ℕ)
+abbrev pub lined_by : Colour → Board → (later : ℕ → Files) (name : List ℕ)
     → Result Contents TableFault → Files → List ℕ → Answer → Type 0
-lined_by later side p name x files input a = IsLinedBy x (held_later later name) side p files a
+lined_by side p later name x files input a = IsLinedBy x (held_later later name) side p files a
 
-abbrev pub line_comes : (later : ℕ → Files) → Colour → Board → (name input : List ℕ) → Contents
+abbrev pub line_comes : Colour → Board → (later : ℕ → Files) (name input : List ℕ) → Contents
     → List ℕ → Type 0
-line_comes later side p name input = LineComes (held_later later name) side p
+line_comes side p later name input = LineComes (held_later later name) side p
 
 -- there is an answer
 some_in : LineThere → (contents : Contents) (bytes : ℕ → List ℕ) (side : Colour) (p : Board)

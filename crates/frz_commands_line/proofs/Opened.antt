@@ -1,5 +1,5 @@
 -- How a job that opens a table file first ends where it was opened, and where it was not.
-use Rattle.std.proofs.Common.{◌≡◌, refl, sym, subst, ap, ◌∙◌, Option, Some, ℕ, ◌+◌, ◌≤◌, List, length, true, IsTrue, Result, Ok, Err}
+use Rattle.std.proofs.Common.{◌≡◌, refl, sym, subst, ap, ◌∙◌, Option, Some, ℕ, ◌+◌, ◌≤◌, List, length, true, IsTrue, Result, Ok, Err, None}
 use Rattle.std.specs.Prelude.{IfSome, ⊤}
 use Rattle.frz_board.specs.Boards.{Board}
 use Rattle.frz_store.specs.Files.{Files}
@@ -9,9 +9,9 @@ use Rattle.frz_table.specs.declared.fault.TableFault.TheVariants.{Missing}
 use Rattle.frz_table.specs.declared.kind.FileKind.TheVariants.{Plain}
 use Rattle.frz_table.specs.Faults.{TableCauses}
 use Rattle.frz_table.specs.Opening.{Contents, contents_of, opened, Refuses, table_format, opening_calls}
-use Rattle.frz_table.specs.Possible.{MayOpen, MayRefuse, held_text}
+use Rattle.frz_table.specs.Possible.{MayRefuse, held_text}
 use Rattle.frz_table.specs.Tables.{Table}
-use Rattle.frz_table.proofs.Lemmas.{belongs, same_held, text_kept}
+use Rattle.frz_table.proofs.Lemmas.{belongs, opened_missing, same_held, text_kept}
 use Rattle.frz_answer.specs.declared.end.End.{End}
 use Rattle.frz_answer.specs.declared.status.Status.{Status}
 use Rattle.frz_answer.specs.declared.status.Status.TheVariants as statuses
@@ -26,39 +26,44 @@ use Rattle.frz_prelude.specs.Stops.{EndsBy, stop_of_table}
 use Rattle.frz_prelude.specs.declared.refused.Refused.TheVariants as refusals
 use Rattle.frz_prelude.proofs.Lemmas.{Holding, ended, holding, may_stop, stop_own, stops_by, table_cause}
 use Rattle.frz_commands_line.specs.Costs.{CostsIn, CostsAt}
+use Rattle.frz_commands_line.specs.Later.{MayBeLater, OpensAtStart, from_opening}
+use Rattle.frz_commands_line.proofs.Later.{as_opened, told_first}
 use Rattle.frz_commands_line.proofs.OpeningCosts.{opening_within, playing_within}
 use Rattle.frz_commands_line.proofs.Stages.{is_later_part}
 
 -- the text of a file that opens is the one that it keeps
-opened_text : (bytes : List ℕ) (contents : Contents)
-    → opened (table_format Plain) (Some bytes) ≡ Ok contents
-    → held_text (Some bytes) ≡ contents.text
-opened_text bytes contents opens =
+opened_text : (held : Option (List ℕ)) (contents : Contents)
+    → opened (table_format Plain) held ≡ Ok contents → held_text held ≡ contents.text
+opened_text None contents opens =
+    (let no : Err Missing ≡ Ok contents = sym (opened_missing (table_format Plain)) ∙ opens in cc)
+opened_text (Some bytes) contents opens =
     text_kept _ _ _ bytes (belongs (table_format Plain) bytes contents opens).file
 
 once_is_not : {A : Type 0} (reads : Reads) → reads ≡ Once → reads ≡ Never → A
 once_is_not reads once never = let no : Once ≡ Never = sym once ∙ never in cc
 
 -- what is answered by how the file opens, and which numbers the way from the position comes to
-module _ (By : (name : List ℕ) → Result Contents TableFault → Files → List ℕ → Answer → Type 0)
-    (comes : (name input : List ℕ) → Contents → List ℕ → Type 0) (p : Board) (name : List ℕ)
-    (job : Job) where
+module _ (By : (later : ℕ → Files) (name : List ℕ) → Result Contents TableFault → Files → List ℕ
+    → Answer → Type 0) (comes : (later : ℕ → Files) (name input : List ℕ) → Contents → List ℕ
+    → Type 0) (later : ℕ → Files) (p : Board) (name : List ℕ) (job : Job) where
   -- the job by the file of this name
   abbrev pub by_file : Job
   by_file = record job {
-    answers = λ files input a. By name (opened (table_format Plain) (files name)) files input a;
-    costs = λ files input a. CostsAt (files name) p (comes name input);
+    answers = λ files input a. By (from_opening files later) name
+        (opened (table_format Plain) (files name)) files input a;
+    costs = λ files input a. CostsAt (files name) p
+        (comes (from_opening files later) name input);
   }
 
   -- and by the open table
   abbrev pub by_table : List Status → Table → Job
   by_table own table = record job {
-    answers = λ files input a. By table.name (Ok (contents_of table)) files input a;
+    answers = λ files input a. By later table.name (Ok (contents_of table)) files input a;
     means = λ _ _ _. ⊤;
     statuses = own;
     needs = record job.needs { reads = Never };
     costs = λ files input a.
-        CostsIn (contents_of table) p (comes table.name input (contents_of table)) 0 0;
+        CostsIn (contents_of table) p (comes later table.name input (contents_of table)) 0 0;
   }
 
   module _ (once : job.needs.reads ≡ Once) {store now : StoreTold} {input : SourceTold}
@@ -79,36 +84,43 @@ module _ (By : (name : List ℕ) → Result Contents TableFault → Files → Li
     -- the table was opened: what was done by it is what was to be done by its file
     pub opened_ran : (own : List Status) (table : Table) {end : End} {new : World}
         → subset own job.statuses ≡ true → StoreFine store now → table.name ≡ name
-        → MayOpen (table_format Plain) store.files name (contents_of table)
+        → MayBeLater store.files later → OpensAtStart later table
         → now.asked ≤ store.asked + (16 + length table.text)
         → now.calls ≤ store.calls + 5
         → Ran (by_table own table) end (world now input out steps) new
         → Ran by_file end (world store input out steps) new
-    opened_ran own table {end} {new} all fine named may asked few ran =
+    opened_ran own table {end} {new} all fine named may start asked few ran =
         let old = world store input out steps in
-        let held = Some may.bytes in
-        let at = holding store.files name held (same_held store.files name held may.may) in
+        let at : Holding store.files name (later 0 name) =
+        record { files = later 0; agrees = told_first store.files later may; holds = refl } in
+        let opens : opened (table_format Plain) (later 0 name) ≡ Ok (contents_of table) =
+        subst (λ (q : List ℕ). opened (table_format Plain) (later 0 q) ≡ Ok (contents_of table))
+        named start in
         through (by_table own table) by_file old (world now input out steps) new
         (quiet_store store now input out steps quiet)
         (fine_store store now input out steps steps fine) (is_later_part by_file own all) end
-        (λ sees files left agrees. record {
-          found = found_at held left files agrees.source at;
+        (λ files left agrees. record {
+          found = found_at (later 0 name) left files agrees.source at;
           answers = λ m i a fits free untaken answer.
-              subst (λ (x : Result Contents TableFault). By name x m i a)
-              (sym (ap (λ (f : Files). opened (table_format Plain) (f name)) (free refl)
-              ∙ (ap (opened (table_format Plain)) at.holds ∙ may.opens)))
-              (subst (λ (q : List ℕ). By q (Ok (contents_of table)) m i a) named answer);
+              subst (λ (x : Result Contents TableFault). By (from_opening m later) name x m i a)
+              (sym (ap (λ (f : Files). opened (table_format Plain) (f name)) (free refl) ∙ opens))
+              (subst (λ (at : ℕ → Files). By at name (Ok (contents_of table)) m i a)
+              (as_opened later m (free refl))
+              (subst (λ (q : List ℕ). By later q (Ok (contents_of table)) m i a) named answer));
           costs = λ m i a fits free untaken answer costs.
-              let holds : m name ≡ held = ap (λ (f : Files). f name) (free refl) ∙ at.holds in
+              let holds : m name ≡ later 0 name = ap (λ (f : Files). f name) (free refl) in
               let text : held_text (m name) ≡ table.text = ap held_text holds
-              ∙ opened_text may.bytes (contents_of table) may.opens in
-              playing_within (m name) (contents_of table) p (comes name i)
+              ∙ opened_text (later 0 name) (contents_of table) opens in
+              playing_within (m name) (contents_of table) p (comes (from_opening m later) name i)
               (spent_by store steps) (spent_by now steps) (spent new)
-              (ap (opened (table_format Plain)) holds ∙ may.opens) refl few
+              (ap (opened (table_format Plain)) holds ∙ opens) refl few
               (subst (λ (t : List ℕ). now.asked ≤ store.asked + (16 + length t)) (sym text) asked)
+              (subst (λ (at : ℕ → Files). CostsIn (contents_of table) p
+              (comes at name i (contents_of table)) 0 0 (spent_by now steps) (spent new))
+              (as_opened later m (free refl))
               (subst (λ (q : List ℕ). CostsIn (contents_of table) p
-              (comes q i (contents_of table)) 0 0 (spent_by now steps) (spent new))
-              named costs);
+              (comes later q i (contents_of table)) 0 0 (spent_by now steps) (spent new))
+              named costs));
         })
         ran
 
@@ -116,7 +128,7 @@ module _ (By : (name : List ℕ) → Result Contents TableFault → Files → Li
     pub refused_ran : {T : Type 0} (fault : TableFault) {end : End} {taken : SinkTold}
         → IsTrue job.needs.store → IsTrue job.needs.memory
         → OneOf statuses.Missing job.statuses → OneOf statuses.Table job.statuses
-        → ((m : Files) (i : List ℕ) → By name (Err fault) m i
+        → ((m : Files) (i : List ℕ) → By (from_opening m later) name (Err fault) m i
         (says (status_of (refusals.Table fault)) (refusal_line (refusals.Table fault)) m))
         → ((m : Files) (i : List ℕ) → SomeAnswer (λ a. by_file.answers m i a))
         → TableCauses {T = T} store.faults now.faults store.wants now.wants (Err fault)
@@ -133,10 +145,11 @@ module _ (By : (name : List ℕ) → Result Contents TableFault → Files → Li
         (may_stop ℕ by_file (stop_of_table fault) store now input out steps steps calls wants
         (stop_own fault job.statuses missing refused)
         (table_cause T ℕ fault store now causes)) ends
-        (λ sees free left agrees.
+        (λ free left agrees.
         let costs : (a : Answer) → by_file.costs files left a (spent old) (spent new) = λ a.
         opening_within (opened (table_format Plain) (files name)) p
-        (comes name left) (opening_calls (table_format Plain) (files name))
+        (comes (from_opening files later) name left)
+        (opening_calls (table_format Plain) (files name))
         (16 + length (held_text (files name))) (spent old) (spent new) refl
         (subst (λ (h : Option (List ℕ)). now.calls ≤ store.calls
         + opening_calls (table_format Plain) h) (sym at.holds) may.calls)
@@ -147,7 +160,8 @@ module _ (By : (name : List ℕ) → Result Contents TableFault → Files → Li
         stops_by by_file free left old new (opened (table_format Plain) (files name)) fault
         (λ e. record {
           found = found;
-          answer = subst (λ (x : Result Contents TableFault). By name x files left
+          answer = subst
+              (λ (x : Result Contents TableFault). By (from_opening files later) name x files left
               (says (status_of (refusals.Table fault)) (refusal_line (refusals.Table fault)) files))
               (sym e) (says_so files left);
           costs = costs

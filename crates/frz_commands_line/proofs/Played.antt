@@ -116,7 +116,7 @@ module _ (there : LineThere) (later_files : ℕ → Files) (table : Table) (side
         behind_lines job text end old mid (world left input taken now) took lines refl refl
         (said (rest_of job text) (end_status result) (naming_line result) end between played taken
         (quiet_with mid) (fine_store store left input mid before now fine) own said_it
-        (λ sees m i agrees.
+        (λ m i agrees.
         let so = so_in result tells in
         let ended = whole (told side so.end) so.rest so.finishes in
         let written : text ≡ line_text side code_in so.plies (told side so.end) =
@@ -156,7 +156,7 @@ module _ (there : LineThere) (later_files : ℕ → Files) (table : Table) (side
     stopped_short result fault tells took meets short =
         behind_lines job text (Stopped fault) old mid played took lines refl refl
         (stopped (rest_of job text) fault between played (quiet_with mid) meets
-        (λ sees m i agrees.
+        (λ m i agrees.
         let so = so_in result tells in
         let answer = told side so.end in
         let rest = so.rest ++ naming_line answer in
@@ -182,7 +182,7 @@ module _ (there : LineThere) (later_files : ℕ → Files) (table : Table) (side
     cut_short tells failed =
         cut_within job text [] old (world left input out now) mid refl (quiet_with out).later
         quiet.unwritten (drop_none input.left) failed
-        (λ sees m i agrees.
+        (λ m i agrees.
         let so = so_in (Err faults.Output) tells in
         let answer = told side so.end in
         let whole = rest_answer (Err faults.Output) m so in
@@ -210,7 +210,7 @@ module _ (there : LineThere) (later_files : ℕ → Files) (table : Table) (side
       (record { faults = refl; wants = refl }))) refl
       (subst (λ (o : SinkTold). Said (status_of refusals.Outside) (refusal_line refusals.Outside)
       end o taken) unwritten said_it)
-      (λ sees m i agrees. record {
+      (λ m i agrees. record {
         found = as_given job m i old agrees;
         answer = lined_outside (contents_of table) held side p m
             (says (status_of refusals.Outside) (refusal_line refusals.Outside) m) none refl;

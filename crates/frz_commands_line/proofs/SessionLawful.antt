@@ -22,7 +22,7 @@ use Rattle.frz_play.specs.declared.end.SessionEnd.{SessionEnd}
 use Rattle.frz_play.specs.Ends.{Tells}
 use Rattle.frz_play.specs.Reading.{Input}
 use Rattle.frz_play.specs.Sessions.{SessionPly, EndOfSession, IsSession}
-use Rattle.frz_commands_line.specs.Later.{held_later}
+use Rattle.frz_commands_line.specs.Later.{from_opening, held_later}
 use Rattle.frz_commands_line.specs.LineOf.{code_at, codes_later}
 use Rattle.frz_commands_line.specs.SessionOf.{session_answer, IsPlayed, IsPlayedBy, IsPlayedAt}
 use Rattle.frz_commands_line.specs.Playing.{playing_at, play_words}
@@ -84,20 +84,22 @@ one_by alone (Err fault) bytes side p files input a b h k = k ∙ sym h
 module _ (there : SessionThere) (alone : SessionAlone) (laws : SessionLaws)
     (later : ℕ → Files) where
   one_at : (table : List ℕ) (side : Colour) (p : Board) (files : Files) (input : List ℕ)
-      → HasOneAnswer (λ a. IsPlayedAt later table side p files input a)
+      → HasOneAnswer (λ a. IsPlayedAt (from_opening files later) table side p files input a)
   one_at table side p files input =
-      let some = some_at there later table side p files input in (
+      let some = some_at there (from_opening files later) table side p files input in (
         some.a,
         some.answer,
         λ b k. one_by alone (opened (table_format Plain) (files table))
-            (held_later later table) side p files input some.a b some.answer k,
+            (held_later (from_opening files later) table) side p files input some.a b
+            some.answer k,
       )
 
   playing_lawful : (table : List ℕ) (side : Colour) (p : Board)
       → IsLawful (playing_at later table side p)
   playing_lawful table side p = record {
     one = λ files input. one_at table side p files input;
-    means = λ files input a h. play_means laws later table side p files input a h;
+    means = λ files input a h. play_means laws (from_opening files later) table side p files
+        input a h;
   }
 
   pub play_lawful : (words : List (List ℕ)) → IsLawful (play_words later words)

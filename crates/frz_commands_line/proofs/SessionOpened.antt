@@ -23,14 +23,14 @@ use Rattle.frz_prelude.proofs.Lemmas.{some_refusal}
 use Rattle.frz_commands_line.proofs.SessionSeen.{SessionThere}
 use Rattle.frz_commands_line.proofs.SessionTexts.{answered_at, never_cut, session_said}
 
-abbrev pub played_by : (later : ℕ → Files) → Colour → Board → (name : List ℕ)
+abbrev pub played_by : Colour → Board → (later : ℕ → Files) (name : List ℕ)
     → Result Contents TableFault → Files → List ℕ → Answer → Type 0
-played_by later side p name x files input a =
+played_by side p later name x files input a =
     IsPlayedBy x (held_later later name) side p files input a
 
-abbrev pub session_comes : (later : ℕ → Files) → Colour → Board → (name input : List ℕ) → Contents
+abbrev pub session_comes : Colour → Board → (later : ℕ → Files) (name input : List ℕ) → Contents
     → List ℕ → Type 0
-session_comes later side p name input = SessionComes (held_later later name) side p input
+session_comes side p later name input = SessionComes (held_later later name) side p input
 
 -- there is an answer
 some_in : SessionThere → (contents : Contents) (bytes : ℕ → List ℕ) (side : Colour) (p : Board)

@@ -225,12 +225,12 @@ module _ (there : SessionThere) (later_files : ℕ → Files) (table : Table) (s
     all_told result end tells took_text fine unfailed own said_it whole =
         after_lines job text took end old between (world left gone taken now) (came took_text) lines
         refl refl refl
-        (λ sees m agrees. split_in result tells m)
+        (λ m agrees. split_in result tells m)
         (λ m i a costs. costs)
         (said (rest_after job text took) (session_status result) (session_naming result) end between
         played taken quiet_between
         (record { store = fine; input = unfailed; out = refl }) own said_it
-        (λ sees m i agrees.
+        (λ m i agrees.
         let so = so_in result tells in
         let ended = whole so.end so.of.rest so.of.unread so.of.finishes in
         let texts : text ++ session_naming result ≡ played_text side code_in so.plies so.end
@@ -274,11 +274,11 @@ module _ (there : SessionThere) (later_files : ℕ → Files) (table : Table) (s
     stopped_short result fault tells took_text meets short =
         after_lines job text took (Stopped fault) old between played (came took_text) lines refl
         refl refl
-        (λ sees m agrees. split_in result tells m)
+        (λ m agrees. split_in result tells m)
         (λ m i a costs. costs)
         (stopped (rest_after job text took) fault between played quiet_between
         (meets_rest fault meets)
-        (λ sees m i agrees.
+        (λ m i agrees.
         let so = so_in result tells in
         let final = answer_in result m so in
         let answer = final.answer in
@@ -309,7 +309,7 @@ module _ (there : SessionThere) (later_files : ℕ → Files) (table : Table) (s
         cut_within job text took old (world left gone out now) mid refl
         (record { store = quiet.later; input = fell; out = omega arith; steps = later })
         quiet.unwritten bytes.behind failed
-        (λ sees m i agrees.
+        (λ m i agrees.
         let result : Result SessionEnd PlayFault = Err (plays.Line faults.Output) in
         let so = so_in result tells in
         let final = answer_in result m so in
@@ -391,7 +391,7 @@ outside_ran later table side p store source out taken steps end none said_it =
     (world store source out steps) (world store source out steps) taken
     (quiet_same (world store source out steps)) (fine_same (world store source out steps)) refl
     said_it
-    (λ sees m i agrees. record {
+    (λ m i agrees. record {
       found = as_given (playing_in later table side p) m i (world store source out steps) agrees;
       answer = played_outside (contents_of table) held side p m i
           (says (status_of refusals.Outside) (refusal_line refusals.Outside) m) none refl;

@@ -8,7 +8,7 @@ use Rattle.frz_answer.specs.declared.end.End.{End}
 use Rattle.frz_answer.specs.Statuses.{subset}
 use Rattle.frz_answer.specs.World.{World, Came, spent}
 use Rattle.frz_answer.specs.Answers.{Answer, behind, IsLines}
-use Rattle.frz_answer.specs.Jobs.{Job, Sees}
+use Rattle.frz_answer.specs.Jobs.{Job}
 use Rattle.frz_answer.specs.Ends.{Ran}
 use Rattle.frz_answer.proofs.Lemmas.{Found, follows}
 use Rattle.frz_commands_line.proofs.Stages.{is_part}
@@ -47,7 +47,7 @@ found_in job files free old input takes there may = record {
 pub after_lines : (job : Job) (text bytes : List ℕ) (end : End) (old mid new : World)
     → Came text bytes old mid → IsLines text → IsTrue job.speaks → IsTrue job.needs.input
     → subset job.statuses job.statuses ≡ true
-    → (Sees job.needs.reads old → (files : Files)
+    → ((files : Files)
     → IfSome old.store.files (λ told. told ≡ files) → Split bytes old.input.left)
     → ((m : Files) (i : List ℕ) (a : Answer) → (rest_after job text bytes).costs m i a (spent mid)
     (spent new) → job.costs m (bytes ++ i) (behind text (length bytes) a) (spent old)
@@ -57,8 +57,8 @@ after_lines job text bytes end old mid new came lines speaks takes all split cos
     follows (rest_after job text bytes) job text bytes old mid new came lines speaks
     (is_part job job.statuses all) end
     (λ e. (let no : true ≡ false = sym takes ∙ e in cc))
-    (λ sees files input agrees.
-    let here = split sees files agrees.store in record {
+    (λ files input agrees.
+    let here = split files agrees.store in record {
       found = found_in job files input old here.input takes agrees.store here.may;
       rest = here.rest;
       split = here.split;

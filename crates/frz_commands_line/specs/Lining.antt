@@ -11,7 +11,7 @@ use Rattle.frz_answer.specs.Jobs.{Job, Needs, Never, Once, plain}
 use Rattle.frz_answer.specs.Words.{taking, three_words_of}
 use Rattle.frz_prelude.specs.Positions.{on_position}
 use Rattle.frz_commands_line.specs.Costs.{CostsIn, CostsAt}
-use Rattle.frz_commands_line.specs.Later.{held_later}
+use Rattle.frz_commands_line.specs.Later.{from_opening, held_later}
 use Rattle.frz_commands_line.specs.LineMeaning.{MeansLine}
 use Rattle.frz_commands_line.specs.LineOf.{LineComes, IsLinedIn, IsLinedAt}
 use Rattle.frz_commands_line.specs.Sides.{on_side, side_of}
@@ -32,15 +32,16 @@ lining_in later table side p =
           (LineComes (held_later later table.name) side p (contents_of table)) 0 0;
     }
 
--- by the table of this name
+-- by the table of this name: what is read at ply 0 is read in the files that it opens in
 abbrev pub lining_at : (later : ℕ → Files) → List ℕ → Colour → Board → Job
 lining_at later table side p =
     record (plain (Success ∷ Wrong ∷ Table ∷ Outside ∷ Missing ∷ [])
-    (λ files input a. IsLinedAt later table side p files a)) {
-      means = λ files input a. MeansLine later table side p files a;
+    (λ files input a. IsLinedAt (from_opening files later) table side p files a)) {
+      means = λ files input a. MeansLine (from_opening files later) table side p files a;
       needs = playing_needs;
       speaks = true;
-      costs = λ files input a. CostsAt (files table) p (LineComes (held_later later table) side p);
+      costs = λ files input a. CostsAt (files table) p
+          (LineComes (held_later (from_opening files later) table) side p);
     }
 
 -- line TABLE FEN SIDE

@@ -11,7 +11,7 @@ use Rattle.frz_answer.specs.Jobs.{Job, Needs, Never, plain}
 use Rattle.frz_answer.specs.Words.{taking, three_words_of}
 use Rattle.frz_prelude.specs.Positions.{on_position}
 use Rattle.frz_commands_line.specs.Costs.{CostsIn, CostsAt}
-use Rattle.frz_commands_line.specs.Later.{held_later}
+use Rattle.frz_commands_line.specs.Later.{from_opening, held_later}
 use Rattle.frz_commands_line.specs.Lining.{playing_needs}
 use Rattle.frz_commands_line.specs.SessionMeaning.{MeansPlay}
 use Rattle.frz_commands_line.specs.SessionOf.{SessionComes, IsPlayedIn, IsPlayedAt}
@@ -33,16 +33,16 @@ playing_in later table side p =
           (SessionComes (held_later later table.name) side p input (contents_of table)) 0 0;
     }
 
--- by the table of this name
+-- by the table of this name: what is read at ply 0 is read in the files that it opens in
 abbrev pub playing_at : (later : ℕ → Files) → List ℕ → Colour → Board → Job
 playing_at later table side p =
     record (plain (Success ∷ Wrong ∷ Table ∷ Outside ∷ Missing ∷ Limit ∷ [])
-    (λ files input a. IsPlayedAt later table side p files input a)) {
-      means = λ files input a. MeansPlay later table side p files input a;
+    (λ files input a. IsPlayedAt (from_opening files later) table side p files input a)) {
+      means = λ files input a. MeansPlay (from_opening files later) table side p files input a;
       needs = session_needs;
       speaks = true;
       costs = λ files input a. CostsAt (files table) p
-          (SessionComes (held_later later table) side p input);
+          (SessionComes (held_later (from_opening files later) table) side p input);
     }
 
 -- play TABLE FEN SIDE

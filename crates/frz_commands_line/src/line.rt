@@ -3,6 +3,9 @@ ghost use Rattle.std.specs.Prelude.{◌≡◌, ℕ, map, false};
 ghost use Rattle.std.specs.String.{string_bytes};
 ghost use Rattle.frz_fide.specs.Valid.{IsValid};
 ghost use Rattle.frz_fen.specs.Reading.{fen_of};
+ghost use Rattle.frz_table.specs.declared.kind.FileKind.TheVariants.{Plain};
+ghost use Rattle.frz_table.specs.Opening.{contents_of, table_format};
+ghost use Rattle.frz_table.specs.Possible.{MayOpen};
 ghost use Rattle.frz_table.specs.Tables.{Carries};
 ghost use Rattle.frz_store.specs.Files.{Files};
 ghost use Rattle.frz_store.specs.Told.{SourceTold, store_of, sink_of};
@@ -10,7 +13,7 @@ ghost use Rattle.frz_answer.specs.World.{world};
 ghost use Rattle.frz_answer.specs.Ends.{Ran};
 ghost use Rattle.frz_prelude.specs.Positions.{on_position};
 ghost use Rattle.frz_commands_line.specs.LineEnds.{EndsLine};
-ghost use Rattle.frz_commands_line.specs.Later.{MayBeLater};
+ghost use Rattle.frz_commands_line.specs.Later.{MayBeLater, OpensAtStart};
 ghost use Rattle.frz_commands_line.specs.Lining.{lining_in, lining_at, line_words};
 ghost use Rattle.frz_commands_line.specs.Sides.{on_side, side_of};
 
@@ -53,7 +56,10 @@ fn line_in<S: Store, O: Sink, L: Ledger>(
 ) -> End
     requires valid { IsValid p.now }
     requires carried { Carries (S.files store.old) table.now }
+    requires opens { MayOpen (table_format Plain) (S.files store.old) table.now.name
+        (contents_of table.now) }
     ensures { (later : ℕ → Files) × MayBeLater (S.files store.old) later
+        × OpensAtStart later table.now
         × ((input : SourceTold) → Ran (lining_in later table.now side p.now) result
         (world (store_of S.Store store.old) input (sink_of O.Sink out.old) steps.old)
         (world (store_of S.Store store.new) input (sink_of O.Sink out.new) steps.new)) }

@@ -3,6 +3,9 @@ ghost use Rattle.std.specs.Prelude.{◌≡◌, ℕ, map, false};
 ghost use Rattle.std.specs.String.{string_bytes};
 ghost use Rattle.frz_fide.specs.Valid.{IsValid};
 ghost use Rattle.frz_fen.specs.Reading.{fen_of};
+ghost use Rattle.frz_table.specs.declared.kind.FileKind.TheVariants.{Plain};
+ghost use Rattle.frz_table.specs.Opening.{contents_of, table_format};
+ghost use Rattle.frz_table.specs.Possible.{MayOpen};
 ghost use Rattle.frz_table.specs.Tables.{Carries};
 ghost use Rattle.frz_store.specs.Files.{Files};
 ghost use Rattle.frz_store.specs.Told.{sink_of};
@@ -10,7 +13,7 @@ ghost use Rattle.frz_answer.specs.World.{world_of};
 ghost use Rattle.frz_answer.specs.Ends.{Ran};
 ghost use Rattle.frz_prelude.specs.Positions.{on_position};
 ghost use Rattle.frz_commands_line.specs.SessionEnds.{EndsSession};
-ghost use Rattle.frz_commands_line.specs.Later.{MayBeLater};
+ghost use Rattle.frz_commands_line.specs.Later.{MayBeLater, OpensAtStart};
 ghost use Rattle.frz_commands_line.specs.Playing.{playing_in, playing_at, play_words};
 ghost use Rattle.frz_commands_line.specs.Sides.{on_side, side_of};
 
@@ -55,8 +58,10 @@ fn play_in<S: Store, I: Source, O: Sink, L: Ledger>(
 ) -> End
     requires valid { IsValid p.now }
     requires carried { Carries (S.files store.old) table.now }
+    requires opens { MayOpen (table_format Plain) (S.files store.old) table.now.name
+        (contents_of table.now) }
     ensures { (later : ℕ → Files) × MayBeLater (S.files store.old) later
-        × (Ran (playing_in later table.now side p.now) result
+        × OpensAtStart later table.now × (Ran (playing_in later table.now side p.now) result
         (world_of S.Store I.Source O.Sink store.old input.old out.old steps.old)
         (world_of S.Store I.Source O.Sink store.new input.new out.new steps.new)) }
 {

@@ -76,7 +76,6 @@ at_stage text r rules table =
       statuses = refl;
       store = λ h. h;
       reads = λ e. refl;
-      sees = λ w h. tt;
       input = λ h. cc;
       memory = λ h. h;
       speaks = λ e. e;

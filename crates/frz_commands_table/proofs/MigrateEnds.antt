@@ -55,7 +55,6 @@ writes_stage text size white black old new = record {
   statuses = refl;
   store = λ h. h;
   reads = λ e. refl;
-  sees = λ w h. tt;
   input = λ h. cc;
   memory = λ h. h;
   speaks = λ e. e;

@@ -10,7 +10,7 @@ use Rattle.frz_answer.specs.declared.status.Status.{Status}
 use Rattle.frz_answer.specs.Statuses.{OneOf}
 use Rattle.frz_answer.specs.Answers.{SomeAnswer, says}
 use Rattle.frz_answer.specs.World.{World, world, Agrees, Fine, Quiet}
-use Rattle.frz_answer.specs.Jobs.{Job, Never, Sees}
+use Rattle.frz_answer.specs.Jobs.{Job, Never}
 use Rattle.frz_answer.specs.Ends.{MayMeet, Ran, Said}
 use Rattle.frz_answer.proofs.Lemmas.{said, stopped, fine_store, Found, SaysAll, Begun, behind_said}
 use Rattle.frz_table.specs.declared.fault.TableFault.{TableFault}
@@ -100,7 +100,7 @@ StopsWith job (Fault fault) files input old new = Begun job files input old new
 
 pub ended : (job : Job) (stop : Stop) (end : End) (old mid : World) (out : SinkTold) → Quiet old mid
     → MayStop job stop old mid → EndsBy stop end mid.out out
-    → (Sees job.needs.reads old → (files : Files) (input : List ℕ) → Agrees old files input
+    → ((files : Files) (input : List ℕ) → Agrees old files input
     → StopsWith job stop files input old mid)
     → Ran job end old (record mid { out = out })
 ended job (Refused why) end old mid out quiet may ends answers =

@@ -9,7 +9,7 @@ use Rattle.frz_answer.proofs.refusing.refuse.Goals as goal
 pub returns : goal.returns
 returns g c = λ store input steps.
     said _ _ _ _ _ (world _ _ _ _) _ (quiet_same _) (fine_same _) refl c.say.ensures
-    (λ sees files left agrees. record {
+    (λ files left agrees. record {
       found = as_given _ files left _ agrees;
       answer = ap (λ (l : List ℕ). says Words l files) c.line.ensures;
       costs = record { steps = omega arith; calls = omega arith; asked = omega arith };

@@ -15,7 +15,7 @@ returns-in-Ok g c = λ input steps.
     let kept = e.kept in
     said _ _ _ _ _ (world _ _ _ _) _ (quiet_store _ _ _ _ _ e.quiet)
     (fine_store _ _ _ _ _ _ e.cause) refl (c.said.ensures _ _ _ c.write_kept.ensures)
-    (λ sees files left agrees. record {
+    (λ files left agrees. record {
       found = found_where (querying_at c.args.kind c.args.table.now c.args.p.now) kept.files files
           left _ (λ n. cc) kept.agrees agrees;
       answer = ap (λ (r : Result KeptCodes Refused). answer_by r kept.files) (sym kept.due);
@@ -29,5 +29,5 @@ returns-in-Err g c = λ input steps.
     ended job c.in-Err.stop _ _ (world _ _ _ _) _ (quiet_store _ _ _ _ _ e.quiet)
     (may_stop KeptCodes job c.in-Err.stop _ _ input _ steps steps refl refl
     (own_stop c.args.kind c.args.p.now _ c.in-Err.stop e.kept.due) e.cause) c.end.ensures
-    (λ sees files left agrees. stopped_at _ _ _ c.in-Err.stop files left _ _ e.kept (omega arith)
+    (λ files left agrees. stopped_at _ _ _ c.in-Err.stop files left _ _ e.kept (omega arith)
     agrees)

@@ -45,4 +45,4 @@ returns-in-Err g c = λ input.
     (stop_own fault job.statuses refl refl)
     (table_cause Table Totals fault _ _ e.causes))
     (rw c.from.ensures at c.end.ensures)
-    (λ sees files left agrees. stopped_so _ files left _ _ agrees fault e.may_refuse (omega arith))
+    (λ files left agrees. stopped_so _ files left _ _ agrees fault e.may_refuse (omega arith))

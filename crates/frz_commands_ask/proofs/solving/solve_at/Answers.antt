@@ -18,7 +18,7 @@ returns-in-Ok g c = λ input.
     let rules = c.args.rules.now in
     through _ _ _ _ _ (quiet_store _ _ _ _ _ e.quiet) (fine_store _ _ _ _ _ _ e.cause)
     (at_stage _ _ _) _
-    (λ sees files left agrees. record {
+    (λ files left agrees. record {
       found = found_rules rules c.args.p.now e.read.files files left _ e.read.agrees agrees;
       answers = λ m i a fits same untaken solved.
           is_read_at c.args.p.now m rules _ a
@@ -46,4 +46,4 @@ returns-in-Err g c = λ input.
     ended job c.in-Err.stop _ _ (world _ _ _ _) _ (quiet_store _ _ _ _ _ e.quiet)
     (may_stop RuleLines job c.in-Err.stop _ _ input out steps steps refl refl
     (own_stop _ c.in-Err.stop e.read.due) e.cause) c.end.ensures
-    (λ sees files left agrees. stopped_at _ _ c.in-Err.stop files left _ _ e.read agrees)
+    (λ files left agrees. stopped_at _ _ c.in-Err.stop files left _ _ e.read agrees)

@@ -12,7 +12,7 @@ returns-in-Ok g c = λ store input.
     let found = c.in-Ok.ensures.found in
     said _ _ _ _ _ (world _ _ _ _) _ (quiet_steps _ _ _ _ _ c.bounds_by.ensures.later)
     (fine_steps _ _ _ _ _) refl (c.said.ensures _ _ _ c.write_bounds-written.ensures)
-    (λ sees files left agrees. record {
+    (λ files left agrees. record {
       found = as_given _ files left _ agrees;
       answer =
           is_inside _ _ files _ found.0 (c.in-Ok.bounds.white, c.in-Ok.bounds.black, found.1, refl);
@@ -24,5 +24,5 @@ returns-in-Err g c = λ store input.
     let found = c.in-Err.ensures.found in
     ended _ c.in-Err.stop _ _ (world _ _ _ _) _ (quiet_steps _ _ _ _ _ c.bounds_by.ensures.later)
     (may_stop_by c.args.rules.now c.args.p.now _ _ _ _ _ c.in-Err.stop found) c.end.ensures
-    (λ sees files left agrees. stopped_by c.args.rules.now c.args.p.now _ _ _ _ _ c.requires.sound
+    (λ files left agrees. stopped_by c.args.rules.now c.args.p.now _ _ _ _ _ c.requires.sound
     c.in-Err.stop files left found agrees)

@@ -20,7 +20,7 @@ returns-in-Ok g c = λ input.
     let both = c.in-Ok.both in
     through _ _ _ _ _ (quiet_both _ _ _ _ _ _ e.quiet e.later) (fine_store _ _ _ _ _ _ e.cause)
     (at_stage both.read.text.items both.read.rules (loaded_back both.back) rules back table) _
-    (λ sees files left agrees. stages rules back table both files left _ _ _ (e.read input _ sees)
+    (λ files left agrees. stages rules back table both files left _ _ _ e.read
     agrees)
     (c.chain_by.ensures input)
 
@@ -36,5 +36,5 @@ returns-in-Err g c = λ input.
     ended job c.in-Err.stop _ _ (world _ _ _ _) _ (quiet_both _ _ _ _ _ _ e.quiet e.later)
     (may_stop BothRead job c.in-Err.stop _ _ input out _ _ refl refl
     (own_stop c.in-Err.stop e.stops) e.cause) c.end.ensures
-    (λ sees files left agrees. stopped_at _ _ _ c.in-Err.stop files left _ _ (e.read input out sees)
+    (λ files left agrees. stopped_at _ _ _ c.in-Err.stop files left _ _ e.read
     agrees)

@@ -24,7 +24,7 @@ returns-in-Ok g c =
     (world _ _ _ _) _ _ e.later refl refl
     (chained_line c.in-Ok.size) _ _ refl e.built.written.0 e.built.written.1 e.room
     (c.said.ensures _ _ _ c.write_chained.ensures)
-    (λ sees files left agrees. record {
+    (λ files left agrees. record {
       found = as_given _ files left _ agrees;
       answer = (
         bytes,
@@ -52,7 +52,7 @@ returns-in-Err g c =
     λ input. not_written (chaining_by both.read.text.items both.read.rules back table) table bytes
     (world _ _ _ _) (store_of g.S.Store c.build_over.new.store) _ e.later refl refl
     ℕ c.in-Err.fault c.from.result c.from.ensures refl e.built.written
-    (λ sees files left agrees. record {
+    (λ files left agrees. record {
       found = as_given _ files left _ agrees;
       some = record {
         a = says Success (chained_line (size_of both.read.rules.groups)) (put files table bytes);

@@ -8,7 +8,7 @@ pub returns : goal.returns
 returns g c = λ store input.
     said _ _ _ _ _ (world _ _ _ _) _ (quiet_steps _ _ _ _ _ c.write_moves.ensures.later)
     (fine_steps _ _ _ _ _) refl (c.said.ensures _ _ _ c.write_moves.ensures.wrote)
-    (λ sees files left agrees. record {
+    (λ files left agrees. record {
       found = as_given _ files left _ agrees;
       answer = refl;
       costs = record {

@@ -1,9 +1,23 @@
-use Rattle.std.proofs.Common.{refl}
+use Rattle.std.proofs.Common.{refl, sym, subst, ℕ, List, Option}
+use Rattle.frz_store.specs.Files.{Files}
+use Rattle.frz_table.specs.declared.kind.FileKind.TheVariants.{Plain}
+use Rattle.frz_table.specs.Opening.{contents_of, table_format}
+use Rattle.frz_table.specs.Possible.{MayOpen}
+use Rattle.frz_commands_line.specs.Later.{from_opening}
 use Rattle.frz_commands_line.specs.Lining.{lining_at}
 use Rattle.frz_commands_line.proofs.Later.{any_later, later_before}
 use Rattle.frz_commands_line.proofs.LineOpened.{line_comes, lined_by, some_at}
 use Rattle.frz_commands_line.proofs.Opened.{opened_ran, refused_ran}
 use Rattle.frz_commands_line.proofs.line.line_at.Goals as goal
+
+pub line_in-requires-clause-opens : goal.line_in-requires-clause-opens
+line_in-requires-clause-opens g c =
+    let e = c.in-Ok.ensures in
+    let t = c.in-Ok.table in
+    subst (λ (o : Option Files). MayOpen (table_format Plain) o t.name (contents_of t))
+    (sym e.quiet.unwritten.files)
+    (subst (λ (n : List ℕ). MayOpen (table_format Plain) (g.S.Store.files c.args.store.now) n
+    (contents_of t)) (sym e.name) e.may_open)
 
 pub returns-in-Ok : goal.returns-in-Ok
 returns-in-Ok g c =
@@ -14,11 +28,11 @@ returns-in-Ok g c =
       w.0,
       later_before w.0 e.quiet.unwritten.files w.1,
       λ input.
-          opened_ran (lined_by w.0 side p) (line_comes w.0 side p)
+          opened_ran (lined_by side p) (line_comes side p) w.0
           p c.args.table.now (lining_at w.0 c.args.table.now side p) refl
           e.quiet _ c.in-Ok.table refl
-          (record { faults = e.causes.fine; wants = e.causes.wants_fine }) e.name e.may_open
-          e.asked e.calls (w.2 input),
+          (record { faults = e.causes.fine; wants = e.causes.wants_fine }) e.name
+          (later_before w.0 e.quiet.unwritten.files w.1) w.2 e.asked e.calls (w.3 input),
     )
 
 pub returns-in-Err : goal.returns-in-Err
@@ -30,9 +44,10 @@ returns-in-Err g c =
       any.0,
       any.1,
       λ input.
-          refused_ran (lined_by any.0 side p) (line_comes any.0 side p)
+          refused_ran (lined_by side p) (line_comes side p) any.0
           p c.args.table.now (lining_at any.0 c.args.table.now side p) refl
           e.quiet c.in-Err.fault refl refl refl refl (λ m i. refl)
-          (λ m i. some_at c.one_line.ensures.there any.0 c.args.table.now side p m)
+          (λ m i. some_at c.one_line.ensures.there (from_opening m any.0) c.args.table.now side
+          p m)
           e.causes e.may_refuse (rw c.from.ensures at c.end.ensures),
     )

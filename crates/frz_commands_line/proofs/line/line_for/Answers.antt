@@ -30,7 +30,7 @@ returns-in-None-clause-ran g c =
           (fen_of c.args.fen.now)) _ _ c.in-None.ensures
           (said _ _ _ _ _ (world (store_of g.S.Store c.args.store.now) input _ _) _ (quiet_same _)
           (fine_same _) refl c.refuse_side.ensures
-          (λ sees files left agrees. record {
+          (λ files left agrees. record {
             found = as_given _ files left _ agrees;
             answer = refl;
             costs = record { steps = omega arith; calls = omega arith; asked = omega arith };

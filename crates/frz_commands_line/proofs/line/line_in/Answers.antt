@@ -13,9 +13,11 @@ returns g c =
     let table = c.args.table.now in
     let side = c.args.side in
     let w = e.wrote in
-    let held = held_codes (g.S.Store.files c.args.store.now) table side w.1 c.requires.carried w.4 in (
+    let held = held_codes (g.S.Store.files c.args.store.now) table side w.1 c.requires.carried
+    c.requires.opens w.4 in (
       held.later,
       held.may,
+      held.opens,
       λ input. line_ran c.one_line.ensures.there held.later table side c.args.p.now
           (store_of g.S.Store c.args.store.now) (store_of g.S.Store c.best_line-line.new.store) input
           (sink_of g.O.Sink c.args.out.now) (sink_of g.O.Sink c.best_line-line.new.out)

@@ -1,9 +1,23 @@
-use Rattle.std.proofs.Common.{refl}
+use Rattle.std.proofs.Common.{refl, sym, subst, ℕ, List, Option}
+use Rattle.frz_store.specs.Files.{Files}
+use Rattle.frz_table.specs.declared.kind.FileKind.TheVariants.{Plain}
+use Rattle.frz_table.specs.Opening.{contents_of, table_format}
+use Rattle.frz_table.specs.Possible.{MayOpen}
+use Rattle.frz_commands_line.specs.Later.{from_opening}
 use Rattle.frz_commands_line.specs.Playing.{playing_at}
 use Rattle.frz_commands_line.proofs.Later.{any_later, later_before}
 use Rattle.frz_commands_line.proofs.Opened.{opened_ran, refused_ran}
 use Rattle.frz_commands_line.proofs.SessionOpened.{played_by, session_comes, some_at}
 use Rattle.frz_commands_line.proofs.play.play_at.Goals as goal
+
+pub play_in-requires-clause-opens : goal.play_in-requires-clause-opens
+play_in-requires-clause-opens g c =
+    let e = c.in-Ok.ensures in
+    let t = c.in-Ok.table in
+    subst (λ (o : Option Files). MayOpen (table_format Plain) o t.name (contents_of t))
+    (sym e.quiet.unwritten.files)
+    (subst (λ (n : List ℕ). MayOpen (table_format Plain) (g.S.Store.files c.args.store.now) n
+    (contents_of t)) (sym e.name) e.may_open)
 
 pub returns-in-Ok : goal.returns-in-Ok
 returns-in-Ok g c =
@@ -13,11 +27,11 @@ returns-in-Ok g c =
     let p = c.args.p.now in (
       w.0,
       later_before w.0 e.quiet.unwritten.files w.1,
-      opened_ran (played_by w.0 side p) (session_comes w.0 side p)
+      opened_ran (played_by side p) (session_comes side p) w.0
           p c.args.table.now (playing_at w.0 c.args.table.now side p) refl
           e.quiet _ c.in-Ok.table refl
-          (record { faults = e.causes.fine; wants = e.causes.wants_fine }) e.name e.may_open
-          e.asked e.calls w.2,
+          (record { faults = e.causes.fine; wants = e.causes.wants_fine }) e.name
+          (later_before w.0 e.quiet.unwritten.files w.1) w.2 e.asked e.calls w.3,
     )
 
 pub returns-in-Err : goal.returns-in-Err
@@ -28,9 +42,10 @@ returns-in-Err g c =
     let p = c.args.p.now in (
       any.0,
       any.1,
-      refused_ran (played_by any.0 side p) (session_comes any.0 side p)
+      refused_ran (played_by side p) (session_comes side p) any.0
           p c.args.table.now (playing_at any.0 c.args.table.now side p) refl
           e.quiet c.in-Err.fault refl refl refl refl (λ m i. refl)
-          (λ m i. some_at c.one_session.ensures.there any.0 c.args.table.now side p m i)
+          (λ m i. some_at c.one_session.ensures.there (from_opening m any.0) c.args.table.now
+          side p m i)
           e.causes e.may_refuse (rw c.from.ensures at c.end.ensures),
     )

@@ -29,7 +29,7 @@ returns-in-None-clause-ran g c =
           (said _ _ _ _ _ (world (store_of g.S.Store c.args.store.now)
           (source_of g.I.Source c.args.input.now) _ _) _ (quiet_same _) (fine_same _) refl
           c.refuse_side.ensures
-          (λ sees files left agrees. record {
+          (λ files left agrees. record {
             found = as_given _ files left _ agrees;
             answer = refl;
             costs = record { steps = omega arith; calls = omega arith; asked = omega arith };

@@ -8,7 +8,7 @@ use Rattle.frz_prelude.specs.Refusals.{status_of, refusal_line}
 use Rattle.frz_prelude.specs.declared.refused.Refused.{Refused}
 use Rattle.frz_commands_line.specs.Later.{held_later}
 use Rattle.frz_commands_line.specs.LineOf.{codes_later}
-use Rattle.frz_commands_line.proofs.Later.{any_later, held_codes}
+use Rattle.frz_commands_line.proofs.Later.{held_codes, opening_later}
 use Rattle.frz_commands_line.proofs.SessionPlayed.{outside_ran, session_ran}
 use Rattle.frz_commands_line.proofs.play.play_in.Goals as goal
 
@@ -19,9 +19,10 @@ returns-in-Ok g c =
     let side = c.args.side in
     let w = e.played in
     let held = held_codes (g.S.Store.files c.args.store.now) table side w.5.0 c.requires.carried
-    w.5.1 in (
+    c.requires.opens w.5.1 in (
       held.later,
       held.may,
+      held.opens,
       session_ran c.one_session.ensures.there held.later table side c.args.p.now
           (store_of g.S.Store c.args.store.now) (store_of g.S.Store c.play_session-session.new.store)
           (source_of g.I.Source c.args.input.now)
@@ -40,9 +41,11 @@ returns-in-Ok g c =
 pub returns-in-Err : goal.returns-in-Err
 returns-in-Err g c =
     let e = c.in-Err.ensures in
-    let any = any_later (g.S.Store.files c.args.store.now) in (
+    let any = opening_later (g.S.Store.files c.args.store.now) c.args.table.now
+    c.requires.opens in (
       any.0,
       any.1,
+      any.2,
       outside_ran any.0 c.args.table.now c.args.side c.args.p.now
           (store_of g.S.Store c.args.store.now) (source_of g.I.Source c.args.input.now)
           (sink_of g.O.Sink c.args.out.now) (sink_of g.O.Sink c.end.new.out) c.args.steps.now

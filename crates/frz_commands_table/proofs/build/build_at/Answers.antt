@@ -20,7 +20,7 @@ returns-in-Ok g c = λ input.
     let read = c.in-Ok.read in
     through _ _ _ _ _ (quiet_store _ _ _ _ _ e.quiet) (fine_store _ _ _ _ _ _ e.cause)
     (at_stage read.text.items read.rules rules table) _
-    (λ sees files left agrees. record {
+    (λ files left agrees. record {
       found = found_rules rules table e.read.files files left _ e.read.agrees agrees;
       answers = λ m i a fits same untaken built.
           is_read_at table m rules read.text.items read.rules a
@@ -50,5 +50,5 @@ returns-in-Err g c = λ input.
     ended job c.in-Err.stop _ _ (world _ _ _ _) _ (quiet_store _ _ _ _ _ e.quiet)
     (may_stop RulesText job c.in-Err.stop _ _ input out steps steps refl refl
     (own_stop _ c.in-Err.stop e.read.due) e.cause) c.end.ensures
-    (λ sees files left agrees. stopped_at _ _ c.in-Err.stop files left _ _ e.read (omega arith)
+    (λ files left agrees. stopped_at _ _ c.in-Err.stop files left _ _ e.read (omega arith)
     agrees)

@@ -16,7 +16,7 @@ returns-in_default g c =
     let read = c.args.read.now in
     λ input. stopped (building_by read.text.items read.rules c.args.table.now) NoMemory
     (world _ _ _ _) _ (quiet_same _) refl
-    (λ sees files left agrees. record {
+    (λ files left agrees. record {
       found = as_given _ files left _ agrees;
       some = some_built_by read.text.items read.rules c.requires.sound c.args.table.now files;
       costs = record { steps = omega arith; calls = omega arith; asked = omega arith };
@@ -34,7 +34,7 @@ returns-in-Ok-build_table g c =
     e.later refl refl
     (built_line c.in-Ok-build_table.size) _ _ refl e.built.written.0 e.built.written.1 e.room
     (c.said.ensures _ _ _ c.write_built.ensures)
-    (λ sees files left agrees. record {
+    (λ files left agrees. record {
       found = as_given _ files left _ agrees;
       answer =
           (bytes, one, ap (λ (n : ℕ). says Success (built_line n) (put files table bytes)) e.size);
@@ -56,7 +56,7 @@ returns g c =
     λ input. not_written (building_by read.text.items read.rules table) table bytes (world _ _ _ _)
     (store_of g.S.Store c.build_table.new.store) _ e.later refl refl
     ℕ c.in-Err.fault c.from.result c.from.ensures refl e.built.written
-    (λ sees files left agrees. record {
+    (λ files left agrees. record {
       found = as_given _ files left _ agrees;
       some = record {
         a = says Success (built_line (size_of read.rules.groups)) (put files table bytes);

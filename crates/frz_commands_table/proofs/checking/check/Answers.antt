@@ -14,7 +14,7 @@ returns-in-Ok g c = λ input.
     said _ _ _ _ _ (world _ _ _ _) _ (quiet_both _ _ _ _ _ _ e.quiet e.later)
     (fine_store _ _ _ _ _ _ (record { faults = e.causes.fine; wants = e.causes.wants_fine }))
     (own_verdict c.in-Ok.judged.verdict) c.tell.ensures
-    (λ sees files left agrees. judged_so _ files left _ _ agrees c.in-Ok.judged e.judged)
+    (λ files left agrees. judged_so _ files left _ _ agrees c.in-Ok.judged e.judged)
 
 pub returns-in-Err : goal.returns-in-Err
 returns-in-Err g c = λ input.
@@ -26,4 +26,4 @@ returns-in-Err g c = λ input.
     (stop_own fault job.statuses refl refl)
     (table_cause Judged Judged fault _ _ e.causes))
     (rw c.from.ensures at c.end.ensures)
-    (λ sees files left agrees. stopped_so _ files left _ _ agrees fault e.refused)
+    (λ files left agrees. stopped_so _ files left _ _ agrees fault e.refused)

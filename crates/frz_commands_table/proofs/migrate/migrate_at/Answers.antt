@@ -38,7 +38,7 @@ returns-in-Ok g c = λ input steps.
     (fine_store _ _ _ _ _ _ (record { faults = e.causes.fine; wants = e.causes.wants_fine }))
     (writes_stage moved.file.text (length moved.white.items) moved.white.items moved.black.items old
     new) _
-    (λ sees files left agrees. record {
+    (λ files left agrees. record {
       found = found_where (migrating_at old new) at.files files left _ (λ e. cc) at.agrees agrees;
       answers = λ m i a fits same untaken told. moved_answer old new _ _ moved h m a
           (ap (λ (f : Files). f old) (same refl) ∙ at.holds) told;
@@ -59,4 +59,4 @@ returns-in-Err g c = λ input steps.
     (stop_own fault job.statuses refl refl)
     (table_cause Moved Moved fault _ _ e.causes))
     (rw c.from.ensures at c.end.ensures)
-    (λ sees files left agrees. stopped_so _ _ files left _ _ agrees refl fault e.refused)
+    (λ files left agrees. stopped_so _ _ files left _ _ agrees refl fault e.refused)

@@ -32,7 +32,7 @@ returns-in-Ok g c = λ input steps.
     (world _ _ _ _) _ steps (omega arith) refl refl
     (migrated_line c.len-size.result) _ _ refl written.0 written.1 e.room
     (c.said.ensures _ _ _ c.write_migrated.ensures)
-    (λ sees files left agrees. record {
+    (λ files left agrees. record {
       found = as_given _ files left _ agrees;
       answer = ap (λ (n : ℕ). says Success (migrated_line n) (put files name bytes)) sized;
       costs = record {
@@ -59,7 +59,7 @@ returns-in-Err g c = λ input steps.
     not_written (writing_new text size moved.white.items moved.black.items name) name bytes
     (world _ _ _ _) (store_of g.S.Store c.write_file.new.store) steps (omega arith) refl refl
     (Unit {0}) c.in-Err.fault c.from.result c.from.ensures refl written
-    (λ sees files left agrees. record {
+    (λ files left agrees. record {
       found = as_given _ files left _ agrees;
       some = record {
         a = says Success (migrated_line size) (put files name bytes);

@@ -26,7 +26,7 @@ unreachable-requires g c =
 pub returns-in_default : goal.returns-in_default
 returns-in_default g c = λ store input.
     stopped (sampling c.args.k) NoMemory (world _ _ _ _) _ (quiet_same _) refl
-    (λ sees files left agrees. record {
+    (λ files left agrees. record {
       found = as_given _ files left _ agrees;
       some = some_at c.args.k (omega arith) files;
       costs = record { steps = omega arith; calls = omega arith; asked = omega arith };
@@ -36,7 +36,7 @@ returns-in_default g c = λ store input.
 pub returns-in-Err-NoMemory : goal.returns-in-Err-NoMemory
 returns-in-Err-NoMemory g c = λ store input.
     stopped (sampling c.args.k) NoMemory (world _ _ _ _) _ (quiet_same _) refl
-    (λ sees files left agrees. record {
+    (λ files left agrees. record {
       found = as_given _ files left _ agrees;
       some = some_at c.args.k (omega arith) files;
       costs = record { steps = omega arith; calls = omega arith; asked = omega arith };

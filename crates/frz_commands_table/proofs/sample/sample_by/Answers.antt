@@ -13,7 +13,7 @@ use Rattle.frz_commands_table.proofs.sample.sample_by.Goals as goal
 pub returns-in_default : goal.returns-in_default
 returns-in_default g c = λ store input.
     stopped (sampling c.args.k) NoMemory (world _ _ _ _) _ (quiet_same _) refl
-    (λ sees files left agrees. record {
+    (λ files left agrees. record {
       found = as_given _ files left _ agrees;
       some = some_sampled c.args.k c.args.rules.now c.requires.read files;
       costs = record { steps = omega arith; calls = omega arith; asked = omega arith };
@@ -28,7 +28,7 @@ returns-in-Ok-checked_tables g c = λ store input.
     let e = c.in-Ok-checked_tables.ensures in
     said (sampling k) _ _ _ (world _ _ _ _) _ _ (quiet_steps _ _ _ _ _ e.later)
     (fine_steps _ _ _ _ _) refl (c.said.ensures _ _ _ c.write_sample.ensures)
-    (λ sees files left agrees. record {
+    (λ files left agrees. record {
       found = as_given _ files left _ agrees;
       answer = (
         rules,
@@ -53,7 +53,7 @@ pub returns : goal.returns
 returns g c = λ store input.
     stopped (sampling c.args.k) NoMemory (world _ _ _ _) _
     (quiet_steps _ _ _ _ _ c.checked_tables.ensures.later) refl
-    (λ sees files left agrees. record {
+    (λ files left agrees. record {
       found = as_given _ files left _ agrees;
       some = some_sampled c.args.k c.args.rules.now c.requires.read files;
       costs = record {

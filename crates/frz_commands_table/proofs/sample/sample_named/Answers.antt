@@ -21,7 +21,7 @@ returns-in-None g c = λ store input.
     c.as_bytes.ensures.value)
     (said (sampling_named None) _ _ _ (world _ _ _ _) _ _ (quiet_same _) (fine_same _) refl
     c.say.ensures
-    (λ sees files left agrees. record {
+    (λ files left agrees. record {
       found = as_given _ files left _ agrees;
       answer = refl;
       costs = record { steps = omega arith; calls = omega arith; asked = omega arith };

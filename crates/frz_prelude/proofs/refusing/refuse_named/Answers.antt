@@ -9,7 +9,7 @@ pub returns : goal.returns
 returns g c = λ store input steps.
     said _ _ _ _ _ (world _ _ _ _) _ (quiet_same _) (fine_same _) (own_status c.args.why)
     c.end.ensures
-    (λ sees files left agrees. record {
+    (λ files left agrees. record {
       found = as_given _ files left _ agrees;
       answer = refl;
       costs = record { steps = omega arith; calls = omega arith; asked = omega arith };
