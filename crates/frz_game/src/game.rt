@@ -1,6 +1,6 @@
 //! The restricted game over numbers.
 
-ghost use Rattle.std.specs.Prelude.{◌≡◌, ◌≤◌, ◌+◌, IfSome, map, true, ⊤};
+ghost use Rattle.std.specs.Prelude.{◌≡◌, ◌≢◌, ◌≤◌, ◌+◌, IfSome, map, true, ⊤};
 ghost use Rattle.frz_arena.specs.declared.node.Node.TheVariants.{Broken};
 ghost use Rattle.frz_arena.specs.Games.{node_by, next_by};
 ghost use Rattle.frz_arena.specs.Names.{named_next, name_in};
@@ -146,6 +146,7 @@ impl<B: ExitBook> Game<'_, B> {
         ensures step { steps.new ≤ steps.old + 1 }
         ensures later { steps.old ≤ steps.new }
         ensures broken { result ≡ Broken → steps.new ≡ steps.old }
+        ensures one { result ≢ Broken → steps.new ≡ steps.old + 1 }
     {
         match position(self.set, i) {
             None => {
@@ -169,6 +170,7 @@ impl<B: ExitBook> Game<'_, B> {
             ≡ (graph_by self.now.rules.now (B.value_at self.now.book.now)).arms i }
         ensures step { steps.new ≤ steps.old + 1 }
         ensures broken { result ≡ Broken → steps.new ≡ steps.old }
+        ensures one { result ≢ Broken → steps.new ≡ steps.old + 1 }
     {
         let mut moves = MoveList::new();
         self.nexts_by(i, &mut moves, list, steps)

@@ -22,8 +22,7 @@ fn put_free_codes(list: &NextList, codes: &CodeList, free: &mut CodeList)
     }
 }
 
-/// The local code of the side at a number of this kind, whose moves have these codes for the side.
-/// The codes of the free moves are put into a list that is kept from call to call.
+/// `local` by a list that is room to work in, kept from call to call.
 pub fn local_by(
     side: Colour,
     node: Node,

@@ -43,8 +43,8 @@ pub trait NumberedGame<L: Ledger> {
     ghost finite: { (game : Self) → sound game → IsFinite (arena game) (count game) };
 }
 
-/// The local code of the side at the number, with these entries. The lists then have its moves and
-/// their codes for the side.
+/// The local code of the side at the number, with these entries. The lists are room to work in, kept
+/// from call to call.
 pub fn local_at<G: NumberedGame<L>, E: Entries, L: Ledger>(
     game: &G,
     side: Colour,

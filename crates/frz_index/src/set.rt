@@ -218,8 +218,7 @@ impl Set {
         }
     }
 
-    /// The side to move of the number's turn state: where the number is not broken, that of its
-    /// position.
+    /// The side to move of the number's position. Nothing is said where the number is broken.
     pub fn mover(&self, i: u32) -> Colour
         requires { i < size_of self.now }
         ensures turn { (p : Board) → HasNumber self.now i p → p.turn ≡ result }

@@ -89,6 +89,10 @@ sign_by true (m ∷ ms) = codes "+"
 unfoldable pub sign : Board → List ℕ
 sign q = sign_by (is_in_check q q.turn) (legal_moves_of q)
 
+-- the opponent is in check after the move
+abbrev pub gives_check : Board → Step → Bool
+gives_check p m = let q = after p m in is_in_check q q.turn
+
 -- San(p, m): the text, and the sign of the position afterwards
 abbrev pub san_of : Board → Step → List ℕ
 san_of p m = unsigned p m ++ sign (after p m)

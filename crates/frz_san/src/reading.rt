@@ -1,10 +1,10 @@
 //! Notation read.
-ghost use Rattle.std.specs.Prelude.{◌≡◌, ◌↔◌, ◌≤◌, ◌+◌, true};
+ghost use Rattle.std.specs.Prelude.{◌≡◌, ◌↔◌, ◌≤◌, ◌+◌, true, false};
 ghost use Rattle.frz_board.specs.Moving.{Step, IsStep};
 ghost use Rattle.frz_fide.specs.Legal.{is_legal};
 ghost use Rattle.frz_fide.specs.Listing.{legal_moves_of};
 ghost use Rattle.frz_fide.specs.Valid.{IsValid};
-ghost use Rattle.frz_san.specs.Notation.{IsSan, san_of, unsigned as unsigned_of};
+ghost use Rattle.frz_san.specs.Notation.{IsSan, san_of, gives_check, unsigned as unsigned_of};
 
 use crate::sign::sign_after;
 use crate::unsigned::unsigned;
@@ -37,6 +37,8 @@ pub fn read_san<L: Ledger>(p: &Position, text: &[u8], steps: &mut Steps<L>) -> O
         → text.now ≡ san_of p.now m → result ≡ Some m }
     ensures later { steps.old ≤ steps.new }
     ensures few { steps.new ≤ steps.old + 2 }
+    ensures quiet { (m : Step) → result ≡ Some m → gives_check p.now m ≡ false →
+        steps.new ≤ steps.old + 1 }
 {
     let moves = legal_moves(p, steps);
     if let Some(m) = find_unsigned(p, &moves, text) {

@@ -1,8 +1,9 @@
 //! The sign of a move: mate or check.
-ghost use Rattle.std.specs.Prelude.{◌≡◌, ◌<◌, ◌≤◌, ◌+◌, true, IfSome, option_to_list};
+ghost use Rattle.std.specs.Prelude.{◌≡◌, ◌<◌, ◌≤◌, ◌+◌, true, false, IfSome, option_to_list};
+ghost use Rattle.frz_board.specs.Attacks.{is_in_check};
 ghost use Rattle.frz_fide.specs.Legal.{is_legal, after as board_after};
 ghost use Rattle.frz_fide.specs.Valid.{IsValid};
-ghost use Rattle.frz_san.specs.Notation.{sign as sign_of};
+ghost use Rattle.frz_san.specs.Notation.{sign as sign_of, gives_check};
 
 use frz_bits::Bitboards;
 use frz_board::{Move, Position};
@@ -19,6 +20,7 @@ fn sign<L: Ledger>(q: &Bitboards, steps: &mut Steps<L>) -> Option<u8>
     ensures ascii { IfSome result (λ byte. byte < 128) }
     ensures later { steps.old ≤ steps.new }
     ensures few { steps.new ≤ steps.old + 1 }
+    ensures quiet { is_in_check q.now q.now.turn ≡ false → steps.new ≡ steps.old }
 {
     if !q.is_in_check(q.turn()) {
         return None;
@@ -40,6 +42,7 @@ pub fn sign_after<L: Ledger>(p: &Position, m: Move, steps: &mut Steps<L>) -> Opt
     ensures ascii { IfSome result (λ byte. byte < 128) }
     ensures later { steps.old ≤ steps.new }
     ensures few { steps.new ≤ steps.old + 1 }
+    ensures quiet { gives_check p.now m ≡ false → steps.new ≡ steps.old }
 {
     sign(&after(&Bitboards::of(p), m), steps)
 }

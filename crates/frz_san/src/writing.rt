@@ -1,10 +1,10 @@
 //! Notation written.
-ghost use Rattle.std.specs.Prelude.{◌≡◌, ◌≤◌, ◌+◌, true};
+ghost use Rattle.std.specs.Prelude.{◌≡◌, ◌≤◌, ◌+◌, true, false};
 ghost use Rattle.arrayvec.specs.ArrayString.{array_string_len};
 ghost use Rattle.frz_fide.specs.Legal.{is_legal};
 ghost use Rattle.frz_fide.specs.Listing.{legal_moves_of};
 ghost use Rattle.frz_fide.specs.Valid.{IsValid};
-ghost use Rattle.frz_san.specs.Notation.{san_of};
+ghost use Rattle.frz_san.specs.Notation.{san_of, gives_check};
 
 use crate::sign::sign_after;
 use crate::text::{San, add};
@@ -24,6 +24,7 @@ pub fn san_among<L: Ledger>(p: &Position, moves: &[Move], m: Move, steps: &mut S
     ensures len { array_string_len result ≤ 7 }
     ensures later { steps.old ≤ steps.new }
     ensures few { steps.new ≤ steps.old + 1 }
+    ensures quiet { gives_check p.now m ≡ false → steps.new ≡ steps.old }
 {
     let mut text = unsigned(p, moves, m);
     if let Some(byte) = sign_after(p, m, steps) {
@@ -40,6 +41,7 @@ pub fn san<L: Ledger>(p: &Position, m: Move, steps: &mut Steps<L>) -> San
     ensures len { array_string_len result ≤ 7 }
     ensures later { steps.old ≤ steps.new }
     ensures few { steps.new ≤ steps.old + 2 }
+    ensures quiet { gives_check p.now m ≡ false → steps.new ≤ steps.old + 1 }
 {
     let moves = legal_moves(p, steps);
     san_among(p, &moves, m, steps)

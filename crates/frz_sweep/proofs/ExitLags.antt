@@ -13,7 +13,7 @@ use Rattle.frz_arena.specs.declared.class.Class.TheVariants.{Good}
 use Rattle.frz_arena.specs.Arena.{Arena}
 use Rattle.frz_exits.specs.Values.{class_of, lag_of}
 use Rattle.frz_graph.specs.Finite.{IsFinite}
-use Rattle.frz_sweep.specs.Winning.{HasSmallLag, WinsIn, LagsAt}
+use Rattle.frz_sweep.specs.Winning.{HasSmallLag, HasWinAfter, IsWinningLag, LagsAt, WinsAfter, WinsIn}
 
 -- a greater lag will do
 pub wins_in_more : (side : Colour) (a b : ℕ) (x : Next ℕ Value) → a ≤ b → WinsIn side a x →
@@ -47,3 +47,22 @@ lags_at arena size finite side i most arms same wins a v among leads good =
     subst (λ (lag : Value → ℕ). lag v ≤ most) (sym finite.lag)
     (lag_of_exit side most a.next v leads win
     (ap (λ (class : Value → Colour → Class). class v side) (sym finite.class) ∙ good))
+
+exit_of_win : (arena : Arena Step ℕ Value) (size : ℕ) → IsFinite arena size →
+    (side : Colour) (lag : ℕ) (x : Next ℕ Value) → WinsAfter side lag x →
+    (v : Value) × (x ≡ Outside v) × (arena.class v side ≡ Good) × (arena.lag v ≡ lag)
+exit_of_win arena size finite side lag (Inside q) wins = absurd wins
+exit_of_win arena size finite side lag (Outside v) (good, is) = (
+  v,
+  refl,
+  ap (λ (class : Value → Colour → Class). class v side) finite.class ∙ good,
+  ap (λ (lags : Value → ℕ). lags v) finite.lag ∙ is,
+)
+
+-- a winning lag among the moves of a number
+pub winning_lag : (arena : Arena Step ℕ Value) (size : ℕ) → IsFinite arena size →
+    (side : Colour) (i lag : ℕ) (arms : List (Arm Step ℕ Value)) → arms ≡ arena.arms i →
+    HasWinAfter side lag arms → IsWinningLag arena side lag
+winning_lag arena size finite side i lag arms same (a, listed, wins) =
+    let (v, leads, good, is) = exit_of_win arena size finite side lag a.next wins in
+    (i, a, v, subst (λ (z : List (Arm Step ℕ Value)). Contains z a) same listed, leads, good, is)

@@ -1,9 +1,10 @@
 //! Ply by ply, until nothing changes.
 
-ghost use Rattle.std.specs.Prelude.{◌≡◌, ◌≤◌, ℕ, length, slice_index, vec_len, IfOk};
+ghost use Rattle.std.specs.Prelude.{◌≡◌, ◌≤◌, ◌⊎◌, ℕ, length, slice_index, vec_len, IfOk};
 ghost use Rattle.frz_arena.specs.Bounds.{IsCodeAt};
 ghost use Rattle.frz_arena.specs.Plies.{LagsWithin};
 ghost use Rattle.frz_sweep.specs.Told.{AreTold};
+ghost use Rattle.frz_sweep.specs.Winning.{IsWinningLag};
 
 use crate::plies::{OPEN, settle_all};
 use crate::winning::greatest_winning_lag;
@@ -13,7 +14,7 @@ use frz_steps::Steps;
 use std::alloc::Global;
 use std::sync::ledger::Ledger;
 
-/// The greatest lag of the exits that win for the side, in plies.
+/// The greatest lag of the exits that win for the side, in plies, and 0 where none does.
 fn greatest_lag<G: NumberedGame<L>, L: Ledger>(
     game: &G,
     side: Colour,
@@ -22,6 +23,7 @@ fn greatest_lag<G: NumberedGame<L>, L: Ledger>(
 ) -> u32
     requires { G.sound game.now }
     ensures within { LagsWithin (G.arena game.now) side result }
+    ensures reached { (result ≡ 0) ⊎ IsWinningLag (G.arena game.now) side result }
     ensures small { result ≤ 1000 }
     ensures later { steps.old ≤ steps.new }
 {

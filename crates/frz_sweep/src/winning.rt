@@ -1,7 +1,7 @@
 //! How long the assigned wins take that one move reaches.
 
-ghost use Rattle.std.specs.Prelude.{◌≤◌, All};
-ghost use Rattle.frz_sweep.specs.Winning.{HasSmallLag, WinsIn};
+ghost use Rattle.std.specs.Prelude.{◌≡◌, ◌≤◌, ◌⊎◌, All};
+ghost use Rattle.frz_sweep.specs.Winning.{HasSmallLag, HasWinAfter, WinsAfter, WinsIn};
 
 use frz_board::Colour;
 use frz_exits::{Class, class, lag};
@@ -11,6 +11,7 @@ use frz_graph::{Arm, Next};
 fn winning_lag(side: Colour, next: Next) -> u32
     requires { HasSmallLag next }
     ensures within { WinsIn side result next }
+    ensures reached { (result ≡ 0) ⊎ WinsAfter side result next }
     ensures small { result ≤ 1000 }
 {
     match next {
@@ -22,10 +23,11 @@ fn winning_lag(side: Colour, next: Next) -> u32
     }
 }
 
-/// The greatest lag of the exits of these moves that win for the side.
+/// The greatest lag of the exits of these moves that win for the side, and 0 where none does.
 pub fn greatest_winning_lag(side: Colour, arms: &[Arm]) -> u32
     requires { All (λ a. HasSmallLag a.next) arms.now }
     ensures within { All (λ a. WinsIn side result a.next) arms.now }
+    ensures reached { (result ≡ 0) ⊎ HasWinAfter side result arms.now }
     ensures small { result ≤ 1000 }
 {
     let mut most = 0;

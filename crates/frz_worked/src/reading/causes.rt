@@ -201,6 +201,22 @@ fn sets_above_the_limit(rt: HostRuntime) {
     refused(&rt, alloc, &[KINGS, pieces, five], 0, too_big);
 }
 
+/// 2 ^ 27 + 5 numbers: 13 * 293 * 167 * 211, with targets on rank 6 and on a3, b3 and c3. Each of
+/// the four numbers below has a prime factor that no radix has.
+const NEXT_SIZE: &[u8] = b"freezer 1
+group white 1 K:a1
+group black 1 K:h8
+group white 0-1 Q:all R:all B:all N:all P:a2-h5,a6-d6
+group black 0-1 Q:all R:all B:a1-h4,a5-f5
+group black 0-2 N:a1-b5 P:a5-h5,a4-b4
+";
+
+#[test]
+fn least_set_above_the_limit(rt: HostRuntime) {
+    let too_big = RulesCause::SetTooBig(134_217_733);
+    refused(&rt, rt.alloc(), &[NEXT_SIZE], 0, too_big);
+}
+
 /// Each piece of White's and of Black's anywhere, behind the kings: 2 * 64 ^ 10 = 2 ^ 61 numbers.
 const PIECES: &[u8] = b"group white 1 Q:all
 group white 1 R:all

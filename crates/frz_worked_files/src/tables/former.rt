@@ -1,6 +1,7 @@
 //! Files of the former format that are made by hand, opened and read.
 use super::refusal;
 use frz_handmade::{store_with, table_file};
+use frz_rules::{RulesCause, RulesFault};
 use frz_store::MemStore;
 use frz_table::{FileKind, OldFile, TableFault, open_old};
 use std::alloc::Global;
@@ -81,6 +82,45 @@ fn altered_files_of_the_former_format_are_refused(rt: HostRuntime) -> Result<(),
     let alloc = rt.alloc();
     for OldAltered(magic, kept, fault) in OLD_ALTERED {
         let file = old_file(alloc, magic, *kept)?;
+        let given = old_refusal(alloc, &file)?;
+        assert_eq!(rt; given, Some(*fault));
+    }
+    Ok(())
+}
+
+/// 2 * 64 * 64 * 64 * 32 former numbers: 2 ^ 24, the most that there may be.
+const MOST: &[u8] = b"freezer 1
+group white 1 K:all
+group black 1 K:all
+group white 1 R:all
+group white 1 N:a1-h4
+";
+
+/// 2 * 32 * 37 * 65 * 109 former numbers: 2 ^ 24 + 64. Each number between is a multiple of no
+/// number of turn states, or has a prime factor above 305, the greatest radix.
+const NEXT: &[u8] = b"freezer 1
+group white 1 K:a1-h4
+group black 1 K:a1-h4,a5-e5
+group white 0-1 R:all
+group white 1 N:all B:a1-h5,a6-e6
+";
+
+const NEXT_IS_TOO_BIG: RulesFault = RulesFault {
+    line: 0,
+    cause: RulesCause::SetTooBig(16_777_280),
+};
+
+/// A text, and why a file of it that keeps the size 8 is refused.
+const AT_THE_LIMIT: &[(&[u8], TableFault)] = &[
+    (MOST, TableFault::Size(8, 16_777_216)),
+    (NEXT, TableFault::Rules(NEXT_IS_TOO_BIG)),
+];
+
+#[test]
+fn former_sizes_at_the_limit(rt: HostRuntime) -> Result<(), Fail> {
+    let alloc = rt.alloc();
+    for (text, fault) in AT_THE_LIMIT {
+        let file = table_file(alloc, b"FREEZER1", text, 8, &[])?;
         let given = old_refusal(alloc, &file)?;
         assert_eq!(rt; given, Some(*fault));
     }

@@ -1,7 +1,8 @@
-use Rattle.std.proofs.Common.{◌≡◌, ◌∙◌, inl, inr, subst, arith}
+use Rattle.std.proofs.Common.{◌≡◌, ◌⊎◌, ◌∙◌, inl, inr, subst, sym, arith}
 use Rattle.std.proofs.lemmas.Bool.{cases_lt}
 use Rattle.std.specs.List.{Contains}
-use Rattle.frz_sweep.proofs.ExitLags.{small_lags, lags_at}
+use Rattle.frz_sweep.proofs.ExitLags.{small_lags, lags_at, winning_lag}
+use Rattle.frz_sweep.specs.Winning.{HasWinAfter, IsWinningLag}
 use Rattle.frz_sweep.proofs.passes.greatest_lag.Goals as goal
 
 pub greatest_winning_lag-requires : goal.greatest_winning_lag-requires
@@ -26,6 +27,25 @@ loop-i-preserved g c = record {
         (λ z. Contains ((g.G.NumberedGame.arena c.args.game.now).arms z) a) same i) e good in
         omega arith)
   ];
+  reached =
+      let A = g.G.NumberedGame.arena c.args.game.now in
+      let most = c.max-most.result in
+      elim (cases_lt c.loop-i.most c.greatest_winning_lag.result) [
+        | inl more ↦ (
+            let same : c.greatest_winning_lag.result ≡ most = omega arith in
+            elim c.greatest_winning_lag.ensures.reached [
+              | inl none ↦ inl (sym same ∙ none)
+              | inr wins ↦ inr (winning_lag A (g.G.NumberedGame.count c.args.game.now)
+                  (g.met.G.NumberedGame.finite c.args.game.now c.requires) c.args.side c.loop-i.i
+                  most c.as_slice.result.now
+                  (c.as_slice.ensures.value ∙ c.nexts_by.ensures.arms)
+                  (subst (λ lag. HasWinAfter c.args.side lag c.as_slice.result.now) same wins))
+            ])
+        | inr less ↦ (
+            let same : c.loop-i.most ≡ most = omega arith in
+            subst (λ lag. (lag ≡ 0) ⊎ IsWinningLag A c.args.side lag) same
+            c.loop-i.invariant.reached)
+      ];
   small = omega arith;
   later = omega (arith, c.loop-i.invariant.later, c.nexts_by.ensures.later);
 }
