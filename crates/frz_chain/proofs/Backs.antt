@@ -17,10 +17,11 @@ use Rattle.frz_table.specs.Possible.{MayHold, MayKeep, MayOpen}
 use Rattle.frz_table.specs.Tables.{Table, table_size}
 use Rattle.frz_table.proofs.Lemmas.{belongs}
 use Rattle.frz_check.specs.declared.verdict.Verdict.{Verdict}
+use Rattle.frz_check.specs.declared.verdict.Verdict.TheVariants.{Exact}
 use Rattle.frz_check.specs.Kept.{WithinFile, kept_codes}
 use Rattle.frz_check.specs.Verdicts.{IsVerdict}
 use Rattle.frz_check.proofs.Lemmas.{few_plies, file_not_loaded, file_opens, same_verdict, verdict_on, within_file}
-use Rattle.frz_chain.specs.Backs.{GivesBack, IsBackJudged, IsRefusedBack, OpensBack, RefusesBack}
+use Rattle.frz_chain.specs.Backs.{GivesBack, IsBackJudged, IsRefusedBack, KeepsTable, OpensBack, RefusesBack}
 use Rattle.frz_chain.specs.Books.{Back, back_with}
 use Rattle.frz_chain.specs.Causes.{back_fault}
 use Rattle.frz_chain.specs.FileOn.{back_of, loaded_back}
@@ -60,11 +61,10 @@ not_loaded table name old mid new steps_before steps_now fault opens asked calls
     }
 
 -- a file that the name may hold, with the verdict on the lists that were loaded
-pub record JudgedBack (name : List ℕ) (back : Back) (v : Verdict) (old new : StoreTold)
-    (steps_before steps_now : ℕ) : Type 0 where
+pub record JudgedBack (name : List ℕ) (contents : Contents) (back : Back) (v : Verdict)
+    (old new : StoreTold) (steps_before steps_now : ℕ) : Type 0 where
   pub bytes : List ℕ
   pub may : MayHold old.files name (Some bytes)
-  pub contents : Contents
   pub judged : IsBackJudged bytes contents v
   pub keeps : back ≡ back_of contents bytes
   pub within : WithinFile (Some bytes) old new steps_before steps_now
@@ -102,7 +102,8 @@ pub judged_back : (table : Table) (name white black : List ℕ) (v : Verdict)
     → new.calls ≤ mid.calls + 2 * pieces_of (table_size table)
     → steps_now ≤ steps_before + table_size table
     → IsVerdict table.rules (value_by table.rules) (λ side. of_side side white black) v
-    → JudgedBack name (back_with table.rules.groups white black) v old new steps_before steps_now
+    → JudgedBack name (contents_of table) (back_with table.rules.groups white black) v old new
+    steps_before steps_now
 judged_back table name white black v old mid new steps_before steps_now kept same kind named may
     asked calls more_asked more_calls steps h =
     let contents : Contents = contents_of table in
@@ -113,7 +114,6 @@ judged_back table name white black v old mid new steps_before steps_now kept sam
     record {
       bytes = kept.bytes;
       may = there.0;
-      contents = contents;
       judged = judged_bytes table white black kept.bytes v read there.1 (sym kept.white_is)
           (sym kept.black_is) h;
       keeps =
@@ -125,15 +125,16 @@ judged_back table name white black v old mid new steps_before steps_now kept sam
     }
 
 -- the back table is given, or its first wrong entry
-module _ (name : List ℕ) (back : Back) (v : Verdict) (old new : StoreTold)
-    (steps_before steps_now : ℕ) (h : JudgedBack name back v old new steps_before steps_now) where
+module _ (name : List ℕ) (contents : Contents) (back : Back) (v : Verdict) (old new : StoreTold)
+    (steps_before steps_now : ℕ)
+    (h : JudgedBack name contents back v old new steps_before steps_now) where
   pub back_given : (result : Result BackTable ChainFault) → GivesBack back v result
       → IfOk result (λ b. OpensBack name (loaded_back b) old new steps_before steps_now)
   back_given (Ok given) gives = record {
     bytes = h.bytes;
     may = h.may;
-    contents = h.contents;
-    judged = subst (λ (w : Verdict). IsBackJudged h.bytes h.contents w) gives.0 h.judged;
+    contents = contents;
+    judged = subst (λ (w : Verdict). IsBackJudged h.bytes contents w) gives.0 h.judged;
     keeps = gives.1 ∙ h.keeps;
     within = h.within;
   }
@@ -148,8 +149,8 @@ module _ (name : List ℕ) (back : Back) (v : Verdict) (old new : StoreTold)
     refuses = record {
       bytes = h.bytes;
       there = refl;
-      contents = h.contents;
-      judged = subst (λ (w : Verdict). IsBackJudged h.bytes h.contents w) gives h.judged;
+      contents = contents;
+      judged = subst (λ (w : Verdict). IsBackJudged h.bytes contents w) gives h.judged;
     };
     within = h.within;
   }
@@ -158,3 +159,25 @@ module _ (name : List ℕ) (back : Back) (v : Verdict) (old new : StoreTold)
   back_wrong (Err (chain.Back fault)) gives = absurd gives
   back_wrong (Err chain.Failed) gives = absurd gives
   back_wrong (Err chain.NoMemory) gives = absurd gives
+
+-- and it keeps the table that was opened
+pub back_kept : (table : Table) (name : List ℕ) (back : Back) (v : Verdict) (old new : StoreTold)
+    (steps_before steps_now : ℕ)
+    → JudgedBack name (contents_of table) back v old new steps_before steps_now
+    → table.name ≡ name → table.kind ≡ Plain
+    → (result : Result BackTable ChainFault) → GivesBack back v result
+    → IfOk result (λ given. given.table ≡ table) → IfOk result (KeepsTable old.files name)
+back_kept table name back v old new steps_before steps_now h named kind (Ok given) gives same =
+    record {
+      named = ap (λ (t : Table). t.name) same ∙ named;
+      kind = ap (λ (t : Table). t.kind) same ∙ kind;
+      bytes = h.bytes;
+      may = h.may;
+      judged =
+          subst (λ (t : Table). IsBackJudged h.bytes (contents_of t) Exact) (sym same)
+          (subst (λ (w : Verdict). IsBackJudged h.bytes (contents_of table) w) gives.0 h.judged);
+      keeps =
+          subst (λ (t : Table). loaded_back given ≡ back_of (contents_of t) h.bytes) (sym same)
+          (gives.1 ∙ h.keeps);
+    }
+back_kept table name back v old new steps_before steps_now h named kind (Err fault) gives same = tt

@@ -1,11 +1,14 @@
 -- How a table over a back table is built.
-use Rattle.std.proofs.Common.{◌≡◌, ◌≢◌, ◌⊎◌, inl, sym, ap, subst, ◌∙◌, ℕ, List, take, Option, None, Some, Result, Ok, Err}
+use Rattle.std.proofs.Common.{◌≡◌, ◌≢◌, ◌⊎◌, inl, inr, refl, sym, ap, subst, ◌∙◌, ℕ, ◌+◌, ◌*◌, ◌≤◌, true, List, take, Option, None, Some, Result, Ok, Err, arith}
 use Rattle.std.specs.Prelude.{OnSome}
 use Rattle.std.specs.Option.{option_map}
 use Rattle.std.specs.Str.{bytes_eq}
 use Rattle.std.proofs.lemmas.Slice.Eq.{bytes_eq-Decides}
 use Rattle.std.proofs.lemmas.Bool.{false_from_ne_true}
-use Rattle.frz_rules.specs.Text.{rules_of}
+use Rattle.frz_rules.specs.Text.{Fails, may_want_memory, rules_of}
+use Rattle.frz_rules.specs.declared.fault.RulesError.{RulesError}
+use Rattle.frz_rules.specs.declared.fault.RulesError.TheVariants as reading
+use Rattle.frz_rules.specs.declared.fault.RulesFault.{RulesFault}
 use Rattle.frz_sets.specs.Sets.{size_of}
 use Rattle.frz_sets.specs.Sound.{IsSound}
 use Rattle.frz_sets.specs.Views.{RuleLines}
@@ -22,14 +25,18 @@ use Rattle.frz_table.specs.Possible.{MayHold}
 use Rattle.frz_table.proofs.Lemmas.{fine_after, quiet_after}
 use Rattle.frz_game.proofs.Lemmas.{table_there}
 use Rattle.frz_check.proofs.Lemmas.{file_there}
-use Rattle.frz_build.specs.Building.{Builds}
-use Rattle.frz_chain.specs.Backs.{OpensBack, RefusesBack}
+use Rattle.frz_check.specs.Kept.{WithinFile}
+use Rattle.frz_build.specs.Building.{Builds, writing_calls}
+use Rattle.frz_chain.specs.Backs.{IsRefusedBack, OpensBack, RefusesBack}
 use Rattle.frz_chain.specs.Books.{Back, chain_value}
-use Rattle.frz_chain.specs.Causes.{HasChainCause, fault_of}
-use Rattle.frz_chain.specs.Chains.{Chains, RefusesToChain}
-use Rattle.frz_chain.specs.FileOn.{IsFileOn}
+use Rattle.frz_chain.specs.Causes.{HasChainCause, fault_of, rules_fault}
+use Rattle.frz_chain.specs.Chains.{Chains, IsNotChained, RefusesToChain, WithinChaining, bytes_of_back, bytes_to_chain, calls_of_back, calls_to_chain, steps_of_back, steps_to_chain}
+use Rattle.frz_chain.specs.ExactBacks.{if_exact}
+use Rattle.frz_chain.specs.FileOn.{IsFileOn, back_of}
 use Rattle.frz_chain.specs.declared.fault.ChainFault.{ChainFault}
 use Rattle.frz_chain.specs.declared.fault.ChainFault.TheVariants as chain
+use Rattle.frz_chain.proofs.Checked.{some_held}
+use Rattle.frz_chain.proofs.ExactBacks.{all_if_exact, judged_exact}
 use Rattle.frz_chain.proofs.SmallLags.{chain_small}
 
 -- there is one file over the back table
@@ -63,6 +70,18 @@ moved_built text rules s a b T name result old new same back h =
     (subst (λ (x : RuleLines). Builds {T = T} (magic_of Chained) text rules (chain_value x a) name
     result old new) same h)
 
+-- no call, and nothing written
+pub quiet_same : (old : StoreTold) → StoreQuiet old old
+quiet_same old = record {
+  unwritten = record { files = refl; last = refl; room = refl };
+  later = record {
+    asked = omega arith;
+    calls = omega arith;
+    faults = omega arith;
+    wants = omega arith;
+  };
+}
+
 -- calls that wrote nothing before
 wrote_later : (name bytes : List ℕ) (old mid new : StoreTold) → StoreQuiet old mid
     → Wrote name bytes mid new → Wrote name bytes old new
@@ -93,14 +112,61 @@ still_held name other bytes held differs (Some m) new e may =
     (false_from_ne_true (bytes_eq name other)
     (λ same. differs ((bytes_eq-Decides name other).0 same))) ∙ may)
 
+-- what was spent is within the costs where the text is accepted
+within_chaining : (text : List ℕ) (rules : RuleLines) (held : Option (List ℕ))
+    (old mid new : StoreTold) (steps_before steps_then steps_now : ℕ) → rules_of text ≡ Ok rules
+    → WithinFile held old mid steps_before steps_then
+    → steps_now ≤ steps_then + if_exact held (4 * size_of rules.groups) → new.asked ≤ mid.asked
+    → new.calls ≤ mid.calls + if_exact held (writing_calls (size_of rules.groups))
+    → WithinChaining text held old new steps_before steps_now
+within_chaining text rules held old mid new steps_before steps_then steps_now accepted h steps asked
+    calls =
+    let size = size_of rules.groups in
+    record {
+      steps = summed steps_before steps_then steps_now (steps_of_back held)
+          (if_exact held (4 * size)) _
+          (ap (λ (x : Result RuleLines RulesFault). steps_to_chain x held) accepted) h.steps steps;
+      asked = same old.asked mid.asked new.asked (bytes_of_back held) _
+          (ap (λ (x : Result RuleLines RulesFault). bytes_to_chain x held) accepted) h.asked asked;
+      calls = summed old.calls mid.calls new.calls (calls_of_back held)
+          (if_exact held (writing_calls size)) _
+          (ap (λ (x : Result RuleLines RulesFault). calls_to_chain x held) accepted) h.calls calls;
+    }
+  where
+    summed : (start middle end back behind all : ℕ) → all ≡ back + behind
+        → middle ≤ start + back → end ≤ middle + behind → end ≤ start + all
+    summed start middle end back behind all is few more = omega (arith, is, few, more)
+
+    same : (start middle end back all : ℕ) → all ≡ back → middle ≤ start + back → end ≤ middle
+        → end ≤ start + all
+    same start middle end back all is few more = omega (arith, is, few, more)
+
 module _ (text back name : List ℕ) (rules : RuleLines) (accepted : rules_of text ≡ Ok rules)
-    (loaded : Back) (old mid new : StoreTold) (steps_before steps_now : ℕ)
-    (quiet : StoreQuiet old mid)
-    (opens : OpensBack back loaded old mid steps_before steps_now) where
-  pub chained : name ≢ back → (size : ℕ) → size ≡ size_of rules.groups → StoreFine old mid
+    (loaded : Back) (old mid new : StoreTold) (steps_before steps_then steps_now : ℕ)
+    (quiet : StoreQuiet old mid) (fine : StoreFine old mid)
+    (opens : OpensBack back loaded old mid steps_before steps_then)
+    (steps : steps_now ≤ steps_then + 4 * size_of rules.groups) (asked : new.asked ≡ mid.asked)
+    (calls : new.calls ≤ mid.calls + writing_calls (size_of rules.groups)) where
+  -- all was spent, since the back table is exact
+  within_exact : WithinChaining text (Some opens.bytes) old new steps_before steps_now
+  within_exact =
+      let held : Option (List ℕ) = Some opens.bytes in
+      let all : (n : ℕ) → n ≡ if_exact held n =
+      λ n. sym (all_if_exact held (judged_exact opens.bytes opens.contents opens.judged) n) in
+      let size = size_of rules.groups in
+      within_chaining text rules held old mid new steps_before steps_then steps_now accepted
+      opens.within (subst (λ (n : ℕ). steps_now ≤ steps_then + n) (all (4 * size)) steps)
+      (omega (arith, asked))
+      (subst (λ (n : ℕ). new.calls ≤ mid.calls + n) (all (writing_calls size)) calls)
+
+  due : (bytes : List ℕ) → IsFileOn text rules loaded bytes
+      → IsFileOn text rules (back_of opens.contents opens.bytes) bytes
+  due bytes h = subst (λ (b : Back). IsFileOn text rules b bytes) opens.keeps h
+
+  pub chained : name ≢ back → (size : ℕ) → size ≡ size_of rules.groups
       → Builds {T = ℕ} (magic_of Chained) text rules (chain_value rules loaded) name (Ok size) mid
-      new → Chains text back name old new size
-  chained differs size sized fine h =
+      new → Chains text back name old new steps_before steps_now size
+  chained differs size sized h =
       let wrote = wrote_later name h.bytes old mid new quiet h.written.0 in record {
         rules = rules;
         accepted = accepted;
@@ -109,43 +175,94 @@ module _ (text back name : List ℕ) (rules : RuleLines) (accepted : rules_of te
         back_contents = opens.contents;
         back_judged = opens.judged;
         bytes = h.bytes;
-        one_file = subst (λ (b : Back). IsFileOn text rules b h.bytes) opens.keeps h.one_file;
+        one_file = due h.bytes h.one_file;
         written = wrote;
         fine = fine_after old mid new fine h.written.1;
         back_after = still_held name back h.bytes opens.bytes differs old.files new.files
             wrote.files opens.may;
         sized = sized;
+        within = within_exact;
       }
 
-  pub not_chained : (fault : StoreFault) → StoreFine old mid
+  not_written : (fault : StoreFault)
       → Builds {T = ℕ} (magic_of Chained) text rules (chain_value rules loaded) name (Err fault) mid
       new
-      → RefusesToChain text back name old new (fault_of fault)
-  not_chained store.Failed fine h = record {
-    bytes = h.bytes;
-    part = part_later name h.bytes old mid new quiet h.written.0;
-    rose = subst (λ (n : ℕ). Rose n new.faults) fine.faults h.written.1;
+      → IsNotChained text name (Some opens.bytes) old new (fault_of fault)
+  not_written store.Failed h = (
+    subst (λ (n : ℕ). Rose n new.faults) fine.faults h.written.1,
+    inr (record {
+      rules = rules;
+      accepted = accepted;
+      back_bytes = opens.bytes;
+      back_there = refl;
+      back_contents = opens.contents;
+      back_judged = opens.judged;
+      bytes = h.bytes;
+      one_file = due h.bytes h.one_file;
+      part = part_later name h.bytes old mid new quiet h.written.0;
+    }),
+  )
+  not_written store.NoMemory h =
+      (inr (rules, accepted), quiet_after old mid new quiet h.written)
+
+  pub not_chained : (fault : StoreFault)
+      → Builds {T = ℕ} (magic_of Chained) text rules (chain_value rules loaded) name (Err fault) mid
+      new
+      → RefusesToChain text back name old new steps_before steps_now (fault_of fault)
+  not_chained fault h = record {
+    back_held = Some opens.bytes;
+    back_may = opens.may;
+    refuses = not_written fault h;
+    within = within_exact;
   }
-  not_chained store.NoMemory fine h = quiet_after old mid new quiet h.written
+
+  -- the cause of a failure in writing, and of none
+  pub write_cause : (fault : StoreFault)
+      → Builds {T = ℕ} (magic_of Chained) text rules (chain_value rules loaded) name (Err fault) mid
+      new
+      → HasChainCause {T = ℕ} (Err (fault_of fault)) old new
+  write_cause store.Failed h = subst (λ (n : ℕ). Rose n new.faults) fine.faults h.written.1
+  write_cause store.NoMemory h = tt
+
+-- the text was not read
+pub not_read : (text back name : List ℕ) (old : StoreTold) (steps : ℕ) (fault : RulesError)
+    → Fails fault (rules_of text)
+    → (fault ≡ reading.NoMemory → may_want_memory text ≡ true)
+    → RefusesToChain text back name old old steps steps (rules_fault fault)
+not_read text back name old steps fault fails memory =
+    let other = some_held old.files back in record {
+      back_held = other.0;
+      back_may = other.1;
+      refuses = by_fault fault fails memory other.0;
+      within = record { steps = omega arith; asked = omega arith; calls = omega arith };
+    }
+  where
+    by_fault : (fault : RulesError) → Fails fault (rules_of text)
+        → (fault ≡ reading.NoMemory → may_want_memory text ≡ true) → (held : Option (List ℕ))
+        → IsNotChained text name held old old (rules_fault fault)
+    by_fault (reading.Bad f) fails memory held = (fails, refl)
+    by_fault reading.NoMemory fails memory held = (inl (memory refl), quiet_same old)
 
 -- the back table was refused
-pub no_back : (text back name : List ℕ) (fault : ChainFault) (old new : StoreTold)
-    (steps_before steps_now : ℕ) → StoreQuiet old new
-    → HasChainCause {T = ℕ} (Err fault) old new
-    → RefusesBack back old new steps_before steps_now fault
-    → RefusesToChain text back name old new fault
-no_back text back name (chain.Back fault) old new steps_before steps_now quiet cause h =
-    record { held = h.held; may = h.may; refuses = h.refuses; quiet = quiet }
-no_back text back name (chain.BackWrong wrong) old new steps_before steps_now quiet cause h =
-    record { held = h.held; may = h.may; refuses = h.refuses; quiet = quiet }
-no_back text back name chain.Failed old new steps_before steps_now quiet cause h =
-    record {
-      bytes = text;
-      part = record { files = inl quiet.unwritten.files; later = quiet.later };
-      rose = cause;
-    }
-no_back text back name chain.NoMemory old new steps_before steps_now quiet cause h = quiet
-no_back text back name (chain.Rules fault) old new steps_before steps_now quiet cause h =
-    absurd h.refuses
-no_back text back name (chain.Table fault) old new steps_before steps_now quiet cause h =
-    absurd h.refuses
+module _ (text back name : List ℕ) (rules : RuleLines) (accepted : rules_of text ≡ Ok rules)
+    (old new : StoreTold) (steps_before steps_now : ℕ) (quiet : StoreQuiet old new) where
+  back_not_given : (held : Option (List ℕ)) (fault : ChainFault) → IsRefusedBack held fault
+      → HasChainCause {T = ℕ} (Err fault) old new → IsNotChained text name held old new fault
+  back_not_given held (chain.Back fault) h cause = ((rules, accepted), h, quiet)
+  back_not_given held (chain.BackWrong wrong) h cause = ((rules, accepted), h, quiet)
+  back_not_given held chain.Failed h cause = (cause, inl ((rules, accepted), quiet))
+  back_not_given held chain.NoMemory h cause = (inr (rules, accepted), quiet)
+  back_not_given held (chain.Rules fault) h cause = absurd h
+  back_not_given held (chain.Table fault) h cause = absurd h
+
+  pub no_back : (fault : ChainFault) → HasChainCause {T = ℕ} (Err fault) old new
+      → RefusesBack back old new steps_before steps_now fault
+      → RefusesToChain text back name old new steps_before steps_now fault
+  no_back fault cause h = record {
+    back_held = h.held;
+    back_may = h.may;
+    refuses = back_not_given h.held fault h.refuses cause;
+    within =
+        within_chaining text rules h.held old new new steps_before steps_now steps_now accepted
+        h.within (omega arith) (omega arith) (omega arith);
+  }

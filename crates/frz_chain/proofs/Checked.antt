@@ -39,7 +39,7 @@ file_refused held back_held Failed h = tt
 file_refused held back_held NoMemory h = tt
 
 -- a name may hold something
-some_held : (files : Option Files) (name : List ℕ) → (held : Option (List ℕ))
+pub some_held : (files : Option Files) (name : List ℕ) → (held : Option (List ℕ))
     × MayHold files name held
 some_held None name = (None, tt)
 some_held (Some m) name = (m name, refl)

@@ -2,9 +2,10 @@
 use Rattle.std.specs.Prelude.{◌≡◌, ℕ, List, Option, Some, Result, Ok, Err, ⊤}
 use Rattle.frz_exits.specs.Books.{value_by}
 use Rattle.frz_game.specs.declared.wrong.Wrong.{Wrong as WrongEntry}
+use Rattle.frz_store.specs.Files.{Files}
 use Rattle.frz_store.specs.Told.{StoreTold}
 use Rattle.frz_table.specs.declared.kind.FileKind.TheVariants.{Plain}
-use Rattle.frz_table.specs.Opening.{Contents, opened, table_format}
+use Rattle.frz_table.specs.Opening.{Contents, contents_of, opened, table_format}
 use Rattle.frz_table.specs.Possible.{MayHold}
 use Rattle.frz_check.specs.declared.verdict.Verdict.{Verdict}
 use Rattle.frz_check.specs.declared.verdict.Verdict.TheVariants.{Exact, Wrong}
@@ -35,6 +36,16 @@ pub record OpensBack (name : List ℕ) (back : Back) (old new : StoreTold)
   pub judged : IsBackJudged bytes contents Exact
   pub keeps : back ≡ back_of contents bytes
   pub within : WithinFile (Some bytes) old new steps_before steps_now
+
+-- the table that is kept is the one of bytes that the name may hold and that are exact: its name,
+-- its text and its rules whole, and the codes are those behind it
+pub record KeepsTable (files : Option Files) (name : List ℕ) (back : BackTable) : Type 0 where
+  pub named : back.table.name ≡ name
+  pub kind : back.table.kind ≡ Plain
+  pub bytes : List ℕ
+  pub may : MayHold files name (Some bytes)
+  pub judged : IsBackJudged bytes (contents_of back.table) Exact
+  pub keeps : loaded_back back ≡ back_of (contents_of back.table) bytes
 
 -- the first entry of these bytes that is not its local code
 pub record HasWrong (held : Option (List ℕ)) (wrong : WrongEntry) : Type 0 where

@@ -1,6 +1,7 @@
 -- What is said of a table over a back table, by what the two names may hold.
-use Rattle.std.specs.Prelude.{◌≡◌, ◌≤◌, ◌+◌, ◌*◌, ℕ, List, length, Option, Some, Result, Ok, Err, ⊤}
-use Rattle.frz_rules.specs.Text.{rules_of}
+use Rattle.std.specs.Prelude.{◌≡◌, ◌⊎◌, ◌≤◌, ◌+◌, ◌*◌, ℕ, true, List, length, Option, Some, Result, Ok, Err, ⊤}
+use Rattle.frz_rules.specs.Text.{may_want_memory, rules_of}
+use Rattle.frz_rules.specs.declared.fault.RulesFault.{RulesFault}
 use Rattle.frz_sets.specs.Sets.{size_of}
 use Rattle.frz_sets.specs.Views.{RuleLines}
 use Rattle.frz_store.specs.Outside.{Rose}
@@ -14,6 +15,7 @@ use Rattle.frz_table.specs.Possible.{MayHold, held_text}
 use Rattle.frz_check.specs.declared.verdict.Verdict.{Verdict}
 use Rattle.frz_check.specs.declared.verdict.Verdict.TheVariants as verdicts
 use Rattle.frz_check.specs.Kept.{IsVerdictOn, opened_size}
+use Rattle.frz_build.specs.Building.{writing_calls}
 use Rattle.frz_chain.specs.Backs.{IsBackJudged, IsRefusedBack}
 use Rattle.frz_chain.specs.Books.{chain_value}
 use Rattle.frz_chain.specs.ExactBacks.{if_exact}
@@ -129,9 +131,33 @@ pub record RefusesChain (table back : List ℕ) (old new : StoreTold) (steps_bef
   pub refuses : IsRefusedChain held back_held fault
   pub within : WithinBoth held back_held old new steps_before steps_now
 
+-- what building over the back table costs. Where the text is refused that is nothing; else the
+-- back table is checked, and where that one is exact, the codes are found and the file is written
+abbrev pub steps_to_chain : Result RuleLines RulesFault → Option (List ℕ) → ℕ
+steps_to_chain (Ok rules) back_held =
+    steps_of_back back_held + if_exact back_held (4 * size_of rules.groups)
+steps_to_chain (Err fault) back_held = 0
+
+abbrev pub bytes_to_chain : Result RuleLines RulesFault → Option (List ℕ) → ℕ
+bytes_to_chain (Ok rules) back_held = bytes_of_back back_held
+bytes_to_chain (Err fault) back_held = 0
+
+abbrev pub calls_to_chain : Result RuleLines RulesFault → Option (List ℕ) → ℕ
+calls_to_chain (Ok rules) back_held =
+    calls_of_back back_held + if_exact back_held (writing_calls (size_of rules.groups))
+calls_to_chain (Err fault) back_held = 0
+
+-- no more than building over the back table costs
+pub record WithinChaining (text : List ℕ) (back_held : Option (List ℕ)) (old new : StoreTold)
+    (steps_before steps_now : ℕ) : Type 0 where
+  pub steps : steps_now ≤ steps_before + steps_to_chain (rules_of text) back_held
+  pub asked : new.asked ≤ old.asked + bytes_to_chain (rules_of text) back_held
+  pub calls : new.calls ≤ old.calls + calls_to_chain (rules_of text) back_held
+
 -- the text is accepted, the name of the back table may hold one that is exact, before and
 -- afterwards, and the one file of the text over it was written
-pub record Chains (text back name : List ℕ) (old new : StoreTold) (size : ℕ) : Type 0 where
+pub record Chains (text back name : List ℕ) (old new : StoreTold) (steps_before steps_now : ℕ)
+    (size : ℕ) : Type 0 where
   pub rules : RuleLines
   pub accepted : rules_of text ≡ Ok rules
   pub back_bytes : List ℕ
@@ -144,28 +170,48 @@ pub record Chains (text back name : List ℕ) (old new : StoreTold) (size : ℕ)
   pub fine : StoreFine old new
   pub back_after : MayHold new.files back (Some back_bytes)
   pub sized : size ≡ size_of rules.groups
+  pub within : WithinChaining text (Some back_bytes) old new steps_before steps_now
 
--- the name of the back table may hold what is refused so, and nothing was written
-pub record RefusesBackOf (back : List ℕ) (fault : ChainFault) (old new : StoreTold) : Type 0 where
-  pub held : Option (List ℕ)
-  pub may : MayHold old.files back held
-  pub refuses : IsRefusedBack held fault
-  pub quiet : StoreQuiet old new
+-- the text gives rules
+abbrev pub IsAccepted : List ℕ → Type 0
+IsAccepted text = (rules : RuleLines) × (rules_of text ≡ Ok rules)
 
--- a part of the one file was written, or nothing
-pub record FailsWriting (name : List ℕ) (old new : StoreTold) : Type 0 where
+-- the text is accepted and the back table exact, and under the name is what was there or a
+-- beginning of the one file of the text over it
+pub record FailsWriting (text name : List ℕ) (back_held : Option (List ℕ))
+    (old new : StoreTold) : Type 0 where
+  pub rules : RuleLines
+  pub accepted : rules_of text ≡ Ok rules
+  pub back_bytes : List ℕ
+  pub back_there : back_held ≡ Some back_bytes
+  pub back_contents : Contents
+  pub back_judged : IsBackJudged back_bytes back_contents verdicts.Exact
   pub bytes : List ℕ
+  pub one_file : IsFileOn text rules (back_of back_contents back_bytes) bytes
   pub part : WrotePart name bytes old new
-  pub rose : Rose old.faults new.faults
 
--- why no table was built: the text is refused, or the back
--- table, or the store failed, or memory was wanted
-abbrev pub RefusesToChain : (text back name : List ℕ) → StoreTold → StoreTold → ChainFault → Type 0
-RefusesToChain text back name old new (Rules fault) = (rules_of text ≡ Err fault) × (new ≡ old)
-RefusesToChain text back name old new (BackFault fault) =
-    RefusesBackOf back (BackFault fault) old new
-RefusesToChain text back name old new (BackWrong wrong) =
-    RefusesBackOf back (BackWrong wrong) old new
-RefusesToChain text back name old new Failed = FailsWriting name old new
-RefusesToChain text back name old new NoMemory = StoreQuiet old new
-RefusesToChain text back name old new (Table fault) = ⊥
+-- the first of these by which no table was built: the text is refused, and nothing was called; the
+-- back table is refused; the store failed, in reading the back table or in writing; or memory was
+-- wanted, and nothing was written
+abbrev pub IsNotChained : (text name : List ℕ) → Option (List ℕ) → StoreTold → StoreTold
+    → ChainFault → Type 0
+IsNotChained text name back_held old new (Rules fault) =
+    (rules_of text ≡ Err fault) × (new ≡ old)
+IsNotChained text name back_held old new (BackFault fault) =
+    IsAccepted text × IsRefusedBack back_held (BackFault fault) × StoreQuiet old new
+IsNotChained text name back_held old new (BackWrong wrong) =
+    IsAccepted text × IsRefusedBack back_held (BackWrong wrong) × StoreQuiet old new
+IsNotChained text name back_held old new Failed =
+    Rose old.faults new.faults
+    × ((IsAccepted text × StoreQuiet old new) ⊎ FailsWriting text name back_held old new)
+IsNotChained text name back_held old new NoMemory =
+    ((may_want_memory text ≡ true) ⊎ IsAccepted text) × StoreQuiet old new
+IsNotChained text name back_held old new (Table fault) = ⊥
+
+-- the name of the back table may hold what is refused so, or over which no table was built so
+pub record RefusesToChain (text back name : List ℕ) (old new : StoreTold)
+    (steps_before steps_now : ℕ) (fault : ChainFault) : Type 0 where
+  pub back_held : Option (List ℕ)
+  pub back_may : MayHold old.files back back_held
+  pub refuses : IsNotChained text name back_held old new fault
+  pub within : WithinChaining text back_held old new steps_before steps_now

@@ -72,7 +72,8 @@ pub fn build_over<S: Store, L: Ledger>(
 }
 
 /// Reads the rules of the text, opens and checks the back table, and writes the one file of the
-/// text over it under the name, which is not that of the back table. Gives the size.
+/// text over it under the name, which is not that of the back table. Gives the size. The text is
+/// read before the back table is opened, and all memory is taken before the file is created.
 pub fn build_chain<S: Store, L: Ledger>(
     alloc: Global,
     store: &mut S,
@@ -83,11 +84,12 @@ pub fn build_chain<S: Store, L: Ledger>(
 ) -> Result<u32, ChainFault>
     requires { name.now ≢ back.now }
     ensures built { IfOk result (Chains text.now back.now name.now
-        (store_of S.Store store.old) (store_of S.Store store.new)) }
+        (store_of S.Store store.old) (store_of S.Store store.new) steps.old steps.new) }
     ensures refused { IfErr result (RefusesToChain text.now back.now name.now
-        (store_of S.Store store.old) (store_of S.Store store.new)) }
+        (store_of S.Store store.old) (store_of S.Store store.new) steps.old steps.new) }
     ensures room { OnOk result (S.room store.new ≡ 0) }
     ensures later { steps.old ≤ steps.new }
+    ensures cause { HasChainCause result (store_of S.Store store.old) (store_of S.Store store.new) }
 {
     let rules = read_rules(alloc, text)?;
     let back = open_back(alloc, store, back, steps)?;

@@ -8,7 +8,7 @@ ghost use Rattle.frz_table.specs.Layout.{pieces_of};
 ghost use Rattle.frz_table.specs.Possible.{MayKeep};
 ghost use Rattle.frz_table.specs.Tables.{Carries, table_size};
 ghost use Rattle.frz_check.specs.Verdicts.{IsVerdict};
-ghost use Rattle.frz_chain.specs.Backs.{GivesBack, OpensBack, RefusesBack};
+ghost use Rattle.frz_chain.specs.Backs.{GivesBack, KeepsTable, OpensBack, RefusesBack};
 ghost use Rattle.frz_chain.specs.Books.{back_with};
 ghost use Rattle.frz_chain.specs.Causes.{HasChainCause};
 ghost use Rattle.frz_chain.specs.FileOn.{loaded_back};
@@ -82,6 +82,7 @@ pub fn open_back<S: Store, L: Ledger>(
 ) -> Result<BackTable, ChainFault>
     ensures opened { IfOk result (λ back. OpensBack name.now (loaded_back back)
         (store_of S.Store store.old) (store_of S.Store store.new) steps.old steps.new) }
+    ensures table { IfOk result (KeepsTable (S.files store.old) name.now) }
     ensures refused { IfErr result (RefusesBack name.now
         (store_of S.Store store.old) (store_of S.Store store.new) steps.old steps.new) }
     ensures quiet { StoreQuiet (store_of S.Store store.old) (store_of S.Store store.new) }
@@ -102,8 +103,9 @@ pub fn open_back<S: Store, L: Ledger>(
 fn exact_back(table: TableFile, loaded: Loaded) -> Result<BackTable, ChainFault>
     requires white { length loaded.white.items ≡ table_size table }
     requires black { length loaded.black.items ≡ table_size table }
-    ensures { GivesBack (back_with table.rules.groups loaded.white.items loaded.black.items)
+    ensures gives { GivesBack (back_with table.rules.groups loaded.white.items loaded.black.items)
         loaded.verdict result }
+    ensures same { IfOk result (λ given. given.table ≡ table) }
 {
     match loaded.verdict {
         Verdict::Exact => Ok(BackTable {

@@ -7,3 +7,4 @@ pub mod Fails
 pub mod MemStore
 pub mod MemSource
 pub mod MemSink
+pub mod Passing

@@ -1,5 +1,7 @@
 //! The real source and sink, over any reader and writer. They tell nothing.
-ghost use Rattle.std.specs.Prelude.{◌≡◌, None};
+ghost use Rattle.std.specs.Prelude.{◌≡◌, ◌<◌, ◌≤◌, length, None, IfOk, OnOk};
+ghost use Rattle.std.specs.Io.KnownBytes.{Appends, ReadConsumes};
+ghost use Rattle.frz_store.specs.Outside.{HasCause};
 
 use crate::count::Count;
 use crate::{Failed, Sink, Source};
@@ -30,7 +32,13 @@ impl<R: Read + Drop> Source for InputSource<R> {
 
     ghost faults = { λ source. source.faults };
 
-    fn read(&mut self, into: &mut [u8]) -> Result<usize, Failed> {
+    fn read(&mut self, into: &mut [u8]) -> Result<usize, Failed>
+        requires { 0 < length into.old }
+        ensures count { IfOk result (λ n. n ≤ length into.new) }
+        ensures given { ReadConsumes (R.remaining self.old.reader) (R.remaining self.new.reader)
+            result into.new }
+        ensures cause { HasCause self.old.faults self.new.faults result }
+    {
         let count = self.reader.read(into);
         self.faults.or_fault(count, Failed)
     }
@@ -55,7 +63,10 @@ impl<W: Write + Drop> OutputSink<W> {
     }
 }
 
-fn write_through<W: Write>(writer: &mut W, piece: &[u8]) -> io::Result<()> {
+/// Writes the whole piece and sends it on its way.
+fn write_through<W: Write>(writer: &mut W, piece: &[u8]) -> io::Result<()>
+    ensures { OnOk result (Appends (W.contents writer.old) (W.contents writer.new) piece.now) }
+{
     writer.write_all(piece)?;
     writer.flush()
 }
@@ -65,7 +76,11 @@ impl<W: Write + Drop> Sink for OutputSink<W> {
 
     ghost faults = { λ sink. sink.faults };
 
-    fn write(&mut self, piece: &[u8]) -> Result<(), Failed> {
+    fn write(&mut self, piece: &[u8]) -> Result<(), Failed>
+        ensures passed { OnOk result
+            (Appends (W.contents self.old.writer) (W.contents self.new.writer) piece.now) }
+        ensures cause { HasCause self.old.faults self.new.faults result }
+    {
         let done = write_through(&mut self.writer, piece);
         self.faults.or_fault(done, Failed)
     }

@@ -14,4 +14,5 @@ pub mod Made
 pub mod KeptFiles
 pub mod SomeFiles
 pub mod FormerFiles
+pub mod WantingMemory
 pub mod Lemmas

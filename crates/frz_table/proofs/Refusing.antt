@@ -85,7 +85,7 @@ whole_text format bytes h =
     (le-ltb (length bytes) (16 + kept_length bytes) h)
 
 -- what the store tells of a name behind a call that left the files as they were
-told_so : (mid files : Option Files) (name : List ℕ) (P : List ℕ → Type 0) → mid ≡ files
+pub told_so : (mid files : Option Files) (name : List ℕ) (P : List ℕ → Type 0) → mid ≡ files
     → IfSome mid (λ m. IfSome (m name) P) → IfSome files (λ m. IfSome (m name) P)
 told_so mid files name P is h =
     subst (λ (o : Option Files). IfSome o (λ (f : Files). IfSome (f name) P)) is h

@@ -459,7 +459,7 @@ same_fault : {U : Type 0} (a b : TableFault) → IsErrOf {T = U} {E = TableFault
 same_fault a b is = cc
 
 -- an error is one of results of every type
-same_error : {T U : Type 0} (a b : TableFault) → IsErrOf {T = U} {E = TableFault} (Err a) b
+pub same_error : {T U : Type 0} (a b : TableFault) → IsErrOf {T = U} {E = TableFault} (Err a) b
     → IsErrOf {T = T} {E = TableFault} (Err a) b
 same_error {T} {U} a b is =
     ap (λ (f : TableFault). let r : Result T TableFault = Err f in r) (same_fault {U = U} a b is)

@@ -5,4 +5,5 @@ pub mod Opening
 pub mod Steps
 pub mod Faults
 pub mod Possible
+pub mod Memory
 pub mod OldFiles

@@ -1,9 +1,11 @@
 //! The head of a table file: its length, its magic and the length of its text.
 ghost use Rattle.std.specs.Prelude.{◌≡◌, ◌+◌, ◌≤◌, take, IfOk, IfErr, IfSome};
+ghost use Rattle.std.specs.Result.{IsErrOf};
 ghost use Rattle.std.specs.Str.{bytes_eq};
 ghost use Rattle.frz_store.specs.Files.{Covers};
-ghost use Rattle.frz_store.specs.Outside.{IsNext, StoreCauses};
+ghost use Rattle.frz_store.specs.Outside.{IsNext, Rose, StoreCauses};
 ghost use Rattle.frz_store.specs.Told.{store_of, StoreQuiet};
+ghost use Rattle.frz_table.specs.declared.fault.TableFault.TheVariants.{NoMemory};
 ghost use Rattle.frz_table.specs.Faults.{TableCauses};
 ghost use Rattle.frz_table.specs.Possible.{SomeRefused};
 ghost use Rattle.frz_table.specs.Steps.{AllCall, AllRefuse, HasHead};
@@ -15,7 +17,7 @@ use frz_rules::{RulesCause, RulesFault};
 use frz_store::{Store, StoreFault};
 
 /// How many bytes a rules text may have.
-const LONGEST_TEXT: u32 = 65_536;
+pub(crate) const LONGEST_TEXT: u32 = 65_536;
 
 /// How many bytes a file has, and how many of them are its text.
 #[derive(Clone, Copy)]
@@ -60,6 +62,7 @@ pub(crate) fn read_head<S: Store>(
         (S.calls store.new) }
     ensures causes { TableCauses (S.faults store.old) (S.faults store.new)
         (S.wants store.old) (S.wants store.new) result }
+    ensures memory { IsErrOf result NoMemory → Rose (S.wants store.old) (S.wants store.new) }
 {
     let Some(file) = store.size(name)? else {
         return Err(TableFault::Missing);

@@ -1,13 +1,16 @@
 //! Table files of the former format: opened, and read whole.
 ghost use Rattle.std.specs.Prelude.{◌≡◌, ◌+◌, ◌*◌, ◌≤◌, length, IfOk, IfErr, IfSome, Ok, Err};
+ghost use Rattle.std.specs.Result.{IsErrOf};
 ghost use Rattle.frz_board.specs.declared.man.Colour.TheVariants.{White, Black};
 ghost use Rattle.frz_index.specs.OldNumbers.{old_size_of};
 ghost use Rattle.frz_rules.specs.Text.{rules_of};
 ghost use Rattle.frz_sets.specs.Sound.{IsSound};
 ghost use Rattle.frz_store.specs.Files.{bytes_at};
 ghost use Rattle.frz_store.specs.Told.{store_of, StoreQuiet};
+ghost use Rattle.frz_table.specs.declared.fault.TableFault.TheVariants.{NoMemory};
 ghost use Rattle.frz_table.specs.Faults.{IsOutside, TableCauses};
 ghost use Rattle.frz_table.specs.Layout.{codes_at, pieces_of};
+ghost use Rattle.frz_table.specs.Memory.{MemoryWanted};
 ghost use Rattle.frz_table.specs.OldFiles.{CarriesOld, MayKeepOld, limited, old_contents_of, old_format, old_magic, old_table_size};
 ghost use Rattle.frz_table.specs.Opening.{Refuses, kept_text, opened};
 ghost use Rattle.frz_table.specs.Possible.{MayOpen, MayRefuse};
@@ -90,6 +93,8 @@ pub fn open_old<S: Store>(alloc: Global, store: &mut S, name: &str) -> Result<Ol
     ensures calls { S.calls store.new ≤ S.calls store.old + 5 }
     ensures causes { TableCauses (S.faults store.old) (S.faults store.new)
         (S.wants store.old) (S.wants store.new) result }
+    ensures memory { IsErrOf result NoMemory → MemoryWanted old_magic (S.files store.old) name.now
+        (S.wants store.old) (S.wants store.new) }
 {
     let opened = open_text(alloc, store, name, magic())?;
     let size = match limited_size(&opened.rules) {

@@ -1,9 +1,13 @@
 //! Opening a table file, step by step.
 ghost use Rattle.std.specs.Prelude.{◌≡◌, ◌+◌, ◌≤◌, length, IfOk, IfErr, IfSome, Ok};
+ghost use Rattle.std.specs.Result.{IsErrOf};
 ghost use Rattle.frz_store.specs.Files.{bytes_at};
 ghost use Rattle.frz_store.specs.Told.{store_of, StoreQuiet};
 ghost use Rattle.frz_table.specs.declared.kind.FileKind.TheVariants.{Plain};
+ghost use Rattle.frz_table.specs.declared.fault.TableFault.TheVariants.{NoMemory};
 ghost use Rattle.frz_table.specs.Faults.{TableCauses};
+ghost use Rattle.frz_table.specs.Layout.{magic_of};
+ghost use Rattle.frz_table.specs.Memory.{MemoryWanted};
 ghost use Rattle.frz_table.specs.Opening.{Refuses, contents_of, opened, kept_text, table_format};
 ghost use Rattle.frz_table.specs.Possible.{MayOpen, MayRefuse};
 ghost use Rattle.frz_table.specs.Tables.{Carries};
@@ -45,6 +49,9 @@ pub fn open_kind<S: Store>(
     ensures calls { S.calls store.new ≤ S.calls store.old + 5 }
     ensures causes { TableCauses (S.faults store.old) (S.faults store.new)
         (S.wants store.old) (S.wants store.new) result }
+    ensures memory { IsErrOf result NoMemory
+        → MemoryWanted (magic_of kind) (S.files store.old) name.now
+        (S.wants store.old) (S.wants store.new) }
 {
     let opened = open_text(alloc, store, name, kind.magic())?;
     let set = Set::new(alloc, &opened.rules)?;
@@ -85,6 +92,9 @@ pub fn open_table<S: Store>(
     ensures calls { S.calls store.new ≤ S.calls store.old + 5 }
     ensures causes { TableCauses (S.faults store.old) (S.faults store.new)
         (S.wants store.old) (S.wants store.new) result }
+    ensures memory { IsErrOf result NoMemory
+        → MemoryWanted (magic_of Plain) (S.files store.old) name.now
+        (S.wants store.old) (S.wants store.new) }
 {
     open_kind(alloc, store, name, FileKind::Plain)
 }

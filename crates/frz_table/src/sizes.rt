@@ -1,6 +1,9 @@
 //! The size that a table file keeps, and the length due by it.
 ghost use Rattle.std.specs.Prelude.{◌≡◌, ◌+◌, ◌*◌, ◌≤◌, length, IfErr, IfSome, OnOk};
+ghost use Rattle.std.specs.Result.{IsErrOf};
+ghost use Rattle.frz_store.specs.Outside.{Rose};
 ghost use Rattle.frz_store.specs.Told.{store_of, StoreQuiet};
+ghost use Rattle.frz_table.specs.declared.fault.TableFault.TheVariants.{NoMemory};
 ghost use Rattle.frz_table.specs.Faults.{TableCauses};
 ghost use Rattle.frz_table.specs.Numbers.{AreBytes};
 ghost use Rattle.frz_table.specs.Possible.{SomeSizeRefused};
@@ -36,6 +39,7 @@ pub(crate) fn check_size<S: Store>(
     ensures calls { S.calls store.new ≤ S.calls store.old + 1 }
     ensures causes { TableCauses (S.faults store.old) (S.faults store.new)
         (S.wants store.old) (S.wants store.new) result }
+    ensures memory { IsErrOf result NoMemory → Rose (S.wants store.old) (S.wants store.new) }
 {
     let _ = magic;
     let text = opened.text.len() as u64;

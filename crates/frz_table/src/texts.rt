@@ -1,16 +1,19 @@
 //! The text of a table file, and its rules.
-ghost use Rattle.std.specs.Prelude.{◌≡◌, ◌+◌, ◌≤◌, ◌^◌, min, length, take, drop, IfOk, IfErr, IfSome, Ok};
+ghost use Rattle.std.specs.Prelude.{◌≡◌, ◌+◌, ◌≤◌, ◌^◌, min, length, take, drop, IfOk, IfErr, IfSome, OnOk, Ok};
+ghost use Rattle.std.specs.Result.{IsErrOf};
 ghost use Rattle.frz_store.specs.Files.{Covers, bytes_at};
-ghost use Rattle.frz_store.specs.Outside.{FreeCauses};
+ghost use Rattle.frz_store.specs.Outside.{StoreCauses};
 ghost use Rattle.frz_store.specs.Told.{store_of, StoreQuiet};
+ghost use Rattle.frz_table.specs.declared.fault.TableFault.TheVariants.{NoMemory};
 ghost use Rattle.frz_table.specs.Faults.{TableCauses};
+ghost use Rattle.frz_table.specs.Memory.{MemoryWanted};
 ghost use Rattle.frz_table.specs.Opening.{kept_text};
 ghost use Rattle.frz_table.specs.Possible.{SomeRefused};
 ghost use Rattle.frz_table.specs.Steps.{AllCall, AllRefuse, HasText};
 ghost use Rattle.frz_table.specs.Tables.{Holds, IsRead};
 
 use crate::TableFault;
-use crate::head::read_head;
+use crate::head::{LONGEST_TEXT, read_head};
 use crate::laws::bytes_fit;
 use frz_rules::{Rules, read_rules};
 use frz_store::{Store, StoreFault};
@@ -24,31 +27,29 @@ pub(crate) struct Text {
     pub rules: Rules,
 }
 
-/// So many bytes of the name from place 12 on.
+/// Fills the slice with so many bytes of the name from place 12 on.
 fn read_text<S: Store>(
-    alloc: Global,
     store: &mut S,
     name: &str,
     count: u32,
-) -> Result<Vec<u8>, StoreFault>
-    requires { IfSome (S.files store.old) (Covers 12 count name.now) }
-    ensures length { IfOk result (λ text. length text.items ≡ count) }
-    ensures bytes { IfOk result (λ text. IfSome (S.files store.old) (λ m. IfSome (m name.now)
-        (λ bytes. text.items ≡ take count (drop 12 bytes)))) }
+    into: &mut [u8],
+) -> Result<(), StoreFault>
+    requires there { IfSome (S.files store.old) (Covers 12 count name.now) }
+    requires room { length into.old ≡ count }
+    ensures length { length into.new ≡ count }
+    ensures bytes { OnOk result (IfSome (S.files store.old) (λ m. IfSome (m name.now)
+        (λ bytes. into.new ≡ take count (drop 12 bytes)))) }
     ensures quiet { StoreQuiet (store_of S.Store store.old) (store_of S.Store store.new) }
     ensures asked { S.asked store.new ≤ S.asked store.old + count }
     ensures calls { S.calls store.new ≤ S.calls store.old + 1 }
-    ensures causes { FreeCauses (S.faults store.old) (S.faults store.new)
+    ensures causes { StoreCauses (S.faults store.old) (S.faults store.new)
         (S.wants store.old) (S.wants store.new) result }
 {
-    let Ok(mut text) = vec![in alloc; 0; count as usize] else {
-        return Err(StoreFault::NoMemory);
-    };
-    store.read(name, 12, &mut text)?;
-    Ok(text)
+    let _ = count;
+    store.read(name, 12, into)
 }
 
-/// The first six steps of opening a file.
+/// The first six steps of opening a file. No memory is taken before the rules are read.
 pub(crate) fn open_text<S: Store>(
     alloc: Global,
     store: &mut S,
@@ -74,11 +75,16 @@ pub(crate) fn open_text<S: Store>(
         (S.calls store.new) }
     ensures causes { TableCauses (S.faults store.old) (S.faults store.new)
         (S.wants store.old) (S.wants store.new) result }
+    ensures memory { IsErrOf result NoMemory → MemoryWanted magic.now (S.files store.old) name.now
+        (S.wants store.old) (S.wants store.new) }
 {
     let head = read_head(store, name, magic)?;
-    let text = read_text(alloc, store, name, head.text)?;
-    bytes_fit(&text);
-    let rules = read_rules(alloc, &text)?;
+    let mut buffer = [0; LONGEST_TEXT as usize];
+    let text = &mut buffer[..head.text as usize];
+    read_text(store, name, head.text, text)?;
+    bytes_fit(text);
+    let rules = read_rules(alloc, text)?;
+    let text = Vec::from_slice(alloc, text)?;
     Ok(Text {
         file: head.file,
         text,

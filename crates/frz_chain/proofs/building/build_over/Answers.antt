@@ -1,10 +1,10 @@
-use Rattle.std.proofs.Common.{ℕ, Result, Err, refl, arith}
-use Rattle.frz_store.specs.Told.{StoreQuiet, store_of}
+use Rattle.std.proofs.Common.{ℕ, Result, Err, refl}
+use Rattle.frz_store.specs.Told.{store_of}
 use Rattle.frz_store.specs.declared.outside.StoreFault.{StoreFault}
 use Rattle.frz_store.specs.declared.outside.StoreFault.TheVariants.{NoMemory}
 use Rattle.frz_chain.specs.Books.{back_with}
 use Rattle.frz_chain.specs.FileOn.{loaded_back}
-use Rattle.frz_chain.proofs.Chained.{moved_built, no_memory}
+use Rattle.frz_chain.proofs.Chained.{moved_built, no_memory, quiet_same}
 use Rattle.frz_chain.proofs.building.build_over.Goals as goal
 
 pub returns-in_default-clause-built : goal.returns-in_default-clause-built
@@ -12,17 +12,8 @@ returns-in_default-clause-built g c =
     let read = c.args.read.now in
     let old = store_of g.S.Store c.args.store.now in
     let result : Result ℕ StoreFault = Err NoMemory in
-    let quiet : StoreQuiet old old = record {
-      unwritten = record { files = refl; last = refl; room = refl };
-      later = record {
-        asked = omega arith;
-        calls = omega arith;
-        faults = omega arith;
-        wants = omega arith;
-      };
-    } in
     no_memory read.text.now read.rules.now (loaded_back c.args.back.now) c.requires.sound ℕ
-    c.args.name.now result old old refl quiet
+    c.args.name.now result old old refl (quiet_same old)
 
 pub returns-clause-built : goal.returns-clause-built
 returns-clause-built g c =

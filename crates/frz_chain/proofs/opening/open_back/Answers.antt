@@ -1,16 +1,17 @@
 use Rattle.std.proofs.Common.{sym, subst}
 use Rattle.frz_store.specs.Told.{store_of}
+use Rattle.frz_table.specs.Opening.{contents_of}
 use Rattle.frz_chain.specs.Backs.{RefusesBack}
 use Rattle.frz_chain.specs.Books.{back_with}
 use Rattle.frz_chain.specs.declared.fault.ChainFault.{ChainFault}
-use Rattle.frz_chain.proofs.Backs.{JudgedBack, back_given, back_wrong, judged_back, not_loaded}
+use Rattle.frz_chain.proofs.Backs.{JudgedBack, back_given, back_kept, back_wrong, judged_back, not_loaded}
 use Rattle.frz_chain.proofs.opening.open_back.Given.{Over}
 use Rattle.frz_chain.proofs.opening.open_back.Goals as goal
 use Rattle.frz_chain.proofs.opening.open_back.Goals.{After-exact_back}
 
 -- the verdict on what the name may hold
 judged : (g : Over) (c : After-exact_back g)
-    → JudgedBack c.args.name.now
+    → JudgedBack c.args.name.now (contents_of c.in-Ok.table)
     (back_with c.in-Ok.table.rules.groups c.in-Ok-load_checked.loaded.white.items
     c.in-Ok-load_checked.loaded.black.items)
     c.in-Ok-load_checked.loaded.verdict (store_of g.S.Store c.args.store.now)
@@ -28,11 +29,16 @@ judged g c =
 
 pub returns-in-Ok-load_checked-clause-opened : goal.returns-in-Ok-load_checked-clause-opened
 returns-in-Ok-load_checked-clause-opened g c =
-    back_given _ _ _ _ _ _ _ (judged g c) c.exact_back.result c.exact_back.ensures
+    back_given _ _ _ _ _ _ _ _ (judged g c) c.exact_back.result c.exact_back.ensures.gives
+
+pub returns-in-Ok-load_checked-clause-table : goal.returns-in-Ok-load_checked-clause-table
+returns-in-Ok-load_checked-clause-table g c =
+    back_kept _ _ _ _ _ _ _ _ (judged g c) c.in-Ok.ensures.name c.in-Ok.ensures.kind
+    c.exact_back.result c.exact_back.ensures.gives c.exact_back.ensures.same
 
 pub returns-in-Ok-load_checked-clause-refused : goal.returns-in-Ok-load_checked-clause-refused
 returns-in-Ok-load_checked-clause-refused g c =
-    back_wrong _ _ _ _ _ _ _ (judged g c) c.exact_back.result c.exact_back.ensures
+    back_wrong _ _ _ _ _ _ _ _ (judged g c) c.exact_back.result c.exact_back.ensures.gives
 
 pub returns-in-Err-load_checked-clause-refused : goal.returns-in-Err-load_checked-clause-refused
 returns-in-Err-load_checked-clause-refused g c =

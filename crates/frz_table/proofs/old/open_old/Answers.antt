@@ -1,7 +1,10 @@
-use Rattle.std.proofs.Common.{◌≡◌, ℕ, List, Ok, IfSome, arith}
+use Rattle.std.proofs.Common.{◌≡◌, inl, inr, subst, ℕ, List, Ok, IfSome, arith}
 use Rattle.std.proofs.lemmas.Result.{err_from_is_err_and}
+use Rattle.frz_store.specs.Outside.{Rose}
 use Rattle.frz_store.specs.Told.{store_of}
 use Rattle.frz_table.specs.declared.fault.TableFault.{TableFault}
+use Rattle.frz_table.specs.declared.fault.TableFault.TheVariants.{NoMemory}
+use Rattle.frz_table.specs.Memory.{MemoryWanted, WantsMemory}
 use Rattle.frz_table.specs.OldFiles.{old_format, old_rules_of}
 use Rattle.frz_table.specs.Opening.{Refuses, opened}
 use Rattle.frz_table.specs.Possible.{MayRefuse, SomeSizeRefused}
@@ -9,7 +12,8 @@ use Rattle.frz_table.specs.Steps.{IsFormatOf, SizeRefused}
 use Rattle.frz_table.specs.Tables.{Holds}
 use Rattle.frz_table.proofs.FormerFiles.{old_eight, old_is_format, old_read, old_refused}
 use Rattle.frz_table.proofs.Refusing.{opens, refuse_format, refuse_read, refuse_size}
-use Rattle.frz_table.proofs.SomeFiles.{later_asked, may_open, may_refuse, may_refuse_read, may_refuse_size, some_size_outside, told_outside}
+use Rattle.frz_table.proofs.SomeFiles.{later_asked, may_open, may_refuse, may_refuse_read, may_refuse_size, same_error, some_size_outside, told_outside}
+use Rattle.frz_table.proofs.WantingMemory.{kept_wants}
 use Rattle.frz_table.proofs.old.open_old.Given.{Over}
 use Rattle.frz_table.proofs.old.open_old.Goals as goal
 use Rattle.frz_table.proofs.old.open_old.Goals.{After-check_size}
@@ -133,3 +137,29 @@ returns-clause-may_open g c =
     (old_is_format _ c.magic.ensures)
     c.in_ok-opened.ensures.text c.open_text.ensures.quiet.unwritten.files
     c.in_ok-check_size.ensures.sized read c.in-Ok.ensures.size)
+
+pub returns-in_err-opened-clause-memory : goal.returns-in_err-opened-clause-memory
+returns-in_err-opened-clause-memory g c =
+    let p = err_from_is_err_and c.from_residual.result c.from_residual.ensures.1 in
+    rw (p.1, p.2)
+    (λ wanted. subst (λ (m : List ℕ). MemoryWanted m (g.S.Store.files c.args.store.now)
+    c.args.name.now (g.S.Store.wants c.args.store.now) (g.S.Store.wants c.open_text.new.store))
+    c.magic.ensures (c.in_err-opened.ensures.memory
+    (same_error c.in_err-opened.field-0.0 NoMemory wanted)))
+
+pub returns-in_err-check_size-clause-memory : goal.returns-in_err-check_size-clause-memory
+returns-in_err-check_size-clause-memory g c =
+    let p = err_from_is_err_and c.from_residual-in_err-check_size.result
+    c.from_residual-in_err-check_size.ensures.1 in
+    rw (p.1, p.2)
+    (λ wanted. inl (subst (λ (n : ℕ). Rose n (g.S.Store.wants c.check_size.new.store))
+    c.in_ok-opened.ensures.causes.wants_fine (c.in_err-check_size.ensures.memory
+    (same_error c.in_err-check_size.field-0.0 NoMemory wanted))))
+
+pub returns-in_err-name-clause-memory : goal.returns-in_err-name-clause-memory
+returns-in_err-name-clause-memory g c =
+    λ wanted. inr (subst (λ (m : List ℕ). Holds (g.S.Store.files c.args.store.now) c.args.name.now
+    (WantsMemory m)) c.magic.ensures
+    (kept_wants c.magic.result.now (g.S.Store.files c.args.store.now) c.args.name.now
+    c.in_ok-opened.opened.text.items c.in_ok-opened.opened.file c.in_ok-opened.opened.rules
+    c.in_ok-opened.ensures.text c.in_ok-opened.ensures.read.read))

@@ -1,0 +1,59 @@
+-- Where memory is wanted, the name holds a file whose text takes memory.
+use Rattle.std.proofs.Common.{◌≡◌, refl, sym, ap, subst, ◌∙◌, inr, ℕ, List, length, take, drop, Option, Some, None, Ok, IfSome, arith}
+use Rattle.std.specs.Option.{IsSomeAnd}
+use Rattle.frz_rules.specs.Text.{rules_of}
+use Rattle.frz_sets.specs.Views.{RuleLines}
+use Rattle.frz_store.specs.Files.{Files}
+use Rattle.frz_table.specs.Memory.{TakesMemory, WantsMemory}
+use Rattle.frz_table.specs.Opening.{kept_text}
+use Rattle.frz_table.specs.Steps.{HasHead, HasText}
+use Rattle.frz_table.specs.Tables.{Holds}
+use Rattle.frz_table.proofs.Refusing.{told_so}
+
+-- bytes with a right head and a text that takes memory
+wanting : (magic : List ℕ) (count text_count : ℕ) (text bytes : List ℕ)
+    → HasHead magic count text_count bytes → kept_text bytes ≡ text → TakesMemory text
+    → WantsMemory magic bytes
+wanting magic count text_count text bytes h same takes = record {
+  head = record {
+    all = refl;
+    enough = (let all = h.all in let kept = h.kept in let enough = h.enough in
+        omega (arith, all, kept, enough));
+    begins = h.begins;
+    kept = refl;
+    short = (let kept = h.kept in let short = h.short in omega (arith, kept, short));
+  };
+  text = subst TakesMemory (sym same) takes;
+}
+
+-- the text was read behind the head
+pub read_wants : (magic : List ℕ) (files mid : Option Files) (name : List ℕ)
+    (count text_count : ℕ) (text : List ℕ) → Holds files name (HasHead magic count text_count)
+    → mid ≡ files
+    → IfSome mid (λ m. IfSome (m name) (λ bytes. text ≡ take text_count (drop 12 bytes)))
+    → TakesMemory text → Holds files name (WantsMemory magic)
+read_wants magic None mid name count text_count text h is_mid read takes = tt
+read_wants magic (Some m) mid name count text_count text h is_mid read takes =
+    by_held (m name) h
+    (told_so mid (Some m) name (λ bytes. text ≡ take text_count (drop 12 bytes)) is_mid read)
+  where
+    by_held : (held : Option (List ℕ)) → IsSomeAnd held (HasHead magic count text_count)
+        → IfSome held (λ bytes. text ≡ take text_count (drop 12 bytes))
+        → IsSomeAnd held (WantsMemory magic)
+    by_held None e r = absurd e
+    by_held (Some bytes) e r =
+        wanting magic count text_count text bytes e
+        (ap (λ (k : ℕ). take k (drop 12 bytes)) e.kept ∙ sym r) takes
+
+-- the text was read and gives rules
+pub kept_wants : (magic : List ℕ) (files : Option Files) (name text : List ℕ) (count : ℕ)
+    (rules : RuleLines) → Holds files name (HasText magic text count) → rules_of text ≡ Ok rules
+    → Holds files name (WantsMemory magic)
+kept_wants magic None name text count rules h accepted = tt
+kept_wants magic (Some m) name text count rules h accepted = by_held (m name) h
+  where
+    by_held : (held : Option (List ℕ)) → IsSomeAnd held (HasText magic text count)
+        → IsSomeAnd held (WantsMemory magic)
+    by_held None e = absurd e
+    by_held (Some bytes) e =
+        wanting magic count (length text) text bytes e.head e.text_is (inr (rules, accepted))
