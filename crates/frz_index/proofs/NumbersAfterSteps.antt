@@ -260,4 +260,3 @@ share_small gs man s k adds n x =
     let product = mul-le x.place (product_from gs (suc k)) 384 134217728 (omega (arith, low, few))
     (omega (arith, whole, whole_fits gs n)) in
     omega (arith, product, x.adds_is)
-

@@ -142,13 +142,7 @@ pub(crate) fn shares_of(
 {
     let mut shares = Vec::new(alloc);
     for i in 0..CELLS {
-        shares.push(share_of_cell(
-            groups,
-            charts,
-            weights,
-            (i / 64) as u8,
-            (i % 64) as u8,
-        ))?;
+        shares.push(share_of_cell(groups, charts, weights, (i / 64) as u8, (i % 64) as u8))?;
     }
     Ok(shares)
 }
