@@ -309,13 +309,13 @@ states_read gs i g h l e =
     (all_drop (λ (g : GroupLine). AreStates g.states) gs i h) in
     rest.0
 
-get_before : {X : Type 0} (xs ys : List X) (i : ℕ) → i < length xs →
+pub get_before : {X : Type 0} (xs ys : List X) (i : ℕ) → i < length xs →
     slice_get (xs ++ ys) i ≡ slice_get xs i
 get_before [] ys i h = absurd (omega arith)
 get_before (x ∷ xs) ys zero h = refl
 get_before (x ∷ xs) ys (suc i) h = get_before xs ys i (omega arith)
 
-get_last : {X : Type 0} (xs : List X) (x : X) → slice_get (xs ++ x ∷ []) (length xs) ≡ Some x
+pub get_last : {X : Type 0} (xs : List X) (x : X) → slice_get (xs ++ x ∷ []) (length xs) ≡ Some x
 get_last [] x = refl
 get_last (y ∷ xs) x = get_last xs x
 

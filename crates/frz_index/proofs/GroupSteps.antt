@@ -202,7 +202,7 @@ at_plain gs i g s h e =
       part = ap (λ xs. product (map radix_of xs)) is;
     }
 
-product_le : (gs : List GroupLine) → AllByRecursion IsCounted gs → (i : ℕ) →
+pub product_le : (gs : List GroupLine) → AllByRecursion IsCounted gs → (i : ℕ) →
     product_from gs i ≤ product (map radix_of gs)
 product_le gs h zero = omega arith
 product_le [] h (suc i) = omega arith

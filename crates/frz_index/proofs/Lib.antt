@@ -18,4 +18,5 @@ pub mod DigitByDigit
 pub mod RadixProducts
 pub mod FormerNumbers
 pub mod Stepping
+pub mod NumbersAfterSteps
 pub mod Quotients

@@ -1,42 +1,41 @@
--- What a man's step to an empty square changes in the digits of the groups.
-use Rattle.std.proofs.Common.{◌≡◌, ◌≢◌, ℕ, zero, suc, ◌+◌, ◌-◌, ◌*◌, ◌<◌, ◌≤◌, Bool, true, false, cond, Option, None, Some, List, [], ◌∷◌, length, map, slice_index, refl, ap, sym, subst, ◌∙◌, arith, inl, inr, ◌⊎◌}
+-- A man's step to an empty square: the cells, and the digit of one group.
+use Rattle.std.proofs.Common.{◌≡◌, ◌≢◌, ℕ, zero, suc, ◌+◌, ◌-◌, ◌*◌, ◌<◌, ◌≤◌, Bool, true, false, cond, Option, None, Some, List, [], ◌∷◌, length, slice_index, refl, ap, sym, subst, ◌∙◌, arith, inl, inr, ◌⊎◌}
 use Rattle.std.proofs.Common.{length-set, slice_set}
 use Rattle.std.specs.Prelude.{◌==◌}
-use Rattle.std.proofs.Math.Nat.{add-mul}
-use Rattle.std.specs.List.{AllByRecursion, slice_get}
+use Rattle.std.specs.List.{slice_get}
 use Rattle.std.proofs.lemmas.Bool.{and_from, cases_Bool, cases_eq, eqb-true, eq-eqb, false_from_ne_true}
 use Rattle.std.proofs.lemmas.Option.{same_Some, slice_get_within}
-use Rattle.frz_board.proofs.Lemmas.{cell-some, set_at, cell_back}
+use Rattle.frz_board.proofs.Lemmas.{cell-some, set_at}
 use Rattle.frz_board.specs.declared.man.Colour.{Colour}
-use Rattle.frz_board.specs.declared.man.Colour.TheVariants.{White, Black}
 use Rattle.frz_board.specs.declared.man.Kind.{Kind}
 use Rattle.frz_board.specs.declared.man.Kind.TheVariants.{King, Queen, Rook, Bishop, Knight, Pawn}
 use Rattle.frz_board.specs.Moving.{Step}
 use Rattle.frz_fide.specs.Legal.{after, after_man}
 use Rattle.frz_board.specs.declared.man.Man.{Man}
-use Rattle.frz_board.specs.Boards.{Board, is_empty, man_on}
-use Rattle.frz_board.specs.Men.{cell_of_man, is_pawn, number_of_kind, other_of}
+use Rattle.frz_board.specs.Boards.{Board}
+use Rattle.frz_board.specs.Men.{cell_of_man, is_pawn, number_of_kind}
 use Rattle.frz_combinations.proofs.Lemmas.{choose-one, place_counts}
 use Rattle.frz_combinations.specs.Binomials.{choose}
 use Rattle.frz_combinations.specs.Combinations.{places_below}
-use Rattle.frz_combinations.specs.MixedRadix.{product}
 use Rattle.frz_combinations.specs.Selections.{choices, digit}
-use Rattle.frz_fide.specs.Valid.{IsValid}
 use Rattle.frz_sets.specs.Groups.{state_number}
-use Rattle.frz_sets.specs.Sets.{has_state, is_state, radix_of}
+use Rattle.frz_sets.specs.Sets.{is_state}
 use Rattle.frz_sets.specs.Sound.{AreStates}
 use Rattle.frz_sets.specs.Views.{GroupLine}
 use Rattle.frz_index.proofs.Charting.{cut_at, kind_numbers, pair_is, state_order}
 use Rattle.frz_index.specs.Charts.{IsChart}
 use Rattle.frz_index.specs.declared.chart.Chart.{Chart}
 use Rattle.frz_index.proofs.Counting.{skip}
-use Rattle.frz_index.proofs.GroupSteps.{At, drop_end}
 use Rattle.frz_index.proofs.Partners.{same_below}
 use Rattle.frz_index.proofs.RoomForMen.{any_at, any_found, at_itself, at_parts, is_at, same_man}
-use Rattle.frz_index.specs.Members.{HasNumber, Member, Num}
 use Rattle.frz_index.specs.Places.{IsWithinCount, digit_of, places, stands}
-use Rattle.frz_index.specs.Stepping.{AlwaysShifted, IsPlace, IsQuiet, IsStep, Shifted, Shifts, digits_of, stepped}
-use Rattle.frz_index.specs.TurnStates.{turn_number}
+use Rattle.frz_index.specs.Stepping.{IsPlace, IsQuiet, IsStep, stepped}
+
+-- the group's digit grows by up and falls by down, and it has as many men
+pub record Shifts (p q : Board) (cell a b : ℕ) (g : GroupLine) (up down : ℕ) : Type 0 where
+  pub digit : digit_of q g + down ≡ digit_of p g + up
+  pub counted : IsWithinCount q g
+  pub covered : is_state cell a g ≡ true → is_state cell b g ≡ true
 
 -- where a test holds at one place at most, it holds there alone
 single : (f : ℕ → Bool) (n k : ℕ) → k < n → f k ≡ true → length (places_below f n) ≤ 1 →
@@ -89,7 +88,8 @@ only f (suc n) k l e alone =
           let none : places_below f n ≡ [] =
           skip f 0 n (omega arith)
           (λ j low less. false_from_ne_true (f j)
-          (λ t. let same = alone j (omega (arith, less)) t in absurd (omega (arith, same, here, less)))) in
+          (λ t. let same = alone j (omega (arith, less)) t in
+          absurd (omega (arith, same, here, less)))) in
           is ∙ ap (λ ks. n ∷ ks) none ∙ ap (λ j. j ∷ []) (sym here)
       | inr other ↦
           let less : k < n = omega (arith, l, other) in
@@ -162,7 +162,8 @@ module _ (p : Board) (man : Man) (a b : ℕ) (h : IsStep p man a b) where
   pub at_rest : (s : ℕ) → s ≢ a → s ≢ b → slice_index q.cells s ≡ slice_index p.cells s
   at_rest s n m =
       at_other s m
-      ∙ ap (λ t. cond t 0 (slice_index p.cells s)) (false_from_ne_true (s == a) (λ t. n (eqb-true s a t)))
+      ∙ ap (λ t. cond t 0 (slice_index p.cells s))
+      (false_from_ne_true (s == a) (λ t. n (eqb-true s a t)))
 
   -- a group that has the man on neither square
   module _ (g : GroupLine) (off_a : is_state (cell_of_man man) a g ≡ false)
@@ -188,7 +189,8 @@ module _ (p : Board) (man : Man) (a b : ℕ) (h : IsStep p man a b) where
     same_stand j (Some st) e =
         elim (cases_eq st.1 a) [
           | inl here ↦
-              no_man (slice_index q.cells st.1) g.colour st.0 (ap (slice_index q.cells) here ∙ at_from)
+              no_man (slice_index q.cells st.1) g.colour st.0
+              (ap (slice_index q.cells) here ∙ at_from)
               ∙ sym (ap (λ x. x == cell_of_man (record { colour = g.colour; kind = st.0 }))
               (ap (slice_index p.cells) here ∙ h.stood) ∙ not_the_man j st a e here off_a)
           | inr left ↦ elim (cases_eq st.1 b) [
@@ -290,10 +292,11 @@ module _ (p : Board) (man : Man) (a b : ℕ) (h : IsStep p man a b) where
         let size_after = ap length after in
         record {
           digit =
-              let dp : digit_of p g ≡ choices (length g.states) g.least (1 - g.least) + (choose ka 1 + 0)
-              = ap (digit (length g.states) g.least) before in
-              let dq : digit_of q g ≡ choices (length g.states) g.least (1 - g.least) + (choose kb 1 + 0)
-              = ap (digit (length g.states) g.least) after in
+              let first = choices (length g.states) g.least (1 - g.least) in
+              let dp : digit_of p g ≡ first + (choose ka 1 + 0) =
+              ap (digit (length g.states) g.least) before in
+              let dq : digit_of q g ≡ first + (choose kb 1 + 0) =
+              ap (digit (length g.states) g.least) after in
               omega (arith, dp, dq, choose-one ka, choose-one kb);
           counted = record {
             least = omega (arith, w.least, size_before, size_after);
@@ -302,113 +305,6 @@ module _ (p : Board) (man : Man) (a b : ℕ) (h : IsStep p man a b) where
           covered = λ _. any_at (is_at g.colour man b) g.states kb (man.kind, b) pb.1
               (ap (λ c. is_at c man b (man.kind, b)) pb.0 ∙ at_itself man b man.kind refl);
         }
-
--- no group yet
-pub shifted_start : (gs : List GroupLine) (p q : Board) (cell a b : ℕ) →
-    Shifted gs p q cell a b 0 0 0
-shifted_start gs p q cell a b =
-    record { counted = λ h. h; sum = omega arith; covered = λ j g l e t. absurd (omega (arith, l)) }
-
--- one more group
-pub shifted_step : (gs : List GroupLine) (p q : Board) (cell a b i up down more less w : ℕ)
-    (g : GroupLine) → At gs i g w → slice_get gs i ≡ Some g →
-    Shifted gs p q cell a b i up down → Shifts p q cell a b g more less →
-    Shifted gs p q cell a b (i + 1) (up + more * w) (down + less * w)
-shifted_step gs p q cell a b i up down more less w g at here h s =
-    let split_p = ap (digits_of p) at.is in
-    let split_q = ap (digits_of q) at.is in
-    let one_p = ap (λ n. digit_of p g * n) at.weight in
-    let one_q = ap (λ n. digit_of q g * n) at.weight in
-    let moved = ap (λ n. n * w) s.digit in
-    let left = add-mul (digit_of q g) less w in
-    let right = add-mul (digit_of p g) more w in
-    record {
-      counted = λ k. h.counted (subst (AllByRecursion (IsWithinCount q)) (sym at.is) (s.counted, k));
-      sum = omega (arith, split_p, split_q, one_p, one_q, moved, left, right, h.sum);
-      covered = λ j x l e t.
-          elim (cases_eq j i) [
-            | inl same ↦
-                let is : g ≡ x = same_Some g x (sym here ∙ ap (slice_get gs) (sym same) ∙ e) in
-                subst (λ (y : GroupLine). is_state cell b y ≡ true) is
-                (s.covered (subst (λ (y : GroupLine). is_state cell a y ≡ true) (sym is) t))
-            | inr other ↦ h.covered j x (omega (arith, l, other)) e t
-          ];
-    }
-
--- all groups
-pub shifted_end : (gs : List GroupLine) (p q : Board) (cell a b i up down : ℕ) →
-    length gs ≤ i → Shifted gs p q cell a b i up down →
-    Shifted gs p q cell a b (length gs) up down
-shifted_end gs p q cell a b i up down past h =
-    let e = drop_end gs i past ∙ sym (drop_end gs (length gs) (omega arith)) in
-    let vp = ap (digits_of p) e in
-    let vq = ap (digits_of q) e in
-    record {
-      counted = λ k. h.counted (subst (AllByRecursion (IsWithinCount q)) (sym e) k);
-      sum = omega (arith, vp, vq, h.sum);
-      covered = λ j g l f t. h.covered j g (omega (arith, l, past)) f t;
-    }
-
--- the position after the step is in the set where it is valid
-pub Member-stepped : (gs : List GroupLine) (p : Board) (man : Man) (a b up down : ℕ) →
-    Member gs p → IsStep p man a b → IsValid (stepped p man a b) →
-    Shifted gs p (stepped p man a b) (cell_of_man man) a b (length gs) up down →
-    Member gs (stepped p man a b)
-Member-stepped gs p man a b up down m h v s = record {
-  valid = v;
-  men = λ x l some.
-      elim (cases_eq x b) [
-        | inl here ↦
-            subst (λ n. has_state gs n x ≡ true)
-            (sym (ap (slice_index (stepped p man a b).cells) here ∙ at_to p man a b h))
-            (subst (λ n. has_state gs (cell_of_man man) n ≡ true) (sym here)
-            (let some_there : slice_index p.cells a ≢ 0 = λ e.
-            let n = cell-some man.colour man.kind in omega (arith, e, h.stood, n) in
-            let before : has_state gs (cell_of_man man) a ≡ true =
-            subst (λ n. has_state gs n a ≡ true) h.stood (m.men a h.from some_there) in
-            let found = any_found (is_state (cell_of_man man) a) gs before in
-            any_at (is_state (cell_of_man man) b) gs found.0 found.1 found.2
-            (s.covered found.0 found.1 (slice_get_within gs found.0 found.1 found.2) found.2
-            found.3)))
-        | inr right ↦ elim (cases_eq x a) [
-          | inl here ↦
-              absurd (some (ap (slice_index (stepped p man a b).cells) here ∙ at_from p man a b h))
-          | inr left ↦
-              let same = at_rest p man a b h x left right in
-              subst (λ n. has_state gs n x ≡ true) (sym same)
-              (m.men x l (λ e. some (same ∙ e)))
-        ]
-      ];
-  counts = s.counted (subst (AllByRecursion (IsWithinCount (stepped p man a b)))
-      (sym (drop_end gs (length gs) (omega arith))) tt);
-}
-
--- the sums of the digits
-pub sums : (gs : List GroupLine) (p q : Board) (cell a b up down : ℕ) →
-    Shifted gs p q cell a b (length gs) up down →
-    digits_of q gs + down ≡ digits_of p gs + up
-sums gs p q cell a b up down h =
-    let e = drop_end gs (length gs) (omega arith) in
-    let vp = ap (digits_of p) e in
-    let vq = ap (digits_of q) e in
-    omega (arith, vp, vq, h.sum)
-
--- the number of a position without a target: of White's turn, and of Black's
-pub number_white : (gs : List GroupLine) (p : Board) → p.turn ≡ White → p.ep ≡ None →
-    Num gs p ≡ digits_of p gs
-number_white gs p turn none =
-    let first : turn_number gs p.turn p.ep ≡ 0 = ap (λ c. turn_number gs c p.ep) turn
-    ∙ ap (turn_number gs White) none in
-    let t = ap (λ t. t * product (map radix_of gs)) first in
-    omega (arith, t)
-
-pub number_black : (gs : List GroupLine) (p : Board) → p.turn ≡ Black → p.ep ≡ None →
-    Num gs p ≡ product (map radix_of gs) + digits_of p gs
-number_black gs p turn none =
-    let first : turn_number gs p.turn p.ep ≡ 1 = ap (λ c. turn_number gs c p.ep) turn
-    ∙ ap (turn_number gs Black) none in
-    let t = ap (λ t. t * product (map radix_of gs)) first in
-    omega (arith, t)
 
 -- where the group has the man on the square, the chart has its place
 pub placed : (g : GroupLine) (chart : Chart) (man : Man) (s k n : ℕ) → IsChart g.states chart →
@@ -425,71 +321,6 @@ placed g chart man s k n h low t ek en =
     let at = cut_at g.states x (slice_index chart.cuts x) found.0 found.1 h.in_order
     (h.cuts_are.cut x (omega (arith, ek, en, numbers.1, low))) found.2 number in
     (parts.0, ap (slice_get g.states) (sym at) ∙ found.2 ∙ ap Some is)
-
-pub shifts_read : (p q : Board) (cell a b : ℕ) (g : GroupLine) (up down more less : ℕ) →
-    up ≡ more → down ≡ less → Shifts p q cell a b g more less → Shifts p q cell a b g up down
-shifts_read p q cell a b g up down more less e f s = record {
-  digit = omega (arith, s.digit, e, f);
-  counted = s.counted;
-  covered = s.covered;
-}
-
--- what tells the number after a step
-pub record Told (gs : List GroupLine) (p : Board) (man : Man) (a b i up down whole : ℕ) : Type 0 where
-  pub number : HasNumber gs i p
-  pub from : a < 64
-  pub to : b < 64
-  pub stood : man_on p a ≡ Some man
-  pub free : is_empty p b ≡ true
-  pub target : p.ep ≡ None
-  pub valid : IsValid (stepped p man a b)
-  pub whole_is : whole ≡ product (map radix_of gs)
-  pub shifted : AlwaysShifted gs man a b (length gs) up down
-
-module _ (gs : List GroupLine) (p : Board) (man : Man) (a b i up down whole : ℕ)
-    (t : Told gs p man a b i up down whole) where
-  is_step : IsStep p man a b
-  is_step = record {
-    size = t.number.member.valid.fits.size;
-    from = t.from;
-    to = t.to;
-    stood = cell_back (slice_index p.cells a) man.colour man.kind t.stood;
-    free = eqb-true (slice_index p.cells b) 0 t.free;
-  }
-
-  shifted_by : Shifted gs p (stepped p man a b) (cell_of_man man) a b (length gs) up down
-  shifted_by = t.shifted p is_step t.number.member.counts
-
-  after_member : Member gs (stepped p man a b)
-  after_member = Member-stepped gs p man a b up down t.number.member is_step t.valid shifted_by
-
-  pub after_white : p.turn ≡ White →
-      (down ≤ i + up + whole) × HasNumber gs (i + up + whole - down) (stepped p man a b)
-  after_white turn =
-      let before = number_white gs p turn t.target in
-      let after = number_black gs (stepped p man a b) (ap other_of turn) refl in
-      let sum = sums gs p (stepped p man a b) (cell_of_man man) a b up down shifted_by in
-      let there = t.number.number in (
-        omega (arith, before, sum, there, t.whole_is),
-        record {
-          member = after_member;
-          number = omega (arith, before, after, sum, there, t.whole_is);
-        },
-      )
-
-  pub after_black : p.turn ≡ Black →
-      (whole + down ≤ i + up) × HasNumber gs (i + up - whole - down) (stepped p man a b)
-  after_black turn =
-      let before = number_black gs p turn t.target in
-      let after = number_white gs (stepped p man a b) (ap other_of turn) refl in
-      let sum = sums gs p (stepped p man a b) (cell_of_man man) a b up down shifted_by in
-      let there = t.number.number in (
-        omega (arith, before, sum, there, t.whole_is),
-        record {
-          member = after_member;
-          number = omega (arith, before, after, sum, there, t.whole_is);
-        },
-      )
 
 -- the position after a quiet move
 quiet_kind : (p : Board) (c : Colour) (k : Kind) (a b : ℕ) → is_pawn k ≡ false →

@@ -7,6 +7,7 @@ use Rattle.frz_sets.specs.declared.limits.TheConstants.{MOST_GROUPS, MOST_NUMBER
 use Rattle.frz_index.specs.declared.plan.Plan.{Plan}
 use Rattle.frz_index.specs.declared.plan.TheConstants.{CELLS}
 use Rattle.frz_index.specs.Charts.{AreCharts}
+use Rattle.frz_index.specs.Shares.{AreShares}
 use Rattle.frz_sets.specs.Sets.{has_state, radix_of, size_of, targets}
 
 -- what numbers need of the groups
@@ -35,7 +36,7 @@ pub record AreKnown (gs : List GroupLine) (known_cells : List Bool) : Type 0 whe
       (i % 64)
 
 -- what is kept is right: the weights, the numbers of all groups, the targets, the known cells, the
--- charts, and the rows of binomials up to 384
+-- charts, what each man adds on each square, and the rows of binomials up to 384
 pub record IsPlan (plan : Plan) : Type 0 where
   pub numberable : AreNumberable plan.groups.items
   pub weights_are : AreWeights plan.groups.items plan.weights.items
@@ -43,4 +44,5 @@ pub record IsPlan (plan : Plan) : Type 0 where
   pub targets_are : plan.targets.items ≡ targets plan.groups.items
   pub known_are : AreKnown plan.groups.items plan.known_cells.items
   pub charts_are : AreCharts plan.groups.items plan.charts.items
+  pub shares_are : AreShares plan.groups.items plan.shares.items
   pub rows_are : plan.triangle ≡ MOST_STATES + 1

@@ -10,3 +10,4 @@ pub mod Room
 pub mod OldNumbers
 pub mod OldDigits
 pub mod Stepping
+pub mod Shares

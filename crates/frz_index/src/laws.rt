@@ -1,14 +1,18 @@
 //! What holds of the numbers of a set, whatever the code.
-ghost use Rattle.std.specs.Prelude.{◌≡◌, ◌<◌, ◌↔◌, ℕ, List, Some, map, true};
+ghost use Rattle.std.specs.Prelude.{◌≡◌, ◌<◌, ◌↔◌, ℕ, List, None, Some, map, true};
 ghost use Rattle.frz_board.specs.Boards.{Board};
+ghost use Rattle.frz_board.specs.declared.man.Man.{Man};
 ghost use Rattle.frz_combinations.specs.MixedRadix.{value_onto};
-ghost use Rattle.frz_sets.specs.Views.{GroupLine};
+ghost use Rattle.frz_fide.specs.Valid.{IsValid};
+ghost use Rattle.frz_sets.specs.Views.{GroupLine, RuleLines};
 ghost use Rattle.frz_sets.specs.Sets.{radix_of, size_of};
+ghost use Rattle.frz_sets.specs.Sound.{IsSound};
 ghost use Rattle.frz_index.specs.Places.{digit_of};
 ghost use Rattle.frz_index.specs.TurnStates.{turn_number};
 ghost use Rattle.frz_index.specs.Members.{HasNumber, Member, Num};
 ghost use Rattle.frz_index.specs.Membership.{is_member, number_of, position_at};
 ghost use Rattle.frz_index.specs.Candidates.{candidate};
+ghost use Rattle.frz_index.specs.Stepping.{IsShare, IsStep, number_after, stepped};
 ghost use Rattle.frz_index.specs.OldNumbers.{OldNum, old_size_of};
 
 /// The number of a position of a set is below the size, and no other position has it. It starts
@@ -40,4 +44,14 @@ pub fn old_numbers()
     ensures below { (gs : List GroupLine) (p : Board) → Member gs p → OldNum gs p < old_size_of gs }
     ensures once { (gs : List GroupLine) (p q : Board) → Member gs p → Member gs q →
         OldNum gs p ≡ OldNum gs q → p ≡ q }
+{}
+
+/// The number after a quiet move is the number of the position after it, where on both squares the
+/// same group counts the man, and no other one.
+pub fn numbers_after_steps()
+    ensures { (r : RuleLines) (p : Board) (man : Man) (a b i k left comes : ℕ) → IsSound r →
+        HasNumber r.groups i p → IsStep p man a b → p.ep ≡ None →
+        IsValid (stepped p man a b) →
+        IsShare r.groups man a k left → IsShare r.groups man b k comes →
+        HasNumber r.groups (number_after r.groups p.turn i left comes) (stepped p man a b) }
 {}

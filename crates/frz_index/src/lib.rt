@@ -13,6 +13,7 @@ mod plan;
 mod quotient;
 mod room;
 mod set;
+mod shares;
 mod turn;
 
 pub use old::{MOST_OLD_NUMBERS, old_number, old_size};

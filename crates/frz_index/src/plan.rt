@@ -7,6 +7,7 @@ ghost use Rattle.frz_sets.specs.Sets.{targets};
 ghost use Rattle.frz_index.specs.Kept.{AreKnown, AreNumberable, AreWeights, IsPlan, is_known, product_from as product_of};
 
 use crate::chart::{Chart, chart_of};
+use crate::shares::{Share, shares_of};
 use frz_board::Square;
 use frz_combinations::Triangle;
 use frz_sets::{Group, MOST_STATES, Rules, has_state, is_target, radix};
@@ -25,6 +26,8 @@ pub(crate) struct Plan {
     /// Of each cell on each square, whether a position of the set may have it.
     pub known_cells: Vec<bool>,
     pub charts: Vec<Chart>,
+    /// Of each cell on each square, what its man adds to a number there, where that is known.
+    pub shares: Vec<Option<Share>>,
     pub triangle: Triangle,
 }
 
@@ -130,6 +133,7 @@ pub(crate) fn plan_of(alloc: Global, r: &Rules) -> Result<Plan, AllocError>
     let targets = targets_of(alloc, &groups)?;
     let known_cells = known_cells_of(alloc, &groups)?;
     let charts = charts_of(alloc, &groups)?;
+    let shares = shares_of(alloc, &groups, &charts, &weights)?;
     Ok(Plan {
         groups,
         weights,
@@ -137,6 +141,7 @@ pub(crate) fn plan_of(alloc: Global, r: &Rules) -> Result<Plan, AllocError>
         targets,
         known_cells,
         charts,
+        shares,
         triangle,
     })
 }

@@ -5,6 +5,7 @@ use Rattle.frz_index.specs.Kept.{AreKnown, AreNumberable, AreWeights, product_fr
 use Rattle.std.specs.List.{AllByRecursion}
 use Rattle.frz_sets.specs.Sound.{AreStates}
 use Rattle.frz_index.specs.Charts.{AreCharts}
+use Rattle.frz_index.specs.Shares.{AreShares}
 use Rattle.frz_index.proofs.Soundness.{in_order, numberable}
 use Rattle.frz_index.proofs.plan.plan_of.Goals as goal
 
@@ -37,6 +38,8 @@ returns c =
             c.in_ok-known_cells.ensures;
         charts_are = subst (λ (gs : List GroupLine). AreCharts gs c.in_ok-charts.charts.items)
             c.deref-6.ensures.value c.in_ok-charts.ensures;
+        shares_are = subst (λ (gs : List GroupLine). AreShares gs c.in_ok-shares.shares.items)
+            c.deref-7.ensures.value c.in_ok-shares.ensures;
         rows_are = c.in_ok-triangle.ensures;
       },
       same,
@@ -48,3 +51,9 @@ charts_of-requires c =
     c.r.view_is in
     subst (AllByRecursion (λ (g : GroupLine). AreStates g.states))
     (sym (c.deref-6.ensures.value ∙ same)) (in_order c.args.r.now c.requires)
+
+pub shares_of-requires-clause-numberable : goal.shares_of-requires-clause-numberable
+shares_of-requires-clause-numberable c =
+    let same = c.in_ok-groups.ensures ∙ c.deref.ensures.value ∙ ap (λ (r : RuleLines). r.groups)
+    c.r.view_is in
+    subst AreNumberable (sym (c.deref-7.ensures.value ∙ same)) (numberable c.args.r.now c.requires)

@@ -1,6 +1,6 @@
 use Rattle.std.proofs.Common.{◌∙◌, sym, arith}
 use Rattle.frz_index.proofs.Stepping.{placed}
-use Rattle.frz_index.proofs.across.place_in.Goals as goal
+use Rattle.frz_index.proofs.shares.place_in.Goals as goal
 
 pub returns-then-has_state : goal.returns-then-has_state
 returns-then-has_state c =
