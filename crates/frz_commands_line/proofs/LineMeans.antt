@@ -1,6 +1,6 @@
 -- What the answers of `line` mean.
-use Rattle.std.proofs.Common.{◌≡◌, inl, inr, ℕ, ◌+◌, ◌*◌, ◌≤◌, List, length, Result, Some, Ok, Err, refl, sym, ap, subst, ◌∙◌}
-use Rattle.std.specs.Prelude.{slice_index}
+use Rattle.std.proofs.Common.{◌≡◌, inl, inr, ℕ, ◌+◌, ◌*◌, ◌≤◌, List, [], length, Result, Some, Ok, Err, refl, sym, ap, subst, ◌∙◌}
+use Rattle.std.specs.Prelude.{slice_index, MatchOption}
 use Rattle.frz_board.specs.declared.man.Colour.{Colour}
 use Rattle.frz_board.specs.Boards.{Board}
 use Rattle.frz_sets.specs.declared.exit.Value.{Value}
@@ -8,10 +8,12 @@ use Rattle.frz_sets.specs.Views.{RuleLines}
 use Rattle.frz_exits.specs.Books.{value_by}
 use Rattle.frz_exits.specs.Values.{lag_of}
 use Rattle.frz_index.specs.Members.{Member, Num}
+use Rattle.frz_index.proofs.Lemmas.{position_of}
 use Rattle.frz_arena.specs.Counted.{counted}
 use Rattle.frz_arena.specs.WayEnds.{Wrong, NoBound, Mated, Stalemated, Exit, Cut, Stopped, EndsWon, EndsDrawn}
 use Rattle.frz_game.specs.Bounds.{IsTableOf}
 use Rattle.frz_game.specs.Games.{graph_by}
+use Rattle.frz_game.specs.Numbers.{position_at}
 use Rattle.frz_game.proofs.Lemmas.{bound_means, stored_bound}
 use Rattle.frz_store.specs.Files.{Files, bytes_at}
 use Rattle.frz_table.specs.declared.fault.TableFault.{TableFault}
@@ -28,6 +30,7 @@ use Rattle.frz_prelude.specs.TableFiles.{OpensAs}
 use Rattle.frz_line.specs.declared.end.LineEnd.{LineEnd}
 use Rattle.frz_line.specs.declared.end.LineEnd.TheVariants as ends
 use Rattle.frz_line.specs.declared.end.TheConstants.{MOST_PLIES}
+use Rattle.frz_line.specs.ChessGames.{IsGame}
 use Rattle.frz_line.specs.Ends.{told}
 use Rattle.frz_line.specs.Lines.{LinePly, EndOfLine, IsLine}
 use Rattle.frz_commands_line.specs.LineEnds.{end_status}
@@ -38,6 +41,15 @@ use Rattle.frz_commands_line.proofs.Meaning.{ByOpening, means_by}
 
 -- what the laws say of all lines
 pub record LineLaws : Type 0 where
+  pub game : (rules : RuleLines) (value : Board → Value) (side : Colour) (codes : ℕ → List ℕ)
+      (start : ℕ) (plies : List LinePly) (end : EndOfLine)
+      → IsLine rules value side codes start plies end
+      → MatchOption (position_at rules.groups start) (plies ≡ [])
+      (λ p. IsGame rules side p plies)
+  pub short : (rules : RuleLines) (value : Board → Value) (side : Colour) (codes : ℕ → List ℕ)
+      (start n : ℕ) (plies : List LinePly) (end : EndOfLine)
+      → slice_index (codes 0) start ≡ 2 + 2 * n → IsLine rules value side codes start plies end
+      → length plies ≤ n
   pub won : (rules : RuleLines) (value : Board → Value) (side : Colour) (codes : ℕ → List ℕ)
       (start n : ℕ) (plies : List LinePly) (end : EndOfLine)
       → slice_index (codes 0) start ≡ 2 + 2 * n → IsLine rules value side codes start plies end
@@ -66,6 +78,14 @@ pub record LineLaws : Type 0 where
       → ((k : ℕ) → IsTableOf rules value side (codes k))
       → (p : Board) → Member rules.groups p → (plies : List LinePly) (at : ℕ × ℕ) (kept given : ℕ)
       → IsLine rules value side codes (Num rules.groups p) plies (Wrong at kept given) → ⊥
+
+-- from the number of a position of the set it is a game from this position
+pub game_inside : (rules : RuleLines) (side : Colour) (p : Board) (plies : List LinePly)
+    → Member rules.groups p → MatchOption (position_at rules.groups (Num rules.groups p))
+    (plies ≡ []) (λ q. IsGame rules side q plies) → IsGame rules side p plies
+game_inside rules side p plies inside h =
+    subst (λ o. MatchOption o (plies ≡ []) (λ q. IsGame rules side q plies))
+    (position_of rules.groups (Num rules.groups p) p (record { member = inside; number = refl })) h
 
 -- the codes of the one file of a text are the table of the side, whenever they are read
 module _ (contents : Contents) (bytes : List ℕ)
@@ -107,6 +127,7 @@ module _ (laws : LineLaws) (later : ℕ → Files) (name : List ℕ) (side : Col
       let line : EndOfLine → Type 0 = λ x. IsLine rules (value_by rules) side codes start has.plies
       x in
       record {
+        few = laws.short rules (value_by rules) side codes start n has.plies has.end e has.line;
         ends = laws.won rules (value_by rules) side codes start n has.plies has.end e has.line;
         mate = λ mover is. laws.mate rules (value_by rules) side mover codes start n has.plies e
             (subst line is has.line);
@@ -156,6 +177,8 @@ module _ (laws : LineLaws) (later : ℕ → Files) (name : List ℕ) (side : Col
     kept = kept;
     given = given;
     ends = is;
+    win = λ n e. keeps_win has n e;
+    hold = λ e. keeps_hold has e;
     not_exact = λ one.
         let rules = has.contents.rules in
         let codes = codes_later has.contents held side in
@@ -197,6 +220,10 @@ module _ (laws : LineLaws) (later : ℕ → Files) (name : List ℕ) (side : Col
         plies = lined.plies;
         end = lined.end;
         line = lined.line;
+        game = game_inside contents.rules side p lined.plies inside
+            (laws.game contents.rules (value_by contents.rules) side
+            (codes_later contents held side) (Num contents.rules.groups p) lined.plies lined.end
+            lined.line);
       } in
       means_so a (end_status (told side lined.end))
       (told_text side (start_code has) lined.plies (told side lined.end)) lined.told

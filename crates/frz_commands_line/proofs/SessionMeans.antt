@@ -1,6 +1,6 @@
 -- What the answers of `play` mean.
-use Rattle.std.proofs.Common.{◌≡◌, inl, inr, ℕ, ◌+◌, ◌-◌, ◌*◌, ◌≤◌, List, length, Result, Some, Ok, Err, refl, sym, ap, subst, ◌∙◌, arith}
-use Rattle.std.specs.Prelude.{slice_index, slice_get}
+use Rattle.std.proofs.Common.{◌≡◌, inl, inr, ℕ, ◌+◌, ◌-◌, ◌*◌, ◌≤◌, List, [], length, Result, Some, Ok, Err, refl, sym, ap, subst, ◌∙◌, arith}
+use Rattle.std.specs.Prelude.{slice_index, slice_get, MatchOption}
 use Rattle.std.specs.List.{Contains}
 use Rattle.frz_board.specs.declared.man.Colour.{Colour}
 use Rattle.frz_board.specs.Boards.{Board}
@@ -29,6 +29,7 @@ use Rattle.frz_commands_line.specs.LineOf.{codes_later}
 use Rattle.frz_answer.specs.declared.status.Status.{Status}
 use Rattle.frz_answer.specs.Answers.{Answer, says}
 use Rattle.frz_prelude.specs.TableFiles.{OpensAs}
+use Rattle.frz_line.specs.ChessGames.{IsGame}
 use Rattle.frz_line.specs.declared.end.LineFault.TheVariants as faults
 use Rattle.frz_play.specs.declared.end.PlayFault.{PlayFault}
 use Rattle.frz_play.specs.declared.end.PlayFault.TheVariants as plays
@@ -42,11 +43,16 @@ use Rattle.frz_play.specs.Sessions.{SessionPly, EndOfSession, IsSession}
 use Rattle.frz_commands_line.specs.SessionEnds.{session_status}
 use Rattle.frz_commands_line.specs.SessionOf.{played_text, IsPlayed, IsPlayedBy, IsPlayedAt}
 use Rattle.frz_commands_line.specs.SessionMeaning.{PlaysWin, PlaysHold, IsSafe, HasSession, start_code, IsExactFile, MeansStatus, MeansPlay}
-use Rattle.frz_commands_line.proofs.LineMeans.{table_kept, bound_kept}
+use Rattle.frz_commands_line.proofs.LineMeans.{table_kept, bound_kept, game_inside}
 use Rattle.frz_commands_line.proofs.Meaning.{ByOpening, means_by}
 
 -- what the laws say of all sessions
 pub record SessionLaws : Type 0 where
+  pub game : (rules : RuleLines) (value : Board → Value) (side : Colour) (codes : ℕ → List ℕ)
+      (start : ℕ) (input : List ℕ) (plies : List SessionPly) (end : EndOfSession) (left : Input)
+      → IsSession rules value side codes start input plies end left
+      → MatchOption (position_at rules.groups start) (plies ≡ [])
+      (λ p. IsGame rules side p plies)
   pub few : (rules : RuleLines) (value : Board → Value) (side : Colour) (codes : ℕ → List ℕ)
       (start n : ℕ) (input : List ℕ) (plies : List SessionPly) (end : EndOfSession) (left : Input)
       → slice_index (codes 0) start ≡ 2 + 2 * n
@@ -161,6 +167,9 @@ module _ (laws : SessionLaws) (later : ℕ → Files) (name : List ℕ) (side : 
       as_told has answer (Err (plays.Limit limit)) given (record {
         has = has;
         limit = limit;
+        win = λ n e. plays_win has n e;
+        hold = λ e. plays_hold has e;
+        safe = λ one true_exits. is_safe has one true_exits;
         ends = record {
           tells = tells_end has (Stopped halt) (Err (plays.Limit limit)) is
               (sym (ap why_told e));
@@ -181,6 +190,8 @@ module _ (laws : SessionLaws) (later : ℕ → Files) (name : List ℕ) (side : 
           told = refl;
         };
         wrong = (at, kept, given, is);
+        win = λ n e. plays_win has n e;
+        hold = λ e. plays_hold has e;
         not_exact = λ one.
             let rules = has.contents.rules in
             let codes = codes_later has.contents held side in
@@ -231,6 +242,10 @@ module _ (laws : SessionLaws) (later : ℕ → Files) (name : List ℕ) (side : 
         end = played.end;
         left = played.left;
         session = played.session;
+        game = game_inside contents.rules side p played.plies inside
+            (laws.game contents.rules (value_by contents.rules) side
+            (codes_later contents held side) (Num contents.rules.groups p) input played.plies
+            played.end played.left played.session);
       } in
       means_so a (session_status played.answer)
       (played_text side (start_code has) played.plies played.end played.answer)

@@ -27,15 +27,17 @@ use Rattle.frz_answer.specs.Answers.{Answer}
 use Rattle.frz_prelude.specs.TableFiles.{OpensAs, TellsTableFault}
 use Rattle.frz_line.specs.declared.end.LineEnd.{LineEnd}
 use Rattle.frz_line.specs.declared.end.TheConstants.{MOST_PLIES}
+use Rattle.frz_line.specs.ChessGames.{IsGame}
 use Rattle.frz_line.specs.Ends as line_ends
 use Rattle.frz_line.specs.Lines.{LinePly, EndOfLine}
 use Rattle.frz_commands_line.specs.Later.{held_later}
 use Rattle.frz_commands_line.specs.LineOf.{code_at, IsLineBy, told_text}
 
--- from a win within n plies: the opponent is mated after n plies, or an exit wins for the side,
--- after n plies with its lag counted
+-- from a win within n plies: at most n plies are played; the opponent is mated after n plies, or an
+-- exit wins for the side, after n plies with its lag counted
 pub record KeepsWin (rules : RuleLines) (side : Colour) (n : ℕ) (plies : List LinePly)
     (end : EndOfLine) : Type 0 where
+  pub few : length plies ≤ n
   pub ends : EndsWon (counted (graph_by rules (value_by rules))) side end
   pub mate : (mover : Colour) → end ≡ ways.Mated mover → length plies ≡ n
   pub exit : (v : Value) → end ≡ ways.Exit v → length plies + lag_of v ≡ n
@@ -56,7 +58,8 @@ pub record KeepsBound (rules : RuleLines) (side : Colour) (p : Board) (code : �
   pub means : Means rules (value_by rules) side p bound
 
 -- the file opens, the position is in its set, and this is the
--- line of the side by the codes in the file, as they are read after so many plies
+-- line of the side by the codes in the file, as they are read after so many plies; it is a game of
+-- chess from the position
 pub record HasLine (later : ℕ → Files) (table : List ℕ) (side : Colour) (p : Board) (files : Files) : Type 0 where
   pub bytes : List ℕ
   pub contents : Contents
@@ -65,6 +68,7 @@ pub record HasLine (later : ℕ → Files) (table : List ℕ) (side : Colour) (p
   pub plies : List LinePly
   pub end : EndOfLine
   pub line : IsLineBy contents (held_later later table) side p plies end
+  pub game : IsGame contents.rules side p plies
 
 -- the code of its start
 abbrev pub start_code : {later : ℕ → Files} {table : List ℕ} {side : Colour} {p : Board} {files : Files}
@@ -100,7 +104,8 @@ pub record TellsLine (later : ℕ → Files) (table : List ℕ) (side : Colour) 
   pub hold : start_code has ≡ code_of Holds → KeepsHold has.contents.rules side has.plies has.end
   pub where_exact : IsExactFile has → KeepsBound has.contents.rules side p (start_code has)
 
--- a code on its way is not the local one, which does not happen in the one file of a text
+-- a code on its way is not the local one, which does not happen in the one file of a text; up to
+-- there a win and a hold are kept
 pub record TellsWrong (later : ℕ → Files) (table : List ℕ) (side : Colour) (p : Board) (files : Files)
     (text : List ℕ) : Type 0 where
   pub has : HasLine later table side p files
@@ -109,6 +114,9 @@ pub record TellsWrong (later : ℕ → Files) (table : List ℕ) (side : Colour)
   pub kept : ℕ
   pub given : ℕ
   pub ends : has.end ≡ ways.Wrong at kept given
+  pub win : (n : ℕ) → start_code has ≡ code_of (Wins n)
+      → KeepsWin has.contents.rules side n has.plies has.end
+  pub hold : start_code has ≡ code_of Holds → KeepsHold has.contents.rules side has.plies has.end
   pub not_exact : IsExactFile has → ⊥
 
 -- the start fails

@@ -30,6 +30,7 @@ use Rattle.frz_answer.specs.declared.status.Status.{Status}
 use Rattle.frz_answer.specs.declared.status.Status.TheVariants.{Success, Wrong, Table, Outside, Missing, Limit}
 use Rattle.frz_answer.specs.Answers.{Answer}
 use Rattle.frz_prelude.specs.TableFiles.{OpensAs, TellsTableFault}
+use Rattle.frz_line.specs.ChessGames.{IsGame}
 use Rattle.frz_play.specs.declared.end.PlayFault.{PlayFault}
 use Rattle.frz_play.specs.declared.end.PlayFault.TheVariants as plays
 use Rattle.frz_play.specs.declared.end.PlayLimit.{PlayLimit}
@@ -64,7 +65,8 @@ IsSafe rules side plies =
     → NeverForcesMate chess (other_of side) (after p m)
 
 -- the file opens, the position is in its set, and this is the
--- session of the side by the codes in the file, as they are read after so many plies
+-- session of the side by the codes in the file, as they are read after so many plies; it is a game
+-- of chess from the position
 pub record HasSession (later : ℕ → Files) (table : List ℕ) (side : Colour) (p : Board) (files : Files)
     (input : List ℕ) : Type 0 where
   pub bytes : List ℕ
@@ -75,6 +77,7 @@ pub record HasSession (later : ℕ → Files) (table : List ℕ) (side : Colour)
   pub end : EndOfSession
   pub left : Input
   pub session : IsSessionBy contents (held_later later table) side p input plies end left
+  pub game : IsGame contents.rules side p plies
 
 -- the code of its start
 abbrev pub start_code : {later : ℕ → Files} {table : List ℕ} {side : Colour} {p : Board} {files : Files}
@@ -115,13 +118,17 @@ pub record TellsSession
   pub safe : IsExactFile has → AreTrueExits has.contents.rules (value_by has.contents.rules) →
       IsSafe has.contents.rules side has.plies
 
--- a code on its way is not the local one, which does not happen in the one file of a text
+-- a code on its way is not the local one, which does not happen in the one file of a text; up to
+-- there a win and a hold are kept
 pub record TellsWrong (later : ℕ → Files) (table : List ℕ) (side : Colour) (p : Board) (files : Files)
     (input text : List ℕ) : Type 0 where
   pub has : HasSession later table side p files input
   pub fault : PlayFault
   pub ends : Ends has text (Err fault)
   pub wrong : (at : ℕ × ℕ) × (kept : ℕ) × (given : ℕ) × (has.end ≡ ways.Wrong at kept given)
+  pub win : (n : ℕ) → start_code has ≡ code_of (Wins n)
+      → PlaysWin has.contents.rules side n has.plies has.end
+  pub hold : start_code has ≡ code_of Holds → PlaysHold has.contents.rules side has.end
   pub not_exact : IsExactFile has → ⊥
 
 -- the start fails
@@ -133,12 +140,18 @@ pub record TellsNoBound
   pub ends : Ends has text (Err fault)
   pub no_bound : has.end ≡ ways.NoBound
 
--- the input has come to a limit
+-- the input has come to a limit; up to there a win and a hold are kept, and each position after a
+-- ply is safe, as in a session to its end
 pub record TellsLimit (later : ℕ → Files) (table : List ℕ) (side : Colour) (p : Board) (files : Files)
     (input text : List ℕ) : Type 0 where
   pub has : HasSession later table side p files input
   pub limit : PlayLimit
   pub ends : Ends has text (Err (plays.Limit limit))
+  pub win : (n : ℕ) → start_code has ≡ code_of (Wins n)
+      → PlaysWin has.contents.rules side n has.plies has.end
+  pub hold : start_code has ≡ code_of Holds → PlaysHold has.contents.rules side has.end
+  pub safe : IsExactFile has → AreTrueExits has.contents.rules (value_by has.contents.rules) →
+      IsSafe has.contents.rules side has.plies
 
 -- what an answer says, by its status
 abbrev pub MeansStatus : (later : ℕ → Files) → List ℕ → Colour → Board → Files → List ℕ → Status → List ℕ → Type 0

@@ -6,7 +6,9 @@ ghost use Rattle.frz_answer.specs.Lawful.{IsLawful};
 ghost use Rattle.frz_commands_line.specs.Lining.{line_words};
 ghost use Rattle.frz_commands_line.specs.Playing.{play_words};
 
-use frz_line::laws::{holds_are_drawn, least_plies, one_line, tables_are_never_wrong};
+use frz_line::laws::{
+    holds_are_drawn, least_plies, lines_are_games, one_line, tables_are_never_wrong,
+};
 use frz_play::laws as sessions;
 
 /// Whatever the words behind `line` are, and whatever the store holds later, there is one answer over any files and any input, and it
@@ -15,6 +17,7 @@ pub fn one_line_answer()
     ensures { (later : ℕ → Files) (words : List (List ℕ)) → IsLawful (line_words later words) }
 {
     one_line();
+    lines_are_games();
     least_plies();
     holds_are_drawn();
     tables_are_never_wrong();
@@ -25,6 +28,7 @@ pub fn one_play_answer()
     ensures { (later : ℕ → Files) (words : List (List ℕ)) → IsLawful (play_words later words) }
 {
     sessions::one_session();
+    sessions::sessions_are_games();
     sessions::wins_are_kept();
     sessions::holds_are_kept();
     sessions::tables_are_never_wrong();

@@ -1,6 +1,6 @@
 //! Laws of the rules of chess, each the contract of a function that does nothing.
 
-ghost use Rattle.std.specs.Prelude.{ℕ, ◌≡◌, ◌≢◌, ◌≤◌, ◌<◌, ◌+◌, true, false, None, [], Contains, ◌↔◌};
+ghost use Rattle.std.specs.Prelude.{ℕ, ◌≡◌, ◌≢◌, ◌≤◌, ◌<◌, ◌+◌, true, false, None, [], Contains, length, ◌↔◌};
 ghost use Rattle.std.specs.List.Sorted.{IsStrictlySortedBy};
 ghost use Rattle.frz_board.specs.declared.man.Colour.{Colour};
 ghost use Rattle.frz_board.specs.declared.man.Kind.{Kind};
@@ -59,6 +59,12 @@ pub fn all_listed()
 pub fn moves_in_words()
     ensures { (p : Board) (m : Step) (q : Board) → IsValid p
         → Legal p m q ↔ (IsStep m × (is_legal p m ≡ true) × (q ≡ after p m)) }
+{}
+
+/// A valid position has at most 1,024 legal moves: a side has at most 16 men, and each of them at
+/// most 64.
+pub fn few_moves()
+    ensures { (p : Board) → IsValid p → length (legal_moves_of p) ≤ 1024 }
 {}
 
 /// A bare king never gives check in a valid position, and a side with a bare king keeps it so.

@@ -26,11 +26,10 @@ use Rattle.frz_graph.specs.FreeCodes.{free_among}
 use Rattle.frz_line.specs.Sights.{choices_by}
 use Rattle.frz_line.proofs.Goings.{seen_by_codes}
 
-pub at_in : (arms : List (Arm Step ℕ Value)) (i : ℕ) (a : Arm Step ℕ Value)
-    → slice_get arms i ≡ Some a → Contains arms a
-at_in arms i a e =
-    subst (λ (z : Arm Step ℕ Value). Contains arms z) (get_or_from_slice_get arms i a a e)
-    (All-contains_itself arms i a (slice_get_within arms i a e))
+pub at_in : {X : Type 0} (xs : List X) (i : ℕ) (x : X) → slice_get xs i ≡ Some x → Contains xs x
+at_in {X} xs i x e =
+    subst (λ (z : X). Contains xs z) (get_or_from_slice_get xs i x x e)
+    (All-contains_itself xs i x (slice_get_within xs i x e))
 
 -- that the code asks for one move alone
 abbrev pub AsksForOne : Type 0

@@ -1,5 +1,5 @@
 -- Codes that were read for the moves of a number, as the codes of a side.
-use Rattle.std.proofs.Common.{◌≡◌, ◌≢◌, ◌<◌, ◌+◌, ◌^◌, ◌++◌, ℕ, zero, suc, inl, inr, List, [], ◌∷◌, length, map, replicate, take, Option, Some, None, IfSome, refl, sym, subst, ap, ◌∙◌, arith, lit<, slice_index, slice_set, get_or, get_or-set_same, get_or-set_other, length-set}
+use Rattle.std.proofs.Common.{◌≡◌, ◌<◌, ◌+◌, ◌^◌, ◌++◌, ℕ, zero, suc, inl, inr, List, [], ◌∷◌, length, map, replicate, take, Option, Some, None, IfSome, refl, sym, subst, ap, ◌∙◌, arith, lit<, slice_index, slice_set, get_or, get_or-set_same, get_or-set_other, length-set}
 use Rattle.std.specs.List.{All}
 use Rattle.std.proofs.lemmas.Bool.Decides.{eqb_tells}
 use Rattle.std.proofs.lemmas.List.{length-replicate, get_or-replicate, take_more}

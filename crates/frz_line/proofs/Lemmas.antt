@@ -2,9 +2,9 @@
 pub use Rattle.frz_line.proofs.Choices.{found_code}
 pub use Rattle.frz_line.proofs.Chosen.{AsksForOne, FillsLocal, arm_found, at_in, known, local_code_of}
 pub use Rattle.frz_line.proofs.Goings.{GoesTo, over_here, stage_due, stage_told}
+pub use Rattle.frz_line.proofs.GamesOfChess.{way_is_game}
 pub use Rattle.frz_line.proofs.Gathered.{any_read, small_codes, start_read}
 pub use Rattle.frz_line.proofs.Kept.{by_table, code_kept, may_before}
-pub use Rattle.frz_line.proofs.Options.{both, every}
 pub use Rattle.frz_line.proofs.Played.{and_now, before_is, now_is, now_may, quiet_here}
 pub use Rattle.frz_line.proofs.Seen.{move_there, next_code_is}
 pub use Rattle.frz_line.proofs.Spending.{

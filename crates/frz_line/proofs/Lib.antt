@@ -1,9 +1,9 @@
 mod Choices
 mod Chosen
+mod GamesOfChess
 mod Gathered
 mod Goings
 mod Kept
-mod Options
 mod Played
 mod Seen
 mod Spending

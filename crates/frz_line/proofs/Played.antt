@@ -70,7 +70,8 @@ more_is k = grind (arith, nat_tests)
 
 pub at_start : (known : Option (List ℕ)) (size : ℕ) (arena : Arena Step ℕ Value) (side : Colour)
     (start code : ℕ) (out : SinkTold) (now : Spent)
-    → SoFar known size arena side start code (record { number = start; code = code; played = 0 }) out out
+    → SoFar known size arena side start code (record { number = start; code = code; played = 0 })
+    out out
     now now
 at_start known size arena side start code out now =
     let spot : Spot = record { number = start; code = code; played = 0 } in
@@ -110,7 +111,8 @@ after_ply arena side kept start code spot next numbers text more e comes goes =
       way = subst (λ k. GoesOn arena side kept k next.number others end) played g.2.1.4;
       is = ap (λ (z : List ℕ). (text ++ more) ++ z) rest
           ∙ (append_assoc text more g.0 ∙ (ap (λ (z : List ℕ). text ++ z) g.1 ∙ l.is));
-      came = subst (λ k. (numbers ++ spot.number ∷ []) ++ way_numbers (Inside (k, next.number)) others
+      came = subst
+          (λ k. (numbers ++ spot.number ∷ []) ++ way_numbers (Inside (k, next.number)) others
           ≡ way_numbers (Inside (0, start)) plies) played
           (came_on numbers spot.played spot.number (suc spot.played, next.number) l.others others
           g.2.1.0 (way_numbers (Inside (0, start)) plies) l.came g.2.1.2 g.2.1.3);

@@ -87,7 +87,8 @@ pub came_on : (xs : List ℕ) (played number : ℕ) (next : ℕ × ℕ)
     → plies ≡ first ∷ others → first.arm.next ≡ Inside next
     → (xs ++ number ∷ []) ++ way_numbers (Inside next) others ≡ whole
 came_on xs played number next plies others first whole came are to =
-    let on : way_numbers (Inside (played, number)) plies ≡ number ∷ way_numbers (Inside next) others =
+    let on : way_numbers (Inside (played, number)) plies ≡ number ∷ way_numbers (Inside next) others
+    =
     ap (way_numbers (Inside (played, number))) are
     ∙ ap (λ (z : Next (ℕ × ℕ) Value). number ∷ way_numbers z others) to in
     append_assoc xs (number ∷ []) (way_numbers (Inside next) others)

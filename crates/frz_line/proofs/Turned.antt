@@ -195,7 +195,8 @@ joined_exit first move exit = simp (append_assoc, append-nil)
 ply_leaves : (arena : Arena Step ℕ Value) (side : Colour) (kept : ℕ → List ℕ) (spot : Spot)
     (a : Arm Step ℕ Value) (next : Next ℕ Value) (code : ℕ) (first : LinePly)
     (others : List LinePly) (end : EndOfLine) (result : Result Turn LineFault) (old new : SinkTold)
-    → ((n : ℕ) → next ≡ Inside n → slice_index (kept (suc spot.played)) n ≡ code) → first.arm.mv ≡ a.mv
+    → ((n : ℕ) → next ≡ Inside n → slice_index (kept (suc spot.played)) n ≡ code)
+    → first.arm.mv ≡ a.mv
     → first.arm.next ≡ named_next (after (suc spot.played)) next
     → LeadsTo (λ p. IsWay (line_player arena side kept) (suc spot.played) tt p others end tt)
     (λ v. (others ≡ []) × (end ≡ Exit v) × (tt {0} ≡ tt))
@@ -240,7 +241,8 @@ ply_leaves arena side kept spot a (Outside v) code first others end result old n
 
 -- by what is due, the stage of the line's player
 line_stage : FillsLocal → (arena : Arena Step ℕ Value) (size : ℕ) → IsFinite arena size
-    → (side : Colour) (spot : Spot) (arms : List (Arm Step ℕ Value)) (cs : List ℕ) (kept : ℕ → List ℕ)
+    → (side : Colour) (spot : Spot) (arms : List (Arm Step ℕ Value)) (cs : List ℕ)
+    (kept : ℕ → List ℕ)
     → arms ≡ arena.arms spot.number → cs ≡ map (arm_code side (kept (suc spot.played))) arms
     → slice_index (kept spot.played) spot.number ≡ spot.code → (due : Due)
     → due ≡ due_by (spot.played == 0) (nat_le MOST_PLIES spot.played) spot.code
@@ -263,7 +265,8 @@ inside_code arena side kept next code is n e =
     ap (λ (z : Next ℕ Value). words.next_code arena side (λ i. slice_index kept i) z) (sym e) ∙ is
 
 ply_goes : AsksForOne → (arena : Arena Step ℕ Value) (size : ℕ) → IsFinite arena size
-    → (side mover : Colour) (spot : Spot) (arms : List (Arm Step ℕ Value)) (cs : List ℕ) (kept : ℕ → List ℕ)
+    → (side mover : Colour) (spot : Spot) (arms : List (Arm Step ℕ Value)) (cs : List ℕ)
+    (kept : ℕ → List ℕ)
     → arms ≡ arena.arms spot.number → cs ≡ map (arm_code side (kept (suc spot.played))) arms
     → (slice_index (kept spot.played) spot.number ≡ spot.code
     → stage (line_player arena side kept) spot.played (spot.played, spot.number) ≡ Moves mover)
@@ -276,7 +279,8 @@ ply_goes one arena size finite side mover spot arms cs kept are same due place x
     result old new answers = λ agrees plies end w.
     let g = moves_on (line_player arena side kept) MOST_PLIES spot.played refl tt tt
     (spot.played, spot.number) plies end mover w (due agrees) in
-    let f = arm_found arena size finite side mover kept spot.played spot.number spot.code arms cs are
+    let f = arm_found arena size finite side mover kept spot.played spot.number spot.code arms cs
+    are
     same agrees place x a found there in
     let turn : Arm Step ℕ Value → Arm Step (ℕ × ℕ) Value = named (after (suc spot.played)) in
     let arm : g.first.arm ≡ turn a =
@@ -355,7 +359,8 @@ module _ (one : AsksForOne) (fills : FillsLocal)
       let w : WrongEntry =
       record { side = side; number = spot.number; kept = spot.code; given = given } in
       let f : EndOfLine = Wrong (spot.played, spot.number) spot.code given in
-      stop_wrote (IsReadBy side spot arms cs) arena side spot result old new (faults.Wrong w) h.1 h.0
+      stop_wrote (IsReadBy side spot arms cs) arena side spot result old new (faults.Wrong w) h.1
+      h.0
       (λ kept same.
       over_goes arena side kept spot [] result f
       (λ agrees. line_stage fills arena size finite side spot arms cs kept are same agrees

@@ -26,7 +26,9 @@ TellsLine rules side codes p text result before now =
     (plies : List LinePly) (end : EndOfLine) →
     IsLine rules (value_by rules) side codes (Num rules.groups p) plies end →
     (rest : List ℕ)
-    × (text ++ rest ≡ line_text side (slice_index (codes 0) (Num rules.groups p)) plies (told side end))
+    × (text ++ rest ≡ line_text side (slice_index (codes 0) (Num rules.groups p)) plies
+    (told side end))
     × Finishes result (told side end) rest
-    × SpendsAt (graph_by rules (value_by rules)) 1 (way_numbers (Inside (0, Num rules.groups p)) plies)
+    × SpendsAt (graph_by rules (value_by rules)) 1
+    (way_numbers (Inside (0, Num rules.groups p)) plies)
     before now

@@ -5,6 +5,7 @@ pub mod Costs
 pub mod Dues
 pub mod Sights
 pub mod Lines
+pub mod ChessGames
 pub mod Texts
 pub mod Ends
 pub mod Turns

@@ -227,7 +227,8 @@ front_of_text a b word move rest last = simp append_assoc
 
 module _ (arena : Arena Step ℕ Value) (side mover : Colour) (kept : ℕ → List ℕ) (played : ℕ)
     (spot : Spot)
-    (own : same_colour mover side ≡ false) (stands : Stands arena side kept played spot (Moves mover))
+    (own : same_colour mover side ≡ false)
+    (stands : Stands arena side kept played spot (Moves mover))
     (fault : PlayFault) (fails : MayFail fault) where
   -- what the text still lacks where a fault stops the lines of a reply
   abbrev Lacks : (n : ℕ) (here : Input) (plies : List SessionPly) (end : EndOfSession)
@@ -302,7 +303,8 @@ module _ (arena : Arena Step ℕ Value) (side mover : Colour) (kept : ℕ → Li
   pub fault_tail : (old new : Reader) (arms : List (Arm Step ℕ Value))
       → arms ≡ arena.arms spot.number → (source left : SourceTold) (out taken : SinkTold)
       → (hears : Hears arms old new (Err fault) source left out taken)
-      → TailBy arena side kept played spot old new hears.bytes (refused_text hears.refused) (Err fault)
+      → TailBy arena side kept played spot old new hears.bytes (refused_text hears.refused)
+      (Err fault)
   fault_tail old new arms are source left out taken hears =
       λ agrees start rest_in may plies end last w.
       let h = hears.heard rest_in may in

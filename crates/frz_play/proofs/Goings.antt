@@ -1,6 +1,6 @@
 -- How a session goes on from a number, by what is due there and by what its input gives.
 use Rattle.std.proofs.Common.{◌≡◌, ℕ, suc, inl, inr, Bool, true, false, List, [], ◌∷◌, Some, refl, sym, subst, ap, ◌∙◌}
-use Rattle.std.specs.Prelude.{slice_get, slice_index}
+use Rattle.std.specs.Prelude.{slice_get}
 use Rattle.frz_board.specs.declared.man.Colour.{Colour}
 use Rattle.frz_board.specs.Men.{same_colour}
 use Rattle.frz_board.specs.Moving.{Step}
@@ -22,7 +22,8 @@ use Rattle.frz_play.proofs.Reading.{reads_front}
 use Rattle.frz_play.proofs.Taking.{ends_itself, ends_on}
 
 -- the first ply of a session, and what follows it
-pub record GoesTo (arena : Arena Step ℕ Value) (side : Colour) (kept : ℕ → List ℕ) (k : ℕ) (u t : Input)
+pub record GoesTo (arena : Arena Step ℕ Value) (side : Colour) (kept : ℕ → List ℕ) (k : ℕ)
+    (u t : Input)
     (ys : List SessionPly) (e : EndOfSession) (mover : Colour) : Type 0 where
   pub first : SessionPly
   pub others : List SessionPly
@@ -42,7 +43,8 @@ pub record Replied (arena : Arena Step ℕ Value) (side : Colour) (kept : ℕ �
 module _ (arena : Arena Step ℕ Value) (side : Colour) (kept : ℕ → List ℕ) where
   -- a session that is over here
   pub over_here : (k : ℕ) (s t : Input) (q : ℕ) (ys : List SessionPly) (e f : EndOfSession)
-      → GoesOn arena side kept k s q ys e t → stage (session_player arena side kept) k (k, q) ≡ Over f
+      → GoesOn arena side kept k s q ys e t
+      → stage (session_player arena side kept) k (k, q) ≡ Over f
       → (ys ≡ []) × (e ≡ f) × (t ≡ s)
   over_here k s t q [] e f (inl w) over = (refl, (let h = w.0 in cc), w.1)
   over_here k s t q [] e f (inr w) over = absurd (let h = w.1 in cc)
@@ -62,7 +64,8 @@ module _ (arena : Arena Step ℕ Value) (side : Colour) (kept : ℕ → List ℕ
   taken_read true s u x o h = absurd (cc)
   taken_read false s u x o h = h
 
-  no_stop : (own : Bool) (opponent : Opponent (ℕ × ℕ) Input Halt) (s t : Input) (q : ℕ × ℕ) (e : EndOfSession)
+  no_stop : (own : Bool) (opponent : Opponent (ℕ × ℕ) Input Halt) (s t : Input) (q : ℕ × ℕ)
+      (e : EndOfSession)
       → own ≡ true → IsStopBy own opponent s q e t → ⊥
   no_stop true opponent s t q e o h = h
   no_stop false opponent s t q e o h = absurd (cc)
@@ -97,7 +100,9 @@ module _ (arena : Arena Step ℕ Value) (side : Colour) (kept : ℕ → List ℕ
           others = ys;
           are = refl;
           moves = same;
-          leads = subst (λ (u : Input). LeadsTo (λ p. IsWay (session_player arena side kept) (suc k) u p ys e t)
+          leads = subst
+              (λ (u : Input). LeadsTo
+              (λ p. IsWay (session_player arena side kept) (suc k) u p ys e t)
               (λ v. (ys ≡ []) × (e ≡ Exit v) × (t ≡ u)) x.arm.next) taken.1 w.2.2;
         },
         subst (λ p. IsChosen (counted arena) side (known kept) mover p x.place x.arm) w.0 chosen,
@@ -112,7 +117,8 @@ module _ (arena : Arena Step ℕ Value) (side : Colour) (kept : ℕ → List ℕ
   stops_here k s t u q [] e mover halt own (inl w) due gives = absurd (let h = w.0 in cc)
   stops_here k s t u q [] e mover halt own (inr w) due gives =
       let same : w.0 ≡ mover = (let h = w.1 in cc) in
-      let stop = stop_read (same_colour w.0 side) s t (k, q) e (ap (λ m. same_colour m side) same ∙ own)
+      let stop = stop_read (same_colour w.0 side) s t (k, q) e
+      (ap (λ m. same_colour m side) same ∙ own)
       w.2 in
       let gave = stop.2 in
       let why : stop.0 ≡ halt = cc in
@@ -136,7 +142,8 @@ module _ (arena : Arena Step ℕ Value) (side : Colour) (kept : ℕ → List ℕ
   replies_here k s t u q [] e mover refused place own (inl w) due gives = absurd (let h = w.0 in cc)
   replies_here k s t u q [] e mover refused place own (inr w) due gives =
       let same : w.0 ≡ mover = (let h = w.1 in cc) in
-      let stop = stop_read (same_colour w.0 side) s t (k, q) e (ap (λ m. same_colour m side) same ∙ own)
+      let stop = stop_read (same_colour w.0 side) s t (k, q) e
+      (ap (λ m. same_colour m side) same ∙ own)
       w.2 in
       let gave = stop.2 in
       absurd (cc)
@@ -155,7 +162,9 @@ module _ (arena : Arena Step ℕ Value) (side : Colour) (kept : ℕ → List ℕ
           others = ys;
           are = refl;
           moves = same;
-          leads = subst (λ (v : Input). LeadsTo (λ p. IsWay (session_player arena side kept) (suc k) v p ys e t)
+          leads = subst
+              (λ (v : Input). LeadsTo
+              (λ p. IsWay (session_player arena side kept) (suc k) v p ys e t)
               (λ v2. (ys ≡ []) × (e ≡ Exit v2) × (t ≡ v)) x.arm.next) after w.2.2;
         };
         refused_is = cc;
@@ -183,7 +192,8 @@ module _ (arena : Arena Step ℕ Value) (side : Colour) (kept : ℕ → List ℕ
 
   pub leads_front : (k : ℕ) (u t : Input) (ys : List SessionPly) (e : EndOfSession)
       → ((p : ℕ × ℕ) → IsWay (session_player arena side kept) (suc k) u p ys e t
-      → EndsWith t.left u.left) → (next : Next (ℕ × ℕ) Value) → LeadsTo (λ p. IsWay (session_player arena side kept) (suc k) u p ys e t)
+      → EndsWith t.left u.left) → (next : Next (ℕ × ℕ) Value)
+      → LeadsTo (λ p. IsWay (session_player arena side kept) (suc k) u p ys e t)
       (λ v. (ys ≡ []) × (e ≡ Exit v) × (t ≡ u)) next → EndsWith t.left u.left
   leads_front k u t ys e ih (Inside p) h = ih p h
   leads_front k u t ys e ih (Outside v) h =

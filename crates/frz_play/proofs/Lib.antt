@@ -12,3 +12,4 @@ mod Settled
 mod Alternating
 mod Starting
 mod Ending
+mod FewBytes

@@ -76,7 +76,8 @@ pub record SoFar (told : Option (List ℕ)) (size : ℕ) (arena : Arena Step ℕ
 
 pub at_start : (told : Option (List ℕ)) (size : ℕ) (arena : Arena Step ℕ Value) (side : Colour)
     (start code : ℕ) (source : SourceTold) (out : SinkTold) (now : Spent)
-    → SoFar told size arena side start code (record { number = start; code = code; is_start = true })
+    → SoFar told size arena side start code
+    (record { number = start; code = code; is_start = true })
     (record { more = MOST_LINES; ended = false }) source source out out now now
 at_start told size arena side start code source out now = record {
   text = [];
@@ -127,7 +128,8 @@ after_ply arena side kept start code spot old new played number read numbers byt
           (way_numbers (Inside (0, start)) plies) l.came g.2.1.2 g.2.1.3;
     }
 
-left_over : (arena : Arena Step ℕ Value) (side : Colour) (kept : ℕ → List ℕ) (played : ℕ) (left : Input)
+left_over : (arena : Arena Step ℕ Value) (side : Colour) (kept : ℕ → List ℕ) (played : ℕ)
+    (left : Input)
     (plies : List SessionPly) (end : EndOfSession) (last : Input) (rest : List ℕ)
     (answer : Result SessionEnd PlayFault) → Leaves arena side kept played left plies end last rest
     (turn_over answer) → (unread : List ℕ) × (unread ++ last.left ≡ left.left)
@@ -173,7 +175,8 @@ played_out arena side kept start code spot old new played numbers bytes more tex
     )
 
 -- what a session wrote and took
-abbrev pub SessionWrote : Option (List ℕ) → (size : ℕ) → Arena Step ℕ Value → Colour → (start code : ℕ)
+abbrev pub SessionWrote : Option (List ℕ) → (size : ℕ) → Arena Step ℕ Value → Colour
+    → (start code : ℕ)
     → Result SessionEnd PlayFault → (source left : SourceTold) → (out taken : SinkTold)
     → (before now : Spent) → Type 0
 SessionWrote told size arena side start code result source left out taken before now =
@@ -205,11 +208,13 @@ fault_wrote : (told : Option (List ℕ)) (size : ℕ) (arena : Arena Step ℕ Va
 fault_wrote told size arena side start code source left out taken before now fault (Ok end) h w =
     absurd h
 fault_wrote told size arena side start code source left out taken before now fault (Err e) h w =
-    subst (λ (f : PlayFault). SessionWrote told size arena side start code (Err f) source left out taken
+    subst (λ (f : PlayFault). SessionWrote told size arena side start code (Err f) source left out
+    taken
     before now) (sym h) w
 
 -- one turn more, which left the reader so
-module _ {told : Option (List ℕ)} {size : ℕ} {arena : Arena Step ℕ Value} {side : Colour} {start code : ℕ}
+module _ {told : Option (List ℕ)} {size : ℕ} {arena : Arena Step ℕ Value} {side : Colour}
+    {start code : ℕ}
     {spot : Spot} {old : Reader} (new : Reader) {source mid left : SourceTold}
     {out between : SinkTold} (taken : SinkTold) {before now after : Spent}
     (far : SoFar told size arena side start code spot old source mid out between before now)

@@ -35,7 +35,8 @@ use Rattle.frz_play.proofs.Taking.{took_none, some_rest}
 use Rattle.frz_play.proofs.Written.{store_fault}
 
 -- what was written and taken of the session
-abbrev pub WroteSession : Option (List ℕ) → (size : ℕ) → RuleLines → Colour → Board → Result SessionEnd PlayFault
+abbrev pub WroteSession : Option (List ℕ) → (size : ℕ) → RuleLines → Colour → Board
+    → Result SessionEnd PlayFault
     → (source left : SourceTold) → (out taken : SinkTold) → (before now : Spent) → Type 0
 WroteSession told size rules side p result source left out taken before now =
     (text bytes : List ℕ) × IsLines text × WroteBy result text out taken
@@ -46,9 +47,11 @@ WroteSession told size rules side p result source left out taken before now =
     × TellsSession rules side codes p whole bytes text result before now))
 
 -- a position that is not in the set
-pub nothing_told : (told : Option (List ℕ)) (size : ℕ) (rules : RuleLines) (side : Colour) (p : Board)
+pub nothing_told : (told : Option (List ℕ)) (size : ℕ) (rules : RuleLines) (side : Colour)
+    (p : Board)
     (source : SourceTold) (out : SinkTold) (before : Spent) → (Member rules.groups p → ⊥)
-    → WroteSession told size rules side p (Err (plays.Line faults.Outside)) source source out out before
+    → WroteSession told size rules side p (Err (plays.Line faults.Outside)) source source out out
+    before
     before
 nothing_told told size rules side p source out before none =
     let r = some_rest source ⊥ (λ e. absurd e) in (
@@ -108,14 +111,16 @@ store_wrote Failed out = took_nothing out
 store_wrote NoMemory out = took_nothing out
 
 -- the code of the start was not read
-pub start_unread : (told : Option (List ℕ)) (size : ℕ) (rules : RuleLines) (side : Colour) (p : Board)
+pub start_unread : (told : Option (List ℕ)) (size : ℕ) (rules : RuleLines) (side : Colour)
+    (p : Board)
     (source : SourceTold) (out : SinkTold) {before now : Spent} → Spends 1 0 before now
     → (fault : StoreFault) (result : Result SessionEnd PlayFault)
     → IsErrAnd result (λ e. e ≡ plays.Line (fault_of fault))
     → WroteSession told size rules side p result source source out out before now
 start_unread told size rules side p source out few fault (Ok end) h = absurd h
 start_unread told size rules side p source out {before} {now} few fault (Err f) h =
-    subst (λ (z : PlayFault). WroteSession told size rules side p (Err z) source source out out before
+    subst (λ (z : PlayFault). WroteSession told size rules side p (Err z) source source out out
+    before
     now) (sym h)
     (unread told size rules side p source out before now few (plays.Line (fault_of fault))
     (store_fault fault) (store_wrote fault out))
@@ -123,7 +128,8 @@ start_unread told size rules side p source out {before} {now} few fault (Err f) 
 tells : (rules : RuleLines) (side : Colour) (codes : ℕ → List ℕ) (p : Board) (source : SourceTold)
     (bytes text : List ℕ) (result : Result SessionEnd PlayFault) (before mid now : Spent)
     (start code : ℕ) → start ≡ Num rules.groups p → Spends 1 0 before mid
-    → slice_index (codes 0) start ≡ code → Plays (graph_by rules (value_by rules)) side codes start code
+    → slice_index (codes 0) start ≡ code
+    → Plays (graph_by rules (value_by rules)) side codes start code
     source bytes text result mid now → (whole : List ℕ) × MayHold source whole
     × TellsSession rules side codes p whole bytes text result before now
 tells rules side codes p source bytes text result before mid now start code is few agrees plays = (

@@ -59,13 +59,16 @@ Stands arena side kept played spot x =
     stage (session_player arena side kept) played (played, spot.number) ≡ x
 
 pub session_stage : FillsLocal → (arena : Arena Step ℕ Value) (size : ℕ) → IsFinite arena size
-    → (side : Colour) (spot : Spot) (arms : List (Arm Step ℕ Value)) (cs : List ℕ) (kept : ℕ → List ℕ) (played : ℕ)
-    → arms ≡ arena.arms spot.number → cs ≡ map (arm_code side (kept (suc played))) arms → (due : Due)
+    → (side : Colour) (spot : Spot) (arms : List (Arm Step ℕ Value)) (cs : List ℕ)
+    (kept : ℕ → List ℕ) (played : ℕ)
+    → arms ≡ arena.arms spot.number → cs ≡ map (arm_code side (kept (suc played))) arms
+    → (due : Due)
     → due ≡ due_by spot.is_start false spot.code
     (node_code side (arena.node spot.number) (free_among arms cs) cs) (arena.node spot.number)
     → Stands arena side kept played spot (stage_told (played, spot.number) spot.code due)
 session_stage fills arena size finite side spot arms cs kept played are same due e = λ agrees start.
-    let local = local_code_of fills arena size finite side kept played spot.number arms cs are same in
+    let local =
+    local_code_of fills arena size finite side kept played spot.number arms cs are same in
     stage_due (session_player arena side kept) played (played, spot.number) spot.code
     (node_code side (arena.node spot.number) (free_among arms cs) cs) spot.is_start false agrees
     (sym local) start (sym (and_right (spot.code == 1) false refl))
@@ -73,7 +76,8 @@ session_stage fills arena size finite side spot arms cs kept played are same due
 
 -- the text and the bytes are what the turn adds to each session
 -- from here, but for the line of the start
-abbrev pub TailBy : Arena Step ℕ Value → Colour → (ℕ → List ℕ) → (played : ℕ) → Spot → (old new : Reader)
+abbrev pub TailBy : Arena Step ℕ Value → Colour → (ℕ → List ℕ) → (played : ℕ) → Spot
+    → (old new : Reader)
     → (bytes text : List ℕ) → Result Turn PlayFault → Type 0
 TailBy arena side kept played spot old new bytes text result =
     slice_index (kept played) spot.number ≡ spot.code → (played == 0) ≡ spot.is_start →
@@ -102,7 +106,8 @@ leaves_over arena side kept played left plies end last rest (Err fault) unread e
 pub over_tail : (arena : Arena Step ℕ Value) (side : Colour) (kept : ℕ → List ℕ) (played : ℕ)
     (spot : Spot)
     (reader : Reader) (text : List ℕ) (f : EndOfSession) (answer : Result SessionEnd PlayFault)
-    → Stands arena side kept played spot (OverWay f) → text ≡ end_text f → Finishes answer side f [] []
+    → Stands arena side kept played spot (OverWay f) → text ≡ end_text f
+    → Finishes answer side f [] []
     → TailBy arena side kept played spot reader reader [] text (turn_over answer)
 over_tail arena side kept played spot reader text f answer stands is finishes =
     λ agrees start left may plies end last w.
@@ -215,19 +220,23 @@ reply_text side mover x move n m own refused is =
 -- the own ply
 pub own_tail : AsksForOne → (arena : Arena Step ℕ Value) (size : ℕ) → IsFinite arena size
     → (side mover : Colour) (spot : Spot) (reader : Reader) (arms : List (Arm Step ℕ Value))
-    (cs : List ℕ) (kept : ℕ → List ℕ) (played : ℕ) → same_colour mover side ≡ true → arms ≡ arena.arms spot.number
-    → cs ≡ map (arm_code side (kept (suc played))) arms → Stands arena side kept played spot (Moves mover)
+    (cs : List ℕ) (kept : ℕ → List ℕ) (played : ℕ) → same_colour mover side ≡ true
+    → arms ≡ arena.arms spot.number
+    → cs ≡ map (arm_code side (kept (suc played))) arms
+    → Stands arena side kept played spot (Moves mover)
     → (place : ℕ) (x : Choice) (a : Arm Step ℕ Value)
     → IsFound has_code (is_win spot.code) spot.code (choices_by true arms cs) place x
     → slice_get arms place ≡ Some a → (result : Result Turn PlayFault) (old new : SinkTold)
     → Answers (turn_of a.next (get_or cs place 0)) (moved_text (codes "move ") a) result old new
     → TailBy arena side kept played spot reader reader [] (moved_text (codes "move ") a) result
-own_tail one arena size finite side mover spot reader arms cs kept played own are same stands place x a
+own_tail one arena size finite side mover spot reader arms cs kept played own are same stands place
+    x a
     found there result old new answers = λ agrees start left may plies end last w.
     let here : Input = record { left = left; more = reader.more } in
     let g = moves_own arena side kept played here last spot.number plies end mover own w
     (stands agrees start) in
-    let chosen = (arm_found arena size finite side mover kept played spot.number spot.code arms cs are
+    let chosen =
+    (arm_found arena size finite side mover kept played spot.number spot.code arms cs are
     same agrees place x a
     (subst (λ b. IsFound has_code (is_win spot.code) spot.code (choices_by b arms cs) place x)
     (sym own) found) there).chosen in
@@ -313,7 +322,8 @@ module _ (arena : Arena Step ℕ Value) (side mover : Colour) (kept : ℕ → Li
       → (hears : Hears arms old new (Ok (heard.Stop why)) source left out between)
       → (answer : Result SessionEnd PlayFault)
       → Finishes answer side (Stopped (record { refused = hears.refused; why = why })) [] []
-      → TailBy arena side kept played spot old new hears.bytes (refused_text hears.refused ++ why_line why)
+      → TailBy arena side kept played spot old new hears.bytes
+      (refused_text hears.refused ++ why_line why)
       (turn_over answer)
   stop_tail arms are source left out between why hears answer finishes =
       λ agrees start rest_in may plies end last w.

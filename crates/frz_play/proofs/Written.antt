@@ -1,5 +1,5 @@
 -- What a turn of a session wrote and took, by what was due.
-use Rattle.std.proofs.Common.{◌≡◌, ◌++◌, ℕ, zero, suc, inl, inr, Bool, true, false, List, [], Option, map, refl, sym, subst, ap, ◌∙◌, get_or, if◌then◌else◌, Result, Ok, Err, IfSome, append-nil}
+use Rattle.std.proofs.Common.{◌≡◌, ◌++◌, ℕ, zero, suc, inl, inr, Bool, true, false, List, [], map, refl, sym, subst, ap, ◌∙◌, get_or, if◌then◌else◌, Result, Ok, Err, append-nil}
 use Rattle.std.specs.Prelude.{codes}
 use Rattle.std.specs.Result.{IsErrAnd}
 use Rattle.frz_board.specs.declared.man.Colour.{Colour}
@@ -27,7 +27,7 @@ use Rattle.frz_line.specs.declared.end.LineFault.TheVariants as faults
 use Rattle.frz_line.specs.Dues.{due_by}
 use Rattle.frz_line.specs.Faults.{fault_of}
 use Rattle.frz_line.specs.Texts.{arm_text}
-use Rattle.frz_line.proofs.Lemmas.{AsksForOne, FillsLocal, as_lines, both, ends_arm, ends_behind, every, stage_told}
+use Rattle.frz_line.proofs.Lemmas.{AsksForOne, FillsLocal, as_lines, ends_arm, ends_behind, stage_told}
 use Rattle.frz_play.specs.declared.end.SessionEnd.{SessionEnd}
 use Rattle.frz_play.specs.declared.end.SessionEnd.TheVariants as ends
 use Rattle.frz_play.specs.declared.end.PlayFault.{PlayFault}
@@ -119,7 +119,8 @@ by_answers turn text result old new (inr a) =
     subst (λ (z : Result Turn PlayFault). WroteBy z text old new) (sym a.0) a.1
 
 -- what a turn wrote and took
-abbrev pub TurnWrote : ((ℕ → List ℕ) → (played : ℕ) → Type 0) → Arena Step ℕ Value → Colour → Spot → (old new : Reader)
+abbrev pub TurnWrote : ((ℕ → List ℕ) → (played : ℕ) → Type 0) → Arena Step ℕ Value → Colour → Spot
+    → (old new : Reader)
     → Result Turn PlayFault → (source left : SourceTold) → (out taken : SinkTold) → Type 0
 TurnWrote is arena side spot old new result source left out taken =
     (text bytes : List ℕ) × IsLines text × WroteBy result text out taken
@@ -129,7 +130,8 @@ TurnWrote is arena side spot old new result source left out taken =
     → GoesBy arena side kept played spot old new bytes text result)
 
 -- the same behind the opening
-record Tail (is : (ℕ → List ℕ) → (played : ℕ) → Type 0) (arena : Arena Step ℕ Value) (side : Colour) (spot : Spot)
+record Tail (is : (ℕ → List ℕ) → (played : ℕ) → Type 0) (arena : Arena Step ℕ Value) (side : Colour)
+    (spot : Spot)
     (old new : Reader) (result : Result Turn PlayFault) (source left : SourceTold)
     (out taken : SinkTold) : Type 0 where
   pub text : List ℕ
@@ -151,7 +153,8 @@ store_wrote Failed out = took_nothing out
 store_wrote NoMemory out = took_nothing out
 
 -- the store failed before anything was written
-pub stopped_by : (is : (ℕ → List ℕ) → (played : ℕ) → Type 0) (arena : Arena Step ℕ Value) (side : Colour) (spot : Spot)
+pub stopped_by : (is : (ℕ → List ℕ) → (played : ℕ) → Type 0) (arena : Arena Step ℕ Value)
+    (side : Colour) (spot : Spot)
     (reader : Reader) (fault : StoreFault) (result : Result Turn PlayFault) (source : SourceTold)
     (out : SinkTold) → IsErrAnd result (λ e. e ≡ plays.Line (fault_of fault))
     → TurnWrote is arena side spot reader reader result source source out out
@@ -195,7 +198,8 @@ module _ (one : AsksForOne) (fills : FillsLocal)
       → TurnWrote IsReadBy arena side spot reader reader result source source out taken
   opening_wrote due e reader (Ok turn) source out taken h failed = absurd h
   opening_wrote due e reader (Err f) source out taken h failed =
-      subst (λ (z : PlayFault). TurnWrote IsReadBy arena side spot reader reader (Err z) source source
+      subst (λ (z : PlayFault). TurnWrote IsReadBy arena side spot reader reader (Err z) source
+      source
       out taken) (sym h) (
         opening side spot due,
         [],
@@ -311,9 +315,11 @@ module _ (one : AsksForOne) (fills : FillsLocal)
       (wrote_after (refused_text hears.refused) (codes "input ended\n") result out between taken
       hears.wrote wrote)
       (λ kept played same.
-      subst (λ (z : Result Turn PlayFault). TailBy arena side kept played spot old new hears.bytes text z)
+      subst (λ (z : Result Turn PlayFault). TailBy arena side kept played spot old new hears.bytes
+      text z)
       (sym is)
-      (stop_tail arena side m kept played spot old new own (standing (dues.Ply m) e kept played same) arms are
+      (stop_tail arena side m kept played spot old new own
+      (standing (dues.Ply m) e kept played same) arms are
       source left out between Ended hears answer finishes))
 
   ended_wrote : (m : Colour) → IsDue (dues.Ply m) → same_colour m side ≡ false
@@ -349,7 +355,8 @@ module _ (one : AsksForOne) (fills : FillsLocal)
       (by_answers (turn_of h.0.next (get_or cs place 0)) (moved_text (codes "reply ") h.0) result
       between taken h.2))
       (λ kept played same.
-      reply_tail arena side m kept played spot old new own (standing (dues.Ply m) e kept played same) arms cs are
+      reply_tail arena side m kept played spot old new own
+      (standing (dues.Ply m) e kept played same) arms cs are
       same source left out between taken place hears h.0 h.1 result h.2)
   reply_wrote m e own old new (Ok (heard.Stop Ended)) result source left out between taken hears h =
       ended_wrote m e own old new result source left out between taken hears h
@@ -360,11 +367,13 @@ module _ (one : AsksForOne) (fills : FillsLocal)
       (subst (λ (z : Result Turn PlayFault). WroteBy z text out taken) (sym h.0)
       (subst (λ (z : SinkTold). TookText text out z) (sym h.1) hears.wrote))
       (λ kept played same.
-      subst (λ (z : Result Turn PlayFault). TailBy arena side kept played spot old new hears.bytes text z)
+      subst (λ (z : Result Turn PlayFault). TailBy arena side kept played spot old new hears.bytes
+      text z)
       (sym h.0)
       (subst (λ (t : List ℕ). TailBy arena side kept played spot old new hears.bytes t
       (Err (plays.Limit limit))) (append-nil text)
-      (stop_tail arena side m kept played spot old new own (standing (dues.Ply m) e kept played same) arms are
+      (stop_tail arena side m kept played spot old new own
+      (standing (dues.Ply m) e kept played same) arms are
       source left out between (Limit limit) hears (Err (plays.Limit limit)) (refl, refl, refl))))
   reply_wrote m e own old new (Err fault) result source left out between taken hears h =
       let text = refused_text hears.refused in
@@ -373,7 +382,8 @@ module _ (one : AsksForOne) (fills : FillsLocal)
       (subst (λ (z : SinkTold). WroteBy {T = Turn} (Err fault) text out z) (sym h.1)
       (same_wrote Heard Turn fault text out between hears.wrote)))
       (λ kept played same.
-      subst (λ (z : Result Turn PlayFault). TailBy arena side kept played spot old new hears.bytes text z)
+      subst (λ (z : Result Turn PlayFault). TailBy arena side kept played spot old new hears.bytes
+      text z)
       (sym h.0)
       (fault_tail arena side m kept played spot own (standing (dues.Ply m) e kept played same) fault
       (hears.fails fault refl) old new arms are source left out between hears))
@@ -394,9 +404,11 @@ module _ (one : AsksForOne) (fills : FillsLocal)
         took = took_none source left (ap (λ (z : SourceTold). z.left) unread.1);
         stays = λ x. (refl, ap (λ (z : Reader). z.ended) unread.0 ∙ x);
         goes = λ kept played same.
-            subst (λ (z : Reader). TailBy arena side kept played spot old z [] text result) (sym unread.0)
+            subst (λ (z : Reader). TailBy arena side kept played spot old z [] text result)
+            (sym unread.0)
             (own_tail one arena size finite side m spot old arms cs kept played own are same
-            (standing (dues.Ply m) e kept played same) place h.1 a h.2 h.3.1 result out taken h.3.2);
+            (standing (dues.Ply m) e kept played same) place h.1 a h.2 h.3.1 result out taken
+            h.3.2);
       }
 
   ply_wrote : (m : Colour) → IsDue (dues.Ply m) → (own : Bool) → same_colour m side ≡ own
@@ -416,15 +428,18 @@ module _ (one : AsksForOne) (fills : FillsLocal)
       wrong_wrote given e old new result source left out taken h.0 h.1.0
       (untouched (wrong_at side spot given) result out taken (took_nothing out) h.1.0 h.1.1)
   tail_wrote dues.NoBound e old new result source left out taken h =
-      over_wrote dues.NoBound e NoBound (λ played. refl) old new (Err (plays.Line faults.NoBound)) result source
+      over_wrote dues.NoBound e NoBound (λ played. refl) old new (Err (plays.Line faults.NoBound))
+      result source
       left out taken h.0 h.1.0 (inl refl)
       (untouched (plays.Line faults.NoBound) result out taken (took_nothing out) h.1.0 h.1.1)
       (refl, refl, refl)
   tail_wrote (dues.Mate m) e old new result source left out taken h =
-      ends_wrote (dues.Mate m) e (Mated m) (λ played. refl) old new ends.Mate result source left out taken h.0
+      ends_wrote (dues.Mate m) e (Mated m) (λ played. refl) old new ends.Mate result source left out
+      taken h.0
       (inr (codes "mate", refl)) refl h.1
   tail_wrote (dues.Stalemate m) e old new result source left out taken h =
-      ends_wrote (dues.Stalemate m) e (Stalemated m) (λ played. refl) old new ends.Stalemate result source left
+      ends_wrote (dues.Stalemate m) e (Stalemated m) (λ played. refl) old new ends.Stalemate result
+      source left
       out taken h.0 (inr (codes "stalemate", refl)) refl h.1
   tail_wrote dues.Cut e old new result source left out taken h = absurd h
   tail_wrote (dues.Ply m) e old new result source left out taken h =

@@ -30,12 +30,15 @@ pub record PlayedOf
 -- the text and the bytes are those of the session from the position's number against the input; the
 -- code of the start is read once, and at each number that the session comes to the moves are made
 -- once, and the code is read once of each that stays inside
-abbrev pub TellsSession : RuleLines → Colour → (codes : ℕ → List ℕ) → Board → (input bytes text : List ℕ) →
+abbrev pub TellsSession : RuleLines → Colour → (codes : ℕ → List ℕ) → Board
+    → (input bytes text : List ℕ) →
     Result SessionEnd PlayFault → (before now : Spent) → Type 0
 TellsSession rules side codes p input bytes text result before now =
     Member rules.groups p →
     (plies : List SessionPly) (end : EndOfSession) (left : Input) →
     IsSession rules (value_by rules) side codes (Num rules.groups p) input plies end left →
-    PlayedOf side (slice_index (codes 0) (Num rules.groups p)) input bytes text result plies end left
-    × SpendsAt (graph_by rules (value_by rules)) 1 (way_numbers (Inside (0, Num rules.groups p)) plies)
+    PlayedOf side (slice_index (codes 0) (Num rules.groups p)) input bytes text result plies end
+    left
+    × SpendsAt (graph_by rules (value_by rules)) 1
+    (way_numbers (Inside (0, Num rules.groups p)) plies)
     before now

@@ -173,7 +173,8 @@ rest_text side spot plies end =
 
 -- how a turn leaves a session: it goes on behind its first ply,
 -- which leads to this number, or it finished
-abbrev pub Leaves : Arena Step ℕ Value → Colour → (ℕ → List ℕ) → (played : ℕ) → Input → List SessionPly →
+abbrev pub Leaves : Arena Step ℕ Value → Colour → (ℕ → List ℕ) → (played : ℕ) → Input
+    → List SessionPly →
     EndOfSession →
     (last : Input) → (rest : List ℕ) → Result Turn PlayFault → Type 0
 Leaves arena side kept played left plies end last rest (Ok (On number code)) =
@@ -190,7 +191,8 @@ Leaves arena side kept played left plies end last rest (Err fault) =
     × Finishes (Err fault) side end rest unread
 
 -- the text and the bytes are what the turn adds to each session that goes on from here
-abbrev pub GoesBy : Arena Step ℕ Value → Colour → (ℕ → List ℕ) → (played : ℕ) → Spot → (old new : Reader) →
+abbrev pub GoesBy : Arena Step ℕ Value → Colour → (ℕ → List ℕ) → (played : ℕ) → Spot
+    → (old new : Reader) →
     (bytes text : List ℕ) →
     Result Turn PlayFault → Type 0
 GoesBy arena side kept played spot old new bytes text result =

@@ -1,5 +1,5 @@
 //! What holds of sessions, each law the contract of a function that does nothing.
-ghost use Rattle.std.specs.Prelude.{◌≡◌, ◌≤◌, ◌+◌, ◌*◌, ℕ, List, Some, length, slice_get, slice_index};
+ghost use Rattle.std.specs.Prelude.{◌≡◌, ◌≤◌, ◌+◌, ◌*◌, ◌++◌, ℕ, List, [], Some, length, slice_get, slice_index, MatchOption};
 ghost use Rattle.std.specs.List.{Contains};
 ghost use Rattle.frz_board.specs.declared.man.Colour.{Colour};
 ghost use Rattle.frz_board.specs.Boards.{Board};
@@ -18,6 +18,8 @@ ghost use Rattle.frz_game.specs.Games.{chess, graph_by};
 ghost use Rattle.frz_game.specs.Numbers.{position_at};
 ghost use Rattle.frz_game.specs.Values.{AreTrueExits};
 ghost use Rattle.frz_index.specs.Members.{Member, Num};
+ghost use Rattle.frz_line.specs.ChessGames.{IsGame};
+ghost use Rattle.frz_play.specs.declared.end.TheConstants.{MOST_LINES, MOST_LENGTH};
 ghost use Rattle.frz_play.specs.Reading.{Input, Halt};
 ghost use Rattle.frz_play.specs.Sessions.{SessionPly, EndOfSession, IsSession};
 
@@ -112,19 +114,33 @@ pub fn holds_are_kept()
     ways::holds_are_kept::<Move, (u32, u32), ExitValue, LeftInput, HaltedInput>();
 }
 
-/// Each ply of a session is a legal move at the position of its number.
-pub fn plies_are_legal()
+/// A session is a game of chess, as a line is one: from its position on the moves are legal one
+/// after another, and those of the side itself are moves that it has not renounced.
+pub fn sessions_are_games()
     ensures { (rules : RuleLines) (value : Board → Value)
         (side : Colour) (codes : ℕ → List ℕ) (start : ℕ) (input : List ℕ)
         (plies : List SessionPly) (end : EndOfSession) (left : Input) →
         IsSession rules value side codes start input plies end left →
-        (x : SessionPly) → Contains plies x →
-        (p : Board) × (m : Step) × (position_at rules.groups x.from.1 ≡ Some p)
-        × (slice_get (legal_moves_of p) x.place ≡ Some m) }
+        MatchOption (position_at rules.groups start) (plies ≡ [])
+        (λ p. IsGame rules side p plies) }
 {
+    ways::plies_keep::<Move, (u32, u32), ExitValue, LeftInput, HaltedInput>();
+    ways::plies_follow::<Move, (u32, u32), ExitValue, LeftInput, HaltedInput>();
 }
 
-/// Where the codes are each time those of the table of the side, no session from a position of the set ends as wrong.
+/// A session takes bytes from the front of its input, at most the most lines of the most length,
+/// each with its line feed.
+pub fn few_bytes_taken()
+    ensures { (rules : RuleLines) (value : Board → Value)
+        (side : Colour) (codes : ℕ → List ℕ) (start : ℕ) (input : List ℕ)
+        (plies : List SessionPly) (end : EndOfSession) (left : Input) →
+        IsSession rules value side codes start input plies end left →
+        (taken : List ℕ) × (taken ++ left.left ≡ input)
+        × (length taken ≤ MOST_LINES * (MOST_LENGTH + 1)) }
+{}
+
+/// Where the codes are each time those of the table of the side, no session from a position of the
+/// set ends as wrong.
 pub fn tables_are_never_wrong()
     ensures { (rules : RuleLines) (value : Board → Value) (side : Colour) (codes : ℕ → List ℕ) →
         ((k : ℕ) → IsTableOf rules value side (codes k)) → (p : Board) → Member rules.groups p →
@@ -137,7 +153,8 @@ pub fn tables_are_never_wrong()
     numbered();
 }
 
-/// Where the codes are each time those of the table of the side and the exits are true, the opponent forces no mate after any ply
+/// Where the codes are each time those of the table of the side and the exits are true, the
+/// opponent forces no mate after any ply
 /// of a session, in the set or out of it.
 pub fn sessions_are_safe()
     ensures { (rules : RuleLines) (value : Board → Value) → AreTrueExits rules value →

@@ -44,6 +44,9 @@ pub fn play_session<S: Store, I: Source, O: Sink, L: Ledger>(
     requires carried { Carries (S.files store.old) table.now }
     ensures outside { (result ≡ Err (Line faults.Outside))
         ↔ (Member table.now.rules.groups p.now → ⊥) }
+    ensures untouched { result ≡ Err (Line faults.Outside)
+        → (store.new ≡ store.old) × (input.new ≡ input.old) × (out.new ≡ out.old)
+        × (steps.new ≡ steps.old) }
 
     // The text and the bytes are those of the session by the codes that were read after each
     // number of plies, against some input. Where the store and the input tell, they are those that

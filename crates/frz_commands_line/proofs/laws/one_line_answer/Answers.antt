@@ -5,6 +5,8 @@ pub returns : goal.returns
 returns c =
     line_lawful c.one_line.ensures.there c.one_line.ensures.one
     (record {
+      game = c.lines_are_games.ensures;
+      short = c.least_plies.ensures.few;
       won = c.least_plies.ensures.won;
       mate = c.least_plies.ensures.mate;
       exit = c.least_plies.ensures.exit;

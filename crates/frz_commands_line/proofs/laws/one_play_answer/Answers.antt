@@ -5,6 +5,7 @@ pub returns : goal.returns
 returns c =
     play_lawful c.one_session.ensures.there c.one_session.ensures.one
     (record {
+      game = c.sessions_are_games.ensures;
       few = c.wins_are_kept.ensures.few;
       won = c.wins_are_kept.ensures.won;
       exit = c.wins_are_kept.ensures.exit;

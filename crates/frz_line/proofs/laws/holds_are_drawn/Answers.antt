@@ -6,7 +6,8 @@ use Rattle.frz_line.proofs.laws.holds_are_drawn.Goals as goal
 
 pub returns-clause-drawn : goal.returns-clause-drawn
 returns-clause-drawn c = λ rules value side codes start plies end e w.
-    c.holds_in_lines.ensures.drawn (line_player (graph_by rules value) side codes) refl tt tt (0, start)
+    c.holds_in_lines.ensures.drawn (line_player (graph_by rules value) side codes) refl tt tt
+    (0, start)
     plies end e w
 
 pub returns-clause-few : goal.returns-clause-few

@@ -13,6 +13,7 @@ returns-clause-there c = λ rules value side codes start.
 
 pub returns-clause-one : goal.returns-clause-one
 returns-clause-one c = λ rules value side codes start plies others end last w v.
-    let r = c.one_way.ensures (line_player (graph_by rules value) side codes) 0 tt tt tt (0, start) plies
+    let r = c.one_way.ensures (line_player (graph_by rules value) side codes) 0 tt tt tt (0, start)
+    plies
     others end last w v in
     (r.0, r.1)

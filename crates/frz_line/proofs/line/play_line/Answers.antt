@@ -1,4 +1,4 @@
-use Rattle.std.proofs.Common.{Ok, Err, inl, inr, refl, subst, arith}
+use Rattle.std.proofs.Common.{inl, inr, refl, subst, arith}
 use Rattle.frz_store.specs.Told.{store_of, sink_of}
 use Rattle.frz_answer.specs.World.{spent_by}
 use Rattle.frz_table.proofs.Lemmas.{fine_after, quiet_after}
@@ -33,9 +33,12 @@ returns-in_err-end-clause-wrote g c =
     let e = c.in_err-end.ensures in
     let w = e.wrote in
     fault_far _ c.plies.invariant.far (at_one arena c.plies.spot.number e.asked e.calls e.step) w.0
-    w.1 c.in_err-end.field-0.0 c.from_residual.result c.from_residual.ensures.1 w.2
-    (w.3.0, may_before c.args.table.now c.args.side (table_size c.args.table.now) w.3.0
-    c.plies.invariant.quiet.unwritten.files w.3.1, w.3.2)
+    w.1 c.in_err-end.field-0.0 c.from_residual.result c.from_residual.ensures.1 w.2 (
+      w.3.0,
+      may_before c.args.table.now c.args.side (table_size c.args.table.now) w.3.0
+          c.plies.invariant.quiet.unwritten.files w.3.1,
+      w.3.2,
+    )
 
 pub returns-in-Over-clause-wrote : goal.returns-in-Over-clause-wrote
 returns-in-Over-clause-wrote g c =
@@ -43,9 +46,12 @@ returns-in-Over-clause-wrote g c =
     let e = c.in_ok-end.ensures in
     let w = e.wrote in
     over_far _ c.plies.invariant.far (at_one arena c.plies.spot.number e.asked e.calls e.step) w.0
-    w.1 c.in-Over.is w.2
-    (w.3.0, may_before c.args.table.now c.args.side (table_size c.args.table.now) w.3.0
-    c.plies.invariant.quiet.unwritten.files w.3.1, w.3.2)
+    w.1 c.in-Over.is w.2 (
+      w.3.0,
+      may_before c.args.table.now c.args.side (table_size c.args.table.now) w.3.0
+          c.plies.invariant.quiet.unwritten.files w.3.1,
+      w.3.2,
+    )
 
 pub plies-preserved : goal.plies-preserved
 plies-preserved g c =
@@ -63,9 +69,12 @@ plies-preserved g c =
       stands = inr (stands_on size spot number code to);
       few = few_on size spot number code c.plies.invariant.few to;
       far = next_far _ c.plies.invariant.far (at_one arena spot.number e.asked e.calls e.step) w.0
-          w.1 c.in-On.is w.2
-          (w.3.0, may_before c.args.table.now c.args.side (table_size c.args.table.now) w.3.0
-          c.plies.invariant.quiet.unwritten.files w.3.1, w.3.2);
+          w.1 c.in-On.is w.2 (
+            w.3.0,
+            may_before c.args.table.now c.args.side (table_size c.args.table.now) w.3.0
+                c.plies.invariant.quiet.unwritten.files w.3.1,
+            w.3.2,
+          );
       quiet = quiet_after (store_of g.S.Store c.args.store.now) (store_of g.S.Store c.plies.store)
           (store_of g.S.Store c.turn.new.store) c.plies.invariant.quiet e.quiet;
       fine = fine_after (store_of g.S.Store c.args.store.now) (store_of g.S.Store c.plies.store)

@@ -43,6 +43,14 @@ returns-clause-wrote g c =
     (g.met.G.NumberedGame.finite c.args.game.now c.requires.sound) c.args.side c.args.spot
     cs e.arms c.in_ok-due.due e.due
     c.play.result (sink_of g.O.Sink c.args.out.now)
-    (sink_of g.O.Sink c.play.new.out) c.play.ensures in
-    (h.0, h.1, h.2, (read.0, read.1, λ codes same. h.3 codes
-    (subst (λ (z : List ℕ). cs ≡ map (arm_code c.args.side z) arms) (sym same) read.2)))
+    (sink_of g.O.Sink c.play.new.out) c.play.ensures in (
+      h.0,
+      h.1,
+      h.2,
+      (
+        read.0,
+        read.1,
+        λ codes same. h.3 codes
+            (subst (λ (z : List ℕ). cs ≡ map (arm_code c.args.side z) arms) (sym same) read.2),
+      ),
+    )

@@ -35,4 +35,5 @@ returns-clause-codes g c =
     (λ a. IsWithin (table_size c.args.table.now) a.next) arms) are
     (subst (λ (n : ℕ). All (λ a. IsWithin n a.next) arms) (sym c.requires.many) within))
     (subst (λ (arms : List (Arm Step ℕ Value)). AreApart arms) are
-    (c.requires.different c.args.number)) c.in_ok-read_codes.ensures.read c.in_ok-read_codes.ensures.codes
+    (c.requires.different c.args.number)) c.in_ok-read_codes.ensures.read
+    c.in_ok-read_codes.ensures.codes

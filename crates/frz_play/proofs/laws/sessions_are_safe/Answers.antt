@@ -10,5 +10,6 @@ returns c =
     λ rules value exits side codes table start input plies end left w x in_it p m at_it there.
     safe_reader (game_of rules value) (c.true_values.ensures.exits rules value exits)
     (numbers_by rules.groups) (c.numbered.ensures.numbering rules value) side codes table
-    (session_player (graph_by rules value) side codes).opponent (opened input) left (0, start) plies end
+    (session_player (graph_by rules value) side codes).opponent (opened input) left (0, start) plies
+    end
     w x in_it p m at_it there

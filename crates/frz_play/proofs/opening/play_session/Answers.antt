@@ -70,7 +70,8 @@ returns-clause-played g c =
     let mid = spent_by (store_of g.S.Store c.entry.new.store) c.args.steps.now in
     let now = spent_by (store_of g.S.Store c.play_from.new.store) c.play_from.new.steps in
     let w = c.play_from.ensures.wrote in
-    session_told (told_codes table side files) (table_size table) table.rules side c.args.p.now c.play_from.result
+    session_told (told_codes table side files) (table_size table) table.rules side c.args.p.now
+    c.play_from.result
     source (source_of g.I.Source c.play_from.new.input) (sink_of g.O.Sink c.args.out.now)
     (sink_of g.O.Sink c.play_from.new.out) now start code
     (subst (λ (z : List GroupLine). start ≡ Num z c.args.p.now) c.set.ensures

@@ -1,4 +1,4 @@
-use Rattle.std.proofs.Common.{Ok, Err, inl, inr, refl, subst, ◌∙◌, arith}
+use Rattle.std.proofs.Common.{inl, inr, refl, subst, ◌∙◌, arith}
 use Rattle.frz_store.specs.Told.{store_of, source_of, sink_of}
 use Rattle.frz_answer.specs.World.{spent_by}
 use Rattle.frz_table.proofs.Lemmas.{fine_after, quiet_after}
@@ -34,9 +34,12 @@ returns-in_err-end-clause-wrote g c =
     let w = e.wrote in
     fault_far c.turn.new.reader _ c.plies.invariant.far
     (at_one arena c.plies.spot.number e.asked e.calls e.step) w.0 w.1 w.2 w.4 w.5
-    c.in_err-end.field-0.0 c.from_residual.result c.from_residual.ensures.1 e.still_ended w.3
-    (w.6.0, may_before c.args.table.now c.args.side (table_size c.args.table.now) w.6.0
-    c.plies.invariant.quiet.unwritten.files w.6.1, w.6.2)
+    c.in_err-end.field-0.0 c.from_residual.result c.from_residual.ensures.1 e.still_ended w.3 (
+      w.6.0,
+      may_before c.args.table.now c.args.side (table_size c.args.table.now) w.6.0
+          c.plies.invariant.quiet.unwritten.files w.6.1,
+      w.6.2,
+    )
 
 pub returns-in-Over-clause-wrote : goal.returns-in-Over-clause-wrote
 returns-in-Over-clause-wrote g c =
@@ -45,9 +48,12 @@ returns-in-Over-clause-wrote g c =
     let w = e.wrote in
     over_far c.turn.new.reader _ c.plies.invariant.far
     (at_one arena c.plies.spot.number e.asked e.calls e.step) w.0 w.1 w.2 w.4 w.5 c.in-Over.is
-    e.still_ended w.3
-    (w.6.0, may_before c.args.table.now c.args.side (table_size c.args.table.now) w.6.0
-    c.plies.invariant.quiet.unwritten.files w.6.1, w.6.2)
+    e.still_ended w.3 (
+      w.6.0,
+      may_before c.args.table.now c.args.side (table_size c.args.table.now) w.6.0
+          c.plies.invariant.quiet.unwritten.files w.6.1,
+      w.6.2,
+    )
 
 pub plies-preserved : goal.plies-preserved
 plies-preserved g c =
@@ -64,9 +70,12 @@ plies-preserved g c =
       ended = e.still_ended;
       far = next_far c.turn.new.reader _ c.plies.invariant.far
           (at_one arena c.plies.spot.number e.asked e.calls e.step) w.0 w.1 w.2 w.4 w.5 c.in-On.is
-          w.3
-          (w.6.0, may_before c.args.table.now c.args.side (table_size c.args.table.now) w.6.0
-    c.plies.invariant.quiet.unwritten.files w.6.1, w.6.2);
+          w.3 (
+            w.6.0,
+            may_before c.args.table.now c.args.side (table_size c.args.table.now) w.6.0
+                c.plies.invariant.quiet.unwritten.files w.6.1,
+            w.6.2,
+          );
       quiet = quiet_after (store_of g.S.Store c.args.store.now) (store_of g.S.Store c.plies.store)
           (store_of g.S.Store c.turn.new.store) c.plies.invariant.quiet e.quiet;
       fine = fine_after (store_of g.S.Store c.args.store.now) (store_of g.S.Store c.plies.store)

@@ -34,9 +34,20 @@ returns-in_err-write_opening-clause-wrote g c =
     c.in_ok-due.ensures.due c.args.reader.now c.from_residual-in_err-write_opening.result
     (source_of g.I.Source c.args.input.now) (sink_of g.O.Sink c.args.out.now)
     (sink_of g.O.Sink c.write_opening.new.out) c.from_residual-in_err-write_opening.ensures.1
-    c.in_err-write_opening.ensures.failed in
-    (h.0, h.1, h.2, h.3, h.4, h.5, (read.0, read.1, λ codes played same. h.6 codes played
-    (subst (λ (z : List ℕ). cs ≡ map (arm_code c.args.side z) arms) (sym same) read.2)))
+    c.in_err-write_opening.ensures.failed in (
+      h.0,
+      h.1,
+      h.2,
+      h.3,
+      h.4,
+      h.5,
+      (
+        read.0,
+        read.1,
+        λ codes played same. h.6 codes played
+            (subst (λ (z : List ℕ). cs ≡ map (arm_code c.args.side z) arms) (sym same) read.2),
+      ),
+    )
 
 pub play-requires-clause-there : goal.play-requires-clause-there
 play-requires-clause-there g c =
@@ -73,9 +84,20 @@ returns-clause-wrote g c =
     c.in_ok-due.ensures.due c.args.reader.now c.play.new.reader c.play.result
     (source_of g.I.Source c.args.input.now) (source_of g.I.Source c.play.new.input)
     (sink_of g.O.Sink c.args.out.now) (sink_of g.O.Sink c.write_opening.new.out)
-    (sink_of g.O.Sink c.play.new.out) c.in_ok-write_opening.ensures.ok c.play.ensures.played in
-    (h.0, h.1, h.2, h.3, h.4, h.5, (read.0, read.1, λ codes played same. h.6 codes played
-    (subst (λ (z : List ℕ). cs ≡ map (arm_code c.args.side z) arms) (sym same) read.2)))
+    (sink_of g.O.Sink c.play.new.out) c.in_ok-write_opening.ensures.ok c.play.ensures.played in (
+      h.0,
+      h.1,
+      h.2,
+      h.3,
+      h.4,
+      h.5,
+      (
+        read.0,
+        read.1,
+        λ codes played same. h.6 codes played
+            (subst (λ (z : List ℕ). cs ≡ map (arm_code c.args.side z) arms) (sym same) read.2),
+      ),
+    )
 
 pub returns-clause-still_ended : goal.returns-clause-still_ended
 returns-clause-still_ended g c =
