@@ -7,6 +7,7 @@ mod JudgedFiles
 mod CheckMeaning
 mod Checked
 mod OneAccepted
+mod ExactFiles
 mod BuiltAccepted
 mod SampleText
 mod Sampled
