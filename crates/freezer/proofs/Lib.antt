@@ -1,3 +1,5 @@
 pub mod Answering
 pub mod Calling
 pub mod Never
+mod CallsInTurn
+mod CallsAfterWriting

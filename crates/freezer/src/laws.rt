@@ -1,8 +1,11 @@
-//! The law on the answers of the commands. The function does nothing: its clause is the law.
+//! The law on the answers of the commands, and those on one call after another. The functions do
+//! nothing: their clauses are the laws.
 ghost use Rattle.std.specs.Prelude.{ℕ, List};
 ghost use Rattle.frz_store.specs.Files.{Files};
 ghost use Rattle.freezer.specs.Commands.{job_of};
 ghost use Rattle.frz_answer.specs.Lawful.{IsLawful};
+
+pub mod calls;
 
 use frz_commands_line::laws::{one_line_answer, one_play_answer};
 

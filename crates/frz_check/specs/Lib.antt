@@ -2,3 +2,4 @@ pub mod OneFile
 pub mod Verdicts
 pub mod Entries
 pub mod Kept
+pub mod KeptTables

@@ -5,8 +5,9 @@ use Rattle.frz_store.specs.Files.{Files}
 use Rattle.frz_table.specs.declared.fault.TableFault.{TableFault}
 use Rattle.frz_table.specs.declared.kind.FileKind.TheVariants.{Plain}
 use Rattle.frz_table.specs.Opening.{Contents, opened, table_format}
-use Rattle.frz_table.proofs.Lemmas.{belongs, opened_missing}
-use Rattle.frz_check.proofs.Lemmas.{file_tables}
+use Rattle.frz_table.proofs.Lemmas.{opened_missing}
+use Rattle.frz_exits.specs.Books.{value_by}
+use Rattle.frz_check.proofs.Lemmas.{bound_kept}
 use Rattle.frz_answer.specs.Answers.{Answer}
 use Rattle.frz_prelude.proofs.Lemmas.{refused_means}
 use Rattle.frz_commands_ask.specs.Reporting.{MeansReport, MeansStatus, report_at, report_by}
@@ -23,7 +24,8 @@ module _ (table : List ℕ) (files : Files) where
       contents = contents;
       open_file = record { there = there; opens = e };
       told = refl;
-      where_exact = file_tables contents bytes (belongs (table_format Plain) bytes contents e).read;
+      where_exact = λ tables side p inside.
+          bound_kept (value_by contents.rules) contents bytes tables side p inside;
     };
   }
   by_opening bytes there (Err fault) e =

@@ -4,16 +4,13 @@ use Rattle.std.specs.Prelude.{◌≡◌, ℕ, List, [], ◌∷◌, true, false, 
 use Rattle.frz_board.specs.declared.man.Colour.TheVariants.{White, Black}
 use Rattle.frz_board.specs.Boards.{Board}
 use Rattle.frz_fen.specs.Reading.{fen_of}
-use Rattle.frz_exits.specs.Books.{value_by}
-use Rattle.frz_game.specs.SmallLags.{HasSmallLags}
 use Rattle.frz_index.specs.Members.{Member}
 use Rattle.frz_sets.specs.declared.exit.Value.{Value}
 use Rattle.frz_store.specs.Files.{Files}
 use Rattle.frz_table.specs.declared.kind.FileKind.{FileKind}
 use Rattle.frz_table.specs.declared.kind.FileKind.TheVariants.{Plain, Chained}
-use Rattle.frz_table.specs.Layout.{magic_of}
 use Rattle.frz_table.specs.Opening.{Contents}
-use Rattle.frz_check.specs.OneFile.{IsOneFile}
+use Rattle.frz_check.specs.KeptTables.{KeepsTables}
 use Rattle.frz_answer.specs.declared.status.Status.{Status}
 use Rattle.frz_answer.specs.declared.status.Status.TheVariants.{Success, Table, Outside, Missing}
 use Rattle.frz_answer.specs.Answers.{Answer}
@@ -25,17 +22,12 @@ use Rattle.frz_prelude.specs.TableFiles.{OpensAsKind, TellsFaultOfKind}
 use Rattle.frz_commands_ask.specs.Kept.{keeping_bytes, keeping_calls, kept_at, kept_of, answer_by}
 use Rattle.frz_commands_ask.specs.Meaning.{TellsBounds}
 
--- where the file is the one file of its text, the text tells the bounds of both sides, and they
--- hold in chess: by its exit lines, or, for a table over a second one, by any book whose values
--- have small lags, of which it is the one file
-abbrev pub TellsWhereExact : FileKind → Contents → List ℕ → Board → List ℕ → Type 0
-TellsWhereExact Plain contents bytes p text =
-    IsOneFile (magic_of Plain) contents.text contents.rules (value_by contents.rules) bytes
-    → TellsBounds contents.rules (value_by contents.rules) p text
-TellsWhereExact Chained contents bytes p text =
-    (value : Board → Value) → HasSmallLags value
-    → IsOneFile (magic_of Chained) contents.text contents.rules value bytes
-    → TellsBounds contents.rules value p text
+-- where the codes in the file are the tables of both sides, the text tells the bounds of both
+-- sides, and they hold in chess: by the values of the book by which these are the tables, which is
+-- that of the exit lines, or, for a table over a second one, these with that one behind them
+abbrev pub TellsWhereExact : Contents → List ℕ → Board → List ℕ → Type 0
+TellsWhereExact contents bytes p text = (value : Board → Value)
+    → KeepsTables value contents bytes → TellsBounds contents.rules value p text
 
 -- the text tells the codes that the file keeps at the position of its set
 pub record TellsKept (kind : FileKind) (table : List ℕ) (p : Board) (files : Files)
@@ -45,7 +37,7 @@ pub record TellsKept (kind : FileKind) (table : List ℕ) (p : Board) (files : F
   pub open_file : OpensAsKind kind table files bytes contents
   pub inside : Member contents.rules.groups p
   pub told : text ≡ kept_text (kept_at White contents bytes p) (kept_at Black contents bytes p)
-  pub where_exact : TellsWhereExact kind contents bytes p text
+  pub where_exact : TellsWhereExact contents bytes p text
 
 -- the file opens as a table, and the position is not in its set
 pub record IsOutside (kind : FileKind) (table : List ℕ) (p : Board) (files : Files) : Type 0 where

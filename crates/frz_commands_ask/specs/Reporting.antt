@@ -2,15 +2,16 @@
 use Rattle.std.specs.Prelude.{◌≡◌, ℕ, ◌+◌, ◌*◌, List, [], ◌∷◌, length, true, false, Option, Some, None, Result, Ok, Err}
 use Rattle.frz_board.specs.declared.man.Colour.{Colour}
 use Rattle.frz_exits.specs.Books.{value_by}
-use Rattle.frz_game.specs.Bounds.{IsTableOf}
+use Rattle.frz_board.specs.Boards.{Board}
+use Rattle.frz_index.specs.Members.{Member}
 use Rattle.frz_store.specs.Files.{Files, bytes_at}
 use Rattle.frz_table.specs.declared.fault.TableFault.{TableFault}
 use Rattle.frz_table.specs.declared.kind.FileKind.TheVariants.{Plain}
-use Rattle.frz_table.specs.Layout.{magic_of, pieces_of}
+use Rattle.frz_table.specs.Layout.{pieces_of}
 use Rattle.frz_table.specs.Opening.{Contents, opened, opening_calls, table_format}
 use Rattle.frz_table.specs.Possible.{held_text}
 use Rattle.frz_check.specs.Kept.{kept_codes, opened_size}
-use Rattle.frz_check.specs.OneFile.{IsOneFile}
+use Rattle.frz_check.specs.KeptTables.{KeepsBound, KeepsTables}
 use Rattle.frz_report.specs.Reports.{report_text}
 use Rattle.frz_report.specs.declared.fault.ReportFault.{ReportFault}
 use Rattle.frz_report.specs.declared.fault.ReportFault.TheVariants as faults
@@ -26,6 +27,7 @@ use Rattle.frz_answer.specs.Words.{taking, one_word_of}
 use Rattle.frz_prelude.specs.Refusals.{table_status}
 use Rattle.frz_prelude.specs.TableCauses.{table_line}
 use Rattle.frz_prelude.specs.TableFiles.{OpensAs, TellsTableFault}
+use Rattle.frz_commands_ask.specs.Kept.{kept_at}
 
 -- the report of a file that opens, by the codes that it keeps and the values of its own exit lines
 abbrev pub report_of : Contents → List ℕ → List ℕ
@@ -48,17 +50,16 @@ end_by (Err faults.Store) = Stopped stops.Store
 end_by (Err faults.Output) = SinkFault
 end_by (Err faults.NoMemory) = Stopped stops.NoMemory
 
--- the text is the report of the file; where it is the one file
--- of its text, its codes are those of the bounds of both sides
+-- the text is the report of the file; where the codes in it are the tables of both sides, each code
+-- by which it tells is that of the bound at its position, and holds in chess
 pub record TellsReport (table : List ℕ) (files : Files) (text : List ℕ) : Type 0 where
   pub bytes : List ℕ
   pub contents : Contents
   pub open_file : OpensAs table files bytes contents
   pub told : text ≡ report_of contents bytes
-  pub where_exact : IsOneFile (magic_of Plain) contents.text contents.rules
-      (value_by contents.rules) bytes →
-      (side : Colour) → IsTableOf contents.rules (value_by contents.rules) side
-      (kept_codes contents bytes side)
+  pub where_exact : KeepsTables (value_by contents.rules) contents bytes →
+      (side : Colour) (p : Board) → Member contents.rules.groups p →
+      KeepsBound contents.rules (value_by contents.rules) side p (kept_at side contents bytes p)
 
 -- what an answer says, by its status
 abbrev pub MeansStatus : List ℕ → Files → Status → List ℕ → Type 0

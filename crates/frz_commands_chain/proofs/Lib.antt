@@ -7,6 +7,7 @@ mod PairMeaning
 mod BothFound
 mod ChainOnce
 mod ChainAccepted
+mod ExactChains
 mod ChainAt
 mod NoTable
 mod OnItself

@@ -14,15 +14,11 @@ use Rattle.frz_arena.specs.WayEnds.{Wrong, NoBound, Mated, Stalemated, Exit, Cut
 use Rattle.frz_game.specs.Bounds.{IsTableOf}
 use Rattle.frz_game.specs.Games.{graph_by}
 use Rattle.frz_game.specs.Numbers.{position_at}
-use Rattle.frz_game.proofs.Lemmas.{bound_means, stored_bound}
 use Rattle.frz_store.specs.Files.{Files, bytes_at}
 use Rattle.frz_table.specs.declared.fault.TableFault.{TableFault}
 use Rattle.frz_table.specs.declared.kind.FileKind.TheVariants.{Plain}
-use Rattle.frz_table.specs.Layout.{magic_of}
 use Rattle.frz_table.specs.Opening.{Contents, opened, table_format}
-use Rattle.frz_table.proofs.Lemmas.{belongs}
-use Rattle.frz_check.specs.OneFile.{IsOneFile}
-use Rattle.frz_check.proofs.Lemmas.{file_tables}
+use Rattle.frz_check.proofs.Lemmas.{bound_kept}
 use Rattle.frz_answer.specs.declared.status.Status.{Status}
 use Rattle.frz_answer.specs.declared.status.Status.TheVariants as statuses
 use Rattle.frz_answer.specs.Answers.{Answer, says}
@@ -35,8 +31,8 @@ use Rattle.frz_line.specs.Ends.{told}
 use Rattle.frz_line.specs.Lines.{LinePly, EndOfLine, IsLine}
 use Rattle.frz_commands_line.specs.LineEnds.{end_status}
 use Rattle.frz_commands_line.specs.Later.{held_later}
-use Rattle.frz_commands_line.specs.LineOf.{code_at, codes_later, told_text, IsLined, IsLinedBy, IsLinedAt}
-use Rattle.frz_commands_line.specs.LineMeaning.{KeepsWin, KeepsHold, KeepsBound, HasLine, start_code, MeansStatus, MeansLine}
+use Rattle.frz_commands_line.specs.LineOf.{codes_later, told_text, IsLined, IsLinedBy, IsLinedAt}
+use Rattle.frz_commands_line.specs.LineMeaning.{KeepsWin, KeepsHold, HasLine, start_code, MeansStatus, MeansLine}
 use Rattle.frz_commands_line.proofs.Meaning.{ByOpening, means_by}
 
 -- what the laws say of all lines
@@ -86,31 +82,6 @@ pub game_inside : (rules : RuleLines) (side : Colour) (p : Board) (plies : List 
 game_inside rules side p plies inside h =
     subst (λ o. MatchOption o (plies ≡ []) (λ q. IsGame rules side q plies))
     (position_of rules.groups (Num rules.groups p) p (record { member = inside; number = refl })) h
-
--- the codes of the one file of a text are the table of the side, whenever they are read
-module _ (contents : Contents) (bytes : List ℕ)
-    (opens : opened (table_format Plain) (Some bytes) ≡ Ok contents) (held : ℕ → List ℕ)
-    (one : (k : ℕ) → IsOneFile (magic_of Plain) contents.text contents.rules
-    (value_by contents.rules) (held k))
-    (side : Colour) where
-  pub table_kept : (k : ℕ) → IsTableOf contents.rules (value_by contents.rules) side
-      (codes_later contents held side k)
-  table_kept k =
-      file_tables contents (held k) (belongs (table_format Plain) bytes contents opens).read (one k)
-      side
-
-  pub bound_kept : (p : Board) → Member contents.rules.groups p
-      → KeepsBound contents.rules side p (code_at contents held side p)
-  bound_kept p inside =
-      let b = stored_bound contents.rules (value_by contents.rules) side
-      (codes_later contents held side 0) (table_kept 0) p inside in
-      record {
-        bound = b.0;
-        is = b.1;
-        of = b.2;
-        means = bound_means contents.rules
-            (value_by contents.rules) side p b.0 inside b.2;
-      }
 
 module _ (laws : LineLaws) (later : ℕ → Files) (name : List ℕ) (side : Colour) (p : Board)
     (files : Files) where
@@ -165,8 +136,8 @@ module _ (laws : LineLaws) (later : ℕ → Files) (name : List ℕ) (side : Col
     ends = ap (told side) is ∙ ends;
     win = λ n e. keeps_win has n e;
     hold = λ e. keeps_hold has e;
-    where_exact =
-        λ one. bound_kept has.contents has.bytes has.open_file.opens held one side p has.inside;
+    where_exact = λ exact. bound_kept (value_by has.contents.rules) has.contents (held 0) (exact 0)
+        side p has.inside;
   }
 
   says_end : (has : HasLine later name side p files) (end : EndOfLine) → has.end ≡ end → Says has end
@@ -179,12 +150,11 @@ module _ (laws : LineLaws) (later : ℕ → Files) (name : List ℕ) (side : Col
     ends = is;
     win = λ n e. keeps_win has n e;
     hold = λ e. keeps_hold has e;
-    not_exact = λ one.
+    not_exact = λ exact.
         let rules = has.contents.rules in
         let codes = codes_later has.contents held side in
-        laws.right rules (value_by rules) side codes
-        (table_kept has.contents has.bytes has.open_file.opens held one side) p has.inside has.plies
-        at kept given
+        laws.right rules (value_by rules) side codes (λ k. exact k side) p has.inside has.plies at
+        kept given
         (subst (λ (x : EndOfLine). IsLine rules (value_by rules) side codes (Num rules.groups p)
         has.plies x) is has.line);
   }

@@ -43,7 +43,8 @@ use Rattle.frz_play.specs.Sessions.{SessionPly, EndOfSession, IsSession}
 use Rattle.frz_commands_line.specs.SessionEnds.{session_status}
 use Rattle.frz_commands_line.specs.SessionOf.{played_text, IsPlayed, IsPlayedBy, IsPlayedAt}
 use Rattle.frz_commands_line.specs.SessionMeaning.{PlaysWin, PlaysHold, IsSafe, HasSession, start_code, IsExactFile, MeansStatus, MeansPlay}
-use Rattle.frz_commands_line.proofs.LineMeans.{table_kept, bound_kept, game_inside}
+use Rattle.frz_check.proofs.Lemmas.{bound_kept}
+use Rattle.frz_commands_line.proofs.LineMeans.{game_inside}
 use Rattle.frz_commands_line.proofs.Meaning.{ByOpening, means_by}
 
 -- what the laws say of all sessions
@@ -118,11 +119,10 @@ module _ (laws : SessionLaws) (later : ℕ → Files) (name : List ℕ) (side : 
   is_safe : (has : HasSession later name side p files input) → IsExactFile has
       → AreTrueExits has.contents.rules (value_by has.contents.rules)
       → IsSafe has.contents.rules side has.plies
-  is_safe has one true_exits =
+  is_safe has exact true_exits =
       let rules = has.contents.rules in
       laws.safe rules (value_by rules) true_exits side (codes_later has.contents held side)
-      (table_kept has.contents has.bytes has.open_file.opens held one side) (Num rules.groups p) input
-      has.plies has.end has.left has.session
+      (λ k. exact k side) (Num rules.groups p) input has.plies has.end has.left has.session
 
   -- by how the session ends
   abbrev Says : HasSession later name side p files input → Result SessionEnd PlayFault → Type 0
@@ -137,9 +137,9 @@ module _ (laws : SessionLaws) (later : ℕ → Files) (name : List ℕ) (side : 
     ends = record { tells = tells; told = refl };
     win = λ n e. plays_win has n e;
     hold = λ e. plays_hold has e;
-    where_exact =
-        λ one. bound_kept has.contents has.bytes has.open_file.opens held one side p has.inside;
-    safe = λ one true_exits. is_safe has one true_exits;
+    where_exact = λ exact. bound_kept (value_by has.contents.rules) has.contents (held 0) (exact 0)
+        side p has.inside;
+    safe = λ exact true_exits. is_safe has exact true_exits;
   }
 
   -- an answer that is told is one of these
@@ -192,12 +192,11 @@ module _ (laws : SessionLaws) (later : ℕ → Files) (name : List ℕ) (side : 
         wrong = (at, kept, given, is);
         win = λ n e. plays_win has n e;
         hold = λ e. plays_hold has e;
-        not_exact = λ one.
+        not_exact = λ exact.
             let rules = has.contents.rules in
             let codes = codes_later has.contents held side in
             laws.right rules (value_by rules) side codes
-            (table_kept has.contents has.bytes has.open_file.opens held one side) p has.inside input
-            has.plies at kept given has.left
+            (λ k. exact k side) p has.inside input has.plies at kept given has.left
             (subst (λ (x : EndOfSession). IsSession rules (value_by rules) side codes
             (Num rules.groups p) input has.plies x has.left) is has.session);
       })

@@ -8,19 +8,14 @@ use Rattle.frz_exits.specs.Books.{value_by}
 use Rattle.frz_exits.specs.Values.{lag_of}
 use Rattle.frz_index.specs.Members.{Member}
 use Rattle.frz_store.specs.Files.{Files}
-use Rattle.frz_table.specs.declared.kind.FileKind.TheVariants.{Plain}
-use Rattle.frz_table.specs.Layout.{magic_of}
 use Rattle.frz_table.specs.Opening.{Contents}
-use Rattle.frz_check.specs.OneFile.{IsOneFile}
-use Rattle.frz_arena.specs.declared.bound.Bound.{Bound}
+use Rattle.frz_check.specs.KeptTables.{KeepsBound, KeepsTables}
 use Rattle.frz_arena.specs.declared.bound.Bound.TheVariants.{Wins, Holds}
 use Rattle.frz_arena.specs.Codes.{code_of}
 use Rattle.frz_arena.specs.Counted.{counted}
 use Rattle.frz_arena.specs.WayEnds as ways
 use Rattle.frz_arena.specs.WayEnds.{EndsWon, EndsDrawn}
-use Rattle.frz_game.specs.Bounds.{IsBoundAt}
 use Rattle.frz_game.specs.Games.{graph_by}
-use Rattle.frz_game.specs.Meaning.{Means}
 use Rattle.frz_answer.specs.declared.status.Status.{Status}
 use Rattle.frz_answer.specs.declared.status.Status.TheVariants.{Success, Wrong, Table, Outside, Missing}
 use Rattle.frz_answer.specs.Answers.{Answer}
@@ -50,13 +45,6 @@ pub record KeepsHold (rules : RuleLines) (side : Colour) (plies : List LinePly)
   pub few : length plies ≤ MOST_PLIES
   pub cut : end ≡ ways.Cut → length plies ≡ MOST_PLIES
 
--- the code stands for the bound of the side at the position, and it holds in chess
-pub record KeepsBound (rules : RuleLines) (side : Colour) (p : Board) (code : ℕ) : Type 0 where
-  pub bound : Bound
-  pub is : code ≡ code_of bound
-  pub of : IsBoundAt rules (value_by rules) side p bound
-  pub means : Means rules (value_by rules) side p bound
-
 -- the file opens, the position is in its set, and this is the
 -- line of the side by the codes in the file, as they are read after so many plies; it is a game of
 -- chess from the position
@@ -76,13 +64,12 @@ abbrev pub start_code : {later : ℕ → Files} {table : List ℕ} {side : Colou
 start_code {later = later} {table = table} {side = side} {p = p} has =
     code_at has.contents (held_later later table) side p
 
--- whenever it is read the file is the one file of its text
+-- whenever they are read the codes in the file are the tables of both sides
 abbrev pub IsExactFile : {later : ℕ → Files} {table : List ℕ} {side : Colour} {p : Board} {files : Files} →
     HasLine later table side p files →
     Type 0
 IsExactFile {later = later} {table = table} has = (k : ℕ) →
-    IsOneFile (magic_of Plain) has.contents.text has.contents.rules (value_by has.contents.rules)
-    (held_later later table k)
+    KeepsTables (value_by has.contents.rules) has.contents (held_later later table k)
 
 -- the text is that of the line
 abbrev pub TellsText : {later : ℕ → Files} {table : List ℕ} {side : Colour} {p : Board} {files : Files} →
@@ -92,7 +79,7 @@ TellsText {side = side} has text =
     text ≡ told_text side (start_code has) has.plies (line_ends.told side has.end)
 
 -- the whole line is told, with its end; a win is brought home in its plies, and a hold stays one;
--- in the one file of a text the code of the start is that of the bound
+-- by the tables of both sides the code of the start is that of the bound
 pub record TellsLine (later : ℕ → Files) (table : List ℕ) (side : Colour) (p : Board) (files : Files)
     (text : List ℕ) : Type 0 where
   pub has : HasLine later table side p files
@@ -102,10 +89,11 @@ pub record TellsLine (later : ℕ → Files) (table : List ℕ) (side : Colour) 
   pub win : (n : ℕ) → start_code has ≡ code_of (Wins n)
       → KeepsWin has.contents.rules side n has.plies has.end
   pub hold : start_code has ≡ code_of Holds → KeepsHold has.contents.rules side has.plies has.end
-  pub where_exact : IsExactFile has → KeepsBound has.contents.rules side p (start_code has)
+  pub where_exact : IsExactFile has →
+      KeepsBound has.contents.rules (value_by has.contents.rules) side p (start_code has)
 
--- a code on its way is not the local one, which does not happen in the one file of a text; up to
--- there a win and a hold are kept
+-- a code on its way is not the local one, which does not happen by the tables of both sides; up
+-- to there a win and a hold are kept
 pub record TellsWrong (later : ℕ → Files) (table : List ℕ) (side : Colour) (p : Board) (files : Files)
     (text : List ℕ) : Type 0 where
   pub has : HasLine later table side p files

@@ -13,10 +13,8 @@ use Rattle.frz_exits.specs.Books.{value_by}
 use Rattle.frz_exits.specs.Values.{lag_of}
 use Rattle.frz_index.specs.Members.{Member}
 use Rattle.frz_store.specs.Files.{Files}
-use Rattle.frz_table.specs.declared.kind.FileKind.TheVariants.{Plain}
-use Rattle.frz_table.specs.Layout.{magic_of}
 use Rattle.frz_table.specs.Opening.{Contents}
-use Rattle.frz_check.specs.OneFile.{IsOneFile}
+use Rattle.frz_check.specs.KeptTables.{KeepsBound, KeepsTables}
 use Rattle.frz_arena.specs.declared.bound.Bound.TheVariants.{Wins, Holds}
 use Rattle.frz_arena.specs.Chess.{NeverForcesMate}
 use Rattle.frz_arena.specs.Codes.{code_of}
@@ -38,7 +36,7 @@ use Rattle.frz_play.specs.declared.end.SessionEnd.{SessionEnd}
 use Rattle.frz_play.specs.Ends.{Tells}
 use Rattle.frz_play.specs.Reading.{Input}
 use Rattle.frz_play.specs.Sessions.{SessionPly, EndOfSession}
-use Rattle.frz_commands_line.specs.LineMeaning.{KeepsBound, TellsOutside}
+use Rattle.frz_commands_line.specs.LineMeaning.{TellsOutside}
 use Rattle.frz_commands_line.specs.Later.{held_later}
 use Rattle.frz_commands_line.specs.LineOf.{code_at}
 use Rattle.frz_commands_line.specs.SessionOf.{IsSessionBy, played_text}
@@ -86,13 +84,12 @@ abbrev pub start_code : {later : ℕ → Files} {table : List ℕ} {side : Colou
 start_code {later = later} {table = table} {side = side} {p = p} has =
     code_at has.contents (held_later later table) side p
 
--- whenever it is read the file is the one file of its text
+-- whenever they are read the codes in the file are the tables of both sides
 abbrev pub IsExactFile : {later : ℕ → Files} {table : List ℕ} {side : Colour} {p : Board} {files : Files}
     {input : List ℕ} →
     HasSession later table side p files input → Type 0
 IsExactFile {later = later} {table = table} has = (k : ℕ) →
-    IsOneFile (magic_of Plain) has.contents.text has.contents.rules (value_by has.contents.rules)
-    (held_later later table k)
+    KeepsTables (value_by has.contents.rules) has.contents (held_later later table k)
 
 -- the session answers this, and the text is its own
 pub record Ends
@@ -102,7 +99,7 @@ pub record Ends
   pub tells : Tells side has.end answer
   pub told : text ≡ played_text side (start_code has) has.plies has.end answer
 
--- the whole session is told, with its end; a win and a hold are kept. In the one file of a text the
+-- the whole session is told, with its end; a win and a hold are kept. By the tables of both sides the
 -- code of the start is that of the bound, and where the exits
 -- are true each position after a ply is safe
 pub record TellsSession
@@ -114,12 +111,13 @@ pub record TellsSession
   pub win : (n : ℕ) → start_code has ≡ code_of (Wins n)
       → PlaysWin has.contents.rules side n has.plies has.end
   pub hold : start_code has ≡ code_of Holds → PlaysHold has.contents.rules side has.end
-  pub where_exact : IsExactFile has → KeepsBound has.contents.rules side p (start_code has)
+  pub where_exact : IsExactFile has →
+      KeepsBound has.contents.rules (value_by has.contents.rules) side p (start_code has)
   pub safe : IsExactFile has → AreTrueExits has.contents.rules (value_by has.contents.rules) →
       IsSafe has.contents.rules side has.plies
 
--- a code on its way is not the local one, which does not happen in the one file of a text; up to
--- there a win and a hold are kept
+-- a code on its way is not the local one, which does not happen by the tables of both sides; up
+-- to there a win and a hold are kept
 pub record TellsWrong (later : ℕ → Files) (table : List ℕ) (side : Colour) (p : Board) (files : Files)
     (input text : List ℕ) : Type 0 where
   pub has : HasSession later table side p files input

@@ -7,6 +7,8 @@ mod JudgedFiles
 mod CheckMeaning
 mod Checked
 mod OneAccepted
+mod ExactFiles
+mod BuiltAccepted
 mod SampleText
 mod Sampled
 mod MovedCodes

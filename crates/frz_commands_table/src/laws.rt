@@ -6,6 +6,7 @@ ghost use Rattle.frz_answer.specs.declared.status.Status.TheVariants.{Success};
 ghost use Rattle.frz_store.specs.Files.{Files, bytes_at};
 ghost use Rattle.frz_table.specs.Numbers.{AreBytes};
 ghost use Rattle.frz_table.specs.Possible.{held_text};
+ghost use Rattle.frz_commands_table.specs.BuildMeaning.{building_at};
 ghost use Rattle.frz_commands_table.specs.CheckMeans.{checking_at};
 
 use frz_check::laws::one_file;
@@ -22,3 +23,10 @@ pub fn one_is_accepted()
 {
     one_file();
 }
+
+/// What `build` writes with status 0, `check` finds exact.
+pub fn built_is_accepted()
+    ensures { (rules table : List ℕ) (files : Files) (input more : List ℕ) (a b : Answer) →
+        (building_at rules table).answers files input a → a.status ≡ Success →
+        (checking_at table).answers a.files more b → b.status ≡ Success }
+{}
