@@ -90,7 +90,6 @@ pub never_cut : (arena : Arena Step ℕ Value) (side : Colour) (codes_of : ℕ �
 never_cut arena side codes_of k s p plies t w =
     never_cut_at arena side codes_of k s (k, p) plies t w
 
-
 -- what is answered at an end, and that it is said
 pub record Answered (side : Colour) (end : EndOfSession) : Type 0 where
   pub answer : Result SessionEnd PlayFault

@@ -32,7 +32,10 @@ pub is_later_part : (job : Job) (statuses : List Status)
     → subset statuses job.statuses ≡ true
     → IsStage
     (record job {
-      answers = answers; means = means; statuses = statuses; costs = costs;
+      answers = answers;
+      means = means;
+      statuses = statuses;
+      costs = costs;
       needs = record job.needs { reads = Never };
     }) job
 is_later_part job statuses all = record {

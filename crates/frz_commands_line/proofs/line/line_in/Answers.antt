@@ -25,7 +25,11 @@ returns g c =
           e.quiet e.later c.best_line-line.result c.end_of_line.result e.outside
           (λ is. let same = e.untouched is in
           (ap (store_of g.S.Store) same.0, ap (sink_of g.O.Sink) same.1, same.2)) e.cause
-          c.end_of_line.ensures
-          (w.0, w.2, w.3, w.5 (codes_later (contents_of table) (held_later held.later table.name)
-          side) held.same),
+          c.end_of_line.ensures (
+            w.0,
+            w.2,
+            w.3,
+            w.5 (codes_later (contents_of table) (held_later held.later table.name)
+                side) held.same,
+          ),
     )

@@ -33,9 +33,15 @@ returns-in-Ok g c =
           e.quiet e.later
           (subst (λ (z : List GroupLine). Member z c.args.p.now) c.set.ensures c.in-Ok.ensures.0)
           c.play_session-session.result c.end_of_session.result e.outside e.cause e.input
-          c.end_of_session.ensures
-          (w.0, w.1, w.2, w.3, w.4, w.5.2 (codes_later (contents_of table)
-          (held_later held.later table.name) side) held.same),
+          c.end_of_session.ensures (
+            w.0,
+            w.1,
+            w.2,
+            w.3,
+            w.4,
+            w.5.2 (codes_later (contents_of table)
+                (held_later held.later table.name) side) held.same,
+          ),
     )
 
 pub returns-in-Err : goal.returns-in-Err
