@@ -1,8 +1,10 @@
 -- What is told of a table that `build` or `chain` left.
-use Rattle.std.proofs.Common.{◌≡◌, subst, ℕ, List, [], false}
+use Rattle.std.proofs.Common.{◌≡◌, subst, ℕ, List, [], true, false}
 use Rattle.std.specs.Str.{bytes_eq}
 use Rattle.frz_exits.specs.Books.{value_by}
 use Rattle.frz_index.specs.Members.{Member}
+use Rattle.frz_game.specs.TextsByMen.{are_true_by_men}
+use Rattle.frz_game.specs.Values.{AreTrueExits}
 use Rattle.frz_store.specs.Files.{Files}
 use Rattle.frz_table.specs.Opening.{Contents}
 use Rattle.frz_answer.specs.declared.status.Status.{Status}
@@ -73,6 +75,9 @@ module _ (lawful : (later : ℕ → Files) (words : List (List ℕ)) → IsLawfu
             inside = subst (λ (c : Contents). Member c.rules.groups t.p) same t.inside;
             tells = subst (λ (c : Contents). TellsBounds c.rules (value_by c.rules) t.p b.text) same
                 t.tells;
+            true_by_men = subst
+                (λ (c : Contents). are_true_by_men c.rules ≡ true
+                → AreTrueExits c.rules (value_by c.rules)) same t.exact.true_by_men;
           };
         }
 
