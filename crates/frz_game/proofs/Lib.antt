@@ -21,3 +21,4 @@ mod WholeSets
 mod KingAndRook
 mod LongestMate
 mod TrueAtEnds
+mod KingAndPawn

@@ -71,7 +71,7 @@ places_counted p g =
     (λ i. ap (λ j. stands p g.colour (slice_get g.states j)) (omega arith))
 
 -- a count by the images
-count_mapped : {X Y : Type 0} (t : Y → Bool) (f : X → Y) (xs : List X) →
+pub count_mapped : {X Y : Type 0} (t : Y → Bool) (f : X → Y) (xs : List X) →
     count_by t (map f xs) ≡ count_by (λ x. t (f x)) xs
 count_mapped t f [] = refl
 count_mapped t f (x ∷ xs) =

@@ -77,7 +77,7 @@ one_less t y a (suc n) =
           omega (arith, first, second, here, rest))
     ]
 
-none_counted : (t : ℕ → Bool) (a n : ℕ) → ((s : ℕ) → s < a + n → t s ≡ true → ⊥) →
+pub none_counted : (t : ℕ → Bool) (a n : ℕ) → ((s : ℕ) → s < a + n → t s ≡ true → ⊥) →
     count_by t (range_with_len a n) ≡ 0
 none_counted t a zero none = refl
 none_counted t a (suc n) none =
@@ -89,7 +89,7 @@ none_counted t a (suc n) none =
     ]
 
 -- where each number that passes is one of a list, no more pass than pass there
-covered : {X : Type 0} (f : X → Bool) (at : X → ℕ) (xs : List X) (t : ℕ → Bool) (n : ℕ) →
+pub covered : {X : Type 0} (f : X → Bool) (at : X → ℕ) (xs : List X) (t : ℕ → Bool) (n : ℕ) →
     ((s : ℕ) → s < n → t s ≡ true → (x : X) × Contains xs x × (f x ≡ true) × (at x ≡ s)) →
     count_by t (range_with_len 0 n) ≤ count_by f xs
 covered f at [] t n each =

@@ -73,7 +73,7 @@ same_colour_of : (c d : Colour) → c ≡ d → same_colour c d ≡ true
 same_colour_of c d e = ap (λ (x : Colour). same_colour c x) (sym e) ∙ own_colour c
 
 -- a man of a position of the set is of a kind that the set gives its side
-kind_there : (groups : List GroupLine) (p : Board) → Member groups p → (c : Colour) (k : Kind)
+pub kind_there : (groups : List GroupLine) (p : Board) → Member groups p → (c : Colour) (k : Kind)
     (s : ℕ) → s < 64 → Stands p c k s → has_kind groups c k ≡ true
 kind_there groups p member c k s ls h =
     let cell = cell_of_man (record { colour = c; kind = k }) in

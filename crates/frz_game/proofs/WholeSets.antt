@@ -54,7 +54,7 @@ kind_in (k ∷ kinds) st h =
       | inr i ↦ later_in k kinds st.0 (kind_in kinds st i)
     ]
 
-state_in : (kinds : List Kind) (k : Kind) (s : ℕ) → Contains kinds k → s < 64 →
+pub state_in : (kinds : List Kind) (k : Kind) (s : ℕ) → Contains kinds k → s < 64 →
     Contains (each_everywhere kinds) (k, s)
 state_in [] k s h ls = absurd (none_in_empty k h)
 state_in (j ∷ kinds) k s h ls =
@@ -103,7 +103,7 @@ line_holds q c kinds most few (cond ∷ conds) all =
     (line_holds q c kinds most few conds all.1)
 
 -- the man of a cell
-man_at : (x : ℕ) → x ≢ 0 → x < 13 →
+pub man_at : (x : ℕ) → x ≢ 0 → x < 13 →
     (c : Colour) × (k : Kind) × (x ≡ cell_of_man (record { colour = c; kind = k }))
 man_at zero n h = absurd (n refl)
 man_at (suc zero) n h = (White, King, refl)

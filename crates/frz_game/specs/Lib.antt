@@ -10,3 +10,4 @@ pub mod ExactBounds
 pub mod TextsByMen
 pub mod WholeSets
 pub mod KingAndRook
+pub mod KingAndPawn

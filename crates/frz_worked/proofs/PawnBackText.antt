@@ -1,4 +1,5 @@
--- The text of what a pawn may become is read as those rules, and its table is exact in chess.
+-- The texts of king and pawn and of what the pawn may become are read as those rules, and the table
+-- of the second is exact in chess.
 use Rattle.std.proofs.Common.{◌≡◌, ◌≢◌, ℕ, inl, inr, true, List, [], ◌∷◌, refl, subst, ◌∙◌, arith}
 use Rattle.std.specs.Prelude.{Result, Ok}
 use Rattle.std.specs.List.{Contains}
@@ -21,16 +22,20 @@ use Rattle.frz_words.specs.Words.{words}
 use Rattle.frz_squares.specs.SquareSets.{set_of}
 use Rattle.frz_game.specs.Bounds.{IsTableOf}
 use Rattle.frz_game.specs.ExactTables.{IsExactInChess}
+use Rattle.frz_game.specs.KingAndPawn.{king_and_pawn, pawn_back}
 use Rattle.frz_game.specs.MenAlone.{IsDrawnOutside}
 use Rattle.frz_game.specs.TextsByMen.{are_drawn_by_men}
 use Rattle.frz_game.specs.WholeSets.{IsWholeSet, by_king, by_none}
 use Rattle.frz_game.proofs.Lemmas.{whole_set_drawn, exact_where_drawn}
-use Rattle.frz_worked.specs.PawnBack.{pawn_back}
-use Rattle.frz_worked.specs.WorkedTexts.{pawn_back_text}
+use Rattle.frz_worked.specs.WorkedTexts.{pawn_text, pawn_back_text}
 
 pub pawn_back_read : rules_of pawn_back_text ≡ Ok pawn_back
 unfolding rules_of pawn_back_text line_of group_of forbid_of exit_of line_form states_of number_of squares_of is_square_of words squares set_of choose
 pawn_back_read = refl
+
+pub pawn_read : rules_of pawn_text ≡ Ok king_and_pawn
+unfolding rules_of pawn_text line_of group_of forbid_of exit_of line_form states_of number_of squares_of is_square_of words squares set_of choose
+pawn_read = refl
 
 -- each of these kinds is no pawn
 no_kind : (k : Kind) → Contains [] k → k ≢ Pawn

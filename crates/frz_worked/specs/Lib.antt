@@ -2,4 +2,3 @@ pub mod Ten
 pub mod RookText
 pub mod FortressText
 pub mod WorkedTexts
-pub mod PawnBack

@@ -12,9 +12,9 @@ ghost use Rattle.frz_arena.specs.Codes.{code_of};
 ghost use Rattle.frz_exits.specs.Books.{value_by};
 ghost use Rattle.frz_game.specs.Bounds.{IsTableOf};
 ghost use Rattle.frz_game.specs.ExactTables.{IsExactInChess, HasWinsUpTo, IsLongestMate};
+ghost use Rattle.frz_game.specs.KingAndPawn.{king_and_pawn, pawn_back};
 ghost use Rattle.frz_game.specs.KingAndRook.{king_and_rook};
 ghost use Rattle.frz_worked.specs.FortressText.{fortress_text};
-ghost use Rattle.frz_worked.specs.PawnBack.{pawn_back};
 ghost use Rattle.frz_worked.specs.RookText.{rook_text};
 ghost use Rattle.frz_worked.specs.WorkedTexts.{IsUnconditional, pawn_back_text as back_text, pawn_text, corner_text, corner_back_text, blocked_text, wall_text};
 
@@ -31,9 +31,10 @@ pub fn king_and_rook_text()
         HasWinsUpTo codes n → IsLongestMate rules White n }
 {}
 
-/// The text of what a pawn may become, with the bare kings, is accepted, and the table of its rules
-/// is exact in chess for both sides.
+/// The text of king and pawn is accepted, and so is that of what the pawn may become, into whose set
+/// each move out of the first one leads; the table of the second is exact in chess for both sides.
 pub fn pawn_back_text()
+    ensures pawn { rules_of pawn_text ≡ Ok king_and_pawn }
     ensures read { rules_of back_text ≡ Ok pawn_back }
     ensures exact { (rules : RuleLines) → rules_of back_text ≡ Ok rules → (side : Colour)
         (codes : List ℕ) → IsTableOf rules (value_by rules) side codes →

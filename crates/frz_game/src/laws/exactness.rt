@@ -12,6 +12,8 @@ ghost use Rattle.frz_arena.specs.Codes.{code_of};
 ghost use Rattle.frz_arena.specs.WholeTruth.{MatesIn, WinsAreKnown, WinsAreCounted, LossesAreKnown};
 ghost use Rattle.frz_exits.specs.Books.{value_by};
 ghost use Rattle.frz_game.specs.Bounds.{IsBoundAt, IsTableOf};
+ghost use Rattle.frz_arena.specs.Exits.{IsExit};
+ghost use Rattle.frz_game.specs.KingAndPawn.{king_and_pawn as pawn, pawn_back};
 ghost use Rattle.frz_game.specs.KingAndRook.{king_and_rook as rook};
 ghost use Rattle.frz_game.specs.ExactTables.{HasNoForbid, AreDecidedOutside, HasExactOutcomes, IsExactInChess, HasWinsUpTo, IsLongestMate};
 ghost use Rattle.frz_game.specs.ExactBounds.{IsExactWhereFree, TableIsExactWhereFree};
@@ -67,4 +69,11 @@ pub fn longest_mate()
 pub fn king_and_rook()
     ensures { (side : Colour) (codes : List ℕ) →
         IsTableOf rook (value_by rook) side codes → IsExactInChess rook side codes }
+{}
+
+/// Each move out of the set of king and pawn against king leads into the set of what the pawn may
+/// become, and the bare kings.
+pub fn king_and_pawn()
+    ensures { (value : Board → Value) (q : Board) → IsExit (game_of pawn value) q →
+        Member pawn_back.groups q }
 {}
