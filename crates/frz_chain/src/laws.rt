@@ -78,7 +78,7 @@ pub fn plies_over_a_chain()
 /// Where the outcomes of the back table are those of chess, and each way out of the set is decided
 /// by an exit line or lies in the back table's set, each value outside decides the game.
 pub fn exact_backs()
-    ensures decided { (rules backs : RuleLines) (value : Board → Value) (back : Back) →
+    ensures { (rules backs : RuleLines) (value : Board → Value) (back : Back) →
         IsExactBack backs value back → HasExactOutcomes backs White back.white →
         HasExactOutcomes backs Black back.black → AreLinesOrBehind rules backs back →
         AreDecidedOutside rules (chain_value rules back) }

@@ -4,10 +4,11 @@ use Rattle.frz_rules.specs.declared.fault.RulesError.{RulesError}
 use Rattle.frz_sets.specs.Views.{RuleLines}
 use Rattle.frz_store.specs.Told.{store_of}
 use Rattle.frz_table.proofs.Lemmas.{read_short}
+use Rattle.frz_chain.specs.Causes.{HasChainCause}
 use Rattle.frz_chain.specs.Chains.{RefusesToChain}
 use Rattle.frz_chain.specs.FileOn.{loaded_back}
 use Rattle.frz_chain.specs.declared.fault.ChainFault.{ChainFault}
-use Rattle.frz_chain.proofs.Chained.{chained, not_chained, not_read}
+use Rattle.frz_chain.proofs.Chained.{chained, not_chained, not_read, write_cause}
 use Rattle.frz_chain.proofs.building.build_chain.Goals as goal
 
 pub build_over-requires-clause-text : goal.build_over-requires-clause-text
@@ -39,6 +40,22 @@ returns-in_err-build_over-clause-refused g c =
     c.build_over.new.steps))
     (sym (p.1 ∙ ap err p.2))
     (not_chained c.args.text.now c.args.back.now c.args.name.now c.in_ok-rules.rules
+    c.in_ok-rules.ensures.exact (loaded_back c.in_ok-back.back) old mid new
+    c.args.steps.now c.open_back.new.steps c.build_over.new.steps back.quiet back.cause back.opened
+    over.cost over.asked over.calls c.in_err-build_over.field-0.0 over.built)
+
+pub returns-in_err-build_over-clause-cause : goal.returns-in_err-build_over-clause-cause
+returns-in_err-build_over-clause-cause g c =
+    let old = store_of g.S.Store c.args.store.now in
+    let mid = store_of g.S.Store c.open_back.new.store in
+    let new = store_of g.S.Store c.build_over.new.store in
+    let back = c.in_ok-back.ensures in
+    let over = c.in_err-build_over.ensures in
+    let err : ChainFault → Result ℕ ChainFault = λ f. Err f in
+    let p = err_from_is_err_and c.from_residual-in_err-build_over.result
+    c.from_residual-in_err-build_over.ensures.1 in
+    subst (λ (r : Result ℕ ChainFault). HasChainCause r old new) (sym (p.1 ∙ ap err p.2))
+    (write_cause c.args.text.now c.args.back.now c.args.name.now c.in_ok-rules.rules
     c.in_ok-rules.ensures.exact (loaded_back c.in_ok-back.back) old mid new
     c.args.steps.now c.open_back.new.steps c.build_over.new.steps back.quiet back.cause back.opened
     over.cost over.asked over.calls c.in_err-build_over.field-0.0 over.built)
