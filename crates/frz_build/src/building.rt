@@ -1,8 +1,11 @@
 //! A table file is built.
 ghost use Rattle.std.specs.Prelude.{◌≡◌, ◌+◌, ◌*◌, ◌^◌, ◌≤◌, ◌<◌, length, IfOk, OnOk};
+ghost use Rattle.frz_board.specs.declared.man.Colour.TheVariants.{Black, White};
 ghost use Rattle.frz_sets.specs.Sets.{size_of};
 ghost use Rattle.frz_sets.specs.Sound.{IsSound};
 ghost use Rattle.frz_game.specs.Bounds.{IsTableOf};
+ghost use Rattle.frz_game.specs.Games.{graph_by};
+ghost use Rattle.frz_retro.specs.Notes.{AreNoted};
 ghost use Rattle.frz_store.specs.Told.{store_of};
 ghost use Rattle.frz_store.specs.Writes.{Appended};
 ghost use Rattle.frz_table.specs.Layout.{magic_of, pieces_of};
@@ -14,7 +17,7 @@ use frz_board::Colour;
 use frz_exits::ExitBook;
 use frz_game::Game;
 use frz_game::laws::tables::tables;
-use frz_retro::Workshop;
+use frz_retro::BothSides;
 use frz_steps::Steps;
 use frz_store::{Failed, Store, StoreFault};
 use frz_table::FileKind;
@@ -29,42 +32,75 @@ pub struct NewTable<'a> {
     pub text: &'a [u8],
 }
 
-/// Solves the game for the side and appends its codes.
-fn write_side<S: Store, B: ExitBook, L: Ledger>(
+/// Solves the game for White and appends the codes. What Black's numbers begin with is kept.
+fn write_white<S: Store, B: ExitBook, L: Ledger>(
     game: &Game<'_, B>,
-    side: Colour,
-    workshop: &mut Workshop,
+    sides: &mut BothSides,
     store: &mut S,
     steps: &mut Steps<L>,
 ) -> Result<(), Failed>
     requires sound { IsSound game.now.rules.now }
-    requires size { length workshop.old ≡ size_of game.now.rules.now.groups }
-    requires some { 1 ≤ length workshop.old }
-    requires room { 4 * length workshop.old ≤ S.room store.old }
-    ensures table { IsTableOf game.now.rules.now (B.value_at game.now.book.now) side workshop.new }
-    ensures appended { Appended (number_bytes workshop.new) result
+    requires size { length sides.old.entries ≡ size_of game.now.rules.now.groups }
+    requires some { 1 ≤ length sides.old.entries }
+    requires room { 4 * length sides.old.entries ≤ S.room store.old }
+    ensures table { IsTableOf game.now.rules.now (B.value_at game.now.book.now) White
+        sides.new.entries }
+    ensures noted { let size = size_of game.now.rules.now.groups in
+        AreNoted (graph_by game.now.rules.now (B.value_at game.now.book.now)) size Black size
+        sides.new.notes }
+    ensures appended { Appended (number_bytes sides.new.entries) result
         (store_of S.Store store.old) (store_of S.Store store.new) }
-    ensures room { OnOk result (S.room store.new + 4 * length workshop.new ≡ S.room store.old) }
+    ensures room { OnOk result (S.room store.new + 4 * length sides.new.entries
+        ≡ S.room store.old) }
     ensures asked { S.asked store.new ≡ S.asked store.old }
-    ensures calls { S.calls store.new ≤ S.calls store.old + pieces_of (length workshop.new) }
-    ensures cost { steps.new ≤ steps.old + 2 * length workshop.new }
+    ensures calls { S.calls store.new ≤ S.calls store.old + pieces_of (length sides.new.entries) }
+    ensures cost { steps.new ≤ steps.old + 2 * length sides.new.entries }
     ensures later { steps.old ≤ steps.new }
 {
-    workshop.run_game(game, side, steps);
-    append_codes(workshop.entries(), store)
+    sides.run_game(game, Colour::White, steps);
+    append_codes(sides.entries(), store)
+}
+
+/// Solves the game for Black, whose numbers begin as it is kept, and appends the codes.
+fn write_black<S: Store, B: ExitBook, L: Ledger>(
+    game: &Game<'_, B>,
+    sides: &mut BothSides,
+    store: &mut S,
+    steps: &mut Steps<L>,
+) -> Result<(), Failed>
+    requires sound { IsSound game.now.rules.now }
+    requires size { length sides.old.entries ≡ size_of game.now.rules.now.groups }
+    requires noted { let size = size_of game.now.rules.now.groups in
+        AreNoted (graph_by game.now.rules.now (B.value_at game.now.book.now)) size Black size
+        sides.old.notes }
+    requires some { 1 ≤ length sides.old.entries }
+    requires room { 4 * length sides.old.entries ≤ S.room store.old }
+    ensures table { IsTableOf game.now.rules.now (B.value_at game.now.book.now) Black
+        sides.new.entries }
+    ensures appended { Appended (number_bytes sides.new.entries) result
+        (store_of S.Store store.old) (store_of S.Store store.new) }
+    ensures room { OnOk result (S.room store.new + 4 * length sides.new.entries
+        ≡ S.room store.old) }
+    ensures asked { S.asked store.new ≡ S.asked store.old }
+    ensures calls { S.calls store.new ≤ S.calls store.old + pieces_of (length sides.new.entries) }
+    ensures cost { steps.new ≤ steps.old + length sides.new.entries }
+    ensures later { steps.old ≤ steps.new }
+{
+    sides.run_game_second(game, Colour::Black, steps);
+    append_codes(sides.entries(), store)
 }
 
 /// Creates the file and writes it: the header, White's codes, then Black's. Gives the size.
 fn write_table<S: Store, B: ExitBook, L: Ledger>(
     game: &Game<'_, B>,
     file: &NewTable<'_>,
-    workshop: &mut Workshop,
+    sides: &mut BothSides,
     store: &mut S,
     steps: &mut Steps<L>,
 ) -> Result<u32, StoreFault>
     requires sound { IsSound game.now.rules.now }
     requires text { length file.now.text.now < 2 ^ 32 }
-    requires size { length workshop.old ≡ size_of game.now.rules.now.groups }
+    requires size { length sides.old.entries ≡ size_of game.now.rules.now.groups }
     ensures size { IfOk result (λ size. size ≡ size_of game.now.rules.now.groups) }
     ensures built { Builds (magic_of file.now.kind) file.now.text.now game.now.rules.now
         (B.value_at game.now.book.now) file.now.name.now result
@@ -79,8 +115,8 @@ fn write_table<S: Store, B: ExitBook, L: Ledger>(
     tables();
     let size = game.set.size();
     begin_table(file, size, store)?;
-    write_side(game, Colour::White, workshop, store, steps)?;
-    write_side(game, Colour::Black, workshop, store, steps)?;
+    write_white(game, sides, store, steps)?;
+    write_black(game, sides, store, steps)?;
     Ok(size)
 }
 
@@ -107,8 +143,8 @@ pub fn build_table<S: Store, B: ExitBook, L: Ledger>(
     ensures later { steps.old ≤ steps.new }
 {
     tables();
-    match Workshop::new(alloc, game.set.size()) {
-        Ok(mut workshop) => write_table(game, file, &mut workshop, store, steps),
+    match BothSides::new(alloc, game.set.size()) {
+        Ok(mut sides) => write_table(game, file, &mut sides, store, steps),
         Err(_) => Err(StoreFault::NoMemory),
     }
 }

@@ -1,4 +1,4 @@
-//! Table files are built: both sides of a game are solved in one workshop, and each is written as
+//! Table files are built: both sides of a game are solved after one walk, and each is written as
 //! soon as it is solved.
 #![tactic(auto)]
 

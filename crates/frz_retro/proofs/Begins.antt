@@ -2,14 +2,17 @@
 use Rattle.std.proofs.Common.{◌≡◌, ◌≢◌, ℕ, Bool, true, false, cond, ◌+◌, ◌<◌, ◌≤◌, List, [], ◌∷◌, eqb, sym, ◌∙◌, ap, refl, arith, inl, inr, get_or, set, length, subst, get_or-set_same, get_or-set_other, length-set}
 use Rattle.std.proofs.lemmas.Bool.{cases_eq, cases_lt}
 use Rattle.std.proofs.lemmas.List.{get_or_past}
-use Rattle.frz_board.specs.Men.{same_colour}
 use Rattle.frz_retro.specs.Shape.{Shape}
 use Rattle.frz_retro.specs.Work.{ones, Queue, Sized, Begun}
-use Rattle.frz_retro.specs.Beginning.{IsBegun, Opens, start_of, later_of}
+use Rattle.frz_retro.specs.Beginning.{IsBegun}
+use Rattle.frz_retro.specs.Notes.{IsNoteOf, entry_in, later_in}
+use Rattle.std.specs.Prelude.{if◌then◌else◌, nat_le, nat_lt}
+use Rattle.std.proofs.lemmas.Bool.Decides.{nat_tests}
+use Rattle.std.proofs.lemmas.List.{set-get_or}
+use Rattle.std.proofs.Common.{zero, suc}
 use Rattle.frz_board.specs.declared.man.Colour.{Colour}
-use Rattle.frz_arena.specs.declared.node.Node.TheVariants.{Broken, Mate, Going}
-use Rattle.frz_retro.proofs.WorkFacts.{ones_set, read_back, queue_keeps, room_for, sized_keeps}
-use Rattle.frz_retro.proofs.Starts.{opens_from, fails_from}
+use Rattle.frz_arena.specs.declared.node.Node.TheVariants.{Going}
+use Rattle.frz_retro.proofs.WorkFacts.{ones_set, read_back, queue_keeps, room_for}
 
 -- an open number breaks
 queue_breaks : {k mid : ℕ} {E Q : List ℕ} {tail : ℕ} (i : ℕ) → Queue k mid E Q tail → mid ≤ tail →
@@ -43,10 +46,20 @@ queue_breaks {E = E} {Q = Q} i u m one =
       once = u.once;
     }
 
+few_entries : (code : ℕ) → entry_in code < 4
+few_entries code = elim (cases_lt code 4) [
+  | inl low ↦
+      let test : nat_lt code 4 ≡ true = grind (arith, nat_tests) in
+      let is = ap (λ t. cond t code 1) test in omega (arith, is, low)
+  | inr high ↦
+      let test : nat_lt code 4 ≡ false = grind (arith, nat_tests) in
+      let is = ap (λ t. cond t code 1) test in omega (arith, is)
+]
+
 module _ {B : Shape} {side : Colour} {E C L Q : List ℕ} {tail : ℕ} (n : ℕ)
     (b : Begun B side n E C L Q tail) (l : n < B.size) where
   pub is_one : get_or E n 0 ≡ 1
-  is_one = (b.rest n (omega arith) l).0
+  is_one = b.rest n (omega arith) l
 
   pub has_room : tail < length Q
   has_room = room_for n b.queue is_one
@@ -73,8 +86,7 @@ module _ {B : Shape} {side : Colour} {E C L Q : List ℕ} {tail : ℕ} (n : ℕ)
     ];
     rest = λ i h k.
         let x : i ≢ n = omega (arith, h) in
-        let r = b.rest i (omega (arith, h)) k in
-        (f i x ∙ r.0, m i x ∙ r.1);
+        f i x ∙ b.rest i (omega (arith, h)) k;
     ended = λ i h g. elim (cases_eq i n) [
       | inl e ↦ ap (λ j. get_or M j 0) e ∙ ended (λ c y. g c (ap B.arena.node e ∙ y))
       | inr x ↦ m i x ∙ b.ended i (omega (arith, h, x)) g
@@ -87,90 +99,61 @@ module _ {B : Shape} {side : Colour} {E C L Q : List ℕ} {tail : ℕ} (n : ℕ)
     sized = sized;
   }
 
-  none_later : get_or L n 0 ≡ 0
-  none_later = (b.rest n (omega arith) l).1
-
-  other : (xs : List ℕ) (x j : ℕ) → j ≢ n → get_or (set xs n x) j 0 ≡ get_or xs j 0
-  other xs x j h = get_or-set_other xs n j x 0 h
-
   at_code : (x : ℕ) → get_or (set E n x) n 0 ≡ x
   at_code x = read_back E n x (omega (arith, is_one))
 
-  pub begins_broken : B.arena.node n ≡ Broken → Begun B side (n + 1) (set E n 0) C L Q tail
-  begins_broken e = begins (set E n 0) C L Q tail (other E 0) (λ _ _. refl) (λ _ _. refl)
-      (subst (λ x. IsBegun side x (B.arena.arms n) (get_or (set E n 0) n 0) (get_or C n 0)
-      (get_or L n 0)) (sym e) (at_code 0))
-      (let y = at_code 0 in omega (arith, y)) (λ _. none_later)
-      (queue_breaks n b.queue (omega arith) is_one)
-      (let s = b.sized in
-      record {
-        codes = length-set E n 0 ∙ s.codes;
-        counts = s.counts;
-        later = s.later;
-        queue = s.queue;
-      })
+  -- a number that is not open has a code of its own
+  queue_begins : (entry : ℕ) → Queue 0 0 (set E n entry) (if nat_le 2 entry then set Q tail n else Q)
+      (if nat_le 2 entry then tail + 1 else tail)
+  queue_begins zero = queue_breaks n b.queue (omega arith) is_one
+  queue_begins (suc zero) =
+      subst (λ (F : List ℕ). Queue 0 0 F Q tail)
+      (sym (ap (set E n) (sym is_one) ∙ set-get_or E n 0)) b.queue
+  queue_begins (suc (suc entry)) =
+      let two : nat_le 2 (suc (suc entry)) ≡ true = grind (arith, nat_tests) in
+      subst (λ (t : Bool). Queue 0 0 (set E n (suc (suc entry))) (if t then set Q tail n else Q)
+      (if t then tail + 1 else tail)) (sym two)
+      (queue_keeps n (suc (suc entry)) b.queue (omega arith) is_one (omega arith))
 
-  begins_code : (code : ℕ) → 2 ≤ code → code < 4 →
-      IsBegun side (B.arena.node n) (B.arena.arms n) code (get_or C n 0) (get_or L n 0) →
-      Begun B side (n + 1) (set E n code) C L (set Q tail n) (tail + 1)
-  begins_code code low few here =
-      begins (set E n code) C L (set Q tail n) (tail + 1) (other E code) (λ _ _. refl) (λ _ _. refl)
-      (subst (λ (x : ℕ). IsBegun side (B.arena.node n) (B.arena.arms n) x (get_or C n 0)
-      (get_or L n 0)) (sym (at_code code)) here)
-      (let y = at_code code in omega (arith, y, few)) (λ _. none_later)
-      (queue_keeps n code b.queue (omega arith) is_one (omega (arith, low)))
-      (sized_keeps n code tail b.sized)
-
-  pub begins_mate : (c : Colour) → B.arena.node n ≡ Mate c →
-      Begun B side (n + 1) (set E n (cond (same_colour c side) 3 2)) C L (set Q tail n) (tail + 1)
-  begins_mate c e = let x = cond_two (same_colour c side) in
-      begins_code (cond (same_colour c side) 3 2) x.0 x.1
-      (subst (λ y. IsBegun side y (B.arena.arms n) (cond (same_colour c side) 3 2) (get_or C n 0)
-      (get_or L n 0)) (sym e) refl)
-    where
-      cond_two : (t : Bool) → (2 ≤ cond t 3 2) × (cond t 3 2 < 4)
-      cond_two true = (omega arith, omega arith)
-      cond_two false = (omega arith, omega arith)
-
-  pub begins_failed : (c : Colour) (own : Bool) → B.arena.node n ≡ Going c →
-      own ≡ same_colour c side → (start_of own side (B.arena.arms n)).any ≡ false →
-      Begun B side (n + 1) (set E n 3) C L (set Q tail n) (tail + 1)
-  begins_failed c own e w none = begins_code 3 (omega arith) (omega arith)
-      (subst (λ y. IsBegun side y (B.arena.arms n) 3 (get_or C n 0) (get_or L n 0)) (sym e)
-      (inr (fails_from (same_colour c side) side (B.arena.arms n) 3 refl
-      (subst (λ x. (start_of x side (B.arena.arms n)).any ≡ false) w none))))
-
-  pub begins_open : (c : Colour) (own : Bool) → B.arena.node n ≡ Going c →
-      own ≡ same_colour c side → (start_of own side (B.arena.arms n)).any ≡ true →
-      Begun B side (n + 1) E (set C n (start_of own side (B.arena.arms n)).count)
-      (set L n (later_of (start_of own side (B.arena.arms n)))) Q tail
-  begins_open c own e w any =
+  sized_begins : (entry count later : ℕ) (t : Bool) →
+      Sized B.size (set E n entry) (set C n count) (set L n later) (if t then set Q tail n else Q)
+  sized_begins entry count later t =
       let s = b.sized in
-      let D = set C n (start_of own side (B.arena.arms n)).count in
-      let M = set L n (later_of (start_of own side (B.arena.arms n))) in
-      let sc = s.counts in let sl = s.later in
-      let dn : get_or D n 0 ≡ (start_of own side (B.arena.arms n)).count = get_or-set_same C n
-      (start_of own side (B.arena.arms n)).count 0 (omega (arith, sc, l)) in
-      let mn : get_or M n 0 ≡ later_of (start_of own side (B.arena.arms n)) = get_or-set_same L n
-      (later_of (start_of own side (B.arena.arms n))) 0 (omega (arith, sl, l)) in
-      let o = opens_from own side (B.arena.arms n) (get_or E n 0) is_one any in
-      let o2 : Opens own side (B.arena.arms n) (get_or E n 0) (get_or D n 0) (get_or M n 0) = subst
-      (λ (x : ℕ). Opens own side (B.arena.arms n) (get_or E n 0) x (get_or M n 0)) (sym dn)
-      (subst (λ (x : ℕ). Opens own side (B.arena.arms n) (get_or E n 0)
-      (start_of own side (B.arena.arms n)).count x) (sym mn) o) in
-      begins E D M Q tail (λ _ _. refl) (other C (start_of own side (B.arena.arms n)).count)
-      (other L (later_of (start_of own side (B.arena.arms n))))
-      (subst (λ y. IsBegun side y (B.arena.arms n) (get_or E n 0) (get_or D n 0) (get_or M n 0))
-      (sym e) (inl (subst
-      (λ x. Opens x side (B.arena.arms n) (get_or E n 0) (get_or D n 0) (get_or M n 0)) w o2)))
-      (let y = is_one in omega (arith, y)) (λ g. absurd (g c e)) b.queue
-      (record {
-        codes = s.codes;
-        counts = length-set C n (start_of own side (B.arena.arms n)).count
-            ∙ s.counts;
-        later = length-set L n (later_of (start_of own side (B.arena.arms n))) ∙ s.later;
-        queue = s.queue;
-      })
+      record {
+        codes = length-set E n entry ∙ s.codes;
+        counts = length-set C n count ∙ s.counts;
+        later = length-set L n later ∙ s.later;
+        queue = queue_size t ∙ s.queue;
+      }
+    where
+      queue_size : (t : Bool) → length (if t then set Q tail n else Q) ≡ length Q
+      queue_size true = length-set Q tail n
+      queue_size false = refl
+
+  -- the next number begins as its note says
+  pub begins_noted : (count code : ℕ) → IsNoteOf side (B.arena.node n) (B.arena.arms n) count code →
+      Begun B side (n + 1) (set E n (entry_in code)) (set C n count) (set L n (later_in code))
+      (if nat_le 2 (entry_in code) then set Q tail n else Q)
+      (if nat_le 2 (entry_in code) then tail + 1 else tail)
+  begins_noted count code h =
+      let s = b.sized in
+      let sc = s.counts in
+      let sl = s.later in
+      let e = at_code (entry_in code) in
+      let d : get_or (set C n count) n 0 ≡ count = get_or-set_same C n count 0
+      (omega (arith, sc, l)) in
+      let m : get_or (set L n (later_in code)) n 0 ≡ later_in code =
+      get_or-set_same L n (later_in code) 0 (omega (arith, sl, l)) in
+      begins (set E n (entry_in code)) (set C n count) (set L n (later_in code))
+      (if nat_le 2 (entry_in code) then set Q tail n else Q)
+      (if nat_le 2 (entry_in code) then tail + 1 else tail)
+      (λ j x. get_or-set_other E n j (entry_in code) 0 x)
+      (λ j x. get_or-set_other C n j count 0 x)
+      (λ j x. get_or-set_other L n j (later_in code) 0 x)
+      (rw (e, d, m) h.begun)
+      (let few = few_entries code in omega (arith, e, few))
+      (λ g. m ∙ h.ended g) (queue_begins (entry_in code))
+      (sized_begins (entry_in code) count (later_in code) (nat_le 2 (entry_in code)))
 
 ones_le : (E : List ℕ) → ones E ≤ length E
 ones_le [] = omega arith
@@ -182,9 +165,8 @@ ones_le (x ∷ E) = let h = ones_le E in let o = one_le (eqb x 1) in omega (arit
 
 -- before the first number begins
 pub begun_none : {B : Shape} {side : Colour} {E C L Q : List ℕ} → Sized B.size E C L Q →
-    ((i : ℕ) → i < B.size → get_or E i 0 ≡ 1) → ((i : ℕ) → i < B.size → get_or L i 0 ≡ 0) →
-    Begun B side 0 E C L Q 0
-begun_none {E = E} s e l =
+    ((i : ℕ) → i < B.size → get_or E i 0 ≡ 1) → Begun B side 0 E C L Q 0
+begun_none {E = E} s e =
     let le = s.codes in let lq = s.queue in
     let few : (q : ℕ) → get_or E q 0 < 2 = λ q. elim (cases_lt q (length E)) [
       | inl h ↦ let y = e q (omega (arith, h, le)) in omega (arith, y)
@@ -192,7 +174,7 @@ begun_none {E = E} s e l =
     ] in
     record {
       begun = λ i h. absurd (omega (arith, h));
-      rest = λ i _ h. (e i h, l i h);
+      rest = λ i _ h. e i h;
       ended = λ i h g. absurd (omega (arith, h));
       few = λ q. let y = few q in omega (arith, y);
       queue = record {

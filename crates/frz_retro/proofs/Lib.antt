@@ -20,3 +20,4 @@ pub mod PassToPass
 pub mod DueSteps
 pub mod DueNumbers
 pub mod Begins
+pub mod BegunNotes

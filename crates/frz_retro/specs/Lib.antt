@@ -4,5 +4,6 @@ pub mod Kinds
 pub mod Shape
 pub mod State
 pub mod Beginning
+pub mod Notes
 pub mod Work
 pub mod Tallies

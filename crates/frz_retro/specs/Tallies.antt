@@ -1,5 +1,5 @@
 -- What the solver keeps of the numbers, as its calls see it.
-use Rattle.std.specs.Prelude.{◌≡◌, ℕ, ◌+◌, ◌-◌, ◌<◌, ◌≤◌, Bool, List, slice_index, slice_set}
+use Rattle.std.specs.Prelude.{◌≡◌, ℕ, ◌+◌, ◌-◌, ◌<◌, ◌≤◌, Bool, List, if◌then◌else◌, nat_le, slice_index, slice_set}
 use Rattle.frz_board.specs.declared.man.Colour.{Colour}
 use Rattle.frz_board.specs.Moving.{Step}
 use Rattle.frz_sets.specs.declared.exit.Value.{Value}
@@ -17,24 +17,15 @@ pub record Tally : Type 0 where
   pub queue : List ℕ
   pub tail : ℕ
 
--- a number is broken
-abbrev pub broken_at : Tally → ℕ → Tally
-broken_at t i = record {
-  codes = slice_set t.codes i 0;
-  counts = t.counts;
-  later = t.later;
-  queue = t.queue;
-  tail = t.tail;
-}
-
--- an open number waits for so many arms, and its exits give this code in the end
-abbrev pub opened : Tally → ℕ → ℕ → ℕ → Tally
-opened t i count later = record {
-  codes = t.codes;
+-- a number begins with an entry, waits for so many arms, and its exits give this code in the end;
+-- where it is settled, it stands at the queue's end
+abbrev pub begun_at : Tally → ℕ → ℕ → ℕ → ℕ → Tally
+begun_at t i entry count later = record {
+  codes = slice_set t.codes i entry;
   counts = slice_set t.counts i count;
   later = slice_set t.later i later;
-  queue = t.queue;
-  tail = t.tail;
+  queue = if nat_le 2 entry then slice_set t.queue t.tail i else t.queue;
+  tail = if nat_le 2 entry then t.tail + 1 else t.tail;
 }
 
 -- a number is settled by a code, and stands at the queue's end

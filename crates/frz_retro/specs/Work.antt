@@ -85,7 +85,7 @@ pub record Coming (B : Shape) (side : Colour) (k mid : ℕ) (done : ℕ → ℕ 
 pub record Begun (B : Shape) (side : Colour) (n : ℕ) (E C L Q : List ℕ) (tail : ℕ) : Type 0 where
   pub begun : (i : ℕ) → i < n →
       IsBegun side (B.arena.node i) (B.arena.arms i) (get_or E i 0) (get_or C i 0) (get_or L i 0)
-  pub rest : (i : ℕ) → n ≤ i → i < B.size → (get_or E i 0 ≡ 1) × (get_or L i 0 ≡ 0)
+  pub rest : (i : ℕ) → n ≤ i → i < B.size → get_or E i 0 ≡ 1
   pub ended : (i : ℕ) → i < n → ((c : Colour) → B.arena.node i ≢ Going c) → get_or L i 0 ≡ 0
   pub few : (q : ℕ) → get_or E q 0 < 4
   pub queue : Queue 0 0 E Q tail

@@ -1,65 +1,75 @@
 //! Pass 0: what each number is by itself.
 
-ghost use Rattle.std.specs.Prelude.{◌≡◌, ◌≢◌, ℕ, ◌+◌, ◌<◌, ◌≤◌, length, slice_index};
+ghost use Rattle.std.specs.Prelude.{◌≡◌, ◌≢◌, ◌⊎◌, ℕ, ◌+◌, ◌<◌, ◌≤◌, length, slice_index};
+ghost use Rattle.frz_board.specs.Men.{other_of};
+ghost use Rattle.frz_retro.specs.Notes.{AreNoted, HasRoom, IsNoteOf, later_in};
 ghost use Rattle.frz_retro.specs.Tallies.{HasBegun};
 
 use crate::graph::Graph;
-use crate::kinds::mate_code;
-use crate::start::{later_of, start_of};
+use crate::note::{Note, note_of};
+use crate::notes::Notes;
 use crate::tally::Tally;
-use frz_arena::Node;
 use frz_board::Colour;
 use frz_graph::Lists;
 use frz_steps::Steps;
 use std::sync::ledger::Ledger;
 
-/// A number begins, from its node and its arms.
-pub fn begin<G: Graph<L>, L: Ledger>(
+/// A number begins as its note says.
+fn begin<G: Graph<L>, L: Ledger>(_graph: &G, side: Colour, i: u32, note: Note, tally: &mut Tally)
+    requires inside { i < G.count _graph.now }
+    requires noted { IsNoteOf side ((G.arena _graph.now).node i) ((G.arena _graph.now).arms i)
+        note.count note.code }
+    requires begun { HasBegun (G.arena _graph.now) (G.count _graph.now) side i tally.old }
+    ensures begun { HasBegun (G.arena _graph.now) (G.count _graph.now) side (i + 1) tally.new }
+    ensures later { slice_index tally.new.later i ≡ later_in note.code }
+    ensures others { (j : ℕ) → j ≢ i →
+        slice_index tally.new.later j ≡ slice_index tally.old.later j }
+{
+    tally.begin(i, note.entry(), note.count, note.later());
+}
+
+/// The notes of a number for the side and for the other one.
+fn notes_of<G: Graph<L>, L: Ledger>(
     graph: &G,
     side: Colour,
     i: u32,
-    tally: &mut Tally,
     lists: &mut Lists,
     steps: &mut Steps<L>,
-)
+) -> (Note, Note)
     requires sound { G.sound graph.now }
     requires inside { i < G.count graph.now }
-    requires begun { HasBegun (G.arena graph.now) (G.count graph.now) side i tally.old }
-    ensures begun { HasBegun (G.arena graph.now) (G.count graph.now) side (i + 1) tally.new }
-    ensures short { slice_index tally.new.later i ≤ 2004 }
-    ensures others { (j : ℕ) → j ≢ i →
-        slice_index tally.new.later j ≡ slice_index tally.old.later j }
+    ensures own { IsNoteOf side ((G.arena graph.now).node i) ((G.arena graph.now).arms i)
+        result.0.count result.0.code }
+    ensures other { IsNoteOf (other_of side) ((G.arena graph.now).node i)
+        ((G.arena graph.now).arms i) result.1.count result.1.code }
     ensures cost { steps.new ≤ steps.old + 1 }
     ensures later { steps.old ≤ steps.new }
 {
-    match graph.nexts_by(i, lists, steps) {
-        Node::Broken => tally.set_broken(i),
-        Node::Stalemate(_) => (),
-        Node::Mate(c) => tally.settle(i, mate_code(c, side)),
-        Node::Going(c) => {
-            let start = start_of(c.is_same(side), side, lists.nexts.as_slice());
-            if start.any {
-                tally.set_open(i, start.count, later_of(start));
-            } else {
-                tally.settle(i, 3);
-            }
-        },
-    }
+    let node = graph.nexts_by(i, lists, steps);
+    let arms = lists.nexts.as_slice();
+    (note_of(node, side, arms), note_of(node, side.other(), arms))
 }
 
-/// All numbers begin. The answer is the last due code.
+/// All numbers begin, and what they begin with for the other side is written down. The answer is the
+/// last due code.
 pub fn begin_all<G: Graph<L>, L: Ledger>(
     graph: &G,
     side: Colour,
     tally: &mut Tally,
+    notes: &mut Notes,
     lists: &mut Lists,
     steps: &mut Steps<L>,
 ) -> u32
     requires sound { G.sound graph.now }
     requires size { length tally.old.codes ≡ G.count graph.now }
+    requires room { HasRoom (G.count graph.now) notes.old }
     ensures begun { HasBegun (G.arena graph.now) (G.count graph.now) side (G.count graph.now)
         tally.new }
+    ensures noted { AreNoted (G.arena graph.now) (G.count graph.now) (other_of side)
+        (G.count graph.now) notes.new }
     ensures last { (i : ℕ) → i < G.count graph.now → slice_index tally.new.later i ≤ result }
+    ensures reached { (result ≡ 0)
+        ⊎ ((i : ℕ) × (i < G.count graph.now) × (slice_index tally.new.later i ≡ result)) }
     ensures short { result ≤ 2004 }
     ensures cost { steps.new ≤ steps.old + G.count graph.now }
     ensures later { steps.old ≤ steps.new }
@@ -67,8 +77,38 @@ pub fn begin_all<G: Graph<L>, L: Ledger>(
     tally.reset();
     let mut last = 0;
     for i in 0..graph.size() {
-        begin(graph, side, i, tally, lists, steps);
-        last = tally.later(i).max(last);
+        let (own, other) = notes_of(graph, side, i, lists, steps);
+        begin(graph, side, i, own, tally);
+        notes.write(i, other);
+        last = u32::from(own.later()).max(last);
+    }
+    last
+}
+
+/// All numbers begin as their notes say. The answer is the last due code.
+pub fn begin_noted<G: Graph<L>, L: Ledger>(
+    graph: &G,
+    side: Colour,
+    notes: &Notes,
+    tally: &mut Tally,
+) -> u32
+    requires sound { G.sound graph.now }
+    requires size { length tally.old.codes ≡ G.count graph.now }
+    requires noted { AreNoted (G.arena graph.now) (G.count graph.now) side (G.count graph.now)
+        notes.now }
+    ensures begun { HasBegun (G.arena graph.now) (G.count graph.now) side (G.count graph.now)
+        tally.new }
+    ensures last { (i : ℕ) → i < G.count graph.now → slice_index tally.new.later i ≤ result }
+    ensures reached { (result ≡ 0)
+        ⊎ ((i : ℕ) × (i < G.count graph.now) × (slice_index tally.new.later i ≡ result)) }
+    ensures short { result ≤ 2004 }
+{
+    tally.reset();
+    let mut last = 0;
+    for i in 0..graph.size() {
+        let note = notes.at(i);
+        begin(graph, side, i, note, tally);
+        last = u32::from(note.later()).max(last);
     }
     last
 }

@@ -3,6 +3,7 @@
 #![tactic(auto)]
 
 mod beginning;
+mod both_sides;
 mod due;
 mod game_graph;
 mod graph;
@@ -10,11 +11,14 @@ mod kinds;
 mod local;
 mod meeting;
 mod moves;
+mod note;
+mod notes;
 mod passes;
 mod start;
 mod tally;
 mod workshop;
 
+pub use both_sides::BothSides;
 pub use game_graph::GameGraph;
 pub use graph::Graph;
 pub use workshop::Workshop;

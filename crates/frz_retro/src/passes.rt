@@ -2,14 +2,17 @@
 
 ghost use Rattle.std.specs.Prelude.{◌≡◌, ℕ, ◌+◌, ◌-◌, ◌*◌, ◌<◌, ◌≤◌, length, slice_index};
 ghost use Rattle.frz_arena.specs.Tables.{IsExact};
+ghost use Rattle.frz_board.specs.Men.{other_of};
+ghost use Rattle.frz_retro.specs.Notes.{AreNoted, HasRoom};
 ghost use Rattle.frz_retro.specs.Tallies.{HasBegun, InPass};
 ghost use Rattle.frz_retro.specs.Work.{done_in};
 
-use crate::beginning::begin_all;
+use crate::beginning::{begin_all, begin_noted};
 use crate::due::settle_late;
 use crate::graph::Graph;
 use crate::local::local_codes;
 use crate::meeting::go_through;
+use crate::notes::Notes;
 use crate::tally::Tally;
 use frz_board::Colour;
 use frz_graph::Lists;
@@ -79,21 +82,48 @@ pub fn passes<G: Graph<L>, L: Ledger>(
     }
 }
 
-/// Solves the game for the side, in a tally of its size.
+/// Solves the game for the side, in a tally of its size. What the numbers begin with for the other
+/// side is written down.
 pub fn solve<G: Graph<L>, L: Ledger>(
     graph: &G,
     side: Colour,
     tally: &mut Tally,
+    notes: &mut Notes,
     lists: &mut Lists,
     preds: &mut Preds,
     steps: &mut Steps<L>,
 )
     requires sound { G.sound graph.now }
     requires size { length tally.old.codes ≡ G.count graph.now }
+    requires room { HasRoom (G.count graph.now) notes.old }
     ensures exact { IsExact (G.arena graph.now) side (G.count graph.now) tally.new.codes }
+    ensures noted { AreNoted (G.arena graph.now) (G.count graph.now) (other_of side)
+        (G.count graph.now) notes.new }
     ensures cost { steps.new ≤ steps.old + 2 * G.count graph.now }
     ensures later { steps.old ≤ steps.new }
 {
-    let last = begin_all(graph, side, tally, lists, steps);
+    let last = begin_all(graph, side, tally, notes, lists, steps);
+    passes(graph, side, last, tally, preds, steps);
+}
+
+/// Solves the game for the side, in a tally of its size, where it is written down what the numbers
+/// begin with.
+pub fn solve_noted<G: Graph<L>, L: Ledger>(
+    graph: &G,
+    side: Colour,
+    notes: &Notes,
+    tally: &mut Tally,
+    preds: &mut Preds,
+    steps: &mut Steps<L>,
+)
+    requires sound { G.sound graph.now }
+    requires size { length tally.old.codes ≡ G.count graph.now }
+    requires noted { AreNoted (G.arena graph.now) (G.count graph.now) side (G.count graph.now)
+        notes.now }
+    ensures exact { IsExact (G.arena graph.now) side (G.count graph.now) tally.new.codes }
+    ensures cost { steps.new ≤ steps.old + G.count graph.now }
+    ensures later { steps.old ≤ steps.new }
+{
+    let last = begin_noted(graph, side, notes, tally);
     passes(graph, side, last, tally, preds, steps);
 }

@@ -2,7 +2,6 @@
 
 ghost use Rattle.std.specs.Prelude.{◌≡◌, ◌+◌, ◌^◌, ◌<◌, ◌≤◌, length};
 ghost use Rattle.frz_retro.specs.Graphs.{Arm};
-ghost use Rattle.frz_retro.specs.Graphs.{Arm};
 ghost use Rattle.frz_retro.specs.Shape.{In, AreShort};
 ghost use Rattle.frz_retro.specs.Beginning.{after_code, after_arm};
 ghost use Rattle.frz_retro.specs.Beginning.{start_of as start_from, later_of as later_from};
@@ -88,6 +87,7 @@ pub fn start_of(own: bool, side: Colour, arms: &[Arm]) -> Start
     requires few { length arms.now < 2 ^ 30 }
     requires short { (a : Arm) → In a arms.now → AreShort a.next }
     ensures value { result ≡ start_from own side arms.now }
+    ensures count { result.count ≤ length arms.now }
     ensures least { result.least ≤ 2002 }
     ensures most { result.most ≤ 2002 }
 {

@@ -2,7 +2,7 @@
 //! those that are settled.
 
 ghost use Rattle.std.specs.Prelude.{◌≡◌, ℕ, ◌<◌, length, slice_index, vec_len, IfOk};
-ghost use Rattle.frz_retro.specs.Tallies.{HasSize, broken_at, counted_down, opened, settled};
+ghost use Rattle.frz_retro.specs.Tallies.{HasSize, begun_at, counted_down, settled};
 
 use frz_board::NoMemory;
 use std::alloc::Global;
@@ -14,9 +14,9 @@ pub struct Tally {
     /// The entry of each number: 1 while it is open.
     codes: Vec<u32>,
     /// For how many arms each open number waits.
-    counts: Vec<u32>,
+    counts: Vec<u16>,
     /// The code that the exits of each number give in the end, or 0.
-    later: Vec<u32>,
+    later: Vec<u16>,
     /// The numbers that are settled as wins or failures, in the order of their plies.
     queue: Vec<u32>,
     /// How many stand in the queue.
@@ -52,6 +52,16 @@ fn zeros(alloc: Global, size: u32) -> Result<Vec<u32>, NoMemory>
     }
 }
 
+/// The same, of half the size.
+pub fn short_zeros(alloc: Global, size: u32) -> Result<Vec<u16>, NoMemory>
+    ensures { IfOk result (λ list. vec_len list ≡ size) }
+{
+    match vec![in alloc; 0; size as usize] {
+        Ok(list) => Ok(list),
+        Err(_) => Err(NoMemory),
+    }
+}
+
 /// Each item becomes this one.
 fn fill(list: &mut [u32], item: u32)
     ensures each { (i : ℕ) → i < length list.old → slice_index list.new i ≡ item }
@@ -62,28 +72,26 @@ fn fill(list: &mut [u32], item: u32)
 }
 
 impl Tally {
-    /// A tally of so many numbers, which takes 16 bytes for each of them.
+    /// A tally of so many numbers, which takes 12 bytes for each of them.
     pub fn new(alloc: Global, size: u32) -> Result<Tally, NoMemory>
         ensures { IfOk result (λ t. length t.codes ≡ size) }
     {
         Ok(Tally {
             codes: zeros(alloc, size)?,
-            counts: zeros(alloc, size)?,
-            later: zeros(alloc, size)?,
+            counts: short_zeros(alloc, size)?,
+            later: short_zeros(alloc, size)?,
             queue: zeros(alloc, size)?,
             tail: 0,
         })
     }
 
-    /// Every number is open, none has exits that are due, and the queue is empty.
+    /// Every number is open, and the queue is empty.
     pub fn reset(&mut self)
         ensures codes { (i : ℕ) → i < length self.old.codes → slice_index self.new.codes i ≡ 1 }
-        ensures later { (i : ℕ) → i < length self.old.codes → slice_index self.new.later i ≡ 0 }
         ensures tail { self.new.tail ≡ 0 }
         ensures size { HasSize (length self.old.codes) self.new }
     {
         fill(&mut self.codes, 1);
-        fill(&mut self.later, 0);
         self.tail = 0;
     }
 
@@ -107,7 +115,7 @@ impl Tally {
         requires { i < length self.now.codes }
         ensures { result ≡ slice_index self.now.counts i }
     {
-        self.counts[i as usize]
+        u32::from(self.counts[i as usize])
     }
 
     /// The code that the exits of a number give in the end, or 0.
@@ -115,7 +123,7 @@ impl Tally {
         requires { i < length self.now.codes }
         ensures { result ≡ slice_index self.now.later i }
     {
-        self.later[i as usize]
+        u32::from(self.later[i as usize])
     }
 
     /// How many stand in the queue.
@@ -133,21 +141,20 @@ impl Tally {
         self.queue[at]
     }
 
-    /// A number is broken: its entry is 0.
-    pub fn set_broken(&mut self, i: u32)
-        requires { i < length self.old.codes }
-        ensures { self.new ≡ broken_at self.old i }
+    /// A number begins with this entry, waits for so many arms, and its exits give this code in the
+    /// end. Where the entry settles it, it stands at the queue's end.
+    pub fn begin(&mut self, i: u32, entry: u32, count: u16, later: u16)
+        requires inside { i < length self.old.codes }
+        requires room { self.old.tail < length self.old.queue }
+        ensures { self.new ≡ begun_at self.old i entry count later }
     {
-        self.codes[i as usize] = 0;
-    }
-
-    /// An open number waits for so many arms, and its exits give this code in the end.
-    pub fn set_open(&mut self, i: u32, count: u32, later: u32)
-        requires { i < length self.old.codes }
-        ensures { self.new ≡ opened self.old i count later }
-    {
+        self.codes[i as usize] = entry;
         self.counts[i as usize] = count;
         self.later[i as usize] = later;
+        if entry >= 2 {
+            self.queue[self.tail] = i;
+            self.tail += 1;
+        }
     }
 
     /// A number settles: its code is entered, and it stands at the queue's end.

@@ -6,17 +6,12 @@ ghost use Rattle.frz_sets.specs.Sound.{IsSound};
 ghost use Rattle.frz_arena.specs.Tables.{IsExact};
 ghost use Rattle.frz_game.specs.Bounds.{IsTableOf};
 
-use crate::game_graph::GameGraph;
+use crate::both_sides::BothSides;
 use crate::graph::Graph;
-use crate::passes::solve;
-use crate::tally::Tally;
 use frz_board::{Colour, NoMemory};
 use frz_exits::ExitBook;
 use frz_game::Game;
-use frz_game::laws::tables::tables;
-use frz_graph::Lists;
 use frz_steps::Steps;
-use frz_unmove::Preds;
 use std::alloc::Global;
 use std::marker::Model;
 use std::sync::ledger::Ledger;
@@ -25,9 +20,7 @@ use std::sync::ledger::Ledger;
 /// sides in turn, and any game of its size.
 #[derive(Drop)]
 pub struct Workshop {
-    tally: Tally,
-    lists: Lists,
-    preds: Preds,
+    sides: BothSides,
 }
 
 impl Model for Workshop {
@@ -35,7 +28,7 @@ impl Model for Workshop {
 
     ghost Value = { List ℕ };
 
-    ghost view = { λ w. w.tally.codes };
+    ghost view = { λ w. w.sides.entries };
 }
 
 impl Workshop {
@@ -45,9 +38,7 @@ impl Workshop {
         ensures { IfOk result (λ w. length w ≡ size) }
     {
         Ok(Workshop {
-            tally: Tally::new(alloc, size)?,
-            lists: Lists::new(),
-            preds: Preds::new(alloc)?,
+            sides: BothSides::new(alloc, size)?,
         })
     }
 
@@ -60,14 +51,7 @@ impl Workshop {
         ensures cost { steps.new ≤ steps.old + 2 * G.count graph.now }
         ensures later { steps.old ≤ steps.new }
     {
-        solve(
-            graph,
-            side,
-            &mut self.tally,
-            &mut self.lists,
-            &mut self.preds,
-            steps,
-        );
+        self.sides.run(graph, side, steps);
     }
 
     /// Solves the game of sound rules for the side: the entries become the codes of its bounds, and
@@ -84,14 +68,13 @@ impl Workshop {
         ensures cost { steps.new ≤ steps.old + 2 * size_of game.now.rules.now.groups }
         ensures later { steps.old ≤ steps.new }
     {
-        tables();
-        self.run(&GameGraph::new(game), side, steps);
+        self.sides.run_game(game, side, steps);
     }
 
     /// The entries, one for each number.
     pub fn entries(&self) -> &[u32]
         ensures { result.now ≡ self.now }
     {
-        self.tally.codes()
+        self.sides.entries()
     }
 }

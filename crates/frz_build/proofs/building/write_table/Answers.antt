@@ -12,7 +12,7 @@ use Rattle.frz_build.proofs.Built.{Tables, builds, some_tables}
 use Rattle.frz_build.proofs.Parts.{all_written, black_failed, header_refused, white_failed}
 use Rattle.frz_build.proofs.building.write_table.Given.{Over}
 use Rattle.frz_build.proofs.building.write_table.Goals as goal
-use Rattle.frz_build.proofs.building.write_table.Goals.{After-begin_table, After-write_side-2}
+use Rattle.frz_build.proofs.building.write_table.Goals.{After-begin_table, After-write_black}
 
 abbrev header : (g : Over) (c : After-begin_table g) → List ℕ
 header g c =
@@ -33,13 +33,13 @@ built g c t result new written =
     (c.size-size.ensures.size ∙ ap size_of c.args.game.now.fits) t written
 
 -- the tables that both calls left in the workshop
-abbrev both : (g : Over) (c : After-write_side-2 g)
+abbrev both : (g : Over) (c : After-write_black g)
     → Tables c.args.game.now.rules.now (g.B.ExitBook.value_at c.args.game.now.book.now)
 both g c = record {
-  white = c.write_side.new.workshop;
-  black = c.write_side-2.new.workshop;
-  white_is = c.write_side.ensures.table;
-  black_is = c.write_side-2.ensures.table;
+  white = c.write_white.new.sides.entries;
+  black = c.write_black.new.sides.entries;
+  white_is = c.write_white.ensures.table;
+  black_is = c.write_black.ensures.table;
 }
 
 abbrev failed_as : StoreFault → Result ℕ StoreFault
@@ -58,41 +58,41 @@ returns-in_err-begin_table-clause-built g c =
     c.from_residual.result _ _ (p.1 ∙ ap failed_as p.2)
     c.in_err-begin_table.ensures.begun)
 
-pub returns-in_err-write_side-clause-built : goal.returns-in_err-write_side-clause-built
-returns-in_err-write_side-clause-built g c =
+pub returns-in_err-write_white-clause-built : goal.returns-in_err-write_white-clause-built
+returns-in_err-write_white-clause-built g c =
     let black = c.tables.ensures.there c.args.game.now.rules.now
     (g.B.ExitBook.value_at c.args.game.now.book.now)
     (g.met.B.ExitBook.small c.args.game.now.book.now) Black in
-    let p = err_from_is_err_and c.from_residual-in_err-write_side.result
-    c.from_residual-in_err-write_side.ensures.1 in
-    let here = (goal.at.returns-in_err-write_side-clause-built g c).After-begin_table in
+    let p = err_from_is_err_and c.from_residual-in_err-write_white.result
+    c.from_residual-in_err-write_white.ensures.1 in
+    let here = (goal.at.returns-in_err-write_white-clause-built g c).After-begin_table in
     built g here
     (record {
-      white = c.write_side.new.workshop;
+      white = c.write_white.new.sides.entries;
       black = black.0;
-      white_is = c.write_side.ensures.table;
+      white_is = c.write_white.ensures.table;
       black_is = black.1;
     })
     _ _
     (white_failed _ (header g here) _ _ _ _ c.in_ok-begin_table.ensures.begun
-    c.from_residual-in_err-write_side.result _ _ (p.1 ∙ ap failed_as p.2)
-    c.in_err-write_side.ensures.appended)
+    c.from_residual-in_err-write_white.result _ _ (p.1 ∙ ap failed_as p.2)
+    c.in_err-write_white.ensures.appended)
 
-pub returns-in_err-write_side-2-clause-built : goal.returns-in_err-write_side-2-clause-built
-returns-in_err-write_side-2-clause-built g c =
-    let here = (goal.at.returns-in_err-write_side-2-clause-built g c).After-begin_table in
-    let p = err_from_is_err_and c.from_residual-in_err-write_side-2.result
-    c.from_residual-in_err-write_side-2.ensures.1 in
-    built g here (both g (goal.at.returns-in_err-write_side-2-clause-built g c).After-write_side-2)
+pub returns-in_err-write_black-clause-built : goal.returns-in_err-write_black-clause-built
+returns-in_err-write_black-clause-built g c =
+    let here = (goal.at.returns-in_err-write_black-clause-built g c).After-begin_table in
+    let p = err_from_is_err_and c.from_residual-in_err-write_black.result
+    c.from_residual-in_err-write_black.ensures.1 in
+    built g here (both g (goal.at.returns-in_err-write_black-clause-built g c).After-write_black)
     _ _
     (black_failed _ (header g here) _ _ _ _ c.in_ok-begin_table.ensures.begun _ _
-    c.in_ok-write_side.ensures.appended
-    c.from_residual-in_err-write_side-2.result _ _ (p.1 ∙ ap failed_as p.2)
-    c.in_err-write_side-2.ensures.appended)
+    c.in_ok-write_white.ensures.appended
+    c.from_residual-in_err-write_black.result _ _ (p.1 ∙ ap failed_as p.2)
+    c.in_err-write_black.ensures.appended)
 
 pub returns-clause-built : goal.returns-clause-built
 returns-clause-built g c =
     let here = (goal.at.returns-clause-built g c).After-begin_table in
-    built g here (both g (goal.at.returns-clause-built g c).After-write_side-2) _ _
+    built g here (both g (goal.at.returns-clause-built g c).After-write_black) _ _
     (all_written _ (header g here) _ _ _ _ c.in_ok-begin_table.ensures.begun _ _
-    c.in_ok-write_side.ensures.appended _ _ c.in_ok-write_side-2.ensures.appended)
+    c.in_ok-write_white.ensures.appended _ _ c.in_ok-write_black.ensures.appended)
