@@ -1,6 +1,6 @@
 -- One call after another: what the words of a call leave of its job where it ends well, and what is
 -- told then of a table that `check` or `chaincheck` found exact.
-use Rattle.std.proofs.Common.{◌≡◌, refl, sym, ap, subst, ◌∙◌, ℕ, List, [], ◌∷◌, Bool, true, false, Option, Some, None, Result, Ok, Err}
+use Rattle.std.proofs.Common.{◌≡◌, refl, sym, ap, subst, ◌∙◌, ℕ, zero, suc, List, [], ◌∷◌, Bool, true, false, Option, Some, None, Result, Ok, Err}
 use Rattle.std.specs.Option.{unwrap_or}
 use Rattle.frz_board.specs.declared.man.Colour.{Colour}
 use Rattle.frz_board.specs.declared.man.Colour.TheVariants.{White, Black}
@@ -40,7 +40,7 @@ use Rattle.frz_commands_chain.specs.ChainHeadline.{ChainHeadline}
 use Rattle.frz_commands_chain.specs.CheckMeans as chains
 use Rattle.frz_commands_chain.specs.CheckMeans.{MeansChainCheck, TellsExactOn}
 use Rattle.frz_commands_chain.proofs.Lemmas.{chain_contents, chain_tables}
-use Rattle.frz_commands_line.specs.Later.{held_later}
+use Rattle.frz_commands_line.specs.Later.{from_opening, held_later}
 use Rattle.frz_commands_line.specs.LineMeaning as lines
 use Rattle.frz_commands_line.specs.LineMeaning.{MeansLine, TellsLine}
 use Rattle.frz_commands_line.specs.Lining.{lining_at}
@@ -170,12 +170,12 @@ module _ (lawful : (later : ℕ → Files) (words : List (List ℕ)) → IsLawfu
         }
 
     -- and as long as it stays
-    stays_exact : Stays table files later → (bytes : List ℕ) (contents : Contents)
-        → OpensAs table files bytes contents → (k : ℕ)
-        → KeepsTables (value_by contents.rules) contents (held_later later table k)
-    stays_exact stays bytes contents opens k =
-        let same : held_later later table k ≡ bytes =
-        ap (λ (held : Option (List ℕ)). unwrap_or held []) (stays k ∙ opens.there) in
+    stays_exact : (held : ℕ → Files) → Stays table files held → (bytes : List ℕ)
+        (contents : Contents) → OpensAs table files bytes contents → (k : ℕ)
+        → KeepsTables (value_by contents.rules) contents (held_later held table k)
+    stays_exact held stays bytes contents opens k =
+        let same : held_later held table k ≡ bytes =
+        ap (λ (o : Option (List ℕ)). unwrap_or o []) (stays k ∙ opens.there) in
         subst (λ (l : List ℕ). KeepsTables (value_by contents.rules) contents l) (sym same)
         (headline_tables table files exact bytes contents opens)
 
@@ -225,27 +225,35 @@ module _ (lawful : (later : ℕ → Files) (words : List (List ℕ)) → IsLawfu
         report_status b.status means.says
 
     module _ (stays : Stays table files later) where
+      -- from the opening on
+      abbrev now : ℕ → Files
+      now = from_opening files later
+
+      stays_now : Stays table files now
+      stays_now zero = refl
+      stays_now (suc k) = stays (suc k)
+
       line_status : (side : Colour) (p : Board) (s : Status)
-          → lines.MeansStatus later table side p files s b.text
+          → lines.MeansStatus now table side p files s b.text
           → OneOf s (Success ∷ Words ∷ Fen ∷ Outside ∷ [])
       line_status side p Success means = refl
       line_status side p Outside means = refl
       line_status side p Wrong means =
           let has = means.has in
-          absurd (means.not_exact (stays_exact stays has.bytes has.contents has.open_file))
+          absurd (means.not_exact (stays_exact now stays_now has.bytes has.contents has.open_file))
       line_status side p Table means = absurd (never_refused b.text means)
       line_status side p Missing means = absurd (never_missing means)
       line_status side p s means = absurd means
 
       session_status : (side : Colour) (p : Board) (input : List ℕ) (s : Status)
-          → sessions.MeansStatus later table side p files input s b.text
+          → sessions.MeansStatus now table side p files input s b.text
           → OneOf s (Success ∷ Words ∷ Fen ∷ Outside ∷ Limit ∷ [])
       session_status side p input Success means = refl
       session_status side p input Outside means = refl
       session_status side p input Limit means = refl
       session_status side p input Wrong means =
           let has = means.has in
-          absurd (means.not_exact (stays_exact stays has.bytes has.contents has.open_file))
+          absurd (means.not_exact (stays_exact now stays_now has.bytes has.contents has.open_file))
       session_status side p input Table means = absurd (never_refused b.text means)
       session_status side p input Missing means = absurd (never_missing means)
       session_status side p input s means = absurd means
@@ -257,9 +265,9 @@ module _ (lawful : (later : ℕ → Files) (words : List (List ℕ)) → IsLawfu
             let at = of_words files h.input b h.done (lining_at later table) (side_of word)
             (fen_of fen) h.answer
             ((lawful later (line table fen word)).means files h.input b h.answer) in
-            let means : MeansLine later table at.0 at.2 files b = at.4 in
-            let tells : TellsLine later table at.0 at.2 files b.text =
-            subst (λ (s : Status). lines.MeansStatus later table at.0 at.2 files s b.text) h.done
+            let means : MeansLine now table at.0 at.2 files b = at.4 in
+            let tells : TellsLine now table at.0 at.2 files b.text =
+            subst (λ (s : Status). lines.MeansStatus now table at.0 at.2 files s b.text) h.done
             means.says in
             let has = tells.has in
             record {
@@ -268,7 +276,7 @@ module _ (lawful : (later : ℕ → Files) (words : List (List ℕ)) → IsLawfu
               side = at.0;
               named = at.1;
               tells = tells;
-              bound = tells.where_exact (stays_exact stays has.bytes has.contents has.open_file);
+              bound = tells.where_exact (stays_exact now stays_now has.bytes has.contents has.open_file);
             }
 
         pub lined_well : (input : List ℕ)
@@ -289,12 +297,12 @@ module _ (lawful : (later : ℕ → Files) (words : List (List ℕ)) → IsLawfu
             let at = of_words files h.input b h.done (playing_at later table) (side_of word)
             (fen_of fen) h.answer
             ((lawful later (play table fen word)).means files h.input b h.answer) in
-            let means : MeansPlay later table at.0 at.2 files h.input b = at.4 in
-            let tells : TellsSession later table at.0 at.2 files h.input b.text =
-            subst (λ (s : Status). sessions.MeansStatus later table at.0 at.2 files h.input s b.text)
+            let means : MeansPlay now table at.0 at.2 files h.input b = at.4 in
+            let tells : TellsSession now table at.0 at.2 files h.input b.text =
+            subst (λ (s : Status). sessions.MeansStatus now table at.0 at.2 files h.input s b.text)
             h.done means.says in
             let has = tells.has in
-            let tables = stays_exact stays has.bytes has.contents has.open_file in
+            let tables = stays_exact now stays_now has.bytes has.contents has.open_file in
             record {
               p = at.2;
               read = at.3;

@@ -20,6 +20,7 @@ use Rattle.frz_commands_ask.specs.Kept.{kept_at}
 use Rattle.frz_commands_ask.specs.Meaning.{TellsBounds, TellsSolved}
 use Rattle.frz_commands_ask.specs.Reporting.{TellsReport}
 use Rattle.frz_commands_chain.specs.ChainHeadline.{ChainHeadline}
+use Rattle.frz_commands_line.specs.Later.{from_opening}
 use Rattle.frz_commands_line.specs.LineMeaning as lines
 use Rattle.frz_commands_line.specs.LineMeaning.{TellsLine}
 use Rattle.frz_commands_line.specs.SessionMeaning as sessions
@@ -120,7 +121,7 @@ pub record TellsTrueLine (later : ℕ → Files) (table fen word : List ℕ) (fi
   pub read : fen_of fen ≡ Ok p
   pub side : Colour
   pub named : side_of word ≡ Some side
-  pub tells : TellsLine later table side p files text
+  pub tells : TellsLine (from_opening files later) table side p files text
   pub bound : KeepsBound tells.has.contents.rules (value_by tells.has.contents.rules) side p
       (lines.start_code tells.has)
 
@@ -131,7 +132,7 @@ pub record TellsTrueSession (later : ℕ → Files) (table fen word : List ℕ) 
   pub read : fen_of fen ≡ Ok p
   pub side : Colour
   pub named : side_of word ≡ Some side
-  pub tells : TellsSession later table side p files input text
+  pub tells : TellsSession (from_opening files later) table side p files input text
   pub bound : KeepsBound tells.has.contents.rules (value_by tells.has.contents.rules) side p
       (sessions.start_code tells.has)
   pub safe : AreTrueExits tells.has.contents.rules (value_by tells.has.contents.rules) →
