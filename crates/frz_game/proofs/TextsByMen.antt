@@ -119,7 +119,7 @@ asked (Count side kind least most) q c k n h e =
     (same_side side c first.0) there in
     omega arith
 asked (Turn side) q c k n h e = absurd (cc)
-asked (On side kind set) q c k n h e = absurd (cc)
+asked (On side man set) q c k n h e = absurd (cc)
 asked (Distance side square least most) q c k n h e = absurd (cc)
 asked Check q c k n h e = absurd (cc)
 asked Always q c k n h e = absurd (cc)

@@ -31,10 +31,10 @@ may_have groups c k = has_kind groups c k || has_kind groups c Pawn
 
 -- the test asks that the side have at most so many such men
 abbrev pub asks_at_most : Test → Colour → Kind → ℕ → Bool
-asks_at_most (Count side kind least most) c k n =
-    same_colour side c && (same_kind kind k && nat_le most n)
+asks_at_most (Count side man least most) c k n =
+    same_colour side c && (same_kind man k && nat_le most n)
 asks_at_most (Turn side) c k n = false
-asks_at_most (On side kind set) c k n = false
+asks_at_most (On side man set) c k n = false
 asks_at_most (Distance side square least most) c k n = false
 asks_at_most Check c k n = false
 asks_at_most Always c k n = false
