@@ -4,8 +4,8 @@
 # White's codes before it solves Black.
 
 # Nanoseconds a number, by docs/SPEED.md: the sets as large as a set may be.
-to_build=4600
-to_check=1000
+to_build=2200
+to_check=900
 
 # One of the long commands is given, and somebody sees what is told.
 is_watched() {

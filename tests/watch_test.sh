@@ -44,7 +44,7 @@ test_a_check_tells_of_its_table() {
     # shellcheck source=/dev/null
     . "$toy/build/watch.sh"
     words=(check table)
-    is "$(how_far "")$(of_expected "")" "67108864 numbers: checking of about 1:08" "the line of 2^26 numbers"
+    is "$(how_far "")$(of_expected "")" "67108864 numbers: checking of about 1:01" "the line of 2^26 numbers"
 }
 
 test_a_chain_tells_of_both_tables() {
