@@ -28,7 +28,7 @@ build_once() {
 build() {
     local name
     declare -gA state=() started=() running=()
-    declare -g finished=0 places=1 seconds_gone=0 seconds_expected=0 rooms
+    declare -g finished=0 places=1 thousandths_gone=0 thousandths_expected=0 rooms
     rooms="$top/out/rooms"
     rm -rf "$rooms"
     mkdir -p "$rooms"
@@ -88,7 +88,7 @@ gather() {
 
 # What each check is expected to take: the seconds of build/seconds; for a crate that is not there,
 # their mean; and what rt takes to see it for a crate that is proved already. This machine counts as quick as
-# the one of those seconds until it has shown otherwise: a twentieth of all weighs for that.
+# the one of those seconds until it has shown otherwise: a twentieth of all weighs for that (`weigh`).
 read_seconds() {
     local name below seconds sum=0 count=0 mean
     local -A paths=()
@@ -99,7 +99,7 @@ read_seconds() {
         sum=$((sum + seconds)) count=$((count + 1))
     done < "$top/build/seconds"
     mean=$((count > 0 ? sum / count : 60))
-    seconds_gone=$((sum / 20)) seconds_expected=$((sum / 20))
+    thousandths_gone=$((sum * 1000 / 20)) thousandths_expected=$((sum * 1000 / 20))
     for name in "${upwards[@]}"; do
         paths[$name]=1
         for below in ${stands_on[$name]}; do
@@ -151,7 +151,7 @@ count_places() {
 }
 
 # The end of a line: how long the build has still to go, and by what chain of crates. The seconds
-# expected are those of another machine; what has been proved shows how this one compares with it.
+# expected are those of another machine; what was proved last shows how this one compares with it.
 what_is_left() {
     local name below gone time chain names minutes
     read -r time chain names < <(
@@ -174,11 +174,18 @@ what_is_left() {
 }
 
 scaled() {
-    if [ -n "${kept[$1]+there}" ] || [ "$seconds_expected" -eq 0 ]; then
+    if [ -n "${kept[$1]+there}" ] || [ "$thousandths_expected" -eq 0 ]; then
         echo "${expected[$1]}"
     else
-        echo $((expected[$1] * seconds_gone / seconds_expected))
+        echo $((expected[$1] * thousandths_gone / thousandths_expected))
     fi
+}
+
+# Compares this machine with the one of build/seconds, by a check that has ended. What was seen before
+# it counts a fifth less from now on, so that other work in one half of a build is not told of the next.
+weigh() {
+    thousandths_gone=$((thousandths_gone * 4 / 5 + $2 * 1000))
+    thousandths_expected=$((thousandths_expected * 4 / 5 + ${expected[$1]} * 1000))
 }
 
 # All crates below this one are done.
@@ -271,10 +278,7 @@ finish_one() {
     state[$name]="done"
     finished=$((finished + 1))
     seconds=$((SECONDS - started[$name]))
-    if [ -z "${kept[$name]+there}" ]; then
-        seconds_gone=$((seconds_gone + seconds))
-        seconds_expected=$((seconds_expected + expected[$name]))
-    fi
+    [ -n "${kept[$name]+there}" ] || weigh "$name" "$seconds"
     free_work "$name"
     tell "$finished of ${#crates[@]}: $name, $seconds s$(what_is_left)"
 }

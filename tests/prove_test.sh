@@ -211,3 +211,21 @@ test_what_is_left_comes_true() {
     awk -v told="$told" -v took="$(echo "$ended $began" | awk '{ print $1 - $2 }')" \
         'BEGIN { exit !(told > took * 2 / 3 && told < took * 4 / 3) }' || fail "told $told s: $err"
 }
+
+# Other work beside the first checks makes each take three times as long. Once it is over, what is told
+# of the rest comes within a third of it after eight checks.
+test_a_slow_beginning_is_soon_forgotten() {
+    local top check
+    make_toy
+    top=$toy
+    # shellcheck source=build/prove.sh
+    . "$top/build/prove.sh"
+    declare -A expected=([x]=60) kept=()
+    thousandths_gone=60000 thousandths_expected=60000
+    for check in 1 2 3 4 5; do weigh x 180; done
+    [ "$(scaled x)" -ge 120 ] || fail "check $check, slow as it was, lets expect $(scaled x) s"
+    for check in 1 2 3 4 5 6 7 8; do weigh x 60; done
+    if [ "$(scaled x)" -lt 60 ] || [ "$(scaled x)" -gt 80 ]; then
+        fail "check $check behind that lets expect $(scaled x) s"
+    fi
+}
