@@ -20,7 +20,8 @@ use Rattle.freezer.specs.Verbs.{command_of}
 use Rattle.freezer.specs.Commands.{job_by, job_of}
 
 -- the laws of other crates that this one rests on
-module _ (line_lawful : (later : ℕ → Files) (words : List (List ℕ)) → IsLawful (line_words later words))
+module _ (line_lawful : (later : ℕ → Files) (words : List (List ℕ))
+    → IsLawful (line_words later words))
     (play_lawful : (later : ℕ → Files) (words : List (List ℕ)) → IsLawful (play_words later words))
     (later : ℕ → Files) where
   by_command : (command : Option (Verb × List (List ℕ))) → IsLawful (job_by later command)

@@ -7,7 +7,8 @@ use Rattle.frz_answer.specs.Ends.{Ran}
 use Rattle.freezer.specs.declared.verb.Verb.{Verb}
 use Rattle.freezer.specs.Commands.{job_by}
 
-pub as_command : (later : ℕ → Files) (end : End) (old new : World) (these words : Option (Verb × List (List ℕ)))
+pub as_command : (later : ℕ → Files) (end : End) (old new : World)
+    (these words : Option (Verb × List (List ℕ)))
     → these ≡ words → Ran (job_by later these) end old new → Ran (job_by later words) end old new
 as_command later end old new these words e ran =
     subst (λ (o : Option (Verb × List (List ℕ))). Ran (job_by later o) end old new) e ran

@@ -22,7 +22,8 @@ use Rattle.freezer.specs.Commands.{job_of}
 use Rattle.freezer.specs.Calls.{build, chain, chaincheck, chainquery, check, query, Succeeds, TellsChainedBounds, TellsSolvedBounds, TellsTrueBounds}
 use Rattle.freezer.proofs.CallsInTurn.{chain_headline, chain_queried, headline, of_names, queried}
 
-module _ (lawful : (later : ℕ → Files) (words : List (List ℕ)) → IsLawful (job_of later words)) where
+module _ (lawful : (later : ℕ → Files) (words : List (List ℕ))
+    → IsLawful (job_of later words)) where
   -- what is built is accepted, by the law of the commands
   module _ (accepted : (rules table : List ℕ) (files : Files) (input more : List ℕ) (a b : Answer)
       → (building_at rules table).answers files input a → a.status ≡ Success

@@ -88,7 +88,8 @@ module _ (files : Files) (input : List ℕ) (a : Answer) where
       (λ e. cc) job x answer means (λ p is meant e. (p, is, meant)) done
 
   of_words : a.status ≡ Success → (job : Colour → Board → Job) (side : Option Colour)
-      (x : Result Board FenFault) → (on_side (λ c. on_position (job c) x) side).answers files input a
+      (x : Result Board FenFault)
+      → (on_side (λ c. on_position (job c) x) side).answers files input a
       → (on_side (λ c. on_position (job c) x) side).means files input a
       → (c : Colour) × (side ≡ Some c) × (p : Board) × (x ≡ Ok p)
       × (job c p).means files input a
@@ -107,7 +108,8 @@ Zugzwangs side at P = (rules : RuleLines) (value : Board → Value) → AreTrueE
     → rank_at codes side (at s) ≡ 2 → P squeeze.other s.position
 
 -- what each call means
-module _ (lawful : (later : ℕ → Files) (words : List (List ℕ)) → IsLawful (job_of later words)) where
+module _ (lawful : (later : ℕ → Files) (words : List (List ℕ))
+    → IsLawful (job_of later words)) where
   pub headline : (later : ℕ → Files) (table : List ℕ) (files : Files) (a : Answer)
       → Succeeds later (check table) files a → Headline table files
   headline later table files a h =
@@ -276,7 +278,8 @@ module _ (lawful : (later : ℕ → Files) (words : List (List ℕ)) → IsLawfu
               side = at.0;
               named = at.1;
               tells = tells;
-              bound = tells.where_exact (stays_exact now stays_now has.bytes has.contents has.open_file);
+              bound = tells.where_exact
+                  (stays_exact now stays_now has.bytes has.contents has.open_file);
             }
 
         pub lined_well : (input : List ℕ)

@@ -95,8 +95,8 @@ pub record TellsSolvedBounds (rules fen : List ℕ) (files : Files) (text : List
   pub solved : TellsSolved rules p files text
 
 -- the text is the report of the file, and each code by which it tells, of either side at any
--- position of the set, is that of the bound there, which holds in chess. Where the exits are true, a
--- squeeze that shows a win is a mutual zugzwang of chess
+-- position of the set, is that of the bound there, which holds in chess. Where the exits are true,
+-- a squeeze that shows a win is a mutual zugzwang of chess
 pub record TellsTrueReport (table : List ℕ) (files : Files) (text : List ℕ) : Type 0 where
   pub tells : TellsReport table files text
   pub bounds : (side : Colour) (p : Board) → Member tells.contents.rules.groups p →

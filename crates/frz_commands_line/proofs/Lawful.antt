@@ -59,7 +59,8 @@ one_by_test alone contents bytes side p files a b true h k =
     ∙ sym h.told
 one_by_test alone contents bytes side p files a b false h k = k ∙ sym h
 
-one_by : LineAlone → (x : Result Contents TableFault) (bytes : ℕ → List ℕ) (side : Colour) (p : Board)
+one_by : LineAlone → (x : Result Contents TableFault) (bytes : ℕ → List ℕ) (side : Colour)
+    (p : Board)
     (files : Files) (a b : Answer)
     → IsLinedBy x bytes side p files a → IsLinedBy x bytes side p files b → b ≡ a
 one_by alone (Ok contents) bytes side p files a b h k =

@@ -62,11 +62,13 @@ pub record LineLaws : Type 0 where
       (start : ℕ) (plies : List LinePly) (end : EndOfLine)
       → slice_index (codes 0) start ≡ 1 → IsLine rules value side codes start plies end
       → EndsDrawn (counted (graph_by rules value)) side end
-  pub few : (rules : RuleLines) (value : Board → Value) (side : Colour) (codes : ℕ → List ℕ) (start : ℕ)
+  pub few : (rules : RuleLines) (value : Board → Value) (side : Colour) (codes : ℕ → List ℕ)
+      (start : ℕ)
       (plies : List LinePly) (end : EndOfLine)
       → slice_index (codes 0) start ≡ 1 → IsLine rules value side codes start plies end
       → length plies ≤ MOST_PLIES
-  pub cut : (rules : RuleLines) (value : Board → Value) (side : Colour) (codes : ℕ → List ℕ) (start : ℕ)
+  pub cut : (rules : RuleLines) (value : Board → Value) (side : Colour) (codes : ℕ → List ℕ)
+      (start : ℕ)
       (plies : List LinePly)
       → slice_index (codes 0) start ≡ 1 → IsLine rules value side codes start plies Cut
       → length plies ≡ MOST_PLIES
@@ -125,7 +127,8 @@ module _ (laws : LineLaws) (later : ℕ → Files) (name : List ℕ) (side : Col
   Says has end = MeansStatus later name side p files (end_status (told side end))
       (told_text side (start_code has) has.plies (told side end))
 
-  own_end : (has : HasLine later name side p files) (end : EndOfLine) → has.end ≡ end → (last : LineEnd)
+  own_end : (has : HasLine later name side p files) (end : EndOfLine) → has.end ≡ end
+      → (last : LineEnd)
       → told side end ≡ Ok last
       → MeansStatus later name side p files statuses.Success
       (told_text side (start_code has) has.plies (told side end))
@@ -140,7 +143,8 @@ module _ (laws : LineLaws) (later : ℕ → Files) (name : List ℕ) (side : Col
         side p has.inside;
   }
 
-  says_end : (has : HasLine later name side p files) (end : EndOfLine) → has.end ≡ end → Says has end
+  says_end : (has : HasLine later name side p files) (end : EndOfLine) → has.end ≡ end
+      → Says has end
   says_end has (Wrong at kept given) is = record {
     has = has;
     told = ap (λ (x : EndOfLine). told_text side (start_code has) has.plies (told side x)) (sym is);
@@ -205,9 +209,11 @@ module _ (laws : LineLaws) (later : ℕ → Files) (name : List ℕ) (side : Col
   lined_so a (Ok contents) bytes h = h
   lined_so a (Err fault) bytes h = h
 
-  pub line_means : (a : Answer) → IsLinedAt later name side p files a → MeansLine later name side p files a
+  pub line_means : (a : Answer) → IsLinedAt later name side p files a
+      → MeansLine later name side p files a
   line_means a h =
       means_by name p files a (λ contents bytes. IsLined contents held side p files a)
-      (MeansStatus later name side p files) (means_so a) (λ text e. e) (λ text e. e) (λ text e. inl e)
+      (MeansStatus later name side p files) (means_so a)
+      (λ text e. e) (λ text e. e) (λ text e. inl e)
       (lined_means a) (files name) refl
       (lined_so a (opened (table_format Plain) (files name)) (bytes_at files name) h)

@@ -37,7 +37,8 @@ some_in there contents bytes side p files = by_test (is_member contents.rules.gr
         → SomeAnswer (λ a. MatchBool b (IsLined contents bytes side p files a)
         (a ≡ says (status_of refusals.Outside) (refusal_line refusals.Outside) files))
     by_test true =
-        let l = there contents.rules (value_by contents.rules) side (codes_later contents bytes side)
+        let l = there contents.rules (value_by contents.rules) side
+            (codes_later contents bytes side)
         (Num contents.rules.groups p) in
         record {
           a = line_answer side (code_at contents bytes side p) l.0 (ends.told side l.1) files;
@@ -46,7 +47,8 @@ some_in there contents bytes side p files = by_test (is_member contents.rules.gr
         }
     by_test false = some_refusal refusals.Outside files
 
-some_by : LineThere → (x : Result Contents TableFault) (bytes : ℕ → List ℕ) (side : Colour) (p : Board)
+some_by : LineThere → (x : Result Contents TableFault) (bytes : ℕ → List ℕ) (side : Colour)
+    (p : Board)
     (files : Files) → SomeAnswer (λ a. IsLinedBy x bytes side p files a)
 some_by there (Ok contents) bytes side p files = some_in there contents bytes side p files
 some_by there (Err fault) bytes side p files = some_refusal (refusals.Table fault) files

@@ -44,7 +44,8 @@ Wrote table later side p result old new before now =
     × TellsLine table.rules side
     (codes_later (contents_of table) (held_later later table.name) side) p text result before now
 
-module _ (there : LineThere) (later_files : ℕ → Files) (table : Table) (side : Colour) (p : Board) (store left : StoreTold)
+module _ (there : LineThere) (later_files : ℕ → Files) (table : Table) (side : Colour) (p : Board)
+    (store left : StoreTold)
     (input : SourceTold) (out mid taken : SinkTold) (before now : ℕ)
     (quiet : StoreQuiet store left) (later : before ≤ now) where
   abbrev job : Job

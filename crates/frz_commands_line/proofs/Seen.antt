@@ -72,7 +72,8 @@ module _ (contents : Contents) (bytes : ℕ → List ℕ) (side : Colour) (p : B
       (sym (not_member contents.rules.groups p none)) e
 
 -- the line of which this text was written, with what was spent on it
-pub record LineSo (contents : Contents) (bytes : ℕ → List ℕ) (side : Colour) (p : Board) (text : List ℕ)
+pub record LineSo (contents : Contents) (bytes : ℕ → List ℕ) (side : Colour) (p : Board)
+    (text : List ℕ)
     (result : Result LineEnd LineFault) (before now : Spent) : Type 0 where
   pub plies : List LinePly
   pub end : EndOfLine

@@ -69,7 +69,8 @@ pub record SessionLaws : Type 0 where
       (Exit v) left → length plies + lag_of v ≤ n
   pub held : (rules : RuleLines) (value : Board → Value) (side : Colour) (codes : ℕ → List ℕ)
       (start : ℕ) (input : List ℕ) (plies : List SessionPly) (end : EndOfSession) (left : Input)
-      → slice_index (codes 0) start ≡ 1 → IsSession rules value side codes start input plies end left
+      → slice_index (codes 0) start ≡ 1
+      → IsSession rules value side codes start input plies end left
       → EndsHeld (counted (graph_by rules value)) side end
   pub right : (rules : RuleLines) (value : Board → Value) (side : Colour) (codes : ℕ → List ℕ)
       → ((k : ℕ) → IsTableOf rules value side (codes k))
@@ -143,7 +144,8 @@ module _ (laws : SessionLaws) (later : ℕ → Files) (name : List ℕ) (side : 
   }
 
   -- an answer that is told is one of these
-  as_told : (has : HasSession later name side p files input) (answer given : Result SessionEnd PlayFault)
+  as_told : (has : HasSession later name side p files input)
+      (answer given : Result SessionEnd PlayFault)
       → answer ≡ given → Says has given → Says has answer
   as_told has answer given e says =
       subst (λ (r : Result SessionEnd PlayFault). Says has r) (sym e) says
@@ -154,7 +156,8 @@ module _ (laws : SessionLaws) (later : ℕ → Files) (name : List ℕ) (side : 
   tells_end has end answer is tells =
       subst (λ (x : EndOfSession). Tells side x answer) (sym is) tells
 
-  says_why : (has : HasSession later name side p files input) (halt : Halt) (why : Why) → halt.why ≡ why
+  says_why : (has : HasSession later name side p files input) (halt : Halt) (why : Why)
+      → halt.why ≡ why
       → has.end ≡ Stopped halt → (answer : Result SessionEnd PlayFault) → answer ≡ why_told halt.why
       → Says has answer
   says_why has halt Ended e is answer tells =
@@ -223,7 +226,8 @@ module _ (laws : SessionLaws) (later : ℕ → Files) (name : List ℕ) (side : 
   -- an answer that is said in full, with what its status says
   means_so : (a : Answer) (status : Status) (text : List ℕ) (taken : ℕ) → taken ≤ length input
       → a ≡ record { status = status; text = text; files = files; taken = taken }
-      → MeansStatus later name side p files input status text → MeansPlay later name side p files input a
+      → MeansStatus later name side p files input status text
+      → MeansPlay later name side p files input a
   means_so a status text taken few e means =
       subst (λ (x : Answer). MeansPlay later name side p files input x) (sym e)
       (record { same = refl; few = few; says = means })

@@ -45,7 +45,8 @@ use Rattle.frz_commands_line.proofs.SessionTexts.{Answered, answered_at, never_c
 use Rattle.frz_commands_line.proofs.Taken.{rest_after, Split, found_in, after_lines, rest_left}
 
 -- what was written of the session and taken of the input
-abbrev pub Played : Table → (later : ℕ → Files) → Colour → Board → Result SessionEnd PlayFault → SourceTold
+abbrev pub Played : Table → (later : ℕ → Files) → Colour → Board → Result SessionEnd PlayFault
+    → SourceTold
     → SourceTold → SinkTold → SinkTold → (before now : Spent) → Type 0
 Played table later side p result source gone old new before now =
     (text : List ℕ) × (took : List ℕ) × IsLines text × WroteBy result text old new
@@ -63,7 +64,8 @@ input_later (Err (plays.Line fault)) source gone cause = omega (arith, cause)
 input_later (Err plays.Input) source gone cause = cause.later
 input_later (Err (plays.Limit limit)) source gone cause = omega (arith, cause)
 
-module _ (there : SessionThere) (later_files : ℕ → Files) (table : Table) (side : Colour) (p : Board) (store left : StoreTold)
+module _ (there : SessionThere) (later_files : ℕ → Files) (table : Table) (side : Colour)
+    (p : Board) (store left : StoreTold)
     (source gone : SourceTold) (out mid taken : SinkTold) (before now : ℕ)
     (quiet : StoreQuiet store left) (later : before ≤ now) where
   abbrev job : Job
@@ -97,7 +99,8 @@ module _ (there : SessionThere) (later_files : ℕ → Files) (table : Table) (s
     abbrev TellsIt : Result SessionEnd PlayFault → Type 0
     TellsIt result =
         (whole : List ℕ) × MayHold source whole
-        × TellsSession table.rules side (codes_later (contents_of table) held side) p whole took text
+        × TellsSession table.rules side (codes_later (contents_of table) held side) p
+            whole took text
         result (spent_by store before) (spent_by left now)
 
     came : TookText text out mid → Came text took old between

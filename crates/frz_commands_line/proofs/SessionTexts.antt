@@ -42,7 +42,8 @@ no_cut (Mate mover) arena side codes_of k p e = cc
 no_cut (Stalemate mover) arena side codes_of k p e = cc
 no_cut (Going mover) arena side codes_of k p e = cc
 
-by_tests : (agrees starts : Bool) (arena : Arena Step ℕ Value) (side : Colour) (codes_of : ℕ → List ℕ)
+by_tests : (agrees starts : Bool) (arena : Arena Step ℕ Value) (side : Colour)
+    (codes_of : ℕ → List ℕ)
     (k : ℕ) (p : ℕ × ℕ) (kept given : ℕ) (node : Node)
     → (if agrees then
     (if starts then Over NoBound else stage_of (session_player arena side codes_of) k p node)
@@ -61,13 +62,16 @@ stage_goes arena side codes_of k p e =
     by_tests (player.entry p == given) ((k == 0) && is_failure (player.entry p)) arena side codes_of
     k p (player.entry p) given (player.arena.node p) e
 
-no_stop : (own : Bool) (arena : Arena Step ℕ Value) (side : Colour) (codes_of : ℕ → List ℕ) (s : Input)
+no_stop : (own : Bool) (arena : Arena Step ℕ Value) (side : Colour) (codes_of : ℕ → List ℕ)
+    (s : Input)
     (p : ℕ × ℕ) (t : Input)
-    → IsStopBy {N = ℕ × ℕ} {V = Value} own (session_player arena side codes_of).opponent s p Cut t → ⊥
+    → IsStopBy {N = ℕ × ℕ} {V = Value} own (session_player arena side codes_of).opponent s p Cut t
+    → ⊥
 no_stop true arena side codes_of s p t h = h
 no_stop false arena side codes_of s p t h = let e = h.1 in cc
 
-cut_next : (next : Next (ℕ × ℕ) Value) (P : ℕ × ℕ → Type 0) (plies : List SessionPly) (left t : Input)
+cut_next : (next : Next (ℕ × ℕ) Value) (P : ℕ × ℕ → Type 0) (plies : List SessionPly)
+    (left t : Input)
     → ((q : ℕ × ℕ) → P q → ⊥)
     → LeadsTo P (λ v. (plies ≡ []) × (◌≡◌ {A = EndOfSession} Cut (Exit v)) × (t ≡ left)) next → ⊥
 cut_next (Inside q) P plies left t again w = again q w

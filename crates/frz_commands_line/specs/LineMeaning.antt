@@ -48,7 +48,8 @@ pub record KeepsHold (rules : RuleLines) (side : Colour) (plies : List LinePly)
 -- the file opens, the position is in its set, and this is the
 -- line of the side by the codes in the file, as they are read after so many plies; it is a game of
 -- chess from the position
-pub record HasLine (later : ℕ → Files) (table : List ℕ) (side : Colour) (p : Board) (files : Files) : Type 0 where
+pub record HasLine (later : ℕ → Files) (table : List ℕ) (side : Colour) (p : Board)
+    (files : Files) : Type 0 where
   pub bytes : List ℕ
   pub contents : Contents
   pub open_file : OpensAs table files bytes contents
@@ -59,20 +60,23 @@ pub record HasLine (later : ℕ → Files) (table : List ℕ) (side : Colour) (p
   pub game : IsGame contents.rules side p plies
 
 -- the code of its start
-abbrev pub start_code : {later : ℕ → Files} {table : List ℕ} {side : Colour} {p : Board} {files : Files}
+abbrev pub start_code : {later : ℕ → Files} {table : List ℕ} {side : Colour} {p : Board}
+    {files : Files}
     → HasLine later table side p files → ℕ
 start_code {later = later} {table = table} {side = side} {p = p} has =
     code_at has.contents (held_later later table) side p
 
 -- whenever they are read the codes in the file are the tables of both sides
-abbrev pub IsExactFile : {later : ℕ → Files} {table : List ℕ} {side : Colour} {p : Board} {files : Files} →
+abbrev pub IsExactFile : {later : ℕ → Files} {table : List ℕ} {side : Colour} {p : Board}
+    {files : Files} →
     HasLine later table side p files →
     Type 0
 IsExactFile {later = later} {table = table} has = (k : ℕ) →
     KeepsTables (value_by has.contents.rules) has.contents (held_later later table k)
 
 -- the text is that of the line
-abbrev pub TellsText : {later : ℕ → Files} {table : List ℕ} {side : Colour} {p : Board} {files : Files} →
+abbrev pub TellsText : {later : ℕ → Files} {table : List ℕ} {side : Colour} {p : Board}
+    {files : Files} →
     HasLine later table side p files →
     List ℕ → Type 0
 TellsText {side = side} has text =
@@ -80,7 +84,8 @@ TellsText {side = side} has text =
 
 -- the whole line is told, with its end; a win is brought home in its plies, and a hold stays one;
 -- by the tables of both sides the code of the start is that of the bound
-pub record TellsLine (later : ℕ → Files) (table : List ℕ) (side : Colour) (p : Board) (files : Files)
+pub record TellsLine (later : ℕ → Files) (table : List ℕ) (side : Colour) (p : Board)
+    (files : Files)
     (text : List ℕ) : Type 0 where
   pub has : HasLine later table side p files
   pub told : TellsText has text
@@ -94,7 +99,8 @@ pub record TellsLine (later : ℕ → Files) (table : List ℕ) (side : Colour) 
 
 -- a code on its way is not the local one, which does not happen by the tables of both sides; up
 -- to there a win and a hold are kept
-pub record TellsWrong (later : ℕ → Files) (table : List ℕ) (side : Colour) (p : Board) (files : Files)
+pub record TellsWrong (later : ℕ → Files) (table : List ℕ) (side : Colour) (p : Board)
+    (files : Files)
     (text : List ℕ) : Type 0 where
   pub has : HasLine later table side p files
   pub told : TellsText has text
@@ -108,7 +114,8 @@ pub record TellsWrong (later : ℕ → Files) (table : List ℕ) (side : Colour)
   pub not_exact : IsExactFile has → ⊥
 
 -- the start fails
-pub record TellsNoBound (later : ℕ → Files) (table : List ℕ) (side : Colour) (p : Board) (files : Files)
+pub record TellsNoBound (later : ℕ → Files) (table : List ℕ) (side : Colour) (p : Board)
+    (files : Files)
     (text : List ℕ) : Type 0 where
   pub has : HasLine later table side p files
   pub told : TellsText has text
@@ -123,7 +130,8 @@ pub record TellsOutside (table : List ℕ) (p : Board) (files : Files) (text : L
   pub told : text ≡ codes "outside\n"
 
 -- what an answer says, by its status
-abbrev pub MeansStatus : (later : ℕ → Files) → List ℕ → Colour → Board → Files → Status → List ℕ → Type 0
+abbrev pub MeansStatus : (later : ℕ → Files) → List ℕ → Colour → Board → Files → Status → List ℕ
+    → Type 0
 MeansStatus later table side p files Success text = TellsLine later table side p files text
 MeansStatus later table side p files Wrong text = TellsWrong later table side p files text
 MeansStatus later table side p files Table text = TellsTableFault table files text
@@ -134,7 +142,8 @@ MeansStatus later table side p files status text = ⊥
 
 -- what an answer of `line` means: it changes no file and takes
 -- no input, and each status has its cause
-pub record MeansLine (later : ℕ → Files) (table : List ℕ) (side : Colour) (p : Board) (files : Files)
+pub record MeansLine (later : ℕ → Files) (table : List ℕ) (side : Colour) (p : Board)
+    (files : Files)
     (a : Answer) : Type 0 where
   pub same : a.files ≡ files
   pub untaken : a.taken ≡ 0

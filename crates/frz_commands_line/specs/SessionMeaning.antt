@@ -65,7 +65,8 @@ IsSafe rules side plies =
 -- the file opens, the position is in its set, and this is the
 -- session of the side by the codes in the file, as they are read after so many plies; it is a game
 -- of chess from the position
-pub record HasSession (later : ℕ → Files) (table : List ℕ) (side : Colour) (p : Board) (files : Files)
+pub record HasSession (later : ℕ → Files) (table : List ℕ) (side : Colour) (p : Board)
+    (files : Files)
     (input : List ℕ) : Type 0 where
   pub bytes : List ℕ
   pub contents : Contents
@@ -78,14 +79,16 @@ pub record HasSession (later : ℕ → Files) (table : List ℕ) (side : Colour)
   pub game : IsGame contents.rules side p plies
 
 -- the code of its start
-abbrev pub start_code : {later : ℕ → Files} {table : List ℕ} {side : Colour} {p : Board} {files : Files}
+abbrev pub start_code : {later : ℕ → Files} {table : List ℕ} {side : Colour} {p : Board}
+    {files : Files}
     {input : List ℕ} →
     HasSession later table side p files input → ℕ
 start_code {later = later} {table = table} {side = side} {p = p} has =
     code_at has.contents (held_later later table) side p
 
 -- whenever they are read the codes in the file are the tables of both sides
-abbrev pub IsExactFile : {later : ℕ → Files} {table : List ℕ} {side : Colour} {p : Board} {files : Files}
+abbrev pub IsExactFile : {later : ℕ → Files} {table : List ℕ} {side : Colour} {p : Board}
+    {files : Files}
     {input : List ℕ} →
     HasSession later table side p files input → Type 0
 IsExactFile {later = later} {table = table} has = (k : ℕ) →
@@ -93,15 +96,16 @@ IsExactFile {later = later} {table = table} has = (k : ℕ) →
 
 -- the session answers this, and the text is its own
 pub record Ends
-    {later : ℕ → Files} {table : List ℕ} {side : Colour} {p : Board} {files : Files} {input : List ℕ}
+    {later : ℕ → Files} {table : List ℕ} {side : Colour} {p : Board} {files : Files}
+    {input : List ℕ}
     (has : HasSession later table side p files input) (text : List ℕ)
     (answer : Result SessionEnd PlayFault) : Type 0 where
   pub tells : Tells side has.end answer
   pub told : text ≡ played_text side (start_code has) has.plies has.end answer
 
--- the whole session is told, with its end; a win and a hold are kept. By the tables of both sides the
--- code of the start is that of the bound, and where the exits
--- are true each position after a ply is safe
+-- the whole session is told, with its end; a win and a hold are kept. By the tables of both sides
+-- the code of the start is that of the bound, and where the exits are true each position after a ply
+-- is safe
 pub record TellsSession
     (later : ℕ → Files) (table : List ℕ) (side : Colour) (p : Board) (files : Files)
     (input text : List ℕ) : Type 0 where
@@ -118,7 +122,8 @@ pub record TellsSession
 
 -- a code on its way is not the local one, which does not happen by the tables of both sides; up
 -- to there a win and a hold are kept
-pub record TellsWrong (later : ℕ → Files) (table : List ℕ) (side : Colour) (p : Board) (files : Files)
+pub record TellsWrong (later : ℕ → Files) (table : List ℕ) (side : Colour) (p : Board)
+    (files : Files)
     (input text : List ℕ) : Type 0 where
   pub has : HasSession later table side p files input
   pub fault : PlayFault
@@ -140,7 +145,8 @@ pub record TellsNoBound
 
 -- the input has come to a limit; up to there a win and a hold are kept, and each position after a
 -- ply is safe, as in a session to its end
-pub record TellsLimit (later : ℕ → Files) (table : List ℕ) (side : Colour) (p : Board) (files : Files)
+pub record TellsLimit (later : ℕ → Files) (table : List ℕ) (side : Colour) (p : Board)
+    (files : Files)
     (input text : List ℕ) : Type 0 where
   pub has : HasSession later table side p files input
   pub limit : PlayLimit
@@ -152,10 +158,14 @@ pub record TellsLimit (later : ℕ → Files) (table : List ℕ) (side : Colour)
       IsSafe has.contents.rules side has.plies
 
 -- what an answer says, by its status
-abbrev pub MeansStatus : (later : ℕ → Files) → List ℕ → Colour → Board → Files → List ℕ → Status → List ℕ → Type 0
-MeansStatus later table side p files input Success text = TellsSession later table side p files input text
-MeansStatus later table side p files input Wrong text = TellsWrong later table side p files input text
-MeansStatus later table side p files input Limit text = TellsLimit later table side p files input text
+abbrev pub MeansStatus : (later : ℕ → Files) → List ℕ → Colour → Board → Files → List ℕ → Status
+    → List ℕ → Type 0
+MeansStatus later table side p files input Success text =
+    TellsSession later table side p files input text
+MeansStatus later table side p files input Wrong text =
+    TellsWrong later table side p files input text
+MeansStatus later table side p files input Limit text =
+    TellsLimit later table side p files input text
 MeansStatus later table side p files input Table text = TellsTableFault table files text
 MeansStatus later table side p files input Outside text =
     TellsOutside table p files text ⊎ TellsNoBound later table side p files input text
@@ -164,7 +174,8 @@ MeansStatus later table side p files input status text = ⊥
 
 -- what an answer of `play` means: it changes no file, and each status has its cause
 pub record MeansPlay
-    (later : ℕ → Files) (table : List ℕ) (side : Colour) (p : Board) (files : Files) (input : List ℕ)
+    (later : ℕ → Files) (table : List ℕ) (side : Colour) (p : Board) (files : Files)
+    (input : List ℕ)
     (a : Answer) : Type 0 where
   pub same : a.files ≡ files
   pub few : a.taken ≤ length input

@@ -27,7 +27,8 @@ use Rattle.frz_commands_line.specs.SessionEnds.{session_status, session_naming}
 
 -- the session of the side from the position against the input, by the codes that the bytes keep, in
 -- the game of their rules; and what it leaves of the input
-abbrev pub IsSessionBy : Contents → (ℕ → List ℕ) → Colour → Board → (input : List ℕ) → List SessionPly →
+abbrev pub IsSessionBy : Contents → (ℕ → List ℕ) → Colour → Board → (input : List ℕ)
+    → List SessionPly →
     EndOfSession →
     Input → Type 0
 IsSessionBy contents bytes side p input plies end left =

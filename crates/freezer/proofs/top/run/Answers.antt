@@ -9,7 +9,8 @@ returns-in-Some-Solve-default-clause-ran g c =
     let w = any_later (g.S.Store.files c.args.store.now) in (
       w.0,
       w.1,
-      as_command w.0 _ _ _ _ _ (rw c.in-Some-Solve-default.field-0-0-is at c.in-Some-Solve-default.ensures)
+      as_command w.0 _ _ _ _ _ (rw c.in-Some-Solve-default.field-0-0-is at
+          c.in-Some-Solve-default.ensures)
           (c.run_solve.ensures.ran (source_of g.I.Source c.args.input.now)),
     )
 
@@ -19,7 +20,8 @@ returns-in-Some-Moves-default-clause-ran g c =
     let w = any_later (g.S.Store.files c.args.store.now) in (
       w.0,
       w.1,
-      as_command w.0 _ _ _ _ _ (rw c.in-Some-Moves-default.field-0-0-is at c.in-Some-Moves-default.ensures)
+      as_command w.0 _ _ _ _ _ (rw c.in-Some-Moves-default.field-0-0-is at
+          c.in-Some-Moves-default.ensures)
           (c.run_moves.ensures (store_of g.S.Store c.args.store.now)
           (source_of g.I.Source c.args.input.now)),
     )
@@ -30,7 +32,8 @@ returns-in-Some-Sans-default-clause-ran g c =
     let w = any_later (g.S.Store.files c.args.store.now) in (
       w.0,
       w.1,
-      as_command w.0 _ _ _ _ _ (rw c.in-Some-Sans-default.field-0-0-is at c.in-Some-Sans-default.ensures)
+      as_command w.0 _ _ _ _ _ (rw c.in-Some-Sans-default.field-0-0-is at
+          c.in-Some-Sans-default.ensures)
           (c.run_sans.ensures (store_of g.S.Store c.args.store.now)
           (source_of g.I.Source c.args.input.now)),
     )
@@ -41,7 +44,8 @@ returns-in-Some-Move-default-clause-ran g c =
     let w = any_later (g.S.Store.files c.args.store.now) in (
       w.0,
       w.1,
-      as_command w.0 _ _ _ _ _ (rw c.in-Some-Move-default.field-0-0-is at c.in-Some-Move-default.ensures)
+      as_command w.0 _ _ _ _ _ (rw c.in-Some-Move-default.field-0-0-is at
+          c.in-Some-Move-default.ensures)
           (c.run_move.ensures (store_of g.S.Store c.args.store.now)
           (source_of g.I.Source c.args.input.now)),
     )
@@ -52,7 +56,8 @@ returns-in-Some-Query-default-clause-ran g c =
     let w = any_later (g.S.Store.files c.args.store.now) in (
       w.0,
       w.1,
-      as_command w.0 _ _ _ _ _ (rw c.in-Some-Query-default.field-0-0-is at c.in-Some-Query-default.ensures)
+      as_command w.0 _ _ _ _ _ (rw c.in-Some-Query-default.field-0-0-is at
+          c.in-Some-Query-default.ensures)
           (c.run_query.ensures.ran (source_of g.I.Source c.args.input.now) c.args.steps.now),
     )
 
@@ -62,7 +67,8 @@ returns-in-Some-Line-default-clause-ran g c =
     let w = c.run_line.ensures.ran in (
       w.0,
       w.1,
-      as_command w.0 _ _ _ _ _ (rw c.in-Some-Line-default.field-0-0-is at c.in-Some-Line-default.ensures)
+      as_command w.0 _ _ _ _ _ (rw c.in-Some-Line-default.field-0-0-is at
+          c.in-Some-Line-default.ensures)
           (w.2 (source_of g.I.Source c.args.input.now)),
     )
 
@@ -72,7 +78,8 @@ returns-in-Some-Play-default-clause-ran g c =
     let w = c.run_play.ensures.ran in (
       w.0,
       w.1,
-      as_command w.0 _ _ _ _ _ (rw c.in-Some-Play-default.field-0-0-is at c.in-Some-Play-default.ensures)
+      as_command w.0 _ _ _ _ _ (rw c.in-Some-Play-default.field-0-0-is at
+          c.in-Some-Play-default.ensures)
           w.2,
     )
 
@@ -82,7 +89,8 @@ returns-in-Some-Check-default-clause-ran g c =
     let w = any_later (g.S.Store.files c.args.store.now) in (
       w.0,
       w.1,
-      as_command w.0 _ _ _ _ _ (rw c.in-Some-Check-default.field-0-0-is at c.in-Some-Check-default.ensures)
+      as_command w.0 _ _ _ _ _ (rw c.in-Some-Check-default.field-0-0-is at
+          c.in-Some-Check-default.ensures)
           (c.run_check.ensures.ran (source_of g.I.Source c.args.input.now)),
     )
 
@@ -92,7 +100,8 @@ returns-in-Some-Build-default-clause-ran g c =
     let w = any_later (g.S.Store.files c.args.store.now) in (
       w.0,
       w.1,
-      as_command w.0 _ _ _ _ _ (rw c.in-Some-Build-default.field-0-0-is at c.in-Some-Build-default.ensures)
+      as_command w.0 _ _ _ _ _ (rw c.in-Some-Build-default.field-0-0-is at
+          c.in-Some-Build-default.ensures)
           (c.run_build.ensures.ran (source_of g.I.Source c.args.input.now)),
     )
 
@@ -102,7 +111,8 @@ returns-in-Some-Migrate-default-clause-ran g c =
     let w = any_later (g.S.Store.files c.args.store.now) in (
       w.0,
       w.1,
-      as_command w.0 _ _ _ _ _ (rw c.in-Some-Migrate-default.field-0-0-is at c.in-Some-Migrate-default.ensures)
+      as_command w.0 _ _ _ _ _ (rw c.in-Some-Migrate-default.field-0-0-is at
+          c.in-Some-Migrate-default.ensures)
           (c.run_migrate.ensures.ran (source_of g.I.Source c.args.input.now) c.args.steps.now),
     )
 
@@ -112,7 +122,8 @@ returns-in-Some-Chain-default-clause-ran g c =
     let w = any_later (g.S.Store.files c.args.store.now) in (
       w.0,
       w.1,
-      as_command w.0 _ _ _ _ _ (rw c.in-Some-Chain-default.field-0-0-is at c.in-Some-Chain-default.ensures)
+      as_command w.0 _ _ _ _ _ (rw c.in-Some-Chain-default.field-0-0-is at
+          c.in-Some-Chain-default.ensures)
           (c.run_chain.ensures.ran (source_of g.I.Source c.args.input.now)),
     )
 
@@ -122,7 +133,8 @@ returns-in-Some-ChainCheck-default-clause-ran g c =
     let w = any_later (g.S.Store.files c.args.store.now) in (
       w.0,
       w.1,
-      as_command w.0 _ _ _ _ _ (rw c.in-Some-ChainCheck-default.field-0-0-is at c.in-Some-ChainCheck-default.ensures)
+      as_command w.0 _ _ _ _ _ (rw c.in-Some-ChainCheck-default.field-0-0-is at
+          c.in-Some-ChainCheck-default.ensures)
           (c.run_chaincheck.ensures.ran (source_of g.I.Source c.args.input.now)),
     )
 
@@ -132,7 +144,8 @@ returns-in-Some-ChainQuery-default-clause-ran g c =
     let w = any_later (g.S.Store.files c.args.store.now) in (
       w.0,
       w.1,
-      as_command w.0 _ _ _ _ _ (rw c.in-Some-ChainQuery-default.field-0-0-is at c.in-Some-ChainQuery-default.ensures)
+      as_command w.0 _ _ _ _ _ (rw c.in-Some-ChainQuery-default.field-0-0-is at
+          c.in-Some-ChainQuery-default.ensures)
           (c.run_chainquery.ensures.ran (source_of g.I.Source c.args.input.now) c.args.steps.now),
     )
 
@@ -142,7 +155,8 @@ returns-in-Some-Sample-default-clause-ran g c =
     let w = any_later (g.S.Store.files c.args.store.now) in (
       w.0,
       w.1,
-      as_command w.0 _ _ _ _ _ (rw c.in-Some-Sample-default.field-0-0-is at c.in-Some-Sample-default.ensures)
+      as_command w.0 _ _ _ _ _ (rw c.in-Some-Sample-default.field-0-0-is at
+          c.in-Some-Sample-default.ensures)
           (c.run_sample.ensures (store_of g.S.Store c.args.store.now)
           (source_of g.I.Source c.args.input.now)),
     )
@@ -153,7 +167,8 @@ returns-in-Some-Report-default-clause-ran g c =
     let w = any_later (g.S.Store.files c.args.store.now) in (
       w.0,
       w.1,
-      as_command w.0 _ _ _ _ _ (rw c.in-Some-Report-default.field-0-0-is at c.in-Some-Report-default.ensures)
+      as_command w.0 _ _ _ _ _ (rw c.in-Some-Report-default.field-0-0-is at
+          c.in-Some-Report-default.ensures)
           (c.run_report.ensures.ran (source_of g.I.Source c.args.input.now)),
     )
 
@@ -164,6 +179,7 @@ returns-in-None-clause-ran g c =
       w.0,
       w.1,
       as_command w.0 _ _ _ _ _ c.in-None.ensures
-          (c.refuse.ensures (store_of g.S.Store c.args.store.now) (source_of g.I.Source c.args.input.now)
+          (c.refuse.ensures (store_of g.S.Store c.args.store.now)
+              (source_of g.I.Source c.args.input.now)
           c.args.steps.now),
     )

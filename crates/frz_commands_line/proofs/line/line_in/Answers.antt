@@ -19,7 +19,8 @@ returns g c =
       held.may,
       held.opens,
       λ input. line_ran c.one_line.ensures.there held.later table side c.args.p.now
-          (store_of g.S.Store c.args.store.now) (store_of g.S.Store c.best_line-line.new.store) input
+          (store_of g.S.Store c.args.store.now)
+          (store_of g.S.Store c.best_line-line.new.store) input
           (sink_of g.O.Sink c.args.out.now) (sink_of g.O.Sink c.best_line-line.new.out)
           (sink_of g.O.Sink c.end_of_line.new.out) c.args.steps.now c.best_line-line.new.steps
           e.quiet e.later c.best_line-line.result c.end_of_line.result e.outside

@@ -24,7 +24,8 @@ returns-in-Ok g c =
       held.may,
       held.opens,
       session_ran c.one_session.ensures.there held.later table side c.args.p.now
-          (store_of g.S.Store c.args.store.now) (store_of g.S.Store c.play_session-session.new.store)
+          (store_of g.S.Store c.args.store.now)
+          (store_of g.S.Store c.play_session-session.new.store)
           (source_of g.I.Source c.args.input.now)
           (source_of g.I.Source c.play_session-session.new.input)
           (sink_of g.O.Sink c.args.out.now) (sink_of g.O.Sink c.play_session-session.new.out)
