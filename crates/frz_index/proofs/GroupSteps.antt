@@ -1,5 +1,5 @@
 -- The groups one after another.
-use Rattle.std.proofs.Common.{◌≡◌, ◌≢◌, true, false, cond, ℕ, zero, suc, ◌+◌, ◌*◌, ◌/◌, ◌%◌, ◌<◌, ◌≤◌, List, [], ◌∷◌, length, map, drop, get_or, slice_index, refl, ap, sym, ◌∙◌, subst, arith, add-one, mul_assoc}
+use Rattle.std.proofs.Common.{◌≡◌, ◌≢◌, true, false, cond, ℕ, zero, suc, ◌+◌, ◌*◌, ◌/◌, ◌%◌, ◌<◌, ◌≤◌, Option, None, Some, List, [], ◌∷◌, length, map, drop, get_or, slice_index, refl, ap, sym, ◌∙◌, subst, arith, add-one, mul_assoc}
 use Rattle.std.specs.List.{AllByRecursion}
 use Rattle.std.proofs.Math.Seq.{drop-cons}
 use Rattle.std.proofs.Math.Nat.{add-mul}
@@ -18,7 +18,9 @@ use Rattle.frz_index.specs.Candidates.{put_group, put_groups}
 use Rattle.frz_index.specs.Kept.{AreNumberable, AreWeights, product_from}
 use Rattle.frz_sets.specs.Sound.{IsCounted}
 use Rattle.frz_index.specs.Places.{IsWithinCount, digit_of, places, stands}
-use Rattle.frz_index.specs.TurnStates.{place_of}
+use Rattle.frz_index.specs.TurnStates.{place_of, turn_among}
+use Rattle.frz_board.specs.declared.man.Colour.{Colour}
+use Rattle.frz_board.specs.declared.man.Colour.TheVariants.{White, Black}
 use Rattle.frz_sets.specs.Sets.{radix_of, targets}
 use Rattle.frz_sets.specs.Views.{GroupLine}
 use Rattle.std.specs.List.{slice_get}
@@ -186,6 +188,11 @@ place_le t [] = omega arith
 place_le t (x ∷ xs) =
     elim (t == x) as (λ b. cond b 0 (suc (place_of t xs)) ≤ suc (length xs))
     [ true ↦ omega arith | false ↦ omega (arith, place_le t xs) ]
+
+pub turn_le : (ts : List ℕ) (c : Colour) (o : Option ℕ) → turn_among ts c o ≤ 2 + length ts
+turn_le ts c (Some t) = omega (arith, place_le t ts)
+turn_le ts White None = omega arith
+turn_le ts Black None = omega arith
 
 -- the same, before the weights are known
 pub at_plain : (gs : List GroupLine) (i : ℕ) (g : GroupLine) → AreNumberable gs → i < length gs →

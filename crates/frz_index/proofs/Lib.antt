@@ -20,3 +20,4 @@ pub mod FormerNumbers
 pub mod Stepping
 pub mod NumbersAfterSteps
 pub mod Quotients
+pub mod OneShare

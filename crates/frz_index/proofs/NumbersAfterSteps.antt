@@ -1,12 +1,10 @@
 -- The number after a man's step to an empty square, group by group.
-use Rattle.std.proofs.Common.{◌≡◌, ◌≢◌, ℕ, zero, suc, ◌+◌, ◌-◌, ◌*◌, ◌<◌, ◌≤◌, true, None, Some, List, ◌∷◌, drop, get_or, length, map, slice_index, refl, ap, sym, subst, ◌∙◌, arith, inl, inr}
+use Rattle.std.proofs.Common.{◌≡◌, ◌≢◌, ℕ, zero, suc, ◌+◌, ◌-◌, ◌*◌, ◌<◌, ◌≤◌, true, Option, Some, List, ◌∷◌, drop, get_or, length, map, slice_index, refl, ap, sym, subst, ◌∙◌, arith, inl, inr}
 use Rattle.std.proofs.Math.Nat.{add-mul}
 use Rattle.std.specs.List.{AllByRecursion, slice_get}
 use Rattle.std.proofs.lemmas.Bool.{cases_eq}
 use Rattle.std.proofs.lemmas.Option.{get_or_from_slice_get, same_Some, slice_get-get_or, slice_get_within}
 use Rattle.frz_board.proofs.Lemmas.{cell-some}
-use Rattle.frz_board.specs.declared.man.Colour.{Colour}
-use Rattle.frz_board.specs.declared.man.Colour.TheVariants.{White, Black}
 use Rattle.frz_board.specs.declared.man.Man.{Man}
 use Rattle.frz_board.specs.Boards.{Board}
 use Rattle.frz_board.specs.Men.{cell_of_man, other_of}
@@ -24,8 +22,7 @@ use Rattle.frz_sets.specs.Sound.{IsCounted}
 use Rattle.frz_index.proofs.RoomForMen.{any_at, any_found, counted_at}
 use Rattle.frz_index.specs.Members.{HasNumber, Member, Num}
 use Rattle.frz_index.specs.Places.{IsWithinCount, digit_of}
-use Rattle.frz_index.specs.Stepping.{IsPlace, IsShare, IsStep, number_after, stepped}
-use Rattle.frz_index.specs.TurnStates.{turn_number}
+use Rattle.frz_index.specs.Stepping.{IsPlace, IsShare, IsStep, number_after, stepped, turn_adds}
 use Rattle.frz_index.proofs.Stepping.{Shifts, at_from, at_rest, at_to, moves, stays}
 
 -- the digits of the groups together
@@ -75,12 +72,12 @@ shifted_step gs p q cell a b i up down more less g here h s =
     }
 
 -- one group alone counts the man on both squares
-module _ (gs : List GroupLine) (p : Board) (man : Man) (a b k left comes : ℕ)
-    (counts : AllByRecursion (IsWithinCount p) gs) (h : IsStep p man a b)
+module _ (gs : List GroupLine) (p : Board) (man : Man) (a b : ℕ) (target : Option ℕ)
+    (k left comes : ℕ) (counts : AllByRecursion (IsWithinCount p) gs) (h : IsStep p man a b)
     (from : IsShare gs man a k left) (in_order : AreStates from.group.states)
     (to : IsShare gs man b k comes) where
   abbrev gone : Board
-  gone = stepped p man a b
+  gone = stepped p man a b target
 
   abbrev cell : ℕ
   cell = cell_of_man man
@@ -90,7 +87,7 @@ module _ (gs : List GroupLine) (p : Board) (man : Man) (a b k left comes : ℕ)
       Shifted gs p gone cell a b j up down → Shifted gs p gone cell a b (suc j) up down
   other_shifts j up down g n here s =
       let more = shifted_step gs p gone cell a b j up down 0 0 g here s
-      (stays p man a b h g (from.alone j g n here) (to.alone j g n here)
+      (stays p man a b target h g (from.alone j g n here) (to.alone j g n here)
       (counted_at (IsWithinCount p) gs j g counts here)) in
       record { counted = more.counted; sum = omega (arith, more.sum); covered = more.covered }
 
@@ -112,7 +109,7 @@ module _ (gs : List GroupLine) (p : Board) (man : Man) (a b k left comes : ℕ)
       subst (λ (g : GroupLine). IsPlace g man b to.place) same to.place_is in
       let more = shifted_step gs p gone cell a b k 0 0 to.place from.place from.group from.there
       (before k (omega arith) (omega (arith, within)))
-      (moves p man a b h from.group
+      (moves p man a b target h from.group
       in_order from.place to.place from.place_is there from.one
       (counted_at (IsWithinCount p) gs k from.group counts from.there)) in
       record {
@@ -135,17 +132,18 @@ module _ (gs : List GroupLine) (p : Board) (man : Man) (a b k left comes : ℕ)
       (behind (length gs - suc k) (omega (arith, within)))
 
 -- the position after the step is in the set where it is valid
-Member-stepped : (gs : List GroupLine) (p : Board) (man : Man) (a b up down : ℕ) →
-    Member gs p → IsStep p man a b → IsValid (stepped p man a b) →
-    Shifted gs p (stepped p man a b) (cell_of_man man) a b (length gs) up down →
-    Member gs (stepped p man a b)
-Member-stepped gs p man a b up down m h v s = record {
+Member-stepped : (gs : List GroupLine) (p : Board) (man : Man) (a b : ℕ) (target : Option ℕ)
+    (up down : ℕ) →
+    Member gs p → IsStep p man a b → IsValid (stepped p man a b target) →
+    Shifted gs p (stepped p man a b target) (cell_of_man man) a b (length gs) up down →
+    Member gs (stepped p man a b target)
+Member-stepped gs p man a b target up down m h v s = record {
   valid = v;
   men = λ x l some.
       elim (cases_eq x b) [
         | inl here ↦
             subst (λ n. has_state gs n x ≡ true)
-            (sym (ap (slice_index (stepped p man a b).cells) here ∙ at_to p man a b h))
+            (sym (ap (slice_index (stepped p man a b target).cells) here ∙ at_to p man a b target h))
             (subst (λ n. has_state gs (cell_of_man man) n ≡ true) (sym here)
             (let some_there : slice_index p.cells a ≢ 0 = λ e.
             let n = cell-some man.colour man.kind in omega (arith, e, h.stood, n) in
@@ -157,14 +155,14 @@ Member-stepped gs p man a b up down m h v s = record {
             found.3)))
         | inr right ↦ elim (cases_eq x a) [
           | inl here ↦
-              absurd (some (ap (slice_index (stepped p man a b).cells) here ∙ at_from p man a b h))
+              absurd (some (ap (slice_index (stepped p man a b target).cells) here ∙ at_from p man a b target h))
           | inr left ↦
-              let same = at_rest p man a b h x left right in
+              let same = at_rest p man a b target h x left right in
               subst (λ n. has_state gs n x ≡ true) (sym same)
               (m.men x l (λ e. some (same ∙ e)))
         ]
       ];
-  counts = s.counted (subst (AllByRecursion (IsWithinCount (stepped p man a b)))
+  counts = s.counted (subst (AllByRecursion (IsWithinCount (stepped p man a b target)))
       (sym (drop_end gs (length gs) (omega arith))) tt);
 }
 
@@ -178,43 +176,31 @@ sums gs p q cell a b up down h =
     let vq = ap (digits_of q) e in
     omega (arith, vp, vq, h.sum)
 
--- the number of a position without a target: of White's turn, and of Black's
-pub number_white : (gs : List GroupLine) (p : Board) → p.turn ≡ White → p.ep ≡ None →
-    Num gs p ≡ digits_of p gs
-number_white gs p turn none =
-    let first : turn_number gs p.turn p.ep ≡ 0 = ap (λ c. turn_number gs c p.ep) turn
-    ∙ ap (turn_number gs White) none in
-    let t = ap (λ t. t * product (map radix_of gs)) first in
-    omega (arith, t)
-
-pub number_black : (gs : List GroupLine) (p : Board) → p.turn ≡ Black → p.ep ≡ None →
-    Num gs p ≡ product (map radix_of gs) + digits_of p gs
-number_black gs p turn none =
-    let first : turn_number gs p.turn p.ep ≡ 1 = ap (λ c. turn_number gs c p.ep) turn
-    ∙ ap (turn_number gs Black) none in
-    let t = ap (λ t. t * product (map radix_of gs)) first in
-    omega (arith, t)
+-- a number is what its turn state adds, and the digits of the groups
+number_parts : (gs : List GroupLine) (p : Board) →
+    Num gs p ≡ turn_adds gs p.turn p.ep + digits_of p gs
+number_parts gs p = refl
 
 -- the number after a quiet move is that of the position after it
-module _ (gs : List GroupLine) (p : Board) (man : Man) (a b i k left comes : ℕ)
-    (number : HasNumber gs i p) (h : IsStep p man a b) (target : p.ep ≡ None)
-    (valid : IsValid (stepped p man a b)) (from : IsShare gs man a k left)
+module _ (gs : List GroupLine) (p : Board) (man : Man) (a b : ℕ) (target : Option ℕ)
+    (i k left comes : ℕ) (number : HasNumber gs i p) (h : IsStep p man a b)
+    (valid : IsValid (stepped p man a b target)) (from : IsShare gs man a k left)
     (in_order : AreStates from.group.states) (to : IsShare gs man b k comes) where
-  shifted_by : Shifted gs p (stepped p man a b) (cell_of_man man) a b (length gs) comes left
-  shifted_by = all_shifted gs p man a b k left comes number.member.counts h from in_order to
+  shifted_by : Shifted gs p (stepped p man a b target) (cell_of_man man) a b (length gs) comes left
+  shifted_by = all_shifted gs p man a b target k left comes number.member.counts h from in_order to
 
-  after_member : Member gs (stepped p man a b)
-  after_member = Member-stepped gs p man a b comes left number.member h valid shifted_by
+  after_member : Member gs (stepped p man a b target)
+  after_member = Member-stepped gs p man a b target comes left number.member h valid shifted_by
 
-  sum : digits_of (stepped p man a b) gs + left ≡ digits_of p gs + comes
-  sum = sums gs p (stepped p man a b) (cell_of_man man) a b comes left shifted_by
+  sum : digits_of (stepped p man a b target) gs + left ≡ digits_of p gs + comes
+  sum = sums gs p (stepped p man a b target) (cell_of_man man) a b comes left shifted_by
 
-  pub after_white : p.turn ≡ White →
-      (left ≤ i + comes + product (map radix_of gs))
-      × HasNumber gs (number_after gs White i left comes) (stepped p man a b)
-  after_white turn =
-      let before = number_white gs p turn target in
-      let after = number_black gs (stepped p man a b) (ap other_of turn) refl in
+  pub after_step :
+      (left + turn_adds gs p.turn p.ep ≤ i + comes + turn_adds gs (other_of p.turn) target)
+      × HasNumber gs (number_after gs p.turn p.ep target i left comes) (stepped p man a b target)
+  after_step =
+      let before = number_parts gs p in
+      let after = number_parts gs (stepped p man a b target) in
       let there = number.number in (
         omega (arith, before, sum, there),
         record {
@@ -222,32 +208,6 @@ module _ (gs : List GroupLine) (p : Board) (man : Man) (a b i k left comes : ℕ
           number = omega (arith, before, after, sum, there);
         },
       )
-
-  pub after_black : p.turn ≡ Black →
-      (product (map radix_of gs) + left ≤ i + comes)
-      × HasNumber gs (number_after gs Black i left comes) (stepped p man a b)
-  after_black turn =
-      let before = number_black gs p turn target in
-      let after = number_white gs (stepped p man a b) (ap other_of turn) refl in
-      let there = number.number in (
-        omega (arith, before, sum, there),
-        record {
-          member = after_member;
-          number = omega (arith, before, after, sum, there);
-        },
-      )
-
-  pub after_either : HasNumber gs (number_after gs p.turn i left comes) (stepped p man a b)
-  after_either = of_turn p.turn refl
-    where
-      of_turn : (c : Colour) → p.turn ≡ c →
-          HasNumber gs (number_after gs p.turn i left comes) (stepped p man a b)
-      of_turn White e =
-          subst (λ (c : Colour). HasNumber gs (number_after gs c i left comes) (stepped p man a b))
-          (sym e) (after_white e).1
-      of_turn Black e =
-          subst (λ (c : Colour). HasNumber gs (number_after gs c i left comes) (stepped p man a b))
-          (sym e) (after_black e).1
 
 -- what a man adds fits
 pub share_small : (gs : List GroupLine) (man : Man) (s k adds : ℕ) → AreNumberable gs →

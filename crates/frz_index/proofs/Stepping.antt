@@ -1,19 +1,22 @@
 -- A man's step to an empty square: the cells, and the digit of one group.
 use Rattle.std.proofs.Common.{◌≡◌, ◌≢◌, ℕ, zero, suc, ◌+◌, ◌-◌, ◌*◌, ◌<◌, ◌≤◌, Bool, true, false, cond, Option, None, Some, List, [], ◌∷◌, length, slice_index, refl, ap, sym, subst, ◌∙◌, arith, inl, inr, ◌⊎◌}
 use Rattle.std.proofs.Common.{length-set, slice_set}
-use Rattle.std.specs.Prelude.{◌==◌}
+use Rattle.std.specs.Prelude.{◌==◌, ◌&&◌}
 use Rattle.std.specs.List.{slice_get}
-use Rattle.std.proofs.lemmas.Bool.{and_from, cases_Bool, cases_eq, eqb-true, eq-eqb, false_from_ne_true}
+use Rattle.std.proofs.lemmas.Bool.{and_from, and_parts, and_right, cases_Bool, cases_eq, eqb-true, eq-eqb, false_from_ne_true}
 use Rattle.std.proofs.lemmas.Option.{same_Some, slice_get_within}
 use Rattle.frz_board.proofs.Lemmas.{cell-some, set_at}
 use Rattle.frz_board.specs.declared.man.Colour.{Colour}
+use Rattle.frz_board.specs.declared.man.Colour.TheVariants.{White, Black}
 use Rattle.frz_board.specs.declared.man.Kind.{Kind}
 use Rattle.frz_board.specs.declared.man.Kind.TheVariants.{King, Queen, Rook, Bishop, Knight, Pawn}
 use Rattle.frz_board.specs.Moving.{Step}
-use Rattle.frz_fide.specs.Legal.{after, after_man}
+use Rattle.frz_fide.specs.Legal.{advances, after, after_man, beside_on_file, is_home, is_target, passed_over, takes_in_passing}
 use Rattle.frz_board.specs.declared.man.Man.{Man}
-use Rattle.frz_board.specs.Boards.{Board}
-use Rattle.frz_board.specs.Men.{cell_of_man, is_pawn, number_of_kind}
+use Rattle.frz_board.specs.Boards.{Board, is_empty}
+use Rattle.frz_board.specs.EnPassant.{has_pawn_beside}
+use Rattle.frz_board.specs.Squares.{files_apart, is_forward, rank_of}
+use Rattle.frz_board.specs.Men.{cell_of_man, number_of_kind, other_of}
 use Rattle.frz_combinations.proofs.Lemmas.{choose-one, place_counts}
 use Rattle.frz_combinations.specs.Binomials.{choose}
 use Rattle.frz_combinations.specs.Combinations.{places_below}
@@ -29,7 +32,7 @@ use Rattle.frz_index.proofs.Counting.{skip}
 use Rattle.frz_index.proofs.Partners.{same_below}
 use Rattle.frz_index.proofs.RoomForMen.{any_at, any_found, at_itself, at_parts, is_at, same_man}
 use Rattle.frz_index.specs.Places.{IsWithinCount, digit_of, places, stands}
-use Rattle.frz_index.specs.Stepping.{IsPlace, IsQuiet, IsStep, stepped}
+use Rattle.frz_index.specs.Stepping.{IsPlace, IsQuiet, IsStep, is_plain, stepped}
 
 -- the group's digit grows by up and falls by down, and it has as many men
 pub record Shifts (p q : Board) (cell a b : ℕ) (g : GroupLine) (up down : ℕ) : Type 0 where
@@ -131,9 +134,9 @@ no_man x c k e =
     (λ t. absurd (let same = eqb-true x (cell_of_man (record { colour = c; kind = k })) t in
     let some = cell-some c k in omega (arith, e, same, some)))
 
-module _ (p : Board) (man : Man) (a b : ℕ) (h : IsStep p man a b) where
+module _ (p : Board) (man : Man) (a b : ℕ) (target : Option ℕ) (h : IsStep p man a b) where
   abbrev pub q : Board
-  q = stepped p man a b
+  q = stepped p man a b target
 
   apart : a ≢ b
   apart e = let some = cell-some man.colour man.kind in
@@ -322,21 +325,57 @@ placed g chart man s k n h low t ek en =
     (h.cuts_are.cut x (omega (arith, ek, en, numbers.1, low))) found.2 number in
     (parts.0, ap (slice_get g.states) (sym at) ∙ found.2 ∙ ap Some is)
 
+not_two : (c : Colour) (a b : ℕ) → is_forward c 1 a b ≡ true → is_forward c 2 a b ≡ false
+not_two White a b e =
+    let one = eqb-true (rank_of b) (rank_of a + 1) e in
+    false_from_ne_true (rank_of b == rank_of a + 2)
+    (λ t. let two = eqb-true (rank_of b) (rank_of a + 2) t in absurd (omega (arith, one, two)))
+not_two Black a b e =
+    let one = eqb-true (rank_of a) (rank_of b + 1) e in
+    false_from_ne_true (rank_of a == rank_of b + 2)
+    (λ t. let two = eqb-true (rank_of a) (rank_of b + 2) t in absurd (omega (arith, one, two)))
+
+-- a pawn's step leaves no target, and takes nothing
+pawn_step : (p : Board) (c : Colour) (a b : ℕ) →
+    (files_apart a b == 0 && is_forward c 1 a b) ≡ true →
+    after_man p (Some (record { colour = c; kind = Pawn }))
+    (record { from = a; to = b; promo = None })
+    ≡ stepped p (record { colour = c; kind = Pawn }) a b None
+pawn_step p c a b e =
+    let parts = and_parts (files_apart a b == 0) (is_forward c 1 a b) e in
+    let moved = slice_set (slice_set p.cells a 0) b
+    (cell_of_man (record { colour = c; kind = Pawn })) in
+    let made : List ℕ → Option ℕ → Board = λ cells target.
+    record { cells = cells; turn = other_of p.turn; ep = target } in
+    let beside = has_pawn_beside p (other_of c) b in
+    let free = is_empty p b && is_empty p (passed_over a b) in
+    let straight : takes_in_passing p c a b ≡ false =
+    ap (λ n. (n == 1 && is_forward c 1 a b) && is_target p.ep b)
+    (eqb-true (files_apart a b) 0 parts.0) in
+    let near : advances p c a b ≡ false =
+    ap (λ t. (is_home c a && (files_apart a b == 0 && t)) && free) (not_two c a b parts.1)
+    ∙ ap (λ t. (is_home c a && t) && free) (and_right (files_apart a b == 0) false refl)
+    ∙ ap (λ t. t && free) (and_right (is_home c a) false refl) in
+    ap (λ t. made (cond t (slice_set moved (beside_on_file a b) 0) moved)
+    (cond (advances p c a b && beside) (Some (passed_over a b)) None)) straight
+    ∙ ap (λ t. made moved (cond (t && beside) (Some (passed_over a b)) None)) near
+
 -- the position after a quiet move
-quiet_kind : (p : Board) (c : Colour) (k : Kind) (a b : ℕ) → is_pawn k ≡ false →
+quiet_kind : (p : Board) (c : Colour) (k : Kind) (a b : ℕ) →
+    is_plain (record { colour = c; kind = k }) a b ≡ true →
     after_man p (Some (record { colour = c; kind = k })) (record { from = a; to = b; promo = None })
-    ≡ stepped p (record { colour = c; kind = k }) a b
+    ≡ stepped p (record { colour = c; kind = k }) a b None
 quiet_kind p c King a b e = refl
 quiet_kind p c Queen a b e = refl
 quiet_kind p c Rook a b e = refl
 quiet_kind p c Bishop a b e = refl
 quiet_kind p c Knight a b e = refl
-quiet_kind p c Pawn a b e = cc
+quiet_kind p c Pawn a b e = pawn_step p c a b e
 
 pub after_quiet : (p : Board) (m : Step) (man : Man) → IsQuiet p m man →
-    after p m ≡ stepped p man m.from m.to
+    after p m ≡ stepped p man m.from m.to None
 after_quiet p m man h =
     ap (λ o. after_man p o m) h.man_is
     ∙ ap (λ (o : Option Kind). let s : Step = record { from = m.from; to = m.to; promo = o } in
     after_man p (Some man) s) h.promo
-    ∙ quiet_kind p man.colour man.kind m.from m.to h.piece
+    ∙ quiet_kind p man.colour man.kind m.from m.to h.plain

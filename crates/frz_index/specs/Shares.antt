@@ -1,5 +1,5 @@
 -- What is kept of each man on each square: what he adds to a number there.
-use Rattle.std.specs.Prelude.{ℕ, ◌≡◌, ◌/◌, ◌%◌, List, Option, Some, length}
+use Rattle.std.specs.Prelude.{ℕ, ◌≡◌, ◌/◌, ◌%◌, List, MatchOption, Option, Some, length}
 use Rattle.std.specs.List.{slice_get}
 use Rattle.frz_board.specs.Men.{man_of_cell}
 use Rattle.frz_board.specs.declared.man.Man.{Man}
@@ -8,8 +8,15 @@ use Rattle.frz_index.specs.declared.plan.TheConstants.{CELLS}
 use Rattle.frz_index.specs.declared.shares.Share.{Share}
 use Rattle.frz_index.specs.Stepping.{IsShare}
 
--- of each cell on each square, what its man adds there, where that is known
+-- what the man adds on the square, and none exactly where no group alone tells it
+abbrev pub IsShareOf : List GroupLine → Man → ℕ → Option Share → Type 0
+IsShareOf gs man s share =
+    MatchOption share
+    ((k adds : ℕ) → IsShare gs man s k adds → ⊥)
+    (λ x. IsShare gs man s x.group x.adds)
+
+-- of each cell on each square, what its man adds there
 pub record AreShares (gs : List GroupLine) (shares : List (Option Share)) : Type 0 where
   pub size : length shares ≡ CELLS
-  pub each : (i : ℕ) (man : Man) (x : Share) → slice_get shares i ≡ Some (Some x) →
-      man_of_cell (i / 64) ≡ Some man → IsShare gs man (i % 64) x.group x.adds
+  pub each : (i : ℕ) (man : Man) (share : Option Share) → slice_get shares i ≡ Some share →
+      man_of_cell (i / 64) ≡ Some man → IsShareOf gs man (i % 64) share

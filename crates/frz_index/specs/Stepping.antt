@@ -1,22 +1,23 @@
 -- A man gone to an empty square, with the other side to move, and the number after that.
-use Rattle.std.specs.Prelude.{ℕ, suc, ◌+◌, ◌-◌, ◌*◌, ◌≡◌, ◌≢◌, ◌<◌, false, true, None, Some, List, drop, length, map, slice_index, slice_set}
+use Rattle.std.specs.Prelude.{ℕ, suc, ◌+◌, ◌-◌, ◌*◌, ◌≡◌, ◌≢◌, ◌<◌, ◌==◌, ◌&&◌, ◌||◌, Bool, false, not, true, Option, None, Some, List, drop, length, map, slice_index, slice_set}
 use Rattle.std.specs.List.{slice_get}
 use Rattle.frz_board.specs.declared.man.Colour.{Colour}
-use Rattle.frz_board.specs.declared.man.Colour.TheVariants.{White, Black}
 use Rattle.frz_board.specs.declared.man.Man.{Man}
 use Rattle.frz_board.specs.Boards.{Board, is_empty, man_on}
 use Rattle.frz_board.specs.Men.{cell_of_man, is_pawn, other_of}
 use Rattle.frz_board.specs.Moving.{Step}
+use Rattle.frz_board.specs.Squares.{files_apart, is_forward}
 use Rattle.frz_combinations.specs.MixedRadix.{product}
 use Rattle.frz_sets.specs.Sets.{is_state, radix_of}
 use Rattle.frz_sets.specs.Views.{GroupLine}
+use Rattle.frz_index.specs.TurnStates.{turn_number}
 
--- the man goes from a to b; the other side is to move, and there is no target
-abbrev pub stepped : Board → Man → ℕ → ℕ → Board
-stepped p man a b = record {
+-- the man goes from a to b; the other side is to move, and this is the target
+abbrev pub stepped : Board → Man → ℕ → ℕ → Option ℕ → Board
+stepped p man a b target = record {
   cells = slice_set (slice_set p.cells a 0) b (cell_of_man man);
   turn = other_of p.turn;
-  ep = None;
+  ep = target;
 }
 
 -- the man stands on a, and b is empty
@@ -43,17 +44,32 @@ pub record IsShare (gs : List GroupLine) (man : Man) (s i adds : ℕ) : Type 0 w
   pub alone : (j : ℕ) (g : GroupLine) → j ≢ i → slice_get gs j ≡ Some g →
       is_state (cell_of_man man) s g ≡ false
 
--- The number after a quiet move: what the man adds on the square that he leaves goes, what he adds
--- on the other one comes, and the turn passes. White's numbers without a target come first, then
--- Black's.
-abbrev pub number_after : List GroupLine → Colour → ℕ → ℕ → ℕ → ℕ
-number_after gs White i left comes = i + comes + product (map radix_of gs) - left
-number_after gs Black i left comes = i + comes - product (map radix_of gs) - left
+-- one group alone, which has one man at most, counts the man on both squares
+pub record IsCountedOnBoth (gs : List GroupLine) (man : Man) (a b : ℕ) : Type 0 where
+  pub group : ℕ
+  pub left : ℕ
+  pub comes : ℕ
+  pub there : IsShare gs man a group left
+  pub then : IsShare gs man b group comes
 
--- the move of this man, no pawn, to an empty square, where no target stands
+-- what a turn state adds to a number
+abbrev pub turn_adds : List GroupLine → Colour → Option ℕ → ℕ
+turn_adds gs turn target = turn_number gs turn target * product (map radix_of gs)
+
+-- The number after a step, with the targets before and after it: what the man adds on the square that
+-- he leaves goes, what he adds on the other one comes, and so for the turn states.
+abbrev pub number_after : List GroupLine → Colour → Option ℕ → Option ℕ → ℕ → ℕ → ℕ → ℕ
+number_after gs turn before after i left comes =
+    i + comes + turn_adds gs (other_of turn) after - left - turn_adds gs turn before
+
+-- a man that is no pawn moves, or a pawn goes one square forward
+abbrev pub is_plain : Man → ℕ → ℕ → Bool
+is_plain man a b =
+    not (is_pawn man.kind) || (files_apart a b == 0 && is_forward man.colour 1 a b)
+
+-- the plain move of this man to an empty square, where he stays what he is
 pub record IsQuiet (p : Board) (m : Step) (man : Man) : Type 0 where
   pub man_is : man_on p m.from ≡ Some man
-  pub piece : is_pawn man.kind ≡ false
+  pub plain : is_plain man m.from m.to ≡ true
   pub free : is_empty p m.to ≡ true
-  pub target : p.ep ≡ None
   pub promo : m.promo ≡ None

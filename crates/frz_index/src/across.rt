@@ -1,27 +1,39 @@
 //! The number of a position after a man has gone to an empty square, by what that changes.
-ghost use Rattle.std.specs.Prelude.{◌≡◌, IfSome, None, Some, true};
+ghost use Rattle.std.specs.Prelude.{◌≡◌, ◌≤◌, ◌*◌, ◌↔◌, IfSome, IsSome, MatchOption, None, Some, true};
 ghost use Rattle.frz_board.specs.Boards.{is_empty, man_on};
+ghost use Rattle.frz_board.specs.declared.man.Man.{Man};
 ghost use Rattle.frz_fide.specs.Valid.{IsValid};
 ghost use Rattle.frz_index.specs.Kept.{IsPlan};
 ghost use Rattle.frz_index.specs.Members.{HasNumber};
-ghost use Rattle.frz_index.specs.Stepping.{IsQuiet, IsShare, stepped};
+ghost use Rattle.frz_index.specs.Shares.{IsShareOf};
+ghost use Rattle.frz_index.specs.Stepping.{IsCountedOnBoth, IsQuiet, is_plain as is_plain_move, stepped, turn_adds as turn_adds_to};
 
 use crate::plan::Plan;
 use crate::shares::{Share, cell_on};
+use crate::turn::turn_number;
 use frz_bits::Bitboards;
 use frz_board::{Colour, Kind, Man, Move, Square, cell_of};
 
 /// What the man adds to a number on the square, where one group alone tells it.
 fn share(plan: &Plan, man: Man, s: Square) -> Option<Share>
     requires { IsPlan plan.now }
-    ensures { IfSome result (λ x. IsShare plan.now.groups.items man s x.group x.adds) }
+    ensures { IsShareOf plan.now.groups.items man s result }
 {
     let _number = s.number();
     plan.shares[cell_on(cell_of(man), s)]
 }
 
-/// The number of the position after the man has gone from one square to another, which is empty,
-/// where that can be told by what it changes.
+/// What a turn state adds to a number.
+fn turn_adds(plan: &Plan, turn: Colour, target: Option<Square>) -> u64
+    requires { IsPlan plan.now }
+    ensures adds { result ≡ turn_adds_to plan.now.groups.items turn target }
+    ensures small { result ≤ 66 * 134217728 }
+{
+    u64::from(turn_number(&plan.targets, turn, target)) * u64::from(plan.whole)
+}
+
+/// The number of the position after the man has gone from one square to another, which is empty, with
+/// this target after it, where that can be told by what it changes.
 pub(crate) fn number_after_in(
     plan: &Plan,
     i: u32,
@@ -29,15 +41,16 @@ pub(crate) fn number_after_in(
     man: Man,
     from: Square,
     to: Square,
+    target: &Option<Square>,
 ) -> Option<u32>
     requires plan { IsPlan plan.now }
     requires number { HasNumber plan.now.groups.items i p.now }
     requires man { man_on p.now from ≡ Some man }
     requires free { is_empty p.now to ≡ true }
-    requires target { p.now.ep ≡ None }
-    requires valid { IsValid (stepped p.now man from to) }
-    ensures { IfSome result
-        (λ n. HasNumber plan.now.groups.items n (stepped p.now man from to)) }
+    requires valid { IsValid (stepped p.now man from to target.now) }
+    ensures told { IsSome result ↔ IsCountedOnBoth plan.now.groups.items man from to }
+    ensures number { IfSome result
+        (λ n. HasNumber plan.now.groups.items n (stepped p.now man from to target.now)) }
 {
     let _from = from.number();
     let _to = to.number();
@@ -46,29 +59,34 @@ pub(crate) fn number_after_in(
     if left.group != comes.group {
         return None;
     }
-    let whole = u64::from(plan.whole);
-    let start = u64::from(i) + comes.adds;
-    match p.turn() {
-        Colour::White => Some((start + whole - left.adds) as u32),
-        Colour::Black => Some((start - whole - left.adds) as u32),
-    }
+    let before = turn_adds(plan, p.turn(), p.ep());
+    let after = turn_adds(plan, p.turn().other(), *target);
+    Some((u64::from(i) + comes.adds + after - left.adds - before) as u32)
 }
 
-/// The man that makes the move, if it is no pawn and takes nothing, and no target stands.
-pub(crate) fn stepping_man(p: &Bitboards, m: Move) -> Option<Man>
-    ensures { IfSome result (λ man. IsQuiet p.now m man) }
+/// Is the man no pawn, or does it go one square forward?
+fn is_plain(man: Man, a: Square, b: Square) -> bool
+    ensures { result ≡ is_plain_move man a b }
 {
-    if p.ep().is_some() || m.promo.is_some() {
-        return None;
-    }
-    if !p.is_empty(m.to) {
+    man.kind != Kind::Pawn || (a.files_apart(b) == 0 && a.is_forward(man.colour, 1, b))
+}
+
+/// The man that makes the move, if it takes nothing and stays what it is, and if it is a pawn goes
+/// one square forward.
+pub(crate) fn stepping_man(p: &Bitboards, m: Move) -> Option<Man>
+    ensures { MatchOption result ((man : Man) → IsQuiet p.now m man → ⊥) (IsQuiet p.now m) }
+{
+    if m.promo.is_some() || !p.is_empty(m.to) {
         return None;
     }
     match p.man(m.from) {
         None => None,
-        Some(man) => match man.kind {
-            Kind::Pawn => None,
-            _ => Some(man),
-        },
+        Some(man) => {
+            if is_plain(man, m.from, m.to) {
+                Some(man)
+            } else {
+                None
+            }
+        }
     }
 }

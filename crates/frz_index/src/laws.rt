@@ -1,5 +1,5 @@
 //! What holds of the numbers of a set, whatever the code.
-ghost use Rattle.std.specs.Prelude.{◌≡◌, ◌<◌, ◌↔◌, ℕ, List, None, Some, map, true};
+ghost use Rattle.std.specs.Prelude.{◌≡◌, ◌<◌, ◌↔◌, ℕ, List, Option, Some, map, true};
 ghost use Rattle.frz_board.specs.Boards.{Board};
 ghost use Rattle.frz_board.specs.declared.man.Man.{Man};
 ghost use Rattle.frz_combinations.specs.MixedRadix.{value_onto};
@@ -46,12 +46,11 @@ pub fn old_numbers()
         OldNum gs p ≡ OldNum gs q → p ≡ q }
 {}
 
-/// The number after a quiet move is the number of the position after it, where on both squares the
+/// The number after a step is the number of the position after it, where on both squares the
 /// same group counts the man, and no other one.
 pub fn numbers_after_steps()
-    ensures { (r : RuleLines) (p : Board) (man : Man) (a b i k left comes : ℕ) → IsSound r →
-        HasNumber r.groups i p → IsStep p man a b → p.ep ≡ None →
-        IsValid (stepped p man a b) →
+    ensures { (r : RuleLines) (p : Board) (man : Man) (a b i k left comes : ℕ) (target : Option ℕ) → IsSound r →
+        HasNumber r.groups i p → IsStep p man a b → IsValid (stepped p man a b target) →
         IsShare r.groups man a k left → IsShare r.groups man b k comes →
-        HasNumber r.groups (number_after r.groups p.turn i left comes) (stepped p man a b) }
+        HasNumber r.groups (number_after r.groups p.turn p.ep target i left comes) (stepped p man a b target) }
 {}

@@ -2,6 +2,7 @@
 ghost use Rattle.std.specs.Prelude.{◌≡◌, ◌↔◌, ◌<◌, ◌≤◌, IfOk, IfSome, IsNone, IsSome, IsTrue, MatchOption, None, Some, ◌/◌, map, true};
 ghost use Rattle.frz_board.specs.Boards.{Board, is_empty, man_on};
 ghost use Rattle.frz_board.specs.declared.man.Colour.TheVariants.{White};
+ghost use Rattle.frz_board.specs.declared.man.Man.{Man};
 ghost use Rattle.frz_combinations.specs.MixedRadix.{product};
 ghost use Rattle.frz_fide.specs.Legal.{after, is_legal};
 ghost use Rattle.frz_fide.specs.Valid.{IsValid};
@@ -15,7 +16,7 @@ ghost use Rattle.frz_index.specs.Candidates.{candidate, no_men};
 ghost use Rattle.frz_index.specs.Kept.{IsPlan, is_known};
 ghost use Rattle.frz_index.specs.TurnStates.{turn_in};
 ghost use Rattle.frz_index.specs.Room.{has_room};
-ghost use Rattle.frz_index.specs.Stepping.{stepped};
+ghost use Rattle.frz_index.specs.Stepping.{IsCountedOnBoth, IsQuiet, stepped};
 
 use crate::across::{number_after_in, stepping_man};
 use crate::digits::{number_of_digits, put_all};
@@ -186,7 +187,7 @@ impl Set {
     }
 
     /// The number of the position after this man has gone to an empty square, with the other side to
-    /// move, where that can be told by what it changes. There is no target before.
+    /// move and this target, exactly where one group alone, of one man at most, counts the man on both squares.
     pub fn number_after_step(
         &self,
         i: u32,
@@ -194,27 +195,31 @@ impl Set {
         man: Man,
         from: Square,
         to: Square,
+        target: &Option<Square>,
     ) -> Option<u32>
         requires number { HasNumber self.now i p.now }
         requires man { man_on p.now from ≡ Some man }
         requires free { is_empty p.now to ≡ true }
-        requires target { p.now.ep ≡ None }
-        requires valid { IsValid (stepped p.now man from to) }
-        ensures { IfSome result (λ n. HasNumber self.now n (stepped p.now man from to)) }
+        requires valid { IsValid (stepped p.now man from to target.now) }
+        ensures told { IsSome result ↔ IsCountedOnBoth self.now man from to }
+        ensures number { IfSome result (λ n. HasNumber self.now n (stepped p.now man from to target.now)) }
     {
-        number_after_in(&self.plan, i, p, man, from, to)
+        number_after_in(&self.plan, i, p, man, from, to, target)
     }
 
-    /// The number of the position after a legal move, where that can be told by what it changes.
+    /// The number of the position after a legal move, exactly where the move is quiet, and one group
+    /// alone, of one man at most, counts its man on both squares.
     pub fn number_after_move(&self, i: u32, p: &Bitboards, m: Move) -> Option<u32>
         requires number { HasNumber self.now i p.now }
         requires legal { is_legal p.now m ≡ true }
-        ensures { IfSome result (λ n. HasNumber self.now n (after p.now m)) }
+        ensures told { IsSome result ↔ ((man : Man)
+            × IsQuiet p.now m man × IsCountedOnBoth self.now man m.from m.to) }
+        ensures number { IfSome result (λ n. HasNumber self.now n (after p.now m)) }
     {
         let _to = m.to.number();
         match stepping_man(p, m) {
             None => None,
-            Some(man) => self.number_after_step(i, p, man, m.from, m.to),
+            Some(man) => self.number_after_step(i, p, man, m.from, m.to, &None),
         }
     }
 

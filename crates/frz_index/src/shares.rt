@@ -1,12 +1,12 @@
 //! What a man on a square adds to a number, where one group alone counts him and has one at most.
-ghost use Rattle.std.specs.Prelude.{◌≡◌, ◌≢◌, ◌≤◌, ◌<◌, ◌+◌, ◌*◌, ℕ, IfOk, IfSome, MatchOption, Some, false, length, true};
+ghost use Rattle.std.specs.Prelude.{◌≡◌, ◌≢◌, ◌≤◌, ◌<◌, ◌+◌, ◌*◌, ◌↔◌, ℕ, IfOk, IsTrue, MatchOption, Some, false, length};
 ghost use Rattle.std.specs.List.{slice_get};
 ghost use Rattle.frz_board.specs.Men.{cell_of_man, man_of_cell};
 ghost use Rattle.frz_sets.specs.Sets.{is_state};
 ghost use Rattle.frz_sets.specs.Views.{GroupLine};
 ghost use Rattle.frz_index.specs.Charts.{AreCharts, IsChart};
 ghost use Rattle.frz_index.specs.Kept.{AreNumberable, AreWeights};
-ghost use Rattle.frz_index.specs.Shares.{AreShares};
+ghost use Rattle.frz_index.specs.Shares.{AreShares, IsShareOf};
 ghost use Rattle.frz_index.specs.Stepping.{IsPlace, IsShare};
 
 use crate::chart::{Chart, kind_number};
@@ -47,8 +47,8 @@ fn place_in(group: &Group, chart: &Chart, man: Man, s: Square) -> Option<u16>
 /// Has the group at this place alone the man on the square as a state, if it has it?
 fn is_alone(groups: &[Group], charts: &[Chart], own: usize, man: Man, s: Square) -> bool
     requires { AreCharts groups.now charts.now }
-    ensures { result ≡ true → (j : ℕ) (g : GroupLine) → j ≢ own → slice_get groups.now j ≡ Some g →
-        is_state (cell_of_man man) s g ≡ false }
+    ensures { IsTrue result ↔ ((j : ℕ) (g : GroupLine) → j ≢ own →
+        slice_get groups.now j ≡ Some g → is_state (cell_of_man man) s g ≡ false) }
 {
     for j in 0..groups.len() {
         if j != own && has_state(&groups[j], &charts[j], man, s) {
@@ -71,7 +71,9 @@ fn share_at(
     requires charts { AreCharts groups.now charts.now }
     requires weights { AreWeights groups.now weights.now }
     requires within { i < length groups.now }
-    ensures { IfSome result (λ x. IsShare groups.now man s x.group x.adds) }
+    ensures { MatchOption result
+        ((adds : ℕ) → IsShare groups.now man s i adds → ⊥)
+        (λ x. IsShare groups.now man s x.group x.adds) }
 {
     let group = &groups[i];
     let place = place_in(group, &charts[i], man, s)?;
@@ -96,12 +98,11 @@ fn share_of(
     requires numberable { AreNumberable groups.now }
     requires charts { AreCharts groups.now charts.now }
     requires weights { AreWeights groups.now weights.now }
-    ensures { IfSome result (λ x. IsShare groups.now man s x.group x.adds) }
+    ensures { IsShareOf groups.now man s result }
 {
     for i in 0..groups.len() {
-        let found = share_at(groups, charts, weights, i, man, s);
-        if found.is_some() {
-            return found;
+        if let Some(share) = share_at(groups, charts, weights, i, man, s) {
+            return Some(share);
         }
     }
     None
@@ -120,7 +121,7 @@ fn share_of_cell(
     requires weights { AreWeights groups.now weights.now }
     requires square { square < 64 }
     ensures { (man : _) → man_of_cell cell ≡ Some man →
-        IfSome result (λ x. IsShare groups.now man square x.group x.adds) }
+        IsShareOf groups.now man square result }
 {
     match man_of(cell) {
         None => None,

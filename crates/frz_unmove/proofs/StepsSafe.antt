@@ -95,10 +95,10 @@ itself : (c : Colour) → same_colour c c ≡ true
 itself White = refl
 itself Black = refl
 
-module _ (q : Board) (man : Man) (a b : ℕ) (h : IsStep q man a b) (v : IsValid q)
-    (other : man.colour ≡ other_of q.turn) where
+module _ (q : Board) (man : Man) (a b : ℕ) (target : Option ℕ) (h : IsStep q man a b)
+    (v : IsValid q) (other : man.colour ≡ other_of q.turn) where
   abbrev p : Board
-  p = stepped q man a b
+  p = stepped q man a b target
 
   abbrev bare : Board
   bare = record q { cells = slice_set q.cells a 0 }
@@ -137,7 +137,7 @@ module _ (q : Board) (man : Man) (a b : ℕ) (h : IsStep q man a b) (v : IsValid
   free = get_or-set_other q.cells a b 0 0 (λ e. apart (sym e)) ∙ h.free
 
   there : slice_index p.cells b ≡ cell_of_man man
-  there = at_to q man a b h
+  there = at_to q man a b target h
 
   man_there : man_on p b ≡ Some man
   man_there = ap man_of_cell there ∙ cell_forth man.colour man.kind

@@ -21,10 +21,10 @@ use Rattle.frz_unmove.specs.declared.quiet.Ready.{Ready}
 use Rattle.frz_unmove.specs.Quiet.{IsQuietBack, IsReady}
 
 module _ (q : Board) (m : Step) (taken : ℕ) (target : Option ℕ) (man : Man) (v : IsValid q)
-    (lf : m.from < 64) (lt : m.to < 64) (h : IsQuietBack q m taken target man)
+    (lf : m.from < 64) (lt : m.to < 64) (h : IsQuietBack q m taken man)
     (r : Ready) (ready : IsReady q m.to r) where
   abbrev pub earlier : Board
-  earlier = stepped q man m.to m.from
+  earlier = stepped q man m.to m.from target
 
   other : man.colour ≡ other_of q.turn
   other =
@@ -35,19 +35,20 @@ module _ (q : Board) (m : Step) (taken : ℕ) (target : Option ℕ) (man : Man) 
       reaches r.bare man.colour man.kind m.from y ≡ reaches earlier man.colour man.kind m.from y
   reach_is y =
       ap (λ (b : Board). reaches b man.colour man.kind m.from y) ready.bare_is
-      ∙ reaches_from q man m.to m.from (back_step q m taken target man v lf lt h) v other
+      ∙ reaches_from q man m.to m.from target (back_step q m taken target man v lf lt h) v other
       man.colour man.kind y
 
   check_is : reaches r.bare man.colour man.kind m.from r.king ≡ is_in_check earlier q.turn
   check_is =
       ap (λ (b : Board). reaches b man.colour man.kind m.from r.king) ready.bare_is
-      ∙ checks_from q man m.to m.from (back_step q m taken target man v lf lt h) v other r.king
+      ∙ checks_from q man m.to m.from target (back_step q m taken target man v lf lt h) v other r.king
       ready.on_board ready.king_is
       (ap (λ (b : Board). is_in_check b q.turn) (sym ready.bare_is) ∙ ready.safe)
 
-  pub valid_there : reaches r.bare man.colour man.kind m.from r.king ≡ false → IsValid earlier
-  valid_there e =
-      valid_step q man m.to m.from (back_step q m taken target man v lf lt h) v h.piece
+  pub valid_there : reaches r.bare man.colour man.kind m.from r.king ≡ false →
+      target ≡ None → IsValid earlier
+  valid_there e none =
+      valid_step q man m.to m.from target (back_step q m taken target man v lf lt h) v h.piece none
       (ap (is_in_check earlier) (other_other q.turn) ∙ sym check_is ∙ e)
 
   abbrev pub Tells : List GroupLine → Option ℕ → ℕ → Type 0

@@ -1,6 +1,6 @@
 -- The position before or after a step of a valid one is valid, where the king of the side that is
 -- not to move then is not attacked.
-use Rattle.std.proofs.Common.{◌≡◌, ◌≢◌, ℕ, ◌<◌, Bool, true, false, cond, ◌&&◌, ◌||◌, List, length, slice_index, slice_set, length-set, get_or-set_other, refl, ap, sym, ◌∙◌, arith, inl, inr}
+use Rattle.std.proofs.Common.{◌≡◌, ◌≢◌, ℕ, ◌<◌, Bool, true, false, cond, ◌&&◌, ◌||◌, List, Option, None, length, slice_index, slice_set, length-set, get_or-set_other, refl, ap, sym, ◌∙◌, arith, inl, inr}
 use Rattle.std.specs.Prelude.{◌==◌, count_by, nat_le, not}
 use Rattle.std.proofs.lemmas.Bool.{cases_eq}
 use Rattle.std.proofs.lemmas.List.Elements.{All-set}
@@ -68,10 +68,10 @@ outside true false e = refl
 outside false b e = refl
 outside true true e = cc
 
-module _ (q : Board) (man : Man) (a b : ℕ) (h : IsStep q man a b) (v : IsValid q)
-    (piece : is_pawn man.kind ≡ false) where
+module _ (q : Board) (man : Man) (a b : ℕ) (target : Option ℕ) (h : IsStep q man a b)
+    (v : IsValid q) (piece : is_pawn man.kind ≡ false) where
   abbrev p : Board
-  p = stepped q man a b
+  p = stepped q man a b target
 
   apart : a ≢ b
   apart e =
@@ -109,21 +109,24 @@ module _ (q : Board) (man : Man) (a b : ℕ) (h : IsStep q man a b) (v : IsValid
       (λ s l. elim (cases_eq s b) [
         | inl e ↦
             outside (is_end s) (is_pawns (slice_index p.cells s))
-            (ap (λ n. is_pawns (slice_index p.cells n)) e ∙ ap is_pawns (at_to q man a b h)
+            (ap (λ n. is_pawns (slice_index p.cells n)) e ∙ ap is_pawns (at_to q man a b target h)
             ∙ no_pawn man.colour man.kind piece)
         | inr n ↦ elim (cases_eq s a) [
           | inl e ↦
               outside (is_end s) (is_pawns (slice_index p.cells s))
-              (ap (λ n. is_pawns (slice_index p.cells n)) e ∙ ap is_pawns (at_from q man a b h))
+              (ap (λ n. is_pawns (slice_index p.cells n)) e ∙ ap is_pawns (at_from q man a b target h))
           | inr k ↦
-              ap (λ x. not (is_end s && is_pawns x)) (at_rest q man a b h s k n)
+              ap (λ x. not (is_end s && is_pawns x)) (at_rest q man a b target h s k n)
               ∙ each_square (λ s. not (is_end s && is_pawns (slice_index q.cells s))) v.pawns s l
         ]
       ])
 
-  pub valid_step : is_in_check p (other_of p.turn) ≡ false → IsValid p
+  in_place : target ≡ None → has_target_in_place p ≡ true
   unfolding has_target_in_place
-  valid_step safe = record {
+  in_place none = ap (λ o. has_target_in_place (stepped q man a b o)) none
+
+  pub valid_step : target ≡ None → is_in_check p (other_of p.turn) ≡ false → IsValid p
+  valid_step none safe = record {
     fits = record {
       size = rw (length-set, length-set) v.fits.size;
       men = All-set (λ c. c < 13) (slice_set q.cells a 0) b (cell_of_man man)
@@ -133,6 +136,6 @@ module _ (q : Board) (man : Man) (a b : ℕ) (h : IsStep q man a b) (v : IsValid
     kings = kings;
     pawns = pawns;
     men = men;
-    target = refl;
+    target = in_place none;
     safe = safe;
   }

@@ -1,5 +1,5 @@
 -- A move taken back that took nothing and is no pawn's.
-use Rattle.std.specs.Prelude.{ℕ, ◌≡◌, ◌<◌, true, false, Option, None, Some, slice_set}
+use Rattle.std.specs.Prelude.{ℕ, ◌≡◌, ◌<◌, true, false, None, Some, slice_set}
 use Rattle.frz_board.specs.declared.man.Kind.TheVariants.{King}
 use Rattle.frz_board.specs.Attacks.{is_in_check}
 use Rattle.frz_unmove.specs.declared.quiet.Ready.{Ready}
@@ -8,10 +8,9 @@ use Rattle.frz_board.specs.Boards.{Board, has, holds, is_empty, man_on}
 use Rattle.frz_board.specs.Men.{is_pawn, other_of}
 use Rattle.frz_board.specs.Moving.{Step}
 
--- this man has moved, no pawn; it took nothing, and there was no target, nor is there one
-pub record IsQuietBack (q : Board) (m : Step) (taken : ℕ) (target : Option ℕ) (man : Man) : Type 0 where
+-- this man has moved, no pawn; it took nothing, and there is no target now
+pub record IsQuietBack (q : Board) (m : Step) (taken : ℕ) (man : Man) : Type 0 where
   pub none_taken : taken ≡ 0
-  pub no_target : target ≡ None
   pub no_later : q.ep ≡ None
   pub promo : m.promo ≡ None
   pub free : is_empty q m.from ≡ true

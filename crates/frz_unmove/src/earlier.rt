@@ -111,7 +111,7 @@ pub(crate) fn number_before(
 {
     let _from = m.from.number();
     let _to = m.to.number();
-    match stepped_man(q, m, taken, target) {
+    match stepped_man(q, m, taken) {
         Some(man) => number_before_step(set, at, q, man, m, taken, target, ready),
         None => number_of_earlier(set, q, m, taken, target),
     }

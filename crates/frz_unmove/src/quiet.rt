@@ -11,11 +11,11 @@ use frz_bits::{Bitboards, next_square};
 use frz_board::{Kind, Man, Move, Square, cell_of};
 use frz_index::Set;
 
-/// The man that has moved, if it is no pawn and took nothing, and no target stood or stands.
-pub(crate) fn stepped_man(q: &Bitboards, m: Move, taken: u8, target: &Option<Square>) -> Option<Man>
-    ensures { IfSome result (λ man. IsQuietBack q.now m taken target.now man) }
+/// The man that has moved, if it is no pawn and took nothing, and no target stands.
+pub(crate) fn stepped_man(q: &Bitboards, m: Move, taken: u8) -> Option<Man>
+    ensures { IfSome result (λ man. IsQuietBack q.now m taken man) }
 {
-    if taken != 0 || (target.is_some() || q.ep().is_some()) {
+    if taken != 0 || q.ep().is_some() {
         return None;
     }
     if m.promo.is_some() || !q.is_empty(m.from) {
@@ -33,11 +33,17 @@ pub(crate) fn stepped_man(q: &Bitboards, m: Move, taken: u8, target: &Option<Squ
     }
 }
 
-/// The position before the step.
-fn back(q: &Bitboards, man: Man, from: Square, to: Square) -> Bitboards
-    ensures { result ≡ stepped q.now man to from }
+/// The position before the step, where this was the target.
+fn back(
+    q: &Bitboards,
+    man: Man,
+    from: Square,
+    to: Square,
+    target: &Option<Square>,
+) -> Bitboards
+    ensures { result ≡ stepped q.now man to from target.now }
 {
-    let mut p = q.hand_over(None);
+    let mut p = q.hand_over(*target);
     p.set(to, 0);
     p.set(from, cell_of(man));
     p
@@ -83,7 +89,8 @@ pub(crate) fn ready_for(
     bared(q, to)
 }
 
-/// The number of the position before the step, if the set has it and the man goes so.
+/// The number of the position before the step, if the set has it and the man goes so. No target stood
+/// there.
 fn number_by_lines(
     set: &Set,
     at: u32,
@@ -95,9 +102,10 @@ fn number_by_lines(
     ready: &Ready,
 ) -> Option<u32>
     requires number { HasNumber set.now at q.now }
-    requires quiet { IsQuietBack q.now m taken target.now man }
+    requires quiet { IsQuietBack q.now m taken man }
     requires ready { IsReady q.now m.to ready.now }
-    ensures { let p = stepped q.now man m.to m.from in
+    requires none { target.now ≡ None }
+    ensures { let p = stepped q.now man m.to m.from target.now in
         (i : ℕ) → (result ≡ Some i)
         ↔ (HasNumber set.now i p × (reaches p man.colour man.kind m.from m.to ≡ true)) }
 {
@@ -109,9 +117,9 @@ fn number_by_lines(
     if ready.bare.reaches(man, m.from, ready.king) {
         return None;
     }
-    match set.number_after_step(at, q, man, m.to, m.from) {
+    match set.number_after_step(at, q, man, m.to, m.from, target) {
         Some(n) => Some(n),
-        None => set.number_on(&back(q, man, m.from, m.to)),
+        None => set.number_on(&back(q, man, m.from, m.to, target)),
     }
 }
 
@@ -126,19 +134,19 @@ fn number_by_board(
     target: &Option<Square>,
 ) -> Option<u32>
     requires number { HasNumber set.now at q.now }
-    requires quiet { IsQuietBack q.now m taken target.now man }
-    ensures { let p = stepped q.now man m.to m.from in
+    requires quiet { IsQuietBack q.now m taken man }
+    ensures { let p = stepped q.now man m.to m.from target.now in
         (i : ℕ) → (result ≡ Some i)
         ↔ (HasNumber set.now i p × (reaches p man.colour man.kind m.from m.to ≡ true)) }
 {
-    let p = back(q, man, m.from, m.to);
+    let p = back(q, man, m.from, m.to, target);
     if !p.reaches(man, m.from, m.to) {
         return None;
     }
     if !is_valid(&p) {
         return None;
     }
-    match set.number_after_step(at, q, man, m.to, m.from) {
+    match set.number_after_step(at, q, man, m.to, m.from, target) {
         Some(n) => Some(n),
         None => set.number_on(&p),
     }
@@ -156,14 +164,17 @@ pub(crate) fn number_before_step(
     ready: &Option<Ready>,
 ) -> Option<u32>
     requires number { HasNumber set.now at q.now }
-    requires quiet { IsQuietBack q.now m taken target.now man }
+    requires quiet { IsQuietBack q.now m taken man }
     requires ready { IfSome ready.now (λ r. IsReady q.now m.to r) }
-    ensures { let p = stepped q.now man m.to m.from in
+    ensures { let p = stepped q.now man m.to m.from target.now in
         (i : ℕ) → (result ≡ Some i)
         ↔ (HasNumber set.now i p × (reaches p man.colour man.kind m.from m.to ≡ true)) }
 {
-    match ready {
-        Some(r) => number_by_lines(set, at, q, man, m, taken, target, r),
-        None => number_by_board(set, at, q, man, m, taken, target),
+    match target {
+        None => match ready {
+            Some(r) => number_by_lines(set, at, q, man, m, taken, target, r),
+            None => number_by_board(set, at, q, man, m, taken, target),
+        },
+        Some(_) => number_by_board(set, at, q, man, m, taken, target),
     }
 }

@@ -1,16 +1,16 @@
-use Rattle.std.proofs.Common.{◌≡◌, ◌≤◌, ◌+◌, ◌∙◌, arith, [], map, subst, sym}
+use Rattle.std.proofs.Common.{◌≡◌, ◌≤◌, ◌+◌, ◌∙◌, ◌↔◌, Option, None, ap, arith, false, refl, true, ℕ, [], subst, sym}
+use Rattle.std.specs.Prelude.{IsSome}
 use Rattle.std.proofs.lemmas.Bool.{eqb-true}
 use Rattle.std.proofs.lemmas.Option.{slice_get-get_or, slice_get_within}
 use Rattle.frz_board.proofs.Lemmas.{cell_back}
-use Rattle.frz_board.specs.declared.man.Colour.TheVariants.{Black, White}
-use Rattle.frz_combinations.specs.MixedRadix.{product}
-use Rattle.frz_sets.specs.Sets.{radix_of}
+use Rattle.frz_board.specs.Boards.{Board}
+use Rattle.frz_board.specs.Men.{other_of}
 use Rattle.frz_sets.specs.Sound.{AreStates}
-use Rattle.frz_index.proofs.NumbersAfterSteps.{after_black, after_white, share_small}
-use Rattle.frz_index.proofs.GroupSteps.{whole_fits}
+use Rattle.frz_index.proofs.NumbersAfterSteps.{after_step, share_small}
+use Rattle.frz_index.proofs.OneShare.{share_once}
 use Rattle.frz_index.proofs.WholeNumbers.{Num_below}
 use Rattle.frz_index.specs.Members.{HasNumber}
-use Rattle.frz_index.specs.Stepping.{IsShare, IsStep, number_after, stepped}
+use Rattle.frz_index.specs.Stepping.{IsCountedOnBoth, IsShare, IsStep, number_after, stepped, turn_adds}
 use Rattle.frz_index.proofs.across.number_after_in.Goals as goal
 use Rattle.frz_index.proofs.across.number_after_in.Goals.{After-from}
 
@@ -47,28 +47,83 @@ in_order c =
     (slice_get-get_or c.args.plan.now.charts.items k
     (record { words = []; cuts = []; first = 0; end = 0 }) (omega (arith, low, size)))).in_order
 
-white : (c : After-from) → c.args.p.now.turn ≡ White → let gs = c.args.plan.now.groups.items in
-    (c.in_ok-left.left.adds ≤ c.args.i + c.in_ok-comes.comes.adds + product (map radix_of gs))
-    × HasNumber gs
-    (number_after gs White c.args.i c.in_ok-left.left.adds c.in_ok-comes.comes.adds)
-    (stepped c.args.p.now c.args.man c.args.from c.args.to)
-white c turn =
-    after_white c.args.plan.now.groups.items c.args.p.now c.args.man c.args.from c.args.to c.args.i
-    c.in_ok-left.left.group c.in_ok-left.left.adds c.in_ok-comes.comes.adds c.requires.number
-    (is_step c) c.requires.target c.requires.valid (from_share c) (in_order c) (to_share c) turn
+abbrev gone : (c : After-from) → Board
+gone c = stepped c.args.p.now c.args.man c.args.from c.args.to c.args.target.now
 
-black : (c : After-from) → c.args.p.now.turn ≡ Black → let gs = c.args.plan.now.groups.items in
-    (product (map radix_of gs) + c.in_ok-left.left.adds ≤ c.args.i + c.in_ok-comes.comes.adds)
+told : (c : After-from) → let gs = c.args.plan.now.groups.items in
+    let p = c.args.p.now in
+    (c.in_ok-left.left.adds + turn_adds gs p.turn p.ep
+    ≤ c.args.i + c.in_ok-comes.comes.adds + turn_adds gs (other_of p.turn) c.args.target.now)
     × HasNumber gs
-    (number_after gs Black c.args.i c.in_ok-left.left.adds c.in_ok-comes.comes.adds)
-    (stepped c.args.p.now c.args.man c.args.from c.args.to)
-black c turn =
-    after_black c.args.plan.now.groups.items c.args.p.now c.args.man c.args.from c.args.to c.args.i
-    c.in_ok-left.left.group c.in_ok-left.left.adds c.in_ok-comes.comes.adds c.requires.number
-    (is_step c) c.requires.target c.requires.valid (from_share c) (in_order c) (to_share c) turn
+    (number_after gs p.turn p.ep c.args.target.now c.args.i c.in_ok-left.left.adds
+    c.in_ok-comes.comes.adds)
+    (gone c)
+told c =
+    after_step c.args.plan.now.groups.items c.args.p.now c.args.man c.args.from c.args.to
+    c.args.target.now c.args.i c.in_ok-left.left.group c.in_ok-left.left.adds
+    c.in_ok-comes.comes.adds c.requires.number (is_step c) c.requires.valid (from_share c)
+    (in_order c) (to_share c)
 
-pub overflow_add-start : goal.overflow_add-start
-overflow_add-start c =
+-- what each turn state adds
+before_adds : (c : After-from) → c.turn_adds-before.result
+    ≡ turn_adds c.args.plan.now.groups.items c.args.p.now.turn c.args.p.now.ep
+before_adds c =
+    let gs = c.args.plan.now.groups.items in
+    c.turn_adds-before.ensures.adds
+    ∙ ap (λ t. turn_adds gs t c.ep.result) c.turn.ensures
+    ∙ ap (turn_adds gs c.args.p.now.turn) c.ep.ensures
+
+after_adds : (c : After-from) → c.turn_adds-after.result
+    ≡ turn_adds c.args.plan.now.groups.items (other_of c.args.p.now.turn) c.args.target.now
+after_adds c =
+    let gs = c.args.plan.now.groups.items in
+    c.turn_adds-after.ensures.adds
+    ∙ ap (λ t. turn_adds gs t c.args.target.now)
+    (c.other.ensures.other ∙ ap other_of c.turn-2.ensures)
+
+-- none is told where the group is not there
+none_told : (o : Option ℕ) (T : Type 0) → o ≡ None → (T → ⊥) → IsSome o ↔ T
+none_told o T e never = (
+  λ s. let w : false ≡ true = subst IsSome e s in absurd cc,
+  λ t. absurd (never t),
+)
+
+pub returns-in_err-left-clause-told : goal.returns-in_err-left-clause-told
+returns-in_err-left-clause-told c =
+    none_told c.from_residual.result
+    (IsCountedOnBoth c.args.plan.now.groups.items c.args.man c.args.from c.args.to)
+    c.from_residual.ensures (λ t. c.in_err-left.ensures t.group t.left t.there)
+
+pub returns-in_err-comes-clause-told : goal.returns-in_err-comes-clause-told
+returns-in_err-comes-clause-told c =
+    none_told c.from_residual-in_err-comes.result
+    (IsCountedOnBoth c.args.plan.now.groups.items c.args.man c.args.from c.args.to)
+    c.from_residual-in_err-comes.ensures (λ t. c.in_err-comes.ensures t.group t.comes t.then)
+
+pub returns-then-left-comes-clause-told : goal.returns-then-left-comes-clause-told
+returns-then-left-comes-clause-told c =
+    let gs = c.args.plan.now.groups.items in
+    none_told None (IsCountedOnBoth gs c.args.man c.args.from c.args.to) refl
+    (λ t. c.if-left-comes.true
+    (share_once gs c.args.man c.args.from c.in_ok-left.left.group t.group c.in_ok-left.left.adds
+    t.left c.in_ok-left.ensures t.there
+    ∙ share_once gs c.args.man c.args.to t.group c.in_ok-comes.comes.group t.comes
+    c.in_ok-comes.comes.adds t.then c.in_ok-comes.ensures))
+
+pub returns-clause-told : goal.returns-clause-told
+returns-clause-told c = (
+  λ _. record {
+    group = c.in_ok-left.left.group;
+    left = c.in_ok-left.left.adds;
+    comes = c.in_ok-comes.comes.adds;
+    there = from_share (goal.at.returns-clause-told c).After-from;
+    then = to_share (goal.at.returns-clause-told c).After-from;
+  },
+  λ _. refl,
+)
+
+pub overflow_add-result : goal.overflow_add-result
+overflow_add-result c =
     let i = c.ranges.i.fits in
     let e = c.from.ensures in
     let small = share_small c.args.plan.now.groups.items c.args.man c.args.to
@@ -76,76 +131,51 @@ overflow_add-start c =
     c.in_ok-comes.ensures in
     omega (arith, i, e, small)
 
-pub overflow_add-result : goal.overflow_add-result
-overflow_add-result c =
+pub overflow_add-result-2 : goal.overflow_add-result-2
+overflow_add-result-2 c =
     let i = c.ranges.i.fits in
     let e = c.from.ensures in
-    let w = c.from-whole.ensures in
-    let whole = c.requires.plan.whole_is in
-    let fits = whole_fits c.args.plan.now.groups.items c.requires.plan.numberable in
+    let turn = c.turn_adds-after.ensures.small in
     let small = share_small c.args.plan.now.groups.items c.args.man c.args.to
     c.in_ok-comes.comes.group c.in_ok-comes.comes.adds c.requires.plan.numberable
     c.in_ok-comes.ensures in
-    omega (arith, i, e, w, whole, fits, small)
+    omega (arith, i, e, turn, small)
 
 pub overflow_sub-result : goal.overflow_sub-result
 overflow_sub-result c =
-    let low = (white (goal.at.overflow_sub-result c).After-from
-    (sym c.turn.ensures ∙ c.in-White.is)).0 in
+    let d = (goal.at.overflow_sub-result c).After-from in
+    let low = (told d).0 in
     let e = c.from.ensures in
-    let w = c.from-whole.ensures in
-    let whole = c.requires.plan.whole_is in
-    omega (arith, low, e, w, whole)
+    let after = after_adds d in
+    omega (arith, low, e, after)
 
-pub overflow_sub-result-in-Black-2 : goal.overflow_sub-result-in-Black-2
-overflow_sub-result-in-Black-2 c =
-    let low = (black (goal.at.overflow_sub-result-in-Black-2 c).After-from
-    (sym c.turn.ensures ∙ c.in-Black.is)).0 in
+pub overflow_sub-result-2 : goal.overflow_sub-result-2
+overflow_sub-result-2 c =
+    let d = (goal.at.overflow_sub-result-2 c).After-from in
+    let low = (told d).0 in
     let e = c.from.ensures in
-    let w = c.from-whole.ensures in
-    let whole = c.requires.plan.whole_is in
-    omega (arith, low, e, w, whole)
+    let before = before_adds d in
+    let after = after_adds d in
+    omega (arith, low, e, before, after)
 
 pub overflow_cast-result : goal.overflow_cast-result
 overflow_cast-result c =
     let gs = c.args.plan.now.groups.items in
-    let h = (white (goal.at.overflow_cast-result c).After-from
-    (sym c.turn.ensures ∙ c.in-White.is)).1 in
+    let d = (goal.at.overflow_cast-result c).After-from in
+    let h = (told d).1 in
     let e = c.from.ensures in
-    let w = c.from-whole.ensures in
-    let whole = c.requires.plan.whole_is in
+    let before = before_adds d in
+    let after = after_adds d in
     let is = h.number in
-    let below = Num_below gs (stepped c.args.p.now c.args.man c.args.from c.args.to) h.member in
+    let below = Num_below gs (gone d) h.member in
     let size = c.requires.plan.numberable.size in
-    omega (arith, is, below, size, e, w, whole)
+    omega (arith, is, below, size, e, before, after)
 
-pub overflow_cast-result-in-Black : goal.overflow_cast-result-in-Black
-overflow_cast-result-in-Black c =
-    let gs = c.args.plan.now.groups.items in
-    let h = (black (goal.at.overflow_cast-result-in-Black c).After-from
-    (sym c.turn.ensures ∙ c.in-Black.is)).1 in
+pub returns-clause-number : goal.returns-clause-number
+returns-clause-number c =
+    let d = (goal.at.returns-clause-number c).After-from in
     let e = c.from.ensures in
-    let w = c.from-whole.ensures in
-    let whole = c.requires.plan.whole_is in
-    let is = h.number in
-    let below = Num_below gs (stepped c.args.p.now c.args.man c.args.from c.args.to) h.member in
-    let size = c.requires.plan.numberable.size in
-    omega (arith, is, below, size, e, w, whole)
-
-pub returns-in-White : goal.returns-in-White
-returns-in-White c =
-    let e = c.from.ensures in
-    let w = c.from-whole.ensures in
-    let whole = c.requires.plan.whole_is in
-    subst (λ n. HasNumber c.args.plan.now.groups.items n
-    (stepped c.args.p.now c.args.man c.args.from c.args.to)) (omega (arith, e, w, whole))
-    (white (goal.at.returns-in-White c).After-from (sym c.turn.ensures ∙ c.in-White.is)).1
-
-pub returns-in-Black : goal.returns-in-Black
-returns-in-Black c =
-    let e = c.from.ensures in
-    let w = c.from-whole.ensures in
-    let whole = c.requires.plan.whole_is in
-    subst (λ n. HasNumber c.args.plan.now.groups.items n
-    (stepped c.args.p.now c.args.man c.args.from c.args.to)) (omega (arith, e, w, whole))
-    (black (goal.at.returns-in-Black c).After-from (sym c.turn.ensures ∙ c.in-Black.is)).1
+    let before = before_adds d in
+    let after = after_adds d in
+    subst (λ n. HasNumber c.args.plan.now.groups.items n (gone d))
+    (omega (arith, e, before, after)) (told d).1

@@ -1,25 +1,21 @@
 use Rattle.std.proofs.Common.{◌≡◌, ◌∙◌, ◌*◌, ◌+◌, ◌/◌, ◌%◌, ◌<◌, List, None, Option, Some, ap, arith, length, refl, subst, ℕ}
-use Rattle.std.specs.Prelude.{IfSome}
 use Rattle.std.specs.List.{slice_get}
 use Rattle.std.proofs.lemmas.Option.{slice_get_read}
 use Rattle.frz_board.specs.Men.{man_of_cell}
 use Rattle.frz_board.specs.declared.man.Man.{Man}
 use Rattle.frz_sets.specs.Views.{GroupLine}
-use Rattle.frz_index.specs.Shares.{AreShares}
-use Rattle.frz_index.specs.Stepping.{IsShare}
+use Rattle.frz_index.specs.Shares.{AreShares, IsShareOf}
 use Rattle.frz_index.specs.declared.shares.Share.{Share}
 use Rattle.frz_index.proofs.across.share.Goals as goal
 
 kept : (gs : List GroupLine) (shares : List (Option Share)) (man : Man) (cell s i : ℕ)
     (o : Option Share) → AreShares gs shares → man_of_cell cell ≡ Some man → s < 64 →
     i ≡ 64 * cell + s → slice_get shares i ≡ Some o →
-    IfSome o (λ x. IsShare gs man s x.group x.adds)
-kept gs shares man cell s i None h is low at e = tt
-kept gs shares man cell s i (Some x) h is low at e =
+    IsShareOf gs man s o
+kept gs shares man cell s i o h is low at e =
     let same : i / 64 ≡ cell = omega (arith, at, low) in
     let rest : i % 64 ≡ s = omega (arith, at, low) in
-    subst (λ n. IsShare gs man n x.group x.adds) rest
-    (h.each i man x e (ap man_of_cell same ∙ is))
+    subst (λ n. IsShareOf gs man n o) rest (h.each i man o e (ap man_of_cell same ∙ is))
 
 pub returns : goal.returns
 returns c =

@@ -32,8 +32,21 @@ loop-j-preserved c k g l n e =
       ]
     ]
 
+pub returns-then-has_state : goal.returns-then-has_state
+returns-then-has_state c = (
+  λ t. absurd cc,
+  λ all. let here = all c.loop-j.j c.index-groups-j.result c.if-j-own.true
+      (slice_get_read c.args.groups.now (length c.args.groups.now) c.loop-j.j
+      c.index-groups-j.result refl c.loop-j-test.true c.index-groups-j.is) in
+      let on = sym c.has_state.ensures ∙ c.if-has_state.true in
+      absurd cc,
+)
+
 pub returns : goal.returns
-returns c _ j g n e =
-    c.loop-j.invariant j g
-    (let low = slice_get_within c.args.groups.now j g e in
-    omega (arith, low, c.loop-j-test.false, c.loop-j.auto.j-end)) n e
+returns c = (
+  λ _ j g n e.
+      c.loop-j.invariant j g
+      (let low = slice_get_within c.args.groups.now j g e in
+      omega (arith, low, c.loop-j-test.false, c.loop-j.auto.j-end)) n e,
+  λ _. refl,
+)

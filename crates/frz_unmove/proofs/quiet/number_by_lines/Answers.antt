@@ -51,21 +51,23 @@ pub number_after_step-requires-clause-valid : goal.number_after_step-requires-cl
 number_after_step-requires-clause-valid c =
     let d = (goal.at.number_after_step-requires-clause-valid c).After-reaches in
     let e = (goal.at.number_after_step-requires-clause-valid c).After-reaches-2 in
-    subst (λ (s : Step). IsValid (stepped c.args.q.now c.args.man s.to s.from)) (sym c.m.view_is)
+    subst (λ (s : Step). IsValid (stepped c.args.q.now c.args.man s.to s.from
+    c.args.target.now)) (sym c.m.view_is)
     (valid_there c.args.q.now c.args.m c.args.taken c.args.target.now c.args.man
     c.requires.number.member.valid (from_on d) (to_on d) c.requires.quiet c.args.ready.now
-    c.requires.ready (check e ∙ c.if-reaches.false))
+    c.requires.ready (check e ∙ c.if-reaches.false) c.requires.none)
 
 pub number_on-requires : goal.number_on-requires
 number_on-requires c =
     let d = (goal.at.number_on-requires c).After-reaches in
     let e = (goal.at.number_on-requires c).After-reaches-2 in
     subst IsValid
-    (ap (λ (s : Step). stepped c.args.q.now c.args.man s.to s.from) (sym c.m.view_is)
+    (ap (λ (s : Step). stepped c.args.q.now c.args.man s.to s.from
+    c.args.target.now) (sym c.m.view_is)
     ∙ sym c.back.ensures)
     (valid_there c.args.q.now c.args.m c.args.taken c.args.target.now c.args.man
     c.requires.number.member.valid (from_on d) (to_on d) c.requires.quiet c.args.ready.now
-    c.requires.ready (check e ∙ c.if-reaches.false))
+    c.requires.ready (check e ∙ c.if-reaches.false) c.requires.none)
 
 pub returns-in-Some : goal.returns-in-Some
 returns-in-Some c =
@@ -74,7 +76,8 @@ returns-in-Some c =
     c.requires.number.member.valid (from_on d) (to_on d) c.requires.quiet c.args.ready.now
     c.requires.ready c.args.set.now c.in-Some.n (reach d ∙ c.if-not-reaches.false)
     (subst (λ (s : Step). HasNumber c.args.set.now c.in-Some.n
-    (stepped c.args.q.now c.args.man s.to s.from)) c.m.view_is c.in-Some.ensures)
+    (stepped c.args.q.now c.args.man s.to s.from
+    c.args.target.now)) c.m.view_is c.in-Some.ensures.number)
 
 pub returns-in-None : goal.returns-in-None
 returns-in-None c =
@@ -84,4 +87,5 @@ returns-in-None c =
     c.requires.ready c.args.set.now c.number_on.result (reach d ∙ c.if-not-reaches.false)
     (c.number_on.ensures.function
     ∙ ap (number_of c.args.set.now) (c.back.ensures
-    ∙ ap (λ (s : Step). stepped c.args.q.now c.args.man s.to s.from) c.m.view_is))
+    ∙ ap (λ (s : Step). stepped c.args.q.now c.args.man s.to s.from
+    c.args.target.now) c.m.view_is))

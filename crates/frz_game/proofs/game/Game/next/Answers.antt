@@ -11,4 +11,4 @@ returns-in-Some g c =
     let q = after c.args.p.now c.args.m in
     sym (next_inside groups q (g.B.ExitBook.value_at c.args.self.now.book.now q) c.in-Some.n
     (ap (λ gs. number_of gs q) (sym c.args.self.now.fits)
-    ∙ number_found c.args.self.now.set.now q c.in-Some.n c.in-Some.ensures))
+    ∙ number_found c.args.self.now.set.now q c.in-Some.n c.in-Some.ensures.number))
