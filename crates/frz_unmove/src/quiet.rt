@@ -34,13 +34,7 @@ pub(crate) fn stepped_man(q: &Bitboards, m: Move, taken: u8) -> Option<Man>
 }
 
 /// The position before the step, where this was the target.
-fn back(
-    q: &Bitboards,
-    man: Man,
-    from: Square,
-    to: Square,
-    target: &Option<Square>,
-) -> Bitboards
+fn back(q: &Bitboards, man: Man, from: Square, to: Square, target: &Option<Square>) -> Bitboards
     ensures { result ≡ stepped q.now man to from target.now }
 {
     let mut p = q.hand_over(*target);
