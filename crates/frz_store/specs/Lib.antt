@@ -1,8 +1,10 @@
 pub mod Outside
 pub mod Files
+pub mod Bytes
 pub mod Told
 pub mod Writes
 pub mod Shelf
+pub mod ShelfBytes
 pub mod Fails
 pub mod MemStore
 pub mod MemSource

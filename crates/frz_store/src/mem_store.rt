@@ -8,6 +8,7 @@ ghost use Rattle.frz_store.specs.MemStore.{files, last, room, asked, calls, faul
 ghost use Rattle.frz_store.specs.Outside.{StoreCauses, FreeCauses, HasCause, IsNext};
 ghost use Rattle.frz_store.specs.Told.{store_of, IsPut};
 ghost use Rattle.frz_store.specs.Shelf.{files_of, last_of, room_of};
+ghost use Rattle.frz_store.specs.ShelfBytes.{shelf_bytes};
 
 use crate::count::Count;
 use crate::fails::{Fail, FailOn, FailPlan};
@@ -90,6 +91,8 @@ impl Store for MemStore {
     ghost calls = { λ store. store.plan.calls };
 
     ghost room = { λ store. room_of store.shelf };
+
+    ghost holds_bytes = { λ store. shelf_bytes store.shelf };
 
     fn size(&mut self, name: &str) -> Result<Option<u64>, StoreFault>
         ensures result { result ≡ if fails_next self.old FailOn.Size then Err StoreFault.Failed

@@ -4,6 +4,7 @@ ghost use Rattle.std.specs.Prelude.{◌≡◌, ◌⊎◌, ℕ, ◌+◌, ◌-◌,
 ghost use Rattle.std.specs.Option.{option_map};
 ghost use Rattle.std.specs.Result.{IsErrOf};
 ghost use Rattle.std.specs.Io.KnownBytes.{append_known};
+ghost use Rattle.frz_store.specs.Bytes.{HoldsBytes};
 ghost use Rattle.frz_store.specs.Files.{Files, put, grown, Covers};
 ghost use Rattle.frz_store.specs.Outside.{StoreCauses, FreeCauses, HasCause, Took, IsNext};
 
@@ -122,6 +123,9 @@ pub trait Store {
         ensures calls { IsNext (calls self.old) (calls self.new) }
         ensures wants { wants self.new ≡ wants self.old }
         ensures cause { HasCause (faults self.old) (faults self.new) result };
+
+    /// What it tells are bytes.
+    ghost holds_bytes: { (store : Self) → IfSome (files store) HoldsBytes };
 }
 
 /// Bytes that come one after the other.

@@ -1,6 +1,7 @@
 //! Bytes with room reserved behind them.
 ghost use Rattle.std.specs.Prelude.{◌≡◌, ◌+◌, ◌-◌, ◌≤◌, [], ◌++◌, length, take, IfOk};
 ghost use Rattle.std.specs.Vec.{vec_len, vec_capacity};
+ghost use Rattle.frz_store.specs.Bytes.{AreBytes};
 
 use std::alloc::{AllocError, Global};
 
@@ -10,6 +11,7 @@ pub struct Reserved {
     pub bytes: Vec<u8>,
     pub room: usize,
     ghost fits: { vec_len bytes + room ≤ vec_capacity bytes },
+    ghost are_bytes: { AreBytes bytes.items },
 }
 
 impl Reserved {

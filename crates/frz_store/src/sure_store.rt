@@ -5,6 +5,7 @@ ghost use Rattle.std.specs.Result.{IsErrOf};
 ghost use Rattle.frz_store.specs.Files.{no_files, put};
 ghost use Rattle.frz_store.specs.Told.{store_of, IsPut};
 ghost use Rattle.frz_store.specs.Shelf.{files_of, last_of, room_of};
+ghost use Rattle.frz_store.specs.ShelfBytes.{shelf_bytes};
 
 use crate::count::Count;
 use crate::shelf::Shelf;
@@ -81,6 +82,8 @@ impl Store for SureStore {
     ghost calls = { λ store. store.calls };
 
     ghost room = { λ store. room_of store.shelf };
+
+    ghost holds_bytes = { λ store. shelf_bytes store.shelf };
 
     fn size(&mut self, name: &str) -> Result<Option<u64>, StoreFault> {
         self.calls.add(1);

@@ -55,6 +55,19 @@ pub record IsHead (magic text : List ℕ) (size : ℕ) : Type 0 where
   pub short : length text ≤ 65536
   pub fits : size < 2 ^ 32
 
+-- behind a magic and a text of bytes a file holds bytes
+pub file_bytes : (magic text : List ℕ) (size : ℕ) (white black : List ℕ) → AreBytes magic
+    → AreBytes text → AreBytes (file_of magic text size white black)
+file_bytes magic text size white black magic_are text_are =
+    AreBytes-append (header_of magic text size) (number_bytes white ++ number_bytes black)
+    (AreBytes-append magic (to_le_bytes w32 (length text) ++ (text ++ to_le_bytes w32 size))
+    magic_are
+    (AreBytes-append (to_le_bytes w32 (length text)) (text ++ to_le_bytes w32 size)
+    (AreBytes-number (length text))
+    (AreBytes-append text (to_le_bytes w32 size) text_are (AreBytes-number size))))
+    (AreBytes-append (number_bytes white) (number_bytes black) (AreBytes-number_bytes white)
+    (AreBytes-number_bytes black))
+
 -- a file with the codes that were loaded
 written_file : (files : Option Files) (name magic text : List ℕ) (size : ℕ) (white black : List ℕ)
     → IsHead magic text size
@@ -65,15 +78,7 @@ written_file files name magic text size white black h l =
     l.white_fit l.black_fit in
     record {
       bytes = file_of magic text size white black;
-      may =
-          AreBytes-append (header_of magic text size) (number_bytes white ++ number_bytes black)
-          (AreBytes-append magic (to_le_bytes w32 (length text) ++ (text ++ to_le_bytes w32 size))
-          h.magic_bytes
-          (AreBytes-append (to_le_bytes w32 (length text)) (text ++ to_le_bytes w32 size)
-          (AreBytes-number (length text))
-          (AreBytes-append text (to_le_bytes w32 size) h.text_bytes (AreBytes-number size))))
-          (AreBytes-append (number_bytes white) (number_bytes black) (AreBytes-number_bytes white)
-          (AreBytes-number_bytes black));
+      may = file_bytes magic text size white black h.magic_bytes h.text_bytes;
       file = written_belongs magic text size white black h.eight (omega (arith, h.short)) h.fits
           l.white_long l.black_long;
       white_is = codes.0;

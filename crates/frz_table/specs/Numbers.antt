@@ -1,10 +1,7 @@
 -- Bytes, and numbers of 32 bits in bytes, the lowest byte first.
 use Rattle.std.specs.Prelude.{ℕ, zero, suc, ◌^◌, ◌<◌, List, [], ◌∷◌, ◌++◌, take, drop, slice_index}
 use Rattle.std.specs.Int.{w32, to_le_bytes, from_le_bytes}
-
--- each is a byte
-abbrev pub AreBytes : List ℕ → Type 0
-AreBytes bytes = (i : ℕ) → slice_index bytes i < 256
+pub use Rattle.frz_store.specs.Bytes.{AreBytes}
 
 -- each is a number of 32 bits
 abbrev pub AreNumbers : List ℕ → Type 0

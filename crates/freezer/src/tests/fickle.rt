@@ -41,6 +41,8 @@ impl Store for Fickle<'_> {
 
     ghost room = { λ _. 0 };
 
+    ghost holds_bytes = { λ _. tt };
+
     fn size(&mut self, _name: &str) -> Result<Option<u64>, StoreFault> {
         let there = self.calls == 0;
         self.calls = self.calls.saturating_add(1);
