@@ -1,11 +1,12 @@
 -- What is found of a back table under its name.
-use Rattle.std.proofs.Common.{◌≡◌, refl, sym, ap, subst, ◌∙◌, ℕ, ◌+◌, ◌*◌, ◌≤◌, List, length, Option, Some, Result, Ok, Err, IfOk, IfErr}
+use Rattle.std.proofs.Common.{◌≡◌, refl, sym, ap, subst, ◌∙◌, ℕ, ◌+◌, ◌*◌, ◌≤◌, List, length, Option, Some, Result, Ok, Err, IfOk, IfErr, IfSome}
 use Rattle.frz_board.specs.declared.man.Colour.{Colour}
 use Rattle.frz_board.specs.declared.man.Colour.TheVariants.{White, Black}
 use Rattle.frz_exits.specs.Books.{value_by}
 use Rattle.frz_graph.specs.EntryCodes.{of_side}
 use Rattle.frz_game.proofs.Lemmas.{table_exact}
 use Rattle.frz_rules.specs.Text.{rules_of}
+use Rattle.frz_store.specs.Bytes.{AreBytes, HoldsBytes}
 use Rattle.frz_store.specs.Told.{StoreTold}
 use Rattle.frz_table.specs.declared.fault.TableFault.{TableFault}
 use Rattle.frz_table.specs.declared.fault.TableFault.TheVariants.{Missing, Magic, Truncated, Extra, Rules, Size, Failed, NoMemory}
@@ -15,7 +16,7 @@ use Rattle.frz_table.specs.Layout.{pieces_of}
 use Rattle.frz_table.specs.Opening.{Contents, Refuses, contents_of, opened, table_format}
 use Rattle.frz_table.specs.Possible.{MayHold, MayKeep, MayOpen}
 use Rattle.frz_table.specs.Tables.{Table, table_size}
-use Rattle.frz_table.proofs.Lemmas.{belongs}
+use Rattle.frz_table.proofs.Lemmas.{belongs, held_bytes}
 use Rattle.frz_check.specs.declared.verdict.Verdict.{Verdict}
 use Rattle.frz_check.specs.declared.verdict.Verdict.TheVariants.{Exact}
 use Rattle.frz_check.specs.Kept.{WithinFile, kept_codes}
@@ -65,6 +66,7 @@ pub record JudgedBack (name : List ℕ) (contents : Contents) (back : Back) (v :
     (old new : StoreTold) (steps_before steps_now : ℕ) : Type 0 where
   pub bytes : List ℕ
   pub may : MayHold old.files name (Some bytes)
+  pub are_bytes : AreBytes bytes
   pub judged : IsBackJudged bytes contents v
   pub keeps : back ≡ back_of contents bytes
   pub within : WithinFile (Some bytes) old new steps_before steps_now
@@ -79,21 +81,24 @@ judged_bytes : (table : Table) (white black bytes : List ℕ) (v : Verdict)
     → IsBackJudged bytes (contents_of table) v
 judged_bytes table white black bytes v read opens white_is black_is h = record {
   opens = opens;
-  told =
-      verdict_on Plain (value_by table.rules) (contents_of table) bytes v
+  codes = on_codes;
+  told = λ are. verdict_on Plain (value_by table.rules) (contents_of table) bytes v are
       (table_exact table.rules (value_by table.rules))
       (few_plies table.text table.rules read) read
-      opens
-      (same_verdict table.rules (value_by table.rules) (λ side. of_side side white black)
-      (kept_codes (contents_of table) bytes) v by_side h);
+      opens on_codes;
 }
   where
     by_side : (side : Colour) → of_side side white black ≡ kept_codes (contents_of table) bytes side
     by_side White = white_is
     by_side Black = black_is
 
+    on_codes : IsVerdict table.rules (value_by table.rules) (kept_codes (contents_of table) bytes) v
+    on_codes = same_verdict table.rules (value_by table.rules)
+        (λ side. of_side side white black) (kept_codes (contents_of table) bytes) v by_side h
+
 pub judged_back : (table : Table) (name white black : List ℕ) (v : Verdict)
     (old mid new : StoreTold) (steps_before steps_now : ℕ)
+    → IfSome mid.files HoldsBytes
     → MayKeep mid.files table white black → mid.files ≡ old.files → table.kind ≡ Plain
     → table.name ≡ name
     → MayOpen (table_format Plain) old.files name (contents_of table)
@@ -104,7 +109,7 @@ pub judged_back : (table : Table) (name white black : List ℕ) (v : Verdict)
     → IsVerdict table.rules (value_by table.rules) (λ side. of_side side white black) v
     → JudgedBack name (contents_of table) (back_with table.rules.groups white black) v old new
     steps_before steps_now
-judged_back table name white black v old mid new steps_before steps_now kept same kind named may
+judged_back table name white black v old mid new steps_before steps_now are kept same kind named may
     asked calls more_asked more_calls steps h =
     let contents : Contents = contents_of table in
     let read : rules_of table.text ≡ Ok table.rules =
@@ -114,6 +119,7 @@ judged_back table name white black v old mid new steps_before steps_now kept sam
     record {
       bytes = kept.bytes;
       may = there.0;
+      are_bytes = held_bytes mid.files table.name (Some kept.bytes) are kept.may;
       judged = judged_bytes table white black kept.bytes v read there.1 (sym kept.white_is)
           (sym kept.black_is) h;
       keeps =
@@ -133,6 +139,7 @@ module _ (name : List ℕ) (contents : Contents) (back : Back) (v : Verdict) (ol
   back_given (Ok given) gives = record {
     bytes = h.bytes;
     may = h.may;
+    are_bytes = h.are_bytes;
     contents = contents;
     judged = subst (λ (w : Verdict). IsBackJudged h.bytes contents w) gives.0 h.judged;
     keeps = gives.1 ∙ h.keeps;
@@ -173,6 +180,7 @@ back_kept table name back v old new steps_before steps_now h named kind (Ok give
       kind = ap (λ (t : Table). t.kind) same ∙ kind;
       bytes = h.bytes;
       may = h.may;
+      are_bytes = h.are_bytes;
       judged =
           subst (λ (t : Table). IsBackJudged h.bytes (contents_of t) Exact) (sym same)
           (subst (λ (w : Verdict). IsBackJudged h.bytes (contents_of table) w) gives.0 h.judged);

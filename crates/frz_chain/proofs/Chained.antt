@@ -172,6 +172,7 @@ module _ (text back name : List ℕ) (rules : RuleLines) (accepted : rules_of te
         accepted = accepted;
         back_bytes = opens.bytes;
         back_may = opens.may;
+        back_are_bytes = opens.are_bytes;
         back_contents = opens.contents;
         back_judged = opens.judged;
         bytes = h.bytes;

@@ -224,6 +224,7 @@ checked table name back loaded back_size old mid then new steps_before steps_the
       opens = there.1;
       back_bytes = h.bytes;
       back_may = subst (λ (o : Option Files). MayHold o back (Some h.bytes)) same h.may;
+      back_are_bytes = h.are_bytes;
       back_contents = h.contents;
       back_judged = h.judged;
       told =

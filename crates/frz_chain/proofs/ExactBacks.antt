@@ -87,7 +87,7 @@ judged_exact bytes contents h =
     ∙ exact_agree (graph_by contents.rules value) (kept_codes contents bytes)
     (size_of contents.rules.groups)
     (λ side. table_exact contents.rules value side (kept_codes contents bytes side)
-    (h.told.codes side))
+    (h.codes side))
 
 pub judged_wrong : (held : Option (List ℕ)) (wrong : Wrong) → HasWrong held wrong
     → is_exact held ≡ false
@@ -96,7 +96,7 @@ judged_wrong held wrong h =
     ap is_exact h.there
     ∙ by_opening h.bytes contents h.judged.opens
     ∙ wrong_differ (graph_by contents.rules (value_by contents.rules)) (kept_codes contents h.bytes)
-    (size_of contents.rules.groups) wrong h.judged.told.codes
+    (size_of contents.rules.groups) wrong h.judged.codes
 
 pub not_open : (held : Option (List ℕ)) (fault : TableFault)
     → opened (table_format Plain) held ≡ Err fault → is_exact held ≡ false

@@ -5,21 +5,25 @@ use Rattle.frz_game.specs.declared.wrong.Wrong.{Wrong as WrongEntry}
 use Rattle.frz_store.specs.Files.{Files}
 use Rattle.frz_store.specs.Told.{StoreTold}
 use Rattle.frz_table.specs.declared.kind.FileKind.TheVariants.{Plain}
+use Rattle.frz_table.specs.Numbers.{AreBytes}
 use Rattle.frz_table.specs.Opening.{Contents, contents_of, opened, table_format}
 use Rattle.frz_table.specs.Possible.{MayHold}
 use Rattle.frz_check.specs.declared.verdict.Verdict.{Verdict}
 use Rattle.frz_check.specs.declared.verdict.Verdict.TheVariants.{Exact, Wrong}
-use Rattle.frz_check.specs.Kept.{IsVerdictOn, WithinFile}
+use Rattle.frz_check.specs.Kept.{IsVerdictOn, WithinFile, kept_codes}
+use Rattle.frz_check.specs.Verdicts.{IsVerdict}
 use Rattle.frz_chain.specs.Books.{Back}
 use Rattle.frz_chain.specs.FileOn.{back_of, loaded_back}
 use Rattle.frz_chain.specs.declared.back.BackTable.{BackTable}
 use Rattle.frz_chain.specs.declared.fault.ChainFault.{ChainFault}
 use Rattle.frz_chain.specs.declared.fault.ChainFault.TheVariants.{Rules, Table, Back as BackFault, BackWrong, Failed, NoMemory}
 
--- the bytes open as a plain table, and this is the verdict on its codes by its own exit lines
+-- the list opens as a plain table, and this is the verdict on its codes by its own exit lines; of
+-- bytes it says too whether they are the one file of their text
 pub record IsBackJudged (bytes : List ℕ) (contents : Contents) (verdict : Verdict) : Type 0 where
   pub opens : opened (table_format Plain) (Some bytes) ≡ Ok contents
-  pub told : IsVerdictOn Plain (value_by contents.rules) contents bytes verdict
+  pub codes : IsVerdict contents.rules (value_by contents.rules) (kept_codes contents bytes) verdict
+  pub told : AreBytes bytes → IsVerdictOn Plain (value_by contents.rules) contents bytes verdict
 
 -- the back table is given where the verdict on its codes is exact
 abbrev pub GivesBack : Back → Verdict → Result BackTable ChainFault → Type 0
@@ -32,6 +36,7 @@ pub record OpensBack (name : List ℕ) (back : Back) (old new : StoreTold)
     (steps_before steps_now : ℕ) : Type 0 where
   pub bytes : List ℕ
   pub may : MayHold old.files name (Some bytes)
+  pub are_bytes : AreBytes bytes
   pub contents : Contents
   pub judged : IsBackJudged bytes contents Exact
   pub keeps : back ≡ back_of contents bytes
@@ -44,6 +49,7 @@ pub record KeepsTable (files : Option Files) (name : List ℕ) (back : BackTable
   pub kind : back.table.kind ≡ Plain
   pub bytes : List ℕ
   pub may : MayHold files name (Some bytes)
+  pub are_bytes : AreBytes bytes
   pub judged : IsBackJudged bytes (contents_of back.table) Exact
   pub keeps : loaded_back back ≡ back_of (contents_of back.table) bytes
 

@@ -10,6 +10,7 @@ use Rattle.frz_store.specs.Writes.{Wrote, WrotePart}
 use Rattle.frz_table.specs.declared.fault.TableFault.{TableFault}
 use Rattle.frz_table.specs.declared.kind.FileKind.TheVariants.{Plain, Chained}
 use Rattle.frz_table.specs.Layout.{pieces_of}
+use Rattle.frz_table.specs.Numbers.{AreBytes}
 use Rattle.frz_table.specs.Opening.{Contents, opened, opening_calls, table_format}
 use Rattle.frz_table.specs.Possible.{MayHold, held_text}
 use Rattle.frz_check.specs.declared.verdict.Verdict.{Verdict}
@@ -96,6 +97,7 @@ pub record ChecksChain (table back : List ℕ) (old new : StoreTold) (steps_befo
   pub opens : opened (table_format Chained) (Some bytes) ≡ Ok contents
   pub back_bytes : List ℕ
   pub back_may : MayHold old.files back (Some back_bytes)
+  pub back_are_bytes : AreBytes back_bytes
   pub back_contents : Contents
   pub back_judged : IsBackJudged back_bytes back_contents verdicts.Exact
   pub told :
@@ -162,6 +164,7 @@ pub record Chains (text back name : List ℕ) (old new : StoreTold) (steps_befor
   pub accepted : rules_of text ≡ Ok rules
   pub back_bytes : List ℕ
   pub back_may : MayHold old.files back (Some back_bytes)
+  pub back_are_bytes : AreBytes back_bytes
   pub back_contents : Contents
   pub back_judged : IsBackJudged back_bytes back_contents verdicts.Exact
   pub bytes : List ℕ

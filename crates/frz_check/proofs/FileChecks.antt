@@ -1,5 +1,5 @@
 -- From an open table to the file under its name.
-use Rattle.std.proofs.Common.{◌≡◌, refl, sym, ap, subst, ◌∙◌, ℕ, ◌+◌, ◌*◌, ◌≤◌, List, drop, length, Option, Some, Result, Ok, Err, IfOk, IfErr, arith}
+use Rattle.std.proofs.Common.{◌≡◌, refl, sym, ap, subst, ◌∙◌, ℕ, ◌+◌, ◌*◌, ◌≤◌, List, drop, length, Option, Some, Result, Ok, Err, IfOk, IfErr, IfSome, arith}
 use Rattle.std.specs.Prelude.{slice_index}
 use Rattle.frz_board.specs.Boards.{Board}
 use Rattle.frz_board.specs.declared.man.Colour.{Colour}
@@ -10,6 +10,7 @@ use Rattle.frz_sets.specs.Views.{RuleLines}
 use Rattle.frz_exits.specs.Books.{value_by}
 use Rattle.frz_graph.specs.EntryCodes.{of_side}
 use Rattle.frz_rules.specs.Text.{rules_of}
+use Rattle.frz_store.specs.Bytes.{HoldsBytes}
 use Rattle.frz_store.specs.Files.{Files}
 use Rattle.frz_store.specs.Told.{StoreTold}
 use Rattle.frz_table.specs.declared.fault.TableFault.{TableFault}
@@ -20,7 +21,7 @@ use Rattle.frz_table.specs.Layout.{magic_of, pieces_of}
 use Rattle.frz_table.specs.Opening.{Contents, contents_of, kept_text, opened, opening_calls, table_format}
 use Rattle.frz_table.specs.Possible.{MayHold, MayKeep, MayOpen}
 use Rattle.frz_table.specs.Tables.{IsTableFile, Table, table_size}
-use Rattle.frz_table.proofs.Lemmas.{belongs, length-numbers, loading_calls, opened_calls, opens_by, outside_refuses, read_short, text_kept}
+use Rattle.frz_table.proofs.Lemmas.{belongs, held_bytes, length-numbers, loading_calls, opened_calls, opens_by, outside_refuses, read_short, text_kept}
 use Rattle.frz_game.specs.Bounds.{IsTableOf}
 use Rattle.frz_check.specs.declared.verdict.Verdict.{Verdict}
 use Rattle.frz_check.specs.Kept.{ChecksFile, ChecksTable, IsVerdictOn, RefusesFile, WithinFile, kept_codes, opened_size}
@@ -64,15 +65,15 @@ file_opens kind table name bytes old now same is_kind named read may file = (
 -- the lists that were loaded are those in a file that the name may hold
 pub table_checked : (files : Option Files) (table : Table) (value : Board → Value)
     (white black : List ℕ) (rules : RuleLines) (white_slice black_slice : List ℕ) (v : Verdict) →
-    TablesExact table.rules value →
+    IfSome files HoldsBytes → TablesExact table.rules value →
     ((side : Colour) (codes : List ℕ) → IsTableOf table.rules value side codes → (i : ℕ) →
     slice_index codes i ≤ 3 + 2 * (size_of table.rules.groups + 1000)) →
     rules_of table.text ≡ Ok table.rules → MayKeep files table white black → rules ≡ table.rules →
     white_slice ≡ white → black_slice ≡ black →
     IsVerdict rules value (λ side. of_side side white_slice black_slice) v
     → ChecksTable files table value v
-table_checked files table value white black rules white_slice black_slice v exact plies read kept
-    same_rules white_is black_is h =
+table_checked files table value white black rules white_slice black_slice v are exact plies read
+    kept same_rules white_is black_is h =
     let opens = (file_opens table.kind table table.name kept.bytes files files refl refl refl read
     kept.may kept.file).1 in
     record {
@@ -80,7 +81,8 @@ table_checked files table value white black rules white_slice black_slice v exac
       may = kept.may;
       file = kept.file;
       told =
-          verdict_on table.kind value (contents_of table) kept.bytes v exact plies read opens
+          verdict_on table.kind value (contents_of table) kept.bytes v
+          (held_bytes files table.name (Some kept.bytes) are kept.may) exact plies read opens
           (same_verdict table.rules value (λ side. of_side side white_slice black_slice)
           (kept_codes (contents_of table) kept.bytes) v same
           (subst (λ (r : RuleLines). IsVerdict r value

@@ -183,7 +183,7 @@ one_text kind value one contents others bytes other_bytes are other_are same ope
 
 -- the verdict on bytes is exact just where they are the one file
 pub verdict_on : (kind : FileKind) (value : Board → Value) (contents : Contents) (bytes : List ℕ)
-    (verdict : Verdict) →
+    (verdict : Verdict) → AreBytes bytes →
     TablesExact contents.rules value →
     ((side : Colour) (codes : List ℕ) → IsTableOf contents.rules value side codes → (i : ℕ) →
     slice_index codes i ≤ 3 + 2 * (size_of contents.rules.groups + 1000)) →
@@ -191,9 +191,9 @@ pub verdict_on : (kind : FileKind) (value : Board → Value) (contents : Content
     opened (table_format kind) (Some bytes) ≡ Ok contents →
     IsVerdict contents.rules value (kept_codes contents bytes) verdict
     → IsVerdictOn kind value contents bytes verdict
-verdict_on kind value contents bytes verdict exact plies read opens h = record {
+verdict_on kind value contents bytes verdict are exact plies read opens h = record {
   codes = h;
-  one_file = λ are. (
+  one_file = (
     λ is. tables_are_one kind value contents bytes are opens
         (subst (λ (v : Verdict). IsVerdict contents.rules value (kept_codes contents bytes) v) is
         h),

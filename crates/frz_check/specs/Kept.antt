@@ -12,7 +12,6 @@ use Rattle.frz_table.specs.declared.kind.FileKind.{FileKind}
 use Rattle.frz_table.specs.declared.kind.FileKind.TheVariants.{Plain}
 use Rattle.frz_table.specs.Layout.{codes_at, magic_of, pieces_of}
 use Rattle.frz_table.specs.Opening.{Contents, Refuses, contents_of, table_format, opened, opening_calls}
-use Rattle.frz_table.specs.Numbers.{AreBytes}
 use Rattle.frz_table.specs.Possible.{MayHold, held_text}
 use Rattle.frz_table.specs.Tables.{Table, IsFileOf}
 use Rattle.frz_check.specs.declared.verdict.Verdict.{Verdict}
@@ -29,7 +28,7 @@ kept_codes contents bytes side = codes_at side contents.text (size_of contents.r
 pub record IsVerdictOn (kind : FileKind) (value : Board → Value) (contents : Contents)
     (bytes : List ℕ) (verdict : Verdict) : Type 0 where
   pub codes : IsVerdict contents.rules value (kept_codes contents bytes) verdict
-  pub one_file : AreBytes bytes →
+  pub one_file :
       (verdict ≡ Exact) ↔ IsOneFile (magic_of kind) contents.text contents.rules value bytes
 
 -- the verdict on a file that the open table's name may hold

@@ -51,8 +51,9 @@ judged_so bytes contents v opens h =
     (belongs (table_format Plain) bytes contents opens).read in
     record {
       opens = opens;
-      told =
-          verdict_on Plain (value_by contents.rules) contents bytes v
+      codes = h;
+      told = λ are.
+          verdict_on Plain (value_by contents.rules) contents bytes v are
           (table_exact contents.rules (value_by contents.rules))
           (few_plies contents.text contents.rules read) read opens h;
     }
@@ -108,7 +109,7 @@ module _ (held : Option (List ℕ)) (bytes others : List ℕ) (contents other : 
       (subst (λ (l : List ℕ). IsBackJudged l other w) same_bytes k) in
       one_verdict contents.rules (value_by contents.rules)
       (table_exact contents.rules (value_by contents.rules)) (kept_codes contents bytes) v w
-      h.told.codes moved.told.codes
+      h.codes moved.codes
 
   pub same_back : back_of other others ≡ back_of contents bytes
   same_back = ap (λ (l : List ℕ). back_of other l) same_bytes

@@ -24,8 +24,9 @@ judged g c =
     (store_of g.S.Store c.args.store.now)
     (store_of g.S.Store c.open_table.new.store) (store_of g.S.Store c.load_checked.new.store)
     c.args.steps.now c.load_checked.new.steps
-    e.kept opened.quiet.unwritten.files opened.kind opened.name opened.may_open opened.asked
-    opened.calls e.asked e.calls e.steps e.verdict
+    (g.met.S.Store.holds_bytes c.open_table.new.store) e.kept opened.quiet.unwritten.files
+    opened.kind opened.name opened.may_open opened.asked opened.calls e.asked e.calls
+    e.steps e.verdict
 
 pub returns-in-Ok-load_checked-clause-opened : goal.returns-in-Ok-load_checked-clause-opened
 returns-in-Ok-load_checked-clause-opened g c =

@@ -8,7 +8,7 @@ returns-clause-verdict g c =
     table_checked (g.S.Store.files c.args.store.now) table value c.in_ok-white.white.items
     c.in_ok-white.black.items
     c.rules.result.now c.as_slice.result.now c.as_slice-2.result.now c.check_entries.result
-    (c.tables.ensures.exact table.rules value)
+    (g.met.S.Store.holds_bytes c.args.store.now) (c.tables.ensures.exact table.rules value)
     (c.tables.ensures.plies table.rules value (g.met.B.ExitBook.small c.args.book.now))
     c.rules.ensures.read c.in_ok-white.ensures.may_keep c.rules.ensures.rules
     c.as_slice.ensures.value c.as_slice-2.ensures.value c.check_entries.ensures.verdict
