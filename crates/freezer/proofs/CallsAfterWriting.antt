@@ -35,7 +35,7 @@ module _ (lawful : (later : ℕ → Files) (words : List (List ℕ))
         × (building_at rules table).means files built.input a
     building = of_names files built.input a built.done (building_at rules table)
         (bytes_eq rules table) built.answer
-        ((lawful before (build rules table)).means files built.input a built.answer)
+        ((lawful before (build rules table)).means files built.input a built.bytes built.answer)
 
     made : MakesTable rules table files a
     made =
@@ -52,11 +52,12 @@ module _ (lawful : (later : ℕ → Files) (words : List (List ℕ))
     queried_after later fen b h =
         let one = (lawful later (check table)).one a.files [] in
         let exact = headline lawful later table a.files one.0 (record {
+          bytes = h.bytes;
           input = [];
           answer = one.1;
           done = checked_after later [] one.0 one.1;
         }) in
-        queried lawful later table a.files exact b fen h
+        queried lawful later table a.files h.bytes exact b fen h
 
     pub solved_after : (later : ℕ → Files) (fen : List ℕ) (b : Answer)
         → Succeeds later (query table fen) a.files b → TellsSolvedBounds rules fen files b.text
@@ -94,7 +95,8 @@ module _ (lawful : (later : ℕ → Files) (words : List (List ℕ))
     chain_checked_after later input b answer =
         let at = of_names files chained.input a chained.done
         (chaining_at rules back table) (is_named_twice rules back table) chained.answer
-        ((lawful before (chain rules back table)).means files chained.input a chained.answer) in
+        ((lawful before (chain rules back table)).means files chained.input a chained.bytes
+        chained.answer) in
         accepted rules back table files chained.input input a b at.0 at.1 chained.done answer
 
     pub chain_queried_after : (later : ℕ → Files) (fen : List ℕ) (b : Answer)
@@ -103,6 +105,7 @@ module _ (lawful : (later : ℕ → Files) (words : List (List ℕ))
     chain_queried_after later fen b h =
         let one = (lawful later (chaincheck table back)).one a.files [] in
         let exact = chain_headline lawful later table back a.files one.0 (record {
+          bytes = h.bytes;
           input = [];
           answer = one.1;
           done = chain_checked_after later [] one.0 one.1;

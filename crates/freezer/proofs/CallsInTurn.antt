@@ -9,6 +9,7 @@ use Rattle.frz_fen.specs.Reading.{fen_of}
 use Rattle.frz_fen.specs.declared.fault.FenFault.{FenFault}
 use Rattle.frz_exits.specs.Books.{value_by}
 use Rattle.frz_index.specs.Members.{Member}
+use Rattle.frz_store.specs.Bytes.{HoldsBytes}
 use Rattle.frz_store.specs.Files.{Files}
 use Rattle.frz_table.specs.declared.kind.FileKind.TheVariants.{Plain, Chained}
 use Rattle.frz_table.specs.declared.fault.TableFault.{TableFault}
@@ -114,7 +115,7 @@ module _ (lawful : (later : ℕ → Files) (words : List (List ℕ))
       → Succeeds later (check table) files a → Headline table files
   headline later table files a h =
       let means : MeansCheck table files a = (lawful later (check table)).means files h.input a
-      h.answer in
+      h.bytes h.answer in
       let tells : TellsExact table files a.text =
       subst (λ (s : Status). checks.MeansStatus table files s a.text) h.done means.says in
       tells.exact
@@ -123,19 +124,19 @@ module _ (lawful : (later : ℕ → Files) (words : List (List ℕ))
       → Succeeds later (chaincheck table back) files a → ChainHeadline table back files
   chain_headline later table back files a h =
       let means : MeansChainCheck table back files a =
-      (lawful later (chaincheck table back)).means files h.input a h.answer in
+      (lawful later (chaincheck table back)).means files h.input a h.bytes h.answer in
       let tells : TellsExactOn table back files a.text =
       subst (λ (s : Status). chains.MeansStatus table back files s a.text) h.done means.says in
       tells.exact
 
   -- over an exact table
-  module _ (later : ℕ → Files) (table : List ℕ) (files : Files) (exact : Headline table files)
-      (b : Answer) where
+  module _ (later : ℕ → Files) (table : List ℕ) (files : Files) (are : HoldsBytes files)
+      (exact : Headline table files) (b : Answer) where
     pub queried : (fen : List ℕ) → Succeeds later (query table fen) files b
         → TellsTrueBounds table fen files b.text
     queried fen h =
         let at = at_position files h.input b h.done (querying_at Plain table) (fen_of fen)
-        h.answer ((lawful later (query table fen)).means files h.input b h.answer) in
+        h.answer ((lawful later (query table fen)).means files h.input b h.bytes h.answer) in
         let means : MeansQuery Plain table at.0 files b = at.2 in
         let kept : TellsKept Plain table at.0 files b.text =
         subst (λ (s : Status). queries.MeansStatus Plain table at.0 files s b.text) h.done
@@ -158,7 +159,7 @@ module _ (lawful : (later : ℕ → Files) (words : List (List ℕ))
         → Succeeds later (report table) files b → TellsTrueReport table files b.text
     reported white black h =
         let means : MeansReport table files b = (lawful later (report table)).means files h.input b
-        h.answer in
+        h.bytes h.answer in
         let tells : TellsReport table files b.text =
         subst (λ (s : Status). reports.MeansStatus table files s b.text) h.done means.says in
         let tables = headline_tables table files exact tells.bytes tells.contents tells.open_file in
@@ -210,7 +211,7 @@ module _ (lawful : (later : ℕ → Files) (words : List (List ℕ))
     queried_well fen input answer =
         of_position files input b (λ s. OneOf s (Success ∷ Fen ∷ Outside ∷ [])) refl
         (querying_at Plain table) (fen_of fen) answer
-        ((lawful later (query table fen)).means files input b answer)
+        ((lawful later (query table fen)).means files input b are answer)
         (λ p is means. query_status p b.status means.says)
 
     report_status : (s : Status) → reports.MeansStatus table files s b.text → s ≡ Success
@@ -223,7 +224,7 @@ module _ (lawful : (later : ℕ → Files) (words : List (List ℕ))
         → b.status ≡ Success
     reported_well input answer =
         let means : MeansReport table files b = (lawful later (report table)).means files input b
-        answer in
+        are answer in
         report_status b.status means.says
 
     module _ (stays : Stays table files later) where
@@ -266,7 +267,7 @@ module _ (lawful : (later : ℕ → Files) (words : List (List ℕ))
         lined h =
             let at = of_words files h.input b h.done (lining_at later table) (side_of word)
             (fen_of fen) h.answer
-            ((lawful later (line table fen word)).means files h.input b h.answer) in
+            ((lawful later (line table fen word)).means files h.input b h.bytes h.answer) in
             let means : MeansLine now table at.0 at.2 files b = at.4 in
             let tells : TellsLine now table at.0 at.2 files b.text =
             subst (λ (s : Status). lines.MeansStatus now table at.0 at.2 files s b.text) h.done
@@ -288,7 +289,7 @@ module _ (lawful : (later : ℕ → Files) (words : List (List ℕ))
         lined_well input answer =
             of_side files input b (λ s. OneOf s (Success ∷ Words ∷ Fen ∷ Outside ∷ [])) refl
             (λ c. on_position (lining_at later table c) (fen_of fen)) (side_of word) answer
-            ((lawful later (line table fen word)).means files input b answer)
+            ((lawful later (line table fen word)).means files input b are answer)
             (λ side named given meant.
             of_position files input b (λ s. OneOf s (Success ∷ Words ∷ Fen ∷ Outside ∷ [])) refl
             (lining_at later table side) (fen_of fen) given meant
@@ -299,7 +300,7 @@ module _ (lawful : (later : ℕ → Files) (words : List (List ℕ))
         played h =
             let at = of_words files h.input b h.done (playing_at later table) (side_of word)
             (fen_of fen) h.answer
-            ((lawful later (play table fen word)).means files h.input b h.answer) in
+            ((lawful later (play table fen word)).means files h.input b h.bytes h.answer) in
             let means : MeansPlay now table at.0 at.2 files h.input b = at.4 in
             let tells : TellsSession now table at.0 at.2 files h.input b.text =
             subst (λ (s : Status). sessions.MeansStatus now table at.0 at.2 files h.input s b.text)
@@ -323,7 +324,7 @@ module _ (lawful : (later : ℕ → Files) (words : List (List ℕ))
             of_side files input b
             (λ s. OneOf s (Success ∷ Words ∷ Fen ∷ Outside ∷ Limit ∷ [])) refl
             (λ c. on_position (playing_at later table c) (fen_of fen)) (side_of word) answer
-            ((lawful later (play table fen word)).means files input b answer)
+            ((lawful later (play table fen word)).means files input b are answer)
             (λ side named given meant.
             of_position files input b
             (λ s. OneOf s (Success ∷ Words ∷ Fen ∷ Outside ∷ Limit ∷ [])) refl
@@ -336,7 +337,7 @@ module _ (lawful : (later : ℕ → Files) (words : List (List ℕ))
       → TellsChainedBounds table back fen files b.text
   chain_queried later table back fen files b exact h =
       let at = at_position files h.input b h.done (querying_at Chained table) (fen_of fen)
-      h.answer ((lawful later (chainquery table fen)).means files h.input b h.answer)
+      h.answer ((lawful later (chainquery table fen)).means files h.input b h.bytes h.answer)
       in
       let means : MeansQuery Chained table at.0 files b = at.2 in
       let kept : TellsKept Chained table at.0 files b.text =

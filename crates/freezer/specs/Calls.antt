@@ -8,6 +8,7 @@ use Rattle.frz_fen.specs.Reading.{fen_of}
 use Rattle.frz_exits.specs.Books.{value_by}
 use Rattle.frz_game.specs.Values.{AreTrueExits}
 use Rattle.frz_index.specs.Members.{Member}
+use Rattle.frz_store.specs.Bytes.{HoldsBytes}
 use Rattle.frz_store.specs.Files.{Files}
 use Rattle.frz_check.specs.Kept.{kept_codes}
 use Rattle.frz_check.specs.KeptTables.{KeepsBound}
@@ -57,10 +58,11 @@ chaincheck table back = codes "chaincheck" ∷ table ∷ back ∷ []
 abbrev pub chainquery : (table fen : List ℕ) → List (List ℕ)
 chainquery table fen = codes "chainquery" ∷ table ∷ fen ∷ []
 
--- the call with these words, over these files and some input, gives this answer, and its status is
--- 0; where it reads a place again, it finds there what the store holds later
+-- the call with these words, over these files of bytes and some input, gives this answer, and its
+-- status is 0; where it reads a place again, it finds there what the store holds later
 pub record Succeeds (later : ℕ → Files) (words : List (List ℕ)) (files : Files)
     (a : Answer) : Type 0 where
+  pub bytes : HoldsBytes files
   pub input : List ℕ
   pub answer : (job_of later words).answers files input a
   pub done : a.status ≡ Success

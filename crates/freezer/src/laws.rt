@@ -9,8 +9,8 @@ pub mod calls;
 
 use frz_commands_line::laws::{one_line_answer, one_play_answer};
 
-/// Whatever the words are, and whatever the store holds later, there is one answer over any
-/// files and any input, and it means what it is to mean.
+/// Whatever the words are, and whatever the store holds later, there is one answer over any files
+/// and any input, and over files of bytes it means what it is to mean.
 pub fn one_answer()
     ensures { (later : ℕ → Files) (words : List (List ℕ)) → IsLawful (job_of later words) }
 {

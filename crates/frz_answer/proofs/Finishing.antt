@@ -3,6 +3,7 @@ use Rattle.std.proofs.Common.{◌≡◌, ◌≢◌, ◌⊎◌, inl, inr, refl, s
 use Rattle.std.specs.Prelude.{IfSome}
 use Rattle.std.specs.Option.{unwrap_or}
 use Rattle.std.specs.Io.KnownBytes.{append_known}
+use Rattle.frz_store.specs.Bytes.{HoldsBytes, MayBeHeld}
 use Rattle.frz_store.specs.Files.{Files, no_files}
 use Rattle.frz_answer.specs.declared.status.Status.{Status}
 use Rattle.frz_answer.specs.declared.status.Status.TheVariants as statuses
@@ -108,9 +109,18 @@ told_agrees : {A : Type 0} (o : Option A) (d : A) → IfSome o (λ m. m ≡ unwr
 told_agrees None d = tt
 told_agrees (Some x) d = refl
 
+files_told : (o : Option Files) → MayBeHeld o (unwrap_or o no_files)
+files_told None = λ name. tt
+files_told (Some m) = refl
+
 agrees_told : (w : World) → Agrees w (unwrap_or w.store.files no_files) (unwrap_or w.input.left [])
 agrees_told w =
-    record { store = told_agrees w.store.files no_files; source = told_agrees w.input.left [] }
+    record { store = files_told w.store.files; source = told_agrees w.input.left [] }
+
+-- files that may be held are bytes, where those that the store tells are
+held_are : (o : Option Files) (m : Files) → IfSome o HoldsBytes → MayBeHeld o m → HoldsBytes m
+held_are None m are may = may
+held_are (Some told) m are may = subst (λ (f : Files). HoldsBytes f) may are
 
 module _ (job : Job) (status : ℕ) (old mid : World) (out : SinkTold) where
   abbrev new : World
@@ -121,15 +131,17 @@ module _ (job : Job) (status : ℕ) (old mid : World) (out : SinkTold) where
   told_answer end ran = ran.answered _ _ (agrees_told old)
 
   abbrev answering : (end : End) (files : Files) (input : List ℕ)
-      → ((f : Files) (i : List ℕ) (a : Answer) → job.answers f i a → job.means f i a)
+      → IfSome old.store.files HoldsBytes
+      → ((f : Files) (i : List ℕ) (a : Answer) → HoldsBytes f → job.answers f i a → job.means f i a)
       → Answered job files input end old mid → Answering job old new
-  answering end files input law here = record {
+  answering end files input are law here = record {
     files = here.files;
     input = here.input;
     agrees = here.agrees;
     a = here.a;
     answer = here.answer;
-    meant = law here.files here.input here.a here.answer;
+    meant = law here.files here.input here.a
+        (held_are old.store.files here.files are here.agrees.store) here.answer;
     costs = here.costs;
   }
 
@@ -201,7 +213,8 @@ module _ (job : Job) (status : ℕ) (old mid : World) (out : SinkTold) where
         (h.1.taken ∙ ap (λ o. append_known o (fault_line met)) (ran.lines.1 quiet))
     alone (Stopped met) ran (inr h) fault e quiet = nine_fault fault status h.0 e
 
-    module _ (law : (f : Files) (i : List ℕ) (a : Answer) → job.answers f i a
+    module _ (are : IfSome old.store.files HoldsBytes)
+        (law : (f : Files) (i : List ℕ) (a : Answer) → HoldsBytes f → job.answers f i a
         → job.means f i a) where
       honest : (end : End) → Ran job end old mid → Gave end status mid.out out → (s : Status)
           → status ≡ code_of s → Whole job status old new
@@ -210,7 +223,7 @@ module _ (job : Job) (status : ℕ) (old mid : World) (out : SinkTold) where
           let files : Files = unwrap_or old.store.files no_files in
           let input : List ℕ = unwrap_or old.input.left [] in
           record {
-            of = answering (Done t) files input law here;
+            of = answering (Done t) files input are law here;
             status_is = gave.0 ∙ ap code_of (sym here.leaves.0);
             gives = record {
               files = here.leaves.1.files;
@@ -230,7 +243,7 @@ module _ (job : Job) (status : ℕ) (old mid : World) (out : SinkTold) where
           subst (λ f. Halted job f old new) (one_fault met fault status h.0 e)
           (let here = told_answer (Stopped met) ran in
           record {
-            of = answering (Stopped met) _ _ law here;
+            of = answering (Stopped met) _ _ are law here;
             begins = extend here.a (fault_line met) here.leaves h.1.taken;
           })
       halted (Stopped met) ran (inr h) fault e = nine_fault fault status h.0 e
@@ -240,7 +253,7 @@ module _ (job : Job) (status : ℕ) (old mid : World) (out : SinkTold) where
       cut (Done s) ran gave e = own_nine s status gave.0 e
       cut SinkFault ran gave e =
           let here = told_answer SinkFault ran in record {
-            of = answering SinkFault _ _ law here;
+            of = answering SinkFault _ _ are law here;
             cut = inl (record {
               written = here.leaves.written;
               rest = here.leaves.rest;
@@ -252,7 +265,7 @@ module _ (job : Job) (status : ℕ) (old mid : World) (out : SinkTold) where
       cut (Stopped met) ran (inl h) e = nine_fault met status e h.0
       cut (Stopped met) ran (inr h) e =
           let here = told_answer (Stopped met) ran in record {
-            of = answering (Stopped met) _ _ law here;
+            of = answering (Stopped met) _ _ are law here;
             cut = inr (
               met,
               meets_on met ran.may,
@@ -285,11 +298,11 @@ module _ (job : Job) (status : ℕ) (old mid : World) (out : SinkTold) where
   complete whole (inr (inr h)) no_store no_input no_out = absurd (no_out h.0)
 
   -- what the program gives, where the command ended so and the line of its fault was written
-  pub outcome : (end : End)
-      → ((f : Files) (i : List ℕ) (a : Answer) → job.answers f i a → job.means f i a)
+  pub outcome : (end : End) → IfSome old.store.files HoldsBytes
+      → ((f : Files) (i : List ℕ) (a : Answer) → HoldsBytes f → job.answers f i a → job.means f i a)
       → Ran job end old mid → Finished end status mid.out out
       → Outcome job status old (record mid { out = out })
-  outcome end law ran finished = record {
+  outcome end are law ran finished = record {
     later = record {
       store = ran.later.store;
       input = ran.later.input;
@@ -302,9 +315,9 @@ module _ (job : Job) (status : ℕ) (old mid : World) (out : SinkTold) where
     room = room end ran.room finished.gave;
     names = names finished.later end ran finished.gave;
     alone = alone finished.later end ran finished.gave;
-    honest = honest finished.later law end ran finished.gave;
-    halted = halted finished.later law end ran finished.gave;
-    cut = cut finished.later law end ran finished.gave;
-    complete = complete (honest finished.later law end ran finished.gave)
+    honest = honest finished.later are law end ran finished.gave;
+    halted = halted finished.later are law end ran finished.gave;
+    cut = cut finished.later are law end ran finished.gave;
+    complete = complete (honest finished.later are law end ran finished.gave)
         (can finished.later end ran finished.gave);
   }

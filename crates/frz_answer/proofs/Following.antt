@@ -5,6 +5,7 @@ use Rattle.std.specs.Option.{option_map}
 use Rattle.std.proofs.Math.Seq.{drop-append_seam}
 use Rattle.std.proofs.lemmas.List.{take-append-drop}
 use Rattle.std.specs.Io.KnownBytes.{append_known}
+use Rattle.frz_store.specs.Bytes.{MayBeHeld}
 use Rattle.frz_store.specs.Files.{Files}
 use Rattle.frz_answer.specs.declared.end.End.{End}
 use Rattle.frz_answer.specs.declared.end.End.TheVariants.{Done, SinkFault, Stopped}
@@ -151,7 +152,7 @@ module _ (part whole : Job) (text bytes : List ℕ) (old mid new : World)
         let here = follow files input agrees in
         let found = here.found in
         let fits : Agrees mid found.files here.rest = record {
-          store = subst (λ (o : Option Files). IfSome o (λ told. told ≡ found.files))
+          store = subst (λ (o : Option Files). MayBeHeld o found.files)
               (sym came.store.files) found.agrees.store;
           source = rest_told bytes here.rest old.input.left mid.input.left came.left
               (subst (λ (l : List ℕ). IfSome old.input.left (λ told. told ≡ l)) (sym here.split)
@@ -161,7 +162,7 @@ module _ (part whole : Job) (text bytes : List ℕ) (old mid new : World)
           files = given.files;
           input = bytes ++ given.input;
           agrees = record {
-            store = subst (λ (o : Option Files). IfSome o (λ told. told ≡ given.files))
+            store = subst (λ (o : Option Files). MayBeHeld o given.files)
                 came.store.files given.agrees.store;
             source = all_told bytes given.input old.input.left mid.input.left came.left came.took
                 given.agrees.source;

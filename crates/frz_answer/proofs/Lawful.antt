@@ -13,12 +13,12 @@ use Rattle.frz_answer.specs.Lawful.{HasOneAnswer, IsLawful}
 pub one_answer : (a : Answer) → HasOneAnswer (λ b. b ≡ a)
 one_answer a = (a, refl, λ b h. h)
 
--- a job of which no meaning is said
+-- a job whose answers mean this over any files
 pub said_job : (job : Job)
     → ((files : Files) (input : List ℕ) → HasOneAnswer (job.answers files input))
     → ((files : Files) (input : List ℕ) (a : Answer) → job.answers files input a
     → job.means files input a) → IsLawful job
-said_job job one means = record { one = one; means = means }
+said_job job one means = record { one = one; means = λ files input a are h. means files input a h }
 
 pub refused_lawful : (why : Refusal) → IsLawful (refusing why)
 refused_lawful why =

@@ -5,6 +5,8 @@ use Rattle.std.proofs.lemmas.List.{drop-drop}
 use Rattle.std.specs.Prelude.{IfSome}
 use Rattle.std.specs.Option.{option_map}
 use Rattle.std.specs.Io.KnownBytes.{append_known}
+use Rattle.frz_store.specs.Bytes.{MayBeHeld}
+use Rattle.frz_store.specs.Files.{Files}
 
 pub drop_none : (o : Option (List ℕ)) → o ≡ option_map (drop 0) o
 drop_none None = refl
@@ -64,7 +66,6 @@ behind_said [] ys said e = said e
 behind_said (x ∷ xs) ys said e = cc
 
 -- what is told, where it agrees
-pub agreed : {A : Type 0} (o : Option A) (x : A) → IfSome o (λ told. told ≡ x)
-    → o ≡ option_map (λ _. x) o
-agreed None x e = refl
-agreed {A} (Some told) x e = ap (λ (y : A). Some y) e
+pub agreed : (o : Option Files) (m : Files) → MayBeHeld o m → o ≡ option_map (λ _. m) o
+agreed None m e = refl
+agreed (Some told) m e = ap (λ (f : Files). Some f) e

@@ -3,6 +3,7 @@ use Rattle.std.proofs.Common.{◌≡◌, inr, refl, sym, ap, subst, ◌∙◌, �
 use Rattle.std.proofs.Math.Seq.{take-length}
 use Rattle.std.specs.Prelude.{IfSome, OnOk}
 use Rattle.std.specs.Option.{option_map}
+use Rattle.frz_store.specs.Bytes.{MayBeHeld}
 use Rattle.frz_store.specs.Files.{Files}
 use Rattle.frz_store.specs.Outside.{Rose, FreeCauses}
 use Rattle.frz_store.specs.Told.{StoreTold, SourceTold, SinkTold, Unwritten, StoreLater, StoreQuiet, StoreFine}
@@ -118,7 +119,7 @@ pub agrees_on : (old new : World) (files : Files) (input : List ℕ)
     → Agrees new files input
 agrees_on old new files input e f h =
     record {
-      store = told_on old.store.files new.store.files files e h.store;
+      store = subst (λ (o : Option Files). MayBeHeld o files) (sym e) h.store;
       source = told_on old.input.left new.input.left input f h.source;
     }
 

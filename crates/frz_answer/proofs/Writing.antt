@@ -3,7 +3,7 @@ use Rattle.std.proofs.Common.{◌≡◌, ◌≢◌, ◌⊎◌, inl, inr, refl, s
 use Rattle.std.proofs.lemmas.Slice.Eq.{bytes_eq-Decides}
 use Rattle.std.specs.Str.{bytes_eq}
 use Rattle.std.specs.Option.{option_map}
-use Rattle.std.specs.Prelude.{IfSome}
+use Rattle.frz_store.specs.Bytes.{MayBeHeld}
 use Rattle.frz_store.specs.Files.{Files, put}
 use Rattle.frz_store.specs.Told.{StoreTold}
 use Rattle.frz_store.specs.Writes.{WrotePart}
@@ -69,7 +69,7 @@ part_given name whole m old new a given h q = by_files h.files
     by_files (inr e) = by_name e.0 (bytes_eq name q) refl e.1
 
 -- all of it was written
-pub whole_given : (name whole : List ℕ) (m : Files) (o : Option Files) → IfSome o (λ told. told ≡ m)
+pub whole_given : (name whole : List ℕ) (m : Files) (o : Option Files) → MayBeHeld o m
     → option_map (λ told. put told name whole) o ≡ option_map (λ _. put m name whole) o
 whole_given name whole m None e = refl
 whole_given name whole m (Some told) e = ap (λ (f : Files). Some (put f name whole)) e

@@ -1,5 +1,6 @@
 -- What is proved of the answers of each job.
 use Rattle.std.specs.Prelude.{◌≡◌, ℕ, List}
+use Rattle.frz_store.specs.Bytes.{HoldsBytes}
 use Rattle.frz_store.specs.Files.{Files}
 use Rattle.frz_answer.specs.Answers.{Answer}
 use Rattle.frz_answer.specs.Jobs.{Job}
@@ -8,8 +9,9 @@ use Rattle.frz_answer.specs.Jobs.{Job}
 abbrev pub HasOneAnswer : (Answer → Type 0) → Type 0
 HasOneAnswer R = (a : Answer) × R a × ((b : Answer) → R b → b ≡ a)
 
--- over any files and any input there is one answer, and it means what it is to mean
+-- over any files and any input there is one answer, and over files of bytes, which all files are,
+-- it means what it is to mean
 pub record IsLawful (job : Job) : Type 0 where
   pub one : (files : Files) (input : List ℕ) → HasOneAnswer (job.answers files input)
-  pub means : (files : Files) (input : List ℕ) (a : Answer) → job.answers files input a →
-      job.means files input a
+  pub means : (files : Files) (input : List ℕ) (a : Answer) → HoldsBytes files →
+      job.answers files input a → job.means files input a

@@ -2,6 +2,7 @@
 use Rattle.std.specs.Prelude.{◌≡◌, ℕ, ◌≤◌, List, length, take, drop, IfSome}
 use Rattle.std.specs.Option.{option_map}
 use Rattle.std.specs.Io.KnownBytes.{append_known}
+use Rattle.frz_store.specs.Bytes.{MayBeHeld}
 use Rattle.frz_store.specs.Files.{Files}
 use Rattle.frz_store.specs.Told.{StoreTold, SourceTold, SinkTold, store_of, source_of, sink_of, Unwritten, StoreLater, StoreFine}
 use Rattle.frz_store.specs.declared.outside.Store.{Ghosts as StoreGhosts}
@@ -36,9 +37,9 @@ abbrev pub spent : World → Spent
 spent w = spent_by w.store w.steps
 
 -- these may be what the store holds and what the input has left: where the objects tell, it is what
--- they tell
+-- they tell; where the store does not, any files of bytes
 pub record Agrees (w : World) (files : Files) (input : List ℕ) : Type 0 where
-  pub store : IfSome w.store.files (λ told. told ≡ files)
+  pub store : MayBeHeld w.store.files files
   pub source : IfSome w.input.left (λ told. told ≡ input)
 
 -- no count has fallen

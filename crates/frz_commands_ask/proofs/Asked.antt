@@ -1,6 +1,6 @@
 -- What `solve` finds where it has read its rules file, and how it ends where something stopped it.
 use Rattle.std.proofs.Common.{◌≡◌, refl, sym, subst, ℕ, List, [], ◌∷◌, Option, Err, arith}
-use Rattle.std.specs.Prelude.{IfSome}
+use Rattle.frz_store.specs.Bytes.{MayBeHeld}
 use Rattle.frz_store.specs.Files.{Files}
 use Rattle.frz_store.specs.Told.{StoreTold, SourceTold, SinkTold}
 use Rattle.frz_answer.specs.declared.fault.Fault.{Fault as Faults}
@@ -27,7 +27,7 @@ use Rattle.frz_commands_ask.proofs.Solved.{some_solved_at, some_solved_by, is_re
 -- the files over which it answers
 abbrev pub found_rules : (rules : List ℕ) (p : Board) (m files : Files) (input : List ℕ)
     (old : World)
-    → IfSome old.store.files (λ told. told ≡ m) → Agrees old files input
+    → MayBeHeld old.store.files m → Agrees old files input
     → Found (solving_at rules p) files input old
 found_rules rules p m files input old there agrees = record {
   files = m;

@@ -20,9 +20,10 @@ use Rattle.frz_table.specs.declared.fault.TableFault.TheVariants.{Missing, Magic
 use Rattle.frz_table.specs.declared.kind.FileKind.{FileKind}
 use Rattle.frz_table.specs.Layout.{magic_of, file_of, codes_at}
 use Rattle.frz_table.specs.Opening.{Contents, contents_of, opened, Refuses, table_format}
-use Rattle.frz_table.specs.Possible.{MayOpen, MayRefuse, held_text}
+use Rattle.frz_table.specs.Numbers.{AreBytes}
+use Rattle.frz_table.specs.Possible.{MayHold, MayOpen, MayRefuse, held_text}
 use Rattle.frz_table.specs.Tables.{Table, table_size}
-use Rattle.frz_table.proofs.Lemmas.{belongs, magic_long, opened_calls, opens_by, same_held, text_kept, written_belongs, written_is_loaded}
+use Rattle.frz_table.proofs.Lemmas.{belongs, file_bytes, magic_bytes, magic_long, opened_calls, opens_by, text_bytes, text_kept, written_belongs, written_is_loaded}
 use Rattle.frz_prelude.specs.Stops.{Answers, stop_of_table}
 use Rattle.frz_prelude.specs.declared.refused.Refused.{Refused as Refusal}
 use Rattle.frz_prelude.specs.declared.refused.Refused.TheVariants as refusals
@@ -49,7 +50,7 @@ record WithinKept (kind : FileKind) (p : Board) (held : Option (List ℕ))
 -- what a name gives that holds this
 module _ (kind : FileKind) (p : Board) (name : List ℕ) (old new : StoreTold) where
   kept_where : (result : Result KeptCodes Stop) (held : Option (List ℕ))
-      → IfSome old.files (λ m. m name ≡ held)
+      → MayHold old.files name held
       → Answers result (kept_of kind p held) → WithinKept kind p held old new
       → IsKept kind p name result old new
   kept_where result held there due within =
@@ -85,7 +86,7 @@ module _ (kind : FileKind) (p : Board) (name : List ℕ) (old new : StoreTold) w
   pub refused_kept : (fault : TableFault) (stop : Stop) → stop ≡ stop_of_table fault
       → MayRefuse (table_format kind) name old new fault → IsKept kind p name (Err stop) old new
   refused_kept fault stop is may =
-      kept_where (Err stop) may.held (same_held old.files name may.held may.may)
+      kept_where (Err stop) may.held may.may
       (subst (λ (s : Stop). Answers {A = KeptCodes} (Err s) (kept_of kind p may.held)) (sym is)
       (refused_due may.held fault may.refuses))
       (record {
@@ -132,6 +133,7 @@ module _ (kind : FileKind) (contents : Contents) (bytes : List ℕ) (p : Board)
 pub record KeepsCodes (kind : FileKind) (contents : Contents) (p : Board)
     (codes : KeptCodes) : Type 0 where
   pub bytes : List ℕ
+  pub are_bytes : AreBytes bytes
   pub opens : opened (table_format kind) (Some bytes) ≡ Ok contents
   pub white : kept_at White contents bytes p ≡ codes.white
   pub black : kept_at Black contents bytes p ≡ codes.black
@@ -141,11 +143,11 @@ small_codes zero code small i = lit< tt
 small_codes (suc n) code small zero = small
 small_codes (suc n) code small (suc i) = small_codes n code small i
 
-pub some_file : (kind : FileKind) (contents : Contents) (other : List ℕ)
+pub some_file : (kind : FileKind) (contents : Contents) (other : List ℕ) → AreBytes other
     → opened (table_format kind) (Some other) ≡ Ok contents → (p : Board)
     → Member contents.rules.groups p → (codes : KeptCodes) → codes.white < 2 ^ 32
     → codes.black < 2 ^ 32 → KeepsCodes kind contents p codes
-some_file kind contents other opens p inside codes white_small black_small =
+some_file kind contents other are opens p inside codes white_small black_small =
     let text : List ℕ = contents.text in
     let size : ℕ = size_of contents.rules.groups in
     let magic : List ℕ = magic_of kind in
@@ -164,6 +166,8 @@ some_file kind contents other opens p inside codes white_small black_small =
     let below = Num_below contents.rules.groups p inside in
     record {
       bytes = file_of magic text size white black;
+      are_bytes = file_bytes magic text size white black (magic_bytes kind)
+          (text_bytes magic text size other known.file are);
       opens = opens_by (table_format kind) (file_of magic text size white black) contents
           (record { file = file; short = short; read = known.read });
       white = ap (λ (l : List ℕ). slice_index l (Num contents.rules.groups p)) loaded.0
@@ -233,15 +237,15 @@ module _ (kind : FileKind) (table : Table) (p : Board) (name : List ℕ) (old ne
       (at_name (λ bytes. kept_at Black (contents_of table) bytes p ≡ codes.black) m may.bytes
       may.may kept.black) in
       kept_where kind p name old new (Ok codes) (Some may.bytes)
-      (subst (λ (o : Option Files). IfSome o (λ f. f name ≡ Some may.bytes)) (sym e) may.may)
+      (subst (λ (o : Option Files). MayHold o name (Some may.bytes)) (sym e) may.may)
       gives (with_codes may.bytes may.opens codes gives)
   codes_kept None e may codes kept =
-      let file = some_file kind (contents_of table) may.bytes may.opens p kept.inside codes
+      let file = some_file kind (contents_of table) may.bytes may.may may.opens p kept.inside codes
       kept.white_small kept.black_small in
       let gives = gives_codes kind (contents_of table) file.bytes p file.opens codes kept.inside
       file.white file.black in
       kept_where kind p name old new (Ok codes) (Some file.bytes)
-      (subst (λ (o : Option Files). IfSome o (λ f. f name ≡ Some file.bytes)) (sym e) tt)
+      (subst (λ (o : Option Files). MayHold o name (Some file.bytes)) (sym e) file.are_bytes)
       gives (with_codes file.bytes file.opens codes gives)
 
   pub opened_kept : MayOpen (table_format kind) old.files name (contents_of table)
@@ -250,13 +254,13 @@ module _ (kind : FileKind) (table : Table) (p : Board) (name : List ℕ) (old ne
   opened_kept may (Ok codes) kept = codes_kept old.files refl may codes kept
   opened_kept may (Err (Refused why)) kept =
       kept_where kind p name old new (Err (Refused why)) (Some may.bytes)
-      (same_held old.files name (Some may.bytes) may.may)
+      may.may
       (gives_outside kind (contents_of table) may.bytes p may.opens kept.0
       ∙ ap (λ (w : Refusal). Err w) (sym kept.1))
       (with_none may.bytes may.opens kept.0)
   opened_kept may (Err (Fault fault)) kept =
       kept_where kind p name old new (Err (Fault fault)) (Some may.bytes)
-      (same_held old.files name (Some may.bytes) may.may) tt
+      may.may tt
       (by_place may.bytes may.opens (is_member table.rules.groups p) refl)
 
 -- what was read in place is the code that the file keeps at the position

@@ -96,7 +96,7 @@ querying_lawful : (kind : FileKind) (table : List ℕ) (p : Board)
     → IsLawful (querying_at kind table p)
 querying_lawful kind table p = record {
   one = λ files input. one_answer (answer_by (kept_of kind p (files table)) files);
-  means = λ files input a h. query_means kind table p files a h;
+  means = λ files input a are h. query_means kind table p files a h;
 }
 
 querying_words_lawful : (kind : FileKind) (words : List (List ℕ))

@@ -13,7 +13,7 @@ use Rattle.frz_table.specs.Layout.{pieces_of}
 use Rattle.frz_table.specs.Opening.{Contents, contents_of, opened, table_format}
 use Rattle.frz_table.specs.Possible.{MayHold, MayOpen, MayRefuse}
 use Rattle.frz_table.specs.Tables.{Table, IsFileOf, table_size}
-use Rattle.frz_table.proofs.Lemmas.{belongs, fine_after, quiet_after, same_held}
+use Rattle.frz_table.proofs.Lemmas.{belongs, fine_after, quiet_after}
 use Rattle.frz_rules.specs.Text.{rules_of}
 use Rattle.frz_check.specs.Kept.{kept_codes, WithinFile}
 use Rattle.frz_check.proofs.Lemmas.{file_opens, within_file}
@@ -81,8 +81,7 @@ given_by : (name : List ℕ) (contents : Contents) (bytes : List ℕ) (files : F
     → FileSeen name old.store new.store old.steps new.steps contents bytes
     → GivenBy name contents bytes files input old new
 given_by name contents bytes files input old new agrees seen =
-    let at = holding old.store.files name (Some bytes)
-    (same_held old.store.files name (Some bytes) seen.may) in record {
+    let at = holding old.store.files name (Some bytes) seen.may in record {
       found = found_where (reporting_at name) at.files files input old (λ e. cc) at.agrees agrees;
       answer = sym
           (ap (λ (h : Option (List ℕ)). report_by (opened (table_format Plain) h) (unwrap_or h [])
@@ -292,7 +291,7 @@ module _ (name : List ℕ) (files : Files) (input : List ℕ) (old new : World)
   refused_so : opened (table_format Plain) h.held ≡ Err fault
       → SaysAll (reporting_at name) (table_status fault) (table_line fault) files input old new
   refused_so e =
-      let at = holding old.store.files name h.held (same_held old.store.files name h.held h.may) in
+      let at = holding old.store.files name h.held h.may in
       record {
         found = found_where (reporting_at name) at.files files input old (λ x. cc) at.agrees agrees;
         answer = sym
@@ -306,7 +305,7 @@ module _ (name : List ℕ) (files : Files) (input : List ℕ) (old new : World)
 
   begun_so : Begun (reporting_at name) files input old new
   begun_so =
-      let at = holding old.store.files name h.held (same_held old.store.files name h.held h.may) in
+      let at = holding old.store.files name h.held h.may in
       record {
         found = found_where (reporting_at name) at.files files input old (λ x. cc) at.agrees agrees;
         some = some_at name at.files;
@@ -322,7 +321,7 @@ module _ (name : List ℕ) (files : Files) (input : List ℕ) (old new : World)
 reporting_lawful : (table : List ℕ) → IsLawful (reporting_at table)
 reporting_lawful table = record {
   one = λ files input. one_answer (report_at table files);
-  means = λ files input a h. report_means table files a h;
+  means = λ files input a are h. report_means table files a h;
 }
 
 pub report_lawful : (words : List (List ℕ)) → IsLawful (report_words words)

@@ -68,7 +68,7 @@ solving_lawful : (rules : List ℕ) (p : Board) → IsLawful (solving_at rules p
 solving_lawful rules p =
     record {
       one = λ files input. one_solved p rules files;
-      means = λ files input a h. solve_means rules p files a h;
+      means = λ files input a are h. solve_means rules p files a h;
     }
 
 pub solve_lawful : (words : List (List ℕ)) → IsLawful (solve_words words)

@@ -7,6 +7,7 @@ use Rattle.frz_board.specs.declared.man.Colour.TheVariants.{White, Black}
 use Rattle.frz_board.specs.Boards.{Board}
 use Rattle.frz_index.specs.Members.{Member, Num}
 use Rattle.frz_game.specs.Numbers.{is_member}
+use Rattle.frz_store.specs.Bytes.{MayBeHeld}
 use Rattle.frz_store.specs.Files.{Files}
 use Rattle.frz_store.specs.Told.{StoreTold}
 use Rattle.frz_table.specs.declared.fault.TableFault.{TableFault}
@@ -88,12 +89,12 @@ IsKeptIn table p told (Err (stops.Refused why)) =
     (Member table.rules.groups p → ⊥) × (why ≡ refusals.Outside)
 IsKeptIn table p told (Err (stops.Fault fault)) = ⊤
 
--- the answer is that of the name in some files, which are those that the store tells where it does,
--- and no more was asked of the store, in no more calls, than these files take
+-- the answer is that of the name in some files of bytes, which are those that the store tells where
+-- it does, and no more was asked of the store, in no more calls, than these files take
 pub record IsKept (kind : FileKind) (p : Board) (name : List ℕ) (result : Result KeptCodes Stop)
     (old new : StoreTold) : Type 0 where
   pub files : Files
-  pub agrees : IfSome old.files (λ told. told ≡ files)
+  pub agrees : MayBeHeld old.files files
   pub due : Answers result (kept_of kind p (files name))
   pub asked : new.asked ≤ old.asked + keeping_bytes kind p (files name)
   pub calls : new.calls ≤ old.calls + keeping_calls kind p (files name)

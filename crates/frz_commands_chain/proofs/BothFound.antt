@@ -7,7 +7,6 @@ use Rattle.frz_table.specs.declared.fault.TableFault.{TableFault}
 use Rattle.frz_table.specs.declared.kind.FileKind.TheVariants.{Plain}
 use Rattle.frz_table.specs.Opening.{opened, table_format}
 use Rattle.frz_table.specs.Possible.{MayHold}
-use Rattle.frz_table.proofs.Lemmas.{same_held}
 use Rattle.frz_chain.specs.Backs.{HasWrong, IsRefusedBack, OpensBack, RefusesBack}
 use Rattle.frz_chain.specs.Chains.{bytes_of_back, calls_of_back, steps_of_back}
 use Rattle.frz_chain.specs.FileOn.{loaded_back}
@@ -90,8 +89,7 @@ module _ (rules back : List ℕ) (read : RulesText) (old mid new : StoreTold) (b
   both back_held may =
       hold_both old.files rules back (there.files rules) back_held differ
       (agreed_at old.files there.files rules there.agrees)
-      (same_held old.files back back_held
-      (subst (λ (o : Option Files). MayHold o back back_held) same may))
+      (subst (λ (o : Option Files). MayHold o back back_held) same may)
 
   has_rules : (m : Files) → m rules ≡ there.files rules → HasRules (m rules)
   has_rules m e = (read.rules, ap rules_held (e ∙ there.due.0) ∙ ap or_fault there.due.1)

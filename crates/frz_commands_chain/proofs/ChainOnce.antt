@@ -221,7 +221,7 @@ at_lawful : (rules back table : List ℕ) → IsLawful (chaining_at rules back t
 at_lawful rules back table =
     record {
       one = λ files input. one_chained rules back table files;
-      means = λ files input a h. means_so rules back table files a h;
+      means = λ files input a are h. means_so rules back table files a h;
     }
 
 pub chain_lawful : (words : List (List ℕ)) → IsLawful (chain_words words)

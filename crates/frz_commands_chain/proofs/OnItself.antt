@@ -10,7 +10,7 @@ use Rattle.frz_table.specs.declared.kind.FileKind.TheVariants.{Plain, Chained}
 use Rattle.frz_table.specs.Faults.{TableCauses}
 use Rattle.frz_table.specs.Opening.{Contents, Refuses, opened, opening_calls, table_format, with_length, with_magic}
 use Rattle.frz_table.specs.Possible.{MayOpen, MayRefuse, held_text}
-use Rattle.frz_table.proofs.Lemmas.{belongs, opened_calls, same_held, text_kept}
+use Rattle.frz_table.proofs.Lemmas.{belongs, opened_calls, text_kept}
 use Rattle.frz_answer.specs.declared.end.End.{End}
 use Rattle.frz_answer.specs.declared.status.Status.TheVariants.{Success, Wrong, Table, Missing}
 use Rattle.frz_answer.specs.Ends.{Ran}
@@ -65,7 +65,7 @@ module _ (table : List ℕ) (files : Files) (input : List ℕ) (old new : World)
       (refusal_line (refusals.Back Magic)) files input old new
   opened_alone contents may asked calls =
       let held = Some may.bytes in
-      let at = holding old.store.files table held (same_held old.store.files table held may.may) in
+      let at = holding old.store.files table held may.may in
       let text : held_text held ≡ contents.text = text_kept _ _ _ may.bytes
       (belongs (table_format Chained) may.bytes contents may.opens).file in
       let five = opened_calls (table_format Chained) may.bytes contents may.opens in
@@ -89,8 +89,7 @@ module _ (table : List ℕ) (files : Files) (input : List ℕ) (old new : World)
       → MayRefuse (table_format Chained) table old.store new.store fault
       → StopsWith (checking_pair table table) (stop_of_table fault) files input old new
   stopped_alone fault may =
-      let at = holding old.store.files table may.held
-      (same_held old.store.files table may.held may.may) in
+      let at = holding old.store.files table may.held may.may in
       let found = found_where (checking_pair table table) at.files files input old (λ e. cc)
       at.agrees agrees in
       let costs = within at.files may.held at.holds may.asked may.calls in

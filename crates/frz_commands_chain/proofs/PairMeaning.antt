@@ -1,5 +1,5 @@
 -- What the answers of `chaincheck` mean.
-use Rattle.std.proofs.Common.{Some, ◌≡◌, refl, sym, ap, subst, ℕ, List, Option, Ok}
+use Rattle.std.proofs.Common.{IfSome, Some, ◌≡◌, refl, sym, ap, subst, ℕ, List, Option, Ok}
 use Rattle.frz_board.specs.declared.man.Colour.TheVariants.{White, Black}
 use Rattle.frz_exits.specs.Books.{value_by}
 use Rattle.frz_game.proofs.Lemmas.{plies_few, table_means, table_exactly}
@@ -7,6 +7,7 @@ use Rattle.frz_rules.specs.Text.{rules_of}
 use Rattle.frz_rules.proofs.Lemmas.{text_sound}
 use Rattle.frz_sets.specs.Sets.{size_of}
 use Rattle.frz_sets.specs.Views.{RuleLines}
+use Rattle.frz_store.specs.Bytes.{AreBytes, HoldsBytes}
 use Rattle.frz_store.specs.Files.{Files}
 use Rattle.frz_table.specs.declared.fault.TableFault.{TableFault}
 use Rattle.frz_table.specs.declared.kind.FileKind.TheVariants.{Plain, Chained}
@@ -41,7 +42,7 @@ exact_back : (held : Option (List ℕ)) (back : Back) → (h : IsBackIn held bac
     → IsExactBack h.contents.rules (value_by h.contents.rules) back
 exact_back held back h =
     subst (λ (b : Back). IsExactBack h.contents.rules (value_by h.contents.rules) b) (sym h.keeps)
-    (record { set = refl; white = h.judged.told.codes White; black = h.judged.told.codes Black })
+    (record { set = refl; white = h.judged.codes White; black = h.judged.codes Black })
 
 -- the one file of a text over a back table is exact
 pub judged_on : (held back_held : Option (List ℕ)) (bytes text : List ℕ) (rules : RuleLines)
@@ -63,7 +64,11 @@ judged_on held back_held bytes text rules behind there back_there read one =
           (plies_few rules value (chain_small rules behind sound)) read one;
     }
 
-module _ (table back : List ℕ) (files : Files) where
+module _ (table back : List ℕ) (files : Files) (are : HoldsBytes files) where
+  are_bytes : (name bytes : List ℕ) → files name ≡ Some bytes → AreBytes bytes
+  are_bytes name bytes there =
+      subst (λ (o : Option (List ℕ)). IfSome o AreBytes) there (are name)
+
   -- both tables are exact
   abbrev headline : IsJudgedPair (files table) (files back) verdict.Exact
       → ChainHeadline table back files
@@ -84,7 +89,7 @@ module _ (table back : List ℕ) (files : Files) where
         behind = h.behind;
         behind_is = sym k.keeps;
         back_exact = exact;
-        back_one_file = λ are. (k.judged.told.one_file are).0 refl;
+        back_one_file = (k.judged.told (are_bytes back k.bytes k.there)).one_file.0 refl;
         bytes = h.bytes;
         there = h.there;
         text = h.contents.text;
@@ -97,7 +102,8 @@ module _ (table back : List ℕ) (files : Files) where
         black_is = refl;
         white_table = h.judged White;
         black_table = h.judged Black;
-        one_file = λ are. tables_are_one Chained value h.contents h.bytes are h.opens h.judged;
+        one_file = tables_are_one Chained value h.contents h.bytes
+            (are_bytes table h.bytes h.there) h.opens h.judged;
         white_means =
             table_means rules value White (kept_codes h.contents h.bytes White) (h.judged White);
         black_means =
@@ -186,7 +192,7 @@ pair_lawful : (table back : List ℕ) → IsLawful (checking_pair table back)
 pair_lawful table back =
     record {
       one = λ files input. one_pair table back files;
-      means = λ files input a h. pair_means table back files a h;
+      means = λ files input a are h. pair_means table back files are a h;
     }
 
 pub chaincheck_lawful : (words : List (List ℕ)) → IsLawful (chaincheck_words words)

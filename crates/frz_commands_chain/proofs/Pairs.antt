@@ -3,7 +3,6 @@ use Rattle.std.proofs.Common.{◌≡◌, false, refl, sym, subst, ℕ, List, [],
 use Rattle.std.specs.Str.{bytes_eq}
 use Rattle.frz_store.specs.Files.{Files}
 use Rattle.frz_table.specs.Possible.{MayHold}
-use Rattle.frz_table.proofs.Lemmas.{same_held}
 use Rattle.frz_sets.specs.Sets.{size_of}
 use Rattle.frz_check.specs.declared.verdict.Verdict.{Verdict}
 use Rattle.frz_check.specs.declared.verdict.Verdict.TheVariants as verdict
@@ -69,9 +68,7 @@ module _ (table back : List ℕ) (files : Files) (input : List ℕ) (old new : W
       → MayHold old.store.files back back_held
       → HoldBoth old.store.files table back held back_held
   both held back_held may back_may =
-      hold_both old.store.files table back held back_held differ
-      (same_held old.store.files table held may)
-      (same_held old.store.files back back_held back_may)
+      hold_both old.store.files table back held back_held differ may back_may
 
   -- the verdict was told
   pub judged_so : (v : ChainVerdict)

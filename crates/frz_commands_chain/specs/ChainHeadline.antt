@@ -13,7 +13,6 @@ use Rattle.frz_sets.specs.Views.{RuleLines}
 use Rattle.frz_store.specs.Files.{Files}
 use Rattle.frz_table.specs.declared.kind.FileKind.TheVariants.{Plain, Chained}
 use Rattle.frz_table.specs.Layout.{codes_at, magic_of}
-use Rattle.frz_table.specs.Numbers.{AreBytes}
 use Rattle.frz_table.specs.Tables.{IsTableFile}
 use Rattle.frz_check.specs.OneFile.{IsOneFile}
 use Rattle.frz_chain.specs.Books.{Back, back_with, chain_value}
@@ -34,7 +33,7 @@ pub record ChainHeadline (table back : List ℕ) (files : Files) : Type 0 where
       (codes_at White back_text (size_of back_rules.groups) back_bytes)
       (codes_at Black back_text (size_of back_rules.groups) back_bytes) ≡ behind
   pub back_exact : IsExactBack back_rules (value_by back_rules) behind
-  pub back_one_file : AreBytes back_bytes →
+  pub back_one_file :
       IsOneFile (magic_of Plain) back_text back_rules (value_by back_rules) back_bytes
   -- TABLE holds a text that is accepted, and behind it the tables of both sides, with the values of
   -- its exit lines and of BACK behind them
@@ -50,7 +49,7 @@ pub record ChainHeadline (table back : List ℕ) (files : Files) : Type 0 where
   pub black_is : codes_at Black text (size_of rules.groups) bytes ≡ black
   pub white_table : IsTableOf rules (chain_value rules behind) White white
   pub black_table : IsTableOf rules (chain_value rules behind) Black black
-  pub one_file : AreBytes bytes → IsFileOn text rules behind bytes
+  pub one_file : IsFileOn text rules behind bytes
   -- a win forces mate or an assigned win within its plies; where the exits are true it forces mate,
   -- and with a win or a hold the opponent forces none
   pub white_means : TableMeans rules (chain_value rules behind) White white

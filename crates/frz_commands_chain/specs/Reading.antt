@@ -1,6 +1,7 @@
 -- What `chain` reads: the rules file, and then the back table.
-use Rattle.std.specs.Prelude.{◌≡◌, ◌≤◌, ◌+◌, ℕ, List, Option, IfSome, Result, Ok, Err, ⊤}
+use Rattle.std.specs.Prelude.{◌≡◌, ◌≤◌, ◌+◌, ℕ, List, Option, Result, Ok, Err, ⊤}
 use Rattle.frz_sets.specs.Views.{RuleLines}
+use Rattle.frz_store.specs.Bytes.{MayBeHeld}
 use Rattle.frz_store.specs.Files.{Files}
 use Rattle.frz_store.specs.Told.{StoreTold}
 use Rattle.frz_table.specs.declared.kind.FileKind.TheVariants.{Plain}
@@ -67,7 +68,7 @@ reading_calls held back_held =
 pub record AreBothRead (rules back : List ℕ) (result : Result BothRead Stop) (old new : StoreTold)
     (steps_before steps_now : ℕ) : Type 0 where
   pub files : Files
-  pub agrees : IfSome old.files (λ told. told ≡ files)
+  pub agrees : MayBeHeld old.files files
   pub due : GivesBoth (files rules) (files back) result
   pub steps : steps_now ≤ steps_before + reading_steps (files rules) (files back)
   pub asked : new.asked ≤ old.asked + reading_bytes (files rules) (files back)

@@ -1,32 +1,26 @@
 -- What a store may have held when it was asked again.
-use Rattle.std.proofs.Common.{◌≡◌, refl, sym, subst, ap, ◌∙◌, ℕ, zero, suc, ◌<◌, ◌^◌, List, [], length, Option, Some, None, IfSome, Ok, arith}
+use Rattle.std.proofs.Common.{◌≡◌, refl, sym, subst, ap, ◌∙◌, ℕ, zero, suc, ◌<◌, ◌^◌, List, [], length, Option, Some, None, Ok, arith}
 use Rattle.std.specs.Prelude.{IsSomeAnd}
 use Rattle.std.specs.Option.{option_map, unwrap_or}
 use Rattle.frz_board.specs.declared.man.Colour.{Colour}
 use Rattle.frz_board.specs.declared.man.Colour.TheVariants.{White, Black}
 use Rattle.frz_store.specs.Files.{Files, bytes_at, no_files, put}
-use Rattle.frz_store.proofs.Lemmas.{put-same}
+use Rattle.frz_store.proofs.Lemmas.{put_bytes, put-same}
 use Rattle.frz_rules.proofs.Lemmas.{text_sound}
 use Rattle.frz_table.specs.declared.kind.FileKind.TheVariants.{Plain}
 use Rattle.frz_table.specs.Layout.{codes_at, file_of, magic_of}
-use Rattle.frz_table.specs.Numbers.{AreNumbers}
+use Rattle.frz_table.specs.Numbers.{AreBytes, AreNumbers}
 use Rattle.frz_table.specs.Opening.{contents_of, opened, table_format}
 use Rattle.frz_table.specs.Possible.{MayOpen}
 use Rattle.frz_table.specs.Tables.{Table, Carries, IsFileOf, table_size}
-use Rattle.frz_table.proofs.Lemmas.{belongs, magic_long, opens_by, written_belongs, written_is_loaded}
+use Rattle.frz_table.proofs.Lemmas.{belongs, file_bytes, magic_bytes, text_bytes, magic_long, opens_by, written_belongs, written_is_loaded}
 use Rattle.frz_line.specs.Kept.{told_codes, MayRead}
 use Rattle.frz_commands_line.specs.Later.{MayBeLater, OpensAtStart, from_opening, held_later}
 
 -- something that it may have held
 pub any_later : (told : Option Files) → (later : ℕ → Files) × MayBeLater told later
-any_later None = (λ k. no_files, tt)
+any_later None = (λ k. no_files, λ k q. tt)
 any_later (Some m) = (λ k. m, λ k. refl)
-
--- where the store tells, it is what is told at ply 0 too
-pub told_first : (told : Option Files) (later : ℕ → Files) → MayBeLater told later
-    → IfSome told (λ m. m ≡ later 0)
-told_first None later may = tt
-told_first (Some m) later may = sym (may 0)
 
 -- it is the same from an opening in what was held at ply 0
 pub as_opened : (later : ℕ → Files) (files : Files) → files ≡ later 0
@@ -43,7 +37,7 @@ pub opening_later : (told : Option Files) (table : Table)
     → (later : ℕ → Files) × MayBeLater told later × OpensAtStart later table
 opening_later None table may = (
   λ k. put no_files table.name may.bytes,
-  tt,
+  λ k. put_bytes no_files table.name may.bytes (λ q. tt) may.may,
   ap (opened (table_format Plain)) (put-same no_files table.name may.bytes) ∙ may.opens,
 )
 opening_later (Some m) table may =
@@ -109,9 +103,14 @@ pub held_codes : (told : Option Files) (table : Table) (side : Colour) (read : �
 held_codes None table side read carried opens may =
     let file : ℕ → List ℕ = λ k. file_of (magic_of Plain) table.text (table_size table)
     (read k) (read k) in
+    let text_are : AreBytes table.text = text_bytes (magic_of Plain) table.text (table_size table)
+    opens.bytes (belongs (table_format Plain) opens.bytes (contents_of table) opens.opens).file
+    opens.may in
     record {
       later = λ k. put no_files table.name (file k);
-      may = tt;
+      may = λ k. put_bytes no_files table.name (file k) (λ q. tt)
+          (file_bytes (magic_of Plain) table.text (table_size table) (read k) (read k)
+          (magic_bytes Plain) text_are);
       opens = ap (opened (table_format Plain)) (put-same no_files table.name (file 0))
           ∙ file_opens table (read 0) opens (may 0).0;
       same = λ k. ap (λ (o : Option (List ℕ)). codes_at side table.text (table_size table)

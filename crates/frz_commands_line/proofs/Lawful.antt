@@ -103,7 +103,7 @@ module _ (there : LineThere) (alone : LineAlone) (laws : LineLaws) (later : ℕ 
       → IsLawful (lining_at later table side p)
   lining_lawful table side p = record {
     one = λ files input. one_at table side p files;
-    means = λ files input a h. line_means laws (from_opening files later) table side p files a
+    means = λ files input a are h. line_means laws (from_opening files later) table side p files a
         h;
   }
 

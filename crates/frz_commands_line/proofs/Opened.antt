@@ -11,7 +11,7 @@ use Rattle.frz_table.specs.Faults.{TableCauses}
 use Rattle.frz_table.specs.Opening.{Contents, contents_of, opened, Refuses, table_format, opening_calls}
 use Rattle.frz_table.specs.Possible.{MayRefuse, held_text}
 use Rattle.frz_table.specs.Tables.{Table}
-use Rattle.frz_table.proofs.Lemmas.{belongs, opened_missing, same_held, text_kept}
+use Rattle.frz_table.proofs.Lemmas.{belongs, opened_missing, text_kept}
 use Rattle.frz_answer.specs.declared.end.End.{End}
 use Rattle.frz_answer.specs.declared.status.Status.{Status}
 use Rattle.frz_answer.specs.declared.status.Status.TheVariants as statuses
@@ -27,7 +27,7 @@ use Rattle.frz_prelude.specs.declared.refused.Refused.TheVariants as refusals
 use Rattle.frz_prelude.proofs.Lemmas.{Holding, ended, holding, may_stop, stop_own, stops_by, table_cause}
 use Rattle.frz_commands_line.specs.Costs.{CostsIn, CostsAt}
 use Rattle.frz_commands_line.specs.Later.{MayBeLater, OpensAtStart, from_opening}
-use Rattle.frz_commands_line.proofs.Later.{as_opened, told_first}
+use Rattle.frz_commands_line.proofs.Later.{as_opened}
 use Rattle.frz_commands_line.proofs.OpeningCosts.{opening_within, playing_within}
 use Rattle.frz_commands_line.proofs.Stages.{is_later_part}
 
@@ -92,7 +92,7 @@ module _ (By : (later : ℕ → Files) (name : List ℕ) → Result Contents Tab
     opened_ran own table {end} {new} all fine named may start asked few ran =
         let old = world store input out steps in
         let at : Holding store.files name (later 0 name) =
-        record { files = later 0; agrees = told_first store.files later may; holds = refl } in
+        record { files = later 0; agrees = may 0; holds = refl } in
         let opens : opened (table_format Plain) (later 0 name) ≡ Ok (contents_of table) =
         subst (λ (q : List ℕ). opened (table_format Plain) (later 0 q) ≡ Ok (contents_of table))
         named start in
@@ -138,7 +138,7 @@ module _ (By : (later : ℕ → Files) (name : List ℕ) → Result Contents Tab
     refused_ran {T} fault {end} {taken} calls wants missing refused says_so some causes may ends =
         let old = world store input out steps in
         let new = world now input out steps in
-        let at = holding store.files name may.held (same_held store.files name may.held may.may) in
+        let at = holding store.files name may.held may.may in
         let files = at.files in
         ended by_file (stop_of_table fault) end old new taken
         (quiet_store store now input out steps quiet)

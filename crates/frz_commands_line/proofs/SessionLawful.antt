@@ -98,7 +98,7 @@ module _ (there : SessionThere) (alone : SessionAlone) (laws : SessionLaws)
       → IsLawful (playing_at later table side p)
   playing_lawful table side p = record {
     one = λ files input. one_at table side p files input;
-    means = λ files input a h. play_means laws (from_opening files later) table side p files
+    means = λ files input a are h. play_means laws (from_opening files later) table side p files
         input a h;
   }
 

@@ -3,6 +3,7 @@ use Rattle.std.proofs.Common.{◌≡◌, refl, sym, ap, subst, ◌∙◌, ℕ, L
 use Rattle.std.specs.Prelude.{IfSome, ⊤}
 use Rattle.std.specs.Option.{option_map}
 use Rattle.std.proofs.Math.Seq.{drop-append_seam}
+use Rattle.frz_store.specs.Bytes.{MayBeHeld}
 use Rattle.frz_store.specs.Files.{Files}
 use Rattle.frz_answer.specs.declared.end.End.{End}
 use Rattle.frz_answer.specs.Statuses.{subset}
@@ -33,7 +34,7 @@ never_both b e f = let no : true ≡ false = sym e ∙ f in cc
 
 -- some input that may be told, for a job that takes input
 abbrev pub found_in : (job : Job) (files : Files) (free : List ℕ) (old : World) (input : List ℕ)
-    → IsTrue job.needs.input → IfSome old.store.files (λ told. told ≡ files)
+    → IsTrue job.needs.input → MayBeHeld old.store.files files
     → IfSome old.input.left (λ told. told ≡ input) → Found job files free old
 found_in job files free old input takes there may = record {
   files = files;
@@ -48,7 +49,7 @@ pub after_lines : (job : Job) (text bytes : List ℕ) (end : End) (old mid new :
     → Came text bytes old mid → IsLines text → IsTrue job.speaks → IsTrue job.needs.input
     → subset job.statuses job.statuses ≡ true
     → ((files : Files)
-    → IfSome old.store.files (λ told. told ≡ files) → Split bytes old.input.left)
+    → MayBeHeld old.store.files files → Split bytes old.input.left)
     → ((m : Files) (i : List ℕ) (a : Answer) → (rest_after job text bytes).costs m i a (spent mid)
     (spent new) → job.costs m (bytes ++ i) (behind text (length bytes) a) (spent old)
     (spent new))

@@ -1,13 +1,15 @@
 -- What a store may hold each time that a place of it is read again.
-use Rattle.std.specs.Prelude.{◌≡◌, ℕ, zero, suc, List, Option, IfSome, Ok}
+use Rattle.std.specs.Prelude.{◌≡◌, ℕ, zero, suc, List, Option, Ok}
+use Rattle.frz_store.specs.Bytes.{MayBeHeld}
 use Rattle.frz_store.specs.Files.{Files, bytes_at}
 use Rattle.frz_table.specs.declared.kind.FileKind.TheVariants.{Plain}
 use Rattle.frz_table.specs.Opening.{contents_of, opened, table_format}
 use Rattle.frz_table.specs.Tables.{Table}
 
--- what it may hold after so many plies: where it tells, always what it tells
+-- what it may hold after so many plies: where it tells, always what it tells, and where it does
+-- not, any files of bytes
 abbrev pub MayBeLater : Option Files → (later : ℕ → Files) → Type 0
-MayBeLater told later = IfSome told (λ m. (k : ℕ) → later k ≡ m)
+MayBeLater told later = (k : ℕ) → MayBeHeld told (later k)
 
 -- from an opening on: at ply 0 the files of the opening, and then what the store holds later
 abbrev pub from_opening : Files → (later : ℕ → Files) → ℕ → Files

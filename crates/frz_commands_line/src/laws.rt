@@ -12,7 +12,7 @@ use frz_line::laws::{
 use frz_play::laws as sessions;
 
 /// Whatever the words behind `line` are, and whatever the store holds later, there is one answer
-/// over any files and any input, and it means what it is to mean.
+/// over any files and any input, and over files of bytes it means what it is to mean.
 pub fn one_line_answer()
     ensures { (later : ℕ → Files) (words : List (List ℕ)) → IsLawful (line_words later words) }
 {

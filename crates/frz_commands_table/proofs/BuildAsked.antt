@@ -1,6 +1,6 @@
 -- What `build` finds where it has read its rules file, and how it ends where something stopped it.
 use Rattle.std.proofs.Common.{◌≡◌, refl, subst, ℕ, ◌≤◌, List, [], ◌∷◌, Option, Err, arith}
-use Rattle.std.specs.Prelude.{IfSome}
+use Rattle.frz_store.specs.Bytes.{MayBeHeld}
 use Rattle.frz_store.specs.Files.{Files}
 use Rattle.frz_answer.specs.declared.status.Status.TheVariants.{Success, Rules, Missing}
 use Rattle.frz_answer.specs.Statuses.{OneOf}
@@ -17,7 +17,7 @@ use Rattle.frz_commands_table.proofs.Built.{some_built_at, is_refused_at}
 
 -- the files over which it answers
 abbrev pub found_rules : (rules table : List ℕ) (m files : Files) (input : List ℕ) (old : World)
-    → IfSome old.store.files (λ told. told ≡ m) → Agrees old files input
+    → MayBeHeld old.store.files m → Agrees old files input
     → Found (building_at rules table) files input old
 found_rules rules table m files input old there agrees =
     found_where (building_at rules table) m files input old (λ e. cc) there agrees

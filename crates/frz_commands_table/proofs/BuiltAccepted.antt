@@ -1,5 +1,5 @@
 -- What `build` wrote, `check` finds exact.
-use Rattle.std.proofs.Common.{◌≡◌, ap, subst, ◌∙◌, ℕ, List, Some}
+use Rattle.std.proofs.Common.{◌≡◌, refl, ap, subst, ◌∙◌, ℕ, List, Some}
 use Rattle.frz_exits.specs.Books.{value_by}
 use Rattle.frz_store.specs.Files.{Files}
 use Rattle.frz_store.proofs.Lemmas.{put-same}
@@ -14,7 +14,7 @@ use Rattle.frz_commands_table.specs.BuildMeaning.{MakesTable, MeansByStatus}
 use Rattle.frz_commands_table.specs.Checking.{IsCheckedAt}
 use Rattle.frz_commands_table.specs.CheckMeans.{HoldsOneFile}
 use Rattle.frz_commands_table.proofs.BuildMeaning.{build_means}
-use Rattle.frz_commands_table.proofs.CheckMeaning.{check_means}
+use Rattle.frz_commands_table.proofs.CheckMeaning.{check_accepts}
 
 module _ (rules table : List ℕ) (files : Files) (a : Answer) where
   -- what an answer of `build` with status 0 says
@@ -49,5 +49,5 @@ pub built_accepted : (rules table : List ℕ) (files : Files) (a b : Answer)
     → IsBuiltAt rules table files a → a.status ≡ Success
     → IsCheckedAt table a.files b → b.status ≡ Success
 built_accepted rules table files a b built done checked =
-    (check_means table a.files b checked).accepts
+    check_accepts table a.files (a.files table) refl b checked
     (holds_one rules table files a (made rules table files a built done))

@@ -59,7 +59,7 @@ building_lawful : (rules table : List ℕ) → IsLawful (building_at rules table
 building_lawful rules table =
     record {
       one = λ files input. one_built rules table files;
-      means = λ files input a h. build_means rules table files a h;
+      means = λ files input a are h. build_means rules table files a h;
     }
 
 pub build_lawful : (words : List (List ℕ)) → IsLawful (build_words words)

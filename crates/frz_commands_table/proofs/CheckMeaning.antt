@@ -1,5 +1,6 @@
 -- What the answers of `check` mean.
 use Rattle.std.proofs.Common.{◌≡◌, ℕ, List, [], Result, Option, Some, None, Ok, Err, refl, sym, ap, subst, ◌∙◌}
+use Rattle.std.specs.Prelude.{IfSome}
 use Rattle.std.specs.Option.{unwrap_or}
 use Rattle.frz_board.specs.declared.man.Colour.{Colour}
 use Rattle.frz_board.specs.declared.man.Colour.TheVariants.{White, Black}
@@ -7,6 +8,7 @@ use Rattle.frz_exits.specs.Books.{value_by}
 use Rattle.frz_game.proofs.Lemmas.{table_exact, table_means, table_exactly, exits_by_men, text_by_men}
 use Rattle.frz_game.specs.Bounds.{IsTableOf}
 use Rattle.frz_sets.specs.Sets.{size_of}
+use Rattle.frz_store.specs.Bytes.{AreBytes}
 use Rattle.frz_store.specs.Files.{Files}
 use Rattle.frz_table.specs.declared.fault.TableFault.{TableFault}
 use Rattle.frz_table.specs.declared.fault.TableFault.TheVariants.{Missing}
@@ -30,11 +32,12 @@ use Rattle.frz_commands_table.specs.Headline.{Headline}
 
 module _ (table : List ℕ) (files : Files) where
   -- the table is exact
-  abbrev headline : (bytes : List ℕ) → files table ≡ Some bytes → (contents : Contents)
+  abbrev headline : (bytes : List ℕ) → files table ≡ Some bytes → AreBytes bytes
+      → (contents : Contents)
       → opened (table_format Plain) (Some bytes) ≡ Ok contents
       → ((side : Colour) → IsTableOf contents.rules (value_by contents.rules) side
       (kept_codes contents bytes side)) → Headline table files
-  headline bytes there contents opens tables =
+  headline bytes there are contents opens tables =
       let known = belongs (table_format Plain) bytes contents opens in record {
         bytes = bytes;
         there = there;
@@ -48,8 +51,7 @@ module _ (table : List ℕ) (files : Files) where
         black_is = refl;
         white_table = tables White;
         black_table = tables Black;
-        one_file =
-            λ are. tables_are_one Plain (value_by contents.rules) contents bytes are opens tables;
+        one_file = tables_are_one Plain (value_by contents.rules) contents bytes are opens tables;
         white_means = table_means contents.rules (value_by contents.rules) White
             (kept_codes contents bytes White) (tables White);
         black_means = table_means contents.rules (value_by contents.rules) Black
@@ -62,15 +64,16 @@ module _ (table : List ℕ) (files : Files) where
             (kept_codes contents bytes Black) (tables Black);
       }
 
-  says_verdict : (bytes : List ℕ) → files table ≡ Some bytes → (contents : Contents)
+  says_verdict : (bytes : List ℕ) → files table ≡ Some bytes → AreBytes bytes
+      → (contents : Contents)
       → opened (table_format Plain) (Some bytes) ≡ Ok contents
       → (verdict : Verdict) → IsVerdict contents.rules (value_by contents.rules)
       (kept_codes contents bytes) verdict
       → MeansStatus table files (verdict_status verdict)
       (verdict_line (size_of contents.rules.groups) verdict)
-  says_verdict bytes there contents opens Exact is =
-      record { exact = headline bytes there contents opens is; told = refl }
-  says_verdict bytes there contents opens (Wrong wrong) is = record {
+  says_verdict bytes there are contents opens Exact is =
+      record { exact = headline bytes there are contents opens is; told = refl }
+  says_verdict bytes there are contents opens (Wrong wrong) is = record {
     bytes = bytes;
     contents = contents;
     open_file = record { there = there; opens = opens };
@@ -98,56 +101,78 @@ module _ (table : List ℕ) (files : Files) where
 
   means_so : (a : Answer) (status : Status) (text : List ℕ) → a ≡ says status text files
       → MeansStatus table files status text
-      → (HoldsOneFile table files → status ≡ statuses.Success) → MeansCheck table files a
+      → (HoldsOneFile table files → a.status ≡ statuses.Success) → MeansCheck table files a
   means_so a status text e says accepts =
       subst (λ (x : Answer). MeansCheck table files x) (sym e)
-      (record { same = refl; untaken = refl; says = says; accepts = accepts })
+      (record {
+        same = refl;
+        untaken = refl;
+        says = says;
+        accepts = λ one. sym (ap (λ (x : Answer). x.status) e) ∙ accepts one;
+      })
 
   same_bytes : (bytes : List ℕ) → files table ≡ Some bytes → (one : HoldsOneFile table files)
       → one.bytes ≡ bytes
   same_bytes bytes there one = let e : Some one.bytes ≡ Some bytes = sym one.there ∙ there in cc
 
-  by_opening : (bytes : List ℕ) → files table ≡ Some bytes → (x : Result Contents TableFault)
+  -- where the one file of a text stands under the name, the status is 0
+  accepts_by : (bytes : List ℕ) → files table ≡ Some bytes → (x : Result Contents TableFault)
       → opened (table_format Plain) (Some bytes) ≡ x
-      → (a : Answer) → IsCheckedBy x bytes files a → MeansCheck table files a
-  by_opening bytes there (Ok contents) opens a judged =
-      means_so a (verdict_status judged.verdict)
-      (verdict_line (size_of contents.rules.groups) judged.verdict) judged.told
-      (says_verdict bytes there contents opens judged.verdict judged.judged)
-      (λ one.
+      → (a : Answer) → IsCheckedBy x bytes files a → HoldsOneFile table files
+      → a.status ≡ statuses.Success
+  accepts_by bytes there (Ok contents) opens a judged one =
       let same : one.bytes ≡ bytes = same_bytes bytes there one in
       let here : ◌≡◌ {A = Result Contents TableFault} (Ok contents)
       (Ok (record { text = one.text; rules = one.rules })) =
       sym opens ∙ ap (λ (l : List ℕ). opened (table_format Plain) (Some l)) (sym same)
       ∙ opens_as one in
       let is : contents ≡ record { text = one.text; rules = one.rules } = cc in
-      ap verdict_status
+      ap (λ (x : Answer). x.status) judged.told
+      ∙ ap verdict_status
       (accepted_there one judged.verdict
       (subst (λ (l : List ℕ). IsVerdict one.rules (value_by one.rules)
       (kept_codes (record { text = one.text; rules = one.rules }) l) judged.verdict) (sym same)
       (subst (λ (c : Contents). IsVerdict c.rules (value_by c.rules) (kept_codes c bytes)
-      judged.verdict) is judged.judged))))
-  by_opening bytes there (Err fault) refused a e =
-      means_so a (table_status fault) (table_line fault) e
-      (refused_means Plain table files (MeansStatus table files) (λ text tells. tells) bytes there
-      fault refused)
-      (λ one.
+      judged.verdict) is judged.judged)))
+  accepts_by bytes there (Err fault) refused a e one =
       let no : ◌≡◌ {A = Result Contents TableFault} (Err fault)
       (Ok (record { text = one.text; rules = one.rules })) =
       sym refused ∙ ap (λ (l : List ℕ). opened (table_format Plain) (Some l))
-      (sym (same_bytes bytes there one)) ∙ opens_as one in cc)
+      (sym (same_bytes bytes there one)) ∙ opens_as one in cc
 
-  by_file : (held : Option (List ℕ)) → files table ≡ held → (a : Answer)
+  pub check_accepts : (held : Option (List ℕ)) → files table ≡ held → (a : Answer)
+      → IsCheckedBy (opened (table_format Plain) held) (unwrap_or held []) files a
+      → HoldsOneFile table files → a.status ≡ statuses.Success
+  check_accepts None e a h one = let no : Some one.bytes ≡ None = sym one.there ∙ e in cc
+  check_accepts (Some bytes) e a h one =
+      accepts_by bytes e (opened (table_format Plain) (Some bytes)) refl a h one
+
+  by_opening : (bytes : List ℕ) → files table ≡ Some bytes → AreBytes bytes
+      → (x : Result Contents TableFault) → opened (table_format Plain) (Some bytes) ≡ x
+      → (a : Answer) → IsCheckedBy x bytes files a → MeansCheck table files a
+  by_opening bytes there are (Ok contents) opens a judged =
+      means_so a (verdict_status judged.verdict)
+      (verdict_line (size_of contents.rules.groups) judged.verdict) judged.told
+      (says_verdict bytes there are contents opens judged.verdict judged.judged)
+      (accepts_by bytes there (Ok contents) opens a judged)
+  by_opening bytes there are (Err fault) refused a e =
+      means_so a (table_status fault) (table_line fault) e
+      (refused_means Plain table files (MeansStatus table files) (λ text tells. tells) bytes there
+      fault refused)
+      (accepts_by bytes there (Err fault) refused a e)
+
+  by_file : (held : Option (List ℕ)) → files table ≡ held → IfSome held AreBytes → (a : Answer)
       → IsCheckedBy (opened (table_format Plain) held) (unwrap_or held []) files a
       → MeansCheck table files a
-  by_file None e a h =
+  by_file None e are a h =
       means_so a statuses.Missing (table_line Missing)
       (subst (λ (x : Result Contents TableFault). IsCheckedBy x [] files a)
       (opened_missing (table_format Plain)) h) e
-      (λ one. let no : Some one.bytes ≡ None = sym one.there ∙ e in cc)
-  by_file (Some bytes) e a h =
-      by_opening bytes e (opened (table_format Plain) (Some bytes)) refl a h
+      (check_accepts None e a h)
+  by_file (Some bytes) e are a h =
+      by_opening bytes e are (opened (table_format Plain) (Some bytes)) refl a h
 
-pub check_means : (table : List ℕ) (files : Files) (a : Answer) → IsCheckedAt table files a
+pub check_means : (table : List ℕ) (files : Files) (a : Answer) → IfSome (files table) AreBytes
+    → IsCheckedAt table files a
     → MeansCheck table files a
-check_means table files a h = by_file table files (files table) refl a h
+check_means table files a are h = by_file table files (files table) refl are a h

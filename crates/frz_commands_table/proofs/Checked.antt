@@ -9,7 +9,6 @@ use Rattle.frz_table.specs.declared.fault.TableFault.TheVariants.{Failed}
 use Rattle.frz_table.specs.declared.kind.FileKind.TheVariants.{Plain}
 use Rattle.frz_table.specs.Opening.{Contents, opened, table_format}
 use Rattle.frz_table.specs.Possible.{MayHold}
-use Rattle.frz_table.proofs.Lemmas.{same_held}
 use Rattle.frz_check.specs.declared.verdict.Verdict.{Verdict}
 use Rattle.frz_check.specs.declared.verdict.Verdict.TheVariants as verdict
 use Rattle.frz_check.specs.Kept.{kept_codes, WithinFile, RefusesFile}
@@ -90,8 +89,8 @@ checking_lawful : (table : List ℕ) → IsLawful (checking_at table)
 checking_lawful table =
     record {
       one = λ files input. one_at table files;
-      means = λ files input a h. check_means table
-          files a h;
+      means = λ files input a are h. check_means table
+          files a (are table) h;
     }
 
 pub check_lawful : (words : List (List ℕ)) → IsLawful (check_words words)
@@ -113,7 +112,7 @@ module _ (table : List ℕ) (files : Files) (input : List ℕ) (old new : World)
       → WithinFile held old.store new.store old.steps new.steps
       → SaysAll (checking_at table) status line files input old new
   held_so status line held may answer within =
-      let at = holding old.store.files table held (same_held old.store.files table held may) in
+      let at = holding old.store.files table held may in
       record {
         found = found_where (checking_at table) at.files files input old (λ e. cc) at.agrees agrees;
         answer = subst (λ (h : Option (List ℕ)). IsCheckedBy (opened (table_format Plain) h)
@@ -155,8 +154,7 @@ module _ (table : List ℕ) (files : Files) (input : List ℕ) (old new : World)
       → (h : RefusesFile table old.store new.store old.steps new.steps fault)
       → StopsWith (checking_at table) (stop_of_table Failed) files input old new
   begun_so fault h =
-      let at = holding old.store.files table h.held
-      (same_held old.store.files table h.held h.may) in record {
+      let at = holding old.store.files table h.held h.may in record {
         found = found_where (checking_at table) at.files files input old (λ e. cc) at.agrees agrees;
         some = some_at table at.files;
         costs = subst (λ (x : Option (List ℕ)). WithinCosts (checking_costs x) (spent old)

@@ -1,9 +1,9 @@
 -- How `migrate` goes on from a file that was opened and moved,
 -- and how it ends where something stopped it.
 use Rattle.std.proofs.Common.{◌≡◌, refl, sym, ap, subst, ◌∙◌, ℕ, ◌+◌, ◌*◌, ◌≤◌, List, [], length, Option, Some, Result, Ok, Err, arith}
-use Rattle.std.specs.Prelude.{IfSome}
 use Rattle.std.specs.Option.{unwrap_or}
 use Rattle.frz_sets.specs.Sets.{size_of}
+use Rattle.frz_store.specs.Bytes.{MayBeHeld}
 use Rattle.frz_store.specs.Files.{Files, put}
 use Rattle.frz_store.specs.Told.{StoreTold}
 use Rattle.frz_store.specs.Writes.{Written}
@@ -15,7 +15,6 @@ use Rattle.frz_table.specs.Layout.{file_of, magic_of, pieces_of}
 use Rattle.frz_table.specs.OldFiles.{old_contents_of, old_format}
 use Rattle.frz_table.specs.Opening.{Contents, opened, opening_calls}
 use Rattle.frz_table.specs.Possible.{MayHold}
-use Rattle.frz_table.proofs.Lemmas.{same_held}
 use Rattle.frz_build.specs.Building.{writing_calls}
 use Rattle.frz_index.specs.OldNumbers.{old_size_of}
 use Rattle.frz_answer.specs.declared.status.Status.TheVariants.{Success}
@@ -64,7 +63,7 @@ writes_stage text size white black old new = record {
 -- what the name holds, and what that costs
 pub record HoldsOld (old : List ℕ) (held : Option (List ℕ)) (before mid : StoreTold) : Type 0 where
   pub files : Files
-  pub agrees : IfSome before.files (λ told. told ≡ files)
+  pub agrees : MayBeHeld before.files files
   pub holds : files old ≡ held
   pub within : WithinFormer held before mid
 
@@ -72,7 +71,7 @@ pub holds_old : (old : List ℕ) (held : Option (List ℕ)) (before mid : StoreT
     → MayHold before.files old held → WithinFormer held before mid
     → HoldsOld old held before mid
 holds_old old held before mid may within =
-    let at = holding before.files old held (same_held before.files old held may) in
+    let at = holding before.files old held may in
     record { files = at.files; agrees = at.agrees; holds = at.holds; within = within }
 
 module _ (old new : List ℕ) where

@@ -55,7 +55,7 @@ migrating_lawful : (old new : List ℕ) → IsLawful (migrating_at old new)
 migrating_lawful old new =
     record {
       one = λ files input. one_at old new files;
-      means = λ files input a h. migrate_means old
+      means = λ files input a are h. migrate_means old
           new files a h;
     }
 

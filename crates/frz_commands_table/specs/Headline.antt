@@ -13,7 +13,6 @@ use Rattle.frz_sets.specs.Views.{RuleLines}
 use Rattle.frz_store.specs.Files.{Files}
 use Rattle.frz_table.specs.declared.kind.FileKind.TheVariants.{Plain}
 use Rattle.frz_table.specs.Layout.{magic_of, codes_at}
-use Rattle.frz_table.specs.Numbers.{AreBytes}
 use Rattle.frz_table.specs.Tables.{IsTableFile}
 use Rattle.frz_check.specs.OneFile.{IsOneFile}
 
@@ -38,7 +37,7 @@ pub record Headline (table : List ℕ) (files : Files) : Type 0 where
   pub white_table : IsTableOf rules (value_by rules) White white
   pub black_table : IsTableOf rules (value_by rules) Black black
   -- so the file is the one file of its text
-  pub one_file : AreBytes bytes → IsOneFile (magic_of Plain) text rules (value_by rules) bytes
+  pub one_file : IsOneFile (magic_of Plain) text rules (value_by rules) bytes
   -- a win forces, within its plies and against every legal reply, mate or an assigned win; where
   -- the exits are true it forces mate, and with a win or a hold the opponent forces none
   pub white_means : TableMeans rules (value_by rules) White white

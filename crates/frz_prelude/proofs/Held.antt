@@ -1,11 +1,13 @@
 -- What a store that does not tell may hold under the name of a rules file.
-use Rattle.std.proofs.Common.{◌≡◌, refl, sym, ap, subst, ◌∙◌, ℕ, ◌<◌, ◌≤◌, ◌+◌, List, length, replicate, Option, Some, None, Result, Ok, Err, true, if◌then◌else◌, le-ltb, lt-ltb, Bool, cond, arith}
+use Rattle.std.proofs.Common.{◌≡◌, refl, sym, ap, subst, ◌∙◌, ℕ, zero, suc, ◌<◌, lit<, get_or, ◌≤◌, ◌+◌, List, length, replicate, Option, Some, None, Result, Ok, Err, true, if◌then◌else◌, le-ltb, lt-ltb, Bool, cond, arith}
 use Rattle.std.proofs.lemmas.List.{length-replicate}
 use Rattle.std.specs.Prelude.{IfSome, IfOk}
+use Rattle.frz_store.specs.Bytes.{AreBytes, MayBeHeld}
 use Rattle.frz_store.specs.Files.{Files, no_files, put}
 use Rattle.frz_store.specs.declared.outside.StoreFault.{StoreFault}
 use Rattle.frz_store.specs.declared.outside.StoreFault.TheVariants as refusal
-use Rattle.frz_store.proofs.Lemmas.{put-same}
+use Rattle.frz_store.proofs.Lemmas.{put_bytes, put-same}
+use Rattle.frz_table.specs.Possible.{MayHold}
 use Rattle.frz_prelude.specs.declared.rules_file.RulesFile.{RulesFile}
 use Rattle.frz_prelude.specs.declared.rules_file.RulesFile.TheVariants.{Missing, TooLong, Text}
 use Rattle.frz_rules.specs.declared.fault.TheConstants.{LONGEST_TEXT}
@@ -20,26 +22,29 @@ use Rattle.frz_prelude.specs.declared.rules_file.TheConstants.{TOO_LONG}
 use Rattle.frz_prelude.specs.declared.stop.Stop.TheVariants as stops
 use Rattle.frz_prelude.specs.declared.rules_at.RulesText.{RulesText}
 use Rattle.frz_prelude.specs.Stops.{Answers, stop_of_fault}
-use Rattle.frz_prelude.specs.RulesFiles.{IsHeld, asked_of, asked_by, reads_of, reads_by, or_fault, rules_held, GivesText, IsTextRead}
+use Rattle.frz_prelude.specs.RulesFiles.{AreBytesOf, IsHeld, asked_of, asked_by, reads_of, reads_by, or_fault, rules_held, GivesText, IsTextRead}
 
--- files that agree with what is told, where the name holds this
+-- files that may be held, where the name holds this
 pub record Holding (told : Option Files) (name : List ℕ) (held : Option (List ℕ)) : Type 0 where
   pub files : Files
-  pub agrees : IfSome told (λ m. m ≡ files)
+  pub agrees : MayBeHeld told files
   pub holds : files name ≡ held
 
 pub holding : (told : Option Files) (name : List ℕ) (held : Option (List ℕ))
-    → IfSome told (λ m. m name ≡ held) → Holding told name held
+    → MayHold told name held → Holding told name held
 holding (Some m) name held e = record { files = m; agrees = refl; holds = e }
-holding None name None e = record { files = no_files; agrees = tt; holds = refl }
-holding None name (Some bytes) e =
-    record { files = put no_files name bytes; agrees = tt; holds = put-same no_files name bytes }
+holding None name None e = record { files = no_files; agrees = λ q. tt; holds = refl }
+holding None name (Some bytes) are = record {
+  files = put no_files name bytes;
+  agrees = put_bytes no_files name bytes (λ q. tt) are;
+  holds = put-same no_files name bytes;
+}
 
 -- what was found under the name, and what it may have cost
 pub record SeesRules (told : Option Files) (name : List ℕ) (answer : Result RulesFile StoreFault)
     (before now calls_before calls_now : ℕ) : Type 0 where
   pub held : Option (List ℕ)
-  pub there : IfSome told (λ m. m name ≡ held)
+  pub there : MayHold told name held
   pub file : IfOk answer (IsHeld held)
   pub asked : now ≤ before + asked_of held
   pub calls : calls_now ≤ calls_before + (1 + reads_of held)
@@ -50,6 +55,15 @@ zeros n = replicate n 0
 many_zeros : (n : ℕ) → length (zeros n) ≡ n
 unfolding zeros
 many_zeros n = length-replicate n 0
+
+zeros_are : (n i : ℕ) → get_or (replicate n 0) i 0 < 256
+zeros_are zero i = lit< tt
+zeros_are (suc n) zero = lit< tt
+zeros_are (suc n) (suc i) = zeros_are n i
+
+bytes_zeros : (n : ℕ) → AreBytes (zeros n)
+unfolding zeros
+bytes_zeros n = zeros_are n
 
 -- all of a file that is not too long
 asked_short : (bytes : List ℕ) → length bytes ≤ LONGEST_TEXT → asked_of (Some bytes) ≡ length bytes
@@ -62,7 +76,7 @@ reads_short bytes short = ap (λ b. if b then 0 else 1) (le-ltb LONGEST_TEXT (le
 
 pub sees_rules : (told : Option Files) (name : List ℕ) (answer : Result RulesFile StoreFault)
     (before now calls_before calls_now : ℕ)
-    → IfOk answer (λ file. IfSome told (λ m. IsHeld (m name) file))
+    → IfOk answer (λ file. IfSome told (λ m. IsHeld (m name) file)) → IfOk answer AreBytesOf
     → IfSome told (λ m. now ≤ before + asked_of (m name))
     → IfOk answer (λ file. now ≤ before + asked_by file) → now ≤ before + LONGEST_TEXT
     → IfOk answer (λ file. asked_by file ≤ LONGEST_TEXT)
@@ -70,44 +84,44 @@ pub sees_rules : (told : Option Files) (name : List ℕ) (answer : Result RulesF
     → IfOk answer (λ file. calls_now ≤ calls_before + (1 + reads_by file))
     → calls_now ≤ calls_before + 2
     → SeesRules told name answer before now calls_before calls_now
-sees_rules (Some m) name (Ok file) before now calls_before calls_now held asked by most short
+sees_rules (Some m) name (Ok file) before now calls_before calls_now held are asked by most short
     told_calls calls_by few =
     record { held = m name; there = refl; file = held; asked = asked; calls = told_calls }
-sees_rules (Some m) name (Err fault) before now calls_before calls_now held asked by most short
+sees_rules (Some m) name (Err fault) before now calls_before calls_now held are asked by most short
     told_calls calls_by few =
     record { held = m name; there = refl; file = tt; asked = asked; calls = told_calls }
-sees_rules None name (Err fault) before now calls_before calls_now held asked by most short
+sees_rules None name (Err fault) before now calls_before calls_now held are asked by most short
     told_calls calls_by few =
     let all : List ℕ = zeros LONGEST_TEXT in
     let many : length all ≡ LONGEST_TEXT = many_zeros LONGEST_TEXT in
     let exact : asked_of (Some all) ≡ length all = asked_short all (omega (arith, many)) in
     record {
       held = Some all;
-      there = tt;
+      there = bytes_zeros LONGEST_TEXT;
       file = tt;
       asked = omega (arith, most, exact, many);
       calls = omega (arith, few, reads_short all (omega (arith, many)));
     }
-sees_rules None name (Ok Missing) before now calls_before calls_now held asked by most short
+sees_rules None name (Ok Missing) before now calls_before calls_now held are asked by most short
     told_calls calls_by few =
     record { held = None; there = tt; file = refl; asked = by; calls = calls_by }
-sees_rules None name (Ok TooLong) before now calls_before calls_now held asked by most short
+sees_rules None name (Ok TooLong) before now calls_before calls_now held are asked by most short
     told_calls calls_by few =
     let all : List ℕ = zeros (LONGEST_TEXT + 1) in
     let many : length all ≡ LONGEST_TEXT + 1 = many_zeros (LONGEST_TEXT + 1) in
     record {
       held = Some all;
-      there = tt;
+      there = bytes_zeros (LONGEST_TEXT + 1);
       file = omega (arith, many);
       asked = omega (arith, by);
       calls = omega (arith, calls_by);
     }
-sees_rules None name (Ok (Text text)) before now calls_before calls_now held asked by most short
+sees_rules None name (Ok (Text text)) before now calls_before calls_now held are asked by most short
     told_calls calls_by few =
     let exact : asked_of (Some text.items) ≡ length text.items = asked_short text.items short in
     record {
       held = Some text.items;
-      there = tt;
+      there = are;
       file = refl;
       asked = omega (arith, by, exact);
       calls = omega (arith, calls_by, reads_short text.items short);
@@ -117,7 +131,7 @@ sees_rules None name (Ok (Text text)) before now calls_before calls_now held ask
 pub record RulesSeen (told : Option Files) (name : List ℕ) (answer : Result RulesFile StoreFault)
     (before now calls_before calls_now : ℕ) : Type 0 where
   pub files : Files
-  pub agrees : IfSome told (λ m. m ≡ files)
+  pub agrees : MayBeHeld told files
   pub file : IfOk answer (IsHeld (files name))
   pub asked : now ≤ before + asked_of (files name)
   pub calls : calls_now ≤ calls_before + (1 + reads_of (files name))

@@ -1,6 +1,6 @@
 -- How a job ends that was stopped before it came to its own work.
 use Rattle.std.proofs.Common.{◌≡◌, refl, sym, subst, ℕ, List, [], ◌∷◌, Result, Ok, Err, IsTrue, codes}
-use Rattle.std.specs.Prelude.{IfSome}
+use Rattle.frz_store.specs.Bytes.{MayBeHeld}
 use Rattle.frz_store.specs.Files.{Files}
 use Rattle.frz_store.specs.Told.{StoreTold, SourceTold, SinkTold, StoreFine}
 use Rattle.frz_answer.specs.declared.fault.Fault.{Fault as Faults}
@@ -78,7 +78,7 @@ as_said s t x y end old new e f h =
 -- the files over which a job answers that reads them
 abbrev pub found_where : (job : Job) (m files : Files) (input : List ℕ) (old : World)
     → (job.needs.reads ≡ Never → ⊥)
-    → IfSome old.store.files (λ told. told ≡ m) → Agrees old files input → Found job files input old
+    → MayBeHeld old.store.files m → Agrees old files input → Found job files input old
 found_where job m files input old reads there agrees = record {
   files = m;
   input = input;

@@ -1,10 +1,11 @@
 -- What a store's name holds as a rules file, how many bytes are
 -- asked of it in how many calls, and the rules that it gives.
-use Rattle.std.specs.Prelude.{◌≡◌, ℕ, ◌<◌, ◌≤◌, ◌+◌, List, length, Option, Some, None, IsSomeAnd, IfSome, Result, Ok, Err, nat_lt, ⊤, if◌then◌else◌}
+use Rattle.std.specs.Prelude.{◌≡◌, ℕ, ◌<◌, ◌≤◌, ◌+◌, List, length, Option, Some, None, IsSomeAnd, Result, Ok, Err, nat_lt, ⊤, if◌then◌else◌}
 use Rattle.frz_rules.specs.declared.fault.TheConstants.{LONGEST_TEXT}
 use Rattle.frz_rules.specs.declared.fault.RulesFault.{RulesFault}
 use Rattle.frz_rules.specs.Text.{rules_of}
 use Rattle.frz_sets.specs.Views.{RuleLines}
+use Rattle.frz_store.specs.Bytes.{AreBytes, MayBeHeld}
 use Rattle.frz_store.specs.Files.{Files}
 use Rattle.frz_store.specs.Told.{StoreTold}
 use Rattle.frz_prelude.specs.Stops.{Answers}
@@ -20,6 +21,11 @@ abbrev pub IsHeld : Option (List ℕ) → RulesFile → Type 0
 IsHeld held Missing = held ≡ None
 IsHeld held TooLong = IsSomeAnd held (λ bytes. LONGEST_TEXT < length bytes)
 IsHeld held (Text text) = held ≡ Some text.items
+
+-- what was read of a file are bytes
+abbrev pub AreBytesOf : RulesFile → Type 0
+AreBytesOf (Text text) = AreBytes text.items
+AreBytesOf file = ⊤
 
 -- the bytes that are asked of a file: all of it, but none where it is missing or too long
 abbrev pub asked_of : Option (List ℕ) → ℕ
@@ -59,22 +65,22 @@ GivesText held (Ok read) =
 GivesText held (Err (Refused why)) = rules_held held ≡ Err why
 GivesText held (Err (Fault fault)) = ⊤
 
--- the text and the rules are those of the name in some files, which are those that the store tells
--- where it does, and no more was asked of the store than they need
+-- the text and the rules are those of the name in some files of bytes, which are those that the
+-- store tells where it does, and no more was asked of the store than they need
 pub record IsTextRead (name : List ℕ) (result : Result RulesText Stop)
     (old new : StoreTold) : Type 0 where
   pub files : Files
-  pub agrees : IfSome old.files (λ told. told ≡ files)
+  pub agrees : MayBeHeld old.files files
   pub due : GivesText (files name) result
   pub asked : new.asked ≤ old.asked + asked_of (files name)
   pub calls : new.calls ≤ old.calls + (1 + reads_of (files name))
 
--- the answer is that of the name in some files, which are those that the store tells where it does,
--- and no more was asked of the store than they need
+-- the answer is that of the name in some files of bytes, which are those that the store tells where
+-- it does, and no more was asked of the store than they need
 pub record IsRead (name : List ℕ) (result : Result RuleLines Stop)
     (old new : StoreTold) : Type 0 where
   pub files : Files
-  pub agrees : IfSome old.files (λ told. told ≡ files)
+  pub agrees : MayBeHeld old.files files
   pub due : Answers result (rules_held (files name))
   pub asked : new.asked ≤ old.asked + asked_of (files name)
   pub calls : new.calls ≤ old.calls + (1 + reads_of (files name))

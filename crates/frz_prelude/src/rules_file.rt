@@ -2,10 +2,11 @@
 ghost use Rattle.std.specs.Prelude.{◌≡◌, ◌+◌, ◌≤◌, IfOk, IfSome};
 ghost use Rattle.frz_store.specs.Outside.{FreeCauses};
 ghost use Rattle.frz_store.specs.Told.{store_of, StoreQuiet};
-ghost use Rattle.frz_prelude.specs.RulesFiles.{IsHeld, asked_of, asked_by, reads_of, reads_by};
+ghost use Rattle.frz_prelude.specs.RulesFiles.{AreBytesOf, IsHeld, asked_of, asked_by, reads_of, reads_by};
 
 use frz_rules::{LONGEST_TEXT, RulesCause, RulesFault};
 use frz_store::{Store, StoreFault};
+use frz_table::laws::bytes_fit;
 use std::alloc::Global;
 
 /// What is wrong with a rules text that is too long.
@@ -31,6 +32,7 @@ pub fn read_rules_file<S: Store>(
 ) -> Result<RulesFile, StoreFault>
     ensures held { IfOk result
         (λ file. IfSome (S.files store.old) (λ m. IsHeld (m name.now) file)) }
+    ensures bytes { IfOk result AreBytesOf }
     ensures quiet { StoreQuiet (store_of S.Store store.old) (store_of S.Store store.new) }
     ensures causes { FreeCauses (S.faults store.old) (S.faults store.new)
         (S.wants store.old) (S.wants store.new) result }
@@ -57,5 +59,6 @@ pub fn read_rules_file<S: Store>(
         return Err(StoreFault::NoMemory);
     };
     store.read(name, 0, &mut text)?;
+    bytes_fit(&text);
     Ok(RulesFile::Text(text))
 }

@@ -11,7 +11,7 @@ seen : (g : Over) (c : After-read_rules_file g)
 seen g c =
     let e = c.read_rules_file.ensures in
     rules_seen _ c.args.name.now c.read_rules_file.result _ _ _ _
-    (sees_rules _ c.args.name.now c.read_rules_file.result _ _ _ _ e.held e.asked
+    (sees_rules _ c.args.name.now c.read_rules_file.result _ _ _ _ e.held e.bytes e.asked
     e.asked_by e.asked_most e.short e.calls_told e.calls_by e.calls)
 
 pub returns-in-Ok-Missing-clause-read : goal.returns-in-Ok-Missing-clause-read
