@@ -1,7 +1,7 @@
 -- Elements of lists, and tests of them.
 use Rattle.std.proofs.Common.{◌≡◌, ◌≤◌, ◌<◌, ◌+◌, ℕ, zero, suc, inl, inr, Bool, true, false, ◌||◌, List, [], ◌∷◌, map, refl, sym, subst, ap, ◌∙◌, arith}
-use Rattle.std.specs.List.{Contains, AllByRecursion, list_any, range_with_len}
-use Rattle.std.proofs.lemmas.Bool.{cases_Bool, cases_lt}
+use Rattle.std.specs.List.{Contains, AllByRecursion, list_any, list_all, range_with_len}
+use Rattle.std.proofs.lemmas.Bool.{cases_Bool, cases_lt, and_parts}
 use Rattle.frz_arena.proofs.Lemmas.{none_in_empty, first_in, later_in, in_cases}
 
 pub or_first : (b c : Bool) → b ≡ true → (b || c) ≡ true
@@ -49,6 +49,16 @@ any_in f (y ∷ xs) x h e =
     elim (in_cases y xs x h) [
       | inl same ↦ or_first (f y) (list_any f xs) (ap f same ∙ e)
       | inr i ↦ or_second (f y) (list_any f xs) (any_in f xs x i e)
+    ]
+
+-- each element passes a test that all pass
+pub all_pass : (t : ℕ → Bool) (xs : List ℕ) (s : ℕ) → Contains xs s → list_all t xs ≡ true → t s ≡ true
+all_pass t [] s i h = absurd (none_in_empty s i)
+all_pass t (y ∷ xs) s i h =
+    let both = and_parts (t y) (list_all t xs) h in
+    elim (in_cases y xs s i) [
+      | inl same ↦ ap t (sym same) ∙ both.0
+      | inr j ↦ all_pass t xs s j both.1
     ]
 
 pub all_in : {X : Type 0} (P : X → Type 0) (xs : List X) → AllByRecursion P xs → (x : X) →

@@ -1,9 +1,9 @@
--- Each move out of the set of king and pawn against king leads into that of what the pawn may become.
+-- Each move out of the set of king and pawn against king leads into that of what the pawn becomes.
 use Rattle.std.proofs.Common.{◌≡◌, ◌≢◌, ◌≤◌, ◌<◌, ◌+◌, ◌/◌, ℕ, zero, suc, ◌⊎◌, inl, inr, Bool, true, not, ◌&&◌, List, [], ◌∷◌, refl, sym, subst, ap, ◌∙◌, arith, slice_index}
 use Rattle.std.specs.Prelude.{◌==◌, count_by}
-use Rattle.std.specs.List.{Contains, list_any, list_all, range_with_len}
+use Rattle.std.specs.List.{Contains, list_any, range_with_len}
 use Rattle.std.proofs.lemmas.List.{get_or_past}
-use Rattle.std.proofs.lemmas.Bool.{eqb-true, eq-eqb, cases_Bool, cases_lt, and_parts, and_from}
+use Rattle.std.proofs.lemmas.Bool.{eqb-true, eq-eqb, cases_Bool, cases_lt, and_from}
 use Rattle.frz_board.specs.declared.man.Colour.{Colour}
 use Rattle.frz_board.specs.declared.man.Colour.TheVariants.{White, Black}
 use Rattle.frz_board.specs.declared.man.Kind.{Kind}
@@ -27,7 +27,7 @@ use Rattle.frz_arena.proofs.Lemmas.{none_in_empty, first_in, later_in, in_cases}
 use Rattle.frz_game.specs.Games.{game_of}
 use Rattle.frz_game.specs.KingAndPawn.{white_king, black_king, white_pawn, white_officer, king_and_pawn, pawn_back}
 use Rattle.frz_game.specs.TextsByMen.{has_kind}
-use Rattle.frz_game.proofs.Elements.{or_first, or_second, mapped_there, number_in, some_in, any_in}
+use Rattle.frz_game.proofs.Elements.{or_first, or_second, mapped_there, number_in, some_in, any_in, all_pass}
 use Rattle.frz_game.proofs.MenAlone.{exit_valid}
 use Rattle.frz_game.proofs.MenCounted.{number, count_cons, count_mapped, count_squares, places_counted, places_of}
 use Rattle.frz_game.proofs.MenWithin.{covered, none_counted, men_within}
@@ -73,16 +73,6 @@ one_passes t a (suc n) s h l e alone =
           let rest = none_from t (a + 1) n (λ r above passes. (
           let same = alone r passes in omega arith)) in
           omega (arith, first, rest, here))
-    ]
-
--- each element passes a test that all pass
-all_pass : (t : ℕ → Bool) (xs : List ℕ) (s : ℕ) → Contains xs s → list_all t xs ≡ true → t s ≡ true
-all_pass t [] s i h = absurd (none_in_empty s i)
-all_pass t (y ∷ xs) s i h =
-    let both = and_parts (t y) (list_all t xs) h in
-    elim (in_cases y xs s i) [
-      | inl same ↦ sym (ap t same) ∙ both.0
-      | inr j ↦ all_pass t xs s j both.1
     ]
 
 -- a state of a group of the set
@@ -230,8 +220,8 @@ module _ (value : Board → Value) (q : Board) (x : IsExit (game_of king_and_paw
         | inr e ↦ (
             let counted = count_squares q White k valid.fits.size in
             let none = none_counted t 0 64 (λ s h passes. (
-            let yes = any_in t (range_with_len 0 64) s (number_in 0 64 s (omega arith) (omega arith))
-            passes in cc)) in
+            let there = number_in 0 64 s (omega arith) (omega arith) in
+            let yes = any_in t (range_with_len 0 64) s there passes in cc)) in
             inr (omega (arith, counted, none)))
       ]
 
@@ -385,15 +375,14 @@ module _ (value : Board → Value) (q : Board) (x : IsExit (game_of king_and_paw
         let own = (from_pawn c k t lt h n).0 in
         let mine : Stands q White k t = subst (λ (d : Colour). Stands q d k t) own h in
         let at = alone k Pawn t s lt ls mine pawn n (λ e. cc) in
-        let cell : cell_of_man (record { colour = c; kind = k })
-        ≡ cell_of_man (record { colour = White; kind = Pawn }) =
+        let pawn_cell = cell_of_man (record { colour = White; kind = Pawn }) in
+        let cell : cell_of_man (record { colour = c; kind = k }) ≡ pawn_cell =
         sym h ∙ ap (λ z. slice_index q.cells z) at ∙ pawn in
         let there = in_group king_and_pawn.groups white_pawn
         (later_in white_king (white_pawn ∷ black_king ∷ []) white_pawn
         (first_in white_pawn (black_king ∷ []))) Pawn s pawn_state in
         subst (λ z. has_state king_and_pawn.groups z t ≡ true) (sym cell)
-        (subst (λ z. has_state king_and_pawn.groups (cell_of_man (record { colour = White; kind = Pawn })) z
-        ≡ true) (sym at) there)
+        (subst (λ z. has_state king_and_pawn.groups pawn_cell z ≡ true) (sym at) there)
 
     pawn_covered : (c : Colour) (k : Kind) (t : ℕ) → t < 64 → Stands q c k t →
         has_state king_and_pawn.groups (cell_of_man (record { colour = c; kind = k })) t ≡ true
