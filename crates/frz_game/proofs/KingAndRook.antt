@@ -24,7 +24,7 @@ one_kind j k n i e =
       | inr none ↦ none_in_empty k none
     ]
 
-whole : IsWholeSet king_and_rook
+pub whole : IsWholeSet king_and_rook
 unfolding squares
 whole = record {
   groups = (

@@ -19,6 +19,9 @@ mod MenWithin
 mod TextsByMen
 mod WholeSets
 mod KingAndRook
+mod MovesByTest
+mod RenouncedRook
+mod FreedomNeeded
 mod LongestMate
 mod TrueAtEnds
 mod KingAndPawn

@@ -38,7 +38,7 @@ use Rattle.frz_game.proofs.MenAlone.{exit_valid}
 use Rattle.frz_game.proofs.MenCounted.{count_each, places_of}
 use Rattle.frz_game.proofs.TextsByMen.{promotes_none, draw_is, drawn_text}
 
-square_in : (s : ℕ) → s < 64 → Contains squares s
+pub square_in : (s : ℕ) → s < 64 → Contains squares s
 unfolding squares
 square_in s h = number_in 0 64 s (omega arith) (omega arith)
 

@@ -10,4 +10,6 @@ pub mod ExactBounds
 pub mod TextsByMen
 pub mod WholeSets
 pub mod KingAndRook
+pub mod RenouncedRook
+pub mod OpponentFree
 pub mod KingAndPawn

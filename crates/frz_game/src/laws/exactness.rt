@@ -2,23 +2,27 @@
 
 ghost use Rattle.std.specs.Prelude.{◌≡◌, ◌↔◌, ℕ, List, slice_index};
 ghost use Rattle.frz_board.specs.declared.man.Colour.{Colour};
+ghost use Rattle.frz_board.specs.declared.man.Colour.TheVariants.{White, Black};
 ghost use Rattle.frz_board.specs.Boards.{Board};
+ghost use Rattle.frz_board.specs.Men.{other_of};
 ghost use Rattle.frz_sets.specs.declared.exit.Value.{Value};
 ghost use Rattle.frz_sets.specs.Views.{RuleLines};
 ghost use Rattle.frz_index.specs.Members.{Member, Num};
 ghost use Rattle.frz_arena.specs.declared.bound.Bound.{Bound};
-ghost use Rattle.frz_arena.specs.declared.bound.Bound.TheVariants.{Wins};
+ghost use Rattle.frz_arena.specs.declared.bound.Bound.TheVariants.{Wins, Fails};
 ghost use Rattle.frz_arena.specs.Codes.{code_of};
-ghost use Rattle.frz_arena.specs.WholeTruth.{MatesIn, WinsAreKnown, WinsAreCounted, LossesAreKnown};
+ghost use Rattle.frz_arena.specs.WholeTruth.{CanForceMate, MatesIn, NoneIsBad, WinsAreKnown, WinsAreCounted, LossesAreKnown};
 ghost use Rattle.frz_exits.specs.Books.{value_by};
 ghost use Rattle.frz_game.specs.Bounds.{IsBoundAt, IsTableOf};
 ghost use Rattle.frz_arena.specs.Exits.{IsExit};
 ghost use Rattle.frz_game.specs.KingAndPawn.{king_and_pawn as pawn, pawn_back};
 ghost use Rattle.frz_game.specs.KingAndRook.{king_and_rook as rook};
-ghost use Rattle.frz_game.specs.ExactTables.{HasNoForbid, AreDecidedOutside, HasExactOutcomes, IsExactInChess, HasWinsUpTo, IsLongestMate};
-ghost use Rattle.frz_game.specs.ExactBounds.{IsExactWhereFree, TableIsExactWhereFree};
+ghost use Rattle.frz_game.specs.ExactTables.{HasNoForbid, AreDecidedOutside, IsLostOutside, HasExactOutcomes, IsExactInChess, HasWinsUpTo, IsLongestMate};
+ghost use Rattle.frz_game.specs.ExactBounds.{IsExactBound, HasExactOutcome, MeansExactly, IsExactWhereFree, TableIsExactWhereFree};
 ghost use Rattle.frz_game.specs.Games.{chess, game_of};
 ghost use Rattle.frz_game.specs.MenAlone.{IsDrawnOutside};
+ghost use Rattle.frz_game.specs.OpponentFree.{OfBounds, OfTables};
+ghost use Rattle.frz_game.specs.RenouncedRook.{renounced_rook};
 ghost use Rattle.frz_game.specs.Values.{AreTrueExits};
 
 /// The table of a side that no line forbids a move. Where its plies to mate just outside the set
@@ -53,6 +57,48 @@ pub fn exact_where_free()
         IsExactWhereFree rules value side p b }
     ensures table { (rules : RuleLines) (value : Board → Value) (side : Colour) (codes : List ℕ) →
         IsTableOf rules value side codes → TableIsExactWhereFree rules value side codes }
+{}
+
+/// A game in which a side does not move freely: White renounces all moves but two of the rook's.
+/// Each way out of its set is drawn by the men, and no line forbids Black a move. But at one
+/// position White mates in one, and his bound is a failure; at another he mates in one, and it is a
+/// win within three.
+pub fn freedom_renounced()
+    ensures drawn { IsDrawnOutside renounced_rook (value_by renounced_rook) }
+    ensures opponent { HasNoForbid renounced_rook Black }
+    ensures none { (p : Board) × Member renounced_rook.groups p × MatesIn chess White 1 p
+        × IsBoundAt renounced_rook (value_by renounced_rook) White p (Fails 0) }
+    ensures slower { (p : Board) × Member renounced_rook.groups p × MatesIn chess White 1 p
+        × IsBoundAt renounced_rook (value_by renounced_rook) White p (Wins 3) }
+{}
+
+/// So what `MeansExactly` says where no line forbids the side a move is false, field by field,
+/// where that is asked of the opponent in place of the side, or of neither.
+pub fn bounds_need_freedom()
+    ensures drawn { OfBounds (λ rules value side p b. IsDrawnOutside rules value →
+        IsExactBound side p b) → ⊥ }
+    ensures decided { OfBounds (λ rules value side p b. AreTrueExits rules value →
+        AreDecidedOutside rules value → HasExactOutcome side p b) → ⊥ }
+    ensures win { OfBounds (λ rules value side p b. AreTrueExits rules value →
+        NoneIsBad (game_of rules value) (other_of side) → (n : ℕ) → b ≡ Wins n →
+        MatesIn chess side n p) → ⊥ }
+    ensures lost { OfBounds (λ rules value side p b. AreTrueExits rules value →
+        IsLostOutside rules value side → (m : ℕ) → b ≡ Fails m →
+        CanForceMate chess (other_of side) p) → ⊥ }
+    ensures lost_in { OfBounds (λ rules value side p b. AreTrueExits rules value →
+        NoneIsBad (game_of rules value) side → (m : ℕ) → b ≡ Fails m →
+        MatesIn chess (other_of side) m p) → ⊥ }
+{}
+
+/// And so is each field of `TableMeansExactly`.
+pub fn tables_need_freedom()
+    ensures drawn { OfTables (λ rules value side codes. IsDrawnOutside rules value →
+        IsExactInChess rules side codes) → ⊥ }
+    ensures decided { OfTables (λ rules value side codes. AreTrueExits rules value →
+        AreDecidedOutside rules value → HasExactOutcomes rules side codes) → ⊥ }
+    ensures bound { OfTables (λ rules value side codes. (p : Board) (b : Bound) →
+        Member rules.groups p → slice_index codes (Num rules.groups p) ≡ code_of b →
+        MeansExactly rules value side p b) → ⊥ }
 {}
 
 /// Where the table of a side is exact in chess, its greatest code of a win tells the longest mate
