@@ -1,5 +1,6 @@
 mod Picked
 pub mod TenNumbers
+mod ReadTexts
 mod RookText
 mod Unconditional
 mod PawnBackText

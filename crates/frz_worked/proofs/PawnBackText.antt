@@ -1,25 +1,15 @@
 -- The texts of king and pawn and of what the pawn may become are read as those rules, and the table
 -- of the second is exact in chess.
 use Rattle.std.proofs.Common.{◌≡◌, ◌≢◌, ℕ, inl, inr, true, List, [], ◌∷◌, refl, subst, ◌∙◌, arith}
-use Rattle.std.specs.Prelude.{Result, Ok}
+use Rattle.std.specs.Prelude.{Ok}
 use Rattle.std.specs.List.{Contains}
 use Rattle.frz_board.specs.declared.man.Colour.{Colour}
 use Rattle.frz_board.specs.declared.man.Kind.{Kind}
 use Rattle.frz_board.specs.declared.man.Kind.TheVariants.{King, Queen, Rook, Bishop, Knight, Pawn}
-use Rattle.frz_board.specs.Squares.{squares}
-use Rattle.frz_combinations.specs.Binomials.{choose}
 use Rattle.frz_arena.proofs.Lemmas.{none_in_empty, in_cases}
 use Rattle.frz_exits.specs.Books.{value_by}
-use Rattle.frz_rules.specs.declared.fault.RulesFault.{RulesFault}
-use Rattle.frz_rules.specs.Grammar.{line_form}
-use Rattle.frz_rules.specs.Lines.{group_of, forbid_of, exit_of}
-use Rattle.frz_rules.specs.States.{states_of}
-use Rattle.frz_rules.specs.Text.{line_of, rules_of}
+use Rattle.frz_rules.specs.Text.{rules_of}
 use Rattle.frz_sets.specs.Views.{RuleLines}
-use Rattle.frz_words.specs.Numbers.{number_of}
-use Rattle.frz_words.specs.Squares.{squares_of, is_square_of}
-use Rattle.frz_words.specs.Words.{words}
-use Rattle.frz_squares.specs.SquareSets.{set_of}
 use Rattle.frz_game.specs.Bounds.{IsTableOf}
 use Rattle.frz_game.specs.ExactTables.{IsExactInChess}
 use Rattle.frz_game.specs.KingAndPawn.{king_and_pawn, pawn_back}
@@ -28,13 +18,14 @@ use Rattle.frz_game.specs.TextsByMen.{are_drawn_by_men}
 use Rattle.frz_game.specs.WholeSets.{IsWholeSet, by_king, by_none}
 use Rattle.frz_game.proofs.Lemmas.{whole_set_drawn, exact_where_drawn}
 use Rattle.frz_worked.specs.WorkedTexts.{pawn_text, pawn_back_text}
+use Rattle.frz_worked.proofs.ReadTexts.{read_text, same_rules}
 
 pub pawn_back_read : rules_of pawn_back_text ≡ Ok pawn_back
-unfolding rules_of pawn_back_text line_of group_of forbid_of exit_of line_form states_of number_of squares_of is_square_of words squares set_of choose
+unfolding read_text pawn_back_text
 pawn_back_read = refl
 
 pub pawn_read : rules_of pawn_text ≡ Ok king_and_pawn
-unfolding rules_of pawn_text line_of group_of forbid_of exit_of line_form states_of number_of squares_of is_square_of words squares set_of choose
+unfolding read_text pawn_text
 pawn_read = refl
 
 -- each of these kinds is no pawn
@@ -92,9 +83,6 @@ no_line = refl
 
 pub pawn_back_drawn : IsDrawnOutside pawn_back (value_by pawn_back)
 pawn_back_drawn = whole_set_drawn pawn_back whole no_line
-
-same_rules : (r : Result RuleLines RulesFault) (x y : RuleLines) → r ≡ Ok x → r ≡ Ok y → x ≡ y
-same_rules r x y e h = cc
 
 pub pawn_back_table : (rules : RuleLines) → rules_of pawn_back_text ≡ Ok rules → (side : Colour)
     (codes : List ℕ) → IsTableOf rules (value_by rules) side codes →

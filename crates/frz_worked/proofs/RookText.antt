@@ -1,32 +1,26 @@
--- The text of king and rook against king is read as those rules, and its table is exact in chess.
+-- The text of king and rook against king is read as those rules, and its table is exact in chess;
+-- and the text is read in which White renounces all moves but two of the rook's.
 use Rattle.std.proofs.Common.{◌≡◌, ℕ, List, refl, subst}
-use Rattle.std.specs.Prelude.{Result, Ok}
+use Rattle.std.specs.Prelude.{Ok}
 use Rattle.frz_board.specs.declared.man.Colour.{Colour}
-use Rattle.frz_board.specs.Squares.{squares}
-use Rattle.frz_combinations.specs.Binomials.{choose}
 use Rattle.frz_exits.specs.Books.{value_by}
-use Rattle.frz_rules.specs.declared.fault.RulesFault.{RulesFault}
-use Rattle.frz_rules.specs.Grammar.{line_form}
-use Rattle.frz_rules.specs.Lines.{group_of, forbid_of, exit_of}
-use Rattle.frz_rules.specs.States.{states_of}
-use Rattle.frz_rules.specs.Text.{line_of, rules_of}
+use Rattle.frz_rules.specs.Text.{rules_of}
 use Rattle.frz_sets.specs.Views.{RuleLines}
-use Rattle.frz_words.specs.Numbers.{number_of}
-use Rattle.frz_words.specs.Squares.{squares_of, is_square_of}
-use Rattle.frz_words.specs.Words.{words}
-use Rattle.frz_squares.specs.SquareSets.{set_of}
 use Rattle.frz_game.specs.Bounds.{IsTableOf}
 use Rattle.frz_game.specs.ExactTables.{IsExactInChess}
 use Rattle.frz_game.specs.KingAndRook.{king_and_rook}
+use Rattle.frz_game.specs.RenouncedRook.{renounced_rook}
 use Rattle.frz_game.proofs.Lemmas.{rook_exact}
-use Rattle.frz_worked.specs.RookText.{rook_text}
+use Rattle.frz_worked.specs.RookText.{rook_text, two_squares_text}
+use Rattle.frz_worked.proofs.ReadTexts.{read_text, same_rules}
+
+pub two_squares_read : rules_of two_squares_text ≡ Ok renounced_rook
+unfolding read_text two_squares_text
+two_squares_read = refl
 
 pub rook_read : rules_of rook_text ≡ Ok king_and_rook
-unfolding rules_of rook_text line_of group_of forbid_of exit_of line_form states_of number_of squares_of is_square_of words squares set_of choose
+unfolding read_text rook_text
 rook_read = refl
-
-same_rules : (r : Result RuleLines RulesFault) (x y : RuleLines) → r ≡ Ok x → r ≡ Ok y → x ≡ y
-same_rules r x y e h = cc
 
 pub rook_table : (rules : RuleLines) → rules_of rook_text ≡ Ok rules → (side : Colour)
     (codes : List ℕ) → IsTableOf rules (value_by rules) side codes →

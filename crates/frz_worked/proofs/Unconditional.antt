@@ -1,62 +1,26 @@
 -- Worked texts whose exit lines are true by the men, or that have none.
-use Rattle.std.proofs.Common.{◌≡◌, ℕ, Bool, true, false, List, refl, sym, ap, ◌∙◌}
+use Rattle.std.proofs.Common.{◌≡◌, ℕ, Bool, true, false, List, refl}
 use Rattle.std.specs.Prelude.{Result, Ok, Err}
-use Rattle.frz_combinations.specs.Binomials.{choose}
-use Rattle.frz_board.specs.Squares.{squares}
 use Rattle.frz_exits.specs.Books.{value_by}
 use Rattle.frz_rules.specs.declared.fault.RulesFault.{RulesFault}
-use Rattle.frz_rules.specs.Grammar.{line_form}
-use Rattle.frz_rules.specs.Lines.{group_of, forbid_of, exit_of}
-use Rattle.frz_rules.specs.States.{states_of}
-use Rattle.frz_rules.specs.Text.{line_of, rules_of}
+use Rattle.frz_rules.specs.Text.{rules_of}
 use Rattle.frz_sets.specs.Views.{RuleLines}
-use Rattle.frz_words.specs.Numbers.{number_of}
-use Rattle.frz_words.specs.Squares.{squares_of, is_square_of}
-use Rattle.frz_words.specs.Words.{words}
-use Rattle.frz_squares.specs.SquareSets.{set_of}
 use Rattle.frz_game.specs.TextsByMen.{are_true_by_men, leave_dead, leave_bare, leave_minor}
 use Rattle.frz_game.proofs.Lemmas.{exits_by_men, text_by_men}
 use Rattle.frz_worked.specs.FortressText.{fortress_text}
 use Rattle.frz_worked.specs.RookText.{rook_text}
 use Rattle.frz_worked.specs.WorkedTexts.{IsUnconditional, pawn_text, pawn_back_text, corner_text, corner_back_text, blocked_text, wall_text}
+use Rattle.frz_worked.proofs.ReadTexts.{read_text}
 
 abbrev passes : Result RuleLines RulesFault → Bool
 passes (Ok rules) = are_true_by_men rules
 passes (Err fault) = false
 
-rook_passes : passes (rules_of rook_text) ≡ true
-unfolding rules_of rook_text line_of group_of forbid_of exit_of line_form states_of number_of squares_of is_square_of words squares set_of choose are_true_by_men leave_dead leave_bare leave_minor
-rook_passes = refl
+-- the test of a text, opened for computing
+text_passes : List ℕ → Bool
+unfolding read_text are_true_by_men leave_dead leave_bare leave_minor
+text_passes text = passes (rules_of text)
 
-fortress_passes : passes (rules_of fortress_text) ≡ true
-unfolding rules_of fortress_text line_of group_of forbid_of exit_of line_form states_of number_of squares_of is_square_of words squares set_of choose are_true_by_men leave_dead leave_bare leave_minor
-fortress_passes = refl
-
-pawn_passes : passes (rules_of pawn_text) ≡ true
-unfolding rules_of pawn_text line_of group_of forbid_of exit_of line_form states_of number_of squares_of is_square_of words squares set_of choose are_true_by_men leave_dead leave_bare leave_minor
-pawn_passes = refl
-
-pawn_back_passes : passes (rules_of pawn_back_text) ≡ true
-unfolding rules_of pawn_back_text line_of group_of forbid_of exit_of line_form states_of number_of squares_of is_square_of words squares set_of choose are_true_by_men leave_dead leave_bare leave_minor
-pawn_back_passes = refl
-
-corner_passes : passes (rules_of corner_text) ≡ true
-unfolding rules_of corner_text line_of group_of forbid_of exit_of line_form states_of number_of squares_of is_square_of words squares set_of choose are_true_by_men leave_dead leave_bare leave_minor
-corner_passes = refl
-
-corner_back_passes : passes (rules_of corner_back_text) ≡ true
-unfolding rules_of corner_back_text line_of group_of forbid_of exit_of line_form states_of number_of squares_of is_square_of words squares set_of choose are_true_by_men leave_dead leave_bare leave_minor
-corner_back_passes = refl
-
-blocked_passes : passes (rules_of blocked_text) ≡ true
-unfolding rules_of blocked_text line_of group_of forbid_of exit_of line_form states_of number_of squares_of is_square_of words squares set_of choose are_true_by_men leave_dead leave_bare leave_minor
-blocked_passes = refl
-
-wall_passes : passes (rules_of wall_text) ≡ true
-unfolding rules_of wall_text line_of group_of forbid_of exit_of line_form states_of number_of squares_of is_square_of words squares set_of choose are_true_by_men leave_dead leave_bare leave_minor
-wall_passes = refl
-
--- a text that passes is unconditional
 read_so : (text : List ℕ) (r : Result RuleLines RulesFault) → rules_of text ≡ r →
     passes r ≡ true → IsUnconditional text
 read_so text (Ok rules) e pass = record {
@@ -66,34 +30,39 @@ read_so text (Ok rules) e pass = record {
 }
 read_so text (Err fault) e pass = absurd (cc)
 
+-- a text that passes is unconditional
+unconditional : (text : List ℕ) → text_passes text ≡ true → IsUnconditional text
+unfolding text_passes
+unconditional text pass = read_so text (rules_of text) refl pass
+
 pub rook_unconditional : IsUnconditional rook_text
-rook_unconditional =
-    read_so rook_text (rules_of rook_text) refl rook_passes
+unfolding text_passes rook_text
+rook_unconditional = unconditional rook_text refl
 
 pub fortress_unconditional : IsUnconditional fortress_text
-fortress_unconditional =
-    read_so fortress_text (rules_of fortress_text) refl fortress_passes
+unfolding text_passes fortress_text
+fortress_unconditional = unconditional fortress_text refl
 
 pub pawn_unconditional : IsUnconditional pawn_text
-pawn_unconditional =
-    read_so pawn_text (rules_of pawn_text) refl pawn_passes
+unfolding text_passes pawn_text
+pawn_unconditional = unconditional pawn_text refl
 
 pub pawn_back_unconditional : IsUnconditional pawn_back_text
-pawn_back_unconditional =
-    read_so pawn_back_text (rules_of pawn_back_text) refl pawn_back_passes
+unfolding text_passes pawn_back_text
+pawn_back_unconditional = unconditional pawn_back_text refl
 
 pub corner_unconditional : IsUnconditional corner_text
-corner_unconditional =
-    read_so corner_text (rules_of corner_text) refl corner_passes
+unfolding text_passes corner_text
+corner_unconditional = unconditional corner_text refl
 
 pub corner_back_unconditional : IsUnconditional corner_back_text
-corner_back_unconditional =
-    read_so corner_back_text (rules_of corner_back_text) refl corner_back_passes
+unfolding text_passes corner_back_text
+corner_back_unconditional = unconditional corner_back_text refl
 
 pub blocked_unconditional : IsUnconditional blocked_text
-blocked_unconditional =
-    read_so blocked_text (rules_of blocked_text) refl blocked_passes
+unfolding text_passes blocked_text
+blocked_unconditional = unconditional blocked_text refl
 
 pub wall_unconditional : IsUnconditional wall_text
-wall_unconditional =
-    read_so wall_text (rules_of wall_text) refl wall_passes
+unfolding text_passes wall_text
+wall_unconditional = unconditional wall_text refl

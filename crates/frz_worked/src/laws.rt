@@ -14,8 +14,9 @@ ghost use Rattle.frz_game.specs.Bounds.{IsTableOf};
 ghost use Rattle.frz_game.specs.ExactTables.{IsExactInChess, HasWinsUpTo, IsLongestMate};
 ghost use Rattle.frz_game.specs.KingAndPawn.{king_and_pawn, pawn_back};
 ghost use Rattle.frz_game.specs.KingAndRook.{king_and_rook};
+ghost use Rattle.frz_game.specs.RenouncedRook.{renounced_rook};
 ghost use Rattle.frz_worked.specs.FortressText.{fortress_text};
-ghost use Rattle.frz_worked.specs.RookText.{rook_text};
+ghost use Rattle.frz_worked.specs.RookText.{rook_text, two_squares_text};
 ghost use Rattle.frz_worked.specs.WorkedTexts.{IsUnconditional, pawn_back_text as back_text, pawn_text, corner_text, corner_back_text, blocked_text, wall_text};
 
 /// The text of king and rook against king is accepted, and the table of its rules is exact in chess
@@ -31,8 +32,16 @@ pub fn king_and_rook_text()
         HasWinsUpTo codes n → IsLongestMate rules White n }
 {}
 
-/// The text of king and pawn is accepted, and so is that of what the pawn may become, into whose set
-/// each move out of the first one leads; the table of the second is exact in chess for both sides.
+/// The text of king and rook in which White renounces all moves but two of the rook's is accepted:
+/// its rules are those of which `frz_game::laws::exactness` says that the bounds are not those of
+/// chess.
+pub fn two_squares_text()
+    ensures { rules_of two_squares_text ≡ Ok renounced_rook }
+{}
+
+/// The text of king and pawn is accepted, and so is that of what the pawn may become, into whose
+/// set each move out of the first one leads; the table of the second is exact in chess for both
+/// sides.
 pub fn pawn_back_text()
     ensures pawn { rules_of pawn_text ≡ Ok king_and_pawn }
     ensures read { rules_of back_text ≡ Ok pawn_back }
