@@ -4,3 +4,4 @@ mod ReadTexts
 mod RookText
 mod Unconditional
 mod PawnBackText
+mod PawnOverBack

@@ -11,10 +11,12 @@ ghost use Rattle.frz_arena.specs.declared.bound.Bound.TheVariants.{Wins};
 ghost use Rattle.frz_arena.specs.Codes.{code_of};
 ghost use Rattle.frz_exits.specs.Books.{value_by};
 ghost use Rattle.frz_game.specs.Bounds.{IsTableOf};
-ghost use Rattle.frz_game.specs.ExactTables.{IsExactInChess, HasWinsUpTo, IsLongestMate};
+ghost use Rattle.frz_game.specs.ExactTables.{HasExactOutcomes, IsExactInChess, HasWinsUpTo, IsLongestMate};
 ghost use Rattle.frz_game.specs.KingAndPawn.{king_and_pawn, pawn_back};
 ghost use Rattle.frz_game.specs.KingAndRook.{king_and_rook};
 ghost use Rattle.frz_game.specs.RenouncedRook.{renounced_rook};
+ghost use Rattle.frz_chain.specs.Books.{Back, chain_value};
+ghost use Rattle.frz_chain.specs.FileOn.{IsExactBack};
 ghost use Rattle.frz_worked.specs.FortressText.{fortress_text};
 ghost use Rattle.frz_worked.specs.RookText.{rook_text, two_squares_text};
 ghost use Rattle.frz_worked.specs.WorkedTexts.{IsUnconditional, pawn_back_text as back_text, pawn_text, corner_text, corner_back_text, blocked_text, wall_text};
@@ -48,6 +50,15 @@ pub fn pawn_back_text()
     ensures exact { (rules : RuleLines) → rules_of back_text ≡ Ok rules → (side : Colour)
         (codes : List ℕ) → IsTableOf rules (value_by rules) side codes →
         IsExactInChess rules side codes }
+{}
+
+/// A table of the text of king and pawn, over an exact table of the text of what the pawn may
+/// become, has the outcomes of chess: a win, a loss and a draw there are those of chess.
+pub fn pawn_over_back()
+    ensures { (rules backs : RuleLines) → rules_of pawn_text ≡ Ok rules →
+        rules_of back_text ≡ Ok backs → (back : Back) → IsExactBack backs (value_by backs) back →
+        (side : Colour) (codes : List ℕ) → IsTableOf rules (chain_value rules back) side codes →
+        HasExactOutcomes rules side codes }
 {}
 
 /// These worked texts are accepted, and their exits are true in chess: nothing that they say has to
