@@ -51,8 +51,8 @@ safe_next game exits numbers law side codes table q false e exit f n g =
     ]
 
 -- the arm of a number's move
-pub arm_is : {P M V : Type 0} (game : Game P M V) (numbers : Numbering P) (i place : ℕ) (a : Arm M ℕ V)
-    (p : P) (m : M) → numbers.at i ≡ Some p
+pub arm_is : {P M V : Type 0} (game : Game P M V) (numbers : Numbering P) (i place : ℕ)
+    (a : Arm M ℕ V) (p : P) (m : M) → numbers.at i ≡ Some p
     → slice_get ((numbers_of numbers (arena_of game)).arms i) place ≡ Some a
     → slice_get (game.chess.moves p) place ≡ Some m → a ≡ named (name_in numbers) (arm_of game p m)
 arm_is {P} {M} {V} game numbers i place a p m e h k =
