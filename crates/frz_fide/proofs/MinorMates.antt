@@ -226,17 +226,17 @@ module _ (p : Board) (v : IsValid p) (minor : HasOneMinor p (other_of p.turn))
       ((x ≡ d) × (c ≡ p.turn)) ⊎ (Stands p c k x × (x ≢ s))
   stood d ld c k x e =
       let size = v.fits.size in
-      let ls' : s < length p.cells = omega arith in
-      let ld' : d < length (slice_set p.cells s 0) = rw length-set (omega arith) in
+      let from_there : s < length p.cells = omega arith in
+      let to_there : d < length (slice_set p.cells s 0) = rw length-set (omega arith) in
       let there = sym (set_at (slice_set p.cells s 0) d
-      (cell_of_man (record { colour = p.turn; kind = King })) x ld') ∙ e in
+      (cell_of_man (record { colour = p.turn; kind = King })) x to_there) ∙ e in
       elim (cond_cases (x == d) (cell_of_man (record { colour = p.turn; kind = King }))
       (slice_index (slice_set p.cells s 0) x)
       (cell_of_man (record { colour = c; kind = k })) there) [
         | inl w ↦ inl (eqb-true x d w.0, sym (same_man p.turn c King k w.1).0)
         | inr w ↦ elim (cond_cases (x == s) 0 (slice_index p.cells x)
             (cell_of_man (record { colour = c; kind = k }))
-            (sym (set_at p.cells s 0 x ls') ∙ w.1)) [
+            (sym (set_at p.cells s 0 x from_there) ∙ w.1)) [
               | inl u ↦ absurd (not_zero c k u.1)
               | inr u ↦ inr (
                 u.1,
@@ -372,8 +372,8 @@ no_minor_mate p v minor bare check =
     goes_on p v minor bare c.square c.on_board c.king check
 
 -- what counts say
-pub man_counted : (p : Board) (c : Colour) (k : Kind) (s : ℕ) → IsValid p → s < 64 → Stands p c k s →
-    1 ≤ count_of p c k
+pub man_counted : (p : Board) (c : Colour) (k : Kind) (s : ℕ) → IsValid p → s < 64 →
+    Stands p c k s → 1 ≤ count_of p c k
 man_counted p c k s v ls e =
     let size = v.fits.size in
     let cell = cell_of_man (record { colour = c; kind = k }) in
