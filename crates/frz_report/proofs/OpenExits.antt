@@ -106,8 +106,9 @@ module _ (rules : RuleLines) (value : Board → Value) (none : exits_of rules va
       position_of rules.groups (Num rules.groups p) p
       (record { member = member_of rules.groups p member; number = refl }) in
       let arms = (graph_by rules value).arms (Num rules.groups p) in
+      let below = Num_below rules.groups p (member_of rules.groups p member) in
       let e : classes_after p arms ≡ [] = sym (ap (classes_on arms) at_p)
-      ∙ empty_at (Num rules.groups p) (Num_below rules.groups p (member_of rules.groups p member)) in
+      ∙ empty_at (Num rules.groups p) below in
       none_kept (λ (b : Arm Step ℕ Value). is_open b.next) arms a
       (map_empty (λ (b : Arm Step ℕ Value). class_of (after p b.mv))
       (filter (λ (b : Arm Step ℕ Value). is_open b.next) arms) e) i o
