@@ -14,7 +14,6 @@ use Rattle.frz_index.proofs.Lemmas.{of_member, number_there}
 use Rattle.frz_arena.specs.declared.bound.Bound.{Bound}
 use Rattle.frz_arena.specs.declared.bound.Bound.TheVariants.{Wins, Holds, Fails}
 use Rattle.frz_arena.specs.Codes.{code_of, is_win, is_failure}
-use Rattle.frz_arena.specs.WholeTruth.{IsWin, IsFailure}
 use Rattle.frz_arena.proofs.Lemmas.{win_of, as_failure}
 use Rattle.frz_game.specs.ExactTables.{HasExactOutcomes, is_decided, AreDecidedOutside}
 use Rattle.frz_game.proofs.Lemmas.{stored_bound}
