@@ -7,7 +7,6 @@ use Rattle.frz_store.specs.Files.{Files}
 use Rattle.frz_store.specs.Outside.{Rose}
 use Rattle.frz_store.specs.Told.{StoreTold, SourceTold, SinkTold, StoreQuiet, StoreFine}
 use Rattle.frz_table.specs.declared.fault.TableFault.{TableFault}
-use Rattle.frz_table.specs.declared.fault.TableFault.TheVariants.{NoMemory}
 use Rattle.frz_table.specs.declared.kind.FileKind.TheVariants.{Plain}
 use Rattle.frz_table.specs.Layout.{pieces_of}
 use Rattle.frz_table.specs.Opening.{Contents, contents_of, opened, table_format}
