@@ -127,7 +127,8 @@ module _ (job : Job) (status : ℕ) (old mid : World) (out : SinkTold) where
   new = record mid { out = out }
 
   -- the answer over what is told, or over some files and input where nothing is
-  abbrev told_answer : (end : End) → Ran job end old mid → Answered job (unwrap_or old.store.files no_files) (unwrap_or old.input.left []) end old mid
+  abbrev told_answer : (end : End) → Ran job end old mid
+      → Answered job (unwrap_or old.store.files no_files) (unwrap_or old.input.left []) end old mid
   told_answer end ran = ran.answered _ _ (agrees_told old)
 
   abbrev answering : (end : End) (files : Files) (input : List ℕ)

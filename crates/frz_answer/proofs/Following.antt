@@ -20,7 +20,8 @@ use Rattle.frz_answer.proofs.Worlds.{later_on, unwritten_on}
 
 -- lines behind lines are lines
 pub lines_behind : (xs ys : List ℕ) → IsLines xs → IsLines ys → IsLines (xs ++ ys)
-lines_behind xs ys h (inl e) = subst IsLines (sym (ap (λ (l : List ℕ). xs ++ l) e ∙ append-nil xs)) h
+lines_behind xs ys h (inl e) = subst IsLines
+    (sym (ap (λ (l : List ℕ). xs ++ l) e ∙ append-nil xs)) h
 lines_behind xs ys h (inr k) =
     inr (xs ++ k.0, ap (λ (l : List ℕ). xs ++ l) k.1 ∙ sym (append_assoc xs k.0 (10 ∷ [])))
 

@@ -52,7 +52,8 @@ any_in f (y ∷ xs) x h e =
     ]
 
 -- each element passes a test that all pass
-pub all_pass : (t : ℕ → Bool) (xs : List ℕ) (s : ℕ) → Contains xs s → list_all t xs ≡ true → t s ≡ true
+pub all_pass : (t : ℕ → Bool) (xs : List ℕ) (s : ℕ) → Contains xs s → list_all t xs ≡ true
+    → t s ≡ true
 all_pass t [] s i h = absurd (none_in_empty s i)
 all_pass t (y ∷ xs) s i h =
     let both = and_parts (t y) (list_all t xs) h in

@@ -33,7 +33,8 @@ module _ (gs : List GroupLine) (man : Man) (s i : ℕ) (g : GroupLine)
   same : (adds : ℕ) (h : IsShare gs man s i adds) → h.group ≡ g
   same adds h = same_Some h.group g (sym h.there ∙ there)
 
-  pub no_state_here : is_state (cell_of_man man) s g ≡ false → (adds : ℕ) → IsShare gs man s i adds →
+  pub no_state_here : is_state (cell_of_man man) s g ≡ false → (adds : ℕ)
+      → IsShare gs man s i adds →
       ⊥
   no_state_here off adds h =
       let on : is_state (cell_of_man man) s g ≡ true =

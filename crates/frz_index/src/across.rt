@@ -32,8 +32,8 @@ fn turn_adds(plan: &Plan, turn: Colour, target: Option<Square>) -> u64
     u64::from(turn_number(&plan.targets, turn, target)) * u64::from(plan.whole)
 }
 
-/// The number of the position after the man has gone from one square to another, which is empty, with
-/// this target after it, where that can be told by what it changes.
+/// The number of the position after the man has gone from one square to another, which is empty,
+/// with this target after it, where that can be told by what it changes.
 pub(crate) fn number_after_in(
     plan: &Plan,
     i: u32,

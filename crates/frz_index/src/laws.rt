@@ -49,8 +49,10 @@ pub fn old_numbers()
 /// The number after a step is the number of the position after it, where on both squares the
 /// same group counts the man, and no other one.
 pub fn numbers_after_steps()
-    ensures { (r : RuleLines) (p : Board) (man : Man) (a b i k left comes : ℕ) (target : Option ℕ) → IsSound r →
+    ensures { (r : RuleLines) (p : Board) (man : Man) (a b i k left comes : ℕ)
+        (target : Option ℕ) → IsSound r →
         HasNumber r.groups i p → IsStep p man a b → IsValid (stepped p man a b target) →
         IsShare r.groups man a k left → IsShare r.groups man b k comes →
-        HasNumber r.groups (number_after r.groups p.turn p.ep target i left comes) (stepped p man a b target) }
+        HasNumber r.groups (number_after r.groups p.turn p.ep target i left comes)
+            (stepped p man a b target) }
 {}

@@ -186,8 +186,9 @@ impl Set {
         number_in(&self.plan, p)
     }
 
-    /// The number of the position after this man has gone to an empty square, with the other side to
-    /// move and this target, exactly where one group alone, of one man at most, counts the man on both squares.
+    /// The number of the position after this man has gone to an empty square, with the other side
+    /// to move and this target, exactly where one group alone, of one man at most, counts the man on
+    /// both squares.
     pub fn number_after_step(
         &self,
         i: u32,
@@ -202,13 +203,14 @@ impl Set {
         requires free { is_empty p.now to ≡ true }
         requires valid { IsValid (stepped p.now man from to target.now) }
         ensures told { IsSome result ↔ IsCountedOnBoth self.now man from to }
-        ensures number { IfSome result (λ n. HasNumber self.now n (stepped p.now man from to target.now)) }
+        ensures number { IfSome result
+            (λ n. HasNumber self.now n (stepped p.now man from to target.now)) }
     {
         number_after_in(&self.plan, i, p, man, from, to, target)
     }
 
-    /// The number of the position after a legal move, exactly where the move is quiet, and one group
-    /// alone, of one man at most, counts its man on both squares.
+    /// The number of the position after a legal move, exactly where the move is quiet, and one
+    /// group alone, of one man at most, counts its man on both squares.
     pub fn number_after_move(&self, i: u32, p: &Bitboards, m: Move) -> Option<u32>
         requires number { HasNumber self.now i p.now }
         requires legal { is_legal p.now m ≡ true }

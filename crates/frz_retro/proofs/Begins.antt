@@ -103,7 +103,8 @@ module _ {B : Shape} {side : Colour} {E C L Q : List ℕ} {tail : ℕ} (n : ℕ)
   at_code x = read_back E n x (omega (arith, is_one))
 
   -- a number that is not open has a code of its own
-  queue_begins : (entry : ℕ) → Queue 0 0 (set E n entry) (if nat_le 2 entry then set Q tail n else Q)
+  queue_begins : (entry : ℕ) → Queue 0 0 (set E n entry)
+      (if nat_le 2 entry then set Q tail n else Q)
       (if nat_le 2 entry then tail + 1 else tail)
   queue_begins zero = queue_breaks n b.queue (omega arith) is_one
   queue_begins (suc zero) =

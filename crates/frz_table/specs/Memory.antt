@@ -10,7 +10,8 @@ use Rattle.frz_table.specs.Tables.{Holds}
 
 -- memory may be wanted to read this text, or it gives rules, which are kept
 abbrev pub TakesMemory : List ℕ → Type 0
-TakesMemory text = (may_want_memory text ≡ true) ⊎ ((rules : RuleLines) × (rules_of text ≡ Ok rules))
+TakesMemory text = (may_want_memory text ≡ true)
+    ⊎ ((rules : RuleLines) × (rules_of text ≡ Ok rules))
 
 -- the head of these bytes is right, and their text is one that takes memory
 pub record WantsMemory (magic bytes : List ℕ) : Type 0 where

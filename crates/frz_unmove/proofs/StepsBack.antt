@@ -139,7 +139,8 @@ module _ (q : Board) (m : Step) (taken : ℕ) (target : Option ℕ) (man : Man) 
               ap (slice_index (stepped p man m.from m.to None).cells) e
               ∙ at_from p man m.from m.to None forth ∙ sym back_step.free
               ∙ ap (slice_index q.cells) (sym e)
-          | inr k ↦ at_rest p man m.from m.to None forth s k n ∙ at_rest q man m.to m.from target back_step s n k
+          | inr k ↦ at_rest p man m.from m.to None forth s k n
+              ∙ at_rest q man m.to m.from target back_step s n k
         ]
       ]
 

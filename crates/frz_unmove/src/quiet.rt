@@ -43,8 +43,8 @@ fn back(q: &Bitboards, man: Man, from: Square, to: Square, target: &Option<Squar
     p
 }
 
-/// The board without a man that has moved, where it does not leave its opponent's king attacked, and
-/// that king's square.
+/// The board without a man that has moved, where it does not leave its opponent's king attacked,
+/// and that king's square.
 #[derive(Drop)]
 pub(crate) struct Ready {
     pub bare: Bitboards,
@@ -83,8 +83,8 @@ pub(crate) fn ready_for(
     bared(q, to)
 }
 
-/// The number of the position before the step, if the set has it and the man goes so. No target stood
-/// there.
+/// The number of the position before the step, if the set has it and the man goes so. No target
+/// stood there.
 fn number_by_lines(
     set: &Set,
     at: u32,
