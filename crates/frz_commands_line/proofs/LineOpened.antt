@@ -38,7 +38,7 @@ some_in there contents bytes side p files = by_test (is_member contents.rules.gr
         (a ≡ says (status_of refusals.Outside) (refusal_line refusals.Outside) files))
     by_test true =
         let l = there contents.rules (value_by contents.rules) side
-            (codes_later contents bytes side)
+        (codes_later contents bytes side)
         (Num contents.rules.groups p) in
         record {
           a = line_answer side (code_at contents bytes side p) l.0 (ends.told side l.1) files;

@@ -100,7 +100,7 @@ module _ (there : SessionThere) (later_files : ℕ → Files) (table : Table) (s
     TellsIt result =
         (whole : List ℕ) × MayHold source whole
         × TellsSession table.rules side (codes_later (contents_of table) held side) p
-            whole took text
+        whole took text
         result (spent_by store before) (spent_by left now)
 
     came : TookText text out mid → Came text took old between

@@ -144,7 +144,7 @@ Member-stepped gs p man a b target up down m h v s = record {
         | inl here ↦
             subst (λ n. has_state gs n x ≡ true)
             (sym (ap (slice_index (stepped p man a b target).cells) here
-                ∙ at_to p man a b target h))
+            ∙ at_to p man a b target h))
             (subst (λ n. has_state gs (cell_of_man man) n ≡ true) (sym here)
             (let some_there : slice_index p.cells a ≢ 0 = λ e.
             let n = cell-some man.colour man.kind in omega (arith, e, h.stood, n) in
@@ -157,7 +157,7 @@ Member-stepped gs p man a b target up down m h v s = record {
         | inr right ↦ elim (cases_eq x a) [
           | inl here ↦
               absurd (some (ap (slice_index (stepped p man a b target).cells) here
-                  ∙ at_from p man a b target h))
+              ∙ at_from p man a b target h))
           | inr left ↦
               let same = at_rest p man a b target h x left right in
               subst (λ n. has_state gs n x ≡ true) (sym same)

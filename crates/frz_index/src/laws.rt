@@ -54,5 +54,5 @@ pub fn numbers_after_steps()
         HasNumber r.groups i p → IsStep p man a b → IsValid (stepped p man a b target) →
         IsShare r.groups man a k left → IsShare r.groups man b k comes →
         HasNumber r.groups (number_after r.groups p.turn p.ep target i left comes)
-            (stepped p man a b target) }
+        (stepped p man a b target) }
 {}

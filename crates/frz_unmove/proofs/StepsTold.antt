@@ -42,7 +42,7 @@ module _ (q : Board) (m : Step) (taken : ℕ) (target : Option ℕ) (man : Man) 
   check_is =
       ap (λ (b : Board). reaches b man.colour man.kind m.from r.king) ready.bare_is
       ∙ checks_from q man m.to m.from target (back_step q m taken target man v lf lt h) v
-          other r.king
+      other r.king
       ready.on_board ready.king_is
       (ap (λ (b : Board). is_in_check b q.turn) (sym ready.bare_is) ∙ ready.safe)
 

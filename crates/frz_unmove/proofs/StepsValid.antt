@@ -115,7 +115,7 @@ module _ (q : Board) (man : Man) (a b : ℕ) (target : Option ℕ) (h : IsStep q
           | inl e ↦
               outside (is_end s) (is_pawns (slice_index p.cells s))
               (ap (λ n. is_pawns (slice_index p.cells n)) e
-                  ∙ ap is_pawns (at_from q man a b target h))
+              ∙ ap is_pawns (at_from q man a b target h))
           | inr k ↦
               ap (λ x. not (is_end s && is_pawns x)) (at_rest q man a b target h s k n)
               ∙ each_square (λ s. not (is_end s && is_pawns (slice_index q.cells s))) v.pawns s l

@@ -180,6 +180,6 @@ returns-in-None-clause-ran g c =
       w.1,
       as_command w.0 _ _ _ _ _ c.in-None.ensures
           (c.refuse.ensures (store_of g.S.Store c.args.store.now)
-              (source_of g.I.Source c.args.input.now)
+          (source_of g.I.Source c.args.input.now)
           c.args.steps.now),
     )
