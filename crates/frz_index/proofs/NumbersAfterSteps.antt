@@ -8,7 +8,6 @@ use Rattle.frz_board.proofs.Lemmas.{cell-some}
 use Rattle.frz_board.specs.declared.man.Man.{Man}
 use Rattle.frz_board.specs.Boards.{Board}
 use Rattle.frz_board.specs.Men.{cell_of_man, other_of}
-use Rattle.frz_combinations.specs.MixedRadix.{product}
 use Rattle.frz_fide.specs.Valid.{IsValid}
 use Rattle.frz_sets.specs.Sets.{has_state, is_state, radix_of}
 use Rattle.frz_sets.specs.Sound.{AreStates}

@@ -1,4 +1,4 @@
-use Rattle.std.proofs.Common.{◌≡◌, ◌*◌, ◌≤◌, ◌∙◌, ap, arith, length, map}
+use Rattle.std.proofs.Common.{◌≡◌, ◌*◌, ◌∙◌, ap, arith, length, map}
 use Rattle.std.proofs.lemmas.Nat.{mul-le}
 use Rattle.frz_combinations.specs.MixedRadix.{product}
 use Rattle.frz_sets.specs.Sets.{radix_of, targets}
