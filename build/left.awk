@@ -1,7 +1,8 @@
 # How long a build has still to go, and the longest chain of crates that is left.
-# In: the number of checks at once (-v places=N), and a line for each crate, those first that are
-# started first: NAME STATE EXPECTED GONE BELOW .., with STATE `open`, `running` or `done`, EXPECTED
-# the seconds that its check takes in all, GONE those that it runs already, BELOW all that it stands on.
+# In: the number of places (-v places=N), and a line for each crate, those first that are started
+# first: NAME STATE EXPECTED GONE TAKES BELOW .., with STATE `open`, `running` or `done`, EXPECTED the
+# seconds that its check takes in all, GONE those that it runs already, TAKES the places that it takes,
+# BELOW all that it stands on.
 # Out: the seconds until all are done, those of the chain, and the chain, the lowest crate first.
 
 {
@@ -10,7 +11,8 @@
     left[$1] = $2 == "running" ? $3 - $4 : $3
     # A check that runs longer than was expected is taken to end soon.
     if (left[$1] < $3 / 10) left[$1] = $3 / 10
-    for (at = 5; at <= NF; at++) below[$1, ++belows[$1]] = $at
+    takes[$1] = $5
+    for (at = 6; at <= NF; at++) below[$1, ++belows[$1]] = $at
 }
 
 END {
@@ -40,18 +42,19 @@ function chain_of(crate,    at, most, this) {
 }
 
 # The rest of the build, gone through as build/prove.sh does it: whenever a check ends, the first
-# crates that may start do so.
-function time_left(    now, at, next_end, running) {
+# crates that may start do so, as long as a place is free.
+function time_left(    now, at, next_end, taken) {
     now = 0
     for (;;) {
-        running = 0
-        for (at = 1; at <= NR; at++) running += state[name[at]] == "running"
-        for (at = 1; at <= NR && running < places; at++)
+        taken = 0
+        for (at = 1; at <= NR; at++)
+            if (state[name[at]] == "running") taken += takes[name[at]]
+        for (at = 1; at <= NR && taken < places; at++)
             if (state[name[at]] == "open" && is_ready(name[at])) {
                 state[name[at]] = "running"
-                running++
+                taken += takes[name[at]]
             }
-        if (!running) return now
+        if (!taken) return now
         next_end = -1
         for (at = 1; at <= NR; at++)
             if (state[name[at]] == "running" && (next_end < 0 || left[name[at]] < next_end))

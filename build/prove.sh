@@ -41,6 +41,7 @@ build() {
     read_seconds
     rank_crates
     count_places
+    find_longest_chain
     for name in "${crates[@]}"; do
         state[$name]="open"
     done
@@ -86,7 +87,7 @@ gather() {
     gathered+=("$1")
 }
 
-# What each check is expected to take: the seconds of build/seconds; for a crate that is not there,
+# What each check is expected to take by one job: the seconds of build/seconds; for a crate that is not there,
 # their mean; and what rt takes to see it for a crate that is proved already. This machine counts as quick as
 # the one of those seconds until it has shown otherwise: a twentieth of all weighs for that (`weigh`).
 read_seconds() {
@@ -128,7 +129,7 @@ is_kept() {
 # Puts those first that most waits for: the seconds of the longest chain of crates from here up.
 rank_crates() {
     local at name below
-    local -A rank=()
+    declare -gA rank=()
     for ((at = ${#upwards[@]} - 1; at >= 0; at--)); do
         name=${upwards[$at]}
         rank[$name]=$((${rank[$name]:-0} + ${expected[$name]}))
@@ -139,6 +140,36 @@ rank_crates() {
     mapfile -t crates < <(
         for name in "${upwards[@]}"; do echo "${rank[$name]} $name"; done | sort -rn | cut -d ' ' -f 2
     )
+}
+
+# The crates of the longest chain, for which all wait in the end. Each of their checks takes two places
+# and so gets two jobs; the program's own, which comes last, has all places anyway. With two places or
+# one there is none to spare.
+find_longest_chain() {
+    local name below
+    local -A front=()
+    declare -gA in_chain=()
+    [ "$places" -gt 2 ] || return 0
+    for name in "${upwards[@]}"; do
+        front[$name]=0
+        for below in ${stands_on[$name]}; do
+            [ -n "${expected[$below]+there}" ] || continue
+            [ "${front[$name]}" -ge $((front[$below] + expected[$below])) ] ||
+                front[$name]=$((front[$below] + expected[$below]))
+        done
+        [ "$name" = freezer ] || [ $((front[$name] + rank[$name])) -lt "${rank[${crates[0]}]}" ] ||
+            in_chain[$name]=2
+    done
+}
+
+# The seconds that the check of a crate is expected to take by the jobs that it gets: two take five
+# eighths of the time of one, since a job more costs a quarter more in all.
+expected_of() {
+    if [ -n "${in_chain[$1]+there}" ] && [ -z "${kept[$1]+there}" ]; then
+        echo $((expected[$1] * 5 / 8))
+    else
+        echo "${expected[$1]}"
+    fi
 }
 
 # As many checks at once as there are processors, and 4 GB of free memory for each.
@@ -157,7 +188,7 @@ what_is_left() {
     read -r time chain names < <(
         for name in "${crates[@]}"; do
             gone=$((SECONDS - ${started[$name]:-SECONDS}))
-            printf '%s %s %s %s' "$name" "${state[$name]}" "$(scaled "$name")" "$gone"
+            printf '%s %s %s %s %s' "$name" "${state[$name]}" "$(scaled "$name")" "$gone" "${in_chain[$name]:-1}"
             for below in ${stands_on[$name]}; do
                 [ -z "${stands_on[$below]+there}" ] || printf ' %s' "$below"
             done
@@ -174,18 +205,19 @@ what_is_left() {
 }
 
 scaled() {
-    if [ -n "${kept[$1]+there}" ] || [ "$thousandths_expected" -eq 0 ]; then
-        echo "${expected[$1]}"
-    else
-        echo $((expected[$1] * thousandths_gone / thousandths_expected))
+    local seconds
+    seconds=$(expected_of "$1")
+    if [ -z "${kept[$1]+there}" ] && [ "$thousandths_expected" -ne 0 ]; then
+        seconds=$((seconds * thousandths_gone / thousandths_expected))
     fi
+    echo "$seconds"
 }
 
 # Compares this machine with the one of build/seconds, by a check that has ended. What was seen before
 # it counts a fifth less from now on, so that other work in one half of a build is not told of the next.
 weigh() {
     thousandths_gone=$((thousandths_gone * 4 / 5 + $2 * 1000))
-    thousandths_expected=$((thousandths_expected * 4 / 5 + ${expected[$1]} * 1000))
+    thousandths_expected=$((thousandths_expected * 4 / 5 + $(expected_of "$1") * 1000))
 }
 
 # All crates below this one are done.
@@ -197,19 +229,25 @@ is_ready() {
 }
 
 # Starts the checks that may start now. Where fewer can run than there are places, each gets more
-# jobs; a job costs a quarter more in all, so with as many checks as places each has one.
+# jobs; a job costs a quarter more in all, so with as many checks as places each has one, and those of
+# the longest chain have two.
 start_ready() {
-    local name ready=() count
+    local name ready=() count jobs taken=0
+    for name in "${running[@]}"; do
+        taken=$((taken + ${in_chain[$name]:-1}))
+    done
     for name in "${crates[@]}"; do
         [ "${state[$name]}" = "open" ] && is_ready "$name" && ready+=("$name")
     done
     count=$((${#running[@]} + ${#ready[@]}))
+    jobs=$((places / (count < places ? count : places)))
     for name in "${ready[@]}"; do
-        [ "${#running[@]}" -lt "$places" ] || return 0
+        [ "$taken" -lt "$places" ] || return 0
+        taken=$((taken + ${in_chain[$name]:-1}))
         state[$name]="running"
         started[$name]=$SECONDS
         make_room "$name"
-        prove "$name" $((places / (count < places ? count : places))) 9<&- &
+        prove "$name" $((jobs > ${in_chain[$name]:-1} ? jobs : ${in_chain[$name]:-1})) 9<&- &
         running[$!]=$name
     done
 }
@@ -280,7 +318,7 @@ finish_one() {
     seconds=$((SECONDS - started[$name]))
     [ -n "${kept[$name]+there}" ] || weigh "$name" "$seconds"
     free_work "$name"
-    tell "$finished of ${#crates[@]}: $name, $seconds s$(what_is_left)"
+    tell "$finished of ${#crates[@]}: $name, $seconds s${in_chain[$name]+ by two jobs}$(what_is_left)"
 }
 
 # The work that a check of this crate could begin with once more. The crates above need it not, and

@@ -49,6 +49,26 @@ test_as_many_at_once_as_processors() {
     before "end b" "begin c"
 }
 
+# By hand, with three places: a 5; then b, which takes two of them, 5 and beside it c 5;
+# then d 5 and beside it e 4; the program 8.
+test_the_longest_chain_gets_two_jobs() {
+    make_toy
+    printf '#!/bin/sh\necho 3\n' > "$room/bin/nproc"
+    echo "MemAvailable: 12582912 kB" > "$room/meminfo"
+    sed -i "s|/proc/meminfo|$room/meminfo|" "$toy/build/prove.sh"
+    printf 'a:\nb: a\nc: a\ne: a\nd: b a\nfreezer: c d e b a\n' > "$toy/crates.txt"
+    printf 'a 8\nb 8\nc 5\ne 4\nd 8\nfreezer 8\n' > "$toy/build/seconds"
+    cp -r "$toy/crates/c" "$toy/crates/e"
+    takes b 2
+    takes c 1
+    run "$toy/freezer" words
+    is "$status" 7 "the status"
+    is "$(count 'jobs b 2 ') $(count 'jobs c 1 ')" "1 1" "the jobs of b and of c"
+    before "begin c" "end b"
+    before "end c" "begin e"
+    has "$err" "6 crates, 3 at a time; about 23 s left, by the last build's times; the longest chain: a b d freezer (23 s)"
+}
+
 test_a_crate_that_fails_ends_the_build() {
     make_toy
     : > "$toy/crates/d/src/fails"
@@ -189,11 +209,12 @@ test_what_is_left_is_told() {
 left() { awk -v places="$1" -f "$repository/build/left.awk"; }
 
 test_what_is_left_goes_through_the_build() {
-    is "$(printf 'x open 7 0\ny open 5 0\nz open 5 0\n' | left 2)" "10 7 x " "two places"
-    is "$(printf 'x open 7 0\ny open 5 0\nz open 5 0\n' | left 3)" "7 7 x " "three places"
-    is "$(printf 'a done 9 0\nb running 10 4 a\nc open 3 0 b a\n' | left 2)" "9 9 b c " "a check that runs"
-    is "$(printf 'b running 10 40\n' | left 1)" "1 1 b " "a check that runs too long"
-    is "$(printf 'a done 10 0\n' | left 1)" "0 0 " "nothing"
+    is "$(printf 'x open 7 0 1\ny open 5 0 1\nz open 5 0 1\n' | left 2)" "10 7 x " "two places"
+    is "$(printf 'x open 7 0 1\ny open 5 0 1\nz open 5 0 1\n' | left 3)" "7 7 x " "three places"
+    is "$(printf 'x open 7 0 2\ny open 5 0 1\nz open 5 0 1\n' | left 3)" "10 7 x " "one that takes two"
+    is "$(printf 'a done 9 0 1\nb running 10 4 1 a\nc open 3 0 1 b a\n' | left 2)" "9 9 b c " "a check that runs"
+    is "$(printf 'b running 10 40 1\n' | left 1)" "1 1 b " "a check that runs too long"
+    is "$(printf 'a done 10 0 1\n' | left 1)" "0 0 " "nothing"
 }
 
 # On a machine that is four times as quick as the one of build/seconds, what is told comes true within
@@ -220,7 +241,7 @@ test_a_slow_beginning_is_soon_forgotten() {
     top=$toy
     # shellcheck source=build/prove.sh
     . "$top/build/prove.sh"
-    declare -A expected=([x]=60) kept=()
+    declare -A expected=([x]=60) kept=() in_chain=()
     thousandths_gone=60000 thousandths_expected=60000
     for check in 1 2 3 4 5; do weigh x 180; done
     [ "$(scaled x)" -ge 120 ] || fail "check $check, slow as it was, lets expect $(scaled x) s"
