@@ -7,7 +7,6 @@
 . "$top/build/machine.sh"
 
 most_left=$((2 * 1000 * 1000)) # kilobytes in crates/*/out when the program is built
-sums_a_second=120              # of the sources of a crate below, which rt makes once for each path to it
 
 is_built() {
     [ -x "$program" ] && [ -z "$(find "$top/crates.txt" "$top"/crates/*/src -newer "$program" -print -quit)" ]
@@ -88,11 +87,11 @@ gather() {
 }
 
 # What each check is expected to take by one job: the seconds of build/seconds; for a crate that is not there,
-# their mean; and what rt takes to see it for a crate that is proved already. This machine counts as quick as
-# the one of those seconds until it has shown otherwise: a twentieth of all weighs for that (`weigh`).
+# their mean; and a second for a crate that is proved already, which rt takes to see it. This machine
+# counts as quick as the one of those seconds until it has shown otherwise: a twentieth of all weighs
+# for that (`weigh`).
 read_seconds() {
-    local name below seconds sum=0 count=0 mean
-    local -A paths=()
+    local name seconds sum=0 count=0 mean
     declare -gA expected=() kept=()
     while read -r name seconds; do
         case "$name" in '' | '#'*) continue ;; esac
@@ -102,13 +101,9 @@ read_seconds() {
     mean=$((count > 0 ? sum / count : 60))
     thousandths_gone=$((sum * 1000 / 20)) thousandths_expected=$((sum * 1000 / 20))
     for name in "${upwards[@]}"; do
-        paths[$name]=1
-        for below in ${stands_on[$name]}; do
-            paths[$name]=$((${paths[$name]} + ${paths[$below]:-0}))
-        done
         if is_kept "$name"; then
             kept[$name]="yes"
-            expected[$name]=$((1 + ${paths[$name]} / sums_a_second))
+            expected[$name]=1
         else
             expected[$name]=${expected[$name]:-$mean}
         fi
