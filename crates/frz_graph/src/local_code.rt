@@ -22,6 +22,25 @@ fn put_free_codes(list: &NextList, codes: &CodeList, free: &mut CodeList)
     }
 }
 
+/// Puts the codes of the free moves into the list where the side is to move. Elsewhere they say
+/// nothing, and the list is left empty.
+fn put_asked_codes(side: Colour, node: Node, list: &NextList, codes: &CodeList, free: &mut CodeList)
+    requires { length list.now.items ≡ length codes.now.items }
+    ensures { node_code side node free.new.items codes.now.items
+        ≡ node_code side node (free_among list.now.items codes.now.items) codes.now.items }
+{
+    match node {
+        Node::Going(mover) => {
+            if mover == side {
+                put_free_codes(list, codes, free);
+            } else {
+                free.clear();
+            }
+        }
+        _ => free.clear(),
+    }
+}
+
 /// `local` by a list that is room to work in, kept from call to call.
 pub fn local_by(
     side: Colour,
@@ -34,7 +53,7 @@ pub fn local_by(
     ensures { result ≡
         node_code side node (free_among list.now.items codes.now.items) codes.now.items }
 {
-    put_free_codes(list, codes, free);
+    put_asked_codes(side, node, list, codes, free);
     local_code(side, node, free.as_slice(), codes.as_slice())
 }
 
