@@ -8,6 +8,7 @@ ghost use Rattle.frz_sets.specs.Sound.{IsSound};
 ghost use Rattle.frz_chain.specs.Books.{back_value, back_with, chain_value};
 
 use crate::pair::pair_value;
+use frz_bits::Bitboards;
 use frz_board::Position;
 use frz_exits::{ExitBook, RuleBook};
 use frz_index::Set;
@@ -47,12 +48,12 @@ impl<'a> ChainBook<'a> {
     }
 
     /// What the back table tells of the position.
-    fn told(&self, q: &Position) -> Value
+    fn told(&self, q: &Bitboards) -> Value
         requires { IsValid q.now }
         ensures { result ≡ back_value
             (back_with self.now.back.now self.now.white.now self.now.black.now) q.now }
     {
-        match self.back.number(q) {
+        match self.back.number_on(q) {
             Some(i) => pair_value(self.white[i as usize], self.black[i as usize]),
             None => Value::Unknown,
         }
@@ -66,8 +67,12 @@ impl ExitBook for ChainBook<'_> {
     ghost small = { λ book q valid. book.small q valid };
 
     fn value(&self, q: &Position) -> Value {
+        self.value_on(&Bitboards::of(q))
+    }
+
+    fn value_on(&self, q: &Bitboards) -> Value {
         let rules = RuleBook { rules: self.rules };
-        match rules.value(q) {
+        match rules.value_on(q) {
             Value::Unknown => self.told(q),
             value => value,
         }

@@ -1,6 +1,8 @@
 -- Other crates cite the module Lemmas alone.
 pub mod Lemmas
 mod Classes
+mod CountedBits
 mod FirstLines
 mod SmallLags
 mod SoundLags
+mod WordsOfMen

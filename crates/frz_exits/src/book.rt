@@ -9,6 +9,7 @@ ghost use Rattle.frz_exits.specs.Values.{lag_of};
 ghost use Rattle.frz_exits.specs.Books.{value_by, first_value};
 
 use crate::conditions::all_hold;
+use frz_bits::Bitboards;
 use frz_board::Position;
 use frz_sets::{Exit, Rules, Value};
 
@@ -21,6 +22,14 @@ pub trait ExitBook {
     fn value(&self, q: &Position) -> Value
         requires { IsValid q.now }
         ensures { result ≡ value_at self.now q.now };
+
+    /// The value of a position whose words are at hand.
+    fn value_on(&self, q: &Bitboards) -> Value
+        requires { IsValid q.now }
+        ensures { result ≡ value_at self.now q.now }
+    {
+        self.value(q.as_position())
+    }
 
     /// No number is above 1,000.
     ghost small: { (book : Self) (q : Board) → IsValid q → lag_of (value_at book q) ≤ 1000 };
@@ -50,12 +59,17 @@ impl ExitBook for RuleBook<'_> {
 
     fn value(&self, q: &Position) -> Value {
         let rules = self.rules;
+        value_of(&rules.exits, &Bitboards::of(q))
+    }
+
+    fn value_on(&self, q: &Bitboards) -> Value {
+        let rules = self.rules;
         value_of(&rules.exits, q)
     }
 }
 
 /// The value of the first line that holds, else unknown.
-fn value_of(lines: &[Exit], q: &Position) -> Value
+fn value_of(lines: &[Exit], q: &Bitboards) -> Value
     requires { IsValid q.now }
     ensures { result ≡ first_value lines.now q.now }
 {

@@ -3,6 +3,7 @@
 ghost use Rattle.std.specs.Prelude.{◌≡◌, ◌&&◌};
 ghost use Rattle.std.specs.List.{list_any};
 ghost use Rattle.frz_board.specs.Boards.{has};
+ghost use Rattle.frz_board.specs.Shapes.{count_of};
 ghost use Rattle.frz_board.specs.Squares.{squares, distance};
 ghost use Rattle.frz_fide.specs.Valid.{IsValid};
 ghost use Rattle.frz_squares.specs.SquareSets.{has_square};
@@ -10,8 +11,8 @@ ghost use Rattle.frz_exits.specs.Conditions as conditions;
 ghost use Rattle.frz_exits.specs.Conditions.{in_range, condition_holds, conditions_hold};
 ghost use Rattle.frz_board.specs.declared.man.Kind.TheVariants.{King};
 
-use frz_board::{Colour, Kind, Position, Square};
-use frz_fide::in_check;
+use frz_bits::{Bitboards, both, next_square};
+use frz_board::{Colour, Kind, Man, Square};
 use frz_sets::{Cond, Test};
 use frz_squares::SquareSet;
 
@@ -21,43 +22,51 @@ fn is_in_range(least: u8, most: u8, n: u8) -> bool
     least <= n && n <= most
 }
 
-/// Does such a man stand on one of the squares?
-#[tactic(auto, unfolding(frz_board::specs::Squares::squares))]
-fn stands_on(q: &Position, colour: Colour, kind: Kind, set: SquareSet) -> bool
-    ensures { result ≡ list_any (λ s. has q.now colour kind s && has_square set s) squares }
+/// How many such men stand on the board.
+fn count(q: &Bitboards, colour: Colour, kind: Kind) -> u8
+    requires { IsValid q.now }
+    ensures { result ≡ count_of q.now colour kind }
 {
-    (0..64).any(|n: u8| q.has(colour, kind, Square::at(n)) && set.has(n))
+    q.men(Man { colour, kind }).count_ones() as u8
 }
 
-/// Is the side's king so far from the square?
-#[tactic(auto, unfolding(frz_board::specs::Squares::squares))]
-fn is_king_within(q: &Position, colour: Colour, square: Square, least: u8, most: u8) -> bool
+/// Does such a man stand on one of the squares?
+fn stands_on(q: &Bitboards, colour: Colour, kind: Kind, set: SquareSet) -> bool
+    ensures { result ≡ list_any (λ s. has q.now colour kind s && has_square set s) squares }
+{
+    both(q.men(Man { colour, kind }), set.0) != 0
+}
+
+/// Is the side's king so far from the square? A side has one king.
+fn is_king_within(q: &Bitboards, colour: Colour, square: Square, least: u8, most: u8) -> bool
+    requires { IsValid q.now }
     ensures { result ≡ list_any (λ s. has q.now colour King s
         && in_range least most (distance s square)) squares }
 {
-    (0..64).any(|n: u8| {
-        q.has(colour, Kind::King, Square::at(n))
-            && is_in_range(least, most, Square::at(n).distance(square))
-    })
+    let kind = Kind::King;
+    match next_square(q.men(Man { colour, kind }), 0) {
+        None => false,
+        Some(king) => is_in_range(least, most, king.distance(square)),
+    }
 }
 
 /// Does the test hold at the position?
-fn test_holds(test: &Test, q: &Position) -> bool
+fn test_holds(test: &Test, q: &Bitboards) -> bool
     requires { IsValid q.now }
     ensures { result ≡ conditions.test_holds test.now q.now }
 {
     match *test {
         Test::Turn(side) => side == q.turn(),
-        Test::Count(side, kind, least, most) => is_in_range(least, most, q.count(side, kind)),
+        Test::Count(side, kind, least, most) => is_in_range(least, most, count(q, side, kind)),
         Test::On(side, kind, set) => stands_on(q, side, kind, set),
         Test::Distance(side, square, least, most) => is_king_within(q, side, square, least, most),
-        Test::Check => in_check(q, q.turn()),
+        Test::Check => q.is_in_check(q.turn()),
         Test::Always => true,
     }
 }
 
 /// Does the condition hold: its test, or the test's negation?
-fn holds(cond: &Cond, q: &Position) -> bool
+fn holds(cond: &Cond, q: &Bitboards) -> bool
     requires { IsValid q.now }
     ensures { result ≡ condition_holds q.now cond.now }
 {
@@ -69,7 +78,7 @@ fn holds(cond: &Cond, q: &Position) -> bool
 }
 
 /// Do all the conditions hold at the position?
-pub fn all_hold(conds: &[Cond], q: &Position) -> bool
+pub fn all_hold(conds: &[Cond], q: &Bitboards) -> bool
     requires { IsValid q.now }
     ensures { result ≡ conditions_hold q.now conds.now }
 {

@@ -87,7 +87,7 @@ impl<B: ExitBook> Game<'_, B> {
     {
         match number(self.set, q) {
             Some(n) => Next::Inside(n),
-            None => Next::Outside(self.book.value(q.as_position())),
+            None => Next::Outside(self.book.value_on(q)),
         }
     }
 

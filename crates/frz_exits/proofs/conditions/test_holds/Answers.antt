@@ -6,4 +6,4 @@ pub returns-in-Count : goal.returns-in-Count
 returns-in-Count c =
     rw c.in-Count.is
     (c.is_in_range.ensures ∙ ap (λ n. in_range c.in-Count.least c.in-Count.most n)
-    c.count.ensures.count)
+    c.count.ensures)

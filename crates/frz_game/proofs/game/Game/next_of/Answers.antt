@@ -17,7 +17,7 @@ returns-in-None g c =
     let groups = c.args.self.now.rules.now.groups in
     let value = g.B.ExitBook.value_at c.args.self.now.book.now in
     let q = c.args.q.now in
-    ap Outside (c.value.ensures ∙ ap value (c.as_position.ensures))
+    ap Outside c.value_on.ensures
     ∙ sym (next_outside groups q (value q)
     (sym (c.number.ensures
     ∙ (ap (λ gs. number_of gs c.args.q.now) c.args.self.now.fits)) ∙ c.in-None.is))
