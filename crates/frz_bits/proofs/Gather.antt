@@ -1,12 +1,9 @@
 -- Words gathered square by square.
-use Rattle.std.proofs.Common.{◌≡◌, ℕ, ◌+◌, ◌^◌, ◌<◌, ◌≤◌, Bool, false, cond, ◌&&◌, ap, sym, ◌∙◌, arith, slice_index, inl, inr}
-use Rattle.std.specs.Prelude.{◌==◌}
+use Rattle.std.proofs.Common.{◌≡◌, ℕ, ◌+◌, ◌^◌, ◌<◌, ◌≤◌, Bool, false, cond, ◌&&◌, ap, sym, ◌∙◌, arith, inl, inr}
 use Rattle.std.proofs.lemmas.Bool.{cases_eq, cases_lt, and_left}
-use Rattle.std.proofs.lemmas.Bool.Decides.{nat_tests}
 use Rattle.frz_board.specs.declared.man.Colour.{Colour}
-use Rattle.frz_board.specs.declared.man.Colour.TheVariants.{White, Black}
 use Rattle.frz_board.specs.declared.man.Kind.TheVariants.{King}
-use Rattle.frz_board.specs.Men.{other_of, cell_of_man, man_of_cell, is_man_of}
+use Rattle.frz_board.specs.Men.{other_of}
 use Rattle.frz_board.specs.Boards.{Board, holds, has}
 use Rattle.frz_board.specs.Attacks.{attacks, is_attacked}
 use Rattle.frz_bits.specs.Words.{IsNext, HasNoneFrom}
@@ -49,29 +46,23 @@ pub sees_in : (s lines occupied : ℕ) (k : ℕ) → k < 64 → has_square lines
     sees s lines occupied k ≡ false
 sees_in s lines occupied k l h = and_left (has_square lines k) (is_open occupied s k) h
 
+-- a square is in the word of a test where it passes the test
+pub in_set : (f : ℕ → Bool) (w k : ℕ) → w ≡ set_of f → k < 64 → has_square w k ≡ f k
+in_set f w k e l = ap (λ v. has_square v k) e ∙ has-set_of f k l
+
 -- a square is in the word of a side where its man stands there
 pub in_side : (p : Board) (c : Colour) (w k : ℕ) → w ≡ set_of (λ s. holds p c s) → k < 64 →
     has_square w k ≡ holds p c k
-in_side p c w k e l = ap (λ v. has_square v k) e ∙ has-set_of (λ s. holds p c s) k l
-
-pub hits_in : (p : Board) (s : ℕ) (by : Colour) (w : ℕ) → w ≡ set_of (λ a. holds p by a) → (k : ℕ) →
-    k < 64 → has_square w k ≡ false → hits p s by k ≡ false
-hits_in p s by w e k l h = and_left (holds p by k) (attacks p k s) (sym (in_side p by w k e l) ∙ h)
+in_side p c w k e l = in_set (λ s. holds p c s) w k e l
 
 -- a king of the side stands on the square, and is attacked
 abbrev pub checks : Board → Colour → ℕ → Bool
 checks p c s = has p c King s && is_attacked p s (other_of c)
 
-king_is_man : (c : Colour) (x : ℕ) → is_man_of c (man_of_cell x) ≡ false →
-    (x == cell_of_man (record { colour = c; kind = King })) ≡ false
-king_is_man White x h = grind (arith, nat_tests)
-king_is_man Black x h = grind (arith, nat_tests)
-
-pub checks_in : (p : Board) (c : Colour) (w : ℕ) → w ≡ set_of (λ s. holds p c s) → (k : ℕ) →
+pub checks_in : (p : Board) (c : Colour) (w : ℕ) → w ≡ set_of (λ s. has p c King s) → (k : ℕ) →
     k < 64 → has_square w k ≡ false → checks p c k ≡ false
 checks_in p c w e k l h =
-    and_left (has p c King k) (is_attacked p k (other_of c))
-    (king_is_man c (slice_index p.cells k) (sym (in_side p c w k e l) ∙ h))
+    and_left (has p c King k) (is_attacked p k (other_of c)) (sym (in_set (has p c King) w k e l) ∙ h)
 
 -- what fails below n, between n and s, and at s, fails below s + 1
 pub fails_on : (f : ℕ → Bool) (w n s : ℕ) →

@@ -1,2 +1,9 @@
 -- The lemmas on words of a board that other crates cite.
-pub use Rattle.frz_bits.proofs.Gather.{in_side}
+pub use Rattle.frz_bits.proofs.Gather.{in_set, in_side, walk_room, walk_next, walk_end}
+pub use Rattle.frz_bits.proofs.Reaching.{
+  files_back,
+  ranks_back,
+  rook_back,
+  bishop_back,
+  knight_back,
+}

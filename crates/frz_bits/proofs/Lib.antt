@@ -3,5 +3,6 @@ pub mod Lemmas
 mod Tables
 mod Next
 mod Gather
+mod Reaching
 mod Men
 mod Put

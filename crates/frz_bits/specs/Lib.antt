@@ -3,3 +3,4 @@ pub mod Words
 pub mod Rays
 pub mod Sides
 pub mod Ways
+pub mod Reaching

@@ -6,10 +6,12 @@ ghost use Rattle.frz_board.specs.Boards.{Board, is_empty, man_on, holds, has};
 ghost use Rattle.frz_board.specs.EnPassant.{has_pawn_beside};
 ghost use Rattle.frz_board.specs.Attacks.{is_clear, reaches, attacks, is_attacked, is_in_check};
 ghost use Rattle.frz_squares.specs.SquareSets.{set_of};
+ghost use Rattle.frz_bits.specs.Reaching.{may_attack};
 
 use super::lanes::{cells_equal, cells_from};
 use super::sets::{between, bishop_lines, king_set, knight_set, pawn_set, rook_lines};
-use super::word::{contains, next_square, replaced, with_square};
+use super::ways::reaching_set;
+use super::word::{both, contains, next_square, replaced, with_square, without};
 use frz_board::{Colour, Kind, Man, Position, Square, cell_of};
 use std::marker::Model;
 use std::simd::prelude::*;
@@ -216,11 +218,24 @@ impl Bitboards {
         }
     }
 
+    /// The men of the side that may attack the square, told by where they stand: pawns that attack
+    /// it, and others on a line with it or a jump away.
+    fn men_in_reach(&self, s: Square, by: Colour) -> u64
+        ensures { result ≡ set_of (λ a. may_attack self.now s by a) }
+    {
+        let colour = by;
+        let kind = Kind::Pawn;
+        let pawns = self.men(Man { colour, kind });
+        let near_pawns = both(pawns, pawn_set(by.other(), s));
+        let pieces = without(self.side(by), pawns);
+        near_pawns | both(pieces, reaching_set(s))
+    }
+
     /// The squares from which a man of the side attacks the square.
     pub fn attackers(&self, s: Square, by: Colour) -> u64
         ensures { result ≡ set_of (λ a. holds self.now by a && attacks self.now a s) }
     {
-        let men = self.side(by);
+        let men = self.men_in_reach(s, by);
         let mut word = 0;
         let mut n = 0;
         while let Some(a) = next_square(men, n) {
@@ -234,7 +249,15 @@ impl Bitboards {
     pub fn is_attacked(&self, s: Square, by: Colour) -> bool
         ensures { result ≡ is_attacked self.now s by }
     {
-        self.attackers(s, by) != 0
+        let men = self.men_in_reach(s, by);
+        let mut n = 0;
+        while let Some(a) = next_square(men, n) {
+            if self.attacks(a, s) {
+                return true;
+            }
+            n = a.number() + 1;
+        }
+        false
     }
 
     /// Does this very man stand on the square?
@@ -244,20 +267,16 @@ impl Bitboards {
         self.position.has(c, k, s)
     }
 
-    fn has_king_attacked(&self, c: Colour, s: Square) -> bool
-        ensures { result ≡ (has self.now c Kind.King s && is_attacked self.now s (other_of c)) }
-    {
-        self.has(c, Kind::King, s) && self.is_attacked(s, c.other())
-    }
-
     /// Is the side's king attacked?
     pub fn is_in_check(&self, c: Colour) -> bool
         ensures { result ≡ is_in_check self.now c }
     {
-        let men = self.side(c);
+        let colour = c;
+        let kind = Kind::King;
+        let kings = self.men(Man { colour, kind });
         let mut n = 0;
-        while let Some(s) = next_square(men, n) {
-            if self.has_king_attacked(c, s) {
+        while let Some(s) = next_square(kings, n) {
+            if self.is_attacked(s, c.other()) {
                 return true;
             }
             n = s.number() + 1;

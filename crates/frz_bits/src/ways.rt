@@ -3,6 +3,7 @@
 ghost use Rattle.std.specs.Prelude.{◌≡◌, ◌||◌};
 ghost use Rattle.frz_board.specs.Lines.{is_rook_line, is_bishop_line};
 ghost use Rattle.frz_squares.specs.SquareSets.{set_of};
+ghost use Rattle.frz_bits.specs.Reaching.{is_in_reach};
 ghost use Rattle.frz_bits.specs.Ways.{is_pawn_way, may_go};
 
 use super::pawns::{BLACK_PAWN_WAYS, WHITE_PAWN_WAYS};
@@ -23,6 +24,13 @@ fn queen_lines(s: Square) -> u64
     ensures { result ≡ set_of (λ b. is_rook_line s b || is_bishop_line s b) }
 {
     rook_lines(s) | bishop_lines(s)
+}
+
+/// The squares on a line with this one, or a knight's jump away: no man attacks it from elsewhere.
+pub(crate) fn reaching_set(s: Square) -> u64
+    ensures { result ≡ set_of (λ a. is_in_reach s a) }
+{
+    queen_lines(s) | knight_set(s)
 }
 
 /// The squares that the man goes to on some board: those of its lines, steps or jumps, and the

@@ -1,7 +1,7 @@
 -- The squares that a man may go to on some board are enough.
-use Rattle.std.proofs.Common.{◌≡◌, ℕ, ◌<◌, ◌≤◌, List, [], ◌++◌, Bool, true, false, ◌&&◌, ◌||◌, not, refl, ap, sym, ◌∙◌, arith, Some}
+use Rattle.std.proofs.Common.{◌≡◌, ℕ, ◌<◌, ◌≤◌, List, [], ◌++◌, Bool, true, false, ◌&&◌, ◌||◌, not, refl, ap, sym, ◌∙◌, arith, Some, inl, inr}
 use Rattle.std.specs.Prelude.{◌==◌, nat_le}
-use Rattle.std.proofs.lemmas.Bool.{and_parts, eqb-true, le-leb, and_right, not-true}
+use Rattle.std.proofs.lemmas.Bool.{and_parts, eqb-true, le-leb, and_left, and_right, cases_Bool, not-true}
 use Rattle.frz_board.specs.declared.man.Colour.{Colour}
 use Rattle.frz_board.specs.declared.man.Kind.{Kind}
 use Rattle.frz_board.specs.declared.man.Kind.TheVariants.{King, Queen, Rook, Bishop, Knight, Pawn}
@@ -14,12 +14,12 @@ use Rattle.frz_board.specs.Attacks.{is_clear}
 use Rattle.frz_bits.specs.Words.{IsNext, HasNoneFrom}
 use Rattle.frz_bits.specs.Ways.{may_go}
 use Rattle.frz_squares.specs.SquareSets.{set_of, has_square}
-use Rattle.frz_squares.proofs.Lemmas.{has-set_of}
-use Rattle.frz_bits.proofs.Lemmas.{in_side}
+use Rattle.frz_squares.proofs.Lemmas.{has-set_of, has-zero}
+use Rattle.frz_bits.proofs.Lemmas.{in_set, in_side}
 use Rattle.frz_fide.specs.Legal.{goes, is_home, passed_over, is_target}
 use Rattle.frz_fide.specs.SquareBySquare.{legal_between, legal_from, legal_by_squares}
 use Rattle.frz_board.specs.Moving.{Step}
-use Rattle.frz_fide.proofs.Order.{from_below, from_below-jump, from_below-all, all_below, all_below-jump, all_below-all}
+use Rattle.frz_fide.proofs.Order.{from_below, from_below-zero, from_below-jump, from_below-all, all_below, all_below-jump, all_below-all}
 use Rattle.frz_fide.proofs.Skip.{no_way, none_here}
 
 -- the ways of a pawn, by files and ranks
@@ -90,6 +90,40 @@ on_target p targets moves own t eo et h k l there =
     let out = (and_parts (has_square moves k) (not (has_square own k)) (sym (h k l) ∙ there)).1 in
     ap (λ u. holds p u k) (sym et) ∙ sym (in_side p t own k eo l) ∙ not-true (has_square own k) out
 
+-- one of the squares to which the man has a way
+abbrev pub has_way : Board → Man → ℕ → ℕ → ℕ → Bool
+has_way p man a squares b = has_square squares b && goes p man.colour man.kind a b
+
+pub way_in : (p : Board) (man : Man) (a squares k : ℕ) → k < 64 → has_square squares k ≡ false →
+    has_way p man a squares k ≡ false
+way_in p man a squares k l h = and_left (has_square squares k) (goes p man.colour man.kind a k) h
+
+-- no legal move of the man leads to a square to which it has no way
+pub off_way : (p : Board) (man : Man) (a targets ways : ℕ) → man_on p a ≡ Some man →
+    ((k : ℕ) → k < 64 → has_square targets k ≡ false → legal_between p a k ≡ []) →
+    ways ≡ set_of (has_way p man a targets) → (k : ℕ) → k < 64 →
+    has_square ways k ≡ false → legal_between p a k ≡ []
+off_way p man a targets ways on off e k l out =
+    let way : Bool = goes p man.colour man.kind a k in
+    elim (cases_Bool (has_square targets k)) [
+      | inl there ↦
+          no_way p a k man on
+          (and_right (not (holds p p.turn k)) way
+          (ap (λ x. x && way) (sym there)
+          ∙ sym (in_set (has_way p man a targets) ways k e l)
+          ∙ out))
+      | inr none ↦ off k l none
+    ]
+
+-- it has a way to each square of the word of its ways, which is a target
+pub on_way : (p : Board) (man : Man) (a targets ways : ℕ) →
+    ways ≡ set_of (has_way p man a targets) → (k : ℕ) → k < 64 →
+    has_square ways k ≡ true →
+    (has_square targets k ≡ true) × (goes p man.colour man.kind a k ≡ true)
+on_way p man a targets ways e k l there =
+    and_parts (has_square targets k) (goes p man.colour man.kind a k)
+    (sym (in_set (has_way p man a targets) ways k e l) ∙ there)
+
 -- no legal move begins on a square without a man of the side to move
 pub off_side : (p : Board) (own : ℕ) (t : Colour) → own ≡ set_of (λ s. holds p t s) → t ≡ p.turn →
     (k : ℕ) → k < 64 → has_square own k ≡ false → legal_from p k ≡ []
@@ -115,6 +149,12 @@ module _ (start : List Step) (p : Board) (a w : ℕ)
   from_end n list l e none =
       e ∙ sym (from_below-jump start p a n 64 l (omega arith) (λ k i m. out k m (none.none k i m)))
       ∙ from_below-all start p a 64 (omega arith)
+
+  -- an empty word: the man has no legal move
+  pub from_none : w ≡ 0 → start ≡ start ++ legal_from p a
+  from_none e =
+      from_end 0 start (omega arith) (sym (from_below-zero start p a))
+      (record { none = λ k i m. ap (λ v. has_square v k) e ∙ has-zero k })
 
 -- a walk over the men of the side to move collects all moves
 module _ (p : Board) (w : ℕ)

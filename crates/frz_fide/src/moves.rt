@@ -6,14 +6,14 @@ ghost use Rattle.arrayvec.specs.ArrayVec.{array_vec_len};
 ghost use Rattle.frz_board.specs.Boards.{man_on, holds};
 ghost use Rattle.frz_board.specs.Men.{same_colour, is_pawn};
 ghost use Rattle.frz_board.specs.Moving.{Step, IsStep, is_promotion, step_cmp};
-ghost use Rattle.frz_fide.specs.Legal.{is_legal, can_go, is_last};
+ghost use Rattle.frz_fide.specs.Legal.{is_legal, can_go, goes, is_last};
 ghost use Rattle.frz_fide.specs.Exposing.{may_expose as man_may_expose, without as board_without};
 ghost use Rattle.frz_fide.specs.Valid.{IsValid};
 ghost use Rattle.frz_fide.specs.Listing.{legal_moves_of};
 ghost use Rattle.frz_fide.specs.SquareBySquare.{legal_between, legal_from, legal_by_squares, chosen};
 
 use super::exposing::{keeps_safe, may_expose};
-use super::ways::is_way;
+use super::ways::open_ways;
 use arrayvec::ArrayVec;
 use frz_bits::{Bitboards, move_set, next_square, without};
 use frz_board::{Kind, Man, Move, Position, Square};
@@ -123,7 +123,8 @@ fn must_choose(man: Man, to: Square) -> bool
     man.kind == Kind::Pawn && to.is_last_rank(man.colour)
 }
 
-/// Adds the legal moves of the man on `from` to `to`, where no man of its side stands.
+/// Adds the legal moves of the man on `from` to `to`, where it has a way and no man of its side
+/// stands.
 #[tactic(auto, using(crate::proofs::Skip::skips))]
 fn add_between(
     p: &Bitboards,
@@ -138,23 +139,22 @@ fn add_between(
     requires man { man_on p.now from ≡ Some man }
     requires own { same_colour man.colour p.now.turn ≡ true }
     requires free { holds p.now p.now.turn to ≡ false }
+    requires way { goes p.now man.colour man.kind from to ≡ true }
     requires bare { bare.now ≡ board_without p.now from }
     requires exposing { exposing ≡ man_may_expose p.now man from }
     requires room { array_vec_len list.old + length (legal_between p.now from to) ≤ 1024 }
     ensures { list.new.items ≡ list.old.items ++ legal_between p.now from to }
 {
-    if is_way(p, man, from, to) {
-        if must_choose(man, to) {
-            add_choices(p, man, from, to, bare, exposing, list);
-        } else {
-            let promo = None;
-            add_if_safe(p, man, Move { from, to, promo }, bare, exposing, list);
-        }
+    if must_choose(man, to) {
+        add_choices(p, man, from, to, bare, exposing, list);
+    } else {
+        let promo = None;
+        add_if_safe(p, man, Move { from, to, promo }, bare, exposing, list);
     }
 }
 
-/// Adds the legal moves of the man on `from`: it goes over the squares where the man may go on some
-/// board, but for those of its own side.
+/// Adds the legal moves of the man on `from`: it goes over the squares to which the man has a way,
+/// but for those of its own side. A man that has none costs no other board.
 #[tactic(auto, using(crate::proofs::Order::loops))]
 fn add_from(p: &Bitboards, man: Man, from: Square, list: &mut MoveList)
     requires valid { IsValid p.now }
@@ -163,11 +163,15 @@ fn add_from(p: &Bitboards, man: Man, from: Square, list: &mut MoveList)
     requires room { array_vec_len list.old + length (legal_from p.now from) ≤ 1024 }
     ensures { list.new.items ≡ list.old.items ++ legal_from p.now from }
 {
+    let targets = without(move_set(man, from), p.side(p.turn()));
+    let ways = open_ways(p, man, from, targets);
+    if ways == 0 {
+        return;
+    }
     let bare = p.put(from, 0);
     let exposing = may_expose(p, man, from, &bare);
-    let targets = without(move_set(man, from), p.side(p.turn()));
     let mut n = 0;
-    while let Some(to) = next_square(targets, n) {
+    while let Some(to) = next_square(ways, n) {
         add_between(p, man, from, to, &bare, exposing, list);
         n = to.number() + 1;
     }

@@ -1,9 +1,10 @@
 //! The ways of men from square to square, as far as the king is left out.
 
-ghost use Rattle.std.specs.Prelude.{◌≡◌};
+ghost use Rattle.std.specs.Prelude.{◌≡◌, ◌&&◌};
+ghost use Rattle.frz_squares.specs.SquareSets.{has_square, set_of};
 ghost use Rattle.frz_fide.specs.Legal.{passed_over, captures, takes_in_passing, steps, advances, goes, promotes};
 
-use frz_bits::Bitboards;
+use frz_bits::{Bitboards, next_square, with_square};
 use frz_board::{Colour, Kind, Man, Square};
 
 /// The square that a pawn passes over when it advances two squares.
@@ -51,6 +52,20 @@ pub fn is_way(p: &Bitboards, man: Man, a: Square, b: Square) -> bool
         }
         _ => p.reaches(man, a, b),
     }
+}
+
+/// Those of the squares to which the man has a way.
+pub fn open_ways(p: &Bitboards, man: Man, a: Square, squares: u64) -> u64
+    ensures { result ≡
+        set_of (λ b. has_square squares b && goes p.now man.colour man.kind a b) }
+{
+    let mut word = 0;
+    let mut n = 0;
+    while let Some(b) = next_square(squares, n) {
+        word = with_square(word, b, is_way(p, man, a, b));
+        n = b.number() + 1;
+    }
+    word
 }
 
 /// Does the move say of promotion what a man of this kind asks that arrives on `b`?

@@ -1,21 +1,23 @@
 -- Where a man may have come from, and as what.
-use Rattle.std.proofs.Common.{length, ◌≡◌, ℕ, ◌<◌, List, refl, ap, sym, ◌∙◌, subst, true, ◌&&◌, Option, None, Some, ◌⊎◌}
+use Rattle.std.proofs.Common.{length, ◌≡◌, ℕ, ◌<◌, List, refl, ap, sym, ◌∙◌, subst, Bool, true, false, ◌&&◌, Option, None, Some, ◌⊎◌}
 use Rattle.frz_fide.proofs.Lemmas.{same_parts}
 use Rattle.frz_board.specs.declared.man.Kind.{Kind}
 use Rattle.frz_board.specs.declared.man.Man.{Man}
 use Rattle.frz_board.specs.Boards.{Board, man_on, is_empty}
 use Rattle.frz_board.specs.Men.{cell_of_man, other_of}
 use Rattle.frz_board.specs.Moving.{is_promotion}
-use Rattle.std.proofs.lemmas.Bool.{and_from}
+use Rattle.std.proofs.lemmas.Bool.{and_from, and_left}
+use Rattle.frz_index.specs.Kept.{is_known}
 use Rattle.frz_index.specs.Room.{has_room}
-use Rattle.frz_squares.specs.SquareSets.{has_square}
+use Rattle.frz_bits.proofs.Lemmas.{in_set}
+use Rattle.frz_squares.specs.SquareSets.{has_square, set_of}
 use Rattle.frz_bits.specs.Ways.{may_go}
 use Rattle.frz_fide.specs.Legal.{is_last}
 use Rattle.frz_sets.specs.Views.{GroupLine}
 use Rattle.frz_unmove.specs.declared.preds.Pred.{Pred}
 use Rattle.frz_unmove.specs.Earlier.{mover_cell}
 use Rattle.frz_unmove.specs.Gathering.{Comes, ComesAs, ComesTo}
-use Rattle.frz_unmove.proofs.Coming.{room_to_begin, taken_off, promo_cases, vacated, way}
+use Rattle.frz_unmove.proofs.Coming.{room_to_begin, known_mover, taken_off, promo_cases, vacated, way}
 use Rattle.frz_unmove.proofs.Ways.{way_back}
 
 -- a move begins on one of the origins
@@ -51,7 +53,7 @@ promo_cases_at gs q b x h man on =
     (promo_cases gs q x h.0 man (ap (man_on q) h.1 ∙ on))
 
 -- the words of the origins have where a move begins
-pub in_ways : (gs : List GroupLine) (q : Board) (b : ℕ) (promo : Option Kind) (x : Pred) →
+in_ways : (gs : List GroupLine) (q : Board) (b : ℕ) (promo : Option Kind) (x : Pred) →
     ComesAs gs q b promo x → (man : Man) (word : ℕ) →
     ((a : ℕ) → mover_cell q (record { from = a; to = b; promo = promo }) ≡ cell_of_man man) →
     ((a : ℕ) → a < 64 →
@@ -75,3 +77,25 @@ in_room gs q b promo x h man word kept size e ways room =
     room x.mv.from h.0.0.step.from
     ∙ and_from _ _ (in_ways gs q b promo x h man word e ways)
     (ap (λ s. has_room gs (taken_off q s) man x.mv.from) (sym h.0.1) ∙ begins)
+
+-- one of the squares on which the set knows the man
+abbrev pub known_on : List GroupLine → Man → ℕ → ℕ → Bool
+known_on gs man squares a = has_square squares a && is_known gs (cell_of_man man) a
+
+pub known_in : (gs : List GroupLine) (man : Man) (squares k : ℕ) → k < 64 →
+    has_square squares k ≡ false → known_on gs man squares k ≡ false
+known_in gs man squares k l h = and_left (has_square squares k) (is_known gs (cell_of_man man) k) h
+
+pub in_known : (gs : List GroupLine) (q : Board) (b : ℕ) (promo : Option Kind) (x : Pred) →
+    ComesAs gs q b promo x → (man : Man) (word kept : ℕ) →
+    ((a : ℕ) → mover_cell q (record { from = a; to = b; promo = promo }) ≡ cell_of_man man) →
+    ((a : ℕ) → a < 64 →
+    has_square word a ≡ (may_go (other_of man.colour) man.kind b a && is_empty q a)) →
+    kept ≡ set_of (known_on gs man word) → has_square kept x.mv.from ≡ true
+in_known gs q b promo x h man word kept e ways is =
+    let move : x.mv ≡ record { from = x.mv.from; to = b; promo = promo } = same_parts x.mv
+    (record { from = x.mv.from; to = b; promo = promo }) refl h.0.1 h.1 in
+    in_set (known_on gs man word) kept x.mv.from is h.0.0.step.from
+    ∙ and_from _ _ (in_ways gs q b promo x h man word e ways)
+    (ap (λ n. is_known gs n x.mv.from) (sym (ap (mover_cell q) move ∙ e x.mv.from))
+    ∙ known_mover gs q x h.0.0)

@@ -15,7 +15,7 @@ use frz_index::Set;
 use frz_sets::pawn_cell;
 
 /// The cell of the man that has moved, as it was before.
-pub(crate) fn mover_cell(q: &Bitboards, m: Move) -> u8
+fn mover_cell(q: &Bitboards, m: Move) -> u8
     ensures cell { result ≡ cell_of_mover q.now m }
     ensures fits { result ≤ 12 }
 {

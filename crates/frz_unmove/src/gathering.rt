@@ -12,7 +12,7 @@ ghost use Rattle.frz_unmove.specs.Quiet.{IsReady};
 ghost use Rattle.frz_unmove.specs.Adding.{Adds};
 ghost use Rattle.frz_unmove.specs.Gathering.{Comes, ComesAs, ComesAt, ComesFrom, ComesTaking, ComesTo, HasOrigins, IsTargetWord, first_taken as first_taken_of};
 
-use crate::earlier::{mover_cell, number_before};
+use crate::earlier::number_before;
 use crate::origins::origins;
 use crate::preds::{Pred, Preds};
 use crate::quiet::{Ready, ready_for};
@@ -44,29 +44,6 @@ fn add_named(
     }
 }
 
-/// Adds it, if the set knows the man where the move begins.
-fn add_from(
-    set: &Set,
-    at: u32,
-    q: &Bitboards,
-    m: Move,
-    taken: u8,
-    target: &Option<Square>,
-    ready: &Option<Ready>,
-    out: &mut Preds,
-)
-    requires taken { taken ≤ 12 }
-    requires number { HasNumber set.now at q.now }
-    requires ready { IfSome ready.now (λ r. IsReady q.now m.to r) }
-    requires valid { IsValid q.now }
-    requires room { length out.old + 1 ≤ 131072 }
-    ensures { Adds (ComesFrom set.now q.now m taken target.now) out.old out.new 1 }
-{
-    if set.knows(mover_cell(q, m), m.from) {
-        add_named(set, at, q, m, taken, target, ready, out);
-    }
-}
-
 /// Adds the moves from these origins, with this earlier target.
 fn add_at(
     set: &Set,
@@ -90,7 +67,7 @@ fn add_at(
     let ready = ready_for(q, to, promo, taken, target);
     let mut n = 0;
     while let Some(from) = next_square(origins, n) {
-        add_from(
+        add_named(
             set,
             at,
             q,
@@ -208,7 +185,7 @@ fn add_from_origins(
     }
 }
 
-/// Adds the moves of this man to the square.
+/// Adds the moves of this man to the square, if it may have come from anywhere.
 fn add_as(
     set: &Set,
     at: u32,
@@ -227,6 +204,9 @@ fn add_as(
     ensures { Adds (ComesAs set.now q.now to promo) out.old out.new 3456 }
 {
     let origins = origins(set, q, to, promo, man);
+    if origins == 0 {
+        return;
+    }
     add_from_origins(set, at, q, to, promo, origins, out);
 }
 

@@ -1,16 +1,17 @@
 //! The squares from which a man may have come.
 ghost use Rattle.std.specs.Prelude.{ℕ, ◌≡◌, ◌<◌, ◌&&◌};
-ghost use Rattle.frz_squares.specs.SquareSets.{has_square};
+ghost use Rattle.frz_squares.specs.SquareSets.{has_square, set_of};
 ghost use Rattle.frz_bits.specs.Ways.{may_go};
 ghost use Rattle.frz_board.specs.Boards.{is_empty};
 ghost use Rattle.frz_board.specs.Men.{cell_of_man, other_of};
 ghost use Rattle.frz_fide.specs.Valid.{IsValid};
+ghost use Rattle.frz_index.specs.Kept.{is_known};
 ghost use Rattle.frz_index.specs.Room.{has_room};
 ghost use Rattle.frz_unmove.specs.Earlier.{mover_cell};
 ghost use Rattle.frz_unmove.specs.Gathering.{HasOrigins};
 
-use frz_bits::{Bitboards, move_set, next_square, replaced, without};
-use frz_board::{Kind, Man, Square};
+use frz_bits::{Bitboards, move_set, next_square, replaced, with_square, without};
+use frz_board::{Kind, Man, Square, cell_of};
 use frz_index::Set;
 
 /// The empty squares that an opponent's man of this kind goes to from here on some board: a man
@@ -41,6 +42,20 @@ fn with_room(set: &Set, p: &Bitboards, man: Man, word: u64) -> u64
     kept
 }
 
+/// Those of the squares on which the man may stand in a position of the set.
+fn with_known(set: &Set, man: Man, squares: u64) -> u64
+    ensures { result ≡
+        set_of (λ a. has_square squares a && is_known set.now (cell_of_man man) a) }
+{
+    let mut word = 0;
+    let mut n = 0;
+    while let Some(s) = next_square(squares, n) {
+        word = with_square(word, s, set.knows(cell_of(man), s));
+        n = s.number() + 1;
+    }
+    word
+}
+
 /// The squares from which this man may have come to the square. Where it promoted, it counts as a
 /// pawn in place of the man that it has become.
 pub(crate) fn origins(set: &Set, q: &Bitboards, to: Square, promo: Option<Kind>, man: Man) -> u64
@@ -53,6 +68,6 @@ pub(crate) fn origins(set: &Set, q: &Bitboards, to: Square, promo: Option<Kind>,
     if promo.is_some() {
         with_room(set, &q.put(to, 0), man, ways)
     } else {
-        ways
+        with_known(set, man, ways)
     }
 }

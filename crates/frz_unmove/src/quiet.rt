@@ -67,7 +67,8 @@ fn bared(q: &Bitboards, to: Square) -> Option<Ready>
     Some(Ready { bare, king })
 }
 
-/// The board without the man on the square, where steps are looked for that take nothing.
+/// The board without the man on the square, where steps are looked for that take nothing and are
+/// no pawn's, and no target stands.
 pub(crate) fn ready_for(
     q: &Bitboards,
     to: Square,
@@ -78,6 +79,9 @@ pub(crate) fn ready_for(
     ensures { IfSome result (λ r. IsReady q.now to r) }
 {
     if taken != 0 || (target.is_some() || promo.is_some()) {
+        return None;
+    }
+    if q.ep().is_some() || q.has(q.turn().other(), Kind::Pawn, to) {
         return None;
     }
     bared(q, to)

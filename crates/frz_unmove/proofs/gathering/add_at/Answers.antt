@@ -6,8 +6,8 @@ use Rattle.frz_unmove.specs.Gathering.{ComesAt}
 use Rattle.frz_unmove.proofs.Adding.{Below, adds_room, walk_next, walk_end}
 use Rattle.frz_unmove.proofs.gathering.add_at.Goals as goal
 
-pub add_from-requires-clause-room : goal.add_from-requires-clause-room
-add_from-requires-clause-room c =
+pub add_named-requires-clause-room : goal.add_named-requires-clause-room
+add_named-requires-clause-room c =
     let next : IsNext c.args.origins c.loop-from.n c.in-Some.from = c.in-Some.ensures in
     let on = next.on_board in
     let low = next.from in
@@ -26,9 +26,9 @@ loop-from-preserved c =
     let e = c.number-n.ensures.number in (
       omega (arith, on, e),
       walk_next (ComesAt c.args.set.now c.args.q.now c.args.to c.args.promo c.args.taken
-          c.args.target.now) (λ x. x.mv.from) c.args.out.now c.loop-from.out c.add_from.new.out
+          c.args.target.now) (λ x. x.mv.from) c.args.out.now c.loop-from.out c.add_named.new.out
           c.loop-from.n c.in-Some.from (c.number-n.result + 1) c.loop-from.n 1
-          (c.number-n.result + 1) c.loop-from.invariant.1 c.add_from.ensures (omega (arith, low, e))
+          (c.number-n.result + 1) c.loop-from.invariant.1 c.add_named.ensures (omega (arith, low, e))
           low (omega (arith, e))
           (λ x h l m. both_ways (has_square c.args.origins x.mv.from) (next.first x.mv.from l m)
           (c.requires.origins x h.0.0)),

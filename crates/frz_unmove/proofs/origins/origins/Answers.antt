@@ -1,7 +1,7 @@
 use Rattle.std.proofs.Common.{◌∙◌, ◌&&◌, ap}
 use Rattle.frz_squares.specs.SquareSets.{has_square}
 use Rattle.frz_index.specs.Room.{has_room}
-use Rattle.frz_unmove.proofs.Begins.{in_room, in_ways}
+use Rattle.frz_unmove.proofs.Begins.{in_room, in_known}
 use Rattle.frz_unmove.proofs.origins.origins.Goals as goal
 
 pub returns-then-is_some : goal.returns-then-is_some
@@ -15,5 +15,6 @@ returns-then-is_some c x h =
 
 pub returns-else-is_some : goal.returns-else-is_some
 returns-else-is_some c x h =
-    in_ways c.args.set.now c.args.q.now c.args.to c.args.promo x h c.args.man
-    c.ways_back-ways.result c.requires.mover c.ways_back-ways.ensures
+    in_known c.args.set.now c.args.q.now c.args.to c.args.promo x h c.args.man
+    c.ways_back-ways.result c.with_known.result c.requires.mover c.ways_back-ways.ensures
+    c.with_known.ensures
