@@ -21,3 +21,8 @@ pub mod Stepping
 pub mod NumbersAfterSteps
 pub mod Quotients
 pub mod OneShare
+pub mod SelectionsByNumber
+pub mod PuttingMen
+pub mod OwnSquares
+pub mod SpreadMembers
+pub mod CandidateAnswers

@@ -4,6 +4,7 @@ pub mod Members
 pub mod Partners
 pub mod Membership
 pub mod Candidates
+pub mod FreeSquares
 pub mod Charts
 pub mod Kept
 pub mod Room
