@@ -26,3 +26,4 @@ pub mod PuttingMen
 pub mod OwnSquares
 pub mod SpreadMembers
 pub mod CandidateAnswers
+pub mod LeavingMoves

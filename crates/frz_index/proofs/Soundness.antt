@@ -53,7 +53,8 @@ common e g cell s he hg =
     let kinds : a.1.0 ≡ b.1.0 = ap (λ (m : Man). m.kind) same in
     let square : a.1.1 ≡ b.1.1 = eqb-true a.1.1 s on_a.1 ∙ sym (eqb-true b.1.1 s on_b.1) in
     let one : same_state a.1 b.1 ≡ true = and_from (number_of_kind a.1.0 == number_of_kind b.1.0)
-    (a.1.1 == b.1.1) (eq-eqb (number_of_kind a.1.0) (number_of_kind b.1.0) (ap number_of_kind kinds))
+    (a.1.1 == b.1.1)
+    (eq-eqb (number_of_kind a.1.0) (number_of_kind b.1.0) (ap number_of_kind kinds))
     (eq-eqb a.1.1 b.1.1 square) in
     and_from (same_colour e.colour g.colour) (shares e.states g.states)
     (ap (λ c. same_colour c g.colour) (ap (λ (m : Man). m.colour) same) ∙ own_colour g.colour)

@@ -65,7 +65,8 @@ men_free : (p : Board) (c : Colour) (states : List (Kind × ℕ)) (n : ℕ) (cel
 men_free p c states zero cells h free_yet = refl
 men_free p c states (suc n) cells h free_yet =
     let ks = places_below (at p c states) n in
-    let by : (b : Bool) → at p c states n ≡ b → are_free c states (cond b (n ∷ ks) ks) cells ≡ true =
+    let by : (b : Bool) → at p c states n ≡ b
+    → are_free c states (cond b (n ∷ ks) ks) cells ≡ true =
     λ b. elim b as (λ b. at p c states n ≡ b → are_free c states (cond b (n ∷ ks) ks) cells
     ≡ true) [
       | true ↦

@@ -35,4 +35,5 @@ are_groups_free (g ∷ gs) (d ∷ ds) cells =
 
 -- no two men of the number's candidate would stand on one square
 abbrev pub is_spread : List GroupLine → ℕ → Bool
-is_spread gs i = are_groups_free gs (digits (map radix_of gs) (i % product (map radix_of gs))) no_men
+is_spread gs i =
+    are_groups_free gs (digits (map radix_of gs) (i % product (map radix_of gs))) no_men

@@ -12,3 +12,4 @@ pub mod OldNumbers
 pub mod OldDigits
 pub mod Stepping
 pub mod Shares
+pub mod Leaving

@@ -1,5 +1,5 @@
 //! The set of positions that the groups of some rules describe.
-ghost use Rattle.std.specs.Prelude.{◌≡◌, ◌↔◌, ◌<◌, ◌≤◌, IfOk, IfSome, IsNone, IsSome, IsTrue, MatchOption, None, Some, ◌/◌, false, map, true};
+ghost use Rattle.std.specs.Prelude.{◌≡◌, ◌↔◌, ◌<◌, ◌≤◌, IfOk, IfSome, IsNone, IsSome, MatchOption, None, Some, ◌/◌, false, map, true};
 ghost use Rattle.frz_board.specs.Boards.{Board, is_empty, man_on};
 ghost use Rattle.frz_board.specs.declared.man.Colour.TheVariants.{White};
 ghost use Rattle.frz_board.specs.declared.man.Man.{Man};
@@ -15,11 +15,12 @@ ghost use Rattle.frz_index.specs.Membership.{number_of, position_at};
 ghost use Rattle.frz_index.specs.Candidates.{candidate, no_men};
 ghost use Rattle.frz_index.specs.FreeSquares.{is_spread};
 ghost use Rattle.frz_index.specs.Kept.{IsPlan, is_known};
+ghost use Rattle.frz_index.specs.Leaving.{leaves};
 ghost use Rattle.frz_index.specs.TurnStates.{turn_in};
 ghost use Rattle.frz_index.specs.Room.{has_room};
 ghost use Rattle.frz_index.specs.Stepping.{IsCountedOnBoth, IsQuiet, stepped};
 
-use crate::across::{number_after_in, stepping_man};
+use crate::across::{arriving, number_after_in, stepping_man};
 use crate::digits::{number_of_digits, put_all};
 use crate::plan::{Plan, plan_of};
 use crate::quotient::{left_over, quotient};
@@ -223,6 +224,16 @@ impl Set {
         match stepping_man(p, m) {
             None => None,
             Some(man) => self.number_after_step(i, p, man, m.from, m.to, &None),
+        }
+    }
+
+    /// Does the move's man arrive where the set has no such man? Then a legal move leads out of it.
+    pub fn leaves(&self, p: &Bitboards, m: Move) -> bool
+        ensures { result ≡ leaves self.now p.now m }
+    {
+        match p.man(m.from) {
+            None => false,
+            Some(man) => !self.knows(cell_of(arriving(man, m.promo)), m.to),
         }
     }
 
