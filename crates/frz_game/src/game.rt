@@ -91,6 +91,24 @@ impl<B: ExitBook> Game<'_, B> {
         }
     }
 
+    /// Where a legal move leads, by the position after it.
+    fn next_after(&self, p: &Bitboards, m: Move) -> Next
+        requires valid { IsValid p.now }
+        requires legal { is_legal p.now m ≡ true }
+        ensures { let groups = self.now.rules.now.groups in
+            let q = board_after p.now m in
+            result ≡ named_next (name_in (numbers_by groups))
+            (next_by (is_member groups q) q (B.value_at self.now.book.now q)) }
+    {
+        let q = after(p, m);
+        let _to = m.to.number();
+        if self.set.leaves(p, m) {
+            Next::Outside(self.book.value(q.as_position()))
+        } else {
+            self.next_of(&q)
+        }
+    }
+
     /// Where a legal move leads.
     fn next(&self, i: u32, p: &Bitboards, m: Move) -> Next
         requires number { HasNumber self.now.set.now i p.now }
@@ -102,7 +120,7 @@ impl<B: ExitBook> Game<'_, B> {
     {
         match self.set.number_after_move(i, p, m) {
             Some(n) => Next::Inside(n),
-            None => self.next_of(&after(p, m)),
+            None => self.next_after(p, m),
         }
     }
 

@@ -24,6 +24,10 @@ at_other gs i q e k p = (
   λ h. absurd (k (subst (HasNumber gs i) (sym (e ∙ is_candidate gs i p h)) h)),
 )
 
+pub at_broken : (gs : List GroupLine) (i : ℕ) → Broken gs i →
+    (p : Board) → (None ≡ Some p) ↔ HasNumber gs i p
+at_broken gs i broken p = (λ none. absurd cc, λ h. absurd (broken p h.member h.number))
+
 -- no answer exactly at broken numbers
 pub none_broken : (gs : List GroupLine) (i : ℕ) (r : Option Board) →
     ((p : Board) → (r ≡ Some p) ↔ HasNumber gs i p) → IsNone r ↔ Broken gs i

@@ -34,7 +34,7 @@ passing_on : (f q : ℕ → Bool) (n : ℕ) → Passing f q n → Passing f q (s
 passing_on f q n h =
     record { place = h.place; low = omega (arith, h.low); counted = h.counted; passes = h.passes }
 
-passing : (f q : ℕ → Bool) (n : ℕ) → list_any q (places_below f n) ≡ true → Passing f q n
+pub passing : (f q : ℕ → Bool) (n : ℕ) → list_any q (places_below f n) ≡ true → Passing f q n
 passing f q zero h = absurd cc
 passing f q (suc n) h =
     elim (cases_Bool (f n)) [

@@ -194,11 +194,11 @@ groups_hit p (g ∷ gs) s cells h room covered =
     ] in
     by (is_state (slice_index p.cells s) s g) refl
 
-length-empty : length no_men ≡ 64
+pub length-empty : length no_men ≡ 64
 unfolding no_men
 length-empty = refl
 
-get_or-empty : (s : ℕ) → s < 64 → slice_index no_men s ≡ 0
+pub get_or-empty : (s : ℕ) → s < 64 → slice_index no_men s ≡ 0
 unfolding no_men
 get_or-empty s h = get_or-replicate 64 s 0 0 h
 

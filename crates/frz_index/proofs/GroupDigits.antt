@@ -1,6 +1,6 @@
 -- Digits of a group, as the code finds them.
 use Rattle.std.proofs.Common.{◌≡◌, ℕ, zero, suc, ◌+◌, ◌-◌, ◌<◌, ◌≤◌, List, get_or, slice_set, [], length, true, false, cond, ◌⊎◌, inl, inr, refl, ap, sym, ◌∙◌, subst, arith}
-use Rattle.std.specs.Prelude.{nat_lt}
+use Rattle.std.specs.Prelude.{Some, ◌==◌, nat_lt, slice_index}
 use Rattle.std.proofs.lemmas.Bool.Decides.{nat_tests}
 use Rattle.std.specs.List.{slice_get}
 use Rattle.std.proofs.lemmas.Option.{slice_get_read, same_Some}
@@ -17,6 +17,7 @@ use Rattle.frz_sets.specs.Views.{GroupLine}
 use Rattle.frz_sets.specs.Sets.{radix_of}
 use Rattle.frz_index.specs.Places.{IsWithinCount, digit_of, places, places_among, stands}
 use Rattle.frz_index.specs.Candidates.{put_man}
+use Rattle.frz_index.specs.FreeSquares.{is_free}
 
 pub offset_step : (s i n sum : ℕ) → i < n →
     capped (capped (sum + capped (choose s i)) + choices s (i + 1) (n - (i + 1)))
@@ -89,6 +90,15 @@ put_read c states k cells a b s v h ea eb ev' es' =
     let same : a ≡ b = same_Some a b (sym at_a ∙ at_b) in
     ap (λ x. slice_set cells x v) (es ∙ ap (λ (y : Kind × ℕ). y.1) (sym same))
     ∙ ap (λ x. slice_set cells a.1 x) ev ∙ sym (ap (λ o. put_man c o cells) at_a)
+
+-- the square that was read is free exactly if it is empty
+pub free_read : (states : List (Kind × ℕ)) (k : ℕ) (cells : List ℕ) (b : Kind × ℕ) (s : ℕ) →
+    k < length states → b ≡ get_or states k b → s ≡ (get_or states k b).1 →
+    is_free (slice_get states k) cells ≡ (slice_index cells s == 0)
+free_read states k cells b s h e is =
+    let at : slice_get states k ≡ Some b = slice_get_read states (length states) k b refl h e in
+    let square : b.1 ≡ s = ap (λ (y : Kind × ℕ). y.1) e ∙ sym is in
+    ap (λ o. is_free o cells) at ∙ ap (λ x. slice_index cells x == 0) square
 
 -- the sum of two capped parts is the group's digit
 pub record IsDigit (p : Board) (g : GroupLine) (sum : ℕ) : Type 0 where

@@ -4,7 +4,7 @@ use Rattle.std.specs.List.{AllByRecursion}
 use Rattle.std.proofs.Math.Seq.{drop-cons}
 use Rattle.std.proofs.Math.Nat.{add-mul}
 use Rattle.std.proofs.lemmas.Nat.{mul-le}
-use Rattle.std.specs.Prelude.{◌==◌}
+use Rattle.std.specs.Prelude.{◌==◌, ◌&&◌}
 use Rattle.std.proofs.lemmas.Bool.{eq-eqb}
 use Rattle.std.proofs.lemmas.Bool.Decides.{nat_tests}
 use Rattle.frz_board.specs.Boards.{Board}
@@ -15,6 +15,7 @@ use Rattle.frz_combinations.specs.Binomials.{capped}
 use Rattle.frz_combinations.specs.MixedRadix.{digits, product, value}
 use Rattle.frz_index.proofs.Turns.{place_at}
 use Rattle.frz_index.specs.Candidates.{put_group, put_groups}
+use Rattle.frz_index.specs.FreeSquares.{are_groups_free, is_group_free}
 use Rattle.frz_index.specs.Kept.{AreNumberable, AreWeights, product_from}
 use Rattle.frz_sets.specs.Sound.{IsCounted}
 use Rattle.frz_index.specs.Places.{IsWithinCount, digit_of, places, stands}
@@ -164,6 +165,38 @@ pub put_end : (gs : List GroupLine) (i rest : ℕ) (cells : List ℕ) → length
     cells ≡ put_groups (drop i gs) (digits (map radix_of (drop i gs)) rest) cells
 put_end gs i rest cells h =
     sym (ap (λ xs. put_groups xs (digits (map radix_of xs) rest) cells) (drop_end gs i h))
+
+-- and so whether they find their squares free
+pub free_step : (gs : List GroupLine) (i : ℕ) (g : GroupLine) (w rest : ℕ) (cells : List ℕ) →
+    At gs i g w → is_group_free g (rest / w) cells ≡ true →
+    are_groups_free (drop (i + 1) gs) (digits (map radix_of (drop (i + 1) gs)) (rest % w))
+    (put_group g (rest / w) cells)
+    ≡ are_groups_free (drop i gs) (digits (map radix_of (drop i gs)) rest) cells
+free_step gs i g w rest cells a free =
+    let later = drop (i + 1) gs in
+    let v = product (map radix_of later) in
+    let next = are_groups_free later (digits (map radix_of later) (rest % v))
+    (put_group g (rest / v) cells) in
+    ap (λ v. are_groups_free later (digits (map radix_of later) (rest % v))
+    (put_group g (rest / v) cells)) a.weight
+    ∙ sym (ap (λ b. b && next) (ap (λ v. is_group_free g (rest / v) cells) (sym a.weight) ∙ free))
+    ∙ sym (ap (λ xs. are_groups_free xs (digits (map radix_of xs) rest) cells) a.is)
+
+pub free_stop : (gs : List GroupLine) (i : ℕ) (g : GroupLine) (w rest : ℕ) (cells : List ℕ) →
+    At gs i g w → is_group_free g (rest / w) cells ≡ false →
+    false ≡ are_groups_free (drop i gs) (digits (map radix_of (drop i gs)) rest) cells
+free_stop gs i g w rest cells a free =
+    let later = drop (i + 1) gs in
+    let v = product (map radix_of later) in
+    let next = are_groups_free later (digits (map radix_of later) (rest % v))
+    (put_group g (rest / v) cells) in
+    sym (ap (λ b. b && next) (ap (λ v. is_group_free g (rest / v) cells) (sym a.weight) ∙ free))
+    ∙ sym (ap (λ xs. are_groups_free xs (digits (map radix_of xs) rest) cells) a.is)
+
+pub free_end : (gs : List GroupLine) (i rest : ℕ) (cells : List ℕ) → length gs ≤ i →
+    true ≡ are_groups_free (drop i gs) (digits (map radix_of (drop i gs)) rest) cells
+free_end gs i rest cells h =
+    sym (ap (λ xs. are_groups_free xs (digits (map radix_of xs) rest) cells) (drop_end gs i h))
 
 -- the place of a number in what is left of a list
 pub place_here : (xs : List ℕ) (i t : ℕ) → i < length xs → t ≡ get_or xs i 0 →

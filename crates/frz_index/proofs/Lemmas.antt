@@ -1,6 +1,7 @@
 -- The lemmas that crates above cite.
 pub use Rattle.frz_index.proofs.AtNumbers.{is_candidate}
 pub use Rattle.frz_index.proofs.Counting.{eqb_swap}
+pub use Rattle.frz_index.proofs.LeavingMoves.{outside_after}
 pub use Rattle.frz_index.proofs.RoomForMen.{room_where, same_man}
 pub use Rattle.frz_index.proofs.Stepping.{after_quiet, at_from, at_rest, at_to}
 pub use Rattle.frz_index.proofs.Turns.{target_possible}

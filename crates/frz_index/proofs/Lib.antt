@@ -21,3 +21,9 @@ pub mod Stepping
 pub mod NumbersAfterSteps
 pub mod Quotients
 pub mod OneShare
+pub mod SelectionsByNumber
+pub mod PuttingMen
+pub mod OwnSquares
+pub mod SpreadMembers
+pub mod CandidateAnswers
+pub mod LeavingMoves

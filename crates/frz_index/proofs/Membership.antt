@@ -88,11 +88,14 @@ valid_of p h =
     not_true true h = absurd (cc)
     not_true false h = refl
 
+pub no_fault_in : (p : Board) → IsValid p → is_ok (validity_of p) ≡ true
+no_fault_in p v =
+    validity_tests p true true true true false v.kings v.pawns v.men v.target v.safe
+
 pub of_valid : (p : Board) → IsValid p → is_valid p ≡ true
 unfolding is_valid
 of_valid p v =
-    and_from (are_cells p.cells) (is_ok (validity_of p)) (fit_cells p.cells v.fits)
-    (validity_tests p true true true true false v.kings v.pawns v.men v.target v.safe)
+    and_from (are_cells p.cells) (is_ok (validity_of p)) (fit_cells p.cells v.fits) (no_fault_in p v)
 
 pub men_of : (gs : List GroupLine) (p : Board) → are_men_covered gs p ≡ true → (s : ℕ) → s < 64 →
     slice_index p.cells s ≢ 0 → has_state gs (slice_index p.cells s) s ≡ true

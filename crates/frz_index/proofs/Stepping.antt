@@ -104,7 +104,7 @@ only f (suc n) k l e alone =
     ]
 
 -- a state stands at one place
-state_once : (states : List (Kind × ℕ)) (j k : ℕ) (s t : Kind × ℕ) → AreStates states →
+pub state_once : (states : List (Kind × ℕ)) (j k : ℕ) (s t : Kind × ℕ) → AreStates states →
     slice_get states j ≡ Some s → slice_get states k ≡ Some t → state_number s ≡ state_number t →
     j ≡ k
 state_once states j k s t h ej ek same =

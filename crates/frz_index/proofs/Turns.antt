@@ -1,12 +1,12 @@
 -- Turn states, both ways.
-use Rattle.std.proofs.Common.{◌≡◌, ℕ, suc, ◌+◌, ◌<◌, Bool, true, false, ◌&&◌, ◌||◌, cond, Option, None, Some, List, [], ◌∷◌, length, filter, slice_index, get_or, ◌≢◌, refl, ap, sym, ◌∙◌, arith, inl, inr}
+use Rattle.std.proofs.Common.{◌≡◌, ℕ, zero, suc, ◌+◌, ◌<◌, ◌≤◌, Bool, true, false, ◌&&◌, ◌||◌, cond, Option, None, Some, List, [], ◌∷◌, length, filter, slice_index, get_or, ◌≢◌, refl, ap, sym, ◌∙◌, arith, inl, inr}
 use Rattle.std.specs.Prelude.{◌==◌}
-use Rattle.std.specs.List.{list_any, slice_get}
-use Rattle.std.proofs.lemmas.Bool.{eqb-true, eq-eqb, cases_lt, and_from, and_parts, or_right}
+use Rattle.std.specs.List.{list_any, range_with_len, slice_get}
+use Rattle.std.proofs.lemmas.Bool.{eqb-true, eq-eqb, cases_lt, and_from, and_parts, false_from_ne_true, or_right}
 use Rattle.std.proofs.lemmas.Map.Views.{any-filter_same}
 use Rattle.std.proofs.lemmas.List.Folds.{list_any_at}
 use Rattle.std.proofs.lemmas.List.{get_or_past}
-use Rattle.std.proofs.lemmas.Option.{slice_get_within}
+use Rattle.std.proofs.lemmas.Option.{same_Some, slice_get-get_or, slice_get_within}
 use Rattle.frz_board.specs.Boards.{Board, has, is_empty}
 use Rattle.frz_board.specs.EnPassant.{ahead, has_passed, has_pawn_beside, has_target_in_place, is_passed, is_passing_rank, target_stands}
 use Rattle.frz_board.specs.Men.{cell_of_man, other_of}
@@ -51,6 +51,61 @@ turn_back gs c (Some t) h =
     ap target_state (place_found t (targets gs) f.0) ∙ ap (λ d. (d, Some t)) f.1
 turn_back gs White None h = refl
 turn_back gs Black None h = refl
+
+-- numbers that grow, from the first on
+abbrev AreGrowing : ℕ → List ℕ → Type 0
+AreGrowing n [] = Unit {0}
+AreGrowing n (t ∷ ts) = (n ≤ t) × AreGrowing (t + 1) ts
+
+growing_low : (n : ℕ) (ts : List ℕ) (k t : ℕ) → AreGrowing n ts → slice_get ts k ≡ Some t → n ≤ t
+growing_low n [] k t h e = absurd cc
+growing_low n (u ∷ ts) zero t h e = omega (arith, h.0, same_Some u t e)
+growing_low n (u ∷ ts) (suc k) t h e =
+    omega (arith, h.0, growing_low (u + 1) ts k t h.1 e)
+
+growing_wider : (m n : ℕ) (ts : List ℕ) → m ≤ n → AreGrowing n ts → AreGrowing m ts
+growing_wider m n [] l h = tt
+growing_wider m n (t ∷ ts) l h = (omega (arith, l, h.0), h.1)
+
+filter_grows : (f : ℕ → Bool) (a n : ℕ) → AreGrowing a (filter f (range_with_len a n))
+filter_grows f a zero = tt
+filter_grows f a (suc n) =
+    let later = filter f (range_with_len (a + 1) n) in
+    let rest : AreGrowing (a + 1) later = filter_grows f (a + 1) n in
+    let by : (b : Bool) → AreGrowing a (cond b (a ∷ later) later) =
+    λ b. elim b as (λ b. AreGrowing a (cond b (a ∷ later) later)) [
+      | true ↦ (omega arith, rest)
+      | false ↦ growing_wider a (a + 1) later (omega arith) rest
+    ] in
+    by (f a)
+
+targets_grow : (gs : List GroupLine) → AreGrowing 0 (targets gs)
+unfolding squares
+targets_grow gs = filter_grows (is_possible gs) 0 64
+
+-- among them each is at its own place
+place_own : (n : ℕ) (ts : List ℕ) (k t : ℕ) → AreGrowing n ts → slice_get ts k ≡ Some t →
+    place_of t ts ≡ k
+place_own n [] k t h e = absurd cc
+place_own n (u ∷ ts) zero t h e =
+    place_at t u ts true (eq-eqb t u (sym (same_Some u t e)))
+place_own n (u ∷ ts) (suc k) t h e =
+    let low = growing_low (u + 1) ts k t h.1 e in
+    let other : (t == u) ≡ false = false_from_ne_true (t == u)
+    (λ same. let is = eqb-true t u same in absurd (omega (arith, low, is))) in
+    place_at t u ts false other ∙ ap suc (place_own (u + 1) ts k t h.1 e)
+
+-- the number of a turn state is found again
+pub turn_forth : (gs : List GroupLine) (n : ℕ) → n < 2 + length (targets gs) →
+    turn_number gs (turn_in (targets gs) n).0 (turn_in (targets gs) n).1 ≡ n
+turn_forth gs zero h = refl
+turn_forth gs (suc zero) h = refl
+turn_forth gs (suc (suc k)) h =
+    let ts = targets gs in
+    let t = get_or ts k 0 in
+    let is : slice_get ts k ≡ Some t = slice_get-get_or ts k 0 (omega (arith, h)) in
+    ap (λ o. turn_number gs (target_state o).0 (target_state o).1) is
+    ∙ ap (λ n. suc (suc n)) (place_own 0 ts k t (targets_grow gs) is)
 
 -- its number is below the number of turn states
 place_below : (x : ℕ) (ys : List ℕ) → list_any (λ y. x == y) ys ≡ true → place_of x ys < length ys

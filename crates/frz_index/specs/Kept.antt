@@ -1,14 +1,14 @@
 -- What a set keeps of its groups.
-use Rattle.std.specs.Prelude.{ℕ, suc, ◌+◌, ◌≡◌, ◌<◌, ◌≤◌, ◌/◌, ◌%◌, Bool, false, ◌||◌, ◌==◌, List, drop, length, map, slice_index, slice_index_or}
+use Rattle.std.specs.Prelude.{ℕ, suc, ◌+◌, ◌≡◌, ◌<◌, ◌≤◌, ◌/◌, ◌%◌, Bool, false, true, ◌||◌, ◌==◌, List, [], ◌∷◌, drop, length, map, slice_index, slice_index_or}
 use Rattle.frz_combinations.specs.MixedRadix.{product}
 use Rattle.frz_sets.specs.Views.{GroupLine}
-use Rattle.frz_sets.specs.Sound.{AreCounted}
+use Rattle.frz_sets.specs.Sound.{AreCounted, AreStates}
 use Rattle.frz_sets.specs.declared.limits.TheConstants.{MOST_GROUPS, MOST_NUMBERS, MOST_STATES}
 use Rattle.frz_index.specs.declared.plan.Plan.{Plan}
 use Rattle.frz_index.specs.declared.plan.TheConstants.{CELLS}
 use Rattle.frz_index.specs.Charts.{AreCharts}
 use Rattle.frz_index.specs.Shares.{AreShares}
-use Rattle.frz_sets.specs.Sets.{has_state, radix_of, size_of, targets}
+use Rattle.frz_sets.specs.Sets.{has_state, is_state, radix_of, size_of, targets}
 
 -- what numbers need of the groups
 pub record AreNumberable (gs : List GroupLine) : Type 0 where
@@ -35,10 +35,22 @@ pub record AreKnown (gs : List GroupLine) (known_cells : List Bool) : Type 0 whe
   pub known : (i : ℕ) → i < CELLS → slice_index_or known_cells i false ≡ is_known gs (i / 64)
       (i % 64)
 
+-- the group's states are in order, and no later group has one of them
+pub record IsApart (g : GroupLine) (later : List GroupLine) : Type 0 where
+  pub states : AreStates g.states
+  pub alone : (cell s : ℕ) → is_state cell s g ≡ true → has_state later cell s ≡ false
+
+-- no two groups have a state in common
+abbrev pub AreApart : List GroupLine → Type 0
+AreApart [] = Unit {0}
+AreApart (g ∷ gs) = IsApart g gs × AreApart gs
+
 -- what is kept is right: the weights, the numbers of all groups, the targets, the known cells, the
--- charts, what each man adds on each square, and the rows of binomials up to 384
+-- charts, what each man adds on each square, and the rows of binomials up to 384; and each state is
+-- of one group alone
 pub record IsPlan (plan : Plan) : Type 0 where
   pub numberable : AreNumberable plan.groups.items
+  pub apart : AreApart plan.groups.items
   pub weights_are : AreWeights plan.groups.items plan.weights.items
   pub whole_is : plan.whole ≡ product_from plan.groups.items 0
   pub targets_are : plan.targets.items ≡ targets plan.groups.items

@@ -4,6 +4,7 @@ pub mod Members
 pub mod Partners
 pub mod Membership
 pub mod Candidates
+pub mod FreeSquares
 pub mod Charts
 pub mod Kept
 pub mod Room
@@ -11,3 +12,4 @@ pub mod OldNumbers
 pub mod OldDigits
 pub mod Stepping
 pub mod Shares
+pub mod Leaving

@@ -2,6 +2,7 @@
 ghost use Rattle.std.specs.Prelude.{◌≡◌, ◌≤◌, ◌*◌, ◌↔◌, IfSome, IsSome, MatchOption, None, Some, true};
 ghost use Rattle.frz_board.specs.Boards.{is_empty, man_on};
 ghost use Rattle.frz_board.specs.declared.man.Man.{Man};
+ghost use Rattle.frz_fide.specs.Legal.{arrives};
 ghost use Rattle.frz_fide.specs.Valid.{IsValid};
 ghost use Rattle.frz_index.specs.Kept.{IsPlan};
 ghost use Rattle.frz_index.specs.Members.{HasNumber};
@@ -88,5 +89,15 @@ pub(crate) fn stepping_man(p: &Bitboards, m: Move) -> Option<Man>
                 None
             }
         }
+    }
+}
+
+/// What arrives by the move of this man.
+pub(crate) fn arriving(man: Man, promo: Option<Kind>) -> Man
+    ensures { result ≡ arrives man promo }
+{
+    Man {
+        colour: man.colour,
+        kind: promo.unwrap_or(man.kind),
     }
 }

@@ -1,10 +1,11 @@
 //! The digits of all groups, to a number and back.
-ghost use Rattle.std.specs.Prelude.{◌≡◌, ◌<◌, ◌+◌, MatchOption, map};
+ghost use Rattle.std.specs.Prelude.{◌≡◌, ◌<◌, ◌+◌, MatchOption, map, true};
 ghost use Rattle.std.specs.List.{AllByRecursion};
 ghost use Rattle.frz_combinations.specs.MixedRadix.{digits, value};
 ghost use Rattle.frz_sets.specs.Sets.{radix_of};
 ghost use Rattle.frz_index.specs.Places.{AreCovered, IsWithinCount, digit_of};
 ghost use Rattle.frz_index.specs.Candidates.{put_groups};
+ghost use Rattle.frz_index.specs.FreeSquares.{are_groups_free};
 ghost use Rattle.frz_index.specs.Charts.{AreCharts};
 ghost use Rattle.frz_index.specs.Kept.{AreNumberable, AreWeights};
 ghost use Rattle.frz_sets.specs.declared.limits.TheConstants.{MOST_STATES};
@@ -47,18 +48,21 @@ pub(crate) fn number_of_digits(
     Some((total, covered))
 }
 
-/// Puts the men of the groups' digits on the board.
+/// Puts the men of the groups' digits on the board, as long as each finds its square empty, and
+/// tells whether all did.
 pub(crate) fn put_all(
     p: &mut Bitboards,
     triangle: &Triangle,
     groups: &[Group],
     weights: &[u32],
     number: u32,
-)
+) -> bool
     requires numberable { AreNumberable groups.now }
     requires weights { AreWeights groups.now weights.now }
     requires rows { triangle.now ≡ MOST_STATES + 1 }
-    ensures { p.new ≡
+    ensures free { result
+        ≡ are_groups_free groups.now (digits (map radix_of groups.now) number) p.old.cells }
+    ensures put { result ≡ true → p.new ≡
         record p.old {
           cells = put_groups groups.now (digits (map radix_of groups.now) number)
               p.old.cells;
@@ -68,7 +72,10 @@ pub(crate) fn put_all(
     for i in 0..groups.len() {
         let group = &groups[i];
         let weight = weights[i];
-        put(p, triangle, group, quotient(rest, weight));
+        if !put(p, triangle, group, quotient(rest, weight)) {
+            return false;
+        }
         rest = left_over(rest, weight);
     }
+    true
 }

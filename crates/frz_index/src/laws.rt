@@ -3,6 +3,8 @@ ghost use Rattle.std.specs.Prelude.{◌≡◌, ◌<◌, ◌↔◌, ℕ, List, Op
 ghost use Rattle.frz_board.specs.Boards.{Board};
 ghost use Rattle.frz_board.specs.declared.man.Man.{Man};
 ghost use Rattle.frz_combinations.specs.MixedRadix.{value_onto};
+ghost use Rattle.frz_board.specs.Moving.{Step};
+ghost use Rattle.frz_fide.specs.Legal.{after, is_legal};
 ghost use Rattle.frz_fide.specs.Valid.{IsValid};
 ghost use Rattle.frz_sets.specs.Views.{GroupLine, RuleLines};
 ghost use Rattle.frz_sets.specs.Sets.{radix_of, size_of};
@@ -13,6 +15,7 @@ ghost use Rattle.frz_index.specs.Members.{HasNumber, Member, Num};
 ghost use Rattle.frz_index.specs.Membership.{is_member, number_of, position_at};
 ghost use Rattle.frz_index.specs.Candidates.{candidate};
 ghost use Rattle.frz_index.specs.Stepping.{IsShare, IsStep, number_after, stepped};
+ghost use Rattle.frz_index.specs.Leaving.{leaves};
 ghost use Rattle.frz_index.specs.OldNumbers.{OldNum, old_size_of};
 
 /// The number of a position of a set is below the size, and no other position has it. It starts
@@ -55,4 +58,11 @@ pub fn numbers_after_steps()
         IsShare r.groups man a k left → IsShare r.groups man b k comes →
         HasNumber r.groups (number_after r.groups p.turn p.ep target i left comes)
         (stepped p man a b target) }
+{}
+
+/// Where the man of a legal move arrives where the set has no such man, the position after the move
+/// is outside.
+pub fn leaving_moves()
+    ensures { (gs : List GroupLine) (p : Board) (m : Step) → IsValid p → m.to < 64 →
+        is_legal p m ≡ true → leaves gs p m ≡ true → Member gs (after p m) → ⊥ }
 {}

@@ -1,10 +1,11 @@
 //! The way back from a digit: the men of its combination are put on the board.
-ghost use Rattle.std.specs.Prelude.{◌≡◌, ◌<◌, ◌≤◌, ◌-◌, ℕ, length};
+ghost use Rattle.std.specs.Prelude.{◌≡◌, ◌<◌, ◌≤◌, ◌-◌, ℕ, length, true};
 ghost use Rattle.frz_combinations.specs.Binomials.{choose};
 ghost use Rattle.frz_combinations.specs.Combinations.{unrank};
 ghost use Rattle.frz_combinations.specs.Selections.{count_and_rank};
 ghost use Rattle.frz_sets.specs.declared.limits.TheConstants.{MOST_STATES};
 ghost use Rattle.frz_index.specs.Candidates.{put_group, put_men};
+ghost use Rattle.frz_index.specs.FreeSquares.{are_free, is_group_free};
 ghost use Rattle.frz_sets.specs.Sound.{IsCounted};
 
 use frz_bits::Bitboards;
@@ -61,7 +62,8 @@ fn last_place(triangle: &Triangle, end: u32, count: u32, rank: u64) -> u32
     low
 }
 
-/// Puts so many men on the board, at the places of this rank.
+/// Puts so many men on the board, at the places of this rank, as long as each finds its square
+/// empty, and tells whether all did.
 fn put_ranked(
     p: &mut Bitboards,
     triangle: &Triangle,
@@ -69,12 +71,14 @@ fn put_ranked(
     states: &[(Kind, Square)],
     count: u32,
     rank: u64,
-)
+) -> bool
     requires few { count ≤ 16 }
     requires small { rank < 4294967296 }
     requires short { length states.now ≤ MOST_STATES }
     requires rows { length states.now < triangle.now }
-    ensures { p.new ≡
+    ensures free { result
+        ≡ are_free colour states.now (unrank (length states.now) count rank) p.old.cells }
+    ensures put { result ≡ true → p.new ≡
         record p.old {
           cells = put_men colour states.now (unrank (length states.now) count rank)
               p.old.cells;
@@ -88,15 +92,22 @@ fn put_ranked(
         rest -= triangle.binomial(end, left);
         left -= 1;
         let (kind, square) = states[end as usize];
+        if !p.is_empty(square) {
+            return false;
+        }
         p.set(square, cell_of(Man { colour, kind }));
     }
+    true
 }
 
-/// Puts the men of a group's digit on the board.
-pub(crate) fn put(p: &mut Bitboards, triangle: &Triangle, group: &Group, digit: u32)
+/// Puts the men of a group's digit on the board, as long as each finds its square empty, and tells
+/// whether all did.
+pub(crate) fn put(p: &mut Bitboards, triangle: &Triangle, group: &Group, digit: u32) -> bool
     requires numberable { IsCounted group.now }
     requires rows { length group.now.states < triangle.now }
-    ensures { p.new ≡ record p.old { cells = put_group group.now digit p.old.cells } }
+    ensures free { result ≡ is_group_free group.now digit p.old.cells }
+    ensures put { result ≡ true →
+        p.new ≡ record p.old { cells = put_group group.now digit p.old.cells } }
 {
     let states = group.states.len() as u32;
     let (count, rank) = men_of(
@@ -106,5 +117,5 @@ pub(crate) fn put(p: &mut Bitboards, triangle: &Triangle, group: &Group, digit: 
         group.most as u32,
         digit,
     );
-    put_ranked(p, triangle, group.colour, &group.states, count, rank);
+    put_ranked(p, triangle, group.colour, &group.states, count, rank)
 }

@@ -1,5 +1,5 @@
 //! The set of positions that the groups of some rules describe.
-ghost use Rattle.std.specs.Prelude.{◌≡◌, ◌↔◌, ◌<◌, ◌≤◌, IfOk, IfSome, IsNone, IsSome, IsTrue, MatchOption, None, Some, ◌/◌, map, true};
+ghost use Rattle.std.specs.Prelude.{◌≡◌, ◌↔◌, ◌<◌, ◌≤◌, IfOk, IfSome, IsNone, IsSome, MatchOption, None, Some, ◌/◌, false, map, true};
 ghost use Rattle.frz_board.specs.Boards.{Board, is_empty, man_on};
 ghost use Rattle.frz_board.specs.declared.man.Colour.TheVariants.{White};
 ghost use Rattle.frz_board.specs.declared.man.Man.{Man};
@@ -13,12 +13,14 @@ ghost use Rattle.frz_index.specs.Members.{Broken, HasNumber, Member, Num};
 ghost use Rattle.frz_index.specs.Partners.{with_black};
 ghost use Rattle.frz_index.specs.Membership.{number_of, position_at};
 ghost use Rattle.frz_index.specs.Candidates.{candidate, no_men};
+ghost use Rattle.frz_index.specs.FreeSquares.{is_spread};
 ghost use Rattle.frz_index.specs.Kept.{IsPlan, is_known};
+ghost use Rattle.frz_index.specs.Leaving.{leaves};
 ghost use Rattle.frz_index.specs.TurnStates.{turn_in};
 ghost use Rattle.frz_index.specs.Room.{has_room};
 ghost use Rattle.frz_index.specs.Stepping.{IsCountedOnBoth, IsQuiet, stepped};
 
-use crate::across::{number_after_in, stepping_man};
+use crate::across::{arriving, number_after_in, stepping_man};
 use crate::digits::{number_of_digits, put_all};
 use crate::plan::{Plan, plan_of};
 use crate::quotient::{left_over, quotient};
@@ -89,21 +91,21 @@ fn turn_state_in(plan: &Plan, i: u32) -> (Colour, Option<Square>)
     turn_at(&plan.targets, quotient(i, plan.whole))
 }
 
-/// The only position that may have this number.
-fn candidate_in(plan: &Plan, i: u32) -> Bitboards
+/// The only position that may have this number, unless two men would stand on one square.
+fn candidate_in(plan: &Plan, i: u32) -> Option<Bitboards>
     requires { IsPlan plan.now }
-    ensures { result ≡ candidate plan.now.groups.items i }
+    ensures { let gs = plan.now.groups.items in
+        MatchOption result (is_spread gs i ≡ false)
+        (λ p. (is_spread gs i ≡ true) × (p ≡ candidate gs i)) }
 {
     let (turn, ep) = turn_state_in(plan, i);
     let mut p = empty_board(turn, ep);
-    put_all(
-        &mut p,
-        &plan.triangle,
-        &plan.groups,
-        &plan.weights,
-        left_over(i, plan.whole),
-    );
-    p
+    let rest = left_over(i, plan.whole);
+    if put_all(&mut p, &plan.triangle, &plan.groups, &plan.weights, rest) {
+        Some(p)
+    } else {
+        None
+    }
 }
 
 /// The side to move of a number's turn state.
@@ -225,6 +227,16 @@ impl Set {
         }
     }
 
+    /// Does the move's man arrive where the set has no such man? Then a legal move leads out of it.
+    pub fn leaves(&self, p: &Bitboards, m: Move) -> bool
+        ensures { result ≡ leaves self.now p.now m }
+    {
+        match p.man(m.from) {
+            None => false,
+            Some(man) => !self.knows(cell_of(arriving(man, m.promo)), m.to),
+        }
+    }
+
     /// The side to move of the number's position. Nothing is said where the number is broken.
     pub fn mover(&self, i: u32) -> Colour
         requires { i < size_of self.now }
@@ -246,18 +258,16 @@ impl Set {
         i + self.plan.whole
     }
 
-    fn candidate(&self, i: u32) -> Bitboards
-        ensures { result ≡ candidate self.now i }
+    /// The only position that may have the number, if it is below the size and each man stands on a
+    /// square of his own: then it has the number exactly if it is valid.
+    fn candidate(&self, i: u32) -> Option<Bitboards>
+        ensures { MatchOption result (Broken self.now i)
+            (λ p. (p ≡ candidate self.now i) × (IsValid p ↔ HasNumber self.now i p)) }
     {
-        candidate_in(&self.plan, i)
-    }
-
-    fn has_number(&self, p: &Bitboards, i: u32) -> bool
-        ensures { IsTrue result ↔ HasNumber self.now i p.now }
-    {
-        match valid_boards(p) {
-            Err(_) => false,
-            Ok(()) => self.number_on(p) == Some(i),
+        if i < self.size() {
+            candidate_in(&self.plan, i)
+        } else {
+            None
         }
     }
 
@@ -268,11 +278,12 @@ impl Set {
         ensures function { result ≡ position_at self.now i }
         ensures valid { IfSome result IsValid }
     {
-        let p = self.candidate(i);
-        if self.has_number(&p, i) {
-            Some(p)
-        } else {
-            None
+        match self.candidate(i) {
+            None => None,
+            Some(p) => match valid_boards(&p) {
+                Err(_) => None,
+                Ok(()) => Some(p),
+            },
         }
     }
 

@@ -1,6 +1,7 @@
 use Rattle.std.proofs.Common.{◌≡◌, ◌≤◌, length}
 use Rattle.frz_combinations.specs.Combinations.{unrank}
 use Rattle.frz_index.specs.Candidates.{put_men}
+use Rattle.frz_index.specs.FreeSquares.{are_free}
 use Rattle.frz_index.proofs.placing.put_ranked.Given as goal
 
 abbrev pub invariant-loop-left : goal.invariant-loop-left
@@ -13,6 +14,8 @@ invariant-loop-left l = record {
         cells = put_men l.colour l.states (unrank (length l.states) l.count l.rank)
             l.fn.p.cells;
       };
+  free : are_free l.colour l.states (unrank l.end l.left l.rest) l.p.cells
+      ≡ are_free l.colour l.states (unrank (length l.states) l.count l.rank) l.fn.p.cells;
 }
 
 abbrev pub decreases-loop-left : goal.decreases-loop-left

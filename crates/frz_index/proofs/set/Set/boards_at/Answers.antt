@@ -1,11 +1,12 @@
-use Rattle.frz_index.proofs.AtNumbers.{at_found, at_other, none_broken}
-use Rattle.frz_index.proofs.Membership.{answer_valid, position_answer}
+use Rattle.std.proofs.Common.{ap}
+use Rattle.std.specs.Prelude.{is_ok}
+use Rattle.frz_index.proofs.AtNumbers.{at_broken, at_found, at_other, none_broken}
+use Rattle.frz_index.proofs.Membership.{answer_valid, no_fault_in, position_answer}
 use Rattle.frz_index.proofs.set.Set.boards_at.Goals as goal
 
-pub returns-then-has_number : goal.returns-then-has_number
-returns-then-has_number c =
-    let e = at_found c.args.self.now c.args.i c.candidate-p.result c.candidate-p.ensures
-    (c.has_number.ensures.0 c.if-has_number.true) in
+pub returns-in-None : goal.returns-in-None
+returns-in-None c =
+    let e = at_broken c.args.self.now c.args.i c.in-None.ensures in
     record {
       exact = e;
       broken = none_broken c.args.self.now c.args.i _ e;
@@ -13,10 +14,23 @@ returns-then-has_number c =
       valid = answer_valid c.args.self.now c.args.i _ e;
     }
 
-pub returns-else-has_number : goal.returns-else-has_number
-returns-else-has_number c =
-    let e = at_other c.args.self.now c.args.i c.candidate-p.result c.candidate-p.ensures
-    (λ h. let t = c.has_number.ensures.1 h in let f = c.if-has_number.false in absurd cc) in
+pub returns-in-Err : goal.returns-in-Err
+returns-in-Err c =
+    let e = at_other c.args.self.now c.args.i c.in-Some.p c.in-Some.ensures.0
+    (λ h. let ok = no_fault_in c.in-Some.p h.member.valid in
+    let fault = ap is_ok c.in-Err.ensures.answer in
+    absurd cc) in
+    record {
+      exact = e;
+      broken = none_broken c.args.self.now c.args.i _ e;
+      function = position_answer c.args.self.now c.args.i _ e;
+      valid = answer_valid c.args.self.now c.args.i _ e;
+    }
+
+pub returns-in-Ok : goal.returns-in-Ok
+returns-in-Ok c =
+    let e = at_found c.args.self.now c.args.i c.in-Some.p c.in-Some.ensures.0
+    (c.in-Some.ensures.1.0 c.in-Ok.ensures.valid) in
     record {
       exact = e;
       broken = none_broken c.args.self.now c.args.i _ e;
