@@ -103,7 +103,7 @@ impl<B: ExitBook> Game<'_, B> {
         let q = after(p, m);
         let _to = m.to.number();
         if self.set.leaves(p, m) {
-            Next::Outside(self.book.value(q.as_position()))
+            Next::Outside(self.book.value_on(&q))
         } else {
             self.next_of(&q)
         }
