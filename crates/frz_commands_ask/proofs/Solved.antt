@@ -2,7 +2,6 @@
 use Rattle.std.proofs.Common.{◌≡◌, refl, sym, subst, ℕ, List, [], Bool, true, false, Ok, Err, codes}
 use Rattle.std.specs.Bool.{MatchBool}
 use Rattle.frz_store.specs.Files.{Files}
-use Rattle.frz_answer.proofs.Lemmas.{IsStage}
 use Rattle.frz_arena.specs.declared.bound.Bound.{Bound}
 use Rattle.frz_answer.specs.declared.status.Status.TheVariants.{Success, Outside}
 use Rattle.frz_answer.specs.Answers.{Answer, says, SomeAnswer}
@@ -23,8 +22,7 @@ use Rattle.frz_index.proofs.Lemmas.{member_of, of_member}
 use Rattle.frz_game.proofs.Lemmas.{bound_there}
 use Rattle.frz_rules.proofs.Lemmas.{text_sound}
 use Rattle.frz_check.proofs.Lemmas.{small_lags}
-use Rattle.frz_commands_ask.specs.Solving.{AreBounds, IsSolvedBy, IsSolvedAt, solving_by}
-use Rattle.frz_commands_ask.specs.Meaning.{solving_at}
+use Rattle.frz_commands_ask.specs.Solving.{AreBounds, IsSolvedBy, IsSolvedAt}
 
 -- there is an answer at each stage
 bounds_some : (white black : Bound) → bounds_text white black ≡ [] → ⊥
@@ -47,7 +45,7 @@ some_by : (r : RuleLines) → IsSound r → (p : Board) (m : Files) (b : Bool)
 some_by r sound p m true e = some_bounds r sound p m (member_of r.groups p e)
 some_by r sound p m false e = some_refusal refused.Outside m
 
-pub some_solved_by : (r : RuleLines) → IsSound r → (p : Board) (m : Files)
+some_solved_by : (r : RuleLines) → IsSound r → (p : Board) (m : Files)
     → SomeAnswer (λ a. IsSolvedBy r p m a)
 some_solved_by r sound p m = some_by r sound p m (is_member r.groups p) refl
 
@@ -86,16 +84,3 @@ module _ (p : Board) (m : Files) where
   pub is_read_at : (rules : List ℕ) (r : RuleLines) (a : Answer) → rules_held (m rules) ≡ Ok r
       → IsSolvedBy r p m a → IsSolvedAt p rules m a
   is_read_at rules r a e h = read_named m (By p m) r a (m rules) e (λ text there. h)
-
-pub at_stage : (r : RuleLines) (rules : List ℕ) (p : Board)
-    → IsStage (solving_by r p) (solving_at rules p)
-at_stage r rules p =
-    record {
-      statuses = refl;
-      store = λ h. cc;
-      reads = λ e. refl;
-      input = λ h. cc;
-      memory = λ h. h;
-      speaks = λ e. e;
-      writes = refl;
-    }

@@ -1,9 +1,8 @@
 -- What `solve RULES FEN` answers. No file changes.
-use Rattle.std.specs.Prelude.{◌≡◌, ℕ, List, [], ◌∷◌, true, MatchResult, MatchOption, MatchBool, None, Result, Ok, Err, codes}
+use Rattle.std.specs.Prelude.{◌≡◌, ℕ, List, MatchResult, MatchOption, MatchBool, Result, Ok, Err, codes}
 use Rattle.frz_store.specs.Files.{Files}
 use Rattle.frz_answer.specs.declared.status.Status.TheVariants.{Success, Rules, Outside, Missing}
 use Rattle.frz_answer.specs.Answers.{Answer, says}
-use Rattle.frz_answer.specs.Jobs.{Job, plain, nothing, steps_alone, WithinCosts}
 use Rattle.frz_board.specs.declared.man.Colour.TheVariants.{White, Black}
 use Rattle.frz_board.specs.Boards.{Board}
 use Rattle.frz_sets.specs.Views.{RuleLines}
@@ -57,10 +56,3 @@ abbrev pub IsSolvedAt : Board → List ℕ → Files → Answer → Type 0
 IsSolvedAt p rules files a = MatchOption (files rules)
     (a ≡ says Missing (codes "missing rules\n") files)
     (λ text. IsSolvedIn text p files a)
-
--- `solve` by rules that were read
-abbrev pub solving_by : RuleLines → Board → Job
-solving_by r p = record (plain (Success ∷ Outside ∷ []) (λ files input a. IsSolvedBy r p files a)) {
-  needs = record nothing { memory = true };
-  costs = λ files input a. WithinCosts (steps_alone None);
-}

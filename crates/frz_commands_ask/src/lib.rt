@@ -8,6 +8,6 @@ mod querying;
 mod reporting;
 mod solving;
 
-pub use querying::{run_chainquery, run_query};
+pub use querying::{chainquery, query};
 pub use reporting::run_report;
-pub use solving::run_solve;
+pub use solving::solve;

@@ -23,6 +23,7 @@ own why = OneOf (status_of why) (Success ∷ Rules ∷ Table ∷ Wrong ∷ Missi
 
 -- what is read is refused with a status of `chain`
 own_refusal : (why : Refusal) → StopsReading (Refused why) → own why
+own_refusal (refusals.Words words) h = absurd h
 own_refusal (refusals.Fen fault) h = absurd h
 own_refusal refusals.MissingRules h = refl
 own_refusal (refusals.Rules fault) h = refl

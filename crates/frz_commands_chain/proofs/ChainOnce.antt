@@ -22,13 +22,14 @@ use Rattle.frz_answer.specs.Answers.{Answer, says, SomeAnswer}
 use Rattle.frz_answer.specs.Lawful.{HasOneAnswer, IsLawful}
 use Rattle.frz_answer.specs.Words.{three_words_of, unless}
 use Rattle.frz_answer.proofs.Lemmas.{taking_lawful, unless_lawful}
+use Rattle.frz_prelude.specs.Replies.{chained_line}
 use Rattle.frz_prelude.specs.Refusals.{refusal_line, status_of, table_status}
 use Rattle.frz_prelude.specs.RulesFiles.{or_fault, rules_held}
 use Rattle.frz_prelude.specs.declared.refused.Refused.{Refused as Refusal}
 use Rattle.frz_prelude.specs.declared.refused.Refused.TheVariants as refusals
 use Rattle.frz_prelude.proofs.Lemmas.{by_table_status, refusal_said}
 use Rattle.frz_commands_chain.specs.Backs.{IsBackIn}
-use Rattle.frz_commands_chain.specs.Chaining.{IsChainedAt, IsChainedBy, MakesChain, MeansByStatus, MeansChain, made, refused, chained_line, chain_words, chaining_at, is_named_twice}
+use Rattle.frz_commands_chain.specs.Chaining.{IsChainedAt, IsChainedBy, MakesChain, MeansByStatus, MeansChain, made, refused, chain_words, chaining_at, is_named_twice}
 use Rattle.frz_commands_chain.specs.Reading.{HasRules, IsRefusedBoth}
 use Rattle.frz_commands_chain.proofs.BackOnce.{BackFound, back_found, never_both, not_open, one_back, one_wrong_entry, right, wrong}
 use Rattle.frz_commands_chain.proofs.PairOnce.{back_opens, not_both, same_fault, same_value, wrong_opens}
@@ -51,6 +52,7 @@ pub by_refusal : (P : Refusal → Type 0) (held back_held : Option (List ℕ)) (
     → ((fault : TableFault) → HasRules held → opened (table_format Plain) back_held ≡ Err fault
     → P (refusals.Back fault))
     → ((w : WrongEntry) → HasRules held → HasWrong back_held w → P (refusals.BackWrong w)) → P why
+by_refusal P held back_held (refusals.Words words) h missing bad of_back of_wrong = absurd h
 by_refusal P held back_held (refusals.Fen fault) h missing bad of_back of_wrong = absurd h
 by_refusal P held back_held refusals.MissingRules h missing bad of_back of_wrong = missing h
 by_refusal P held back_held (refusals.Rules fault) h missing bad of_back of_wrong = bad fault h

@@ -3,7 +3,7 @@ use Rattle.std.proofs.Common.{◌≡◌, refl, sym, ap, subst, ◌∙◌, ℕ, �
 use Rattle.std.specs.Prelude.{codes, nat_lt}
 use Rattle.std.specs.Str.{bytes_eq}
 use Rattle.frz_store.specs.Files.{Files}
-use Rattle.frz_store.specs.Told.{StoreTold, SourceTold, SinkTold, StoreQuiet, StoreFine}
+use Rattle.frz_store.specs.Told.{StoreTold, StoreQuiet, StoreFine}
 use Rattle.frz_table.specs.declared.fault.TableFault.{TableFault}
 use Rattle.frz_table.specs.declared.fault.TableFault.TheVariants.{Magic, Truncated}
 use Rattle.frz_table.specs.declared.kind.FileKind.TheVariants.{Plain, Chained}
@@ -11,17 +11,18 @@ use Rattle.frz_table.specs.Faults.{TableCauses}
 use Rattle.frz_table.specs.Opening.{Contents, Refuses, opened, opening_calls, table_format, with_length, with_magic}
 use Rattle.frz_table.specs.Possible.{MayOpen, MayRefuse, held_text}
 use Rattle.frz_table.proofs.Lemmas.{belongs, opened_calls, text_kept}
-use Rattle.frz_answer.specs.declared.end.End.{End}
 use Rattle.frz_answer.specs.declared.status.Status.TheVariants.{Success, Wrong, Table, Missing}
-use Rattle.frz_answer.specs.Ends.{Ran}
+use Rattle.frz_answer.specs.Statuses.{OneOf}
 use Rattle.frz_answer.specs.Jobs.{WithinCosts}
 use Rattle.frz_answer.specs.World.{World, Agrees, spent, world}
-use Rattle.frz_answer.proofs.Lemmas.{SaysAll, fine_store, quiet_store, said}
+use Rattle.frz_answer.proofs.Lemmas.{SaysAll}
 use Rattle.frz_prelude.specs.Refusals.{refusal_line, status_of}
-use Rattle.frz_prelude.specs.Stops.{EndsBy, stop_of_table}
+use Rattle.frz_prelude.specs.Replies.{Replies}
+use Rattle.frz_prelude.specs.Stops.{stop_of_table}
+use Rattle.frz_prelude.specs.declared.refused.Refused.{Refused as Refusal}
 use Rattle.frz_prelude.specs.declared.refused.Refused.TheVariants as refusals
 use Rattle.frz_prelude.specs.declared.stop.Stop.TheVariants.{Refused}
-use Rattle.frz_prelude.proofs.Lemmas.{StopsWith, ended, found_where, holding, may_stop, stop_own, stops_by, table_cause}
+use Rattle.frz_prelude.proofs.Lemmas.{StopsWith, found_where, holding, stop_own, stopped_reply, stops_by, table_cause}
 use Rattle.frz_commands_chain.specs.Checking.{pair_costs, refused}
 use Rattle.frz_commands_chain.specs.CheckMeans.{checking_pair}
 use Rattle.frz_commands_chain.proofs.NoTable.{by_other}
@@ -100,38 +101,33 @@ module _ (table : List ℕ) (files : Files) (input : List ℕ) (old new : World)
       (subst (λ (h : Option (List ℕ)). Refuses (opened (table_format Chained) h) fault)
       (sym at.holds) may.refuses)
 
--- how the command ends then
-module _ (table : List ℕ) (store now : StoreTold) (input : SourceTold) (out taken : SinkTold)
-    (steps : ℕ) (quiet : StoreQuiet store now) where
-  pub opened_ran : (contents : Contents) (end : End)
+-- what the command replies then
+module _ (table : List ℕ) (store now : StoreTold) (steps : ℕ) (quiet : StoreQuiet store now) where
+  own_magic : (why : Refusal) → Refused (refusals.Back Magic) ≡ Refused why
+      → OneOf (status_of why) (Success ∷ Wrong ∷ Table ∷ Missing ∷ [])
+  own_magic why e =
+      let same : refusals.Back Magic ≡ why = cc in
+      subst (λ (w : Refusal). OneOf (status_of w) (Success ∷ Wrong ∷ Table ∷ Missing ∷ [])) same
+      refl
+
+  pub opened_reply : (contents : Contents)
       → MayOpen (table_format Chained) store.files table contents → StoreFine store now
       → now.asked ≤ store.asked + (16 + length contents.text) → now.calls ≤ store.calls + 5
-      → EndsBy (Refused (refusals.Back Magic)) end out taken
-      → Ran (checking_pair table table) end (world store input out steps)
-      (world now input taken steps)
-  opened_ran contents end may fine asked calls ends =
-      let old = world store input out steps in
-      let new = world now input out steps in
-      said (checking_pair table table) (status_of (refusals.Back Magic))
-      (refusal_line (refusals.Back Magic)) end old new taken
-      (quiet_store store now input out steps quiet)
-      (fine_store store now input out steps steps fine) refl ends
-      (λ files left agrees. opened_alone table files left old new refl agrees contents may asked
-      calls)
+      → Replies (checking_pair table table) (Err (Refused (refusals.Back Magic))) store now steps
+      steps
+  opened_reply contents may fine asked calls =
+      stopped_reply ℕ (checking_pair table table) (Refused (refusals.Back Magic)) store now steps
+      steps quiet (omega arith) refl refl own_magic fine
+      (λ files left input out agrees. opened_alone table files left (world store input out steps)
+      (world now input out steps) refl agrees contents may asked calls)
 
-  pub refused_ran : {T : Type 0} (fault : TableFault) (end : End)
+  pub refused_reply_alone : {T : Type 0} (fault : TableFault)
       → TableCauses {T = T} store.faults now.faults store.wants now.wants (Err fault)
       → MayRefuse (table_format Chained) table store now fault
-      → EndsBy (stop_of_table fault) end out taken
-      → Ran (checking_pair table table) end (world store input out steps)
-      (world now input taken steps)
-  refused_ran {T} fault end causes may ends =
-      let job = checking_pair table table in
-      let old = world store input out steps in
-      let new = world now input out steps in
-      ended job (stop_of_table fault) end old new taken
-      (quiet_store store now input out steps quiet)
-      (may_stop ℕ job (stop_of_table fault) store now input out steps steps refl refl
-      (stop_own fault (Success ∷ Wrong ∷ Table ∷ Missing ∷ []) refl refl)
-      (table_cause T ℕ fault store now causes)) ends
-      (λ files left agrees. stopped_alone table files left old new refl agrees fault may)
+      → Replies (checking_pair table table) (Err (stop_of_table fault)) store now steps steps
+  refused_reply_alone {T} fault causes may =
+      stopped_reply ℕ (checking_pair table table) (stop_of_table fault) store now steps steps quiet
+      (omega arith) refl refl (stop_own fault (Success ∷ Wrong ∷ Table ∷ Missing ∷ []) refl refl)
+      (table_cause T ℕ fault store now causes)
+      (λ files left input out agrees. stopped_alone table files left (world store input out steps)
+      (world now input out steps) refl agrees fault may)

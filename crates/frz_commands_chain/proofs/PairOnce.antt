@@ -38,6 +38,7 @@ pub by_refusal : (P : Refusal → Type 0) (held back_held : Option (List ℕ)) (
     → P (refusals.Back fault))
     → ((w : WrongEntry) → OpensChained held → HasWrong back_held w → P (refusals.BackWrong w))
     → P why
+by_refusal P held back_held (refusals.Words words) h of_table of_back of_wrong = absurd h
 by_refusal P held back_held (refusals.Fen fault) h of_table of_back of_wrong = absurd h
 by_refusal P held back_held refusals.MissingRules h of_table of_back of_wrong = absurd h
 by_refusal P held back_held (refusals.Rules fault) h of_table of_back of_wrong = absurd h

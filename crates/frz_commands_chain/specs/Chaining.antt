@@ -1,6 +1,6 @@
 -- What `chain RULES BACK TABLE` is to do: the table file of the rules over the back table is
 -- written under the name TABLE.
-use Rattle.std.specs.Prelude.{◌≡◌, ℕ, ◌+◌, ◌*◌, List, [], ◌∷◌, ◌++◌, true, false, Bool, ◌||◌, Option, Some, Result, Ok, Err, codes, decimal}
+use Rattle.std.specs.Prelude.{◌≡◌, ℕ, ◌+◌, ◌*◌, List, [], ◌∷◌, true, false, Bool, ◌||◌, Option, Some, Result, Ok, Err}
 use Rattle.std.specs.Str.{bytes_eq}
 use Rattle.frz_store.specs.Files.{Files, put}
 use Rattle.frz_answer.specs.declared.status.Status.{Status}
@@ -9,6 +9,7 @@ use Rattle.frz_answer.specs.Answers.{Answer, says}
 use Rattle.frz_answer.specs.Jobs.{Costs, Job, Once, plain, nothing, WithinCosts}
 use Rattle.frz_answer.specs.Words.{taking, three_words_of, unless}
 use Rattle.frz_prelude.specs.Refusals.{refusal_line, status_of}
+use Rattle.frz_prelude.specs.Replies.{chained_line}
 use Rattle.frz_prelude.specs.RulesFiles.{rules_held}
 use Rattle.frz_prelude.specs.declared.refused.Refused.{Refused}
 use Rattle.frz_sets.specs.Views.{RuleLines}
@@ -20,10 +21,6 @@ use Rattle.frz_chain.specs.ExactBacks.{if_exact}
 use Rattle.frz_chain.specs.FileOn.{IsFileOn}
 use Rattle.frz_commands_chain.specs.Backs.{IsBackIn}
 use Rattle.frz_commands_chain.specs.Reading.{IsRefusedBoth, reading_bytes, reading_calls, reading_steps}
-
--- the size of the set
-abbrev pub chained_line : ℕ → List ℕ
-chained_line size = codes "chained " ++ decimal size ++ codes "\n"
 
 -- by what was read: TABLE holds the one file of the text over
 -- the back table, and every other name what it held

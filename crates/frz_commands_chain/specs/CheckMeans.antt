@@ -18,10 +18,11 @@ use Rattle.frz_answer.specs.Answers.{Answer}
 use Rattle.frz_answer.specs.Jobs.{Job, Once, plain, WithinCosts}
 use Rattle.frz_answer.specs.Words.{taking, two_words_of}
 use Rattle.frz_prelude.specs.Refusals.{refusal_line, status_of}
+use Rattle.frz_prelude.specs.Replies.{exact_on_line}
 use Rattle.frz_prelude.specs.WrongLines.{wrong_line}
 use Rattle.frz_prelude.specs.declared.refused.Refused.{Refused}
 use Rattle.frz_commands_chain.specs.ChainHeadline.{ChainHeadline}
-use Rattle.frz_commands_chain.specs.Checking.{IsCheckedPair, IsJudgedPair, IsRefusedPair, exact_on_line, pair_costs}
+use Rattle.frz_commands_chain.specs.Checking.{IsCheckedPair, IsJudgedPair, IsRefusedPair, pair_costs}
 
 -- both tables are exact, and the text tells their sizes
 pub record TellsExactOn (table back : List ℕ) (files : Files) (text : List ℕ) : Type 0 where

@@ -1,6 +1,6 @@
 -- What `chaincheck TABLE BACK` answers: the sizes of two tables that are exact, or the first entry
 -- that is wrong. No file changes.
-use Rattle.std.specs.Prelude.{◌≡◌, ℕ, List, ◌++◌, Option, Some, Ok, Err, codes, decimal}
+use Rattle.std.specs.Prelude.{◌≡◌, ℕ, List, Option, Some, Ok, Err}
 use Rattle.frz_sets.specs.Sets.{size_of}
 use Rattle.frz_store.specs.Files.{Files}
 use Rattle.frz_table.specs.declared.kind.FileKind.TheVariants.{Plain, Chained}
@@ -17,15 +17,11 @@ use Rattle.frz_answer.specs.declared.status.Status.TheVariants as statuses
 use Rattle.frz_answer.specs.Answers.{Answer, says}
 use Rattle.frz_answer.specs.Jobs.{Costs}
 use Rattle.frz_prelude.specs.Refusals.{refusal_line, status_of}
+use Rattle.frz_prelude.specs.Replies.{exact_on_line}
 use Rattle.frz_prelude.specs.WrongLines.{wrong_line}
 use Rattle.frz_prelude.specs.declared.refused.Refused.{Refused}
 use Rattle.frz_prelude.specs.declared.refused.Refused.TheVariants as refusals
 use Rattle.frz_commands_chain.specs.Backs.{IsBackIn}
-
--- the sizes of the table and of the back table
-abbrev pub exact_on_line : ℕ → ℕ → List ℕ
-exact_on_line size back =
-    codes "exact " ++ decimal size ++ (codes " on " ++ decimal back) ++ codes "\n"
 
 -- how the verdict on a table of so many numbers over one of so many is told
 abbrev pub chain_status : Verdict → Status

@@ -7,5 +7,5 @@ pub mod laws;
 mod reading;
 mod stopping;
 
-pub use chaining::run_chain;
-pub use checking::run_chaincheck;
+pub use chaining::chain;
+pub use checking::chaincheck;

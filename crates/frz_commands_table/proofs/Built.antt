@@ -5,6 +5,7 @@ use Rattle.frz_answer.specs.declared.status.Status.TheVariants.{Success}
 use Rattle.frz_answer.specs.Answers.{Answer, says, SomeAnswer}
 use Rattle.frz_answer.proofs.Lemmas.{IsStage}
 use Rattle.frz_prelude.specs.Refusals.{status_of, refusal_line}
+use Rattle.frz_prelude.specs.Replies.{built_line}
 use Rattle.frz_prelude.specs.RulesFiles.{or_fault, rules_held}
 use Rattle.frz_prelude.specs.declared.refused.Refused.{Refused}
 use Rattle.frz_prelude.proofs.Lemmas.{read_named, refused_named, some_named}
@@ -19,7 +20,7 @@ use Rattle.frz_game.proofs.Lemmas.{table_there}
 use Rattle.frz_check.specs.OneFile.{IsOneFile}
 use Rattle.frz_rules.proofs.Lemmas.{text_sound}
 use Rattle.frz_check.proofs.Lemmas.{file_there, small_lags}
-use Rattle.frz_commands_table.specs.Building.{built_line, IsBuiltBy, IsBuiltAt, building_by}
+use Rattle.frz_commands_table.specs.Building.{IsBuiltBy, IsBuiltAt, building_by}
 use Rattle.frz_commands_table.specs.BuildMeaning.{building_at}
 
 -- there is one file

@@ -10,6 +10,7 @@ use Rattle.frz_answer.specs.Lawful.{HasOneAnswer, IsLawful}
 use Rattle.frz_answer.specs.Words.{two_words_of, unless}
 use Rattle.frz_answer.proofs.Lemmas.{taking_lawful, unless_lawful}
 use Rattle.frz_prelude.specs.Causes.{rules_line}
+use Rattle.frz_prelude.specs.Replies.{built_line}
 use Rattle.frz_rules.specs.declared.fault.RulesFault.{RulesFault}
 use Rattle.frz_rules.specs.Text.{rules_of}
 use Rattle.frz_sets.specs.Views.{RuleLines}
@@ -19,7 +20,7 @@ use Rattle.frz_table.specs.declared.kind.FileKind.TheVariants.{Plain}
 use Rattle.frz_table.specs.Layout.{magic_of}
 use Rattle.frz_game.proofs.Lemmas.{table_one}
 use Rattle.frz_check.proofs.Lemmas.{one_file}
-use Rattle.frz_commands_table.specs.Building.{built_line, IsBuiltBy, IsBuiltIn, IsBuiltAt}
+use Rattle.frz_commands_table.specs.Building.{IsBuiltBy, IsBuiltIn, IsBuiltAt}
 use Rattle.frz_commands_table.specs.BuildMeaning.{building_at, build_words}
 use Rattle.frz_commands_table.proofs.Built.{some_built_at}
 use Rattle.frz_commands_table.proofs.BuildMeaning.{build_means}

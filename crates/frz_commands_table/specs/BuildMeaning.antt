@@ -8,6 +8,7 @@ use Rattle.frz_answer.specs.Answers.{Answer}
 use Rattle.frz_answer.specs.Jobs.{Job, Once, plain, WithinCosts}
 use Rattle.frz_answer.specs.Words.{taking, two_words_of, unless}
 use Rattle.frz_prelude.specs.Causes.{rules_line}
+use Rattle.frz_prelude.specs.Replies.{built_line}
 use Rattle.frz_prelude.specs.RulesFiles.{asked_of, reads_of, rules_held}
 use Rattle.frz_sets.specs.Views.{RuleLines}
 use Rattle.frz_sets.specs.Sets.{size_of}
@@ -17,7 +18,7 @@ use Rattle.frz_exits.specs.Books.{value_by}
 use Rattle.frz_table.specs.declared.kind.FileKind.TheVariants.{Plain}
 use Rattle.frz_table.specs.Layout.{magic_of}
 use Rattle.frz_check.specs.OneFile.{IsOneFile}
-use Rattle.frz_commands_table.specs.Building.{built_line, IsBuiltAt, steps_by, calls_by}
+use Rattle.frz_commands_table.specs.Building.{IsBuiltAt, steps_by, calls_by}
 
 -- the rules file is there and accepted, TABLE holds the one
 -- file of its text afterwards, and no other name changes

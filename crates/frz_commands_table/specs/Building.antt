@@ -1,10 +1,11 @@
 -- What `build RULES TABLE` answers: the table file of the rules is written under the name TABLE.
-use Rattle.std.specs.Prelude.{◌≡◌, ℕ, ◌*◌, List, [], ◌∷◌, ◌++◌, true, Some, MatchResult, MatchOption, Result, Ok, Err, codes, decimal}
+use Rattle.std.specs.Prelude.{◌≡◌, ℕ, ◌*◌, List, [], ◌∷◌, true, Some, MatchResult, MatchOption, Result, Ok, Err, codes}
 use Rattle.frz_store.specs.Files.{Files, put}
 use Rattle.frz_answer.specs.declared.status.Status.TheVariants.{Success, Rules, Missing}
 use Rattle.frz_answer.specs.Answers.{Answer, says}
 use Rattle.frz_answer.specs.Jobs.{Job, plain, nothing, WithinCosts}
 use Rattle.frz_prelude.specs.Causes.{rules_line}
+use Rattle.frz_prelude.specs.Replies.{built_line}
 use Rattle.frz_prelude.specs.declared.refused.Refused.{Refused}
 use Rattle.frz_sets.specs.Views.{RuleLines}
 use Rattle.frz_sets.specs.Sets.{size_of}
@@ -14,10 +15,6 @@ use Rattle.frz_table.specs.declared.kind.FileKind.TheVariants.{Plain}
 use Rattle.frz_table.specs.Layout.{magic_of}
 use Rattle.frz_check.specs.OneFile.{IsOneFile}
 use Rattle.frz_build.specs.Building.{writing_calls}
-
--- the size of the set
-abbrev pub built_line : ℕ → List ℕ
-built_line size = codes "built " ++ decimal size ++ codes "\n"
 
 -- by rules that were read: TABLE holds the one file of their
 -- text, and every other name what it held

@@ -18,9 +18,10 @@ use Rattle.frz_answer.specs.declared.status.Status.TheVariants as statuses
 use Rattle.frz_answer.specs.Answers.{Answer}
 use Rattle.frz_answer.specs.Jobs.{Job, Once, plain, WithinCosts}
 use Rattle.frz_answer.specs.Words.{taking, one_word_of}
+use Rattle.frz_prelude.specs.Replies.{exact_line}
 use Rattle.frz_prelude.specs.TableFiles.{OpensAs, TellsTableFault}
 use Rattle.frz_prelude.specs.WrongLines.{wrong_line}
-use Rattle.frz_commands_table.specs.Checking.{exact_line, IsCheckedAt, checking_costs}
+use Rattle.frz_commands_table.specs.Checking.{IsCheckedAt, checking_costs}
 use Rattle.frz_commands_table.specs.Headline.{Headline}
 
 -- the table is exact, and the text tells its size

@@ -1,6 +1,6 @@
 -- What `check TABLE` answers: the size of a table that is
 -- exact, or its first entry that is wrong. No file changes.
-use Rattle.std.specs.Prelude.{◌≡◌, ℕ, ◌+◌, ◌*◌, List, ◌++◌, length, Option, Some, Result, Ok, Err, codes, decimal}
+use Rattle.std.specs.Prelude.{◌≡◌, ℕ, ◌+◌, ◌*◌, List, length, Option, Some, Result, Ok, Err}
 use Rattle.frz_exits.specs.Books.{value_by}
 use Rattle.frz_sets.specs.Sets.{size_of}
 use Rattle.frz_store.specs.Files.{Files, bytes_at}
@@ -18,11 +18,9 @@ use Rattle.frz_answer.specs.declared.status.Status.TheVariants as statuses
 use Rattle.frz_answer.specs.Answers.{Answer, says}
 use Rattle.frz_answer.specs.Jobs.{Costs}
 use Rattle.frz_prelude.specs.Refusals.{table_status}
+use Rattle.frz_prelude.specs.Replies.{exact_line}
 use Rattle.frz_prelude.specs.TableCauses.{table_line}
 use Rattle.frz_prelude.specs.WrongLines.{wrong_line}
-
-abbrev pub exact_line : ℕ → List ℕ
-exact_line size = codes "exact " ++ decimal size ++ codes "\n"
 
 -- how the verdict on a table of so many numbers is told
 abbrev pub verdict_status : Verdict → Status

@@ -1,74 +1,43 @@
 //! The command `check TABLE`: whether a table is exact, or its first entry that is wrong.
 ghost use Rattle.std.specs.Prelude.{◌≡◌, map, false};
 ghost use Rattle.std.specs.String.{string_bytes};
-ghost use Rattle.frz_store.specs.Told.{SourceTold, store_of, sink_of};
-ghost use Rattle.frz_answer.specs.World.{world};
-ghost use Rattle.frz_answer.specs.Ends.{Ran, Said};
-ghost use Rattle.frz_answer.specs.Texts.{WroteText};
-ghost use Rattle.frz_commands_table.specs.Checking.{exact_line, verdict_status, verdict_line};
-ghost use Rattle.frz_commands_table.specs.CheckMeans.{checking_at, check_words};
+ghost use Rattle.frz_store.specs.Told.{store_of};
+ghost use Rattle.frz_prelude.specs.Replies.{Replies, reply_status, text_of};
+ghost use Rattle.frz_commands_table.specs.Checking.{verdict_status, verdict_line};
+ghost use Rattle.frz_commands_table.specs.CheckMeans.{check_words};
 
 use crate::judging::{Judged, judge_file};
-use frz_answer::{End, Refusal, Status, one_word, refuse, said, write_numbered_line};
 use frz_check::Verdict;
-use frz_prelude::{Stop, write_wrong};
+use frz_prelude::{Reply, Stop, take_one};
 use frz_steps::Steps;
-use frz_store::{Failed, Sink, Store};
+use frz_store::Store;
 use std::alloc::Global;
 use std::sync::ledger::Ledger;
 
-/// Writes that a table of so many numbers is exact.
-fn write_exact<O: Sink>(size: u32, out: &mut O) -> Result<(), Failed>
-    ensures { WroteText (exact_line size) result (sink_of O.Sink out.old) (sink_of O.Sink out.new) }
-{
-    write_numbered_line(b"exact ", size as u64, out)
-}
-
-/// Tells the verdict on a table.
-fn tell<O: Sink>(judged: Judged, out: &mut O) -> End
-    ensures { Said (verdict_status judged.verdict) (verdict_line judged.size judged.verdict) result
-        (sink_of O.Sink out.old) (sink_of O.Sink out.new) }
+/// What is said of a table that was judged.
+fn reply_on(judged: Judged) -> Reply
+    ensures status { reply_status result ≡ verdict_status judged.verdict }
+    ensures text { text_of result ≡ verdict_line judged.size judged.verdict }
 {
     match judged.verdict {
-        Verdict::Exact => said(Status::Success, write_exact(judged.size, out)),
-        Verdict::Wrong(wrong) => said(Status::Wrong, write_wrong(wrong, out)),
+        Verdict::Exact => Reply::Exact(judged.size),
+        Verdict::Wrong(wrong) => Reply::Wrong(wrong),
     }
 }
 
-/// Checks the table of this name.
-fn check<S: Store, O: Sink, L: Ledger>(
-    alloc: Global,
-    table: &str,
-    store: &mut S,
-    out: &mut O,
-    steps: &mut Steps<L>,
-) -> End
-    ensures { (input : SourceTold) → Ran (checking_at table.now) result
-        (world (store_of S.Store store.old) input (sink_of O.Sink out.old) steps.old)
-        (world (store_of S.Store store.new) input (sink_of O.Sink out.new) steps.new) }
-{
-    match judge_file(alloc, table, store, steps) {
-        Ok(judged) => tell(judged, out),
-        Err(fault) => Stop::from(fault).end(out),
-    }
-}
-
-/// Runs `check` with these words behind it.
-pub fn run_check<S: Store, O: Sink, L: Ledger>(
+/// Does `check` with these words behind it.
+pub fn check<S: Store, L: Ledger>(
     alloc: Global,
     words: &[String],
     store: &mut S,
-    out: &mut O,
     steps: &mut Steps<L>,
-) -> End
-    ensures ran { (input : SourceTold) → Ran (check_words (map string_bytes words.now)) result
-        (world (store_of S.Store store.old) input (sink_of O.Sink out.old) steps.old)
-        (world (store_of S.Store store.new) input (sink_of O.Sink out.new) steps.new) }
+) -> Result<Reply, Stop>
+    ensures replies { Replies (check_words (map string_bytes words.now)) result
+        (store_of S.Store store.old) (store_of S.Store store.new) steps.old steps.new }
     ensures store_unused { (check_words (map string_bytes words.now)).needs.store ≡ false
         → store.new ≡ store.old }
 {
-    match one_word(words) {
-        Some(table) => check(alloc, table, store, out, steps),
-        None => refuse(Refusal::Count, out),
-    }
+    let table = take_one(words)?;
+    let judged = judge_file(alloc, table, store, steps)?;
+    Ok(reply_on(judged))
 }

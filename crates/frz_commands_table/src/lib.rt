@@ -1,7 +1,7 @@
 //! The commands that make tables and check them: `build`, `check`, `migrate` and `sample`.
 #![tactic(auto)]
 
-mod build;
+mod building;
 mod checking;
 mod judging;
 pub mod laws;
@@ -10,7 +10,7 @@ mod moving;
 mod sample;
 mod tallies;
 
-pub use build::run_build;
-pub use checking::run_check;
+pub use building::build;
+pub use checking::check;
 pub use migrate::run_migrate;
 pub use sample::run_sample;

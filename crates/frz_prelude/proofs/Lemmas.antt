@@ -24,3 +24,21 @@ pub use Rattle.frz_prelude.proofs.Stopping.{
   some_refusal,
 }
 pub use Rattle.frz_prelude.proofs.UnlessSame.{calls_store}
+pub use Rattle.frz_prelude.proofs.Replying.{
+  no_memory_reply,
+  not_written_reply,
+  refused_reply,
+  said_reply,
+  stopped_reply,
+  through_reply,
+  wrote_reply,
+}
+pub use Rattle.frz_prelude.proofs.Taking.{
+  at_position,
+  differ,
+  no_position,
+  not_taken,
+  same_name,
+  taken,
+  these_words,
+}

@@ -7,3 +7,5 @@ pub mod Positions
 pub mod Lemmas
 mod Stopping
 mod UnlessSame
+pub mod Replying
+pub mod Taking

@@ -15,6 +15,9 @@ use Rattle.frz_answer.specs.Ends.{MayMeet, Ran, Said}
 use Rattle.frz_answer.proofs.Lemmas.{said, stopped, fine_store, Found, SaysAll, Begun, behind_said}
 use Rattle.frz_table.specs.declared.fault.TableFault.{TableFault}
 use Rattle.frz_table.specs.declared.fault.TableFault.TheVariants as table
+use Rattle.frz_answer.specs.declared.words.Refusal.{Refusal as WordsRefusal}
+use Rattle.frz_answer.specs.declared.words.Refusal.TheVariants as words
+use Rattle.frz_answer.specs.Words.{words_line}
 use Rattle.frz_prelude.specs.TableCauses.{due_text, file_line}
 use Rattle.frz_prelude.specs.Causes.{rules_line}
 use Rattle.frz_prelude.specs.Refusals.{table_status, status_of, refusal_line}
@@ -30,6 +33,7 @@ own_table fault = by_table_status (λ s. OneOf s (s ∷ [])) fault refl refl
 
 -- the status of a refusal is its own
 pub own_status : (why : Refusal) → OneOf (status_of why) (status_of why ∷ [])
+own_status (refusals.Words why) = refl
 own_status (refusals.Fen fault) = refl
 own_status refusals.MissingRules = refl
 own_status (refusals.Rules fault) = refl
@@ -49,8 +53,14 @@ file_said word (table.Size kept due) e = behind_said _ (due_text due) (λ none. 
 file_said word table.Failed e = cc
 file_said word table.NoMemory e = cc
 
+words_said : (why : WordsRefusal) → words_line why ≡ [] → ⊥
+words_said words.NoCommand e = cc
+words_said words.Count e = cc
+words_said words.SameName e = cc
+
 -- each refusal is said in some text
 pub refusal_said : (why : Refusal) → refusal_line why ≡ [] → ⊥
+refusal_said (refusals.Words why) e = words_said why e
 refusal_said (refusals.Fen fault) e = cc
 refusal_said refusals.MissingRules e = cc
 refusal_said (refusals.Rules fault) e = cc

@@ -7,3 +7,5 @@ pub mod Refusals
 pub mod Stops
 pub mod Positions
 pub mod RulesFiles
+pub mod Replies
+pub mod Taken

@@ -93,6 +93,7 @@ pub fn write_refusal<O: Sink>(why: Refused, out: &mut O) -> Result<(), Failed>
     ensures { WroteText (line_of why) result (sink_of O.Sink out.old) (sink_of O.Sink out.new) }
 {
     match why {
+        Refused::Words(why) => write_piece(why.line(), out),
         Refused::Fen(fault) => write_fen_fault(fault, out),
         Refused::MissingRules => write_piece(b"missing rules\n", out),
         Refused::Rules(fault) => write_rules_fault(fault, out),

@@ -2,7 +2,7 @@
 ghost use Rattle.std.specs.Prelude.{◌≡◌};
 ghost use Rattle.frz_prelude.specs.Refusals.{status_of, table_status as status_of_table};
 
-use frz_answer::Status;
+use frz_answer::{Refusal, Status};
 use frz_fen::FenFault;
 use frz_game::Wrong;
 use frz_rules::RulesFault;
@@ -11,6 +11,8 @@ use frz_table::TableFault;
 /// Why what the words of a command name is refused.
 #[derive(Clone, Copy, Debug, PartialEq, Eq, Drop)]
 pub enum Refused {
+    /// The words are not those that the command takes.
+    Words(Refusal),
     /// The FEN gives no position.
     Fen(FenFault),
     /// No file has the name.
@@ -41,6 +43,7 @@ impl Refused {
         ensures { result ≡ status_of self }
     {
         match self {
+            Refused::Words(_) => Status::Words,
             Refused::Fen(_) => Status::Fen,
             Refused::MissingRules => Status::Missing,
             Refused::Rules(_) => Status::Rules,

@@ -7,9 +7,10 @@
 ghost use Rattle.std.specs.Prelude.{◌≡◌, ◌<◌};
 
 use frz_answer::finish;
-use frz_commands_ask::{run_chainquery, run_query};
-use frz_commands_chain::{run_chain, run_chaincheck};
-use frz_commands_table::{run_build, run_check, run_sample};
+use frz_commands_ask::{chainquery, query};
+use frz_commands_chain::{chain, chaincheck};
+use frz_commands_table::{build, check, run_sample};
+use frz_prelude::tell;
 use frz_steps::Steps;
 use frz_store::{DiskStore, OutputSink, Sink, Store};
 use std::alloc::{AllocError, Global};
@@ -32,8 +33,8 @@ fn build_and_check<S: Store, O: Sink, L: Ledger>(
         format!(in alloc; "{rules}")?,
         format!(in alloc; "{rules}.t")?,
     ]?;
-    let built = finish(run_build(alloc, &words, store, out, steps), out);
-    let checked = finish(run_check(alloc, &words[1..], store, out, steps), out);
+    let built = finish(tell(build(alloc, &words, store, steps), out), out);
+    let checked = finish(tell(check(alloc, &words[1..], store, steps), out), out);
     Ok(built == 0 && checked == 0)
 }
 
@@ -55,8 +56,8 @@ fn chain_and_check<S: Store, O: Sink, L: Ledger>(
         format!(in alloc; "{rules}.t")?,
         format!(in alloc; "{back}.t")?,
     ]?;
-    let chained = finish(run_chain(alloc, &words, store, out, steps), out);
-    let checked = finish(run_chaincheck(alloc, &pair, store, out, steps), out);
+    let chained = finish(tell(chain(alloc, &words, store, steps), out), out);
+    let checked = finish(tell(chaincheck(alloc, &pair, store, steps), out), out);
     Ok(chained == 0 && checked == 0)
 }
 
@@ -87,16 +88,11 @@ fn ask<S: Store, O: Sink>(
     let mut fine = true;
     for line in bounds.lines() {
         if let Some(fen) = position_of(line, ending) {
-            let end = match ending.split_once(" on ") {
-                Some((rules, _)) => run_chainquery(
-                    alloc,
-                    &question(alloc, rules, fen)?,
-                    store,
-                    out,
-                ),
-                None => run_query(alloc, &question(alloc, ending, fen)?, store, out),
+            let reply = match ending.split_once(" on ") {
+                Some((rules, _)) => chainquery(alloc, &question(alloc, rules, fen)?, store),
+                None => query(alloc, &question(alloc, ending, fen)?, store),
             };
-            fine = finish(end, out) == 0 && fine;
+            fine = finish(tell(reply, out), out) == 0 && fine;
         }
     }
     Ok(fine)

@@ -11,7 +11,8 @@ returns-in-Some-Solve-default-clause-ran g c =
       w.1,
       as_command w.0 _ _ _ _ _ (rw c.in-Some-Solve-default.field-0-0-is at
           c.in-Some-Solve-default.ensures)
-          (c.run_solve.ensures.ran (source_of g.I.Source c.args.input.now)),
+          (c.solve.ensures.replies.ran (source_of g.I.Source c.args.input.now) _ _ _
+          c.tell.ensures),
     )
 
 pub returns-in-Some-Moves-default-clause-ran :
@@ -58,7 +59,8 @@ returns-in-Some-Query-default-clause-ran g c =
       w.1,
       as_command w.0 _ _ _ _ _ (rw c.in-Some-Query-default.field-0-0-is at
           c.in-Some-Query-default.ensures)
-          (c.run_query.ensures.ran (source_of g.I.Source c.args.input.now) c.args.steps.now),
+          ((c.query.ensures.replies c.args.steps.now).ran
+          (source_of g.I.Source c.args.input.now) _ _ _ c.tell-in-Some-Query-default.ensures),
     )
 
 pub returns-in-Some-Line-default-clause-ran :
@@ -91,7 +93,8 @@ returns-in-Some-Check-default-clause-ran g c =
       w.1,
       as_command w.0 _ _ _ _ _ (rw c.in-Some-Check-default.field-0-0-is at
           c.in-Some-Check-default.ensures)
-          (c.run_check.ensures.ran (source_of g.I.Source c.args.input.now)),
+          (c.check.ensures.replies.ran (source_of g.I.Source c.args.input.now) _ _ _
+          c.tell-in-Some-Check-default.ensures),
     )
 
 pub returns-in-Some-Build-default-clause-ran :
@@ -102,7 +105,8 @@ returns-in-Some-Build-default-clause-ran g c =
       w.1,
       as_command w.0 _ _ _ _ _ (rw c.in-Some-Build-default.field-0-0-is at
           c.in-Some-Build-default.ensures)
-          (c.run_build.ensures.ran (source_of g.I.Source c.args.input.now)),
+          (c.build.ensures.replies.ran (source_of g.I.Source c.args.input.now) _ _ _
+          c.tell-in-Some-Build-default.ensures),
     )
 
 pub returns-in-Some-Migrate-default-clause-ran :
@@ -124,7 +128,8 @@ returns-in-Some-Chain-default-clause-ran g c =
       w.1,
       as_command w.0 _ _ _ _ _ (rw c.in-Some-Chain-default.field-0-0-is at
           c.in-Some-Chain-default.ensures)
-          (c.run_chain.ensures.ran (source_of g.I.Source c.args.input.now)),
+          (c.chain.ensures.replies.ran (source_of g.I.Source c.args.input.now) _ _ _
+          c.tell-in-Some-Chain-default.ensures),
     )
 
 pub returns-in-Some-ChainCheck-default-clause-ran :
@@ -135,7 +140,8 @@ returns-in-Some-ChainCheck-default-clause-ran g c =
       w.1,
       as_command w.0 _ _ _ _ _ (rw c.in-Some-ChainCheck-default.field-0-0-is at
           c.in-Some-ChainCheck-default.ensures)
-          (c.run_chaincheck.ensures.ran (source_of g.I.Source c.args.input.now)),
+          (c.chaincheck.ensures.replies.ran (source_of g.I.Source c.args.input.now) _ _ _
+          c.tell-in-Some-ChainCheck-default.ensures),
     )
 
 pub returns-in-Some-ChainQuery-default-clause-ran :
@@ -146,7 +152,8 @@ returns-in-Some-ChainQuery-default-clause-ran g c =
       w.1,
       as_command w.0 _ _ _ _ _ (rw c.in-Some-ChainQuery-default.field-0-0-is at
           c.in-Some-ChainQuery-default.ensures)
-          (c.run_chainquery.ensures.ran (source_of g.I.Source c.args.input.now) c.args.steps.now),
+          ((c.chainquery.ensures.replies c.args.steps.now).ran
+          (source_of g.I.Source c.args.input.now) _ _ _ c.tell-in-Some-ChainQuery-default.ensures),
     )
 
 pub returns-in-Some-Sample-default-clause-ran :

@@ -1,5 +1,5 @@
 use Rattle.frz_answer.proofs.Lemmas.{failed_first, failed_next, gave_up, took_next, wrote_next}
-use Rattle.frz_commands_chain.proofs.checking.write_exact_on.Goals as goal
+use Rattle.frz_prelude.proofs.reply.write_exact_on.Goals as goal
 
 pub returns-in_err-write_numbered : goal.returns-in_err-write_numbered
 returns-in_err-write_numbered g c =

@@ -1,0 +1,54 @@
+-- A command that says all at its end: its reply, and what it did before it was said.
+use Rattle.std.specs.Prelude.{ℕ, List, ◌++◌, Result, Ok, Err, codes, decimal}
+use Rattle.frz_store.specs.Told.{StoreTold, SourceTold, SinkTold}
+use Rattle.frz_answer.specs.declared.status.Status.{Status}
+use Rattle.frz_answer.specs.declared.status.Status.TheVariants as statuses
+use Rattle.frz_answer.specs.declared.end.End.{End}
+use Rattle.frz_answer.specs.World.{world}
+use Rattle.frz_answer.specs.Jobs.{Job}
+use Rattle.frz_answer.specs.Ends.{Ran, Said}
+use Rattle.frz_prelude.specs.BoundLines.{bounds_text, kept_text}
+use Rattle.frz_prelude.specs.Stops.{EndsBy}
+use Rattle.frz_prelude.specs.WrongLines.{wrong_line}
+use Rattle.frz_prelude.specs.declared.reply.Reply.{Reply}
+use Rattle.frz_prelude.specs.declared.reply.Reply.TheVariants.{Bounds, Kept, Built, Chained, Exact, ExactOn, Wrong}
+use Rattle.frz_prelude.specs.declared.stop.Stop.{Stop}
+
+-- a table of so many numbers was built, alone or over a back table
+abbrev pub built_line : ℕ → List ℕ
+built_line size = codes "built " ++ decimal size ++ codes "\n"
+
+abbrev pub chained_line : ℕ → List ℕ
+chained_line size = codes "chained " ++ decimal size ++ codes "\n"
+
+-- a table of so many numbers is exact, alone or over a back table of so many
+abbrev pub exact_line : ℕ → List ℕ
+exact_line size = codes "exact " ++ decimal size ++ codes "\n"
+
+abbrev pub exact_on_line : ℕ → ℕ → List ℕ
+exact_on_line size back =
+    codes "exact " ++ decimal size ++ (codes " on " ++ decimal back) ++ codes "\n"
+
+abbrev pub reply_status : Reply → Status
+reply_status (Wrong wrong) = statuses.Wrong
+reply_status reply = statuses.Success
+
+abbrev pub text_of : Reply → List ℕ
+text_of (Bounds white black) = bounds_text white black
+text_of (Kept white black) = kept_text white black
+text_of (Built size) = built_line size
+text_of (Chained size) = chained_line size
+text_of (Exact size) = exact_line size
+text_of (ExactOn size back) = exact_on_line size back
+text_of (Wrong wrong) = wrong_line wrong
+
+-- how a command ends with this reply
+abbrev pub Tells : Result Reply Stop → End → SinkTold → SinkTold → Type 0
+Tells (Ok reply) end old new = Said (reply_status reply) (text_of reply) end old new
+Tells (Err stop) end old new = EndsBy stop end old new
+
+-- the job is done rightly once the reply is told, whatever the input and the sink are
+pub record Replies (job : Job) (reply : Result Reply Stop) (old new : StoreTold)
+    (before now : ℕ) : Type 0 where
+  pub ran : (input : SourceTold) (out after : SinkTold) (end : End) → Tells reply end out after
+      → Ran job end (world old input out before) (world new input after now)

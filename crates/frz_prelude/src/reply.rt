@@ -1,0 +1,78 @@
+//! What a command says that says it all at its end.
+ghost use Rattle.std.specs.Prelude.{◌≡◌};
+ghost use Rattle.frz_store.specs.Told.{sink_of};
+ghost use Rattle.frz_answer.specs.Texts.{WroteText};
+ghost use Rattle.frz_prelude.specs.Replies.{exact_on_line, reply_status, text_of, Tells};
+
+use crate::bound_lines::{write_bounds, write_kept};
+use crate::stop::Stop;
+use crate::wrong_lines::write_wrong;
+use frz_answer::{End, Status, said, write_numbered, write_numbered_line, write_piece};
+use frz_arena::Bound;
+use frz_game::Wrong;
+use frz_store::{Failed, Sink};
+
+/// What a command says that says it all at its end.
+#[derive(Clone, Copy, Debug)]
+pub enum Reply {
+    /// The bounds of White and of Black.
+    Bounds(Bound, Bound),
+    /// The codes that a table keeps for White and for Black.
+    Kept(u32, u32),
+    /// A table of so many numbers was built.
+    Built(u32),
+    /// A table of so many numbers was built over a back table.
+    Chained(u32),
+    /// A table of so many numbers is exact.
+    Exact(u32),
+    /// A table of so many numbers is exact over a back table of so many.
+    ExactOn(u32, u32),
+    /// The first entry of a table that is not its local code.
+    Wrong(Wrong),
+}
+
+/// Writes that a table of so many numbers is exact over one of so many.
+fn write_exact_on<O: Sink>(size: u32, back: u32, out: &mut O) -> Result<(), Failed>
+    ensures { WroteText (exact_on_line size back) result
+        (sink_of O.Sink out.old) (sink_of O.Sink out.new) }
+{
+    write_numbered(b"exact ", size as u64, out)?;
+    write_numbered(b" on ", back as u64, out)?;
+    write_piece(b"\n", out)
+}
+
+impl Reply {
+    fn status(&self) -> Status
+        ensures { result ≡ reply_status self.now }
+    {
+        match self {
+            Reply::Wrong(_) => Status::Wrong,
+            _ => Status::Success,
+        }
+    }
+
+    fn write<O: Sink>(self, out: &mut O) -> Result<(), Failed>
+        ensures { WroteText (text_of self) result
+            (sink_of O.Sink out.old) (sink_of O.Sink out.new) }
+    {
+        match self {
+            Reply::Bounds(white, black) => write_bounds(white, black, out),
+            Reply::Kept(white, black) => write_kept(white, black, out),
+            Reply::Built(size) => write_numbered_line(b"built ", size as u64, out),
+            Reply::Chained(size) => write_numbered_line(b"chained ", size as u64, out),
+            Reply::Exact(size) => write_numbered_line(b"exact ", size as u64, out),
+            Reply::ExactOn(size, back) => write_exact_on(size, back, out),
+            Reply::Wrong(wrong) => write_wrong(wrong, out),
+        }
+    }
+}
+
+/// Ends a command: its reply is said, or what stopped it.
+pub fn tell<O: Sink>(reply: Result<Reply, Stop>, out: &mut O) -> End
+    ensures { Tells reply result (sink_of O.Sink out.old) (sink_of O.Sink out.new) }
+{
+    match reply {
+        Ok(reply) => said(reply.status(), reply.write(out)),
+        Err(stop) => stop.end(out),
+    }
+}
