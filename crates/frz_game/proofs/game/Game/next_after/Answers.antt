@@ -28,5 +28,5 @@ returns-then-leaves g c =
     (sym c.leaves.ensures ∙ c.if-leaves.true)
     (subst (λ (gs : List GroupLine). Member gs q) (sym c.args.self.now.fits)
     (member_of groups q inside))) in
-    ap Outside (c.value.ensures ∙ ap value (c.as_position.ensures ∙ c.after-q.ensures.position))
+    ap Outside (c.value_on.ensures ∙ ap value c.after-q.ensures.position)
     ∙ sym (next_outside groups q (value q) (number_missing groups q outside))
