@@ -12,7 +12,7 @@ use Rattle.frz_sets.specs.Sets.{size_of}
 use Rattle.frz_sets.specs.Views.{RuleLines}
 use Rattle.frz_store.specs.Files.{Files, put}
 use Rattle.frz_table.specs.declared.fault.TableFault.{TableFault}
-use Rattle.frz_table.specs.OldFiles.{limited_read, old_format, old_rules_of}
+use Rattle.frz_former.specs.OldFiles.{limited_read, old_format, old_rules_of}
 use Rattle.frz_table.specs.Opening.{Contents, opened}
 use Rattle.frz_table.proofs.Lemmas.{opened_missing, opens_by, read_short}
 use Rattle.frz_answer.specs.declared.status.Status.{Status}

@@ -9,7 +9,7 @@ use Rattle.frz_table.specs.declared.fault.TableFault.{TableFault}
 use Rattle.frz_table.specs.declared.fault.TableFault.TheVariants.{NoMemory}
 use Rattle.frz_table.specs.Faults.{IsOutside, TableCauses}
 use Rattle.frz_table.specs.Layout.{codes_at, pieces_of}
-use Rattle.frz_table.specs.OldFiles.{MayKeepOld, OldTable, old_contents_of, old_format, old_table_size}
+use Rattle.frz_former.specs.OldFiles.{MayKeepOld, OldTable, old_contents_of, old_format, old_table_size}
 use Rattle.frz_table.specs.Opening.{Contents, kept_text, opened, opening_calls}
 use Rattle.frz_table.specs.Possible.{MayHold, MayOpen, MayRefuse}
 use Rattle.frz_table.proofs.Lemmas.{belongs, loading_calls, opened_calls, opens_by, outside_refuses, text_kept}

@@ -18,7 +18,7 @@ use Rattle.frz_store.specs.Files.{Files, put}
 use Rattle.frz_table.specs.declared.fault.TableFault.{TableFault}
 use Rattle.frz_table.specs.declared.kind.FileKind.TheVariants.{Plain}
 use Rattle.frz_table.specs.Layout.{codes_at, magic_of}
-use Rattle.frz_table.specs.OldFiles.{old_format, old_magic}
+use Rattle.frz_former.specs.OldFiles.{old_format, old_magic}
 use Rattle.frz_table.specs.Opening.{Contents, opened}
 use Rattle.frz_table.specs.Tables.{IsTableFile}
 use Rattle.frz_check.specs.OneFile.{IsOneFile}

@@ -6,7 +6,7 @@ use Rattle.frz_sets.specs.Sets.{size_of}
 use Rattle.frz_table.specs.declared.fault.TableFault.{TableFault}
 use Rattle.frz_table.specs.declared.kind.FileKind.TheVariants.{Plain}
 use Rattle.frz_table.specs.Layout.{file_of, magic_of, pieces_of}
-use Rattle.frz_table.specs.OldFiles.{old_format}
+use Rattle.frz_former.specs.OldFiles.{old_format}
 use Rattle.frz_table.specs.Opening.{Contents, opened, opening_calls}
 use Rattle.frz_table.specs.Possible.{held_text}
 use Rattle.frz_build.specs.Building.{writing_calls}

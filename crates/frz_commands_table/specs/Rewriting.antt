@@ -6,7 +6,7 @@ use Rattle.frz_store.specs.Files.{Files}
 use Rattle.frz_store.specs.Told.{StoreTold}
 use Rattle.frz_table.specs.declared.fault.TableFault.{TableFault}
 use Rattle.frz_table.specs.Layout.{pieces_of}
-use Rattle.frz_table.specs.OldFiles.{IsOldFileOf, OldTable, old_contents_of, old_format}
+use Rattle.frz_former.specs.OldFiles.{IsOldFileOf, OldTable, old_contents_of, old_format}
 use Rattle.frz_table.specs.Opening.{Contents, Refuses, opened, opening_calls}
 use Rattle.frz_table.specs.Possible.{MayHold, held_text}
 use Rattle.frz_commands_table.specs.Migrated.{AreMoved, former_codes}

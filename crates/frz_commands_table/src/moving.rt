@@ -10,7 +10,7 @@ ghost use Rattle.frz_sets.specs.declared.limits.TheConstants.{MOST_NUMBERS};
 ghost use Rattle.frz_store.specs.Told.{store_of, StoreQuiet};
 ghost use Rattle.frz_table.specs.Faults.{IsOutside, TableCauses};
 ghost use Rattle.frz_table.specs.Layout.{pieces_of};
-ghost use Rattle.frz_table.specs.OldFiles.{CarriesOld, old_table_size};
+ghost use Rattle.frz_former.specs.OldFiles.{CarriesOld, old_table_size};
 ghost use Rattle.frz_commands_table.specs.Migrated.{AreMoved, moved_code};
 ghost use Rattle.frz_commands_table.specs.Rewriting.{MovesFile, MovesLists, RefusesFormer};
 
@@ -21,7 +21,8 @@ use frz_index::laws::old_numbers;
 use frz_index::{Set, old_number};
 use frz_sets::Rules;
 use frz_store::Store;
-use frz_table::{OldFile, TableFault, open_old};
+use frz_former::{OldFile, open_old};
+use frz_table::TableFault;
 use std::alloc::{AllocError, Global};
 
 /// The codes of both sides at one number.

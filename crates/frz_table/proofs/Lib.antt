@@ -13,6 +13,5 @@ pub mod OpeningCalls
 pub mod Made
 pub mod KeptFiles
 pub mod SomeFiles
-pub mod FormerFiles
 pub mod WantingMemory
 pub mod Lemmas

@@ -6,4 +6,3 @@ pub mod Steps
 pub mod Faults
 pub mod Possible
 pub mod Memory
-pub mod OldFiles

@@ -25,7 +25,7 @@ pub(crate) fn codes_place(side: Colour, text: &[u8], size: u32) -> u64
 }
 
 /// White's codes and Black's, in order of number, in the file of this name, text and size.
-pub(crate) fn load_codes<S: Store>(
+pub fn load_codes<S: Store>(
     alloc: Global,
     store: &mut S,
     name: &str,

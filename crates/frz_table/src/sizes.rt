@@ -16,7 +16,7 @@ use crate::texts::Text;
 use frz_store::Store;
 
 /// The last two steps of opening a file.
-pub(crate) fn check_size<S: Store>(
+pub fn check_size<S: Store>(
     store: &mut S,
     name: &str,
     magic: &[u8; 8],

@@ -21,7 +21,7 @@ use std::alloc::Global;
 
 /// The text of a file and its rules, and how many bytes the file has.
 #[derive(Drop)]
-pub(crate) struct Text {
+pub struct Text {
     pub file: u64,
     pub text: Vec<u8>,
     pub rules: Rules,
@@ -50,7 +50,7 @@ fn read_text<S: Store>(
 }
 
 /// The first six steps of opening a file. No memory is taken before the rules are read.
-pub(crate) fn open_text<S: Store>(
+pub fn open_text<S: Store>(
     alloc: Global,
     store: &mut S,
     name: &str,

@@ -1,7 +1,7 @@
 use Rattle.std.proofs.Common.{refl, ap, ◌∙◌, length}
 use Rattle.frz_store.specs.Files.{Files}
 use Rattle.frz_store.specs.Told.{sink_of, store_of}
-use Rattle.frz_table.specs.OldFiles.{old_contents_of, old_format}
+use Rattle.frz_former.specs.OldFiles.{old_contents_of, old_format}
 use Rattle.frz_table.proofs.Lemmas.{belongs}
 use Rattle.frz_answer.specs.World.{world}
 use Rattle.frz_answer.proofs.Lemmas.{fine_store, quiet_store, through}

@@ -11,18 +11,15 @@ ghost use Rattle.frz_table.specs.declared.fault.TableFault.TheVariants.{NoMemory
 ghost use Rattle.frz_table.specs.Faults.{IsOutside, TableCauses};
 ghost use Rattle.frz_table.specs.Layout.{codes_at, pieces_of};
 ghost use Rattle.frz_table.specs.Memory.{MemoryWanted};
-ghost use Rattle.frz_table.specs.OldFiles.{CarriesOld, MayKeepOld, limited, old_contents_of, old_format, old_magic, old_table_size};
+ghost use Rattle.frz_former.specs.OldFiles.{CarriesOld, MayKeepOld, limited, old_contents_of, old_format, old_magic, old_table_size};
 ghost use Rattle.frz_table.specs.Opening.{Refuses, kept_text, opened};
 ghost use Rattle.frz_table.specs.Possible.{MayOpen, MayRefuse};
 ghost use Rattle.frz_index.specs.declared.old.TheConstants.{MOST_OLD_NUMBERS};
 
-use crate::TableFault;
-use crate::codes::load_codes;
-use crate::sizes::check_size;
-use crate::texts::open_text;
 use frz_index::{MOST_OLD_NUMBERS, old_size};
 use frz_rules::{Rules, RulesCause, RulesFault};
 use frz_store::Store;
+use frz_table::{TableFault, check_size, load_codes, open_text};
 use std::alloc::Global;
 use std::marker::Model;
 
@@ -36,7 +33,7 @@ pub struct OldFile {
 
 impl Model for OldFile {
     ghost use Rattle.std.specs.String.{string_bytes};
-    ghost use Rattle.frz_table.specs.OldFiles.{IsOldRead, OldTable};
+    ghost use Rattle.frz_former.specs.OldFiles.{IsOldRead, OldTable};
 
     ghost Value = { OldTable };
 

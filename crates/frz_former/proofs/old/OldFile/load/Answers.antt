@@ -2,10 +2,10 @@ use Rattle.std.proofs.Common.{◌≡◌, ◌∙◌, ap, subst, Ok, arith}
 use Rattle.std.proofs.lemmas.Result.{IfOk-weaker}
 use Rattle.frz_rules.specs.Text.{rules_of}
 use Rattle.frz_table.specs.Numbers.{AreBytes}
-use Rattle.frz_table.specs.OldFiles.{OldTable, old_magic, old_table_size}
-use Rattle.frz_table.proofs.FormerFiles.{old_head}
-use Rattle.frz_table.proofs.KeptFiles.{loaded_as, may_keep}
-use Rattle.frz_table.proofs.old.OldFile.load.Goals as goal
+use Rattle.frz_former.specs.OldFiles.{OldTable, old_magic, old_table_size}
+use Rattle.frz_former.proofs.FormerFiles.{old_head}
+use Rattle.frz_table.proofs.Lemmas.{loaded_as, may_keep}
+use Rattle.frz_former.proofs.old.OldFile.load.Goals as goal
 
 pub returns-clause-may_keep : goal.returns-clause-may_keep
 returns-clause-may_keep g c =

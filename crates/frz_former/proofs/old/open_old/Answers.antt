@@ -5,18 +5,18 @@ use Rattle.frz_store.specs.Told.{store_of}
 use Rattle.frz_table.specs.declared.fault.TableFault.{TableFault}
 use Rattle.frz_table.specs.declared.fault.TableFault.TheVariants.{NoMemory}
 use Rattle.frz_table.specs.Memory.{MemoryWanted, WantsMemory}
-use Rattle.frz_table.specs.OldFiles.{old_format, old_rules_of}
+use Rattle.frz_former.specs.OldFiles.{old_format, old_rules_of}
 use Rattle.frz_table.specs.Opening.{Refuses, opened}
 use Rattle.frz_table.specs.Possible.{MayRefuse, SomeSizeRefused}
 use Rattle.frz_table.specs.Steps.{IsFormatOf, SizeRefused}
 use Rattle.frz_table.specs.Tables.{Holds}
-use Rattle.frz_table.proofs.FormerFiles.{old_eight, old_is_format, old_read, old_refused}
-use Rattle.frz_table.proofs.Refusing.{opens, refuse_format, refuse_read, refuse_size}
-use Rattle.frz_table.proofs.SomeFiles.{later_asked, may_open, may_refuse, may_refuse_read, may_refuse_size, same_error, some_size_outside, told_outside}
-use Rattle.frz_table.proofs.WantingMemory.{kept_wants}
-use Rattle.frz_table.proofs.old.open_old.Given.{Over}
-use Rattle.frz_table.proofs.old.open_old.Goals as goal
-use Rattle.frz_table.proofs.old.open_old.Goals.{After-check_size}
+use Rattle.frz_former.proofs.FormerFiles.{old_eight, old_is_format, old_read, old_refused}
+use Rattle.frz_table.proofs.Lemmas.{opens, refuse_format, refuse_read, refuse_size}
+use Rattle.frz_table.proofs.Lemmas.{later_asked, may_open, may_refuse, may_refuse_read, may_refuse_size, same_error, some_size_outside, told_outside}
+use Rattle.frz_table.proofs.Lemmas.{kept_wants}
+use Rattle.frz_former.proofs.old.open_old.Given.{Over}
+use Rattle.frz_former.proofs.old.open_old.Goals as goal
+use Rattle.frz_former.proofs.old.open_old.Goals.{After-check_size}
 
 pub returns-in_err-opened-clause-refused : goal.returns-in_err-opened-clause-refused
 returns-in_err-opened-clause-refused g c =

@@ -9,9 +9,9 @@ use Rattle.frz_rules.specs.Text.{rules_of}
 use Rattle.frz_rules.specs.declared.fault.RulesCause.TheVariants.{SetTooBig}
 use Rattle.frz_rules.specs.declared.fault.RulesFault.{RulesFault}
 use Rattle.frz_table.specs.Numbers.{AreBytes}
-use Rattle.frz_table.specs.OldFiles.{limited, limited_read, old_format, old_magic, old_rules_of}
+use Rattle.frz_former.specs.OldFiles.{limited, limited_read, old_format, old_magic, old_rules_of}
 use Rattle.frz_table.specs.Steps.{IsFormatOf}
-use Rattle.frz_table.proofs.KeptFiles.{IsHead, read_short, short_bytes}
+use Rattle.frz_table.proofs.Lemmas.{IsHead, read_short, short_bytes}
 
 -- a text whose rules have few numbers is read so
 few_numbers : (rules : RuleLines) → old_size_of rules.groups ≤ MOST_OLD_NUMBERS

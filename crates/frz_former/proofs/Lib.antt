@@ -1,0 +1,2 @@
+-- No other crate cites these.
+mod FormerFiles

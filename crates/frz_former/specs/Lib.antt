@@ -1,0 +1,2 @@
+-- What contracts say of files of the former format.
+pub mod OldFiles
