@@ -62,7 +62,8 @@ checks p c s = has p c King s && is_attacked p s (other_of c)
 pub checks_in : (p : Board) (c : Colour) (w : ℕ) → w ≡ set_of (λ s. has p c King s) → (k : ℕ) →
     k < 64 → has_square w k ≡ false → checks p c k ≡ false
 checks_in p c w e k l h =
-    and_left (has p c King k) (is_attacked p k (other_of c)) (sym (in_set (has p c King) w k e l) ∙ h)
+    and_left (has p c King k) (is_attacked p k (other_of c))
+    (sym (in_set (has p c King) w k e l) ∙ h)
 
 -- what fails below n, between n and s, and at s, fails below s + 1
 pub fails_on : (f : ℕ → Bool) (w n s : ℕ) →

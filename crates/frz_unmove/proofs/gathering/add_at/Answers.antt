@@ -28,8 +28,8 @@ loop-from-preserved c =
       walk_next (ComesAt c.args.set.now c.args.q.now c.args.to c.args.promo c.args.taken
           c.args.target.now) (λ x. x.mv.from) c.args.out.now c.loop-from.out c.add_named.new.out
           c.loop-from.n c.in-Some.from (c.number-n.result + 1) c.loop-from.n 1
-          (c.number-n.result + 1) c.loop-from.invariant.1 c.add_named.ensures (omega (arith, low, e))
-          low (omega (arith, e))
+          (c.number-n.result + 1) c.loop-from.invariant.1 c.add_named.ensures
+          (omega (arith, low, e)) low (omega (arith, e))
           (λ x h l m. both_ways (has_square c.args.origins x.mv.from) (next.first x.mv.from l m)
           (c.requires.origins x h.0.0)),
     )
