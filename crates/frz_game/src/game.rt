@@ -109,6 +109,21 @@ impl<B: ExitBook> Game<'_, B> {
         }
     }
 
+    /// Where a legal move leads, by the men that change squares where it takes one.
+    fn next_by_taking(&self, i: u32, p: &Bitboards, m: Move) -> Next
+        requires number { HasNumber self.now.set.now i p.now }
+        requires legal { is_legal p.now m ≡ true }
+        ensures { let groups = self.now.rules.now.groups in
+            let q = board_after p.now m in
+            result ≡ named_next (name_in (numbers_by groups))
+            (next_by (is_member groups q) q (B.value_at self.now.book.now q)) }
+    {
+        match self.set.number_after_taking(i, p, m) {
+            Some(n) => Next::Inside(n),
+            None => self.next_after(p, m),
+        }
+    }
+
     /// Where a legal move leads.
     fn next(&self, i: u32, p: &Bitboards, m: Move) -> Next
         requires number { HasNumber self.now.set.now i p.now }
@@ -120,7 +135,7 @@ impl<B: ExitBook> Game<'_, B> {
     {
         match self.set.number_after_move(i, p, m) {
             Some(n) => Next::Inside(n),
-            None => self.next_after(p, m),
+            None => self.next_by_taking(i, p, m),
         }
     }
 

@@ -27,3 +27,6 @@ pub mod OwnSquares
 pub mod SpreadMembers
 pub mod CandidateAnswers
 pub mod LeavingMoves
+pub mod TakenMen
+pub mod NumbersAfterTaking
+pub mod AfterTaking

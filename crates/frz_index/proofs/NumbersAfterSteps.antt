@@ -25,11 +25,11 @@ use Rattle.frz_index.specs.Stepping.{IsPlace, IsShare, IsStep, number_after, ste
 use Rattle.frz_index.proofs.Stepping.{Shifts, at_from, at_rest, at_to, moves, stays}
 
 -- the digits of the groups together
-abbrev digits_of : Board → List GroupLine → ℕ
+abbrev pub digits_of : Board → List GroupLine → ℕ
 digits_of p gs = value (map radix_of gs) (map (digit_of p) gs)
 
 -- the digits of the first i groups together grow by up and fall by down
-record Shifted (gs : List GroupLine) (p q : Board) (cell a b i up down : ℕ) : Type 0 where
+pub record Shifted (gs : List GroupLine) (p q : Board) (cell a b i up down : ℕ) : Type 0 where
   pub counted : AllByRecursion (IsWithinCount q) (drop i gs) → AllByRecursion (IsWithinCount q) gs
   pub sum : digits_of q gs + down + digits_of p (drop i gs)
       ≡ digits_of p gs + up + digits_of q (drop i gs)
@@ -70,73 +70,83 @@ shifted_step gs p q cell a b i up down more less g here h s =
           ];
     }
 
--- one group alone counts the man on both squares
-module _ (gs : List GroupLine) (p : Board) (man : Man) (a b : ℕ) (target : Option ℕ)
-    (k left comes : ℕ) (counts : AllByRecursion (IsWithinCount p) gs) (h : IsStep p man a b)
-    (from : IsShare gs man a k left) (in_order : AreStates from.group.states)
-    (to : IsShare gs man b k comes) where
-  abbrev gone : Board
-  gone = stepped p man a b target
+-- one group alone has another digit
+module _ (gs : List GroupLine) (p q : Board) (cell a b k more less : ℕ) (own : GroupLine)
+    (there : slice_get gs k ≡ Some own) (own_shifts : Shifts p q cell a b own more less)
+    (others : (j : ℕ) (g : GroupLine) → j ≢ k → slice_get gs j ≡ Some g →
+    Shifts p q cell a b g 0 0) where
+  abbrev up : ℕ
+  up = more * product_from gs (suc k)
 
-  abbrev cell : ℕ
-  cell = cell_of_man man
+  abbrev down : ℕ
+  down = less * product_from gs (suc k)
 
-  -- another group has the same digit
   other_shifts : (j up down : ℕ) (g : GroupLine) → j ≢ k → slice_get gs j ≡ Some g →
-      Shifted gs p gone cell a b j up down → Shifted gs p gone cell a b (suc j) up down
+      Shifted gs p q cell a b j up down → Shifted gs p q cell a b (suc j) up down
   other_shifts j up down g n here s =
-      let more = shifted_step gs p gone cell a b j up down 0 0 g here s
-      (stays p man a b target h g (from.alone j g n here) (to.alone j g n here)
-      (counted_at (IsWithinCount p) gs j g counts here)) in
+      let more = shifted_step gs p q cell a b j up down 0 0 g here s (others j g n here) in
       record { counted = more.counted; sum = omega (arith, more.sum); covered = more.covered }
 
-  before : (j : ℕ) → j ≤ k → j ≤ length gs → Shifted gs p gone cell a b j 0 0
-  before zero l e = shifted_start gs p gone cell a b
+  before : (j : ℕ) → j ≤ k → j ≤ length gs → Shifted gs p q cell a b j 0 0
+  before zero l e = shifted_start gs p q cell a b
   before (suc j) l e =
-      other_shifts j 0 0 (get_or gs j from.group) (omega (arith, l))
-      (slice_get-get_or gs j from.group (omega (arith, e)))
+      other_shifts j 0 0 (get_or gs j own) (omega (arith, l))
+      (slice_get-get_or gs j own (omega (arith, e)))
       (before j (omega (arith, l)) (omega (arith, e)))
 
   within : k < length gs
-  within = slice_get_within gs k from.group from.there
+  within = slice_get_within gs k own there
 
-  at : Shifted gs p gone cell a b (suc k) comes left
+  at : Shifted gs p q cell a b (suc k) up down
   at =
-      let same : to.group ≡ from.group =
-      same_Some to.group from.group (sym to.there ∙ from.there) in
-      let there : IsPlace from.group man b to.place =
-      subst (λ (g : GroupLine). IsPlace g man b to.place) same to.place_is in
-      let more = shifted_step gs p gone cell a b k 0 0 to.place from.place from.group from.there
-      (before k (omega arith) (omega (arith, within)))
-      (moves p man a b target h from.group
-      in_order from.place to.place from.place_is there from.one
-      (counted_at (IsWithinCount p) gs k from.group counts from.there)) in
-      record {
-        counted = more.counted;
-        sum = omega (arith, more.sum, from.adds_is, to.adds_is);
-        covered = more.covered;
-      }
+      let all = shifted_step gs p q cell a b k 0 0 more less own there
+      (before k (omega arith) (omega (arith, within))) own_shifts in
+      record { counted = all.counted; sum = omega (arith, all.sum); covered = all.covered }
 
-  behind : (n : ℕ) → suc k + n ≤ length gs → Shifted gs p gone cell a b (suc k + n) comes left
-  behind zero e = subst (λ j. Shifted gs p gone cell a b j comes left) (omega arith) at
+  behind : (n : ℕ) → suc k + n ≤ length gs → Shifted gs p q cell a b (suc k + n) up down
+  behind zero e = subst (λ j. Shifted gs p q cell a b j up down) (omega arith) at
   behind (suc n) e =
-      subst (λ j. Shifted gs p gone cell a b j comes left) (omega arith)
-      (other_shifts (suc k + n) comes left (get_or gs (suc k + n) from.group) (omega arith)
-      (slice_get-get_or gs (suc k + n) from.group (omega (arith, e)))
+      subst (λ j. Shifted gs p q cell a b j up down) (omega arith)
+      (other_shifts (suc k + n) up down (get_or gs (suc k + n) own) (omega arith)
+      (slice_get-get_or gs (suc k + n) own (omega (arith, e)))
       (behind n (omega (arith, e))))
 
-  all_shifted : Shifted gs p gone cell a b (length gs) comes left
-  all_shifted =
-      subst (λ n. Shifted gs p gone cell a b n comes left) (omega (arith, within))
+  pub shifted_all : Shifted gs p q cell a b (length gs) up down
+  shifted_all =
+      subst (λ n. Shifted gs p q cell a b n up down) (omega (arith, within))
       (behind (length gs - suc k) (omega (arith, within)))
 
+-- one group alone counts the man on both squares
+pub all_shifted : (gs : List GroupLine) (p : Board) (man : Man) (a b : ℕ) (target : Option ℕ)
+    (k left comes : ℕ) → AllByRecursion (IsWithinCount p) gs → IsStep p man a b →
+    (from : IsShare gs man a k left) → AreStates from.group.states → IsShare gs man b k comes →
+    Shifted gs p (stepped p man a b target) (cell_of_man man) a b (length gs) comes left
+all_shifted gs p man a b target k left comes counts h from in_order to =
+    let q = stepped p man a b target in
+    let cell = cell_of_man man in
+    let same : to.group ≡ from.group =
+    same_Some to.group from.group (sym to.there ∙ from.there) in
+    let there : IsPlace from.group man b to.place =
+    subst (λ (g : GroupLine). IsPlace g man b to.place) same to.place_is in
+    let all = shifted_all gs p q cell a b k to.place from.place from.group from.there
+    (moves p man a b target h from.group in_order from.place to.place from.place_is there from.one
+    (counted_at (IsWithinCount p) gs k from.group counts from.there))
+    (λ j g n here. stays p man a b target h g (from.alone j g n here) (to.alone j g n here)
+    (counted_at (IsWithinCount p) gs j g counts here)) in
+    record {
+      counted = all.counted;
+      sum = omega (arith, all.sum, from.adds_is, to.adds_is);
+      covered = all.covered;
+    }
+
 -- the position after the step is in the set where it is valid
-Member-stepped : (gs : List GroupLine) (p : Board) (man : Man) (a b : ℕ) (target : Option ℕ)
+pub Member-stepped : (gs : List GroupLine) (p : Board) (man : Man) (a b : ℕ) (target : Option ℕ)
     (up down : ℕ) →
-    Member gs p → IsStep p man a b → IsValid (stepped p man a b target) →
+    ((s : ℕ) → s < 64 → slice_index p.cells s ≢ 0 → has_state gs (slice_index p.cells s) s ≡ true) →
+    IsStep p man a b → IsValid (stepped p man a b target) →
     Shifted gs p (stepped p man a b target) (cell_of_man man) a b (length gs) up down →
     Member gs (stepped p man a b target)
-Member-stepped gs p man a b target up down m h v s = record {
+Member-stepped gs p man a b target up down men h v s = record {
   valid = v;
   men = λ x l some.
       elim (cases_eq x b) [
@@ -148,7 +158,7 @@ Member-stepped gs p man a b target up down m h v s = record {
             (let some_there : slice_index p.cells a ≢ 0 = λ e.
             let n = cell-some man.colour man.kind in omega (arith, e, h.stood, n) in
             let before : has_state gs (cell_of_man man) a ≡ true =
-            subst (λ n. has_state gs n a ≡ true) h.stood (m.men a h.from some_there) in
+            subst (λ n. has_state gs n a ≡ true) h.stood (men a h.from some_there) in
             let found = any_found (is_state (cell_of_man man) a) gs before in
             any_at (is_state (cell_of_man man) b) gs found.0 found.1 found.2
             (s.covered found.0 found.1 (slice_get_within gs found.0 found.1 found.2) found.2
@@ -160,7 +170,7 @@ Member-stepped gs p man a b target up down m h v s = record {
           | inr left ↦
               let same = at_rest p man a b target h x left right in
               subst (λ n. has_state gs n x ≡ true) (sym same)
-              (m.men x l (λ e. some (same ∙ e)))
+              (men x l (λ e. some (same ∙ e)))
         ]
       ];
   counts = s.counted (subst (AllByRecursion (IsWithinCount (stepped p man a b target)))
@@ -168,7 +178,7 @@ Member-stepped gs p man a b target up down m h v s = record {
 }
 
 -- the sums of the digits
-sums : (gs : List GroupLine) (p q : Board) (cell a b up down : ℕ) →
+pub sums : (gs : List GroupLine) (p q : Board) (cell a b up down : ℕ) →
     Shifted gs p q cell a b (length gs) up down →
     digits_of q gs + down ≡ digits_of p gs + up
 sums gs p q cell a b up down h =
@@ -178,7 +188,7 @@ sums gs p q cell a b up down h =
     omega (arith, vp, vq, h.sum)
 
 -- a number is what its turn state adds, and the digits of the groups
-number_parts : (gs : List GroupLine) (p : Board) →
+pub number_parts : (gs : List GroupLine) (p : Board) →
     Num gs p ≡ turn_adds gs p.turn p.ep + digits_of p gs
 number_parts gs p = refl
 
@@ -191,7 +201,7 @@ module _ (gs : List GroupLine) (p : Board) (man : Man) (a b : ℕ) (target : Opt
   shifted_by = all_shifted gs p man a b target k left comes number.member.counts h from in_order to
 
   after_member : Member gs (stepped p man a b target)
-  after_member = Member-stepped gs p man a b target comes left number.member h valid shifted_by
+  after_member = Member-stepped gs p man a b target comes left number.member.men h valid shifted_by
 
   sum : digits_of (stepped p man a b target) gs + left ≡ digits_of p gs + comes
   sum = sums gs p (stepped p man a b target) (cell_of_man man) a b comes left shifted_by

@@ -41,7 +41,7 @@ pub record Shifts (p q : Board) (cell a b : ℕ) (g : GroupLine) (up down : ℕ)
   pub covered : is_state cell a g ≡ true → is_state cell b g ≡ true
 
 -- where a test holds at one place at most, it holds there alone
-single : (f : ℕ → Bool) (n k : ℕ) → k < n → f k ≡ true → length (places_below f n) ≤ 1 →
+pub single : (f : ℕ → Bool) (n k : ℕ) → k < n → f k ≡ true → length (places_below f n) ≤ 1 →
     places_below f n ≡ k ∷ []
 single f zero k l e one = absurd (omega arith)
 single f (suc n) k l e one =
@@ -71,7 +71,7 @@ single f (suc n) k l e one =
     none_left (x ∷ ks) h = absurd (omega arith)
 
 -- so two such places are one
-one_place : (f : ℕ → Bool) (n j k : ℕ) → j < n → k < n → f j ≡ true → f k ≡ true →
+pub one_place : (f : ℕ → Bool) (n j k : ℕ) → j < n → k < n → f j ≡ true → f k ≡ true →
     length (places_below f n) ≤ 1 → j ≡ k
 one_place f n j k lj lk ej ek one = heads (sym (single f n j lj ej one) ∙ single f n k lk ek one)
   where
@@ -127,12 +127,38 @@ state_once states j k s t h ej ek same =
       | inr l ↦ inr (omega (arith, l))
     ]
 
-no_man : (x : ℕ) (c : Colour) (k : Kind) → x ≡ 0 →
+pub no_man : (x : ℕ) (c : Colour) (k : Kind) → x ≡ 0 →
     (x == cell_of_man (record { colour = c; kind = k })) ≡ false
 no_man x c k e =
     false_from_ne_true (x == cell_of_man (record { colour = c; kind = k }))
     (λ t. absurd (let same = eqb-true x (cell_of_man (record { colour = c; kind = k })) t in
     let some = cell-some c k in omega (arith, e, same, some)))
+
+-- a man that is no state of the group on a square is not that of a state there
+pub not_the_man : (g : GroupLine) (man : Man) (j : ℕ) (st : Kind × ℕ) (s : ℕ) →
+    slice_get g.states j ≡ Some st → st.1 ≡ s → is_state (cell_of_man man) s g ≡ false →
+    (cell_of_man man == cell_of_man (record { colour = g.colour; kind = st.0 })) ≡ false
+not_the_man g man j st s e at off =
+    false_from_ne_true
+    (cell_of_man man == cell_of_man (record { colour = g.colour; kind = st.0 }))
+    (λ t.
+    let same = same_man man (record { colour = g.colour; kind = st.0 })
+    (eqb-true (cell_of_man man) (cell_of_man (record { colour = g.colour; kind = st.0 })) t) in
+    let there = any_at (is_at g.colour man s) g.states j st e
+    (and_from _ _
+    (eq-eqb (cell_of_man (record { colour = g.colour; kind = st.0 })) (cell_of_man man)
+    (ap cell_of_man (sym same))) (eq-eqb st.1 s at)) in
+    absurd cc)
+
+-- the man of a place stands there
+pub stands_there : (g : GroupLine) (man : Man) (r : Board) (s k : ℕ) → IsPlace g man s k →
+    slice_index r.cells s ≡ cell_of_man man →
+    stands r g.colour (slice_get g.states k) ≡ true
+stands_there g man r s k pl is =
+    ap (stands r g.colour) pl.1
+    ∙ eq-eqb (slice_index r.cells s)
+    (cell_of_man (record { colour = g.colour; kind = man.kind }))
+    (is ∙ ap (λ c. cell_of_man (record { colour = c; kind = man.kind })) (sym pl.0))
 
 module _ (p : Board) (man : Man) (a b : ℕ) (target : Option ℕ) (h : IsStep p man a b) where
   abbrev pub q : Board
@@ -171,21 +197,6 @@ module _ (p : Board) (man : Man) (a b : ℕ) (target : Option ℕ) (h : IsStep p
   -- a group that has the man on neither square
   module _ (g : GroupLine) (off_a : is_state (cell_of_man man) a g ≡ false)
       (off_b : is_state (cell_of_man man) b g ≡ false) where
-    not_the_man : (j : ℕ) (st : Kind × ℕ) (s : ℕ) → slice_get g.states j ≡ Some st → st.1 ≡ s →
-        is_state (cell_of_man man) s g ≡ false →
-        (cell_of_man man == cell_of_man (record { colour = g.colour; kind = st.0 })) ≡ false
-    not_the_man j st s e at off =
-        false_from_ne_true
-        (cell_of_man man == cell_of_man (record { colour = g.colour; kind = st.0 }))
-        (λ t.
-        let same = same_man man (record { colour = g.colour; kind = st.0 })
-        (eqb-true (cell_of_man man) (cell_of_man (record { colour = g.colour; kind = st.0 })) t) in
-        let there = any_at (is_at g.colour man s) g.states j st e
-        (and_from _ _
-        (eq-eqb (cell_of_man (record { colour = g.colour; kind = st.0 })) (cell_of_man man)
-        (ap cell_of_man (sym same))) (eq-eqb st.1 s at)) in
-        absurd cc)
-
     same_stand : (j : ℕ) (o : Option (Kind × ℕ)) → slice_get g.states j ≡ o →
         stands q g.colour o ≡ stands p g.colour o
     same_stand j None e = refl
@@ -195,11 +206,11 @@ module _ (p : Board) (man : Man) (a b : ℕ) (target : Option ℕ) (h : IsStep p
               no_man (slice_index q.cells st.1) g.colour st.0
               (ap (slice_index q.cells) here ∙ at_from)
               ∙ sym (ap (λ x. x == cell_of_man (record { colour = g.colour; kind = st.0 }))
-              (ap (slice_index p.cells) here ∙ h.stood) ∙ not_the_man j st a e here off_a)
+              (ap (slice_index p.cells) here ∙ h.stood) ∙ not_the_man g man j st a e here off_a)
           | inr left ↦ elim (cases_eq st.1 b) [
             | inl here ↦
                 ap (λ x. x == cell_of_man (record { colour = g.colour; kind = st.0 }))
-                (ap (slice_index q.cells) here ∙ at_to) ∙ not_the_man j st b e here off_b
+                (ap (slice_index q.cells) here ∙ at_to) ∙ not_the_man g man j st b e here off_b
                 ∙ sym (no_man (slice_index p.cells st.1) g.colour st.0
                 (ap (slice_index p.cells) here ∙ h.free))
             | inr right ↦
@@ -229,19 +240,10 @@ module _ (p : Board) (man : Man) (a b : ℕ) (target : Option ℕ) (h : IsStep p
   -- a group that has the man on both, and no other man
   module _ (g : GroupLine) (in_order : AreStates g.states) (ka kb : ℕ) (pa : IsPlace g man a ka)
       (pb : IsPlace g man b kb) (one : g.most ≡ 1) where
-    stands_there : (r : Board) (s k : ℕ) → IsPlace g man s k →
-        slice_index r.cells s ≡ cell_of_man man →
-        stands r g.colour (slice_get g.states k) ≡ true
-    stands_there r s k pl is =
-        ap (stands r g.colour) pl.1
-        ∙ eq-eqb (slice_index r.cells s)
-        (cell_of_man (record { colour = g.colour; kind = man.kind }))
-        (is ∙ ap (λ c. cell_of_man (record { colour = c; kind = man.kind })) (sym pl.0))
-
     before_is : IsWithinCount p g → places p g ≡ ka ∷ []
     before_is w =
         single (λ k. stands p g.colour (slice_get g.states k)) (length g.states) ka
-        (slice_get_within g.states ka (man.kind, a) pa.1) (stands_there p a ka pa h.stood)
+        (slice_get_within g.states ka (man.kind, a) pa.1) (stands_there g man p a ka pa h.stood)
         (omega (arith, w.most, one))
 
     alone : IsWithinCount p g → (j : ℕ) (o : Option (Kind × ℕ)) → slice_get g.states j ≡ o →
@@ -269,7 +271,7 @@ module _ (p : Board) (man : Man) (a b : ℕ) (target : Option ℕ) (h : IsStep p
                 (sym (at_rest st.1 left right)) ∙ t in
                 let same = one_place (λ k. stands p g.colour (slice_get g.states k))
                 (length g.states) j ka l (slice_get_within g.states ka (man.kind, a) pa.1) on
-                (stands_there p a ka pa h.stood) (omega (arith, w.most, one)) in
+                (stands_there g man p a ka pa h.stood) (omega (arith, w.most, one)) in
                 let states = same_Some st (man.kind, a)
                 (sym e ∙ ap (slice_get g.states) same ∙ pa.1) in
                 absurd (left (ap (λ (x : Kind × ℕ). x.1) states))
@@ -284,7 +286,7 @@ module _ (p : Board) (man : Man) (a b : ℕ) (target : Option ℕ) (h : IsStep p
     after_is : IsWithinCount p g → places q g ≡ kb ∷ []
     after_is w =
         only (λ k. stands q g.colour (slice_get g.states k)) (length g.states) kb
-        (slice_get_within g.states kb (man.kind, b) pb.1) (stands_there q b kb pb at_to)
+        (slice_get_within g.states kb (man.kind, b) pb.1) (stands_there g man q b kb pb at_to)
         (λ j l t. alone w j (slice_get g.states j) refl l t)
 
     pub moves : IsWithinCount p g → Shifts p q (cell_of_man man) a b g kb ka

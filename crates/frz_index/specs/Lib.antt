@@ -13,3 +13,4 @@ pub mod OldDigits
 pub mod Stepping
 pub mod Shares
 pub mod Leaving
+pub mod Taking

@@ -1,5 +1,5 @@
-//! The number of a position after a man has gone to an empty square, by what that changes.
-ghost use Rattle.std.specs.Prelude.{◌≡◌, ◌≤◌, ◌*◌, ◌↔◌, IfSome, IsSome, MatchOption, None, Some, true};
+//! The number of a position after a man has gone to another square, by what that changes.
+ghost use Rattle.std.specs.Prelude.{ℕ, ◌≡◌, ◌≢◌, ◌≤◌, ◌*◌, ◌↔◌, IfSome, IsSome, MatchOption, None, Some, true};
 ghost use Rattle.frz_board.specs.Boards.{is_empty, man_on};
 ghost use Rattle.frz_board.specs.declared.man.Man.{Man};
 ghost use Rattle.frz_fide.specs.Legal.{arrives};
@@ -8,6 +8,7 @@ ghost use Rattle.frz_index.specs.Kept.{IsPlan};
 ghost use Rattle.frz_index.specs.Members.{HasNumber};
 ghost use Rattle.frz_index.specs.Shares.{IsShareOf};
 ghost use Rattle.frz_index.specs.Stepping.{IsCountedOnBoth, IsQuiet, is_plain as is_plain_move, stepped, turn_adds as turn_adds_to};
+ghost use Rattle.frz_index.specs.Taking.{IsCountedTaking, IsSpare, IsTaking};
 
 use crate::plan::Plan;
 use crate::shares::{Share, cell_on};
@@ -99,5 +100,70 @@ pub(crate) fn arriving(man: Man, promo: Option<Kind>) -> Man
     Man {
         colour: man.colour,
         kind: promo.unwrap_or(man.kind),
+    }
+}
+
+/// What a number is less without the man, where one group alone counts him, and may be empty.
+fn loss(plan: &Plan, man: Man, s: Square) -> Option<u64>
+    requires { IsPlan plan.now }
+    ensures { let gs = plan.now.groups.items in
+        MatchOption result ((x : ℕ) → IsSpare gs man s x → ⊥) (IsSpare gs man s) }
+{
+    let share = share(plan, man, s)?;
+    if plan.groups[share.group as usize].least == 0 {
+        Some(share.adds + u64::from(plan.weights[share.group as usize]))
+    } else {
+        None
+    }
+}
+
+/// The number of the position after the man has taken another one and stays what he is, where that
+/// can be told by what it changes.
+pub(crate) fn number_after_taking_in(
+    plan: &Plan,
+    i: u32,
+    p: &Bitboards,
+    man: Man,
+    taken: Man,
+    from: Square,
+    to: Square,
+) -> Option<u32>
+    requires plan { IsPlan plan.now }
+    requires number { HasNumber plan.now.groups.items i p.now }
+    requires man { man_on p.now from ≡ Some man }
+    requires taken { man_on p.now to ≡ Some taken }
+    requires apart { from ≢ to }
+    requires valid { IsValid (stepped p.now man from to None) }
+    ensures told { IsSome result ↔ IsCountedTaking plan.now.groups.items man taken from to }
+    ensures number { IfSome result
+        (λ n. HasNumber plan.now.groups.items n (stepped p.now man from to None)) }
+{
+    let _from = from.number();
+    let _to = to.number();
+    let left = share(plan, man, from)?;
+    let comes = share(plan, man, to)?;
+    let less = loss(plan, taken, to)?;
+    if left.group != comes.group {
+        return None;
+    }
+    let before = turn_adds(plan, p.turn(), p.ep());
+    let after = turn_adds(plan, p.turn().other(), None);
+    Some((u64::from(i) + comes.adds + after - left.adds - before - less) as u32)
+}
+
+/// The man that makes the move and the man that it takes on its last square, unless it promotes.
+pub(crate) fn taking_men(p: &Bitboards, m: Move) -> Option<(Man, Man)>
+    ensures { MatchOption result ((man taken : Man) → IsTaking p.now m man taken → ⊥)
+        (λ (man, taken). IsTaking p.now m man taken) }
+{
+    if m.promo.is_some() {
+        return None;
+    }
+    match p.man(m.from) {
+        None => None,
+        Some(man) => match p.man(m.to) {
+            None => None,
+            Some(taken) => Some((man, taken)),
+        },
     }
 }

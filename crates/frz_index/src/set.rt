@@ -19,8 +19,9 @@ ghost use Rattle.frz_index.specs.Leaving.{leaves};
 ghost use Rattle.frz_index.specs.TurnStates.{turn_in};
 ghost use Rattle.frz_index.specs.Room.{has_room};
 ghost use Rattle.frz_index.specs.Stepping.{IsCountedOnBoth, IsQuiet, stepped};
+ghost use Rattle.frz_index.specs.Taking.{IsCountedTaking, IsTaking};
 
-use crate::across::{arriving, number_after_in, stepping_man};
+use crate::across::{arriving, number_after_in, number_after_taking_in, stepping_man, taking_men};
 use crate::digits::{number_of_digits, put_all};
 use crate::plan::{Plan, plan_of};
 use crate::quotient::{left_over, quotient};
@@ -224,6 +225,25 @@ impl Set {
         match stepping_man(p, m) {
             None => None,
             Some(man) => self.number_after_step(i, p, man, m.from, m.to, &None),
+        }
+    }
+
+    /// The number of the position after a legal move that takes a man on its last square and does
+    /// not promote, exactly where one group alone, of one man at most, counts the mover's man on
+    /// both squares, and one such group that may be empty counts the taken man.
+    pub fn number_after_taking(&self, i: u32, p: &Bitboards, m: Move) -> Option<u32>
+        requires number { HasNumber self.now i p.now }
+        requires legal { is_legal p.now m ≡ true }
+        ensures told { IsSome result ↔ ((man taken : Man)
+            × IsTaking p.now m man taken × IsCountedTaking self.now man taken m.from m.to) }
+        ensures number { IfSome result (λ n. HasNumber self.now n (after p.now m)) }
+    {
+        let _to = m.to.number();
+        match taking_men(p, m) {
+            None => None,
+            Some((man, taken)) => {
+                number_after_taking_in(&self.plan, i, p, man, taken, m.from, m.to)
+            }
         }
     }
 
