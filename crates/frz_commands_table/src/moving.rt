@@ -16,12 +16,12 @@ ghost use Rattle.frz_commands_table.specs.Rewriting.{MovesFile, MovesLists, Refu
 
 use crate::tallies::BROKEN;
 use frz_board::Position;
+use frz_former::{OldFile, open_old};
 use frz_game::Pair;
 use frz_index::laws::old_numbers;
 use frz_index::{Set, old_number};
 use frz_sets::Rules;
 use frz_store::Store;
-use frz_former::{OldFile, open_old};
 use frz_table::TableFault;
 use std::alloc::{AllocError, Global};
 
