@@ -1,0 +1,122 @@
+"""The page and its answers, served to this machine alone."""
+
+import hmac
+import http.server
+import json
+import os
+import secrets
+import threading
+import urllib.parse
+
+from .answers import is_word
+
+PAGE = os.path.join(os.path.dirname(os.path.abspath(__file__)), "page")
+FILES = {
+    "": ("index.html", "text/html"),
+    "page.css": ("page.css", "text/css"),
+    "men.js": ("men.js", "text/javascript"),
+    "board.js": ("board.js", "text/javascript"),
+    "moves.js": ("moves.js", "text/javascript"),
+    "page.js": ("page.js", "text/javascript"),
+}
+LONGEST_PATH = 2_000
+REQUESTS_AT_ONCE = 16
+SILENCE = 30  # seconds after which a connection is dropped
+HEADERS = {
+    "Cache-Control": "no-store",
+    "Content-Security-Policy": "default-src 'none'; script-src 'self'; style-src 'self'; "
+    "connect-src 'self'; frame-ancestors 'none'; base-uri 'none'; form-action 'none'",
+    "Referrer-Policy": "no-referrer",
+    "X-Content-Type-Options": "nosniff",
+}
+
+
+class Server(http.server.ThreadingHTTPServer):
+    """A server on 127.0.0.1, whose address has a random token."""
+
+    daemon_threads = True
+
+    def __init__(self, answers, port):
+        super().__init__(("127.0.0.1", port), Handler)
+        self.answers = answers
+        self.token = secrets.token_urlsafe(24)
+        self.places = threading.BoundedSemaphore(REQUESTS_AT_ONCE)
+
+    @property
+    def host(self):
+        return f"127.0.0.1:{self.server_address[1]}"
+
+    @property
+    def address(self):
+        return f"http://{self.host}/{self.token}/"
+
+
+class Handler(http.server.BaseHTTPRequestHandler):
+    """One request: a file of the page, or a question."""
+
+    protocol_version = "HTTP/1.1"
+    timeout = SILENCE
+    server_version = "explore"
+    sys_version = ""
+
+    def do_GET(self):
+        if not self.server.places.acquire(blocking=False):
+            self.send_text(503, "too many requests at once")
+            return
+        try:
+            self.answer()
+        except (LookupError, ValueError):
+            self.send_text(500, "the program's answer was not understood")
+        finally:
+            self.server.places.release()
+
+    def answer(self):
+        if self.headers.get("Host") != self.server.host or len(self.path) > LONGEST_PATH:
+            self.send_text(403, "not for this host")
+            return
+        parts = urllib.parse.urlsplit(self.path)
+        token, _, name = parts.path.lstrip("/").partition("/")
+        if not hmac.compare_digest(token.encode(), self.server.token.encode()):
+            self.send_text(403, "no such token")
+        elif name in FILES:
+            self.send_file(*FILES[name])
+        else:
+            self.send_answer(name, urllib.parse.parse_qs(parts.query))
+
+    def send_answer(self, name, asked):
+        answers = self.server.answers
+        fen, side = (asked.get(key, [""])[0] for key in ("fen", "side"))
+        if name == "tables":
+            self.send_json(answers.tables())
+        elif name == "position" and is_word(fen):
+            self.send_json(answers.position(fen))
+        elif name == "line" and is_word(fen) and side in ("white", "black"):
+            self.send_json(answers.line(fen, side))
+        elif name in ("report", "report/start", "report/stop"):
+            if name != "report":
+                getattr(answers.report, name.partition("/")[2])()
+            self.send_json(answers.report.shown())
+        else:
+            self.send_text(404, "no such question")
+
+    def send_file(self, name, kind):
+        with open(os.path.join(PAGE, name), "rb") as file:
+            self.send(200, kind, file.read())
+
+    def send_json(self, value):
+        self.send(200, "application/json", json.dumps(value).encode())
+
+    def send_text(self, status, text):
+        self.send(status, "text/plain", text.encode())
+
+    def send(self, status, kind, content):
+        self.send_response(status)
+        for name, value in HEADERS.items():
+            self.send_header(name, value)
+        self.send_header("Content-Type", f"{kind}; charset=utf-8")
+        self.send_header("Content-Length", str(len(content)))
+        self.end_headers()
+        self.wfile.write(content)
+
+    def log_message(self, *_):
+        """Says nothing of each request."""
