@@ -14,6 +14,11 @@ export function readBound(line) {
   return { kind: line.endsWith(" holds") ? HOLD : NONE };
 }
 
+// The line of bounds of a side: in the table, or in the one behind it where that knows the position.
+export function boundOf(bounds, side) {
+  return readBound(bounds[side] ?? bounds.behind?.[side === "white" ? 0 : 1]);
+}
+
 export function otherSide(side) {
   return side === "white" ? "black" : "white";
 }
@@ -23,11 +28,12 @@ function rankOf(bound) {
 }
 
 // What the move does to the mover's bound, as a class and in words.
-function markOf(before, after) {
+function markOf(before, after, behind) {
   if (after.kind === OUTSIDE) return ["leaves", "leaves the set"];
   if (ORDER.indexOf(after.kind) > ORDER.indexOf(before.kind)) {
     return ["throws", before.kind === WIN ? "throws the win away" : "throws the hold away"];
   }
+  if (behind) return ["keeps", "into the table behind"];
   if (before.kind === WIN && after.plies + 1 > before.plies) return ["slower", "wins more slowly"];
   return ["keeps", ""];
 }
@@ -35,11 +41,11 @@ function markOf(before, after) {
 // The moves of a position, best first for the mover, each with what it keeps.
 export function sortedMoves(position) {
   const side = position.turn;
-  const before = readBound(position.bounds[side]);
+  const before = boundOf(position.bounds, side);
   const valued = position.moves.map((move) => {
-    const own = readBound(move.bounds[side]);
-    const other = readBound(move.bounds[otherSide(side)]);
-    const [mark, words] = markOf(before, own);
+    const own = boundOf(move.bounds, side);
+    const other = boundOf(move.bounds, otherSide(side));
+    const [mark, words] = markOf(before, own, move.bounds.behind !== undefined);
     return { ...move, own, other, mark, words };
   });
   return valued.sort((a, b) => rankOf(a.own) - rankOf(b.own) || rankOf(b.other) - rankOf(a.other));
