@@ -1,7 +1,7 @@
 -- A man that attacks a square stands in reach of it.
-use Rattle.std.proofs.Common.{◌≡◌, ℕ, ◌<◌, ◌+◌, true, false, ◌&&◌, ◌||◌, not, Option, None, Some, max, refl, ap, sym, ◌∙◌, arith, slice_index, inl, inr}
+use Rattle.std.proofs.Common.{◌≡◌, ℕ, ◌<◌, ◌+◌, true, false, ◌&&◌, ◌||◌, not, Option, None, Some, max, refl, ap, sym, ◌∙◌, arith}
 use Rattle.std.specs.Prelude.{◌==◌}
-use Rattle.std.proofs.lemmas.Bool.{eqb-true, and_parts, and_from, cases_Bool, or_cases, false_from_ne_true, not_from_false, or_left, or_right}
+use Rattle.std.proofs.lemmas.Bool.{eqb-true, and_parts, and_from, false_from_ne_true, or_left, or_right}
 use Rattle.std.proofs.lemmas.Bool.Decides.{nat_tests}
 use Rattle.frz_board.specs.declared.man.Colour.{Colour}
 use Rattle.frz_board.specs.declared.man.Colour.TheVariants.{White, Black}
@@ -10,10 +10,8 @@ use Rattle.frz_board.specs.declared.man.Kind.TheVariants.{King, Queen, Rook, Bis
 use Rattle.frz_board.specs.declared.man.Man.{Man}
 use Rattle.frz_board.specs.Squares.{rank_of, files_apart, ranks_apart, is_forward}
 use Rattle.frz_board.specs.Lines.{is_rook_line, is_bishop_line, is_knight_jump, is_king_step}
-use Rattle.frz_board.specs.Men.{other_of, cell_of_man, man_of_cell, is_man_of}
-use Rattle.frz_board.specs.Boards.{Board, man_on, holds, has}
+use Rattle.frz_board.specs.Boards.{Board, man_on, holds}
 use Rattle.frz_board.specs.Attacks.{attacks, man_reaches, reaches, is_clear, pawn_reaches}
-use Rattle.frz_board.proofs.Lemmas.{cell_forth}
 use Rattle.frz_squares.specs.SquareSets.{has_square, set_of}
 use Rattle.frz_squares.proofs.Lemmas.{has-set_of}
 use Rattle.frz_bits.specs.Reaching.{is_in_reach, may_attack}
@@ -36,10 +34,6 @@ bishop_back a b = rw (apart_back a b, files_back a b, ranks_back a b) refl
 
 pub knight_back : (a b : ℕ) → is_knight_jump a b ≡ is_knight_jump b a
 knight_back a b = rw (files_back a b, ranks_back a b) refl
-
-pawn_back : (c : Colour) (a b : ℕ) → pawn_reaches c a b ≡ pawn_reaches (other_of c) b a
-pawn_back White a b = rw (files_back a b) refl
-pawn_back Black a b = rw (files_back a b) refl
 
 -- two squares a step from each other, by their files and ranks
 step_apart : (x y f r : ℕ) → (x ≡ y → f ≡ 0) → (x ≡ y → r ≡ 0) → max f r ≡ 1 →
@@ -94,33 +88,12 @@ reach_of p (Some man) a s h = reach_from p man.colour man.kind a s h
 reach_back : (a s : ℕ) → is_in_reach a s ≡ is_in_reach s a
 reach_back a s = rw (rook_back a s, bishop_back a s, knight_back a s) refl
 
--- a pawn that attacks
-pawn_hits : (p : Board) (s : ℕ) (by : Colour) (a : ℕ) → has p by Pawn a ≡ true →
-    attacks p a s ≡ true → pawn_reaches (other_of by) s a ≡ true
-pawn_hits p s by a pawn h =
-    let number = cell_of_man (record { colour = by; kind = Pawn }) in
-    sym (pawn_back by a s)
-    ∙ sym (ap (λ x. man_reaches p (man_of_cell x) a s)
-    (eqb-true (slice_index p.cells a) number pawn)
-    ∙ ap (λ m. man_reaches p m a s) (cell_forth by Pawn))
-    ∙ h
-
 pub hit_may : (p : Board) (s : ℕ) (by : Colour) (a : ℕ) → hits p s by a ≡ true →
     may_attack p s by a ≡ true
 hit_may p s by a h =
     let parts = and_parts (holds p by a) (attacks p a s) h in
-    let pawn = has p by Pawn a in
-    let step = pawn_reaches (other_of by) s a in
-    let piece = (holds p by a && not pawn) && is_in_reach s a in
-    elim (cases_Bool pawn) [
-      | inl e ↦
-          or_left (pawn && step) piece (and_from pawn step e (pawn_hits p s by a e parts.1))
-      | inr e ↦
-          or_right (pawn && step) piece
-          (and_from (holds p by a && not pawn) (is_in_reach s a)
-          (and_from (holds p by a) (not pawn) parts.0 (not_from_false pawn e))
-          (sym (reach_back a s) ∙ reach_of p (man_on p a) a s parts.1))
-    ]
+    and_from (holds p by a) (is_in_reach s a) parts.0
+    (sym (reach_back a s) ∙ reach_of p (man_on p a) a s parts.1)
 
 -- a man outside the word of those that may attack does not
 pub hits_in : (p : Board) (s : ℕ) (by : Colour) (w : ℕ) → w ≡ set_of (λ a. may_attack p s by a) →
@@ -130,19 +103,7 @@ hits_in p s by w e k l h =
     (λ t. let may = hit_may p s by k t in
     let out = ap (λ v. has_square v k) e ∙ has-set_of (λ a. may_attack p s by a) k l in cc)
 
-pawn_held : (c : Colour) (x : ℕ) → (x == cell_of_man (record { colour = c; kind = Pawn })) ≡ true →
-    is_man_of c (man_of_cell x) ≡ true
-pawn_held White x h = ap (λ y. is_man_of White (man_of_cell y)) (eqb-true x 6 h)
-pawn_held Black x h = ap (λ y. is_man_of Black (man_of_cell y)) (eqb-true x 12 h)
-
 -- each man that may attack is one of the side's
 pub may_held : (p : Board) (s : ℕ) (by : Colour) (a : ℕ) → may_attack p s by a ≡ true →
     holds p by a ≡ true
-may_held p s by a h =
-    let pawn = has p by Pawn a in
-    let step = pawn_reaches (other_of by) s a in
-    let piece = holds p by a && not pawn in
-    elim (or_cases (pawn && step) (piece && is_in_reach s a) h) [
-      | inl w ↦ pawn_held by (slice_index p.cells a) (and_parts pawn step w).0
-      | inr w ↦ (and_parts (holds p by a) (not pawn) (and_parts piece (is_in_reach s a) w).0).0
-    ]
+may_held p s by a h = (and_parts (holds p by a) (is_in_reach s a) h).0

@@ -11,7 +11,7 @@ ghost use Rattle.frz_bits.specs.Reaching.{may_attack};
 use super::lanes::{cells_equal, cells_from};
 use super::sets::{between, bishop_lines, king_set, knight_set, pawn_set, rook_lines};
 use super::ways::reaching_set;
-use super::word::{both, contains, next_square, replaced, with_square, without};
+use super::word::{both, contains, next_square, replaced, with_square};
 use frz_board::{Colour, Kind, Man, Position, Square, cell_of};
 use std::marker::Model;
 use std::simd::prelude::*;
@@ -218,17 +218,11 @@ impl Bitboards {
         }
     }
 
-    /// The men of the side that may attack the square, told by where they stand: pawns that attack
-    /// it, and others on a line with it or a jump away.
+    /// The men of the side that may attack the square: those on a line with it or a jump away.
     fn men_in_reach(&self, s: Square, by: Colour) -> u64
         ensures { result ≡ set_of (λ a. may_attack self.now s by a) }
     {
-        let colour = by;
-        let kind = Kind::Pawn;
-        let pawns = self.men(Man { colour, kind });
-        let near_pawns = both(pawns, pawn_set(by.other(), s));
-        let pieces = without(self.side(by), pawns);
-        near_pawns | both(pieces, reaching_set(s))
+        both(self.side(by), reaching_set(s))
     }
 
     /// The squares from which a man of the side attacks the square.

@@ -115,15 +115,6 @@ off_way p man a targets ways on off e k l out =
       | inr none ↦ off k l none
     ]
 
--- it has a way to each square of the word of its ways, which is a target
-pub on_way : (p : Board) (man : Man) (a targets ways : ℕ) →
-    ways ≡ set_of (has_way p man a targets) → (k : ℕ) → k < 64 →
-    has_square ways k ≡ true →
-    (has_square targets k ≡ true) × (goes p man.colour man.kind a k ≡ true)
-on_way p man a targets ways e k l there =
-    and_parts (has_square targets k) (goes p man.colour man.kind a k)
-    (sym (in_set (has_way p man a targets) ways k e l) ∙ there)
-
 -- no legal move begins on a square without a man of the side to move
 pub off_side : (p : Board) (own : ℕ) (t : Colour) → own ≡ set_of (λ s. holds p t s) → t ≡ p.turn →
     (k : ℕ) → k < 64 → has_square own k ≡ false → legal_from p k ≡ []
