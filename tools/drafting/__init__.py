@@ -1,0 +1,1 @@
+"""What tools/draft is made of."""

@@ -1,0 +1,131 @@
+"""The text of a draft, with what each group costs and what it leaves out."""
+
+from drafting.groups import NAMES, groups_of, kept_near
+from lib.chess import name_of, side_of, write_fen
+from lib.rules import LARGEST_SET, possible_targets
+
+SIDES = {"white": "w", "black": "b"}
+REACHES = (3, 2, 1, 0)
+
+
+def size_of(groups):
+    size = 2 + len(possible_targets(groups))
+    for group in groups:
+        size *= group.choices
+    return size
+
+
+class Draft:
+    """Groups for a position, and what was done that they fit."""
+
+    def __init__(self, position, events, side):
+        self.position, self.events, self.side = position, events, side
+        free = {"white": "b", "black": "w"}.get(side)
+        self.groups = groups_of(position, events, free)
+        self.wished = size_of(self.groups)
+        self.cuts = []
+        self.fit()
+
+    def fit(self):
+        """Keeps men near where they stand until the set is small enough."""
+        for own, reach in self.order():
+            for index in self.wide(own):
+                if size_of(self.groups) <= LARGEST_SET:
+                    return
+                self.cut(index, reach)
+
+    def order(self):
+        """Whose men are kept within how many steps, first things first. The side that is asked about
+        chooses its own moves, so its men go first; with no such side both go step by step."""
+        if self.side:
+            return [(True, 3), (True, 2), (True, 1), (False, 3), (False, 2), (False, 1), (False, 0), (True, 0)]
+        return [(own, reach) for reach in REACHES for own in (True, False)]
+
+    def wide(self, own):
+        """The groups of the side, or of the other one, those with the most choices first."""
+        first = self.side or "white"
+        found = [
+            i for i, g in enumerate(self.groups) if (g.colour == first) == own and not g.is_fixed
+        ]
+        return sorted(found, key=lambda i: -self.groups[i].choices)
+
+    def cut(self, index, reach):
+        group = self.groups[index]
+        near = kept_near(group, self.position.men, reach)
+        if len(near.states) >= max(near.most, 1) and near.choices < group.choices:
+            self.groups[index] = near
+            self.cuts.append((group, reach, size_of(self.groups)))
+
+    def lines(self):
+        return (
+            [f"# A first text for {write_fen(self.position)}", f"# position: {write_fen(self.position)}"]
+            + self.about_size()
+            + self.warnings()
+            + ["freezer 1"]
+            + [line for group in self.groups for line in self.about(group)]
+        )
+
+    def about_size(self):
+        size = size_of(self.groups)
+        lines = [f"# {size:,} numbers: {bytes_text(16 * size)} of memory to build, a file of {bytes_text(8 * size)}."]
+        if self.cuts:
+            lines.append(f"# With every man free it would be {self.wished:,}, above {LARGEST_SET:,}. So, in this order:")
+        for group, reach, left in self.cuts:
+            lines.append(f"#   {self.named(group)} {self.kept(group, reach)}; that leaves {left:,}")
+        return lines
+
+    def named(self, group):
+        return f"{group.colour}'s {group.begins(self.position.men)}"
+
+    def kept(self, group, reach):
+        """What a cut does to the men of the group."""
+        if any(self.position.men[s] not in "Pp" for s in group.men):
+            return f"within {reach} of where it stands" if reach else "where it stands"
+        return {3: "promoted, on the last rank alone", 2: "not promoted"}.get(reach, "where it stands")
+
+    def warnings(self):
+        """What of the opponent's counts as unknown, and so against the side that is asked about."""
+        lines = []
+        for colour, side in SIDES.items():
+            if self.side == colour:
+                continue
+            lines += [f"# {text}" for text in self.left_out(colour, side)]
+        return ["# Left out, each a way out that counts against the other side:"] + lines if lines else []
+
+    def left_out(self, colour, side):
+        men = self.position.men
+        pawns = sorted(s for s in self.events.promotes if side_of(men[s]) == side)
+        if pawns and self.side is None:
+            names = ", ".join(name_of(s) for s in pawns)
+            yield f"  what {colour}'s pawns on {names} may become: Q, R, B and N want places, or an exit line"
+        if names := ", ".join(name_of(s) for s in self.events.captors() if side_of(men[s]) == side):
+            yield f"  captures by {colour}'s pawns on {names}, which leave their files"
+        if names := ", ".join(name_of(s) for s in self.victims(side)):
+            yield f"  the capture of a pawn on {names}, which has no 0-1"
+        last = {tuple(group.men): (group, reach) for group, reach, _ in self.cuts}
+        for group, reach in last.values():
+            if group.colour == colour:
+                yield f"  {self.named(group)}, other than {self.kept(group, reach)}"
+
+    def victims(self, side):
+        """The pawns that stand fast and that the side may take."""
+        men, events = self.position.men, self.events
+        fast = [s for s in events.pawns if side_of(men[s]) != side and events.is_fast(s)]
+        return sorted(s for s in fast if events.takers(s))
+
+    def about(self, group):
+        men = self.position.men
+        kinds = {NAMES[men[s].upper()] for s in group.men}
+        fast = "stands fast" if group.is_fixed and group.least == group.most else f"{group.choices:,} choices"
+        own = [s for s in group.men if s in self.events.promotes and group.colour == self.side]
+        lines = [f"# {group.colour}'s {group.begins(men)} ({' or '.join(sorted(kinds))}): {fast}"]
+        if own:
+            lines.append("# may promote: a place as Q: and squares, or an exit line, if that is wanted")
+        return lines + [group.line()]
+
+
+def bytes_text(count):
+    for unit, size in (("GB", 10**9), ("MB", 10**6), ("kB", 10**3)):
+        if count >= size:
+            return f"{count / size:.1f} {unit}"
+    return f"{count} bytes"
