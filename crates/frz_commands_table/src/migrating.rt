@@ -64,12 +64,7 @@ fn write_new<S: Store>(moved: &Moved, name: &str, store: &mut S) -> Result<Reply
 }
 
 /// Rewrites the table of the name OLD under the name NEW.
-fn migrate_at<S: Store>(
-    alloc: Global,
-    old: &str,
-    new: &str,
-    store: &mut S,
-) -> Result<Reply, Stop>
+fn migrate_at<S: Store>(alloc: Global, old: &str, new: &str, store: &mut S) -> Result<Reply, Stop>
     ensures { (steps : ℕ) → Replies (migrating_at old.now new.now) result
         (store_of S.Store store.old) (store_of S.Store store.new) steps steps }
 {
@@ -78,11 +73,7 @@ fn migrate_at<S: Store>(
 }
 
 /// Does `migrate` with these words behind it.
-pub fn migrate<S: Store>(
-    alloc: Global,
-    words: &[String],
-    store: &mut S,
-) -> Result<Reply, Stop>
+pub fn migrate<S: Store>(alloc: Global, words: &[String], store: &mut S) -> Result<Reply, Stop>
     ensures replies { (steps : ℕ) → Replies (migrate_words (map string_bytes words.now)) result
         (store_of S.Store store.old) (store_of S.Store store.new) steps steps }
     ensures store_unused { (migrate_words (map string_bytes words.now)).needs.store ≡ false

@@ -1,10 +1,9 @@
-use Rattle.std.proofs.Common.{refl, ℕ, List, arith}
+use Rattle.std.proofs.Common.{ℕ, List, arith}
 use Rattle.std.proofs.lemmas.Result.{err_from_is_err_and}
 use Rattle.frz_fen.specs.Reading.{fen_of}
 use Rattle.frz_answer.specs.Jobs.{Job}
 use Rattle.frz_answer.proofs.Lemmas.{as_given}
 use Rattle.frz_prelude.specs.Positions.{on_position}
-use Rattle.frz_prelude.specs.declared.reply.Reply.{Reply}
 use Rattle.frz_prelude.proofs.Lemmas.{at_position, no_position, not_taken, replied, taken}
 use Rattle.frz_commands_chess.specs.Moving.{moving}
 use Rattle.frz_commands_chess.proofs.Moved.{own_reply}

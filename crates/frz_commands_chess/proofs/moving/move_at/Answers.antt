@@ -1,4 +1,4 @@
-use Rattle.std.proofs.Common.{◌≡◌, refl, subst, sym, ap, ◌∙◌, List, ℕ, codes}
+use Rattle.std.proofs.Common.{refl, subst, sym, ap, ◌∙◌, List, ℕ}
 use Rattle.frz_board.specs.Boards.{Board}
 use Rattle.frz_answer.specs.Answers.{says}
 use Rattle.frz_answer.specs.declared.status.Status.TheVariants.{Success}
@@ -21,4 +21,4 @@ returns-in-Some-clause-moved g c = λ files.
 pub returns-in-None-clause-moved : goal.returns-in-None-clause-moved
 returns-in-None-clause-moved g c = λ files.
     no_move (λ m step legal t. let read = (c.in-None.ensures.exact m).1
-        (step, legal, subst (IsSan c.args.p.now m) (sym c.as_bytes.ensures.value) t) in cc) refl
+    (step, legal, subst (IsSan c.args.p.now m) (sym c.as_bytes.ensures.value) t) in cc) refl
