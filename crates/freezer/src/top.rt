@@ -12,10 +12,10 @@ use crate::verb::{Verb, read_command};
 use frz_answer::{End, Refusal, finish, refuse};
 use frz_commands_ask::{chainquery, query, run_report, solve};
 use frz_commands_chain::{chain, chaincheck};
-use frz_commands_chess::{run_move, run_moves, run_sans};
+use frz_commands_chess::{make_move, run_moves, run_sans};
 use frz_commands_line::laws::{one_line_answer, one_play_answer};
 use frz_commands_line::{run_line, run_play};
-use frz_commands_table::{build, check, run_migrate, run_sample};
+use frz_commands_table::{build, check, migrate, run_sample};
 use frz_prelude::tell;
 use frz_steps::Steps;
 use frz_store::{Sink, Source, Store};
@@ -46,13 +46,13 @@ fn run<S: Store, I: Source, O: Sink, L: Ledger>(
         Some((Verb::Solve, rest)) => tell(solve(alloc, rest, store, steps), out),
         Some((Verb::Moves, rest)) => run_moves(rest, out, steps),
         Some((Verb::Sans, rest)) => run_sans(rest, out, steps),
-        Some((Verb::Move, rest)) => run_move(rest, out, steps),
+        Some((Verb::Move, rest)) => tell(make_move(rest, steps), out),
         Some((Verb::Query, rest)) => tell(query(alloc, rest, store), out),
         Some((Verb::Line, rest)) => run_line(alloc, rest, store, out, steps),
         Some((Verb::Play, rest)) => run_play(alloc, rest, store, input, out, steps),
         Some((Verb::Check, rest)) => tell(check(alloc, rest, store, steps), out),
         Some((Verb::Build, rest)) => tell(build(alloc, rest, store, steps), out),
-        Some((Verb::Migrate, rest)) => run_migrate(alloc, rest, store, out),
+        Some((Verb::Migrate, rest)) => tell(migrate(alloc, rest, store), out),
         Some((Verb::Chain, rest)) => tell(chain(alloc, rest, store, steps), out),
         Some((Verb::ChainCheck, rest)) => tell(chaincheck(alloc, rest, store, steps), out),
         Some((Verb::ChainQuery, rest)) => tell(chainquery(alloc, rest, store), out),

@@ -1,33 +1,32 @@
 -- The answers of `move` are lawful: there is one, and only one.
-use Rattle.std.proofs.Common.{◌≡◌, ℕ, Bool, true, false, ◌||◌, List, refl, ap, sym, ◌∙◌, inl, inr, codes, ◌++◌, append_assoc}
+use Rattle.std.proofs.Common.{◌≡◌, subst, ℕ, Bool, true, false, ◌||◌, List, [], ◌∷◌, refl, ap, sym, ◌∙◌, inl, inr, codes}
 use Rattle.std.specs.Str.{bytes_eq}
 use Rattle.std.specs.List.{list_any}
 use Rattle.std.proofs.lemmas.Bool.{or_cases, or_left, or_right}
 use Rattle.std.proofs.lemmas.List.Folds.{Any-from_list_any, list_any_at}
 use Rattle.std.proofs.lemmas.Slice.Eq.{bytes_eq-Decides}
-use Rattle.frz_store.specs.Files.{Files}
+use Rattle.frz_store.specs.Files.{Files, no_files}
 use Rattle.frz_board.specs.Boards.{Board}
 use Rattle.frz_board.specs.Moving.{Step}
 use Rattle.frz_fen.specs.Reading.{fen_of}
+use Rattle.frz_fen.specs.Writing.{fen_text}
+use Rattle.frz_fide.specs.Legal.{after}
 use Rattle.frz_fide.specs.Listing.{legal_moves_of}
 use Rattle.frz_fide.proofs.Lemmas.{listed, only_legal}
 use Rattle.frz_san.specs.Notation.{IsSan, san_of, unsigned}
 use Rattle.frz_san.proofs.Lemmas.{one_move}
+use Rattle.frz_answer.specs.declared.status.Status.{Status}
 use Rattle.frz_answer.specs.declared.status.Status.TheVariants.{Success, NoMove}
+use Rattle.frz_answer.specs.Statuses.{OneOf}
 use Rattle.frz_answer.specs.Answers.{Answer, says}
 use Rattle.frz_answer.specs.Lawful.{HasOneAnswer, IsLawful}
 use Rattle.frz_answer.specs.Words.{two_words_of}
 use Rattle.frz_answer.proofs.Lemmas.{said_job, taking_lawful}
 use Rattle.frz_prelude.specs.Positions.{on_position}
+use Rattle.frz_prelude.specs.Replies.{moved_lines, reply_status, text_of}
+use Rattle.frz_prelude.specs.declared.reply.Reply.{Reply}
 use Rattle.frz_prelude.proofs.Lemmas.{fen_lawful}
-use Rattle.frz_commands_chess.specs.Moving.{move_lines, IsMoved, moved, no_move, moving, move_words}
-
--- two lines, one behind the other
-pub both_lines : (x y text fen : List ℕ) → x ≡ text → y ≡ fen
-    → (x ++ codes "\n") ++ (y ++ codes "\n") ≡ text ++ codes "\n" ++ fen ++ codes "\n"
-both_lines x y text fen e h = ap (λ (l : List ℕ). (l ++ codes "\n") ++ (y ++ codes "\n")) e
-    ∙ ap (λ (l : List ℕ). (text ++ codes "\n") ++ (l ++ codes "\n")) h
-    ∙ sym (append_assoc (text ++ codes "\n") fen (codes "\n"))
+use Rattle.frz_commands_chess.specs.Moving.{IsMoved, moved, no_move, moving, move_words}
 
 module _ (text : List ℕ) (p : Board) where
   -- the test whether a text is that of a move
@@ -55,7 +54,7 @@ module _ (text : List ℕ) (p : Board) where
     by_test true h =
         let found = Any-from_list_any has_text (legal_moves_of p) h in
         let legal = only_legal p found.1 (found.0, found.2, found.3) in (
-          says Success (move_lines p found.1) files,
+          says Success (moved_lines found.1 (fen_text (after p found.1))) files,
           moved found.1 legal.0 legal.1
               (told found.1 found.4) refl,
         )
@@ -70,7 +69,7 @@ module _ (text : List ℕ) (p : Board) where
 
     same : (a b : Answer) → IsMoved text p files a → IsMoved text p files b → b ≡ a
     same a b (moved m sm lm tm e) (moved n sn ln tn h) =
-        h ∙ ap (λ x. says Success (move_lines p x) files) (one_move p n m text sn sm ln lm tn tm)
+        h ∙ ap (λ x. says Success (moved_lines x (fen_text (after p x))) files) (one_move p n m text sn sm ln lm tn tm)
         ∙ sym e
     same a b (moved m sm lm tm e) (no_move n h) = absurd (n m sm lm tm)
     same a b (no_move n h) (moved m sm lm tm e) = absurd (n m sm lm tm)
@@ -87,3 +86,18 @@ pub move_lawful : (words : List (List ℕ)) → IsLawful (move_words words)
 move_lawful words =
     taking_lawful (λ both. on_position (moving both.1) (fen_of both.0)) (two_words_of words)
     (λ both. fen_lawful (moving both.1) (fen_of both.0) (λ p read. moving_lawful both.1 p))
+
+-- what is replied has a status of `move`
+pub own_reply : (text : List ℕ) (p : Board) (reply : Reply)
+    → ((files : Files) → IsMoved text p files (says (reply_status reply) (text_of reply) files))
+    → OneOf (reply_status reply) (Success ∷ NoMove ∷ [])
+own_reply text p reply moves = own_status (moves no_files)
+  where
+    own_status : IsMoved text p no_files (says (reply_status reply) (text_of reply) no_files)
+        → OneOf (reply_status reply) (Success ∷ NoMove ∷ [])
+    own_status (moved m step legal is e) =
+        let status : reply_status reply ≡ Success = ap (λ (a : Answer). a.status) e in
+        subst (λ (s : Status). OneOf s (Success ∷ NoMove ∷ [])) (sym status) refl
+    own_status (no_move none e) =
+        let status : reply_status reply ≡ NoMove = ap (λ (a : Answer). a.status) e in
+        subst (λ (s : Status). OneOf s (Success ∷ NoMove ∷ [])) (sym status) refl

@@ -1,5 +1,5 @@
 -- What `move FEN SAN` answers.
-use Rattle.std.specs.Prelude.{◌≡◌, ℕ, true, List, [], ◌∷◌, ◌++◌, codes, Some}
+use Rattle.std.specs.Prelude.{◌≡◌, ℕ, true, List, [], ◌∷◌, codes, Some}
 use Rattle.frz_store.specs.Files.{Files}
 use Rattle.frz_answer.specs.declared.status.Status.TheVariants.{Success, NoMove}
 use Rattle.frz_answer.specs.Answers.{Answer, says}
@@ -7,21 +7,17 @@ use Rattle.frz_answer.specs.Jobs.{Job, plain, steps_alone, WithinCosts}
 use Rattle.frz_answer.specs.Words.{taking, two_words_of}
 use Rattle.frz_board.specs.Boards.{Board}
 use Rattle.frz_board.specs.Moving.{Step, IsStep}
-use Rattle.frz_board.specs.Texts.{text_of}
 use Rattle.frz_fide.specs.Legal.{is_legal, after}
 use Rattle.frz_fen.specs.Reading.{fen_of}
 use Rattle.frz_fen.specs.Writing.{fen_text}
 use Rattle.frz_san.specs.Notation.{IsSan}
 use Rattle.frz_prelude.specs.Positions.{on_position}
-
--- the move, and the position afterwards on a line of its own
-abbrev pub move_lines : Board → Step → List ℕ
-move_lines p m = text_of m ++ codes "\n" ++ fen_text (after p m) ++ codes "\n"
+use Rattle.frz_prelude.specs.Replies.{moved_lines}
 
 -- a legal move has this text, and its lines are told; or none has it. No file changes
 pub data IsMoved (text : List ℕ) (p : Board) (files : Files) (a : Answer) : Type 0 where
   moved : (m : Step) → IsStep m → is_legal p m ≡ true → IsSan p m text
-      → a ≡ says Success (move_lines p m) files → IsMoved text p files a
+      → a ≡ says Success (moved_lines m (fen_text (after p m))) files → IsMoved text p files a
   no_move : ((m : Step) → IsStep m → is_legal p m ≡ true → IsSan p m text → ⊥)
       → a ≡ says NoMove (codes "no move\n") files → IsMoved text p files a
 

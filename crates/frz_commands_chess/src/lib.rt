@@ -6,4 +6,4 @@ mod moving;
 mod notation;
 
 pub use listing::{run_moves, run_sans};
-pub use moving::run_move;
+pub use moving::make_move;

@@ -28,7 +28,8 @@ use Rattle.frz_prelude.specs.TableCauses.{table_line}
 use Rattle.frz_prelude.proofs.Lemmas.{found_where, holding, stops_by, StopsWith}
 use Rattle.frz_commands_table.specs.declared.moving.Moved.{Moved}
 use Rattle.frz_commands_table.specs.Rewriting.{MovesFile, RefusesFormer, WithinFormer, former_size}
-use Rattle.frz_commands_table.specs.Migrating.{migrated_line, IsMigratedAt, IsMigratedBy, moving_calls, migrating_costs, writing_new}
+use Rattle.frz_prelude.specs.Replies.{migrated_line}
+use Rattle.frz_commands_table.specs.Migrating.{IsMigratedAt, IsMigratedBy, moving_calls, migrating_costs, writing_new}
 use Rattle.frz_commands_table.specs.MigrateMeans.{migrating_at}
 use Rattle.frz_commands_table.proofs.MigratedOnce.{some_migrated_at}
 

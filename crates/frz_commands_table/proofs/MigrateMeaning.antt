@@ -21,7 +21,8 @@ use Rattle.frz_answer.specs.Answers.{Answer, says}
 use Rattle.frz_prelude.specs.Refusals.{table_status}
 use Rattle.frz_prelude.specs.TableCauses.{table_line}
 use Rattle.frz_prelude.proofs.Lemmas.{bytes_status}
-use Rattle.frz_commands_table.specs.Migrating.{migrated_line, IsMigratedAt, IsMigratedBy, IsRewritten}
+use Rattle.frz_prelude.specs.Replies.{migrated_line}
+use Rattle.frz_commands_table.specs.Migrating.{IsMigratedAt, IsMigratedBy, IsRewritten}
 use Rattle.frz_commands_table.specs.MigrateMeans.{BecomesOneFile, HoldsFormerFile, IsFormerFile, MeansByStatus, MeansMigrate, RefusesOld}
 use Rattle.frz_commands_table.proofs.MovedCodes.{one_file_migrated}
 

@@ -13,7 +13,8 @@ use Rattle.frz_answer.specs.Words.{two_words_of, unless}
 use Rattle.frz_answer.proofs.Lemmas.{taking_lawful, unless_lawful}
 use Rattle.frz_prelude.specs.declared.refused.Refused.TheVariants as refusals
 use Rattle.frz_prelude.proofs.Lemmas.{some_refusal}
-use Rattle.frz_commands_table.specs.Migrating.{migrated_line, IsMigratedAt, IsMigratedBy}
+use Rattle.frz_prelude.specs.Replies.{migrated_line}
+use Rattle.frz_commands_table.specs.Migrating.{IsMigratedAt, IsMigratedBy}
 use Rattle.frz_commands_table.specs.MigrateMeans.{migrating_at, migrate_words}
 use Rattle.frz_commands_table.proofs.MigrateMeaning.{migrate_means}
 use Rattle.frz_commands_table.proofs.MovedCodes.{one_migrated, some_migrated}

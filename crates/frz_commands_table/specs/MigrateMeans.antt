@@ -29,7 +29,8 @@ use Rattle.frz_answer.specs.Jobs.{Job, Once, plain, WithinCosts}
 use Rattle.frz_answer.specs.Words.{taking, two_words_of, unless}
 use Rattle.frz_prelude.specs.TableCauses.{table_line}
 use Rattle.frz_commands_table.specs.Migrated.{IsMigrated}
-use Rattle.frz_commands_table.specs.Migrating.{migrated_line, IsMigratedAt, migrating_costs}
+use Rattle.frz_prelude.specs.Replies.{migrated_line}
+use Rattle.frz_commands_table.specs.Migrating.{IsMigratedAt, migrating_costs}
 
 -- OLD holds a table of the former format, NEW holds it
 -- rewritten afterwards, and no other name changes

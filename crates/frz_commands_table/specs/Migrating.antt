@@ -1,5 +1,5 @@
 -- What `migrate OLD NEW` answers: the table of OLD is rewritten under the name NEW.
-use Rattle.std.specs.Prelude.{◌≡◌, ℕ, ◌+◌, ◌*◌, List, [], ◌∷◌, ◌++◌, length, true, Some, Option, Result, Ok, Err, codes, decimal}
+use Rattle.std.specs.Prelude.{◌≡◌, ℕ, ◌+◌, ◌*◌, List, [], ◌∷◌, length, true, Some, Option, Result, Ok, Err}
 use Rattle.frz_store.specs.Files.{Files, bytes_at, put}
 use Rattle.frz_index.specs.OldNumbers.{old_size_of}
 use Rattle.frz_sets.specs.Sets.{size_of}
@@ -14,13 +14,10 @@ use Rattle.frz_answer.specs.declared.status.Status.TheVariants.{Success}
 use Rattle.frz_answer.specs.Answers.{Answer, says}
 use Rattle.frz_answer.specs.Jobs.{Costs, Job, nothing, plain, WithinCosts}
 use Rattle.frz_prelude.specs.Refusals.{table_status}
+use Rattle.frz_prelude.specs.Replies.{migrated_line}
 use Rattle.frz_prelude.specs.TableCauses.{table_line}
 use Rattle.frz_commands_table.specs.Migrated.{IsMigrated}
 use Rattle.frz_commands_table.specs.Rewriting.{former_size}
-
--- the size of the new table
-abbrev pub migrated_line : ℕ → List ℕ
-migrated_line size = codes "migrated " ++ decimal size ++ codes "\n"
 
 -- of a file that opens: NEW holds it rewritten, and every other name what it held
 pub record IsRewritten (contents : Contents) (bytes new : List ℕ) (files : Files)

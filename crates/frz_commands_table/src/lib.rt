@@ -5,12 +5,12 @@ mod building;
 mod checking;
 mod judging;
 pub mod laws;
-mod migrate;
+mod migrating;
 mod moving;
 mod sample;
 mod tallies;
 
 pub use building::build;
 pub use checking::check;
-pub use migrate::run_migrate;
+pub use migrating::migrate;
 pub use sample::run_sample;

@@ -28,6 +28,7 @@ pub use Rattle.frz_prelude.proofs.Replying.{
   no_memory_reply,
   not_written_reply,
   refused_reply,
+  replied,
   said_reply,
   stopped_reply,
   through_reply,

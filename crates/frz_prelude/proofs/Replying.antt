@@ -13,7 +13,7 @@ use Rattle.frz_answer.specs.Ends.{Ran, Said}
 use Rattle.frz_answer.specs.Statuses.{OneOf, end_of_fault}
 use Rattle.frz_answer.specs.World.{world, Agrees}
 use Rattle.frz_answer.specs.Jobs.{Job}
-use Rattle.frz_answer.proofs.Lemmas.{Begun, GivesName, IsStage, SaysAll, SaysName, Stages, as_given, fine_same, fine_store, not_written, quiet_both, quiet_same, said, through, wrote_it}
+use Rattle.frz_answer.proofs.Lemmas.{Begun, GivesName, IsStage, SaysAll, SaysName, Stages, as_given, fine_same, fine_steps, fine_store, not_written, quiet_both, quiet_same, quiet_steps, said, through, wrote_it}
 use Rattle.frz_prelude.specs.Refusals.{refusing_named, status_of}
 use Rattle.frz_prelude.specs.Replies.{Replies, reply_status, text_of}
 use Rattle.frz_prelude.specs.Stops.{EndsBy, HasItsCause, stop_of_fault}
@@ -54,6 +54,21 @@ said_reply job reply status line old new before now status_is text_is quiet fine
           (as_said _ _ _ _ end out after status_is text_is told)
           (λ files left agrees. answers files left input out agrees);
     }
+
+-- the same by a command that takes no file
+pub replied : (job : Job) (reply : Reply) (store : StoreTold) (before now : ℕ) → before ≤ now
+    → OneOf (reply_status reply) job.statuses
+    → ((files : Files) (left : List ℕ) (input : SourceTold) (out : SinkTold)
+    → Agrees (world store input out before) files left
+    → SaysAll job (reply_status reply) (text_of reply) files left (world store input out before)
+    (world store input out now))
+    → Replies job (Ok reply) store store before now
+replied job reply store before now later own answers = record {
+  ran = λ input out after end told.
+      said job (reply_status reply) (text_of reply) end (world _ _ _ _) (world _ _ _ _) after
+      (quiet_steps store input out before now later) (fine_steps store input out before now) own
+      told (λ files left agrees. answers files left input out agrees);
+}
 
 -- something stopped the call
 pub stopped_reply : (A : Type 0) (job : Job) (stop : Stop) (old new : StoreTold) (before now : ℕ)

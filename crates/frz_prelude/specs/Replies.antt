@@ -1,5 +1,7 @@
 -- A command that says all at its end: its reply, and what it did before it was said.
 use Rattle.std.specs.Prelude.{ℕ, List, ◌++◌, Result, Ok, Err, codes, decimal}
+use Rattle.frz_board.specs.Moving.{Step}
+use Rattle.frz_board.specs.Texts.{text_of as move_text}
 use Rattle.frz_store.specs.Told.{StoreTold, SourceTold, SinkTold}
 use Rattle.frz_answer.specs.declared.status.Status.{Status}
 use Rattle.frz_answer.specs.declared.status.Status.TheVariants as statuses
@@ -11,8 +13,12 @@ use Rattle.frz_prelude.specs.BoundLines.{bounds_text, kept_text}
 use Rattle.frz_prelude.specs.Stops.{EndsBy}
 use Rattle.frz_prelude.specs.WrongLines.{wrong_line}
 use Rattle.frz_prelude.specs.declared.reply.Reply.{Reply}
-use Rattle.frz_prelude.specs.declared.reply.Reply.TheVariants.{Bounds, Kept, Built, Chained, Exact, ExactOn, Wrong}
+use Rattle.frz_prelude.specs.declared.reply.Reply.TheVariants.{Moved, NoMove, Bounds, Kept, Built, Chained, Migrated, Exact, ExactOn, Wrong}
 use Rattle.frz_prelude.specs.declared.stop.Stop.{Stop}
+
+-- a move, and the FEN of the position after it on a line of its own
+abbrev pub moved_lines : Step → List ℕ → List ℕ
+moved_lines m fen = move_text m ++ codes "\n" ++ fen ++ codes "\n"
 
 -- a table of so many numbers was built, alone or over a back table
 abbrev pub built_line : ℕ → List ℕ
@@ -20,6 +26,10 @@ built_line size = codes "built " ++ decimal size ++ codes "\n"
 
 abbrev pub chained_line : ℕ → List ℕ
 chained_line size = codes "chained " ++ decimal size ++ codes "\n"
+
+-- the size of a table that was rewritten
+abbrev pub migrated_line : ℕ → List ℕ
+migrated_line size = codes "migrated " ++ decimal size ++ codes "\n"
 
 -- a table of so many numbers is exact, alone or over a back table of so many
 abbrev pub exact_line : ℕ → List ℕ
@@ -31,13 +41,17 @@ exact_on_line size back =
 
 abbrev pub reply_status : Reply → Status
 reply_status (Wrong wrong) = statuses.Wrong
+reply_status NoMove = statuses.NoMove
 reply_status reply = statuses.Success
 
 abbrev pub text_of : Reply → List ℕ
+text_of (Moved m fen) = moved_lines m fen.bytes
+text_of NoMove = codes "no move\n"
 text_of (Bounds white black) = bounds_text white black
 text_of (Kept white black) = kept_text white black
 text_of (Built size) = built_line size
 text_of (Chained size) = chained_line size
+text_of (Migrated size) = migrated_line size
 text_of (Exact size) = exact_line size
 text_of (ExactOn size back) = exact_on_line size back
 text_of (Wrong wrong) = wrong_line wrong

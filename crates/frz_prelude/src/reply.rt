@@ -2,19 +2,25 @@
 ghost use Rattle.std.specs.Prelude.{◌≡◌};
 ghost use Rattle.frz_store.specs.Told.{sink_of};
 ghost use Rattle.frz_answer.specs.Texts.{WroteText};
-ghost use Rattle.frz_prelude.specs.Replies.{exact_on_line, reply_status, text_of, Tells};
+ghost use Rattle.frz_prelude.specs.Replies.{exact_on_line, moved_lines, reply_status, text_of, Tells};
 
 use crate::bound_lines::{write_bounds, write_kept};
 use crate::stop::Stop;
 use crate::wrong_lines::write_wrong;
-use frz_answer::{End, Status, said, write_numbered, write_numbered_line, write_piece};
+use arrayvec::ArrayString;
+use frz_answer::{End, Status, said, write_line, write_numbered, write_numbered_line, write_piece};
 use frz_arena::Bound;
+use frz_board::{Move, move_text};
 use frz_game::Wrong;
 use frz_store::{Failed, Sink};
 
 /// What a command says that says it all at its end.
 #[derive(Clone, Copy, Debug)]
 pub enum Reply {
+    /// A move was made: its coordinates, and the FEN of the position after it.
+    Moved(Move, ArrayString<100>),
+    /// No legal move has the text.
+    NoMove,
     /// The bounds of White and of Black.
     Bounds(Bound, Bound),
     /// The codes that a table keeps for White and for Black.
@@ -23,12 +29,23 @@ pub enum Reply {
     Built(u32),
     /// A table of so many numbers was built over a back table.
     Chained(u32),
+    /// A table of so many numbers was rewritten.
+    Migrated(u32),
     /// A table of so many numbers is exact.
     Exact(u32),
     /// A table of so many numbers is exact over a back table of so many.
     ExactOn(u32, u32),
     /// The first entry of a table that is not its local code.
     Wrong(Wrong),
+}
+
+/// Writes the coordinates of a move, and a FEN on a line of its own.
+fn write_moved<O: Sink>(m: Move, fen: &ArrayString<100>, out: &mut O) -> Result<(), Failed>
+    ensures { WroteText (moved_lines m fen.now.bytes) result
+        (sink_of O.Sink out.old) (sink_of O.Sink out.new) }
+{
+    write_line(move_text(m).as_bytes(), out)?;
+    write_line(fen.as_bytes(), out)
 }
 
 /// Writes that a table of so many numbers is exact over one of so many.
@@ -47,6 +64,7 @@ impl Reply {
     {
         match self {
             Reply::Wrong(_) => Status::Wrong,
+            Reply::NoMove => Status::NoMove,
             _ => Status::Success,
         }
     }
@@ -56,10 +74,13 @@ impl Reply {
             (sink_of O.Sink out.old) (sink_of O.Sink out.new) }
     {
         match self {
+            Reply::Moved(m, fen) => write_moved(m, &fen, out),
+            Reply::NoMove => write_piece(b"no move\n", out),
             Reply::Bounds(white, black) => write_bounds(white, black, out),
             Reply::Kept(white, black) => write_kept(white, black, out),
             Reply::Built(size) => write_numbered_line(b"built ", size as u64, out),
             Reply::Chained(size) => write_numbered_line(b"chained ", size as u64, out),
+            Reply::Migrated(size) => write_numbered_line(b"migrated ", size as u64, out),
             Reply::Exact(size) => write_numbered_line(b"exact ", size as u64, out),
             Reply::ExactOn(size, back) => write_exact_on(size, back, out),
             Reply::Wrong(wrong) => write_wrong(wrong, out),

@@ -47,8 +47,8 @@ returns-in-Some-Move-default-clause-ran g c =
       w.1,
       as_command w.0 _ _ _ _ _ (rw c.in-Some-Move-default.field-0-0-is at
           c.in-Some-Move-default.ensures)
-          (c.run_move.ensures (store_of g.S.Store c.args.store.now)
-          (source_of g.I.Source c.args.input.now)),
+          ((c.make_move.ensures (store_of g.S.Store c.args.store.now)).ran
+          (source_of g.I.Source c.args.input.now) _ _ _ c.tell-in-Some-Move-default.ensures),
     )
 
 pub returns-in-Some-Query-default-clause-ran :
@@ -117,7 +117,8 @@ returns-in-Some-Migrate-default-clause-ran g c =
       w.1,
       as_command w.0 _ _ _ _ _ (rw c.in-Some-Migrate-default.field-0-0-is at
           c.in-Some-Migrate-default.ensures)
-          (c.run_migrate.ensures.ran (source_of g.I.Source c.args.input.now) c.args.steps.now),
+          ((c.migrate.ensures.replies c.args.steps.now).ran
+          (source_of g.I.Source c.args.input.now) _ _ _ c.tell-in-Some-Migrate-default.ensures),
     )
 
 pub returns-in-Some-Chain-default-clause-ran :

@@ -6,7 +6,7 @@ use Rattle.frz_table.specs.declared.kind.FileKind.TheVariants.{Plain}
 use Rattle.frz_table.specs.Layout.{magic_of, header_of}
 use Rattle.frz_table.specs.Numbers.{number_bytes}
 use Rattle.frz_build.proofs.Lemmas.{all_written, black_failed, header_refused, white_failed}
-use Rattle.frz_commands_table.proofs.migrate.write_file.Goals as goal
+use Rattle.frz_commands_table.proofs.migrating.write_file.Goals as goal
 
 pub returns-in_err-begin_table-clause-written : goal.returns-in_err-begin_table-clause-written
 returns-in_err-begin_table-clause-written g c =
