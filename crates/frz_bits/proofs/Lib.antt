@@ -6,3 +6,5 @@ mod Gather
 mod Reaching
 mod Men
 mod Put
+mod CountedBits
+mod EndRanks

@@ -8,6 +8,7 @@ mod pawns;
 mod rays;
 mod reach;
 mod sets;
+mod shape;
 mod ways;
 mod word;
 

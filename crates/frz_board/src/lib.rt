@@ -15,6 +15,7 @@ mod text;
 
 pub use man::{Colour, Kind, Man, cell_of, man_of};
 pub use memory::NoMemory;
+pub use passing::target_in_place;
 pub use position::Position;
 pub use shape::Shape;
 pub use square::Square;

@@ -1,7 +1,6 @@
 -- Other crates cite the module Lemmas alone.
 pub mod Lemmas
 mod Classes
-mod CountedBits
 mod FirstLines
 mod SmallLags
 mod SoundLags

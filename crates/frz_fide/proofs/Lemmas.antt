@@ -7,7 +7,7 @@ pub use Rattle.frz_fide.proofs.LegalParts.{Move, facts}
 pub use Rattle.frz_fide.proofs.Listed.{listed, only_legal, sorted, legal_at}
 pub use Rattle.frz_fide.proofs.NoKingTaken.{no_king_there}
 pub use Rattle.frz_fide.proofs.PawnsKept.{pawn_tests}
-pub use Rattle.frz_fide.proofs.Room.{few, count_by_squares}
+pub use Rattle.frz_fide.proofs.Room.{few}
 pub use Rattle.frz_fide.proofs.Standing.{
   others_by,
   after_at,

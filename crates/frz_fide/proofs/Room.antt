@@ -1,5 +1,5 @@
 -- A side with 16 men has at most 1,024 legal moves.
-use Rattle.std.proofs.Common.{◌≡◌, ℕ, ◌*◌, ◌≤◌, List, [], ◌∷◌, length, refl, ap, sym, ◌∙◌, Bool, true, false, cond, ◌&&◌, ◌||◌, not, arith, Option, None, Some, map, slice_index}
+use Rattle.std.proofs.Common.{◌≡◌, ℕ, ◌*◌, ◌≤◌, List, [], ◌∷◌, length, refl, Bool, true, false, cond, ◌&&◌, ◌||◌, not, arith, Option, None, Some}
 use Rattle.std.specs.Prelude.{nat_le, is_some, is_none, count_by, sum_by, if◌then◌else◌, ◌==◌}
 use Rattle.std.specs.List.{list_all}
 use Rattle.std.proofs.lemmas.List.Sums.{length-filter, sum_by-cons, sum_by-le-sum_by}
@@ -7,10 +7,11 @@ use Rattle.std.proofs.lemmas.List.Concat.{length-flat_map}
 use Rattle.std.proofs.lemmas.Bool.{and_parts}
 use Rattle.frz_board.specs.Attacks.{is_in_check}
 use Rattle.frz_board.specs.Boards.{Board, holds, man_on, is_empty}
-use Rattle.frz_board.specs.Men.{other_of, same_colour, is_man_of, man_of_cell}
+use Rattle.frz_board.specs.Men.{other_of, same_colour, is_man_of}
 use Rattle.frz_board.specs.Moving.{is_promotion}
 use Rattle.frz_board.specs.Shapes.{men_of, has_few_men}
 use Rattle.frz_board.specs.Squares.{squares, is_forward, files_apart}
+use Rattle.frz_bits.proofs.Lemmas.{men_by_squares}
 use Rattle.frz_fide.specs.Legal.{is_legal, can_go, man_goes, goes, promotes, is_last, is_home, passed_over, is_target, after}
 use Rattle.frz_fide.specs.Listing.{steps_between}
 use Rattle.frz_fide.specs.SquareBySquare.{legal_between, legal_from, legal_by_squares}
@@ -21,8 +22,6 @@ use Rattle.frz_board.specs.declared.man.Kind.{Kind}
 use Rattle.frz_board.specs.declared.man.Kind.TheVariants.{King, Queen, Rook, Bishop, Knight, Pawn}
 use Rattle.frz_board.specs.declared.man.Man.{Man}
 use Rattle.std.proofs.lemmas.Bool.Decides.{nat_tests}
-use Rattle.std.proofs.lemmas.List.FromFn.{length-map-range_with_len, get_or-map-range_with_len}
-use Rattle.std.proofs.lemmas.Grind.{same_number_lists}
 
 -- a pawn goes at most two ranks forward, and may become one of four men
 abbrev pub pawn_room : Colour → ℕ → ℕ → ℕ
@@ -178,43 +177,10 @@ times_count q (x ∷ xs) =
       sixty_four (q x),
     )
 
--- the cells, read square by square
-pub reads : (xs : List ℕ) → length xs ≡ 64 → map (λ s. slice_index xs s) squares ≡ xs
-unfolding squares
-reads xs h =
-    same_number_lists _ _ (length-map-range_with_len (λ s. slice_index xs s) 0 64 ∙ sym h)
-    (λ i l. get_or-map-range_with_len (λ s. slice_index xs s) 0 64 i i 0
-    (omega (arith, length-map-range_with_len (λ s. slice_index xs s) 0 64)) (omega arith))
-
-sum_by-map : (g : ℕ → ℕ) (f : ℕ → ℕ) (xs : List ℕ) → sum_by g (map f xs) ≡ sum_by (λ x. g (f x)) xs
-sum_by-map g f [] = refl
-sum_by-map g f (x ∷ xs) =
-    omega (
-      arith,
-      sum_by-cons g (f x) (map f xs),
-      sum_by-cons (λ y. g (f y)) x xs,
-      sum_by-map g f xs,
-    )
-
 pub few : (p : Board) (c : Colour) → has_few_men p ≡ true → men_of p c ≤ 16
 unfolding has_few_men
 few p White h = le_from_test _ _ (and_parts _ _ h).0
 few p Black h = le_from_test _ _ (and_parts _ _ h).1
-
--- a count over the cells, square by square
-pub count_by_squares : (t : ℕ → Bool) (xs : List ℕ) → length xs ≡ 64 →
-    count_by (λ s. t (slice_index xs s)) squares ≡ count_by t xs
-count_by_squares t xs h =
-    sym (sum_by-map (λ x. cond (t x) 1 0) (λ s. slice_index xs s) squares)
-    ∙ ap (λ ys. count_by t ys) (reads xs h)
-
-men_by_squares : (p : Board) (c : Colour) → length p.cells ≡ 64 →
-    count_by (λ s. holds p c s) squares ≡ men_of p c
-unfolding men_of
-men_by_squares p c h =
-    sym (sum_by-map (λ x. cond (is_man_of c (man_of_cell x)) 1 0) (λ s. slice_index p.cells s)
-    squares)
-    ∙ ap (λ xs. count_by (λ x. is_man_of c (man_of_cell x)) xs) (reads p.cells h)
 
 pub legal_room : (p : Board) → IsValid p → length (legal_by_squares p) ≤ 1024
 unfolding legal_by_squares

@@ -21,7 +21,7 @@ pub fn valid_boards(p: &Bitboards) -> Result<(), Invalid>
     ensures valid { OnOk result (IsValid p.now) }
 {
     let position = p.as_position();
-    match position.shape() {
+    match p.shape() {
         Err(fault) => Err(Invalid::Shape(fault)),
         Ok(()) => {
             if p.is_in_check(position.turn().other()) {

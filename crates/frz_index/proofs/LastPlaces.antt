@@ -1,9 +1,10 @@
 -- The last place of a combination, found from its rank.
-use Rattle.std.proofs.Common.{◌≡◌, ℕ, zero, suc, ◌-◌, ◌<◌, ◌≤◌, min, ◌∷◌, ap, sym, ◌∙◌, arith}
+use Rattle.std.proofs.Common.{◌≡◌, ℕ, zero, suc, ◌-◌, ◌<◌, ◌≤◌, min, [], ◌∷◌, refl, ap, sym, ◌∙◌, arith, inr}
 use Rattle.frz_combinations.specs.Binomials.{choose}
 use Rattle.frz_combinations.specs.Combinations.{unrank}
 use Rattle.frz_combinations.proofs.Lemmas.{choose-one, choose-past, choose_wider}
 use Rattle.frz_combinations.proofs.Lemmas.{unrank-greatest}
+use Rattle.frz_index.proofs.GroupDigits.{unrank_done}
 
 -- the rank of one place is the place
 pub one_fits : (end k r m : ℕ) → k ≡ 1 → m ≡ min r (end - 1) → choose m k ≤ r
@@ -29,3 +30,10 @@ unrank_next s zero r c h l fits above = absurd (omega arith)
 unrank_next s (suc j) r c h l fits above =
     let e : suc j - 1 ≡ j = omega arith in
     unrank-greatest s j r c l fits above ∙ ap (λ i. c ∷ unrank c i (r - choose c (suc j))) (sym e)
+
+-- so the combination of one place is the place of its rank, or the last
+pub one_place : (s r c : ℕ) → 0 < s → c ≡ min r (s - 1) → unrank s 1 r ≡ c ∷ []
+one_place s r c some e =
+    unrank_next s 1 r c (omega arith) (omega arith) (one_fits s 1 r c refl e)
+    (one_greatest s 1 r c refl e)
+    ∙ ap (λ ks. c ∷ ks) (unrank_done c 0 (r - choose c 1) (inr refl))

@@ -19,6 +19,7 @@ fn men_of(triangle: &Triangle, states: u32, least: u32, most: u32, digit: u32) -
     requires few { most ≤ 16 }
     requires rows { states < triangle.now }
     ensures men { result ≡ count_and_rank states least (most - least) digit }
+    ensures most { result.0 ≤ most }
     ensures few { result.0 ≤ 16 }
     ensures small { result.1 ≤ digit }
 {
@@ -100,6 +101,26 @@ fn put_ranked(
     true
 }
 
+/// Puts one man on the board, at the place of this rank, if he finds his square empty, and tells
+/// whether he did. The rank of one place is the place.
+fn put_one(p: &mut Bitboards, colour: Colour, states: &[(Kind, Square)], rank: u64) -> bool
+    requires some { 0 < length states.now }
+    ensures free { result
+        ≡ are_free colour states.now (unrank (length states.now) 1 rank) p.old.cells }
+    ensures put { result ≡ true → p.new ≡
+        record p.old {
+          cells = put_men colour states.now (unrank (length states.now) 1 rank) p.old.cells;
+        } }
+{
+    let place = (rank as usize).min(states.len() - 1);
+    let (kind, square) = states[place];
+    if !p.is_empty(square) {
+        return false;
+    }
+    p.set(square, cell_of(Man { colour, kind }));
+    true
+}
+
 /// Puts the men of a group's digit on the board, as long as each finds its square empty, and tells
 /// whether all did.
 pub(crate) fn put(p: &mut Bitboards, triangle: &Triangle, group: &Group, digit: u32) -> bool
@@ -117,5 +138,8 @@ pub(crate) fn put(p: &mut Bitboards, triangle: &Triangle, group: &Group, digit: 
         group.most as u32,
         digit,
     );
+    if count == 1 {
+        return put_one(p, group.colour, &group.states, rank);
+    }
     put_ranked(p, triangle, group.colour, &group.states, count, rank)
 }

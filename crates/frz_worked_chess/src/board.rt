@@ -1,5 +1,6 @@
 //! Positions and moves at the border, and the start of a game.
 
+use frz_bits::Bitboards;
 use frz_board::{
     Colour, Kind, Man, Move, Position, Shape, Square, cell_of, man_of, move_text, read_move,
 };
@@ -68,6 +69,7 @@ fn names_the_first_condition_that_fails(rt: HostRuntime) -> Result<(), Fail> {
         (p.hand_over(Some(e4)), Shape::EpPlace),
     ] {
         assert_eq!(rt; q.shape(), Err(fault));
+        assert_eq!(rt; Bitboards::of(&q).shape(), Err(fault));
     }
     Ok(())
 }
