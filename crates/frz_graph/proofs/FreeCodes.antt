@@ -8,7 +8,6 @@ use Rattle.frz_sets.specs.declared.exit.Value.{Value}
 use Rattle.frz_arena.specs.declared.arm.Arm.{Arm}
 use Rattle.frz_arena.specs.declared.best.Best.{Best}
 use Rattle.frz_arena.specs.Best.{IsBest}
-use Rattle.frz_arena.specs.LocalCodes.{own_code, other_code, turn_code}
 use Rattle.frz_graph.specs.FreeCodes.{counted_codes, free_among}
 
 -- where the codes are those of the moves
@@ -53,27 +52,25 @@ counted_next : (own : Bool) (arms : List (Arm Step ℕ Value)) (cs : List ℕ) (
 counted_next true arms cs i a h e = free_next arms cs i a h e
 counted_next false arms cs i a h e = take_more cs i 0 (omega arith)
 
+-- the best of those that count, with this move if it counts
 pub best_counted : (own : Bool) (arms : List (Arm Step ℕ Value)) (cs : List ℕ) (i : ℕ)
-    (a : Arm Step ℕ Value) (best : Best) → (not own || (get_or arms i a).free) ≡ true →
-    i < length arms → length arms ≡ length cs →
+    (a : Arm Step ℕ Value) (test : Bool) (best : Best) →
+    a ≡ get_or arms i a → i < length arms → length arms ≡ length cs →
+    test ≡ (not own || a.free) → test ≡ true →
     IsBest own (counted_codes own (take i arms) (take i cs) ++ get_or cs i 0 ∷ []) best →
     IsBest own (counted_codes own (take (i + 1) arms) (take (i + 1) cs)) best
-best_counted own arms cs i a best t h e is =
-    subst (λ xs. IsBest own xs best) (sym (counted_next own arms cs i a h e ∙ (rw t refl))) is
-
-pub best_passed : (own : Bool) (arms : List (Arm Step ℕ Value)) (cs : List ℕ) (i : ℕ)
-    (a : Arm Step ℕ Value) (best : Best) → (not own || (get_or arms i a).free) ≡ false →
-    i < length arms → length arms ≡ length cs →
-    IsBest own (counted_codes own (take i arms) (take i cs)) best →
-    IsBest own (counted_codes own (take (i + 1) arms) (take (i + 1) cs)) best
-best_passed own arms cs i a best f h e is =
+best_counted own arms cs i a test best here h e tells t is =
     subst (λ xs. IsBest own xs best)
     (sym (counted_next own arms cs i a h e
-    ∙ (rw f (append-nil (counted_codes own (take i arms) (take i cs)))))) is
+    ∙ (rw (← here, ← tells, t) refl))) is
 
--- what counts at a turn is what the local code is made of
-pub at_turn : (own : Bool) (arms : List (Arm Step ℕ Value)) (cs : List ℕ) →
-    turn_code own (counted_codes own arms cs)
-    ≡ (if own then own_code (free_among arms cs) else other_code cs)
-at_turn true arms cs = refl
-at_turn false arms cs = refl
+pub best_passed : (own : Bool) (arms : List (Arm Step ℕ Value)) (cs : List ℕ) (i : ℕ)
+    (a : Arm Step ℕ Value) (test : Bool) (best : Best) →
+    a ≡ get_or arms i a → i < length arms → length arms ≡ length cs →
+    test ≡ (not own || a.free) → test ≡ false →
+    IsBest own (counted_codes own (take i arms) (take i cs)) best →
+    IsBest own (counted_codes own (take (i + 1) arms) (take (i + 1) cs)) best
+best_passed own arms cs i a test best here h e tells f is =
+    subst (λ xs. IsBest own xs best)
+    (sym (counted_next own arms cs i a h e
+    ∙ (rw (← here, ← tells, f) (append-nil (counted_codes own (take i arms) (take i cs)))))) is

@@ -1,14 +1,21 @@
 //! The local code of a number.
 
-ghost use Rattle.std.specs.Prelude.{◌≡◌, All, length, map};
+ghost use Rattle.std.specs.Prelude.{◌≡◌, ◌||◌, not, All, length, map};
 ghost use Rattle.frz_arena.specs.LocalCodes.{node_code, turn_code as code_at_turn};
 ghost use Rattle.frz_graph.specs.EntryCodes.{arm_code, IsWithin};
 ghost use Rattle.frz_graph.specs.FreeCodes.{counted_codes, free_among};
 
-use crate::arm::NextList;
+use crate::arm::{Arm, NextList};
 use crate::entries::{CodeList, Entries, next_code_of};
 use frz_arena::{Best, Node, local_code};
 use frz_board::Colour;
+
+/// Does the move count at a turn? Where the side itself moves, its free moves alone do.
+fn counts(own: bool, arm: &Arm) -> bool
+    ensures { result ≡ (not own || arm.now.free) }
+{
+    !own || arm.free
+}
 
 /// The code at a turn, by the codes of the moves.
 fn turn_code(own: bool, list: &NextList, codes: &CodeList) -> u64
@@ -17,7 +24,7 @@ fn turn_code(own: bool, list: &NextList, codes: &CodeList) -> u64
 {
     let mut best = Best::new(own);
     for (i, arm) in list.as_slice().iter().enumerate() {
-        if !own || arm.free {
+        if counts(own, arm) {
             best = best.with(codes[i]);
         }
     }
@@ -44,7 +51,7 @@ fn turn_code_by<E: Entries>(own: bool, side: Colour, list: &NextList, entries: &
 {
     let mut best = Best::new(own);
     for arm in list.as_slice() {
-        if !own || arm.free {
+        if counts(own, arm) {
             best = best.with(next_code_of(side, arm.next, entries));
         }
     }
