@@ -1,6 +1,6 @@
 -- What a local code says of the plies.
 pub mod ChosenCodes
-pub mod Tallied
+pub mod Ranked
 pub mod PlyCodes
 pub mod CodesByPlies
 pub mod OnePly

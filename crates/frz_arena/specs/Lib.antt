@@ -3,7 +3,8 @@ pub mod Plies
 pub mod Codes
 pub mod Bounds
 pub mod LocalCodes
-pub mod Tallies
+pub mod Ranks
+pub mod Best
 pub mod Chess
 pub mod Games
 pub mod Exits

@@ -1,5 +1,5 @@
 -- The local code: what the codes one ply on give a position.
-use Rattle.std.specs.Prelude.{◌≡◌, ◌+◌, ℕ, Bool, min, max, if◌then◌else◌, List, [], ◌∷◌, map, filter}
+use Rattle.std.specs.Prelude.{◌≡◌, ◌+◌, ℕ, Bool, true, false, min, max, if◌then◌else◌, List, [], ◌∷◌, map, filter}
 use Rattle.std.specs.List.{list_any, list_all}
 use Rattle.frz_board.specs.declared.man.Colour.{Colour}
 use Rattle.frz_board.specs.Men.{same_colour}
@@ -37,6 +37,11 @@ own_code (c ∷ cs) = chosen_code is_win is_failure (c ∷ cs)
 -- the opponent is to move, with the codes of all his moves
 abbrev pub other_code : List ℕ → ℕ
 other_code cs = chosen_code is_failure is_win cs
+
+-- the code at a turn: the side's own, or its opponent's
+abbrev pub turn_code : (own : Bool) → List ℕ → ℕ
+turn_code true = own_code
+turn_code false = other_code
 
 -- the local code at each kind of position
 abbrev pub node_code : Colour → Node → (free all : List ℕ) → ℕ

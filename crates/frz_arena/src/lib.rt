@@ -5,6 +5,7 @@
 #![tactic(auto)]
 
 mod arm;
+mod best;
 mod bound;
 mod choice;
 mod class;
@@ -14,6 +15,7 @@ mod local;
 mod node;
 
 pub use arm::{Arm, Next};
+pub use best::Best;
 pub use bound::{Bound, bound_of, code};
 pub use choice::{Choice, choose};
 pub use class::{Class, exit_code};

@@ -15,29 +15,27 @@ use frz_board::Colour;
 use frz_exits::ExitBook;
 use frz_game::laws::numbers::numbered;
 use frz_game::laws::tables::tables;
-use frz_game::{Entries, Game, Lists, Node, NumberedGame, Wrong, fill, local_by};
+use frz_game::{Entries, Game, Lists, NextList, Node, NumberedGame, Wrong, local_by};
 use frz_graph::laws::{filled, within};
 use frz_steps::Steps;
 use std::sync::ledger::Ledger;
 
-/// Compares the entry of the side at the number with its local code. `nexts` of the lists has the
-/// moves of the number, which is this node.
+/// Compares the entry of the side at the number with its local code. The list has the moves of the
+/// number, which is this node.
 fn compare<E: Entries>(
     side: Colour,
     number: u32,
     node: Node,
     entries: &E,
-    lists: &mut Lists,
+    list: &NextList,
 ) -> Option<Wrong>
     requires inside { number < length (E.codes entries.now side) }
     requires within { All (λ a. IsWithin (length (E.codes entries.now side)) a.next)
-        lists.old.nexts.items }
-    ensures compared { IsCompared side number (slice_index (E.codes entries.now side) number)
-        (code_by_moves side node lists.old.nexts.items (E.codes entries.now side)) result }
-    ensures moves { lists.new.nexts.items ≡ lists.old.nexts.items }
+        list.now.items }
+    ensures { IsCompared side number (slice_index (E.codes entries.now side) number)
+        (code_by_moves side node list.now.items (E.codes entries.now side)) result }
 {
-    fill(side, &lists.nexts, entries, &mut lists.codes);
-    let given = local_by(side, node, &lists.nexts, &lists.codes, &mut lists.free);
+    let given = local_by(side, node, list, entries);
     let kept = entries.entry(side, number);
     if u64::from(kept) == given {
         return None;
@@ -68,10 +66,10 @@ fn wrong_at<G: NumberedGame<L>, E: Entries, L: Ledger>(
     filled();
     within();
     let node = game.nexts_by(number, lists, steps);
-    if let Some(wrong) = compare(Colour::White, number, node, entries, lists) {
+    if let Some(wrong) = compare(Colour::White, number, node, entries, &lists.nexts) {
         return Some(wrong);
     }
-    compare(Colour::Black, number, node, entries, lists)
+    compare(Colour::Black, number, node, entries, &lists.nexts)
 }
 
 /// Checks the entries over any game of numbers.

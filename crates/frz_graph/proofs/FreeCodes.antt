@@ -1,11 +1,14 @@
 -- The codes of the free moves among those of all moves.
-use Rattle.std.proofs.Common.{◌≡◌, ◌<◌, ◌+◌, ◌++◌, ℕ, zero, suc, true, false, List, [], ◌∷◌, map, refl, ap, ◌∙◌, if◌then◌else◌, inl, inr, length, take, get_or, arith, add-one, append-nil}
+use Rattle.std.proofs.Common.{◌≡◌, ◌<◌, ◌+◌, ◌++◌, ◌||◌, not, ℕ, zero, suc, Bool, true, false, List, [], ◌∷◌, map, refl, sym, subst, ap, ◌∙◌, if◌then◌else◌, inl, inr, length, take, get_or, arith, add-one, append-nil}
 use Rattle.std.specs.List.{filter}
 use Rattle.std.proofs.lemmas.Bool.{cases_Bool}
+use Rattle.std.proofs.lemmas.List.{take_more}
 use Rattle.frz_board.specs.Moving.{Step}
 use Rattle.frz_sets.specs.declared.exit.Value.{Value}
 use Rattle.frz_arena.specs.declared.arm.Arm.{Arm}
-use Rattle.frz_graph.specs.FreeCodes.{free_among}
+use Rattle.frz_arena.specs.declared.best.Best.{Best}
+use Rattle.frz_arena.specs.Best.{IsBest}
+use Rattle.frz_graph.specs.FreeCodes.{counted_codes, free_among}
 
 -- where the codes are those of the moves
 pub free_mapped : (code : Arm Step ℕ Value → ℕ) (arms : List (Arm Step ℕ Value)) →
@@ -40,14 +43,34 @@ free_next : (arms : List (Arm Step ℕ Value)) (cs : List ℕ) (i : ℕ) (a : Ar
     ++ (if (get_or arms i a).free then get_or cs i 0 ∷ [] else [])
 free_next arms cs i a h e = rw add-one (free_push arms cs i a h e)
 
-pub free_one : (arms : List (Arm Step ℕ Value)) (cs : List ℕ) (i : ℕ) (a : Arm Step ℕ Value) →
-    (get_or arms i a).free ≡ true → i < length arms → length arms ≡ length cs →
-    free_among (take (i + 1) arms) (take (i + 1) cs)
-    ≡ free_among (take i arms) (take i cs) ++ get_or cs i 0 ∷ []
-free_one arms cs i a t h e = free_next arms cs i a h e ∙ (rw t refl)
+-- one move more among those that count
+counted_next : (own : Bool) (arms : List (Arm Step ℕ Value)) (cs : List ℕ) (i : ℕ)
+    (a : Arm Step ℕ Value) → i < length arms → length arms ≡ length cs →
+    counted_codes own (take (i + 1) arms) (take (i + 1) cs)
+    ≡ counted_codes own (take i arms) (take i cs)
+    ++ (if not own || (get_or arms i a).free then get_or cs i 0 ∷ [] else [])
+counted_next true arms cs i a h e = free_next arms cs i a h e
+counted_next false arms cs i a h e = take_more cs i 0 (omega arith)
 
-pub free_none : (arms : List (Arm Step ℕ Value)) (cs : List ℕ) (i : ℕ) (a : Arm Step ℕ Value) →
-    (get_or arms i a).free ≡ false → i < length arms → length arms ≡ length cs →
-    free_among (take (i + 1) arms) (take (i + 1) cs) ≡ free_among (take i arms) (take i cs)
-free_none arms cs i a f h e =
-    free_next arms cs i a h e ∙ (rw f (append-nil (free_among (take i arms) (take i cs))))
+-- the best of those that count, with this move if it counts
+pub best_counted : (own : Bool) (arms : List (Arm Step ℕ Value)) (cs : List ℕ) (i : ℕ)
+    (a : Arm Step ℕ Value) (test : Bool) (best : Best) →
+    a ≡ get_or arms i a → i < length arms → length arms ≡ length cs →
+    test ≡ (not own || a.free) → test ≡ true →
+    IsBest own (counted_codes own (take i arms) (take i cs) ++ get_or cs i 0 ∷ []) best →
+    IsBest own (counted_codes own (take (i + 1) arms) (take (i + 1) cs)) best
+best_counted own arms cs i a test best here h e tells t is =
+    subst (λ xs. IsBest own xs best)
+    (sym (counted_next own arms cs i a h e
+    ∙ (rw (← here, ← tells, t) refl))) is
+
+pub best_passed : (own : Bool) (arms : List (Arm Step ℕ Value)) (cs : List ℕ) (i : ℕ)
+    (a : Arm Step ℕ Value) (test : Bool) (best : Best) →
+    a ≡ get_or arms i a → i < length arms → length arms ≡ length cs →
+    test ≡ (not own || a.free) → test ≡ false →
+    IsBest own (counted_codes own (take i arms) (take i cs)) best →
+    IsBest own (counted_codes own (take (i + 1) arms) (take (i + 1) cs)) best
+best_passed own arms cs i a test best here h e tells f is =
+    subst (λ xs. IsBest own xs best)
+    (sym (counted_next own arms cs i a h e
+    ∙ (rw (← here, ← tells, f) (append-nil (counted_codes own (take i arms) (take i cs)))))) is

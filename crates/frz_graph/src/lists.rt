@@ -12,7 +12,6 @@ pub struct Lists {
     pub moves: MoveList,
     pub nexts: NextList,
     pub codes: CodeList,
-    pub free: CodeList,
 }
 
 impl Lists {
@@ -21,13 +20,11 @@ impl Lists {
         ensures moves { result.moves.items ≡ [] }
         ensures nexts { result.nexts.items ≡ [] }
         ensures codes { result.codes.items ≡ [] }
-        ensures free { result.free.items ≡ [] }
     {
         Lists {
             moves: MoveList::new(),
             nexts: NextList::new(),
             codes: CodeList::new(),
-            free: CodeList::new(),
         }
     }
 }

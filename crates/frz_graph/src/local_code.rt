@@ -1,60 +1,34 @@
 //! The local code of a number.
 
-ghost use Rattle.std.specs.Prelude.{◌≡◌, ◌≢◌, [], length};
-ghost use Rattle.frz_arena.specs.LocalCodes.{node_code};
-ghost use Rattle.frz_graph.specs.FreeCodes.{free_among};
+ghost use Rattle.std.specs.Prelude.{◌≡◌, ◌||◌, not, All, length, map};
+ghost use Rattle.frz_arena.specs.LocalCodes.{node_code, turn_code as code_at_turn};
+ghost use Rattle.frz_graph.specs.EntryCodes.{arm_code, IsWithin};
+ghost use Rattle.frz_graph.specs.FreeCodes.{counted_codes, free_among};
 
-use crate::arm::NextList;
-use crate::entries::CodeList;
-use frz_arena::{Node, local_code};
+use crate::arm::{Arm, NextList};
+use crate::entries::{CodeList, Entries, next_code_of};
+use frz_arena::{Best, Node, local_code};
 use frz_board::Colour;
 
-/// Puts the codes of the free moves into a list.
-fn put_free_codes(list: &NextList, codes: &CodeList, free: &mut CodeList)
-    requires { length list.now.items ≡ length codes.now.items }
-    ensures { free.new.items ≡ free_among list.now.items codes.now.items }
+/// Does the move count at a turn? Where the side itself moves, its free moves alone do.
+fn counts(own: bool, arm: &Arm) -> bool
+    ensures { result ≡ (not own || arm.now.free) }
 {
-    free.clear();
+    !own || arm.free
+}
+
+/// The code at a turn, by the codes of the moves.
+fn turn_code(own: bool, list: &NextList, codes: &CodeList) -> u64
+    requires { length list.now.items ≡ length codes.now.items }
+    ensures { result ≡ code_at_turn own (counted_codes own list.now.items codes.now.items) }
+{
+    let mut best = Best::new(own);
     for (i, arm) in list.as_slice().iter().enumerate() {
-        if arm.free {
-            free.push(codes[i]);
+        if counts(own, arm) {
+            best = best.with(codes[i]);
         }
     }
-}
-
-/// Puts the codes of the free moves into the list where the side is to move. Elsewhere they say
-/// nothing, and the list is left empty.
-fn put_asked_codes(side: Colour, node: Node, list: &NextList, codes: &CodeList, free: &mut CodeList)
-    requires { length list.now.items ≡ length codes.now.items }
-    ensures { node_code side node free.new.items codes.now.items
-        ≡ node_code side node (free_among list.now.items codes.now.items) codes.now.items }
-{
-    match node {
-        Node::Going(mover) => {
-            if mover == side {
-                put_free_codes(list, codes, free);
-            } else {
-                free.clear();
-            }
-        }
-        _ => free.clear(),
-    }
-}
-
-/// `local` by a list that is room to work in, kept from call to call.
-pub fn local_by(
-    side: Colour,
-    node: Node,
-    list: &NextList,
-    codes: &CodeList,
-    free: &mut CodeList,
-) -> u64
-    requires { length list.now.items ≡ length codes.now.items }
-    ensures { result ≡
-        node_code side node (free_among list.now.items codes.now.items) codes.now.items }
-{
-    put_asked_codes(side, node, list, codes, free);
-    local_code(side, node, free.as_slice(), codes.as_slice())
+    best.code()
 }
 
 /// The local code of the side at a number of this kind, whose moves have these codes for the side.
@@ -63,6 +37,36 @@ pub fn local(side: Colour, node: Node, list: &NextList, codes: &CodeList) -> u64
     ensures { result ≡
         node_code side node (free_among list.now.items codes.now.items) codes.now.items }
 {
-    let mut free = CodeList::new();
-    local_by(side, node, list, codes, &mut free)
+    match node {
+        Node::Going(mover) => turn_code(mover == side, list, codes),
+        _ => local_code(side, node, &[], &[]),
+    }
+}
+
+/// The code at a turn, by the entries of the side. No code is written down.
+fn turn_code_by<E: Entries>(own: bool, side: Colour, list: &NextList, entries: &E) -> u64
+    requires { All (λ a. IsWithin (length (E.codes entries.now side)) a.next) list.now.items }
+    ensures { result ≡ code_at_turn own (counted_codes own list.now.items
+        (map (arm_code side (E.codes entries.now side)) list.now.items)) }
+{
+    let mut best = Best::new(own);
+    for arm in list.as_slice() {
+        if counts(own, arm) {
+            best = best.with(next_code_of(side, arm.next, entries));
+        }
+    }
+    best.code()
+}
+
+/// The local code of the side at a number of this kind, by its moves and the entries of the side:
+/// one walk over the moves where there are any.
+pub fn local_by<E: Entries>(side: Colour, node: Node, list: &NextList, entries: &E) -> u64
+    requires { All (λ a. IsWithin (length (E.codes entries.now side)) a.next) list.now.items }
+    ensures { let codes = map (arm_code side (E.codes entries.now side)) list.now.items in
+        result ≡ node_code side node (free_among list.now.items codes) codes }
+{
+    match node {
+        Node::Going(mover) => turn_code_by(mover == side, side, list, entries),
+        _ => local_code(side, node, &[], &[]),
+    }
 }

@@ -7,7 +7,7 @@ ghost use Rattle.frz_arena.specs.Arena.{Arena};
 ghost use Rattle.frz_arena.specs.LocalCodes.{local_code};
 ghost use Rattle.frz_graph.specs.Finite.{IsFinite};
 
-use crate::entries::{Entries, fill};
+use crate::entries::Entries;
 use crate::lists::Lists;
 use crate::local_code::local_by;
 use frz_arena::Node;
@@ -62,6 +62,5 @@ pub fn local_at<G: NumberedGame<L>, E: Entries, L: Ledger>(
     ensures later { steps.old ≤ steps.new }
 {
     let node = game.nexts_by(i, lists, steps);
-    fill(side, &lists.nexts, entries, &mut lists.codes);
-    local_by(side, node, &lists.nexts, &lists.codes, &mut lists.free)
+    local_by(side, node, &lists.nexts, entries)
 }

@@ -1,11 +1,11 @@
 -- What a set keeps of its groups.
-use Rattle.std.specs.Prelude.{ℕ, suc, ◌+◌, ◌≡◌, ◌<◌, ◌≤◌, ◌/◌, ◌%◌, Bool, false, true, ◌||◌, ◌==◌, List, [], ◌∷◌, drop, length, map, slice_index, slice_index_or}
+use Rattle.std.specs.Prelude.{ℕ, suc, ◌+◌, ◌≡◌, ◌<◌, ◌≤◌, Bool, false, true, ◌||◌, ◌==◌, List, [], ◌∷◌, drop, length, map, slice_index}
 use Rattle.frz_combinations.specs.MixedRadix.{product}
 use Rattle.frz_sets.specs.Views.{GroupLine}
 use Rattle.frz_sets.specs.Sound.{AreCounted, AreStates}
 use Rattle.frz_sets.specs.declared.limits.TheConstants.{MOST_GROUPS, MOST_NUMBERS, MOST_STATES}
 use Rattle.frz_index.specs.declared.plan.Plan.{Plan}
-use Rattle.frz_index.specs.declared.plan.TheConstants.{CELLS}
+use Rattle.frz_squares.specs.SquareSets.{set_of}
 use Rattle.frz_index.specs.Charts.{AreCharts}
 use Rattle.frz_index.specs.Shares.{AreShares}
 use Rattle.frz_sets.specs.Sets.{has_state, is_state, radix_of, size_of, targets}
@@ -29,11 +29,10 @@ pub record AreWeights (gs : List GroupLine) (ws : List ℕ) : Type 0 where
 abbrev pub is_known : List GroupLine → ℕ → ℕ → Bool
 is_known gs cell s = cell == 0 || has_state gs cell s
 
--- of each cell on each square, whether it is known
-pub record AreKnown (gs : List GroupLine) (known_cells : List Bool) : Type 0 where
-  pub size : length known_cells ≡ CELLS
-  pub known : (i : ℕ) → i < CELLS → slice_index_or known_cells i false ≡ is_known gs (i / 64)
-      (i % 64)
+-- of each cell, the squares on which it is known
+pub record AreKnown (gs : List GroupLine) (words : List ℕ) : Type 0 where
+  pub size : length words ≡ 13
+  pub known : (cell : ℕ) → cell < 13 → slice_index words cell ≡ set_of (is_known gs cell)
 
 -- the group's states are in order, and no later group has one of them
 pub record IsApart (g : GroupLine) (later : List GroupLine) : Type 0 where
@@ -45,16 +44,16 @@ abbrev pub AreApart : List GroupLine → Type 0
 AreApart [] = Unit {0}
 AreApart (g ∷ gs) = IsApart g gs × AreApart gs
 
--- what is kept is right: the weights, the numbers of all groups, the targets, the known cells, the
--- charts, what each man adds on each square, and the rows of binomials up to 384; and each state is
--- of one group alone
+-- what is kept is right: the weights, the numbers of all groups, the targets, the known squares,
+-- the charts, what each man adds on each square, and the rows of binomials up to 384; and each
+-- state is of one group alone
 pub record IsPlan (plan : Plan) : Type 0 where
   pub numberable : AreNumberable plan.groups.items
   pub apart : AreApart plan.groups.items
   pub weights_are : AreWeights plan.groups.items plan.weights.items
   pub whole_is : plan.whole ≡ product_from plan.groups.items 0
   pub targets_are : plan.targets.items ≡ targets plan.groups.items
-  pub known_are : AreKnown plan.groups.items plan.known_cells.items
+  pub known_are : AreKnown plan.groups.items plan.known_squares
   pub charts_are : AreCharts plan.groups.items plan.charts.items
   pub shares_are : AreShares plan.groups.items plan.shares.items
   pub rows_are : plan.triangle ≡ MOST_STATES + 1

@@ -4,10 +4,12 @@ ghost use Rattle.std.specs.List.{AllByRecursion};
 ghost use Rattle.frz_sets.specs.Sound.{AreStates, IsSound};
 ghost use Rattle.frz_index.specs.Charts.{AreCharts};
 ghost use Rattle.frz_sets.specs.Sets.{targets};
+ghost use Rattle.frz_squares.specs.SquareSets.{set_of};
 ghost use Rattle.frz_index.specs.Kept.{AreKnown, AreNumberable, AreWeights, IsPlan, is_known, product_from as product_of};
 
 use crate::chart::{Chart, chart_of};
 use crate::shares::{Share, shares_of};
+use frz_bits::with_square;
 use frz_board::Square;
 use frz_combinations::Triangle;
 use frz_sets::{Group, MOST_STATES, Rules, has_state, is_target, radix};
@@ -23,8 +25,8 @@ pub(crate) struct Plan {
     pub whole: u32,
     /// The possible targets in order.
     pub targets: Vec<u8>,
-    /// Of each cell on each square, whether a position of the set may have it.
-    pub known_cells: Vec<bool>,
+    /// Of each cell, the squares on which a position of the set may have it.
+    pub known_squares: [u64; 13],
     pub charts: Vec<Chart>,
     /// Of each cell on each square, what its man adds to a number there, where that is known.
     pub shares: Vec<Option<Share>>,
@@ -62,15 +64,26 @@ fn known(groups: &[Group], cell: u8, square: u8) -> bool
     cell == 0 || has_state(groups, cell, Square::at(square))
 }
 
-/// Of each cell on each square, whether a position of the set may have it.
-fn known_cells_of(alloc: Global, groups: &[Group]) -> Result<Vec<bool>, AllocError>
-    ensures { IfOk result (λ v. AreKnown groups.now v.items) }
+/// The squares on which a position of the set may have the cell.
+fn known_on(groups: &[Group], cell: u8) -> u64
+    ensures { result ≡ set_of (is_known groups.now cell) }
 {
-    let mut known_cells = Vec::new(alloc);
-    for i in 0..CELLS {
-        known_cells.push(known(groups, (i / 64) as u8, (i % 64) as u8))?;
+    let mut word = 0;
+    for square in 0..64 {
+        word = with_square(word, Square::at(square), known(groups, cell, square));
     }
-    Ok(known_cells)
+    word
+}
+
+/// Of each cell, the squares on which a position of the set may have it.
+fn known_squares_of(groups: &[Group]) -> [u64; 13]
+    ensures { AreKnown groups.now result }
+{
+    let mut words = [0; 13];
+    for cell in 0..13 {
+        words[cell as usize] = known_on(groups, cell);
+    }
+    words
 }
 
 /// How many numbers the groups from the one at `from` on have.
@@ -131,7 +144,7 @@ pub(crate) fn plan_of(alloc: Global, r: &Rules) -> Result<Plan, AllocError>
     let weights = weights_of(alloc, &groups)?;
     let whole = product_from(&groups, 0);
     let targets = targets_of(alloc, &groups)?;
-    let known_cells = known_cells_of(alloc, &groups)?;
+    let known_squares = known_squares_of(&groups);
     let charts = charts_of(alloc, &groups)?;
     let shares = shares_of(alloc, &groups, &charts, &weights)?;
     Ok(Plan {
@@ -139,7 +152,7 @@ pub(crate) fn plan_of(alloc: Global, r: &Rules) -> Result<Plan, AllocError>
         weights,
         whole,
         targets,
-        known_cells,
+        known_squares,
         charts,
         shares,
         triangle,

@@ -1,6 +1,7 @@
 //! The set of positions that the groups of some rules describe.
 ghost use Rattle.std.specs.Prelude.{◌≡◌, ◌↔◌, ◌<◌, ◌≤◌, IfOk, IfSome, IsNone, IsSome, MatchOption, None, Some, ◌/◌, false, map, true};
 ghost use Rattle.frz_board.specs.Boards.{Board, is_empty, man_on};
+ghost use Rattle.frz_board.specs.Men.{cell_of_man};
 ghost use Rattle.frz_board.specs.declared.man.Colour.TheVariants.{White};
 ghost use Rattle.frz_board.specs.declared.man.Man.{Man};
 ghost use Rattle.frz_combinations.specs.MixedRadix.{product};
@@ -8,6 +9,7 @@ ghost use Rattle.frz_fide.specs.Legal.{after, is_legal};
 ghost use Rattle.frz_fide.specs.Valid.{IsValid};
 ghost use Rattle.frz_sets.specs.Sets.{radix_of, size_of, targets};
 ghost use Rattle.frz_sets.specs.Sound.{IsSound};
+ghost use Rattle.frz_squares.specs.SquareSets.{set_of};
 ghost use Rattle.frz_sets.specs.declared.limits.TheConstants.{MOST_NUMBERS};
 ghost use Rattle.frz_index.specs.Members.{Broken, HasNumber, Member, Num};
 ghost use Rattle.frz_index.specs.Partners.{with_black};
@@ -27,7 +29,7 @@ use crate::plan::{Plan, plan_of};
 use crate::quotient::{left_over, quotient};
 use crate::room::any_takes_one_more;
 use crate::turn::{turn_at, turn_number};
-use frz_bits::{Bitboards, without};
+use frz_bits::{Bitboards, contains, without};
 use frz_board::{Colour, Man, Move, NoMemory, Position, Square, cell_of};
 use frz_fide::valid_boards;
 use frz_sets::Rules;
@@ -144,7 +146,14 @@ impl Set {
         requires { cell ≤ 12 }
         ensures { result ≡ is_known self.now cell s }
     {
-        self.plan.known_cells[cell as usize * 64 + s.number() as usize]
+        contains(self.plan.known_squares[cell as usize], s)
+    }
+
+    /// The squares on which the man may stand in a position of the set.
+    pub fn known_squares(&self, man: Man) -> u64
+        ensures { result ≡ set_of (is_known self.now (cell_of_man man)) }
+    {
+        self.plan.known_squares[cell_of(man) as usize]
     }
 
     /// Has a group that has this man on the square as a state fewer than its most men on the board?

@@ -16,7 +16,7 @@ use crate::due::{Due, what_is_due};
 use crate::reading::read_codes;
 use frz_board::Colour;
 use frz_graph::laws::within;
-use frz_graph::{Lists, NumberedGame, local_by};
+use frz_graph::{Lists, NumberedGame, local};
 use frz_steps::Steps;
 use frz_store::{Store, StoreFault};
 use frz_table::TableFile;
@@ -63,6 +63,6 @@ pub fn sight<G: NumberedGame<L>, S: Store, L: Ledger>(
     within();
     let node = game.nexts_by(number, lists, steps);
     read_codes(table, store, side, &lists.nexts, &mut lists.codes)?;
-    let given = local_by(side, node, &lists.nexts, &lists.codes, &mut lists.free);
+    let given = local(side, node, &lists.nexts, &lists.codes);
     Ok(what_is_due(node, kept, given, is_start, is_late))
 }

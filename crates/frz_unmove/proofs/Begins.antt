@@ -1,12 +1,12 @@
 -- Where a man may have come from, and as what.
-use Rattle.std.proofs.Common.{length, ◌≡◌, ℕ, ◌<◌, List, refl, ap, sym, ◌∙◌, subst, Bool, true, false, ◌&&◌, Option, None, Some, ◌⊎◌}
+use Rattle.std.proofs.Common.{length, ◌≡◌, ℕ, ◌<◌, List, refl, ap, sym, ◌∙◌, subst, Bool, true, ◌&&◌, Option, None, Some, ◌⊎◌}
 use Rattle.frz_fide.proofs.Lemmas.{same_parts}
 use Rattle.frz_board.specs.declared.man.Kind.{Kind}
 use Rattle.frz_board.specs.declared.man.Man.{Man}
 use Rattle.frz_board.specs.Boards.{Board, man_on, is_empty}
 use Rattle.frz_board.specs.Men.{cell_of_man, other_of}
 use Rattle.frz_board.specs.Moving.{is_promotion}
-use Rattle.std.proofs.lemmas.Bool.{and_from, and_left}
+use Rattle.std.proofs.lemmas.Bool.{and_from}
 use Rattle.frz_index.specs.Kept.{is_known}
 use Rattle.frz_index.specs.Room.{has_room}
 use Rattle.frz_bits.proofs.Lemmas.{in_set}
@@ -81,10 +81,6 @@ in_room gs q b promo x h man word kept size e ways room =
 -- one of the squares on which the set knows the man
 abbrev pub known_on : List GroupLine → Man → ℕ → ℕ → Bool
 known_on gs man squares a = has_square squares a && is_known gs (cell_of_man man) a
-
-pub known_in : (gs : List GroupLine) (man : Man) (squares k : ℕ) → k < 64 →
-    has_square squares k ≡ false → known_on gs man squares k ≡ false
-known_in gs man squares k l h = and_left (has_square squares k) (is_known gs (cell_of_man man) k) h
 
 pub in_known : (gs : List GroupLine) (q : Board) (b : ℕ) (promo : Option Kind) (x : Pred) →
     ComesAs gs q b promo x → (man : Man) (word kept : ℕ) →

@@ -10,8 +10,8 @@ ghost use Rattle.frz_index.specs.Room.{has_room};
 ghost use Rattle.frz_unmove.specs.Earlier.{mover_cell};
 ghost use Rattle.frz_unmove.specs.Gathering.{HasOrigins};
 
-use frz_bits::{Bitboards, move_set, next_square, replaced, with_square, without};
-use frz_board::{Kind, Man, Square, cell_of};
+use frz_bits::{Bitboards, both, move_set, next_square, replaced, without};
+use frz_board::{Kind, Man, Square};
 use frz_index::Set;
 
 /// The empty squares that an opponent's man of this kind goes to from here on some board: a man
@@ -47,13 +47,7 @@ fn with_known(set: &Set, man: Man, squares: u64) -> u64
     ensures { result ≡
         set_of (λ a. has_square squares a && is_known set.now (cell_of_man man) a) }
 {
-    let mut word = 0;
-    let mut n = 0;
-    while let Some(s) = next_square(squares, n) {
-        word = with_square(word, s, set.knows(cell_of(man), s));
-        n = s.number() + 1;
-    }
-    word
+    both(squares, set.known_squares(man))
 }
 
 /// The squares from which this man may have come to the square. Where it promoted, it counts as a

@@ -1,12 +1,12 @@
 //! Codes of exits and of moves, worked by hand.
-ghost use Rattle.std.specs.Prelude.{◌≡◌, length};
+ghost use Rattle.std.specs.Prelude.{◌≡◌};
+ghost use Rattle.frz_arena.specs.declared.arm.Next.TheVariants.{Inside};
 
 use frz_arena::Node;
-use frz_board::Colour::{self, Black, White};
+use frz_board::Colour::{Black, White};
 use frz_board::{Move, Square};
-use frz_graph::{Arm, CodeList, Next, NextList, Pair, exit_code, fill, local};
+use frz_graph::{Arm, CodeList, Next, NextList, Pair, exit_code, local, local_by};
 use frz_sets::Value;
-use std::process::Abort;
 
 #[test]
 fn exits_have_codes(rt: HostRuntime) {
@@ -18,38 +18,53 @@ fn exits_have_codes(rt: HostRuntime) {
     assert_eq!(rt; codes, [16, 3, 1]);
 }
 
-/// A code, and the local code that follows from it where White is to move.
-type Row = (u32, u64);
-
-/// The one move has this code, and its number this local code.
-fn check_side(rt: &impl Abort, side: Colour, list: &NextList, codes: &CodeList, row: Row)
-    requires { length list.now.items ≡ length codes.now.items }
+/// A move that stays inside, to this number.
+fn arm(free: bool, number: u32) -> Arm
+    ensures { result.next ≡ Inside number }
 {
-    let (code, local_code) = row;
-    assert!(rt; codes.as_slice() == [code].as_slice());
-    assert_eq!(rt; local(side, Node::Going(White), list, codes), local_code);
-}
-
-#[test]
-fn moves_have_codes(rt: HostRuntime) {
     let mv = Move {
         from: Square::at(0),
         to: Square::at(1),
         promo: None,
     };
-    let mut list = NextList::new();
-    list.push(Arm {
+    Arm {
         mv,
-        free: true,
-        next: Next::Inside(1),
-    });
+        free,
+        next: Next::Inside(number),
+    }
+}
+
+#[test]
+fn numbers_have_local_codes(rt: HostRuntime) {
+    let mut list = NextList::new();
+    list.push(arm(false, 0));
+    list.push(arm(true, 1));
     let pair = Pair {
         white: &[4, 6],
         black: &[5, 7],
     };
+    let codes = [
+        local_by(White, Node::Going(White), &list, &pair),
+        local_by(Black, Node::Going(White), &list, &pair),
+        local_by(White, Node::Going(Black), &list, &pair),
+        local_by(Black, Node::Going(Black), &list, &pair),
+        local_by(White, Node::Mate(Black), &list, &pair),
+    ];
+    assert_eq!(rt; codes, [8, 7, 8, 9, 2]);
+}
+
+#[test]
+fn codes_that_were_read_give_local_codes(rt: HostRuntime) {
+    let mut list = NextList::new();
+    list.push(arm(false, 0));
+    list.push(arm(true, 1));
     let mut codes = CodeList::new();
-    fill(White, &list, &pair, &mut codes);
-    check_side(&rt, White, &list, &codes, (6, 8));
-    fill(Black, &list, &pair, &mut codes);
-    check_side(&rt, Black, &list, &codes, (7, 9));
+    codes.push(7);
+    codes.push(4);
+    let given = [
+        local(White, Node::Going(White), &list, &codes),
+        local(White, Node::Going(Black), &list, &codes),
+        local(White, Node::Stalemate(White), &list, &codes),
+    ];
+    assert_eq!(rt; given, [6, 9, 1]);
 }

@@ -8,7 +8,7 @@ use Rattle.frz_arena.specs.Codes.{is_win, is_failure}
 use Rattle.frz_arena.specs.LocalCodes.{least, greatest, chosen_code}
 use Rattle.frz_arena.proofs.Lists.Members.{none_in_empty, first_in, later_in, in_cases}
 
-cases_le : (a b : ℕ) → (min a b ≡ a) ⊎ (min a b ≡ b)
+pub cases_le : (a b : ℕ) → (min a b ≡ a) ⊎ (min a b ≡ b)
 cases_le a b = elim (cases_lt a b) [ inl h ↦ inl (omega arith) | inr h ↦ inr (omega arith) ]
 
 cases_max : (a b : ℕ) → (max a b ≡ a) ⊎ (max a b ≡ b)

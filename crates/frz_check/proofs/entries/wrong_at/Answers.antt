@@ -21,7 +21,7 @@ returns-in-Some-clause-checked g c =
     (code_of_number arena White (codes White) c.args.number c.nexts_by-node.result
     c.nexts_by-node.new.lists.nexts.items c.nexts_by-node.ensures.node c.nexts_by-node.ensures.arms
     (c.filled.ensures arena finite.class finite.lag White (codes White) c.args.number))
-    c.in-Some.ensures.compared (λ black. absurd (cc))
+    c.in-Some.ensures (λ black. absurd (cc))
 
 pub returns-clause-checked : goal.returns-clause-checked
 returns-clause-checked g c =
@@ -34,7 +34,6 @@ returns-clause-checked g c =
     (c.filled.ensures arena finite.class finite.lag White (codes White) c.args.number) in
     checked_there arena codes c.args.number _ c.compare-2.result
     (code_of_number arena Black (codes Black) c.args.number c.nexts_by-node.result
-    c.compare.new.lists.nexts.items c.nexts_by-node.ensures.node
-    (c.compare.ensures.moves ∙ c.nexts_by-node.ensures.arms)
+    c.nexts_by-node.new.lists.nexts.items c.nexts_by-node.ensures.node c.nexts_by-node.ensures.arms
     (c.filled.ensures arena finite.class finite.lag Black (codes Black) c.args.number))
-    ((rw c.in_default.is at c.compare.ensures.compared) ∙ white) c.compare-2.ensures.compared
+    ((rw c.in_default.is at c.compare.ensures) ∙ white) c.compare-2.ensures

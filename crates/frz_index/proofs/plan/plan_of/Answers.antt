@@ -34,9 +34,8 @@ returns c =
         whole_is = c.product_from-whole.ensures
             ∙ ap (λ gs. product_from gs 0) c.deref-3.ensures.value;
         targets_are = c.in_ok-targets.ensures ∙ ap targets c.deref-4.ensures.value;
-        known_are = subst (λ (gs : List GroupLine).
-            AreKnown gs c.in_ok-known_cells.known_cells.items) c.deref-5.ensures.value
-            c.in_ok-known_cells.ensures;
+        known_are = subst (λ (gs : List GroupLine). AreKnown gs c.known_squares_of-known_squares.result)
+            c.deref-5.ensures.value c.known_squares_of-known_squares.ensures;
         charts_are = subst (λ (gs : List GroupLine). AreCharts gs c.in_ok-charts.charts.items)
             c.deref-6.ensures.value c.in_ok-charts.ensures;
         shares_are = subst (λ (gs : List GroupLine). AreShares gs c.in_ok-shares.shares.items)
