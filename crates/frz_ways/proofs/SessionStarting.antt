@@ -1,0 +1,181 @@
+-- A session from the number of a position.
+use Rattle.std.proofs.Common.{◌≡◌, ◌<◌, ◌^◌, ℕ, suc, inl, List, [], Option, IfSome, Result, Ok, Err, refl, sym, subst, ap, ◌∙◌}
+use Rattle.std.specs.Prelude.{slice_index}
+use Rattle.std.specs.Result.{IsErrAnd}
+use Rattle.frz_board.specs.declared.man.Colour.{Colour}
+use Rattle.frz_board.specs.Boards.{Board}
+use Rattle.frz_sets.specs.Views.{RuleLines}
+use Rattle.frz_store.specs.Told.{SourceTold, SinkTold}
+use Rattle.frz_store.specs.declared.outside.StoreFault.{StoreFault}
+use Rattle.frz_store.specs.declared.outside.StoreFault.TheVariants.{Failed, NoMemory}
+use Rattle.frz_answer.specs.Answers.{IsLines}
+use Rattle.frz_answer.specs.World.{Spent}
+use Rattle.frz_arena.specs.declared.arm.Next.TheVariants.{Inside}
+use Rattle.frz_answer.proofs.Lemmas.{took_nothing}
+use Rattle.frz_exits.specs.Books.{value_by}
+use Rattle.frz_game.specs.Games.{graph_by}
+use Rattle.frz_index.specs.Members.{Member, Num}
+use Rattle.frz_ways.specs.Faults.{fault_of}
+use Rattle.frz_ways.specs.Costs.{way_numbers, Spends, SpendsAt}
+use Rattle.frz_ways.proofs.Lemmas.{any_read, from_start, from_start_may, read_alone, read_first, start_read}
+use Rattle.frz_ways.specs.Kept.{MayRead}
+use Rattle.frz_ways.specs.declared.end.LineFault.TheVariants as faults
+use Rattle.frz_ways.specs.declared.session_end.SessionEnd.{SessionEnd}
+use Rattle.frz_ways.specs.declared.session_end.PlayFault.{PlayFault}
+use Rattle.frz_ways.specs.declared.session_end.PlayFault.TheVariants as plays
+use Rattle.frz_ways.specs.SessionFaults.{WroteBy, TookBytes, MayHold}
+use Rattle.frz_ways.specs.PlaySession.{PlayedOf, TellsSession}
+use Rattle.frz_ways.specs.Reading.{opened}
+use Rattle.frz_ways.specs.Sessions.{GoesOn}
+use Rattle.frz_ways.specs.SessionTexts.{session_text, start_line, plies_text}
+use Rattle.frz_ways.specs.SessionTurns.{Plays}
+use Rattle.frz_ways.proofs.Faulted.{IsStoreFault, short_of, short_text}
+use Rattle.frz_ways.proofs.SessionGoings.{way_front}
+use Rattle.frz_ways.proofs.Taking.{took_none, some_rest}
+use Rattle.frz_ways.proofs.Written.{store_fault}
+
+-- what was written and taken of the session
+abbrev pub WroteSession : Option (List ℕ) → (size : ℕ) → RuleLines → Colour → Board
+    → Result SessionEnd PlayFault
+    → (source left : SourceTold) → (out taken : SinkTold) → (before now : Spent) → Type 0
+WroteSession told size rules side p result source left out taken before now =
+    (text bytes : List ℕ) × IsLines text × WroteBy result text out taken
+    × TookBytes bytes source left
+    × ((read : ℕ → List ℕ) × ((k : ℕ) → MayRead told size (read k))
+    × ((codes : ℕ → List ℕ) → ((k : ℕ) → codes k ≡ read k) → (whole : List ℕ)
+    × MayHold source whole
+    × TellsSession rules side codes p whole bytes text result before now))
+
+-- a position that is not in the set
+pub nothing_told : (told : Option (List ℕ)) (size : ℕ) (rules : RuleLines) (side : Colour)
+    (p : Board)
+    (source : SourceTold) (out : SinkTold) (before : Spent) → (Member rules.groups p → ⊥)
+    → WroteSession told size rules side p (Err (plays.Line faults.Outside)) source source out out
+    before
+    before
+nothing_told told size rules side p source out before none =
+    let r = some_rest source ⊥ (λ e. absurd e) in (
+      [],
+      [],
+      inl refl,
+      took_nothing out,
+      took_none source source refl,
+      (
+        λ k. (any_read told size).0,
+        λ k. (any_read told size).1,
+        λ codes same. (r.0, r.1, λ member plies end last w. absurd (none member)),
+      ),
+    )
+
+unread : (told : Option (List ℕ)) (size : ℕ) (rules : RuleLines) (side : Colour) (p : Board)
+    (source : SourceTold) (out : SinkTold) (before now : Spent) → Spends 1 0 before now
+    → (fault : PlayFault) → IsStoreFault fault → WroteBy {T = SessionEnd} (Err fault) [] out out
+    → WroteSession told size rules side p (Err fault) source source out out before now
+unread told size rules side p source out before now few fault is wrote =
+    let r = some_rest source ⊥ (λ e. absurd e) in (
+      [],
+      [],
+      inl refl,
+      wrote,
+      took_none source source refl,
+      (
+        λ k. (any_read told size).0,
+        λ k. (any_read told size).1,
+        λ codes same. (
+          r.0,
+          r.1,
+          λ member plies end last w.
+              let front = way_front (graph_by rules (value_by rules)) side codes 0
+              (opened r.0) last
+              (0, Num rules.groups p) plies end w in
+              let code = slice_index (codes 0) (Num rules.groups p) in (
+                record {
+                  rest = session_text side code plies end;
+                  unread = front.0;
+                  begins = refl;
+                  takes = front.1;
+                  finishes = short_of fault side end (session_text side code plies end) front.0 is
+                      (short_text side end (start_line side code plies end)
+                      (plies_text side plies));
+                },
+                read_alone (graph_by rules (value_by rules))
+                    (way_numbers (Inside (0, Num rules.groups p)) plies) before now few,
+              ),
+        ),
+      ),
+    )
+
+store_wrote : (fault : StoreFault) (out : SinkTold)
+    → WroteBy {T = SessionEnd} (Err (plays.Line (fault_of fault))) [] out out
+store_wrote Failed out = took_nothing out
+store_wrote NoMemory out = took_nothing out
+
+-- the code of the start was not read
+pub start_unread : (told : Option (List ℕ)) (size : ℕ) (rules : RuleLines) (side : Colour)
+    (p : Board)
+    (source : SourceTold) (out : SinkTold) {before now : Spent} → Spends 1 0 before now
+    → (fault : StoreFault) (result : Result SessionEnd PlayFault)
+    → IsErrAnd result (λ e. e ≡ plays.Line (fault_of fault))
+    → WroteSession told size rules side p result source source out out before now
+start_unread told size rules side p source out few fault (Ok end) h = absurd h
+start_unread told size rules side p source out {before} {now} few fault (Err f) h =
+    subst (λ (z : PlayFault). WroteSession told size rules side p (Err z) source source out out
+    before
+    now) (sym h)
+    (unread told size rules side p source out before now few (plays.Line (fault_of fault))
+    (store_fault fault) (store_wrote fault out))
+
+tells : (rules : RuleLines) (side : Colour) (codes : ℕ → List ℕ) (p : Board) (source : SourceTold)
+    (bytes text : List ℕ) (result : Result SessionEnd PlayFault) (before mid now : Spent)
+    (start code : ℕ) → start ≡ Num rules.groups p → Spends 1 0 before mid
+    → slice_index (codes 0) start ≡ code
+    → Plays (graph_by rules (value_by rules)) side codes start code
+    source bytes text result mid now → (whole : List ℕ) × MayHold source whole
+    × TellsSession rules side codes p whole bytes text result before now
+tells rules side codes p source bytes text result before mid now start code is few agrees plays = (
+  plays.0,
+  plays.1,
+  λ member plies end last w.
+      let h = plays.2 agrees plies end last
+      (subst (λ i. GoesOn (graph_by rules (value_by rules)) side codes 0 (opened plays.0) i
+      plies end last) (sym is) w) in
+      let same : code ≡ slice_index (codes 0) (Num rules.groups p) = sym agrees
+      ∙ ap (slice_index (codes 0)) is in
+      let at_it = subst (λ i. SpendsAt (graph_by rules (value_by rules)) 0
+      (way_numbers (Inside (0, i)) plies) mid now) is h.1 in (
+        subst (λ c. PlayedOf side c plays.0 bytes text result plies end last) same h.0,
+        read_first (graph_by rules (value_by rules))
+            (way_numbers (Inside (0, Num rules.groups p)) plies) before mid now few at_it,
+      ),
+)
+
+pub session_told : (told : Option (List ℕ)) (size : ℕ) (rules : RuleLines) (side : Colour)
+    (p : Board) (result : Result SessionEnd PlayFault) (source left : SourceTold)
+    (out taken : SinkTold)
+    {before mid : Spent} (now : Spent) (start code : ℕ) → start ≡ Num rules.groups p
+    → Spends 1 0 before mid → start < size → code < 2 ^ 32
+    → IfSome told (λ codes. slice_index codes start ≡ code)
+    → (text bytes : List ℕ) → IsLines text
+    → WroteBy result text out taken → TookBytes bytes source left
+    → (read : ℕ → List ℕ) → ((k : ℕ) → MayRead told size (read k))
+    → ((codes : ℕ → List ℕ) → ((k : ℕ) → codes (suc k) ≡ read k)
+    → Plays (graph_by rules (value_by rules)) side codes start code source
+    bytes text result mid now) → WroteSession told size rules side p result source left out taken
+    before now
+session_told told size rules side p result source left out taken {before} {mid} now start code is
+    few inside small agrees text bytes lines wrote took read may plays =
+    let first = start_read told size start code inside small agrees in
+    let all = from_start first.0 read in (
+      text,
+      bytes,
+      lines,
+      wrote,
+      took,
+      (
+        all,
+        from_start_may told size first.0 read first.1 may,
+        λ codes same. tells rules side codes p source bytes text result before mid now start code is
+            few (ap (λ (l : List ℕ). slice_index l start) (same 0) ∙ first.2)
+            (plays codes (λ k. same (suc k))),
+      ),
+    )

@@ -1,0 +1,345 @@
+-- What a turn of a session leaves: its text, its bytes, and how the session goes on.
+use Rattle.std.proofs.Common.{◌≡◌, ◌==◌, ◌++◌, ℕ, suc, inl, inr, true, false, List, [], ◌∷◌, Some, map, refl, sym, subst, ap, ◌∙◌, get_or, Result, Ok, Err, append_assoc, append-nil}
+use Rattle.std.specs.Prelude.{slice_get, slice_index, codes}
+use Rattle.std.proofs.lemmas.Bool.{and_right}
+use Rattle.std.proofs.lemmas.Option.{slice_get-map}
+use Rattle.frz_board.specs.declared.man.Colour.{Colour}
+use Rattle.frz_board.specs.Men.{same_colour}
+use Rattle.frz_board.specs.Moving.{Step}
+use Rattle.frz_sets.specs.declared.exit.Value.{Value}
+use Rattle.frz_store.specs.Told.{SourceTold, SinkTold}
+use Rattle.frz_arena.specs.declared.arm.Arm.{Arm}
+use Rattle.frz_arena.specs.declared.arm.Next.{Next}
+use Rattle.frz_arena.specs.declared.arm.Next.TheVariants.{Inside, Outside}
+use Rattle.frz_arena.specs.declared.choice.Choice.{Choice}
+use Rattle.frz_arena.specs.Arena.{Arena}
+use Rattle.frz_arena.specs.Chosen.{IsFound}
+use Rattle.frz_arena.specs.Choices.{has_code}
+use Rattle.frz_arena.specs.Codes.{is_win}
+use Rattle.frz_arena.specs.Counted.{after, counted}
+use Rattle.frz_arena.specs.Inputs.{Reply, Stop}
+use Rattle.frz_arena.specs.LocalCodes.{node_code}
+use Rattle.frz_arena.specs.Names.{named, named_next}
+use Rattle.frz_arena.specs.Plies.{LeadsTo}
+use Rattle.frz_arena.specs.WayEnds.{Exit, Stopped}
+use Rattle.frz_arena.specs.Ways.{Stage, Over as OverWay, Moves, stage, IsWay}
+use Rattle.frz_graph.specs.EntryCodes.{arm_code}
+use Rattle.frz_graph.specs.Finite.{IsFinite}
+use Rattle.frz_graph.specs.FreeCodes.{free_among}
+use Rattle.frz_ways.specs.declared.due.Due.{Due}
+use Rattle.frz_ways.specs.declared.end.LineFault.TheVariants as faults
+use Rattle.frz_ways.specs.Dues.{due_by}
+use Rattle.frz_ways.specs.Sights.{choices_by}
+use Rattle.frz_ways.specs.Texts.{exit_line, move_line, next_line}
+use Rattle.frz_ways.proofs.Lemmas.{AsksForOne, FillsLocal, arm_found, known, local_code_of, stage_told, stage_due}
+use Rattle.frz_ways.specs.declared.session_end.SessionEnd.{SessionEnd}
+use Rattle.frz_ways.specs.declared.session_end.SessionEnd.TheVariants as ends
+use Rattle.frz_ways.specs.declared.session_end.PlayFault.{PlayFault}
+use Rattle.frz_ways.specs.declared.session_end.PlayFault.TheVariants as plays
+use Rattle.frz_ways.specs.declared.hearing.Heard.TheVariants as heard
+use Rattle.frz_ways.specs.declared.hearing.Reader.{Reader}
+use Rattle.frz_ways.specs.declared.hearing.Why.{Why}
+use Rattle.frz_ways.specs.declared.session_playing.Spot.{Spot}
+use Rattle.frz_ways.specs.declared.session_playing.Turn.{Turn}
+use Rattle.frz_ways.specs.declared.session_playing.Turn.TheVariants.{Over}
+use Rattle.frz_ways.specs.SessionEnds.{Finishes}
+use Rattle.frz_ways.specs.Hearing.{EndsWith, MayFollow, Hears}
+use Rattle.frz_ways.specs.Reading.{Input, Halt, reads}
+use Rattle.frz_ways.specs.Sessions.{SessionPly, EndOfSession, session_player, GoesOn}
+use Rattle.frz_ways.specs.SessionTexts.{refused_text, ply_text, plies_text, why_line, end_text}
+use Rattle.frz_ways.specs.SessionTurns.{moved_text, turn_of, Answers, Leaves}
+use Rattle.frz_ways.proofs.OtherStands.{code_inside}
+use Rattle.frz_ways.proofs.SessionGoings.{over_here, moves_own, stops_here, replies_here, leads_front, way_front}
+
+-- what is due at the spot, in the session's words
+abbrev pub Stands : Arena Step ℕ Value → Colour → (ℕ → List ℕ) → (played : ℕ) → Spot
+    → Stage (ℕ × ℕ) Value Halt → Type 0
+Stands arena side kept played spot x =
+    slice_index (kept played) spot.number ≡ spot.code → (played == 0) ≡ spot.is_start →
+    stage (session_player arena side kept) played (played, spot.number) ≡ x
+
+pub session_stage : FillsLocal → (arena : Arena Step ℕ Value) (size : ℕ) → IsFinite arena size
+    → (side : Colour) (spot : Spot) (arms : List (Arm Step ℕ Value)) (cs : List ℕ)
+    (kept : ℕ → List ℕ) (played : ℕ)
+    → arms ≡ arena.arms spot.number → cs ≡ map (arm_code side (kept (suc played))) arms
+    → (due : Due)
+    → due ≡ due_by spot.is_start false spot.code
+    (node_code side (arena.node spot.number) (free_among arms cs) cs) (arena.node spot.number)
+    → Stands arena side kept played spot (stage_told (played, spot.number) spot.code due)
+session_stage fills arena size finite side spot arms cs kept played are same due e = λ agrees start.
+    let local =
+    local_code_of fills arena size finite side kept played spot.number arms cs are same in
+    stage_due (session_player arena side kept) played (played, spot.number) spot.code
+    (node_code side (arena.node spot.number) (free_among arms cs) cs) spot.is_start false agrees
+    (sym local) start (sym (and_right (spot.code == 1) false refl))
+    ∙ ap (stage_told (played, spot.number) spot.code) (sym e)
+
+-- the text and the bytes are what the turn adds to each session
+-- from here, but for the line of the start
+abbrev pub TailBy : Arena Step ℕ Value → Colour → (ℕ → List ℕ) → (played : ℕ) → Spot
+    → (old new : Reader)
+    → (bytes text : List ℕ) → Result Turn PlayFault → Type 0
+TailBy arena side kept played spot old new bytes text result =
+    slice_index (kept played) spot.number ≡ spot.code → (played == 0) ≡ spot.is_start →
+    (left : List ℕ) → MayFollow new left →
+    (plies : List SessionPly) (end : EndOfSession) (last : Input) →
+    GoesOn arena side kept played (record { left = bytes ++ left; more = old.more }) spot.number
+    plies end last →
+    (rest : List ℕ) × (text ++ rest ≡ plies_text side plies ++ end_text end)
+    × Leaves arena side kept played (record { left = left; more = new.more }) plies end last rest
+    result
+
+-- the turn of a session that is over
+abbrev pub turn_over : Result SessionEnd PlayFault → Result Turn PlayFault
+turn_over (Ok answer) = Ok (Over answer)
+turn_over (Err fault) = Err fault
+
+pub leaves_over : (arena : Arena Step ℕ Value) (side : Colour) (kept : ℕ → List ℕ) (played : ℕ)
+    (left : Input) (plies : List SessionPly) (end : EndOfSession) (last : Input) (rest : List ℕ)
+    (answer : Result SessionEnd PlayFault) (unread : List ℕ) → unread ++ last.left ≡ left.left
+    → Finishes answer side end rest unread → Leaves arena side kept played left plies end last rest
+    (turn_over answer)
+leaves_over arena side kept played left plies end last rest (Ok answer) unread e f = (unread, e, f)
+leaves_over arena side kept played left plies end last rest (Err fault) unread e f = (unread, e, f)
+
+-- a session that is over here
+pub over_tail : (arena : Arena Step ℕ Value) (side : Colour) (kept : ℕ → List ℕ) (played : ℕ)
+    (spot : Spot)
+    (reader : Reader) (text : List ℕ) (f : EndOfSession) (answer : Result SessionEnd PlayFault)
+    → Stands arena side kept played spot (OverWay f) → text ≡ end_text f
+    → Finishes answer side f [] []
+    → TailBy arena side kept played spot reader reader [] text (turn_over answer)
+over_tail arena side kept played spot reader text f answer stands is finishes =
+    λ agrees start left may plies end last w.
+    let here : Input = record { left = left; more = reader.more } in
+    let o = over_here arena side kept played here last spot.number plies end f w
+    (stands agrees start) in (
+      [],
+      append-nil text ∙ (is
+          ∙ (ap end_text (sym o.1)
+          ∙ ap (λ (ys : List SessionPly). plies_text side ys ++ end_text end) (sym o.0))),
+      leaves_over arena side kept played here plies end last [] answer []
+          (ap (λ (z : Input). z.left) o.2)
+          (subst (λ (z : EndOfSession). Finishes answer side z [] []) (sym o.1) finishes),
+    )
+
+joined : (first move plies last : List ℕ)
+    → (first ++ (move ++ [])) ++ (plies ++ last) ≡ ((first ++ move) ++ plies) ++ last
+joined first move plies last = simp (append_assoc, append-nil)
+
+joined_exit : (first move exit : List ℕ) → (first ++ (move ++ exit)) ++ [] ≡ ((first ++ move) ++ [])
+    ++ exit
+joined_exit first move exit = simp (append_assoc, append-nil)
+
+-- a ply that was played, behind this front
+pub ply_leaves : (arena : Arena Step ℕ Value) (side : Colour) (kept : ℕ → List ℕ) (played : ℕ)
+    (u last : Input) (front : List ℕ) (move : Step) (next : Next ℕ Value) (code : ℕ)
+    (first : SessionPly) (others : List SessionPly) (end : EndOfSession)
+    → ((n : ℕ) → next ≡ Inside n → slice_index (kept (suc played)) n ≡ code)
+    → ply_text side first ≡ front ++ move_line move
+    → first.arm.next ≡ named_next (after (suc played)) next
+    → LeadsTo (λ p. IsWay (session_player arena side kept) (suc played) u p others end last)
+    (λ v. (others ≡ []) × (end ≡ Exit v) × (last ≡ u)) (named_next (after (suc played)) next)
+    → (rest : List ℕ)
+    × ((front ++ (move_line move ++ next_line next)) ++ rest ≡ plies_text side (first ∷ others)
+    ++ end_text end) × Leaves arena side kept played u (first ∷ others) end last rest
+    (Ok (turn_of next code))
+ply_leaves arena side kept played u last front move (Inside n) code first others end is same to
+    leads =
+    let rest = plies_text side others ++ end_text end in (
+      rest,
+      joined front (move_line move) (plies_text side others) (end_text end)
+          ∙ ap (λ (l : List ℕ). (l ++ plies_text side others) ++ end_text end) (sym same),
+      (is n refl, (first, others, refl, to, leads, refl)),
+    )
+ply_leaves arena side kept played u last front move (Outside v) code first others end is same to
+    leads =
+    let none : List SessionPly = [] in
+    let out : EndOfSession = Exit v in
+    let whole : (front ++ (move_line move ++ exit_line v)) ++ [] ≡ (ply_text side first ++ [])
+    ++ exit_line v = (
+    joined_exit front (move_line move) (exit_line v) ∙ ap (λ (l : List ℕ). (l ++ []) ++ exit_line v)
+    (sym same)) in
+    subst (λ (e : EndOfSession). (rest : List ℕ)
+    × ((front ++ (move_line move ++ exit_line v)) ++ rest ≡ plies_text side (first ∷ others)
+    ++ end_text e) × Leaves arena side kept played u (first ∷ others) e last rest
+    (Ok (Over (ends.Exit v)))) (sym leads.1)
+    (subst (λ (ys : List SessionPly). (rest : List ℕ)
+    × ((front ++ (move_line move ++ exit_line v)) ++ rest ≡ plies_text side (first ∷ ys)
+    ++ end_text out) × Leaves arena side kept played u (first ∷ ys) out last rest
+    (Ok (Over (ends.Exit v)))) (sym leads.0)
+    ([], whole, ([], ap (λ (z : Input). z.left) leads.2, (refl, refl, refl))))
+
+-- the same where the sink failed, with the same text
+pub failed_leaves : (arena : Arena Step ℕ Value) (side : Colour) (kept : ℕ → List ℕ) (played : ℕ)
+    (u last : Input) (plies : List SessionPly) (end : EndOfSession) (text : List ℕ) (turn : Turn)
+    → EndsWith last.left u.left → (rest : List ℕ)
+    × (text ++ rest ≡ plies_text side plies ++ end_text end)
+    × Leaves arena side kept played u plies end last rest (Ok turn) → (rest : List ℕ)
+    × (text ++ rest ≡ plies_text side plies ++ end_text end)
+    × Leaves arena side kept played u plies end last rest (Err (plays.Line faults.Output))
+failed_leaves arena side kept played u last plies end text turn front h =
+    (h.0, h.1, (front.0, front.1, tt))
+
+answered_leaves : (arena : Arena Step ℕ Value) (side : Colour) (kept : ℕ → List ℕ) (played : ℕ)
+    (u last : Input) (plies : List SessionPly) (end : EndOfSession) (text written : List ℕ)
+    (turn : Turn) (result : Result Turn PlayFault) (old new : SinkTold) → EndsWith last.left u.left
+    → (rest : List ℕ) × (text ++ rest ≡ plies_text side plies ++ end_text end)
+    × Leaves arena side kept played u plies end last rest (Ok turn)
+    → Answers turn written result old new → (rest : List ℕ)
+    × (text ++ rest ≡ plies_text side plies ++ end_text end)
+    × Leaves arena side kept played u plies end last rest result
+answered_leaves arena side kept played u last plies end text written turn result old new front h
+    (inl a) =
+    subst (λ (z : Result Turn PlayFault). (rest : List ℕ)
+    × (text ++ rest ≡ plies_text side plies ++ end_text end)
+    × Leaves arena side kept played u plies end last rest z) (sym a.0) h
+answered_leaves arena side kept played u last plies end text written turn result old new front h
+    (inr a) =
+    subst (λ (z : Result Turn PlayFault). (rest : List ℕ)
+    × (text ++ rest ≡ plies_text side plies ++ end_text end)
+    × Leaves arena side kept played u plies end last rest z) (sym a.0)
+    (failed_leaves arena side kept played u last plies end text turn front h)
+
+own_text : (side mover : Colour) (x : SessionPly) (move : Step) → x.mover ≡ mover
+    → same_colour mover side ≡ true → x.arm.mv ≡ move
+    → ply_text side x ≡ codes "move " ++ move_line move
+own_text side mover x move m own is =
+    let c : same_colour x.mover side ≡ true = ap (λ z. same_colour z side) m ∙ own in
+    rw c (ap (λ (z : Step). codes "move " ++ move_line z) is)
+
+pub reply_text : (side mover : Colour) (x : SessionPly) (move : Step) (n : ℕ) → x.mover ≡ mover
+    → same_colour mover side ≡ false → x.refused ≡ n → x.arm.mv ≡ move
+    → ply_text side x ≡ (refused_text n ++ codes "reply ") ++ move_line move
+reply_text side mover x move n m own refused is =
+    let c : same_colour x.mover side ≡ false = ap (λ z. same_colour z side) m ∙ own in
+    rw c (ap (λ (z : Step). refused_text x.refused ++ (codes "reply " ++ move_line z)) is
+    ∙ (ap (λ (k : ℕ). refused_text k ++ (codes "reply " ++ move_line move)) refused
+    ∙ sym (append_assoc (refused_text n) (codes "reply ") (move_line move))))
+
+-- the own ply
+pub own_tail : AsksForOne → (arena : Arena Step ℕ Value) (size : ℕ) → IsFinite arena size
+    → (side mover : Colour) (spot : Spot) (reader : Reader) (arms : List (Arm Step ℕ Value))
+    (cs : List ℕ) (kept : ℕ → List ℕ) (played : ℕ) → same_colour mover side ≡ true
+    → arms ≡ arena.arms spot.number
+    → cs ≡ map (arm_code side (kept (suc played))) arms
+    → Stands arena side kept played spot (Moves mover)
+    → (place : ℕ) (x : Choice) (a : Arm Step ℕ Value)
+    → IsFound has_code (is_win spot.code) spot.code (choices_by true arms cs) place x
+    → slice_get arms place ≡ Some a → (result : Result Turn PlayFault) (old new : SinkTold)
+    → Answers (turn_of a.next (get_or cs place 0)) (moved_text (codes "move ") a) result old new
+    → TailBy arena side kept played spot reader reader [] (moved_text (codes "move ") a) result
+own_tail one arena size finite side mover spot reader arms cs kept played own are same stands place
+    x a
+    found there result old new answers = λ agrees start left may plies end last w.
+    let here : Input = record { left = left; more = reader.more } in
+    let g = moves_own arena side kept played here last spot.number plies end mover own w
+    (stands agrees start) in
+    let chosen =
+    (arm_found arena size finite side mover kept played spot.number spot.code arms cs are
+    same agrees place x a
+    (subst (λ b. IsFound has_code (is_win spot.code) spot.code (choices_by b arms cs) place x)
+    (sym own) found) there).chosen in
+    let turn : Arm Step ℕ Value → Arm Step (ℕ × ℕ) Value = named (after (suc played)) in
+    let arm : g.0.first.arm ≡ turn a =
+    (one (counted arena) side (known kept) mover (played, spot.number) g.0.first.place place
+    g.0.first.arm (turn a) g.1 chosen).1 in
+    let leads = subst (λ (z : Arm Step (ℕ × ℕ) Value). LeadsTo
+    (λ p. IsWay (session_player arena side kept) (suc played) here p g.0.others end last)
+    (λ v. (g.0.others ≡ []) × (end ≡ Exit v) × (last ≡ here)) z.next) arm g.0.leads in
+    let text = own_text side mover g.0.first a.mv g.0.moves own
+    (ap (λ (z : Arm Step (ℕ × ℕ) Value). z.mv) arm) in
+    subst (λ (ys : List SessionPly). (rest : List ℕ)
+    × (moved_text (codes "move ") a ++ rest ≡ plies_text side ys ++ end_text end)
+    × Leaves arena side kept played here ys end last rest result) (sym g.0.are)
+    (answered_leaves arena side kept played here last (g.0.first ∷ g.0.others) end
+    (moved_text (codes "move ") a) (moved_text (codes "move ") a)
+    (turn_of a.next (get_or cs place 0)) result old new
+    (way_front arena side kept played here last (played, spot.number) plies end w)
+    (ply_leaves arena side kept played here last (codes "move ") a.mv a.next (get_or cs place 0)
+    g.0.first g.0.others end (code_inside side (kept (suc played)) arms cs same place a there) text
+    (ap (λ (z : Arm Step (ℕ × ℕ) Value). z.next) arm) leads) answers)
+
+module _ (arena : Arena Step ℕ Value) (side mover : Colour) (kept : ℕ → List ℕ) (played : ℕ)
+    (spot : Spot)
+    (old new : Reader) (own : same_colour mover side ≡ false)
+    (stands : Stands arena side kept played spot (Moves mover)) where
+  -- the reply, behind the refused lines
+  pub reply_tail : (arms : List (Arm Step ℕ Value)) (cs : List ℕ) → arms ≡ arena.arms spot.number
+      → cs ≡ map (arm_code side (kept (suc played))) arms
+      → (source left : SourceTold) (out between taken : SinkTold) (place : ℕ)
+      → (hears : Hears arms old new (Ok (heard.Reply place)) source left out between)
+      → (a : Arm Step ℕ Value) → slice_get arms place ≡ Some a → (result : Result Turn PlayFault)
+      → Answers (turn_of a.next (get_or cs place 0)) (moved_text (codes "reply ") a) result between
+      taken → TailBy arena side kept played spot old new hears.bytes
+      (refused_text hears.refused ++ moved_text (codes "reply ") a) result
+  reply_tail arms cs are same source left out between taken place hears a there result answers =
+      λ agrees start rest_in may plies end last w.
+      let u : Input = record { left = rest_in; more = new.more } in
+      let n = hears.refused in
+      let gives : reads (arena.arms spot.number) old.more (hears.bytes ++ rest_in) ≡ Reply n place
+      u = subst (λ (z : List (Arm Step ℕ Value)). reads z old.more (hears.bytes ++ rest_in)
+      ≡ Reply n place u) are (hears.heard rest_in may) in
+      let r = replies_here arena side kept played
+      (record { left = hears.bytes ++ rest_in; more = old.more }) last u spot.number plies end
+      mover n place own w (stands agrees start) gives in
+      let r_there = r.there in
+      let a_there : slice_get (arena.arms spot.number) place ≡ Some a = subst
+      (λ (z : List (Arm Step ℕ Value)). slice_get z place ≡ Some a) are there in
+      let turn : Arm Step ℕ Value → Arm Step (ℕ × ℕ) Value = named (after (suc played)) in
+      let counts = slice_get-map turn (arena.arms spot.number) place in
+      let c_there : slice_get (map turn (arena.arms spot.number)) place ≡ Some (turn a) =
+      rw (counts, a_there) refl in
+      let arm : r.on.first.arm ≡ turn a = cc in
+      let leads = subst (λ (z : Arm Step (ℕ × ℕ) Value). LeadsTo
+      (λ p. IsWay (session_player arena side kept) (suc played) u p r.on.others end last)
+      (λ v. (r.on.others ≡ []) × (end ≡ Exit v) × (last ≡ u)) z.next) arm r.on.leads in
+      let front = refused_text n ++ codes "reply " in
+      let text = reply_text side mover r.on.first a.mv n r.on.moves own r.refused_is
+      (ap (λ (z : Arm Step (ℕ × ℕ) Value). z.mv) arm) in
+      let ends = leads_front arena side kept played u last r.on.others end
+      (λ p h. way_front arena side kept (suc played) u last p r.on.others end h) (turn a).next
+      leads in
+      let behind : front ++ (move_line a.mv ++ next_line a.next) ≡ refused_text n ++ moved_text
+      (codes "reply ") a = append_assoc (refused_text n) (codes "reply ")
+      (move_line a.mv ++ next_line a.next) in
+      subst (λ (ys : List SessionPly). (rest : List ℕ)
+      × ((refused_text n ++ moved_text (codes "reply ") a) ++ rest ≡ plies_text side ys
+      ++ end_text end) × Leaves arena side kept played u ys end last rest result) (sym r.on.are)
+      (subst (λ (t : List ℕ). (rest : List ℕ)
+      × (t ++ rest ≡ plies_text side (r.on.first ∷ r.on.others) ++ end_text end)
+      × Leaves arena side kept played u (r.on.first ∷ r.on.others) end last rest result) behind
+      (answered_leaves arena side kept played u last (r.on.first ∷ r.on.others) end
+      (front ++ (move_line a.mv ++ next_line a.next)) (moved_text (codes "reply ") a)
+      (turn_of a.next (get_or cs place 0)) result between taken ends
+      (ply_leaves arena side kept played u last front a.mv a.next (get_or cs place 0) r.on.first
+      r.on.others end (code_inside side (kept (suc played)) arms cs same place a there) text
+      (ap (λ (z : Arm Step (ℕ × ℕ) Value). z.next) arm) leads) answers))
+
+  -- the input stops, behind them
+  pub stop_tail : (arms : List (Arm Step ℕ Value)) → arms ≡ arena.arms spot.number
+      → (source left : SourceTold) (out between : SinkTold) (why : Why)
+      → (hears : Hears arms old new (Ok (heard.Stop why)) source left out between)
+      → (answer : Result SessionEnd PlayFault)
+      → Finishes answer side (Stopped (record { refused = hears.refused; why = why })) [] []
+      → TailBy arena side kept played spot old new hears.bytes
+      (refused_text hears.refused ++ why_line why)
+      (turn_over answer)
+  stop_tail arms are source left out between why hears answer finishes =
+      λ agrees start rest_in may plies end last w.
+      let u : Input = record { left = rest_in; more = new.more } in
+      let halt : Halt = record { refused = hears.refused; why = why } in
+      let gives : reads (arena.arms spot.number) old.more (hears.bytes ++ rest_in) ≡ Stop halt u =
+      subst (λ (z : List (Arm Step ℕ Value)). reads z old.more (hears.bytes ++ rest_in)
+      ≡ Stop halt u) are (hears.heard rest_in may) in
+      let o = stops_here arena side kept played
+      (record { left = hears.bytes ++ rest_in; more = old.more }) last u spot.number plies end
+      mover halt own w (stands agrees start) gives in (
+        [],
+        append-nil (refused_text hears.refused ++ why_line why)
+            ∙ (ap end_text (sym o.1)
+            ∙ ap (λ (ys : List SessionPly). plies_text side ys ++ end_text end) (sym o.0)),
+        leaves_over arena side kept played u plies end last [] answer []
+            (ap (λ (z : Input). z.left) o.2)
+            (subst (λ (z : EndOfSession). Finishes answer side z [] []) (sym o.1) finishes),
+      )

@@ -1,0 +1,31 @@
+use Rattle.std.proofs.Common.{◌≡◌, ◌≤◌, ◌<◌, ◌⊎◌, true, false}
+use Rattle.frz_store.specs.Told.{store_of, source_of, sink_of, StoreQuiet, StoreFine}
+use Rattle.frz_arena.specs.Codes.{is_failure}
+use Rattle.frz_answer.specs.World.{spent_by}
+use Rattle.frz_table.specs.Tables.{table_size}
+use Rattle.frz_ways.specs.Kept.{told_codes}
+use Rattle.frz_ways.specs.Hearing.{HasEnded}
+use Rattle.frz_ways.specs.SessionTurns.{session_left}
+use Rattle.frz_ways.proofs.SessionPlayed.{SoFar}
+use Rattle.frz_ways.proofs.session.play_from.Given as goal
+
+abbrev pub invariant-plies : goal.invariant-plies
+invariant-plies g l = record {
+  inside : l.spot.number < g.G.NumberedGame.count l.game;
+  stands : (l.spot.is_start ≡ true) ⊎ (is_failure l.spot.code ≡ false);
+  ended : l.reader.ended ≡ true → HasEnded (source_of g.I.Source l.input);
+  far : SoFar (told_codes l.table l.side (g.S.Store.files l.initial.store)) (table_size l.table)
+      (g.G.NumberedGame.arena l.game) l.side l.start l.code l.spot l.reader
+      (source_of g.I.Source l.initial.input) (source_of g.I.Source l.input)
+      (sink_of g.O.Sink l.initial.out) (sink_of g.O.Sink l.out)
+      (spent_by (store_of g.S.Store l.initial.store) l.initial.steps)
+      (spent_by (store_of g.S.Store l.store) l.steps);
+  quiet : StoreQuiet (store_of g.S.Store l.initial.store) (store_of g.S.Store l.store);
+  fine : StoreFine (store_of g.S.Store l.initial.store) (store_of g.S.Store l.store);
+  heard : g.I.Source.faults l.input ≡ g.I.Source.faults l.initial.input;
+  later : l.initial.steps ≤ l.steps;
+}
+
+abbrev pub decreases-plies : goal.decreases-plies
+decreases-plies g l =
+    session_left (g.G.NumberedGame.arena l.game) l.side l.reader.more l.spot.number
