@@ -26,7 +26,7 @@ use Rattle.frz_ways.specs.SessionFaults.{TookBytes, WroteBy}
 use Rattle.frz_ways.specs.Hearing.{HasEnded, IsOneLine, TookTooLong, GaveLine, MayFollow, StaysEnded, EndsWith, HearsLine, Hears, IsHeard, LeavesFewer, MayFail, after_line, no_line, left_by, refuse}
 use Rattle.frz_ways.specs.Reading.{Input, Halt, halted, place_said, refuse_one, reply_or, reads}
 use Rattle.frz_ways.specs.SessionTexts.{refused_text}
-use Rattle.frz_ways.proofs.Reading.{reads_line, reads_too_long, reads_behind, reads_front, refuse_inside, refuse_reply, refuse_stop}
+use Rattle.frz_ways.proofs.InputLines.{reads_line, reads_too_long, reads_behind, reads_front, refuse_inside, refuse_reply, refuse_stop}
 use Rattle.frz_ways.proofs.Taking.{took_none, took_on}
 
 at_end : (arms : List (Arm Step ℕ Value)) (more : ℕ) (rest : List ℕ) → 0 < more → rest ≡ []

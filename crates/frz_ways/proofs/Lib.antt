@@ -13,7 +13,7 @@ mod Turned
 mod Turning
 pub mod Lemmas
 mod Taking
-mod Reading
+mod InputLines
 mod Heard
 mod SessionGoings
 mod OtherStands

@@ -18,7 +18,7 @@ use Rattle.frz_ways.proofs.Lemmas.{known}
 use Rattle.frz_ways.specs.Hearing.{EndsWith, left_by}
 use Rattle.frz_ways.specs.Reading.{Input, Halt, reads}
 use Rattle.frz_ways.specs.Sessions.{SessionPly, EndOfSession, session_player, GoesOn}
-use Rattle.frz_ways.proofs.Reading.{reads_front}
+use Rattle.frz_ways.proofs.InputLines.{reads_front}
 use Rattle.frz_ways.proofs.Taking.{ends_itself, ends_on}
 
 -- the first ply of a session, and what follows it

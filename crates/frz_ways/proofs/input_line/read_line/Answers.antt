@@ -4,7 +4,7 @@ use Rattle.frz_store.specs.Told.{SourceTold, source_of}
 use Rattle.frz_ways.specs.declared.session_end.TheConstants.{MOST_LENGTH}
 use Rattle.frz_ways.specs.Hearing.{GaveByte, IsOneLine}
 use Rattle.frz_ways.specs.SessionFaults.{TookBytes}
-use Rattle.frz_ways.proofs.Reading.{one_more}
+use Rattle.frz_ways.proofs.InputLines.{one_more}
 use Rattle.frz_ways.proofs.Taking.{took_on}
 use Rattle.frz_ways.proofs.input_line.read_line.Goals as goal
 
