@@ -24,7 +24,7 @@ use Rattle.frz_graph.specs.EntryCodes.{arm_code}
 use Rattle.frz_graph.specs.Finite.{IsFinite}
 use Rattle.frz_graph.specs.FreeCodes.{free_among}
 use Rattle.frz_ways.specs.Sights.{choices_by}
-use Rattle.frz_ways.proofs.Goings.{seen_by_codes}
+use Rattle.frz_ways.proofs.Stages.{seen_by_codes}
 
 pub at_in : {X : Type 0} (xs : List X) (i : ℕ) (x : X) → slice_get xs i ≡ Some x → Contains xs x
 at_in {X} xs i x e =

@@ -16,9 +16,10 @@ use Rattle.frz_arena.specs.Plies.{LeadsTo}
 use Rattle.frz_arena.specs.WayEnds.{Exit}
 use Rattle.frz_arena.specs.Ways.{ByInput, IsTakenBy, IsStopBy, IsWay}
 use Rattle.frz_ways.specs.declared.session_end.TheConstants.{MOST_LENGTH}
+use Rattle.frz_ways.specs.declared.opponent.Opponent.TheVariants as opponents
 use Rattle.frz_ways.specs.Reading.{Input, Halt, line_length, first_line, behind_line, place_said, refuse_one, reply_or, reads}
 use Rattle.frz_ways.specs.Sessions.{SessionPly, EndOfSession, session_player, GoesOn}
-use Rattle.frz_ways.proofs.SessionGoings.{way_front}
+use Rattle.frz_ways.proofs.Goings.{way_front}
 
 -- the most bytes of so many lines
 abbrev most_bytes : ℕ → ℕ
@@ -122,7 +123,7 @@ module _ (arena : Arena Step ℕ Value) (side : Colour) (codes : ℕ → List �
       (t : Input) → GoesOn arena side codes k s number plies end t
       → (taken : List ℕ) × (taken ++ t.left ≡ s.left) × (length taken ≤ most_bytes s.more)
   few_taken k s number plies end t w =
-      let front = way_front arena side codes k s t (k, number) plies end w in
+      let front = way_front arena opponents.Input side codes k s t (k, number) plies end w in
       let few = few_way k s t (k, number) plies end w in
       let sum = length-append front.0 t.left in
       let all = ap (λ (l : List ℕ). length l) front.1 in

@@ -1,148 +1,221 @@
--- How a line goes on from a number by what is due there.
-use Rattle.std.proofs.Common.{◌≡◌, ◌==◌, ◌&&◌, ℕ, suc, inl, inr, Bool, true, false, List, [], ◌∷◌, map, refl, sym, subst, ap, ◌∙◌, if◌then◌else◌}
-use Rattle.std.specs.Prelude.{slice_index}
+-- How a way goes on from a number, by what is due there and by what its input gives.
+use Rattle.std.proofs.Common.{◌≡◌, ℕ, suc, inl, inr, Bool, true, false, List, [], ◌∷◌, Some, refl, sym, subst, ap, ◌∙◌}
+use Rattle.std.specs.Prelude.{slice_get}
 use Rattle.frz_board.specs.declared.man.Colour.{Colour}
 use Rattle.frz_board.specs.Men.{same_colour}
 use Rattle.frz_board.specs.Moving.{Step}
 use Rattle.frz_sets.specs.declared.exit.Value.{Value}
-use Rattle.frz_arena.specs.declared.arm.Arm.{Arm}
-use Rattle.frz_arena.specs.declared.node.Node.{Node}
-use Rattle.frz_arena.specs.declared.node.Node.TheVariants as nodes
+use Rattle.frz_arena.specs.declared.arm.Next.{Next}
+use Rattle.frz_arena.specs.declared.arm.Next.TheVariants.{Inside, Outside}
 use Rattle.frz_arena.specs.Arena.{Arena}
-use Rattle.frz_arena.specs.Choices.{choice_of}
 use Rattle.frz_arena.specs.Chosen.{IsChosen}
-use Rattle.frz_arena.specs.Codes.{is_failure}
-use Rattle.frz_arena.specs.Counted.{after, counted}
-use Rattle.frz_arena.specs.LocalCodes.{local_code}
-use Rattle.frz_arena.specs.Names.{named}
+use Rattle.frz_arena.specs.Counted.{counted}
+use Rattle.frz_arena.specs.Inputs.{Answer, Reply, Stop}
 use Rattle.frz_arena.specs.Plies.{LeadsTo}
-use Rattle.frz_arena.specs.WayEnds.{End, Wrong, NoBound, Mated, Stalemated, Exit, Cut}
-use Rattle.frz_arena.specs.Ways.{Player, Ply, Opponent, ByCodes, Stage, Over, Moves, is_cut, stage, stage_of, IsTakenBy, IsStopBy, IsWay}
-use Rattle.frz_arena.proofs.Lemmas.{counted_next}
-use Rattle.frz_exits.specs.Values.{class_of, lag_of}
-use Rattle.frz_graph.specs.EntryCodes.{arm_code}
-use Rattle.frz_graph.proofs.Lemmas.{same_next}
-use Rattle.frz_ways.specs.declared.due.Due.{Due}
-use Rattle.frz_ways.specs.declared.due.Due.TheVariants as dues
-use Rattle.frz_ways.specs.Dues.{due_by, due_on}
-use Rattle.frz_ways.specs.Sights.{choices_by}
+use Rattle.frz_arena.specs.WayEnds.{Exit, Stopped}
+use Rattle.frz_arena.specs.Ways.{Over, Moves, stage, IsTakenBy, IsStopBy, IsWay}
+use Rattle.frz_ways.proofs.Chosen.{known}
+use Rattle.frz_ways.specs.declared.opponent.Opponent.{Opponent}
+use Rattle.frz_ways.specs.declared.opponent.Opponent.TheVariants as opponents
+use Rattle.frz_ways.specs.Hearing.{EndsWith, left_by}
+use Rattle.frz_ways.specs.Reading.{Input, Halt, reads}
+use Rattle.frz_ways.specs.Turns.{by_codes}
+use Rattle.frz_ways.specs.Ways.{WayPly, EndOfWay, finder, way_player, GoesOn}
+use Rattle.frz_ways.proofs.InputLines.{reads_front}
+use Rattle.frz_ways.proofs.Taking.{ends_itself, ends_on}
 
--- the stage that what is due stands for
-abbrev pub stage_told : {N R : Type 0} → (number : N) → (kept : ℕ) → Due → Stage N Value R
-stage_told number kept (dues.Wrong given) = Over (Wrong number kept given)
-stage_told number kept dues.NoBound = Over NoBound
-stage_told number kept (dues.Mate mover) = Over (Mated mover)
-stage_told number kept (dues.Stalemate mover) = Over (Stalemated mover)
-stage_told number kept dues.Cut = Over Cut
-stage_told number kept (dues.Ply mover) = Moves mover
-
-told_if : {N R : Type 0} (number : N) (kept : ℕ) (b : Bool) (x y : Due)
-    → stage_told {R = R} number kept (if b then x else y)
-    ≡ (if b then stage_told number kept x else stage_told number kept y)
-told_if number kept true x y = refl
-told_if number kept false x y = refl
-
-told_on : {M N S R : Type 0} (player : Player M N Value S R) (k : ℕ) (i : N) (kept : ℕ)
-    (is_late : Bool)
-    → player.entry i ≡ kept → is_cut player.opponent k (player.entry i) ≡ ((kept == 1) && is_late)
-    → (node : Node) → stage_of player k i node ≡ stage_told i kept (due_on is_late kept node)
-told_on player k i kept is_late e cut nodes.Broken = rw e refl
-told_on player k i kept is_late e cut (nodes.Mate mover) = refl
-told_on player k i kept is_late e cut (nodes.Stalemate mover) = refl
-told_on {M} {N} {S} {R} player k i kept is_late e cut (nodes.Going mover) =
-    rw cut (sym (told_if {R = R} i kept ((kept == 1) && is_late) dues.Cut (dues.Ply mover)))
-
--- what is due is the stage of any player with these codes
-pub stage_due : {M N S R : Type 0} (player : Player M N Value S R) (k : ℕ) (i : N) (kept given : ℕ)
-    (is_start is_late : Bool) → player.entry i ≡ kept
-    → local_code player.arena player.side player.entry i ≡ given → (k == 0) ≡ is_start
-    → is_cut player.opponent k (player.entry i) ≡ ((kept == 1) && is_late)
-    → stage player k i ≡ stage_told i kept
-    (due_by is_start is_late kept given (player.arena.node i))
-stage_due {M} {N} {S} {R} player k i kept given is_start is_late e l b cut =
-    let on = told_on player k i kept is_late e cut (player.arena.node i) in
-    let inner : (if is_start && is_failure kept then Over NoBound else stage_of player k i
-    (player.arena.node i)) ≡ stage_told {R = R} i kept
-    (if is_start && is_failure kept then dues.NoBound else due_on is_late kept
-    (player.arena.node i)) = (
-    ap (λ (z : Stage N Value R). if is_start && is_failure kept then Over NoBound else z) on
-    ∙ sym (told_if {R = R} i kept (is_start && is_failure kept) dues.NoBound
-    (due_on is_late kept (player.arena.node i)))) in
-    let outer : (if kept == given
-    then (if is_start && is_failure kept then Over NoBound else stage_of player k i
-    (player.arena.node i)) else Over (Wrong i kept given)) ≡ stage_told {R = R} i kept
-    (due_by is_start is_late kept given (player.arena.node i)) = (
-    ap (λ (z : Stage N Value R). if kept == given then z else Over (Wrong i kept given)) inner
-    ∙ sym (told_if {R = R} i kept (kept == given)
-    (if is_start && is_failure kept then dues.NoBound else due_on is_late kept
-    (player.arena.node i)) (dues.Wrong given))) in
-    rw (l, e, b) outer
-
--- the moves as the program sees them are those of the arena by the codes that are read now
-pub seen_by_codes : (arena : Arena Step ℕ Value) → arena.class ≡ class_of → arena.lag ≡ lag_of
-    → (side mover : Colour) (codes : ℕ → List ℕ) (k : ℕ) (arms : List (Arm Step ℕ Value))
-    → choices_by (same_colour mover side) arms (map (arm_code side (codes k)) arms) ≡ map
-    (choice_of (counted arena) side (λ p. slice_index (codes p.0) p.1) mover)
-    (map (named (after k)) arms)
-seen_by_codes arena class lag side mover codes k [] = refl
-seen_by_codes arena class lag side mover codes k (a ∷ arms) =
-    let code = same_next arena class lag side (codes k) a.next
-    ∙ sym (counted_next arena side (λ p. slice_index (codes p.0) p.1) k a.next) in
-    let rest = seen_by_codes arena class lag side mover codes k arms in
-    rw (code, rest) refl
-
--- a line that is over here has no plies
-pub over_here : {M N V S R : Type 0} (player : Player M N V S R) (most k : ℕ)
-    → player.opponent ≡ ByCodes most → (s t : S) (q : N) (ys : List (Ply M N V)) (e f : End N V R)
-    → IsWay player k s q ys e t → stage player k q ≡ Over f → (ys ≡ []) × (e ≡ f)
-over_here player most k o s t q [] e f (inl w) over = (refl, (let h = w.0 in cc))
-over_here player most k o s t q [] e f (inr w) over = absurd (let h = w.1 in cc)
-over_here player most k o s t q (x ∷ ys) e f w over = absurd (let h = w.1 in cc)
-
-never_stops : {N V S R : Type 0} (own : Bool) (opponent : Opponent N S R) (most : ℕ)
-    → opponent ≡ ByCodes most → (s t : S) (p : N) (e : End N V R) → IsStopBy own opponent s p e t
-    → ⊥
-never_stops true opponent most o s t p e h = h
-never_stops {N} {V} {S} {R} false opponent most o s t p e h =
-    subst (λ (z : Opponent N S R). IsStopBy false z s p e t) o h
-
--- the first ply of a line, and what follows
-pub record GoesTo {M N V S R : Type 0} (player : Player M N V S R) (k : ℕ) (s t : S) (q : N)
-    (ys : List (Ply M N V)) (e : End N V R) (mover : Colour) : Type 0 where
-  pub first : Ply M N V
-  pub others : List (Ply M N V)
+-- the first ply of a way, and what follows it
+pub record GoesTo (arena : Arena Step ℕ Value) (opponent : Opponent) (side : Colour) (kept : ℕ → List ℕ) (k : ℕ)
+    (u t : Input)
+    (ys : List WayPly) (e : EndOfWay) (mover : Colour) : Type 0 where
+  pub first : WayPly
+  pub others : List WayPly
   pub are : ys ≡ first ∷ others
-  pub chosen : IsChosen player.arena player.side player.entry mover q first.place first.arm
-  pub leads : LeadsTo (λ p. IsWay player (suc k) s p others e t)
-      (λ v. (others ≡ []) × (e ≡ Exit v) × (t ≡ s)) first.arm.next
+  pub moves : first.mover ≡ mover
+  pub leads : LeadsTo (λ p. IsWay (way_player arena opponent side kept) (suc k) u p others e t)
+      (λ v. (others ≡ []) × (e ≡ Exit v) × (t ≡ u)) first.arm.next
 
-taken_is : {M N V S R : Type 0} (player : Player M N V S R) (most : ℕ) (own : Bool)
-    (opponent : Opponent N S R) → opponent ≡ ByCodes most → (s u : S) (x : Ply M N V)
-    → IsTakenBy player own opponent s x u
-    → IsChosen player.arena player.side player.entry x.mover x.from x.place x.arm × (u ≡ s)
-taken_is player most true opponent o s u x h = (h.0, h.2)
-taken_is {M} {N} {V} {S} {R} player most false opponent o s u x h =
-    let g = subst (λ (z : Opponent N S R). IsTakenBy player false z s x u) o h in (g.0, g.2)
+-- a reply, and what follows it
+pub record Replied (arena : Arena Step ℕ Value) (opponent : Opponent) (side : Colour) (kept : ℕ → List ℕ) (k : ℕ)
+    (u t : Input) (q refused place : ℕ) (ys : List WayPly) (e : EndOfWay)
+    (mover : Colour) : Type 0 where
+  pub on : GoesTo arena opponent side kept k u t ys e mover
+  pub refused_is : on.first.refused ≡ refused
+  pub there : slice_get ((counted arena).arms (k, q)) place ≡ Some on.first.arm
 
-pub moves_on : {M N V S R : Type 0} (player : Player M N V S R) (most k : ℕ)
-    → player.opponent ≡ ByCodes most → (s t : S) (q : N) (ys : List (Ply M N V)) (e : End N V R)
-    (mover : Colour) → IsWay player k s q ys e t → stage player k q ≡ Moves mover
-    → GoesTo player k s t q ys e mover
-moves_on player most k o s t q [] e mover (inl w) due = absurd (let h = w.0 in cc)
-moves_on player most k o s t q [] e mover (inr w) due =
-    absurd (never_stops (same_colour w.0 player.side) player.opponent most o s t q e w.2)
-moves_on {M} {N} {V} {S} {R} player most k o s t q (x ∷ ys) e mover w due =
-    let same : x.mover ≡ mover = (let h = w.1 in cc) in
-    let taken = taken_is player most (same_colour x.mover player.side) player.opponent o s w.2.0 x
-    w.2.1 in
-    let chosen = subst (λ m. IsChosen player.arena player.side player.entry m x.from x.place x.arm)
-    same taken.0 in
-    record {
-      first = x;
-      others = ys;
-      are = refl;
-      chosen = subst (λ p. IsChosen player.arena player.side player.entry mover p x.place x.arm) w.0
-          chosen;
-      leads = subst (λ (u : S). LeadsTo (λ p. IsWay player (suc k) u p ys e t)
-          (λ v. (ys ≡ []) × (e ≡ Exit v) × (t ≡ u)) x.arm.next) taken.1 w.2.2;
-    }
+module _ (arena : Arena Step ℕ Value) (opponent : Opponent) (side : Colour) (kept : ℕ → List ℕ) where
+  -- a way that is over here
+  pub over_here : (k : ℕ) (s t : Input) (q : ℕ) (ys : List WayPly) (e f : EndOfWay)
+      → GoesOn arena opponent side kept k s q ys e t
+      → stage (way_player arena opponent side kept) k (k, q) ≡ Over f
+      → (ys ≡ []) × (e ≡ f) × (t ≡ s)
+  over_here k s t q [] e f (inl w) over = (refl, (let h = w.0 in cc), w.1)
+  over_here k s t q [] e f (inr w) over = absurd (let h = w.1 in cc)
+  over_here k s t q (x ∷ ys) e f w over = absurd (let h = w.1 in cc)
+
+  -- a ply that the codes find
+  taken_codes : (o : Opponent) (own : Bool) (s u : Input) (x : WayPly) → by_codes o own ≡ true
+      → IsTakenBy (way_player arena opponent side kept) own (finder arena o) s x u
+      → IsChosen (counted arena) side (known kept) x.mover x.from x.place x.arm × (u ≡ s)
+  taken_codes opponents.Codes true s u x by h = (h.0, h.2)
+  taken_codes opponents.Codes false s u x by h = (h.0, h.2)
+  taken_codes opponents.Input true s u x by h = (h.0, h.2)
+  taken_codes opponents.Input false s u x by h = absurd (cc)
+
+  taken_read : (o : Opponent) (own : Bool) (s u : Input) (x : WayPly) → by_codes o own ≡ false
+      → IsTakenBy (way_player arena opponent side kept) own (finder arena o) s x u
+      → (slice_get ((counted arena).arms x.from) x.place ≡ Some x.arm)
+      × (reads (arena.arms x.from.1) s.more s.left ≡ Reply x.refused x.place u)
+  taken_read opponents.Codes own s u x by h = absurd (cc)
+  taken_read opponents.Input true s u x by h = absurd (cc)
+  taken_read opponents.Input false s u x by h = h
+
+  no_stop : (o : Opponent) (own : Bool) (s t : Input) (q : ℕ × ℕ) (e : EndOfWay)
+      → by_codes o own ≡ true → IsStopBy own (finder arena o) s q e t → ⊥
+  no_stop opponents.Codes true s t q e by h = h
+  no_stop opponents.Codes false s t q e by h = h
+  no_stop opponents.Input true s t q e by h = h
+  no_stop opponents.Input false s t q e by h = absurd (cc)
+
+  stop_read : (o : Opponent) (own : Bool) (s t : Input) (q : ℕ × ℕ) (e : EndOfWay)
+      → by_codes o own ≡ false → IsStopBy own (finder arena o) s q e t
+      → (halt : Halt) × (e ≡ Stopped halt) × (reads (arena.arms q.1) s.more s.left ≡ Stop halt t)
+  stop_read opponents.Codes own s t q e by h = absurd (cc)
+  stop_read opponents.Input true s t q e by h = absurd (cc)
+  stop_read opponents.Input false s t q e by h = h
+
+  -- a ply that the codes find
+  pub moves_by_codes : (k : ℕ) (s t : Input) (q : ℕ) (ys : List WayPly) (e : EndOfWay)
+      (mover : Colour) → by_codes opponent (same_colour mover side) ≡ true → GoesOn arena opponent side kept k s q ys e t
+      → stage (way_player arena opponent side kept) k (k, q) ≡ Moves mover
+      → (g : GoesTo arena opponent side kept k s t ys e mover)
+      × IsChosen (counted arena) side (known kept) mover (k, q) g.first.place g.first.arm
+  moves_by_codes k s t q [] e mover own (inl w) due = absurd (let h = w.0 in cc)
+  moves_by_codes k s t q [] e mover own (inr w) due =
+      let same : w.0 ≡ mover = (let h = w.1 in cc) in
+      absurd (no_stop opponent (same_colour w.0 side) s t (k, q) e
+      (ap (λ m. by_codes opponent (same_colour m side)) same ∙ own) w.2)
+  moves_by_codes k s t q (x ∷ ys) e mover own w due =
+      let same : x.mover ≡ mover = (let h = w.1 in cc) in
+      let taken = taken_codes opponent (same_colour x.mover side) s w.2.0 x
+      (ap (λ m. by_codes opponent (same_colour m side)) same ∙ own) w.2.1 in
+      let chosen = subst (λ m. IsChosen (counted arena) side (known kept) m x.from x.place x.arm)
+      same taken.0 in (
+        record {
+          first = x;
+          others = ys;
+          are = refl;
+          moves = same;
+          leads = subst
+              (λ (u : Input). LeadsTo
+              (λ p. IsWay (way_player arena opponent side kept) (suc k) u p ys e t)
+              (λ v. (ys ≡ []) × (e ≡ Exit v) × (t ≡ u)) x.arm.next) taken.1 w.2.2;
+        },
+        subst (λ p. IsChosen (counted arena) side (known kept) mover p x.place x.arm) w.0 chosen,
+      )
+
+  -- the input stops
+  pub stops_here : (k : ℕ) (s t u : Input) (q : ℕ) (ys : List WayPly) (e : EndOfWay)
+      (mover : Colour) (halt : Halt) → by_codes opponent (same_colour mover side) ≡ false
+      → GoesOn arena opponent side kept k s q ys e t
+      → stage (way_player arena opponent side kept) k (k, q) ≡ Moves mover
+      → reads (arena.arms q) s.more s.left ≡ Stop halt u → (ys ≡ []) × (e ≡ Stopped halt) × (t ≡ u)
+  stops_here k s t u q [] e mover halt own (inl w) due gives = absurd (let h = w.0 in cc)
+  stops_here k s t u q [] e mover halt own (inr w) due gives =
+      let same : w.0 ≡ mover = (let h = w.1 in cc) in
+      let stop = stop_read opponent (same_colour w.0 side) s t (k, q) e
+      (ap (λ m. by_codes opponent (same_colour m side)) same ∙ own)
+      w.2 in
+      let gave = stop.2 in
+      let why : stop.0 ≡ halt = cc in
+      (refl, stop.1 ∙ ap Stopped why, cc)
+  stops_here k s t u q (x ∷ ys) e mover halt own w due gives =
+      let same : x.mover ≡ mover = (let h = w.1 in cc) in
+      let taken = taken_read opponent (same_colour x.mover side) s w.2.0 x
+      (ap (λ m. by_codes opponent (same_colour m side)) same ∙ own) w.2.1 in
+      let gave : reads (arena.arms q) s.more s.left ≡ Reply x.refused x.place w.2.0 = subst
+      (λ (p : ℕ × ℕ). reads (arena.arms p.1) s.more s.left ≡ Reply x.refused x.place w.2.0) w.0
+      taken.1 in
+      absurd (cc)
+
+  -- a reply
+  pub replies_here : (k : ℕ) (s t u : Input) (q : ℕ) (ys : List WayPly) (e : EndOfWay)
+      (mover : Colour) (refused place : ℕ) → by_codes opponent (same_colour mover side) ≡ false
+      → GoesOn arena opponent side kept k s q ys e t
+      → stage (way_player arena opponent side kept) k (k, q) ≡ Moves mover
+      → reads (arena.arms q) s.more s.left ≡ Reply refused place u
+      → Replied arena opponent side kept k u t q refused place ys e mover
+  replies_here k s t u q [] e mover refused place own (inl w) due gives = absurd (let h = w.0 in cc)
+  replies_here k s t u q [] e mover refused place own (inr w) due gives =
+      let same : w.0 ≡ mover = (let h = w.1 in cc) in
+      let stop = stop_read opponent (same_colour w.0 side) s t (k, q) e
+      (ap (λ m. by_codes opponent (same_colour m side)) same ∙ own)
+      w.2 in
+      let gave = stop.2 in
+      absurd (cc)
+  replies_here k s t u q (x ∷ ys) e mover refused place own w due gives =
+      let same : x.mover ≡ mover = (let h = w.1 in cc) in
+      let taken = taken_read opponent (same_colour x.mover side) s w.2.0 x
+      (ap (λ m. by_codes opponent (same_colour m side)) same ∙ own) w.2.1 in
+      let gave : reads (arena.arms q) s.more s.left ≡ Reply x.refused x.place w.2.0 = subst
+      (λ (p : ℕ × ℕ). reads (arena.arms p.1) s.more s.left ≡ Reply x.refused x.place w.2.0) w.0
+      taken.1 in
+      let after : w.2.0 ≡ u = cc in
+      let at : x.place ≡ place = cc in
+      record {
+        on = record {
+          first = x;
+          others = ys;
+          are = refl;
+          moves = same;
+          leads = subst
+              (λ (v : Input). LeadsTo
+              (λ p. IsWay (way_player arena opponent side kept) (suc k) v p ys e t)
+              (λ v2. (ys ≡ []) × (e ≡ Exit v2) × (t ≡ v)) x.arm.next) after w.2.2;
+        };
+        refused_is = cc;
+        there = subst (λ i. slice_get ((counted arena).arms (k, q)) i ≡ Some x.arm)
+            at (subst (λ p. slice_get ((counted arena).arms p) x.place ≡ Some x.arm) w.0 taken.0);
+      }
+
+  taken_front : (o : Opponent) (own : Bool) (s u : Input) (x : WayPly)
+      → IsTakenBy (way_player arena opponent side kept) own (finder arena o) s x u
+      → EndsWith u.left s.left
+  taken_front opponents.Codes true s u x h =
+      subst (λ (v : Input). EndsWith v.left s.left) (sym h.2) (ends_itself s.left)
+  taken_front opponents.Codes false s u x h =
+      subst (λ (v : Input). EndsWith v.left s.left) (sym h.2) (ends_itself s.left)
+  taken_front opponents.Input true s u x h =
+      subst (λ (v : Input). EndsWith v.left s.left) (sym h.2) (ends_itself s.left)
+  taken_front opponents.Input false s u x h =
+      subst (λ (a : Answer Input Halt). EndsWith (left_by a) s.left) h.1
+      (reads_front (arena.arms x.from.1) s.more s.left)
+
+  stop_front : (o : Opponent) (own : Bool) (s t : Input) (q : ℕ × ℕ) (e : EndOfWay)
+      → IsStopBy own (finder arena o) s q e t → EndsWith t.left s.left
+  stop_front opponents.Codes true s t q e h = absurd h
+  stop_front opponents.Codes false s t q e h = absurd h
+  stop_front opponents.Input true s t q e h = absurd h
+  stop_front opponents.Input false s t q e h =
+      subst (λ (a : Answer Input Halt). EndsWith (left_by a) s.left) h.2
+      (reads_front (arena.arms q.1) s.more s.left)
+
+  pub leads_front : (k : ℕ) (u t : Input) (ys : List WayPly) (e : EndOfWay)
+      → ((p : ℕ × ℕ) → IsWay (way_player arena opponent side kept) (suc k) u p ys e t
+      → EndsWith t.left u.left) → (next : Next (ℕ × ℕ) Value)
+      → LeadsTo (λ p. IsWay (way_player arena opponent side kept) (suc k) u p ys e t)
+      (λ v. (ys ≡ []) × (e ≡ Exit v) × (t ≡ u)) next → EndsWith t.left u.left
+  leads_front k u t ys e ih (Inside p) h = ih p h
+  leads_front k u t ys e ih (Outside v) h =
+      subst (λ (w : Input). EndsWith w.left u.left) (sym h.2) (ends_itself u.left)
+
+  -- a way takes its input from the front
+  pub way_front : (k : ℕ) (s t : Input) (q : ℕ × ℕ) (ys : List WayPly) (e : EndOfWay)
+      → IsWay (way_player arena opponent side kept) k s q ys e t → EndsWith t.left s.left
+  way_front k s t q [] e (inl w) =
+      subst (λ (v : Input). EndsWith v.left s.left) (sym w.1) (ends_itself s.left)
+  way_front k s t q [] e (inr w) = stop_front opponent (same_colour w.0 side) s t q e w.2
+  way_front k s t q (x ∷ ys) e w =
+      ends_on t.left w.2.0.left s.left
+      (leads_front k w.2.0 t ys e (λ p h. way_front (suc k) w.2.0 t p ys e h) x.arm.next w.2.2)
+      (taken_front opponent (same_colour x.mover side) s w.2.0 x w.2.1)

@@ -1,4 +1,4 @@
--- A line from the number of a position.
+-- A way from the number of a position.
 use Rattle.std.proofs.Common.{◌≡◌, ◌<◌, ◌^◌, ℕ, zero, suc, inl, List, [], Option, Some, None, IfSome, Result, Ok, Err, refl, sym, subst, ap, ◌∙◌}
 use Rattle.std.specs.Prelude.{slice_index, ◌↔◌, IsSome}
 use Rattle.std.specs.Result.{IsErrAnd}
@@ -6,7 +6,7 @@ use Rattle.frz_board.specs.declared.man.Colour.{Colour}
 use Rattle.frz_board.specs.Boards.{Board}
 use Rattle.frz_sets.specs.Sets.{size_of}
 use Rattle.frz_sets.specs.Views.{RuleLines, GroupLine}
-use Rattle.frz_store.specs.Told.{SinkTold}
+use Rattle.frz_store.specs.Told.{SourceTold, SinkTold}
 use Rattle.frz_store.specs.declared.outside.StoreFault.{StoreFault}
 use Rattle.frz_store.specs.declared.outside.StoreFault.TheVariants.{Failed, NoMemory}
 use Rattle.frz_answer.specs.Answers.{IsLines}
@@ -18,20 +18,27 @@ use Rattle.frz_arena.specs.Names.{IsNumbering}
 use Rattle.frz_game.specs.Games.{arena_by, graph_by}
 use Rattle.frz_game.specs.Numbers.{number_of, numbers_by}
 use Rattle.frz_index.specs.Members.{Member, Num}
-use Rattle.frz_ways.specs.declared.end.LineEnd.{LineEnd}
-use Rattle.frz_ways.specs.declared.end.LineFault.{LineFault}
-use Rattle.frz_ways.specs.declared.end.LineFault.TheVariants as faults
-use Rattle.frz_ways.specs.BestLine.{TellsLine}
+use Rattle.frz_ways.specs.Faults.{fault_of}
 use Rattle.frz_ways.specs.Costs.{way_numbers, Spends, SpendsAt}
-use Rattle.frz_ways.specs.Ends.{told, IsUnfinished, Finishes}
-use Rattle.frz_ways.specs.Faults.{WroteBy, fault_of}
-use Rattle.frz_ways.specs.Lines.{GoesOn}
-use Rattle.frz_ways.specs.Texts.{start_line, line_text}
-use Rattle.frz_ways.specs.Turns.{Plays}
-use Rattle.frz_ways.specs.Kept.{MayRead}
 use Rattle.frz_ways.proofs.Gathered.{any_read, start_read}
 use Rattle.frz_ways.proofs.Spending.{read_alone, read_first}
-use Rattle.frz_ways.proofs.Turned.{unfinished}
+use Rattle.frz_ways.specs.Kept.{MayRead}
+use Rattle.frz_ways.specs.declared.end.LineFault.TheVariants as faults
+use Rattle.frz_ways.specs.declared.way_end.WayEnd.{WayEnd}
+use Rattle.frz_ways.specs.declared.session_end.PlayFault.{PlayFault}
+use Rattle.frz_ways.specs.declared.session_end.PlayFault.TheVariants as plays
+use Rattle.frz_ways.specs.SessionFaults.{WroteBy, TookBytes, MayHold}
+use Rattle.frz_ways.specs.declared.opponent.Opponent.{Opponent}
+use Rattle.frz_ways.specs.PlayWay.{Plays, WayPlayed, TellsWay}
+use Rattle.frz_ways.specs.WayEnds.{told}
+use Rattle.frz_ways.specs.Reading.{opened}
+use Rattle.frz_ways.specs.Ways.{GoesOn}
+use Rattle.frz_ways.specs.SessionTexts.{start_line}
+use Rattle.frz_ways.specs.WayTexts.{plies_text, way_text}
+use Rattle.frz_ways.proofs.Faulted.{IsStoreFault, short_of, short_text}
+use Rattle.frz_ways.proofs.Goings.{way_front}
+use Rattle.frz_ways.proofs.Taking.{took_none, some_rest}
+use Rattle.frz_ways.proofs.Written.{store_fault}
 
 -- the number of a position is within the size of its set
 pub start_inside : (rules : RuleLines) (p : Board) {set : List GroupLine} {found : Option ℕ}
@@ -48,131 +55,159 @@ pub no_member : {set groups : List GroupLine} (p : Board) → set ≡ groups
 no_member p same is member =
     (let no = is.1 (subst (λ (z : List GroupLine). Member z p) (sym same) member) in cc)
 
--- what was written of the line
-abbrev pub WroteLine : Option (List ℕ) → (size : ℕ) → RuleLines → Colour → Board
-    → Result LineEnd LineFault → (old new : SinkTold) → (before now : Spent) → Type 0
-WroteLine told_by size rules side p result old new before now =
-    (text : List ℕ) × (read : ℕ → List ℕ) × IsLines text × WroteBy result text old new
-    × ((k : ℕ) → MayRead told_by size (read k))
-    × ((codes : ℕ → List ℕ) → ((k : ℕ) → codes k ≡ read k)
-    → TellsLine rules side codes p text result before now)
-
--- a position that is not in the set
-pub nothing_told : (known : Option (List ℕ)) (size : ℕ) (rules : RuleLines) (side : Colour)
-    (p : Board) (out : SinkTold) (before : Spent) → (Member rules.groups p → ⊥)
-    → WroteLine known size rules side p (Err faults.Outside) out out before before
-nothing_told known size rules side p out before none = (
-  [],
-  λ k. (any_read known size).0,
-  inl refl,
-  took_nothing out,
-  λ k. (any_read known size).1,
-  λ codes same member plies end w. absurd (none member),
-)
-
--- nothing was written of the line
-whole_left : (rules : RuleLines) (side : Colour) (codes : ℕ → List ℕ) (p : Board)
-    (result : Result LineEnd LineFault) (before now : Spent) → Spends 1 0 before now
-    → ((answer : Result LineEnd LineFault) (rest : List ℕ) → IsUnfinished answer rest
-    → Finishes result answer rest) → TellsLine rules side codes p [] result before now
-whole_left rules side codes p result before now l stops = λ member plies end w.
-    let code : ℕ = slice_index (codes 0) (Num rules.groups p) in
-    let text = line_text side code plies (told side end) in (
-      text,
-      refl,
-      stops (told side end) text
-          (unfinished (start_line side code plies (told side end)) plies (told side end)),
-      read_alone (graph_by rules (value_by rules))
-          (way_numbers (Inside (0, Num rules.groups p)) plies) before now l,
-    )
-
--- the code of the start was not read, for a fault that leaves a line unfinished
-unread : (known : Option (List ℕ)) (size : ℕ) (rules : RuleLines) (side : Colour) (p : Board)
-    (out : SinkTold) (before now : Spent) → Spends 1 0 before now → (fault : LineFault)
-    → WroteBy {T = LineEnd} (Err fault) [] out out
-    → ((answer : Result LineEnd LineFault) (rest : List ℕ) → IsUnfinished answer rest
-    → Finishes (Err fault) answer rest)
-    → WroteLine known size rules side p (Err fault) out out before now
-unread known size rules side p out before now l fault wrote leaves = (
-  [],
-  λ k. (any_read known size).0,
-  inl refl,
-  wrote,
-  λ k. (any_read known size).1,
-  λ codes same. whole_left rules side codes p (Err fault) before now l leaves,
-)
-
-pub start_unread : (known : Option (List ℕ)) (size : ℕ) (rules : RuleLines) (side : Colour)
-    (p : Board) (out : SinkTold) {before now : Spent} → Spends 1 0 before now
-    → (fault : StoreFault) (result : Result LineEnd LineFault)
-    → IsErrAnd result (λ e. e ≡ fault_of fault)
-    → WroteLine known size rules side p result out out before now
-start_unread known size rules side p out l fault (Ok end) h = absurd h
-start_unread known size rules side p out {before} {now} l fault (Err f) h =
-    subst (λ (z : LineFault). WroteLine known size rules side p (Err z) out out before now) (sym h)
-    (by_fault fault)
-  where
-    by_fault : (fault : StoreFault)
-        → WroteLine known size rules side p (Err (fault_of fault)) out out before now
-    by_fault Failed =
-        unread known size rules side p out before now l faults.Store (took_nothing out)
-        (λ answer rest left. left)
-    by_fault NoMemory =
-        unread known size rules side p out before now l faults.NoMemory (took_nothing out)
-        (λ answer rest left. left)
-
-tells : (rules : RuleLines) (side : Colour) (codes : ℕ → List ℕ) (p : Board) (text : List ℕ)
-    (result : Result LineEnd LineFault) (before mid now : Spent) (start code : ℕ)
-    → start ≡ Num rules.groups p → Spends 1 0 before mid → slice_index (codes 0) start ≡ code
-    → Plays (graph_by rules (value_by rules)) side codes start code text result mid now
-    → TellsLine rules side codes p text result before now
-tells rules side codes p text result before mid now start code is few agrees plays =
-    λ member plies end w.
-    let h = plays agrees plies end
-    (subst (λ i. GoesOn (graph_by rules (value_by rules)) side codes 0 i plies end)
-    (sym is) w) in
-    let same : code ≡ slice_index (codes 0) (Num rules.groups p) = sym agrees
-    ∙ ap (slice_index (codes 0)) is in
-    let at_it = subst (λ i. SpendsAt (graph_by rules (value_by rules)) 0
-    (way_numbers (Inside (0, i)) plies) mid now) is h.3 in (
-      h.0,
-      h.1 ∙ ap (λ c. line_text side c plies (told side end)) same,
-      h.2,
-      read_first (graph_by rules (value_by rules))
-          (way_numbers (Inside (0, Num rules.groups p)) plies) before mid now few at_it,
-    )
-
 -- the codes that were read of the start, and then after each ply
-abbrev pub from_start : List ℕ → (ℕ → List ℕ) → ℕ → List ℕ
+abbrev from_start : List ℕ → (ℕ → List ℕ) → ℕ → List ℕ
 from_start first read zero = first
 from_start first read (suc k) = read k
 
-pub from_start_may : (known : Option (List ℕ)) (size : ℕ) (first : List ℕ) (read : ℕ → List ℕ)
+from_start_may : (known : Option (List ℕ)) (size : ℕ) (first : List ℕ) (read : ℕ → List ℕ)
     → MayRead known size first → ((k : ℕ) → MayRead known size (read k)) → (k : ℕ)
     → MayRead known size (from_start first read k)
 from_start_may known size first read here rest zero = here
 from_start_may known size first read here rest (suc k) = rest k
 
-pub line_told : (known : Option (List ℕ)) (size : ℕ) (rules : RuleLines) (side : Colour) (p : Board)
-    (result : Result LineEnd LineFault) (old new : SinkTold) {before mid : Spent}
-    (now : Spent) (start code : ℕ) → start ≡ Num rules.groups p → Spends 1 0 before mid
-    → start < size → code < 2 ^ 32
-    → IfSome known (λ codes. slice_index codes start ≡ code) → (text : List ℕ) → IsLines text
-    → WroteBy result text old new
+-- what was written and taken of the way
+abbrev pub WroteWay : Option (List ℕ) → (size : ℕ) → Opponent → RuleLines → Colour → Board
+    → Result WayEnd PlayFault
+    → (source left : SourceTold) → (out taken : SinkTold) → (before now : Spent) → Type 0
+WroteWay known size opponent rules side p result source left out taken before now =
+    (text bytes : List ℕ) × IsLines text × WroteBy result text out taken
+    × TookBytes bytes source left
+    × ((read : ℕ → List ℕ) × ((k : ℕ) → MayRead known size (read k))
+    × ((codes : ℕ → List ℕ) → ((k : ℕ) → codes k ≡ read k) → (whole : List ℕ)
+    × MayHold source whole
+    × TellsWay opponent rules side codes p whole bytes text result before now))
+
+-- a position that is not in the set
+pub nothing_told : (known : Option (List ℕ)) (size : ℕ) (opponent : Opponent) (rules : RuleLines) (side : Colour)
+    (p : Board)
+    (source : SourceTold) (out : SinkTold) (before : Spent) → (Member rules.groups p → ⊥)
+    → WroteWay known size opponent rules side p (Err (plays.Line faults.Outside)) source source out out
+    before
+    before
+nothing_told known size opponent rules side p source out before none =
+    let r = some_rest source ⊥ (λ e. absurd e) in (
+      [],
+      [],
+      inl refl,
+      took_nothing out,
+      took_none source source refl,
+      (
+        λ k. (any_read known size).0,
+        λ k. (any_read known size).1,
+        λ codes same. (r.0, r.1, λ member plies end last w. absurd (none member)),
+      ),
+    )
+
+unread : (known : Option (List ℕ)) (size : ℕ) (opponent : Opponent) (rules : RuleLines) (side : Colour) (p : Board)
+    (source : SourceTold) (out : SinkTold) (before now : Spent) → Spends 1 0 before now
+    → (fault : PlayFault) → IsStoreFault fault → WroteBy {T = WayEnd} (Err fault) [] out out
+    → WroteWay known size opponent rules side p (Err fault) source source out out before now
+unread known size opponent rules side p source out before now few fault is wrote =
+    let r = some_rest source ⊥ (λ e. absurd e) in (
+      [],
+      [],
+      inl refl,
+      wrote,
+      took_none source source refl,
+      (
+        λ k. (any_read known size).0,
+        λ k. (any_read known size).1,
+        λ codes same. (
+          r.0,
+          r.1,
+          λ member plies end last w.
+              let front = way_front (graph_by rules (value_by rules)) opponent side codes 0
+              (opened r.0) last
+              (0, Num rules.groups p) plies end w in
+              let code = slice_index (codes 0) (Num rules.groups p) in (
+                record {
+                  rest = way_text opponent side code plies end;
+                  unread = front.0;
+                  begins = refl;
+                  takes = front.1;
+                  finishes = short_of fault (told side end) (way_text opponent side code plies end) front.0 is
+                      (short_text side end (start_line side code plies end)
+                      (plies_text opponent side plies));
+                },
+                read_alone (graph_by rules (value_by rules))
+                    (way_numbers (Inside (0, Num rules.groups p)) plies) before now few,
+              ),
+        ),
+      ),
+    )
+
+store_wrote : (fault : StoreFault) (out : SinkTold)
+    → WroteBy {T = WayEnd} (Err (plays.Line (fault_of fault))) [] out out
+store_wrote Failed out = took_nothing out
+store_wrote NoMemory out = took_nothing out
+
+-- the code of the start was not read
+pub start_unread : (known : Option (List ℕ)) (size : ℕ) (opponent : Opponent) (rules : RuleLines) (side : Colour)
+    (p : Board)
+    (source : SourceTold) (out : SinkTold) {before now : Spent} → Spends 1 0 before now
+    → (fault : StoreFault) (result : Result WayEnd PlayFault)
+    → IsErrAnd result (λ e. e ≡ plays.Line (fault_of fault))
+    → WroteWay known size opponent rules side p result source source out out before now
+start_unread known size opponent rules side p source out few fault (Ok end) h = absurd h
+start_unread known size opponent rules side p source out {before} {now} few fault (Err f) h =
+    subst (λ (z : PlayFault). WroteWay known size opponent rules side p (Err z) source source out out
+    before
+    now) (sym h)
+    (unread known size opponent rules side p source out before now few (plays.Line (fault_of fault))
+    (store_fault fault) (store_wrote fault out))
+
+tells : (opponent : Opponent) (rules : RuleLines) (side : Colour) (codes : ℕ → List ℕ) (p : Board) (source : SourceTold)
+    (bytes text : List ℕ) (result : Result WayEnd PlayFault) (before mid now : Spent)
+    (start code : ℕ) → start ≡ Num rules.groups p → Spends 1 0 before mid
+    → slice_index (codes 0) start ≡ code
+    → Plays (graph_by rules (value_by rules)) opponent side codes start code
+    source bytes text result mid now → (whole : List ℕ) × MayHold source whole
+    × TellsWay opponent rules side codes p whole bytes text result before now
+tells opponent rules side codes p source bytes text result before mid now start code is few agrees plays = (
+  plays.0,
+  plays.1,
+  λ member plies end last w.
+      let h = plays.2 agrees plies end last
+      (subst (λ i. GoesOn (graph_by rules (value_by rules)) opponent side codes 0 (opened plays.0) i
+      plies end last) (sym is) w) in
+      let same : code ≡ slice_index (codes 0) (Num rules.groups p) = sym agrees
+      ∙ ap (slice_index (codes 0)) is in
+      let at_it = subst (λ i. SpendsAt (graph_by rules (value_by rules)) 0
+      (way_numbers (Inside (0, i)) plies) mid now) is h.1 in (
+        subst (λ c. WayPlayed opponent side c plays.0 bytes text result plies end last) same h.0,
+        read_first (graph_by rules (value_by rules))
+            (way_numbers (Inside (0, Num rules.groups p)) plies) before mid now few at_it,
+      ),
+)
+
+pub way_told : (known : Option (List ℕ)) (size : ℕ) (opponent : Opponent) (rules : RuleLines) (side : Colour)
+    (p : Board) (result : Result WayEnd PlayFault) (source left : SourceTold)
+    (out taken : SinkTold)
+    {before mid : Spent} (now : Spent) (start code : ℕ) → start ≡ Num rules.groups p
+    → Spends 1 0 before mid → start < size → code < 2 ^ 32
+    → IfSome known (λ codes. slice_index codes start ≡ code)
+    → (text bytes : List ℕ) → IsLines text
+    → WroteBy result text out taken → TookBytes bytes source left
     → (read : ℕ → List ℕ) → ((k : ℕ) → MayRead known size (read k))
     → ((codes : ℕ → List ℕ) → ((k : ℕ) → codes (suc k) ≡ read k)
-    → Plays (graph_by rules (value_by rules)) side codes start code text result mid now)
-    → WroteLine known size rules side p result old new before now
-line_told known size rules side p result old new {before} {mid} now start code is few inside small
-    agrees text lines wrote read may plays =
+    → Plays (graph_by rules (value_by rules)) opponent side codes start code source
+    bytes text result mid now) → WroteWay known size opponent rules side p result source left out taken
+    before now
+way_told known size opponent rules side p result source left out taken {before} {mid} now start code is
+    few inside small agrees text bytes lines wrote took read may plays =
     let first = start_read known size start code inside small agrees in
     let all = from_start first.0 read in (
       text,
-      all,
+      bytes,
       lines,
       wrote,
-      from_start_may known size first.0 read first.1 may,
-      λ codes same. tells rules side codes p text result before mid now start code is few
-          (ap (λ (l : List ℕ). slice_index l start) (same 0) ∙ first.2)
-          (plays codes (λ k. same (suc k))),
+      took,
+      (
+        all,
+        from_start_may known size first.0 read first.1 may,
+        λ codes same. tells opponent rules side codes p source bytes text result before mid now start code is
+            few (ap (λ (l : List ℕ). slice_index l start) (same 0) ∙ first.2)
+            (plays codes (λ k. same (suc k))),
+      ),
     )

@@ -1,426 +1,356 @@
--- What a turn of a line leaves: its text, where it leads, and how the line goes on.
-use Rattle.std.proofs.Common.{◌≡◌, ◌<◌, ◌==◌, ◌&&◌, ◌++◌, ℕ, suc, ◌⊎◌, inl, inr, Bool, true, false, List, [], ◌∷◌, Some, map, length, refl, sym, subst, ap, ◌∙◌, if◌then◌else◌, nat_le, Result, Ok, Err, IfOk, append_assoc, append-nil}
+-- What a turn of a way leaves: its text, its bytes, and how the way goes on.
+use Rattle.std.proofs.Common.{◌≡◌, ◌==◌, ◌&&◌, ◌++◌, nat_le, ℕ, suc, inl, inr, true, false, List, [], ◌∷◌, Some, map, refl, sym, subst, ap, ◌∙◌, get_or, Result, Ok, Err, append_assoc, append-nil}
 use Rattle.std.specs.Prelude.{slice_get, slice_index, codes}
-use Rattle.std.specs.List.{Contains}
+use Rattle.std.proofs.lemmas.Bool.{and_right}
+use Rattle.std.proofs.lemmas.Option.{slice_get-map}
 use Rattle.frz_board.specs.declared.man.Colour.{Colour}
 use Rattle.frz_board.specs.Men.{same_colour}
 use Rattle.frz_board.specs.Moving.{Step}
 use Rattle.frz_sets.specs.declared.exit.Value.{Value}
-use Rattle.frz_store.specs.Told.{SinkTold}
-use Rattle.frz_answer.specs.Answers.{IsLines}
-use Rattle.frz_answer.proofs.Lemmas.{took_nothing}
+use Rattle.frz_store.specs.Told.{SourceTold, SinkTold}
 use Rattle.frz_arena.specs.declared.arm.Arm.{Arm}
 use Rattle.frz_arena.specs.declared.arm.Next.{Next}
 use Rattle.frz_arena.specs.declared.arm.Next.TheVariants.{Inside, Outside}
 use Rattle.frz_arena.specs.declared.choice.Choice.{Choice}
-use Rattle.frz_arena.specs.declared.node.Node.{Node}
-use Rattle.frz_arena.specs.Arena.{Arena, IsArm}
-use Rattle.frz_arena.specs.Choices.{has_code}
+use Rattle.frz_arena.specs.Arena.{Arena}
 use Rattle.frz_arena.specs.Chosen.{IsFound}
-use Rattle.frz_arena.specs.Codes.{is_win, is_failure}
+use Rattle.frz_arena.specs.Choices.{has_code}
+use Rattle.frz_arena.specs.Codes.{is_win}
 use Rattle.frz_arena.specs.Counted.{after, counted}
-use Rattle.frz_arena.specs.LocalCodes as words
+use Rattle.frz_arena.specs.Inputs.{Reply, Stop}
 use Rattle.frz_arena.specs.LocalCodes.{node_code}
 use Rattle.frz_arena.specs.Names.{named, named_next}
 use Rattle.frz_arena.specs.Plies.{LeadsTo}
-use Rattle.frz_arena.specs.WayEnds.{Wrong, NoBound, Mated, Stalemated, Exit, Cut}
-use Rattle.frz_arena.specs.Ways.{Over as OverWay, Moves, stage, IsWay}
+use Rattle.frz_arena.specs.WayEnds.{Exit, Stopped}
+use Rattle.frz_arena.specs.Ways.{Stage, Over as OverWay, Moves, is_cut, stage, IsWay}
 use Rattle.frz_graph.specs.EntryCodes.{arm_code}
 use Rattle.frz_graph.specs.Finite.{IsFinite}
 use Rattle.frz_graph.specs.FreeCodes.{free_among}
-use Rattle.frz_game.specs.declared.wrong.Wrong.{Wrong as WrongEntry}
-use Rattle.frz_store.specs.declared.outside.StoreFault.{StoreFault}
-use Rattle.frz_store.specs.declared.outside.StoreFault.TheVariants.{Failed, NoMemory}
-use Rattle.std.specs.Result.{IsErrAnd}
 use Rattle.frz_ways.specs.declared.due.Due.{Due}
-use Rattle.frz_ways.specs.declared.due.Due.TheVariants as dues
-use Rattle.frz_ways.specs.declared.end.LineEnd.{LineEnd}
-use Rattle.frz_ways.specs.declared.end.LineEnd.TheVariants as ends
-use Rattle.frz_ways.specs.declared.end.LineFault.{LineFault}
 use Rattle.frz_ways.specs.declared.end.LineFault.TheVariants as faults
-use Rattle.frz_ways.specs.declared.end.TheConstants.{MOST_PLIES}
+use Rattle.frz_ways.specs.Dues.{due_by}
+use Rattle.frz_ways.specs.Sights.{choices_by}
+use Rattle.frz_ways.specs.Texts.{exit_line, move_line, next_line}
+use Rattle.frz_ways.proofs.Chosen.{AsksForOne, FillsLocal, arm_found, known, local_code_of}
+use Rattle.frz_ways.proofs.Stages.{stage_told, stage_due}
+use Rattle.frz_ways.specs.declared.way_end.WayEnd.{WayEnd}
+use Rattle.frz_ways.specs.declared.way_end.WayEnd.TheVariants as ends
+use Rattle.frz_ways.specs.declared.session_end.PlayFault.{PlayFault}
+use Rattle.frz_ways.specs.declared.session_end.PlayFault.TheVariants as plays
+use Rattle.frz_ways.specs.declared.hearing.Heard.TheVariants as heard
+use Rattle.frz_ways.specs.declared.hearing.Reader.{Reader}
+use Rattle.frz_ways.specs.declared.hearing.Why.{Why}
 use Rattle.frz_ways.specs.declared.playing.Spot.{Spot}
 use Rattle.frz_ways.specs.declared.playing.Turn.{Turn}
-use Rattle.frz_ways.specs.declared.playing.Turn.TheVariants.{Over, On}
-use Rattle.frz_ways.specs.Dues.{due_by}
-use Rattle.frz_ways.specs.Ends.{told, IsUnfinished, Finishes}
-use Rattle.frz_ways.specs.Faults.{WroteBy, fault_of}
-use Rattle.frz_ways.specs.Lines.{LinePly, EndOfLine, line_player}
-use Rattle.frz_ways.specs.Sights.{choices_by, IsNextCode}
-use Rattle.frz_ways.specs.Texts.{arm_text, end_line, exit_line, move_line, next_line, plies_text, start_line, last_line}
-use Rattle.frz_ways.specs.Turns.{first_line, moved_text, over_text, turn_of, Answers, IsPlayed, TurnsTo, rest_text, Leaves, GoesBy}
-use Rattle.frz_ways.proofs.Chosen.{AsksForOne, FillsLocal, arm_found, at_in, known, local_code_of}
-use Rattle.frz_ways.proofs.Goings.{stage_told, stage_due, over_here, moves_on}
-use Rattle.frz_ways.proofs.Seen.{next_code_is}
-use Rattle.frz_ways.proofs.TextLines.{EndsLine, as_lines, ends_arm, ends_behind, ends_exit}
-use Rattle.frz_ways.proofs.Turning.{ply_due, never_failing, still_early}
+use Rattle.frz_ways.specs.declared.playing.Turn.TheVariants.{Over}
+use Rattle.frz_ways.specs.declared.end.TheConstants.{MOST_PLIES}
+use Rattle.frz_ways.specs.declared.opponent.Opponent.{Opponent}
+use Rattle.frz_ways.specs.declared.opponent.Opponent.TheVariants as opponents
+use Rattle.frz_ways.specs.WayEnds.{told, Finishes}
+use Rattle.frz_ways.specs.Hearing.{EndsWith, MayFollow, Hears}
+use Rattle.frz_ways.specs.Reading.{Input, Halt, reads}
+use Rattle.frz_ways.specs.Ways.{WayPly, EndOfWay, finder, way_player, GoesOn}
+use Rattle.frz_ways.specs.SessionTexts.{refused_text, why_line, end_text}
+use Rattle.frz_ways.specs.WayTexts.{ply_text, plies_text}
+use Rattle.frz_ways.specs.Turns.{moved_text, turn_of, by_codes, own_word, late_by, Answers, Leaves}
+use Rattle.frz_ways.proofs.OtherStands.{code_inside}
+use Rattle.frz_ways.proofs.Goings.{over_here, moves_by_codes, stops_here, replies_here, leads_front, way_front}
 
-ends_end : (end : LineEnd) → EndsLine (end_line end)
-ends_end ends.Mate = record { front = codes "mate"; is = refl }
-ends_end ends.Stalemate = record { front = codes "stalemate"; is = refl }
-ends_end (ends.Exit v) = ends_exit v
-ends_end ends.Cut = record { front = codes "cut"; is = refl }
+-- what is due at the spot, in the way's words
+abbrev pub Stands : Arena Step ℕ Value → Opponent → Colour → (ℕ → List ℕ) → Spot
+    → Stage (ℕ × ℕ) Value Halt → Type 0
+Stands arena opponent side kept spot x =
+    slice_index (kept spot.played) spot.number ≡ spot.code →
+    stage (way_player arena opponent side kept) spot.played (spot.played, spot.number) ≡ x
 
-not_empty : (front : List ℕ) → front ++ 10 ∷ [] ≡ [] → ⊥
-not_empty [] e = cc
-not_empty (x ∷ front) e = cc
+cut_by : (o : Opponent) (arena : Arena Step ℕ Value) (played entry code : ℕ) → entry ≡ code
+    → is_cut (finder arena o) played entry ≡ ((code == 1) && late_by o played)
+cut_by opponents.Codes arena played entry code e =
+    ap (λ (c : ℕ). (c == 1) && nat_le MOST_PLIES played) e
+cut_by opponents.Input arena played entry code e = sym (and_right (code == 1) false refl)
 
--- what ends with the line of the end is not empty
-pub unfinished : (first : List ℕ) (plies : List LinePly) (answer : Result LineEnd LineFault)
-    → IsUnfinished answer (first ++ (plies_text plies ++ last_line answer))
-unfinished first plies (Ok end) = λ e.
-    let ends = ends_behind first (plies_text plies ++ end_line end)
-    (ends_behind (plies_text plies) (end_line end) (ends_end end)) in
-    not_empty ends.front (sym ends.is ∙ e)
-unfinished first plies (Err fault) = tt
-
--- the store stopped the line before its end
-rest_unfinished : (side : Colour) (spot : Spot) (plies : List LinePly)
-    (answer : Result LineEnd LineFault) → IsUnfinished answer (rest_text side spot plies answer)
-rest_unfinished side spot plies answer =
-    unfinished (if spot.played == 0 then start_line side spot.code plies answer else []) plies
-    answer
-
-by_answers : (turn : Turn) (text : List ℕ) (result : Result Turn LineFault) (old new : SinkTold)
-    → Answers turn text result old new → WroteBy result text old new
-by_answers turn text result old new (inl a) =
-    subst (λ (z : Result Turn LineFault). WroteBy z text old new) (sym a.0) a.1
-by_answers turn text result old new (inr a) =
-    subst (λ (z : Result Turn LineFault). WroteBy z text old new) (sym a.0) a.1
-
-by_stop : (fault : LineFault) (result : Result Turn LineFault) (old new : SinkTold)
-    → WroteBy {T = Turn} (Err fault) [] old new → result ≡ Err fault → WroteBy result [] old new
-by_stop fault result old new w e =
-    subst (λ (z : Result Turn LineFault). WroteBy z [] old new) (sym e) w
-
--- where a turn leads
-to_next : (size : ℕ) (spot : Spot) (next : Next ℕ Value) (code : ℕ)
-    → ((n : ℕ) → next ≡ Inside n → n < size) → IsNextCode spot.code code
-    → (spot.code ≡ 1 → spot.played < MOST_PLIES) → TurnsTo size spot (turn_of next code)
-to_next size spot (Inside n) code inside is early = (inside n refl, is, early)
-to_next size spot (Outside v) code inside is early = tt
-
-if_answers : (P : Turn → Type 0) (turn : Turn) (text : List ℕ) (result : Result Turn LineFault)
-    (old new : SinkTold) → P turn → Answers turn text result old new → IfOk result P
-if_answers P turn text result old new p (inl a) =
-    subst (λ (z : Result Turn LineFault). IfOk z P) (sym a.0) p
-if_answers P turn text result old new p (inr a) =
-    subst (λ (z : Result Turn LineFault). IfOk z P) (sym a.0) tt
-
-pub turn_next : {arena : Arena Step ℕ Value} {size : ℕ} → IsFinite arena size
-    → (side : Colour) (spot : Spot) {arms : List (Arm Step ℕ Value)} (cs : List ℕ)
-    → arms ≡ arena.arms spot.number → length cs ≡ length arms → (spot.played ≡ 0)
-    ⊎ (is_failure spot.code ≡ false) → (due : Due)
-    → due ≡ due_by (spot.played == 0) (nat_le MOST_PLIES spot.played) spot.code
-    (node_code side (arena.node spot.number) (free_among arms cs) cs) (arena.node spot.number)
-    → (result : Result Turn LineFault) (old new : SinkTold)
-    → IsPlayed side spot due arms cs result old new → IfOk result (TurnsTo size spot)
-turn_next {arena} {size} finite side spot cs are many stands (dues.Wrong given) e result old new
-    h =
-    subst (λ (z : Result Turn LineFault). IfOk z (TurnsTo size spot)) (sym h.0) tt
-turn_next {arena} {size} finite side spot cs are many stands dues.NoBound e result old new h =
-    subst (λ (z : Result Turn LineFault). IfOk z (TurnsTo size spot)) (sym h.0) tt
-turn_next {arena} {size} finite side spot cs are many stands (dues.Mate m) e result old new h =
-    if_answers (TurnsTo size spot) (Over ends.Mate) (over_text side spot ends.Mate) result old new
-    tt h
-turn_next {arena} {size} finite side spot cs are many stands (dues.Stalemate m) e result old new
-    h =
-    if_answers (TurnsTo size spot) (Over ends.Stalemate) (over_text side spot ends.Stalemate) result
-    old new tt h
-turn_next {arena} {size} finite side spot cs are many stands dues.Cut e result old new h =
-    if_answers (TurnsTo size spot) (Over ends.Cut) (over_text side spot ends.Cut) result old new tt
-    h
-turn_next {arena} {size} finite side spot {arms} cs are many stands (dues.Ply m) e result old new
-    h =
-    let place = h.0 in
-    let x = h.1 in
-    let a = h.2 in
-    let d = ply_due (spot.played == 0) (nat_le MOST_PLIES spot.played) spot.code
-    (node_code side (arena.node spot.number) (free_among arms cs) cs) (arena.node spot.number) m
-    (sym e) in
-    let agrees = subst (λ (z : Node). spot.code ≡ node_code side z (free_among arms cs) cs) d.goes
-    d.agrees in
-    let next = next_code_is side m spot.code arms cs many agrees
-    (never_failing spot.played spot.code stands d.starts) place x h.3 in
-    let among : IsArm arena spot.number a = subst (λ (z : List (Arm Step ℕ Value)). Contains z a)
-    are (at_in arms place a h.4) in
-    let inside : (n : ℕ) → a.next ≡ Inside n
-    → n < size = λ n i. (finite.inside spot.number n a among i).0 in
-    if_answers (TurnsTo size spot) (turn_of a.next x.code) (moved_text side spot a) result old new
-    (to_next size spot a.next x.code inside next
-    (still_early spot.code spot.played MOST_PLIES d.early)) h.5
-
--- a line that is over here
-over_goes : (arena : Arena Step ℕ Value) (side : Colour) (kept : ℕ → List ℕ) (spot : Spot)
-    (text : List ℕ) (result : Result Turn LineFault) (f : EndOfLine)
-    → (slice_index (kept spot.played) spot.number ≡ spot.code
-    → stage (line_player arena side kept) spot.played (spot.played, spot.number) ≡ OverWay f)
-    → text ≡ rest_text side spot [] (told side f) → Leaves arena side kept spot [] f [] result
-    → GoesBy arena side kept spot text result
-over_goes arena side kept spot text result f stops is leaves = λ agrees plies end w.
-    let o = over_here (line_player arena side kept) MOST_PLIES spot.played refl tt tt
-    (spot.played, spot.number) plies end f w (stops agrees) in
-    subst (λ (e : EndOfLine). (rest : List ℕ)
-    × (text ++ rest ≡ rest_text side spot plies (told side e))
-    × Leaves arena side kept spot plies e rest result) (sym o.1)
-    (subst (λ (ys : List LinePly). (rest : List ℕ)
-    × (text ++ rest ≡ rest_text side spot ys (told side f))
-    × Leaves arena side kept spot ys f rest result) (sym o.0)
-    ([], append-nil text ∙ is, leaves))
-
-leaves_by : (arena : Arena Step ℕ Value) (side : Colour) (kept : ℕ → List ℕ) (spot : Spot)
-    (plies : List LinePly) (e : EndOfLine) (rest : List ℕ) (turn : Turn) (text : List ℕ)
-    (result : Result Turn LineFault) (old new : SinkTold)
-    → Leaves arena side kept spot plies e rest (Ok turn) → Answers turn text result old new
-    → Leaves arena side kept spot plies e rest result
-leaves_by arena side kept spot plies e rest turn text result old new l (inl a) =
-    subst (λ (z : Result Turn LineFault). Leaves arena side kept spot plies e rest z) (sym a.0) l
-leaves_by arena side kept spot plies e rest turn text result old new l (inr a) =
-    subst (λ (z : Result Turn LineFault). Leaves arena side kept spot plies e rest z) (sym a.0) tt
-
-none_text : (b : Bool) → let none : List ℕ =
-    [] in none ≡ (if b then none else none) ++ (none ++ none)
-none_text true = refl
-none_text false = refl
-
-joined : (first move plies last : List ℕ) → (first ++ (move ++ [])) ++ (plies ++ last) ≡ first
-    ++ ((move ++ plies) ++ last)
-joined first move plies last = simp (append_assoc, append-nil)
-
-joined_exit : (first move exit : List ℕ) → (first ++ (move ++ exit)) ++ [] ≡ first
-    ++ ((move ++ []) ++ exit)
-joined_exit first move exit = simp (append_assoc, append-nil)
-
--- a ply that was played
-ply_leaves : (arena : Arena Step ℕ Value) (side : Colour) (kept : ℕ → List ℕ) (spot : Spot)
-    (a : Arm Step ℕ Value) (next : Next ℕ Value) (code : ℕ) (first : LinePly)
-    (others : List LinePly) (end : EndOfLine) (result : Result Turn LineFault) (old new : SinkTold)
-    → ((n : ℕ) → next ≡ Inside n → slice_index (kept (suc spot.played)) n ≡ code)
-    → first.arm.mv ≡ a.mv
-    → first.arm.next ≡ named_next (after (suc spot.played)) next
-    → LeadsTo (λ p. IsWay (line_player arena side kept) (suc spot.played) tt p others end tt)
-    (λ v. (others ≡ []) × (end ≡ Exit v) × (tt {0} ≡ tt))
-    (named_next (after (suc spot.played)) next)
-    → Answers (turn_of next code) (first_line side spot ++ (move_line a.mv ++ next_line next))
-    result old new → (rest : List ℕ)
-    × ((first_line side spot ++ (move_line a.mv ++ next_line next)) ++ rest ≡ rest_text side spot
-    (first ∷ others) (told side end)) × Leaves arena side kept spot (first ∷ others) end rest result
-ply_leaves arena side kept spot a (Inside n) code first others end result old new is same to leads
-    answers =
-    let rest = plies_text others ++ last_line (told side end) in
-    let text = first_line side spot ++ (move_line a.mv ++ []) in
-    let whole : text ++ rest ≡ first_line side spot
-    ++ ((move_line first.arm.mv ++ plies_text others) ++ last_line (told side end)) = (
-    joined (first_line side spot) (move_line a.mv) (plies_text others) (last_line (told side end))
-    ∙ ap (λ (m : Step). first_line side spot
-    ++ ((move_line m ++ plies_text others) ++ last_line (told side end))) (sym same)) in (
-      rest,
-      whole,
-      leaves_by arena side kept spot (first ∷ others) end rest (On n code) text result
-          old new (is n refl, (first, others, refl, to, leads, refl)) answers,
-    )
-ply_leaves arena side kept spot a (Outside v) code first others end result old new is same to leads
-    answers =
-    let text = first_line side spot ++ (move_line a.mv ++ exit_line v) in
-    let out : EndOfLine = Exit v in
-    let whole : text ++ [] ≡ first_line side spot
-    ++ ((move_line first.arm.mv ++ []) ++ exit_line v) = (
-    joined_exit (first_line side spot) (move_line a.mv) (exit_line v)
-    ∙ ap (λ (m : Step). first_line side spot ++ ((move_line m ++ []) ++ exit_line v)) (sym same)) in
-    subst (λ (e : EndOfLine). (rest : List ℕ)
-    × (text ++ rest ≡ rest_text side spot (first ∷ others) (told side e))
-    × Leaves arena side kept spot (first ∷ others) e rest result) (sym leads.1)
-    (subst (λ (ys : List LinePly). (rest : List ℕ)
-    × (text ++ rest ≡ rest_text side spot (first ∷ ys) (told side out))
-    × Leaves arena side kept spot (first ∷ ys) out rest result) (sym leads.0) (
-      [],
-      whole,
-      leaves_by arena side kept spot (first ∷ []) out [] (Over (ends.Exit v)) text result
-          old new (refl, refl) answers,
-    ))
-
--- by what is due, the stage of the line's player
-line_stage : FillsLocal → (arena : Arena Step ℕ Value) (size : ℕ) → IsFinite arena size
-    → (side : Colour) (spot : Spot) (arms : List (Arm Step ℕ Value)) (cs : List ℕ)
-    (kept : ℕ → List ℕ)
+pub way_stage : FillsLocal → (arena : Arena Step ℕ Value) (size : ℕ) → IsFinite arena size
+    → (opponent : Opponent) (side : Colour) (spot : Spot) (arms : List (Arm Step ℕ Value))
+    (cs : List ℕ) (kept : ℕ → List ℕ)
     → arms ≡ arena.arms spot.number → cs ≡ map (arm_code side (kept (suc spot.played))) arms
-    → slice_index (kept spot.played) spot.number ≡ spot.code → (due : Due)
-    → due ≡ due_by (spot.played == 0) (nat_le MOST_PLIES spot.played) spot.code
+    → (due : Due)
+    → due ≡ due_by (spot.played == 0) (late_by opponent spot.played) spot.code
     (node_code side (arena.node spot.number) (free_among arms cs) cs) (arena.node spot.number)
-    → stage (line_player arena side kept) spot.played (spot.played, spot.number)
-    ≡ stage_told (spot.played, spot.number) spot.code due
-line_stage fills arena size finite side spot arms cs kept are same agrees due e =
-    let local = local_code_of fills arena size finite side kept spot.played spot.number arms cs are
-    same in
-    let cut = ap (λ (c : ℕ). (c == 1) && nat_le MOST_PLIES spot.played) agrees in
-    stage_due (line_player arena side kept) spot.played (spot.played, spot.number) spot.code
+    → Stands arena opponent side kept spot (stage_told (spot.played, spot.number) spot.code due)
+way_stage fills arena size finite opponent side spot arms cs kept are same due e = λ agrees.
+    let local =
+    local_code_of fills arena size finite side kept spot.played spot.number arms cs are same in
+    let cut = cut_by opponent arena spot.played (slice_index (kept spot.played) spot.number)
+    spot.code agrees in
+    stage_due (way_player arena opponent side kept) spot.played (spot.played, spot.number) spot.code
     (node_code side (arena.node spot.number) (free_among arms cs) cs) (spot.played == 0)
-    (nat_le MOST_PLIES spot.played) agrees (sym local) refl cut
+    (late_by opponent spot.played) agrees (sym local) refl cut
     ∙ ap (stage_told (spot.played, spot.number) spot.code) (sym e)
 
-inside_code : (arena : Arena Step ℕ Value) (side : Colour) (kept : List ℕ) (next : Next ℕ Value)
-    (code : ℕ) → words.next_code arena side (λ i. slice_index kept i) next ≡ code → (n : ℕ)
-    → next ≡ Inside n → slice_index kept n ≡ code
-inside_code arena side kept next code is n e =
-    ap (λ (z : Next ℕ Value). words.next_code arena side (λ i. slice_index kept i) z) (sym e) ∙ is
+-- the text and the bytes are what the turn adds to each way
+-- from here, but for the line of the start
+abbrev pub TailBy : Arena Step ℕ Value → Opponent → Colour → (ℕ → List ℕ) → Spot
+    → (old new : Reader)
+    → (bytes text : List ℕ) → Result Turn PlayFault → Type 0
+TailBy arena opponent side kept spot old new bytes text result =
+    slice_index (kept spot.played) spot.number ≡ spot.code →
+    (left : List ℕ) → MayFollow new left →
+    (plies : List WayPly) (end : EndOfWay) (last : Input) →
+    GoesOn arena opponent side kept spot.played (record { left = bytes ++ left; more = old.more }) spot.number
+    plies end last →
+    (rest : List ℕ) × (text ++ rest ≡ plies_text opponent side plies ++ end_text end)
+    × Leaves arena opponent side kept spot (record { left = left; more = new.more }) plies end last rest
+    result
 
-ply_goes : AsksForOne → (arena : Arena Step ℕ Value) (size : ℕ) → IsFinite arena size
-    → (side mover : Colour) (spot : Spot) (arms : List (Arm Step ℕ Value)) (cs : List ℕ)
-    (kept : ℕ → List ℕ)
-    → arms ≡ arena.arms spot.number → cs ≡ map (arm_code side (kept (suc spot.played))) arms
-    → (slice_index (kept spot.played) spot.number ≡ spot.code
-    → stage (line_player arena side kept) spot.played (spot.played, spot.number) ≡ Moves mover)
-    → (place : ℕ) (x : Choice) (a : Arm Step ℕ Value)
-    → IsFound has_code (is_win spot.code) spot.code (choices_by (same_colour mover side) arms cs)
-    place x → slice_get arms place ≡ Some a → (result : Result Turn LineFault) (old new : SinkTold)
-    → Answers (turn_of a.next x.code) (moved_text side spot a) result old new
-    → GoesBy arena side kept spot (moved_text side spot a) result
-ply_goes one arena size finite side mover spot arms cs kept are same due place x a found there
-    result old new answers = λ agrees plies end w.
-    let g = moves_on (line_player arena side kept) MOST_PLIES spot.played refl tt tt
-    (spot.played, spot.number) plies end mover w (due agrees) in
-    let f = arm_found arena size finite side mover kept spot.played spot.number spot.code arms cs
-    are
-    same agrees place x a found there in
-    let turn : Arm Step ℕ Value → Arm Step (ℕ × ℕ) Value = named (after (suc spot.played)) in
-    let arm : g.first.arm ≡ turn a =
-    (one (counted arena) side (known kept) mover (spot.played, spot.number) g.first.place place
-    g.first.arm (turn a) g.chosen f.chosen).1 in
-    let leads = subst (λ (z : Arm Step (ℕ × ℕ) Value). LeadsTo
-    (λ p. IsWay (line_player arena side kept) (suc spot.played) tt p g.others end tt)
-    (λ v. (g.others ≡ []) × (end ≡ Exit v) × (tt {0} ≡ tt)) z.next) arm g.leads in
-    subst (λ (ys : List LinePly). (rest : List ℕ)
-    × (moved_text side spot a ++ rest ≡ rest_text side spot ys (told side end))
-    × Leaves arena side kept spot ys end rest result) (sym g.are)
-    (ply_leaves arena side kept spot a a.next x.code g.first g.others end result old new
-    (inside_code arena side (kept (suc spot.played)) a.next x.code f.is)
-    (ap (λ (z : Arm Step (ℕ × ℕ) Value). z.mv) arm)
-    (ap (λ (z : Arm Step (ℕ × ℕ) Value). z.next) arm) leads answers)
+-- the turn of a way that is over
+abbrev pub turn_over : Result WayEnd PlayFault → Result Turn PlayFault
+turn_over (Ok answer) = Ok (Over answer)
+turn_over (Err fault) = Err fault
 
--- what a turn wrote, over codes like these
-abbrev pub TurnWrote : ((ℕ → List ℕ) → Type 0) → Arena Step ℕ Value → Colour → Spot
-    → Result Turn LineFault → (old new : SinkTold) → Type 0
-TurnWrote is arena side spot result old new =
-    (text : List ℕ) × IsLines text × WroteBy result text old new
-    × ((kept : ℕ → List ℕ) → is kept → GoesBy arena side kept spot text result)
+pub leaves_over : (arena : Arena Step ℕ Value) (opponent : Opponent) (side : Colour) (kept : ℕ → List ℕ) (spot : Spot)
+    (left : Input) (plies : List WayPly) (end : EndOfWay) (last : Input) (rest : List ℕ)
+    (answer : Result WayEnd PlayFault) (unread : List ℕ) → unread ++ last.left ≡ left.left
+    → Finishes answer (told side end) rest unread → Leaves arena opponent side kept spot left plies end last rest
+    (turn_over answer)
+leaves_over arena opponent side kept spot left plies end last rest (Ok answer) unread e f = (unread, e, f)
+leaves_over arena opponent side kept spot left plies end last rest (Err fault) unread e f = (unread, e, f)
 
--- nothing but a fault was answered
-stop_wrote : (is : (ℕ → List ℕ) → Type 0) (arena : Arena Step ℕ Value) (side : Colour) (spot : Spot)
-    (result : Result Turn LineFault) (old new : SinkTold) (fault : LineFault)
-    → WroteBy {T = Turn} (Err fault) [] old new → result ≡ Err fault
-    → ((kept : ℕ → List ℕ) → is kept → GoesBy arena side kept spot [] result)
-    → TurnWrote is arena side spot result old new
-stop_wrote is arena side spot result old new fault w e goes =
-    ([], inl refl, by_stop fault result old new w e, goes)
-
--- these codes were read for these moves in this turn
-abbrev pub IsReadBy : Colour → Spot → List (Arm Step ℕ Value) → List ℕ → (ℕ → List ℕ) → Type 0
-IsReadBy side spot arms cs kept = cs ≡ map (arm_code side (kept (suc spot.played))) arms
-
-over_wrote : FillsLocal → (arena : Arena Step ℕ Value) (size : ℕ)
-    → IsFinite arena size → (side : Colour) (spot : Spot) (arms : List (Arm Step ℕ Value))
-    (cs : List ℕ) → arms ≡ arena.arms spot.number → (due : Due)
-    → due ≡ due_by (spot.played == 0) (nat_le MOST_PLIES spot.played) spot.code
-    (node_code side (arena.node spot.number) (free_among arms cs) cs) (arena.node spot.number)
-    → (f : EndOfLine) (last : LineEnd)
-    → stage_told (spot.played, spot.number) spot.code due ≡ OverWay f → told side f ≡ Ok last
-    → (result : Result Turn LineFault) (old new : SinkTold)
-    → Answers (Over last) (over_text side spot last) result old new
-    → TurnWrote (IsReadBy side spot arms cs) arena side spot result old new
-over_wrote fills arena size finite side spot arms cs are due e f last stops is result old new h =
-    let text = over_text side spot last in
-    let whole : text ≡ rest_text side spot [] (told side f) =
-    ap (λ (z : Result LineEnd LineFault). rest_text side spot [] z) (sym is) in
-    let leaves : (kept : ℕ → List ℕ) → Leaves arena side kept spot [] f [] result = λ kept.
-    leaves_by arena side kept spot [] f [] (Over last) text result old new
-    (subst (λ (z : Result LineEnd LineFault). Finishes (Ok last) z []) (sym is) (refl, refl))
-    h in (
-      text,
-      as_lines text (ends_behind (first_line side spot) (end_line last) (ends_end last)),
-      by_answers (Over last) text result old new h,
-      (λ kept same.
-          over_goes arena side kept spot text result f
-          (λ agrees. line_stage fills arena size finite side spot arms cs kept are same agrees due e
-          ∙ stops) whole (leaves kept)),
+-- a way that is over here
+pub over_tail : (arena : Arena Step ℕ Value) (opponent : Opponent) (side : Colour) (kept : ℕ → List ℕ) (spot : Spot)
+    (reader : Reader) (text : List ℕ) (f : EndOfWay) (answer : Result WayEnd PlayFault)
+    → Stands arena opponent side kept spot (OverWay f) → text ≡ end_text f
+    → Finishes answer (told side f) [] []
+    → TailBy arena opponent side kept spot reader reader [] text (turn_over answer)
+over_tail arena opponent side kept spot reader text f answer stands is finishes =
+    λ agrees left may plies end last w.
+    let here : Input = record { left = left; more = reader.more } in
+    let o = over_here arena opponent side kept spot.played here last spot.number plies end f w
+    (stands agrees) in (
+      [],
+      append-nil text ∙ (is
+          ∙ (ap end_text (sym o.1)
+          ∙ ap (λ (ys : List WayPly). plies_text opponent side ys ++ end_text end) (sym o.0))),
+      leaves_over arena opponent side kept spot here plies end last [] answer []
+          (ap (λ (z : Input). z.left) o.2)
+          (subst (λ (z : EndOfWay). Finishes answer (told side z) [] []) (sym o.1) finishes),
     )
 
--- what a turn wrote, by what was due
-module _ (one : AsksForOne) (fills : FillsLocal)
-    {arena : Arena Step ℕ Value} {size : ℕ} (finite : IsFinite arena size) (side : Colour)
-    (spot : Spot) {arms : List (Arm Step ℕ Value)} (cs : List ℕ)
-    (are : arms ≡ arena.arms spot.number) where
-  pub turn_wrote : (due : Due)
-      → due ≡ due_by (spot.played == 0) (nat_le MOST_PLIES spot.played) spot.code
-      (node_code side (arena.node spot.number) (free_among arms cs) cs) (arena.node spot.number)
-      → (result : Result Turn LineFault) (old new : SinkTold)
-      → IsPlayed side spot due arms cs result old new
-      → TurnWrote (IsReadBy side spot arms cs) arena side spot result old new
-  turn_wrote (dues.Wrong given) e result old new h =
-      let w : WrongEntry =
-      record { side = side; number = spot.number; kept = spot.code; given = given } in
-      let f : EndOfLine = Wrong (spot.played, spot.number) spot.code given in
-      stop_wrote (IsReadBy side spot arms cs) arena side spot result old new (faults.Wrong w) h.1
-      h.0
-      (λ kept same.
-      over_goes arena side kept spot [] result f
-      (λ agrees. line_stage fills arena size finite side spot arms cs kept are same agrees
-      (dues.Wrong given) e) (none_text (spot.played == 0))
-      (subst (λ (z : Result Turn LineFault). Leaves arena side kept spot [] f [] z) (sym h.0)
-      (refl, refl)))
-  turn_wrote dues.NoBound e result old new h =
-      let f : EndOfLine = NoBound in
-      stop_wrote (IsReadBy side spot arms cs) arena side spot result old new faults.NoBound h.1 h.0
-      (λ kept same.
-      over_goes arena side kept spot [] result f
-      (λ agrees. line_stage fills arena size finite side spot arms cs kept are same agrees
-      dues.NoBound e) (none_text (spot.played == 0))
-      (subst (λ (z : Result Turn LineFault). Leaves arena side kept spot [] f [] z) (sym h.0)
-      (refl, refl)))
-  turn_wrote (dues.Mate m) e result old new h =
-      over_wrote fills arena size finite side spot arms cs are (dues.Mate m) e
-      (Mated m) ends.Mate refl refl result old new h
-  turn_wrote (dues.Stalemate m) e result old new h =
-      over_wrote fills arena size finite side spot arms cs are (dues.Stalemate m) e
-      (Stalemated m) ends.Stalemate refl refl result old new h
-  turn_wrote dues.Cut e result old new h =
-      over_wrote fills arena size finite side spot arms cs are dues.Cut e Cut
-      ends.Cut refl refl result old new h
-  turn_wrote (dues.Ply m) e result old new h =
-      let a = h.2 in
-      let text = moved_text side spot a in (
-        text,
-        as_lines text (ends_behind (first_line side spot) (arm_text a) (ends_arm a)),
-        by_answers (turn_of a.next h.1.code) text result old new h.5,
-        (λ kept same.
-            ply_goes one arena size finite side m spot arms cs kept are same
-            (λ agrees. line_stage fills arena size finite side spot arms cs kept are same agrees
-            (dues.Ply m) e) h.0 h.1 a h.3 h.4 result old new h.5),
-      )
+joined : (first move plies last : List ℕ)
+    → (first ++ (move ++ [])) ++ (plies ++ last) ≡ ((first ++ move) ++ plies) ++ last
+joined first move plies last = simp (append_assoc, append-nil)
 
--- the store stopped a turn before anything was written, by a fault that leaves a line unfinished
-stopped_before : (is : (ℕ → List ℕ) → Type 0) (arena : Arena Step ℕ Value) (side : Colour)
-    (spot : Spot) (fault : LineFault) (result : Result Turn LineFault) (out : SinkTold)
-    → WroteBy {T = Turn} (Err fault) [] out out
-    → ((answer : Result LineEnd LineFault) (rest : List ℕ) → IsUnfinished answer rest
-    → Finishes (Err fault) answer rest) → result ≡ Err fault
-    → TurnWrote is arena side spot result out out
-stopped_before is arena side spot fault result out wrote leaves e =
-    stop_wrote is arena side spot result out out fault wrote e
-    (λ kept any agrees plies end w.
-    let rest = rest_text side spot plies (told side end) in (
+joined_exit : (first move exit : List ℕ) → (first ++ (move ++ exit)) ++ [] ≡ ((first ++ move) ++ [])
+    ++ exit
+joined_exit first move exit = simp (append_assoc, append-nil)
+
+-- a ply that was played, behind this front
+pub ply_leaves : (arena : Arena Step ℕ Value) (opponent : Opponent) (side : Colour) (kept : ℕ → List ℕ) (spot : Spot)
+    (u last : Input) (front : List ℕ) (move : Step) (next : Next ℕ Value) (code : ℕ)
+    (first : WayPly) (others : List WayPly) (end : EndOfWay)
+    → ((n : ℕ) → next ≡ Inside n → slice_index (kept (suc spot.played)) n ≡ code)
+    → ply_text opponent side first ≡ front ++ move_line move
+    → first.arm.next ≡ named_next (after (suc spot.played)) next
+    → LeadsTo (λ p. IsWay (way_player arena opponent side kept) (suc spot.played) u p others end last)
+    (λ v. (others ≡ []) × (end ≡ Exit v) × (last ≡ u)) (named_next (after (suc spot.played)) next)
+    → (rest : List ℕ)
+    × ((front ++ (move_line move ++ next_line next)) ++ rest ≡ plies_text opponent side (first ∷ others)
+    ++ end_text end) × Leaves arena opponent side kept spot u (first ∷ others) end last rest
+    (Ok (turn_of next code))
+ply_leaves arena opponent side kept spot u last front move (Inside n) code first others end is same to
+    leads =
+    let rest = plies_text opponent side others ++ end_text end in (
       rest,
-      refl,
-      subst (λ (z : Result Turn LineFault). Leaves arena side kept spot plies end rest z) (sym e)
-          (leaves (told side end) rest (rest_unfinished side spot plies (told side end))),
-    ))
+      joined front (move_line move) (plies_text opponent side others) (end_text end)
+          ∙ ap (λ (l : List ℕ). (l ++ plies_text opponent side others) ++ end_text end) (sym same),
+      (is n refl, (first, others, refl, to, leads, refl)),
+    )
+ply_leaves arena opponent side kept spot u last front move (Outside v) code first others end is same to
+    leads =
+    let none : List WayPly = [] in
+    let out : EndOfWay = Exit v in
+    let whole : (front ++ (move_line move ++ exit_line v)) ++ [] ≡ (ply_text opponent side first ++ [])
+    ++ exit_line v = (
+    joined_exit front (move_line move) (exit_line v) ∙ ap (λ (l : List ℕ). (l ++ []) ++ exit_line v)
+    (sym same)) in
+    subst (λ (e : EndOfWay). (rest : List ℕ)
+    × ((front ++ (move_line move ++ exit_line v)) ++ rest ≡ plies_text opponent side (first ∷ others)
+    ++ end_text e) × Leaves arena opponent side kept spot u (first ∷ others) e last rest
+    (Ok (Over (ends.Exit v)))) (sym leads.1)
+    (subst (λ (ys : List WayPly). (rest : List ℕ)
+    × ((front ++ (move_line move ++ exit_line v)) ++ rest ≡ plies_text opponent side (first ∷ ys)
+    ++ end_text out) × Leaves arena opponent side kept spot u (first ∷ ys) out last rest
+    (Ok (Over (ends.Exit v)))) (sym leads.0)
+    ([], whole, ([], ap (λ (z : Input). z.left) leads.2, (refl, refl, refl))))
 
-pub stopped_by : (is : (ℕ → List ℕ) → Type 0) (arena : Arena Step ℕ Value) (side : Colour)
-    (spot : Spot) (fault : StoreFault) (result : Result Turn LineFault) (out : SinkTold)
-    → IsErrAnd result (λ e. e ≡ fault_of fault) → TurnWrote is arena side spot result out out
-stopped_by is arena side spot fault (Ok turn) out h = absurd h
-stopped_by is arena side spot Failed (Err e) out h =
-    stopped_before is arena side spot faults.Store (Err e) out (took_nothing out)
-    (λ answer rest left. left) (ap Err h)
-stopped_by is arena side spot NoMemory (Err e) out h =
-    stopped_before is arena side spot faults.NoMemory (Err e) out (took_nothing out)
-    (λ answer rest left. left) (ap Err h)
+-- the same where the sink failed, with the same text
+pub failed_leaves : (arena : Arena Step ℕ Value) (opponent : Opponent) (side : Colour) (kept : ℕ → List ℕ) (spot : Spot)
+    (u last : Input) (plies : List WayPly) (end : EndOfWay) (text : List ℕ) (turn : Turn)
+    → EndsWith last.left u.left → (rest : List ℕ)
+    × (text ++ rest ≡ plies_text opponent side plies ++ end_text end)
+    × Leaves arena opponent side kept spot u plies end last rest (Ok turn) → (rest : List ℕ)
+    × (text ++ rest ≡ plies_text opponent side plies ++ end_text end)
+    × Leaves arena opponent side kept spot u plies end last rest (Err (plays.Line faults.Output))
+failed_leaves arena opponent side kept spot u last plies end text turn front h =
+    (h.0, h.1, (front.0, front.1, tt))
+
+answered_leaves : (arena : Arena Step ℕ Value) (opponent : Opponent) (side : Colour) (kept : ℕ → List ℕ) (spot : Spot)
+    (u last : Input) (plies : List WayPly) (end : EndOfWay) (text written : List ℕ)
+    (turn : Turn) (result : Result Turn PlayFault) (old new : SinkTold) → EndsWith last.left u.left
+    → (rest : List ℕ) × (text ++ rest ≡ plies_text opponent side plies ++ end_text end)
+    × Leaves arena opponent side kept spot u plies end last rest (Ok turn)
+    → Answers turn written result old new → (rest : List ℕ)
+    × (text ++ rest ≡ plies_text opponent side plies ++ end_text end)
+    × Leaves arena opponent side kept spot u plies end last rest result
+answered_leaves arena opponent side kept spot u last plies end text written turn result old new front h
+    (inl a) =
+    subst (λ (z : Result Turn PlayFault). (rest : List ℕ)
+    × (text ++ rest ≡ plies_text opponent side plies ++ end_text end)
+    × Leaves arena opponent side kept spot u plies end last rest z) (sym a.0) h
+answered_leaves arena opponent side kept spot u last plies end text written turn result old new front h
+    (inr a) =
+    subst (λ (z : Result Turn PlayFault). (rest : List ℕ)
+    × (text ++ rest ≡ plies_text opponent side plies ++ end_text end)
+    × Leaves arena opponent side kept spot u plies end last rest z) (sym a.0)
+    (failed_leaves arena opponent side kept spot u last plies end text turn front h)
+
+own_text : (o : Opponent) (side mover : Colour) (x : WayPly) (move : Step) → x.mover ≡ mover
+    → by_codes o (same_colour mover side) ≡ true → x.arm.mv ≡ move
+    → ply_text o side x ≡ own_word o ++ move_line move
+own_text opponents.Codes side mover x move m own is = ap move_line is
+own_text opponents.Input side mover x move m own is =
+    let c : same_colour x.mover side ≡ true = ap (λ z. same_colour z side) m ∙ own in
+    rw c (ap (λ (z : Step). codes "move " ++ move_line z) is)
+
+pub reply_text : (o : Opponent) (side mover : Colour) (x : WayPly) (move : Step) (n : ℕ)
+    → x.mover ≡ mover → by_codes o (same_colour mover side) ≡ false → x.refused ≡ n
+    → x.arm.mv ≡ move → ply_text o side x ≡ (refused_text n ++ codes "reply ") ++ move_line move
+reply_text opponents.Codes side mover x move n m own refused is = absurd (cc)
+reply_text opponents.Input side mover x move n m own refused is =
+    let c : same_colour x.mover side ≡ false = ap (λ z. same_colour z side) m ∙ own in
+    rw c (ap (λ (z : Step). refused_text x.refused ++ (codes "reply " ++ move_line z)) is
+    ∙ (ap (λ (k : ℕ). refused_text k ++ (codes "reply " ++ move_line move)) refused
+    ∙ sym (append_assoc (refused_text n) (codes "reply ") (move_line move))))
+
+-- a ply that the codes find
+pub own_tail : AsksForOne → (arena : Arena Step ℕ Value) (size : ℕ) → IsFinite arena size
+    → (opponent : Opponent) (side mover : Colour) (spot : Spot) (reader : Reader)
+    (arms : List (Arm Step ℕ Value)) (cs : List ℕ) (kept : ℕ → List ℕ)
+    → by_codes opponent (same_colour mover side) ≡ true
+    → arms ≡ arena.arms spot.number
+    → cs ≡ map (arm_code side (kept (suc spot.played))) arms
+    → Stands arena opponent side kept spot (Moves mover)
+    → (place : ℕ) (x : Choice) (a : Arm Step ℕ Value)
+    → IsFound has_code (is_win spot.code) spot.code (choices_by (same_colour mover side) arms cs) place x
+    → slice_get arms place ≡ Some a → (result : Result Turn PlayFault) (old new : SinkTold)
+    → Answers (turn_of a.next (get_or cs place 0)) (moved_text (own_word opponent) a) result old new
+    → TailBy arena opponent side kept spot reader reader [] (moved_text (own_word opponent) a) result
+own_tail one arena size finite opponent side mover spot reader arms cs kept own are same stands
+    place x a found there result old new answers = λ agrees left may plies end last w.
+    let here : Input = record { left = left; more = reader.more } in
+    let g = moves_by_codes arena opponent side kept spot.played here last spot.number plies end mover own w
+    (stands agrees) in
+    let chosen =
+    (arm_found arena size finite side mover kept spot.played spot.number spot.code arms cs are
+    same agrees place x a found there).chosen in
+    let turn : Arm Step ℕ Value → Arm Step (ℕ × ℕ) Value = named (after (suc spot.played)) in
+    let arm : g.0.first.arm ≡ turn a =
+    (one (counted arena) side (known kept) mover (spot.played, spot.number) g.0.first.place place
+    g.0.first.arm (turn a) g.1 chosen).1 in
+    let leads = subst (λ (z : Arm Step (ℕ × ℕ) Value). LeadsTo
+    (λ p. IsWay (way_player arena opponent side kept) (suc spot.played) here p g.0.others end last)
+    (λ v. (g.0.others ≡ []) × (end ≡ Exit v) × (last ≡ here)) z.next) arm g.0.leads in
+    let text = own_text opponent side mover g.0.first a.mv g.0.moves own
+    (ap (λ (z : Arm Step (ℕ × ℕ) Value). z.mv) arm) in
+    subst (λ (ys : List WayPly). (rest : List ℕ)
+    × (moved_text (own_word opponent) a ++ rest ≡ plies_text opponent side ys ++ end_text end)
+    × Leaves arena opponent side kept spot here ys end last rest result) (sym g.0.are)
+    (answered_leaves arena opponent side kept spot here last (g.0.first ∷ g.0.others) end
+    (moved_text (own_word opponent) a) (moved_text (own_word opponent) a)
+    (turn_of a.next (get_or cs place 0)) result old new
+    (way_front arena opponent side kept spot.played here last (spot.played, spot.number) plies end w)
+    (ply_leaves arena opponent side kept spot here last (own_word opponent) a.mv a.next (get_or cs place 0)
+    g.0.first g.0.others end (code_inside side (kept (suc spot.played)) arms cs same place a there) text
+    (ap (λ (z : Arm Step (ℕ × ℕ) Value). z.next) arm) leads) answers)
+
+module _ (arena : Arena Step ℕ Value) (opponent : Opponent) (side mover : Colour) (kept : ℕ → List ℕ) (spot : Spot)
+    (old new : Reader) (own : by_codes opponent (same_colour mover side) ≡ false)
+    (stands : Stands arena opponent side kept spot (Moves mover)) where
+  -- the reply, behind the refused lines
+  pub reply_tail : (arms : List (Arm Step ℕ Value)) (cs : List ℕ) → arms ≡ arena.arms spot.number
+      → cs ≡ map (arm_code side (kept (suc spot.played))) arms
+      → (source left : SourceTold) (out between taken : SinkTold) (place : ℕ)
+      → (hears : Hears arms old new (Ok (heard.Reply place)) source left out between)
+      → (a : Arm Step ℕ Value) → slice_get arms place ≡ Some a → (result : Result Turn PlayFault)
+      → Answers (turn_of a.next (get_or cs place 0)) (moved_text (codes "reply ") a) result between
+      taken → TailBy arena opponent side kept spot old new hears.bytes
+      (refused_text hears.refused ++ moved_text (codes "reply ") a) result
+  reply_tail arms cs are same source left out between taken place hears a there result answers =
+      λ agrees rest_in may plies end last w.
+      let u : Input = record { left = rest_in; more = new.more } in
+      let n = hears.refused in
+      let gives : reads (arena.arms spot.number) old.more (hears.bytes ++ rest_in) ≡ Reply n place
+      u = subst (λ (z : List (Arm Step ℕ Value)). reads z old.more (hears.bytes ++ rest_in)
+      ≡ Reply n place u) are (hears.heard rest_in may) in
+      let r = replies_here arena opponent side kept spot.played
+      (record { left = hears.bytes ++ rest_in; more = old.more }) last u spot.number plies end
+      mover n place own w (stands agrees) gives in
+      let r_there = r.there in
+      let a_there : slice_get (arena.arms spot.number) place ≡ Some a = subst
+      (λ (z : List (Arm Step ℕ Value)). slice_get z place ≡ Some a) are there in
+      let turn : Arm Step ℕ Value → Arm Step (ℕ × ℕ) Value = named (after (suc spot.played)) in
+      let counts = slice_get-map turn (arena.arms spot.number) place in
+      let c_there : slice_get (map turn (arena.arms spot.number)) place ≡ Some (turn a) =
+      rw (counts, a_there) refl in
+      let arm : r.on.first.arm ≡ turn a = cc in
+      let leads = subst (λ (z : Arm Step (ℕ × ℕ) Value). LeadsTo
+      (λ p. IsWay (way_player arena opponent side kept) (suc spot.played) u p r.on.others end last)
+      (λ v. (r.on.others ≡ []) × (end ≡ Exit v) × (last ≡ u)) z.next) arm r.on.leads in
+      let front = refused_text n ++ codes "reply " in
+      let text = reply_text opponent side mover r.on.first a.mv n r.on.moves own r.refused_is
+      (ap (λ (z : Arm Step (ℕ × ℕ) Value). z.mv) arm) in
+      let ends = leads_front arena opponent side kept spot.played u last r.on.others end
+      (λ p h. way_front arena opponent side kept (suc spot.played) u last p r.on.others end h) (turn a).next
+      leads in
+      let behind : front ++ (move_line a.mv ++ next_line a.next) ≡ refused_text n ++ moved_text
+      (codes "reply ") a = append_assoc (refused_text n) (codes "reply ")
+      (move_line a.mv ++ next_line a.next) in
+      subst (λ (ys : List WayPly). (rest : List ℕ)
+      × ((refused_text n ++ moved_text (codes "reply ") a) ++ rest ≡ plies_text opponent side ys
+      ++ end_text end) × Leaves arena opponent side kept spot u ys end last rest result) (sym r.on.are)
+      (subst (λ (t : List ℕ). (rest : List ℕ)
+      × (t ++ rest ≡ plies_text opponent side (r.on.first ∷ r.on.others) ++ end_text end)
+      × Leaves arena opponent side kept spot u (r.on.first ∷ r.on.others) end last rest result) behind
+      (answered_leaves arena opponent side kept spot u last (r.on.first ∷ r.on.others) end
+      (front ++ (move_line a.mv ++ next_line a.next)) (moved_text (codes "reply ") a)
+      (turn_of a.next (get_or cs place 0)) result between taken ends
+      (ply_leaves arena opponent side kept spot u last front a.mv a.next (get_or cs place 0) r.on.first
+      r.on.others end (code_inside side (kept (suc spot.played)) arms cs same place a there) text
+      (ap (λ (z : Arm Step (ℕ × ℕ) Value). z.next) arm) leads) answers))
+
+  -- the input stops, behind them
+  pub stop_tail : (arms : List (Arm Step ℕ Value)) → arms ≡ arena.arms spot.number
+      → (source left : SourceTold) (out between : SinkTold) (why : Why)
+      → (hears : Hears arms old new (Ok (heard.Stop why)) source left out between)
+      → (answer : Result WayEnd PlayFault)
+      → Finishes answer (told side (Stopped (record { refused = hears.refused; why = why }))) [] []
+      → TailBy arena opponent side kept spot old new hears.bytes
+      (refused_text hears.refused ++ why_line why)
+      (turn_over answer)
+  stop_tail arms are source left out between why hears answer finishes =
+      λ agrees rest_in may plies end last w.
+      let u : Input = record { left = rest_in; more = new.more } in
+      let halt : Halt = record { refused = hears.refused; why = why } in
+      let gives : reads (arena.arms spot.number) old.more (hears.bytes ++ rest_in) ≡ Stop halt u =
+      subst (λ (z : List (Arm Step ℕ Value)). reads z old.more (hears.bytes ++ rest_in)
+      ≡ Stop halt u) are (hears.heard rest_in may) in
+      let o = stops_here arena opponent side kept spot.played
+      (record { left = hears.bytes ++ rest_in; more = old.more }) last u spot.number plies end
+      mover halt own w (stands agrees) gives in (
+        [],
+        append-nil (refused_text hears.refused ++ why_line why)
+            ∙ (ap end_text (sym o.1)
+            ∙ ap (λ (ys : List WayPly). plies_text opponent side ys ++ end_text end) (sym o.0)),
+        leaves_over arena opponent side kept spot u plies end last [] answer []
+            (ap (λ (z : Input). z.left) o.2)
+            (subst (λ (z : EndOfWay). Finishes answer (told side z) [] []) (sym o.1) finishes),
+      )

@@ -8,7 +8,6 @@ pub mod Lines
 pub mod ChessGames
 pub mod Texts
 pub mod Ends
-pub mod Turns
 pub mod BestLine
 pub mod Reading
 pub mod Sessions
@@ -17,4 +16,8 @@ pub mod SessionEnds
 pub mod SessionFaults
 pub mod PlaySession
 pub mod Hearing
-pub mod SessionTurns
+pub mod Ways
+pub mod WayTexts
+pub mod WayEnds
+pub mod Turns
+pub mod PlayWay

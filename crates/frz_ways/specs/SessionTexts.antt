@@ -37,7 +37,7 @@ end_text NoBound = []
 end_text (Mated mover) = codes "mate\n"
 end_text (Stalemated mover) = codes "stalemate\n"
 end_text (Exit v) = exit_line v
-end_text Cut = []
+end_text Cut = codes "cut\n"
 end_text (Stopped halt) = refused_text halt.refused ++ why_line halt.why
 
 -- a start that is refused has no line

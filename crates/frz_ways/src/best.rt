@@ -1,5 +1,5 @@
 //! The best line of a side from a position of a table file's set.
-ghost use Rattle.std.specs.Prelude.{◌≡◌, ◌↔◌, ◌≤◌, ℕ, List, Err};
+ghost use Rattle.std.specs.Prelude.{◌≡◌, ◌↔◌, ◌≤◌, ℕ, List, [], Some, Err};
 ghost use Rattle.frz_fide.specs.Valid.{IsValid};
 ghost use Rattle.frz_index.specs.Members.{Member};
 ghost use Rattle.frz_store.specs.Told.{store_of, sink_of, StoreQuiet};
@@ -11,15 +11,28 @@ ghost use Rattle.frz_ways.specs.Kept.{told_codes, MayRead};
 ghost use Rattle.frz_ways.specs.BestLine.{TellsLine};
 
 use crate::end::{LineEnd, LineFault};
-use crate::line::play_line;
+use crate::opponent::{Opponent, Player};
+use crate::start::play_from;
+use crate::way_end::line_answer;
 use frz_board::{Colour, Position};
-use frz_exits::RuleBook;
-use frz_game::Game;
-use frz_game::laws::numbers::{different_arms, numbered};
 use frz_steps::Steps;
-use frz_store::{Sink, Store};
+use frz_store::{Failed, Sink, Source, Store};
 use frz_table::TableFile;
 use std::sync::ledger::Ledger;
+
+/// The input of a line, which has no bytes.
+#[derive(Drop)]
+struct NoInput;
+
+impl Source for NoInput {
+    ghost left = { λ _. Some [] };
+
+    ghost faults = { λ _. 0 };
+
+    fn read(&mut self, _into: &mut [u8]) -> Result<usize, Failed> {
+        Ok(0)
+    }
+}
 
 /// Writes the best line of the side from the position: the bound of its kept code, the moves, and
 /// the end, each line as it is made. The side goes by its kept codes and the opponent by them too.
@@ -52,18 +65,11 @@ pub fn best_line<S: Store, O: Sink, L: Ledger>(
     ensures cause { StoreCause result (store_of S.Store store.old) (store_of S.Store store.new) }
     ensures later { steps.old ≤ steps.new }
 {
-    let Some(start) = table.set().number(p) else {
-        return Err(LineFault::Outside);
+    let player = Player {
+        side,
+        opponent: Opponent::Codes,
     };
-    numbered();
-    different_arms();
-    let rules = table.rules();
-    let book = RuleBook::new(rules);
-    let game = Game {
-        set: table.set(),
-        rules,
-        book: &book,
-    };
-    let code = table.entry(store, side, start)?;
-    play_line(&game, table, store, side, start, code, out, steps)
+    let mut nothing = NoInput;
+    let answer = play_from(table, store, p, player, &mut nothing, out, steps);
+    line_answer(answer)
 }

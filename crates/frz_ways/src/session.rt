@@ -1,161 +1,72 @@
-//! The loop that plays a session.
-ghost use Rattle.std.specs.Prelude.{◌≡◌, ◌⊎◌, ◌≤◌, ◌<◌, ◌+◌, ◌*◌, ℕ, suc, List, true, false, Err, IfOk};
+//! The session of a side from a position of a table file's set.
+ghost use Rattle.std.specs.Prelude.{◌≡◌, ◌↔◌, ◌≤◌, ℕ, List, Err};
+ghost use Rattle.frz_fide.specs.Valid.{IsValid};
+ghost use Rattle.frz_index.specs.Members.{Member};
 ghost use Rattle.frz_store.specs.Told.{store_of, source_of, sink_of, StoreQuiet};
 ghost use Rattle.frz_answer.specs.Answers.{IsLines};
 ghost use Rattle.frz_answer.specs.World.{spent_by};
 ghost use Rattle.frz_table.specs.Tables.{Carries, table_size};
-ghost use Rattle.frz_arena.specs.Codes.{is_failure};
-ghost use Rattle.frz_arena.specs.Turns.{Alternates};
-ghost use Rattle.frz_ways.specs.Costs.{arms_reads};
 ghost use Rattle.frz_ways.specs.Kept.{told_codes, MayRead};
-ghost use Rattle.frz_ways.specs.Reads.{HasDifferentArms};
 ghost use Rattle.frz_ways.specs.declared.end.LineFault.TheVariants as faults;
 ghost use Rattle.frz_ways.specs.declared.session_end.PlayFault.TheVariants.{Line};
-ghost use Rattle.frz_ways.specs.SessionFaults.{WroteBy, StoreCause, InputCause, TookBytes};
-ghost use Rattle.frz_ways.specs.Hearing.{HasEnded, StaysEnded};
-ghost use Rattle.frz_ways.specs.SessionTurns.{GoesBy, TurnsTo, Plays};
+ghost use Rattle.frz_ways.specs.SessionFaults.{WroteBy, StoreCause, InputCause, TookBytes, MayHold};
+ghost use Rattle.frz_ways.specs.PlaySession.{TellsSession};
 
-use crate::hearing::Reader;
-use crate::seeing::sight;
-use crate::session_end::{MOST_LINES, PlayFault, SessionEnd};
-use crate::session_playing::{Spot, Turn, play, write_opening};
-use frz_board::Colour;
-use frz_graph::laws::filled;
-use frz_graph::{Lists, NumberedGame};
+use crate::opponent::{Opponent, Player};
+use crate::session_end::{PlayFault, SessionEnd};
+use crate::start::play_from;
+use crate::way_end::session_answer;
+use frz_board::{Colour, Position};
 use frz_steps::Steps;
 use frz_store::{Sink, Source, Store};
 use frz_table::TableFile;
 use std::sync::ledger::Ledger;
 
-/// One turn: the moves of the number and their codes are read, and what is due is done.
-fn turn<G: NumberedGame<L>, S: Store, I: Source, O: Sink, L: Ledger>(
-    game: &G,
+/// Plays the side from the position against the input, and writes the session as it is played: the
+/// bound of its kept code, the moves of the side, which goes by its kept codes, the replies, and
+/// the end. The input is taken byte by byte, and nothing behind the last line of the session. With
+/// a fault the lines before it were written, and the line that names it is the caller's.
+pub fn play_session<S: Store, I: Source, O: Sink, L: Ledger>(
     table: &TableFile,
     store: &mut S,
+    p: &Position,
     side: Colour,
-    spot: Spot,
-    lists: &mut Lists,
-    reader: &mut Reader,
-    input: &mut I,
-    out: &mut O,
-    steps: &mut Steps<L>,
-) -> Result<Turn, PlayFault>
-    requires sound { G.sound game.now }
-    requires turns { Alternates (G.arena game.now) }
-    requires inside { spot.number < G.count game.now }
-    requires many { table_size table.now ≡ G.count game.now }
-    requires different { HasDifferentArms (G.arena game.now) }
-    requires carried { Carries (S.files store.old) table.now }
-    requires stands { (spot.is_start ≡ true) ⊎ (is_failure spot.code ≡ false) }
-    requires ended { reader.old.ended ≡ true → HasEnded (source_of I.Source input.old) }
-    ensures next { IfOk result
-        (TurnsTo (G.arena game.now) (G.count game.now) side spot reader.old reader.new) }
-    ensures wrote { (text bytes : List ℕ) × IsLines text
-        × WroteBy result text (sink_of O.Sink out.old) (sink_of O.Sink out.new)
-        × TookBytes bytes (source_of I.Source input.old) (source_of I.Source input.new)
-        × StaysEnded reader.old reader.new bytes
-        × ((read : List ℕ)
-        × MayRead (told_codes table.now side (S.files store.old)) (table_size table.now) read
-        × ((codes : ℕ → List ℕ) (played : ℕ) → codes (suc played) ≡ read
-        → GoesBy (G.arena game.now) side codes played spot reader.old reader.new bytes text
-        result)) }
-    ensures still_ended { reader.new.ended ≡ true → HasEnded (source_of I.Source input.new) }
-    ensures placed { result ≡ Err (Line faults.Outside) → ⊥ }
-    ensures quiet { StoreQuiet (store_of S.Store store.old) (store_of S.Store store.new) }
-    ensures asked { S.asked store.new ≤
-        S.asked store.old + 4 * arms_reads ((G.arena game.now).arms spot.number) }
-    ensures calls { S.calls store.new ≤
-        S.calls store.old + arms_reads ((G.arena game.now).arms spot.number) }
-    ensures cause { StoreCause result (store_of S.Store store.old) (store_of S.Store store.new) }
-    ensures input { InputCause result (source_of I.Source input.old)
-        (source_of I.Source input.new) }
-    ensures step { steps.new ≤ steps.old + 1 }
-    ensures later { steps.old ≤ steps.new }
-{
-    filled();
-    let due = sight(
-        game,
-        table,
-        store,
-        side,
-        spot.number,
-        spot.code,
-        spot.is_start,
-        false,
-        lists,
-        steps,
-    )?;
-    write_opening(side, spot, due, out)?;
-    play(side, spot, due, lists, reader, input, out)
-}
-
-/// Plays the session of the side from a number with this kept code, and writes its text.
-pub fn play_from<G: NumberedGame<L>, S: Store, I: Source, O: Sink, L: Ledger>(
-    game: &G,
-    table: &TableFile,
-    store: &mut S,
-    side: Colour,
-    start: u32,
-    code: u32,
     input: &mut I,
     out: &mut O,
     steps: &mut Steps<L>,
 ) -> Result<SessionEnd, PlayFault>
-    requires sound { G.sound game.now }
-    requires turns { Alternates (G.arena game.now) }
-    requires inside { start < G.count game.now }
-    requires many { table_size table.now ≡ G.count game.now }
-    requires different { HasDifferentArms (G.arena game.now) }
+    requires valid { IsValid p.now }
     requires carried { Carries (S.files store.old) table.now }
-    ensures wrote { (text bytes : List ℕ) × IsLines text
+    ensures outside { (result ≡ Err (Line faults.Outside))
+        ↔ (Member table.now.rules.groups p.now → ⊥) }
+    ensures untouched { result ≡ Err (Line faults.Outside)
+        → (store.new ≡ store.old) × (input.new ≡ input.old) × (out.new ≡ out.old)
+        × (steps.new ≡ steps.old) }
+
+    // The text and the bytes are those of the session by the codes that were read after each
+    // number of plies, against some input. Where the store and the input tell, they are those that
+    // these tell.
+    ensures played { (text bytes : List ℕ) × IsLines text
         × WroteBy result text (sink_of O.Sink out.old) (sink_of O.Sink out.new)
         × TookBytes bytes (source_of I.Source input.old) (source_of I.Source input.new)
         × ((read : ℕ → List ℕ)
         × ((k : ℕ) → MayRead (told_codes table.now side (S.files store.old)) (table_size table.now)
         (read k))
-        × ((codes : ℕ → List ℕ) → ((k : ℕ) → codes (suc k) ≡ read k)
-        → Plays (G.arena game.now) side codes start code
-        (source_of I.Source input.old) bytes text result
+        × ((codes : ℕ → List ℕ) → ((k : ℕ) → codes k ≡ read k)
+        → (whole : List ℕ) × MayHold (source_of I.Source input.old) whole
+        × TellsSession table.now.rules side codes p.now whole bytes text result
         (spent_by (store_of S.Store store.old) steps.old)
         (spent_by (store_of S.Store store.new) steps.new))) }
-    ensures placed { result ≡ Err (Line faults.Outside) → ⊥ }
     ensures quiet { StoreQuiet (store_of S.Store store.old) (store_of S.Store store.new) }
     ensures cause { StoreCause result (store_of S.Store store.old) (store_of S.Store store.new) }
     ensures input { InputCause result (source_of I.Source input.old)
         (source_of I.Source input.new) }
     ensures later { steps.old ≤ steps.new }
 {
-    let mut lists = Lists::new();
-    let mut reader = Reader {
-        more: MOST_LINES,
-        ended: false,
+    let player = Player {
+        side,
+        opponent: Opponent::Input,
     };
-    let mut spot = Spot {
-        number: start,
-        code,
-        is_start: true,
-    };
-    'plies: loop {
-        match turn(
-            game,
-            table,
-            store,
-            side,
-            spot,
-            &mut lists,
-            &mut reader,
-            input,
-            out,
-            steps,
-        )? {
-            Turn::Over(end) => return Ok(end),
-            Turn::On(number, code) => {
-                spot = Spot {
-                    number,
-                    code,
-                    is_start: false,
-                };
-            }
-        }
-    }
+    let answer = play_from(table, store, p, player, input, out, steps);
+    session_answer(answer)
 }

@@ -1,11 +1,11 @@
-//! The lines of a line's text.
+//! The lines of a way's text.
 ghost use Rattle.std.specs.Prelude.{◌≡◌, ◌++◌};
 ghost use Rattle.frz_board.specs.Texts.{text_of};
 ghost use Rattle.frz_store.specs.Told.{sink_of};
 ghost use Rattle.frz_answer.specs.Texts.{WroteText};
-ghost use Rattle.frz_ways.specs.Texts.{value_text, exit_line, move_line, next_line, arm_text, end_line};
+ghost use Rattle.frz_ways.specs.Texts.{value_text, exit_line, move_line, next_line, arm_text};
+ghost use Rattle.frz_ways.specs.Turns.{moved_text};
 
-use crate::end::LineEnd;
 use frz_answer::{write_numbered, write_piece};
 use frz_board::{Move, move_text};
 use frz_graph::{Arm, Next};
@@ -63,21 +63,21 @@ fn write_next<O: Sink>(next: Next, out: &mut O) -> Result<(), Failed>
 }
 
 /// Writes the line of a move and that of its exit.
-pub fn write_arm<O: Sink>(arm: Arm, out: &mut O) -> Result<(), Failed>
+fn write_arm<O: Sink>(arm: Arm, out: &mut O) -> Result<(), Failed>
     ensures { WroteText (arm_text arm) result (sink_of O.Sink out.old) (sink_of O.Sink out.new) }
 {
     write_move(arm.mv, out)?;
     write_next(arm.next, out)
 }
 
-/// Writes the line of the end.
-pub fn write_end<O: Sink>(end: LineEnd, out: &mut O) -> Result<(), Failed>
-    ensures { WroteText (end_line end) result (sink_of O.Sink out.old) (sink_of O.Sink out.new) }
+/// Writes the line of a move behind this word, if it is one, and that of its exit.
+pub fn write_moved<O: Sink>(word: &[u8], arm: Arm, out: &mut O) -> Result<(), Failed>
+    ensures { WroteText (moved_text word.now arm) result
+        (sink_of O.Sink out.old) (sink_of O.Sink out.new) }
 {
-    match end {
-        LineEnd::Mate => write_piece(b"mate\n", out),
-        LineEnd::Stalemate => write_piece(b"stalemate\n", out),
-        LineEnd::Exit(value) => write_exit(value, out),
-        LineEnd::Cut => write_piece(b"cut\n", out),
+    if word.is_empty() {
+        return write_arm(arm, out);
     }
+    write_piece(word, out)?;
+    write_arm(arm, out)
 }

@@ -1,80 +1,35 @@
-use Rattle.std.proofs.Common.{◌≡◌, ◌<◌, List, sym, subst, arith}
-use Rattle.frz_sets.specs.Sets.{size_of}
-use Rattle.frz_sets.specs.Sound.{IsSound}
-use Rattle.frz_sets.specs.Views.{RuleLines, GroupLine}
-use Rattle.frz_store.specs.Told.{store_of, sink_of}
+use Rattle.frz_store.specs.Told.{store_of, source_of, sink_of}
 use Rattle.frz_answer.specs.World.{spent_by}
-use Rattle.frz_exits.specs.Books.{value_by}
-use Rattle.frz_game.proofs.Lemmas.{finite}
-use Rattle.frz_index.specs.Members.{Num}
-use Rattle.frz_ways.specs.Kept.{told_codes}
-use Rattle.frz_ways.specs.Turns.{Plays}
-use Rattle.frz_ways.proofs.Kept.{by_table, code_kept, may_before}
 use Rattle.frz_table.specs.Tables.{table_size}
-use Rattle.frz_ways.proofs.Starting.{nothing_told, no_member, start_inside, start_unread, line_told}
-use Rattle.frz_ways.proofs.Spending.{code_read}
+use Rattle.frz_ways.specs.Kept.{told_codes}
+use Rattle.frz_ways.proofs.LineOfWay.{line_cause, line_told, outside_line, outside_way}
 use Rattle.frz_ways.proofs.best.best_line.Goals as goal
 
-pub returns-in_default-clause-wrote : goal.returns-in_default-clause-wrote
-returns-in_default-clause-wrote g c =
-    nothing_told _ (table_size c.args.table.now) c.args.table.now.rules _ _ _
-    (spent_by (store_of g.S.Store c.args.store.now) c.args.steps.now)
-    (no_member c.args.p.now c.set.ensures c.in_default.ensures.member)
+pub returns-clause-outside : goal.returns-clause-outside
+returns-clause-outside g c =
+    let is = c.line_answer.ensures in
+    let out = c.play_from-answer.ensures.outside in
+    (λ e. out.0 (outside_way is e), λ none. outside_line is (out.1 none))
 
-pub entry-requires-clause-number : goal.entry-requires-clause-number
-entry-requires-clause-number g c =
-    let rules = c.args.table.now.rules in
-    start_inside rules c.args.p.now (c.numbered.ensures.numbering rules (value_by rules))
-    c.set.ensures c.number.ensures.function c.in-Some.is
-
-pub returns-in_err-code-clause-wrote : goal.returns-in_err-code-clause-wrote
-returns-in_err-code-clause-wrote g c =
-    start_unread _ (table_size c.args.table.now) c.args.table.now.rules _ _ _
-    (code_read (store_of g.S.Store c.args.store.now) (store_of g.S.Store c.entry.new.store)
-    c.args.steps.now c.in_err-code.ensures.asked c.in_err-code.ensures.calls)
-    c.in_err-code.field-0.0 c.from_residual.result c.from_residual.ensures.1
-
-pub play_line-requires-clause-sound : goal.play_line-requires-clause-sound
-play_line-requires-clause-sound g c =
-    let sound = subst IsSound (sym c.rules-rules.ensures.rules) c.rules-rules.ensures.sound in
-    finite c.rules-rules.result.now (λ q. value_by c.new-book.result.rules.now q)
-    (λ q valid. c.new-book.result.small q valid) sound.size
-
-pub play_line-requires-clause-inside : goal.play_line-requires-clause-inside
-play_line-requires-clause-inside g c =
-    let rules = c.args.table.now.rules in
-    subst (λ (r : RuleLines). c.in-Some.start < size_of r.groups) (sym c.rules-rules.ensures.rules)
-    (start_inside rules c.args.p.now (c.numbered.ensures.numbering rules (value_by rules))
-    c.set.ensures c.number.ensures.function c.in-Some.is)
+pub returns-clause-untouched : goal.returns-clause-untouched
+returns-clause-untouched g c = λ e.
+    let u = c.play_from-answer.ensures.untouched (outside_way c.line_answer.ensures e) in
+    (u.0, u.2, u.3)
 
 pub returns-clause-wrote : goal.returns-clause-wrote
 returns-clause-wrote g c =
     let table = c.args.table.now in
-    let side = c.args.side in
-    let files = g.S.Store.files c.args.store.now in
-    let start = c.in-Some.start in
-    let code = c.in_ok-code.code in
-    let mid = spent_by (store_of g.S.Store c.entry.new.store) c.args.steps.now in
-    let now = spent_by (store_of g.S.Store c.play_line.new.store) c.play_line.new.steps in
-    let w = c.play_line.ensures.wrote in
-    line_told (told_codes table side files) (table_size table) table.rules side c.args.p.now
-    c.play_line.result
-    (sink_of g.O.Sink c.args.out.now) (sink_of g.O.Sink c.play_line.new.out) now start code
-    (subst (λ (z : List GroupLine). start ≡ Num z c.args.p.now) c.set.ensures
-    c.in-Some.ensures.number)
-    (code_read (store_of g.S.Store c.args.store.now) (store_of g.S.Store c.entry.new.store)
-    c.args.steps.now c.in_ok-code.ensures.asked c.in_ok-code.ensures.calls)
-    (start_inside table.rules c.args.p.now
-    (c.numbered.ensures.numbering table.rules (value_by table.rules))
-    c.set.ensures c.number.ensures.function c.in-Some.is) (search arith)
-    (code_kept table side files start code c.in_ok-code.ensures.code) w.0 w.1 w.2 w.3.0
-    (λ k. may_before table side (table_size table) (w.3.0 k)
-    c.in_ok-code.ensures.quiet.unwritten.files (w.3.1 k))
-    (λ codes same. by_table {table = table.rules}
-    (λ arena. Plays arena side codes start code w.0 c.play_line.result mid now)
-    c.new-book.ensures c.rules-rules.ensures.rules (w.3.2 codes same))
+    let old = c.args.store.now in
+    let new = c.play_from-answer.new.store in
+    line_told (told_codes table c.args.side (g.S.Store.files old)) (table_size table) table.rules
+    c.args.side c.args.p.now c.line_answer.result _ _ (sink_of g.O.Sink c.args.out.now)
+    (sink_of g.O.Sink c.play_from-answer.new.out)
+    (spent_by (store_of g.S.Store old) c.args.steps.now)
+    (spent_by (store_of g.S.Store new) c.play_from-answer.new.steps)
+    c.line_answer.ensures c.play_from-answer.ensures.played
 
-pub play_line-requires-clause-different : goal.play_line-requires-clause-different
-play_line-requires-clause-different g c = λ i k l n.
-    c.different_arms.ensures c.rules-rules.result.now
-    (λ q. value_by c.new-book.result.rules.now q) i k l n
+pub returns-clause-cause : goal.returns-clause-cause
+returns-clause-cause g c =
+    line_cause c.line_answer.result (store_of g.S.Store c.args.store.now)
+    (store_of g.S.Store c.play_from-answer.new.store) c.line_answer.ensures
+    c.play_from-answer.ensures.cause

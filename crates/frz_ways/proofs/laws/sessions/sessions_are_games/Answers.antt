@@ -1,5 +1,5 @@
 use Rattle.frz_game.specs.Games.{graph_by}
-use Rattle.frz_ways.proofs.Lemmas.{way_is_game}
+use Rattle.frz_ways.proofs.GamesOfChess.{way_is_game}
 use Rattle.frz_ways.specs.Reading.{opened}
 use Rattle.frz_ways.specs.Sessions.{session_player}
 use Rattle.frz_ways.proofs.laws.sessions.sessions_are_games.Goals as goal
