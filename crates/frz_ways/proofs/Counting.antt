@@ -1,4 +1,4 @@
--- How much a way may still do, and that the count of its plies fits.
+-- How much a way may still do, and how many plies it may have.
 use Rattle.std.proofs.Common.{◌≡◌, ◌≤◌, ◌<◌, ◌+◌, ◌*◌, ℕ, suc, ◌⊎◌, inl, inr, true, false, refl, subst, arith}
 use Rattle.frz_board.specs.declared.man.Colour.{Colour}
 use Rattle.frz_board.specs.Moving.{Step}
@@ -6,7 +6,7 @@ use Rattle.frz_sets.specs.declared.exit.Value.{Value}
 use Rattle.frz_store.specs.Told.{StoreTold, StoreQuiet}
 use Rattle.frz_arena.specs.Arena.{Arena}
 use Rattle.frz_arena.specs.Codes.{is_win}
-use Rattle.frz_arena.proofs.Lemmas.{IsFew, line_left, few_after, left_after, few_fits}
+use Rattle.frz_arena.proofs.Lemmas.{IsFew, line_left, few_after, left_after}
 use Rattle.frz_ways.specs.declared.end.TheConstants.{MOST_PLIES}
 use Rattle.frz_ways.specs.declared.hearing.Reader.{Reader}
 use Rattle.frz_ways.specs.declared.opponent.Opponent.{Opponent}
@@ -77,11 +77,3 @@ module _ (arena : Arena Step ℕ Value) (side : Colour) (spot : Spot) (old new :
       subst (λ k. line_left MOST_PLIES k code < line_left MOST_PLIES spot.played spot.code) e
       (left_after MOST_PLIES spot.played spot.code code (next_of spot code less.0 less.1))
   left_on opponents.Input less = less
-
-  -- the count of plies fits
-  pub fits_on : (o : Opponent) → LeavesLess o arena side spot old new number code
-      → HasFew o arena side old spot → spot.played + 1 < 4294967296
-  fits_on opponents.Codes less few =
-      few_fits MOST_PLIES spot.played spot.code (omega arith) few
-      (elim less.0 [ inl h ↦ inl h.0 | inr h ↦ inr h.0 ])
-  fits_on opponents.Input less few = omega (arith, less, few)

@@ -6,7 +6,7 @@ use Rattle.frz_ways.specs.declared.playing.Turn.{Turn}
 use Rattle.frz_ways.specs.declared.playing.Turn.TheVariants.{On}
 use Rattle.frz_ways.specs.Kept.{told_codes}
 use Rattle.frz_ways.specs.Turns.{TurnsTo}
-use Rattle.frz_ways.proofs.Counting.{few_at_start, few_on, fits_on, left_on, quiet_here}
+use Rattle.frz_ways.proofs.Counting.{few_at_start, few_on, left_on, quiet_here}
 use Rattle.frz_ways.proofs.Kept.{may_before}
 use Rattle.frz_table.specs.Tables.{table_size}
 use Rattle.frz_ways.proofs.Played.{at_start, next_far, over_far, fault_far}
