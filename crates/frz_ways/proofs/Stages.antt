@@ -1,5 +1,5 @@
 -- What is due at a number as a stage of a way, and its moves as the program sees them.
-use Rattle.std.proofs.Common.{◌≡◌, ◌==◌, ◌&&◌, ℕ, suc, inl, inr, Bool, true, false, List, [], ◌∷◌, map, refl, sym, subst, ap, ◌∙◌, if◌then◌else◌}
+use Rattle.std.proofs.Common.{◌≡◌, ◌==◌, ◌&&◌, ℕ, Bool, true, false, List, [], ◌∷◌, map, refl, sym, ap, ◌∙◌, if◌then◌else◌}
 use Rattle.std.specs.Prelude.{slice_index}
 use Rattle.frz_board.specs.declared.man.Colour.{Colour}
 use Rattle.frz_board.specs.Men.{same_colour}
@@ -10,14 +10,12 @@ use Rattle.frz_arena.specs.declared.node.Node.{Node}
 use Rattle.frz_arena.specs.declared.node.Node.TheVariants as nodes
 use Rattle.frz_arena.specs.Arena.{Arena}
 use Rattle.frz_arena.specs.Choices.{choice_of}
-use Rattle.frz_arena.specs.Chosen.{IsChosen}
 use Rattle.frz_arena.specs.Codes.{is_failure}
 use Rattle.frz_arena.specs.Counted.{after, counted}
 use Rattle.frz_arena.specs.LocalCodes.{local_code}
 use Rattle.frz_arena.specs.Names.{named}
-use Rattle.frz_arena.specs.Plies.{LeadsTo}
-use Rattle.frz_arena.specs.WayEnds.{End, Wrong, NoBound, Mated, Stalemated, Exit, Cut}
-use Rattle.frz_arena.specs.Ways.{Player, Ply, Opponent, ByCodes, Stage, Over, Moves, is_cut, stage, stage_of, IsTakenBy, IsStopBy, IsWay}
+use Rattle.frz_arena.specs.WayEnds.{Wrong, NoBound, Mated, Stalemated, Cut}
+use Rattle.frz_arena.specs.Ways.{Player, Stage, Over, Moves, is_cut, stage, stage_of}
 use Rattle.frz_arena.proofs.Lemmas.{counted_next}
 use Rattle.frz_exits.specs.Values.{class_of, lag_of}
 use Rattle.frz_graph.specs.EntryCodes.{arm_code}

@@ -6,9 +6,9 @@ ghost use Rattle.frz_answer.specs.Texts.{WroteText};
 ghost use Rattle.frz_ways.specs.Hearing.{HasEnded, HearsLine, Hears, IsThere, after_line, no_line};
 ghost use Rattle.frz_ways.specs.SessionFaults.{InputCause};
 
-use crate::session_end::{PlayFault, PlayLimit};
 use crate::input_line::{LineBytes, NextLine, read_line};
 use crate::naming::place_of;
+use crate::session_end::{PlayFault, PlayLimit};
 use frz_answer::write_piece;
 use frz_graph::NextList;
 use frz_store::{Failed, Sink, Source};

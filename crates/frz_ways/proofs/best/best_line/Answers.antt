@@ -1,4 +1,4 @@
-use Rattle.frz_store.specs.Told.{store_of, source_of, sink_of}
+use Rattle.frz_store.specs.Told.{store_of, sink_of}
 use Rattle.frz_answer.specs.World.{spent_by}
 use Rattle.frz_table.specs.Tables.{table_size}
 use Rattle.frz_ways.specs.Kept.{told_codes}

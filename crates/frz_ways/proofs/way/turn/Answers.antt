@@ -1,4 +1,4 @@
-use Rattle.std.proofs.Common.{◌≡◌, ◌==◌, ℕ, List, map, sym, subst}
+use Rattle.std.proofs.Common.{◌≡◌, ℕ, List, map, sym, subst}
 use Rattle.std.specs.Prelude.{⊤}
 use Rattle.frz_arena.proofs.Lemmas.{one_chosen}
 use Rattle.frz_graph.specs.EntryCodes.{arm_code}
