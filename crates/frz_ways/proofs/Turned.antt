@@ -56,12 +56,30 @@ use Rattle.frz_ways.specs.Turns.{moved_text, turn_of, by_codes, own_word, late_b
 use Rattle.frz_ways.proofs.OtherStands.{code_inside}
 use Rattle.frz_ways.proofs.Goings.{over_here, moves_by_codes, stops_here, replies_here, leads_front, way_front}
 
--- what is due at the spot, in the way's words
-abbrev pub Stands : Arena Step ℕ Value → Opponent → Colour → (ℕ → List ℕ) → Spot
-    → Stage (ℕ × ℕ) Value Halt → Type 0
-Stands arena opponent side kept spot x =
-    slice_index (kept spot.played) spot.number ≡ spot.code →
-    stage (way_player arena opponent side kept) spot.played (spot.played, spot.number) ≡ x
+module _ (arena : Arena Step ℕ Value) (opponent : Opponent) (side : Colour) (kept : ℕ → List ℕ)
+    (spot : Spot) where
+  -- what is due at the spot, in the way's words
+  abbrev pub Stands : Stage (ℕ × ℕ) Value Halt → Type 0
+  Stands x =
+      slice_index (kept spot.played) spot.number ≡ spot.code →
+      stage (way_player arena opponent side kept) spot.played (spot.played, spot.number) ≡ x
+
+  -- what a text leaves of a way from here, but for the line of the start, and how it goes on
+  abbrev pub LeavesText : Input → List WayPly → EndOfWay → Input → (text : List ℕ)
+      → Result Turn PlayFault → Type 0
+  LeavesText left plies end last text result =
+      (rest : List ℕ) × (text ++ rest ≡ plies_text opponent side plies ++ end_text end)
+      × Leaves arena opponent side kept spot left plies end last rest result
+
+  -- the text and the bytes are what the turn adds to each way from here, but for that line
+  abbrev pub TailBy : (old new : Reader) → (bytes text : List ℕ) → Result Turn PlayFault → Type 0
+  TailBy old new bytes text result =
+      slice_index (kept spot.played) spot.number ≡ spot.code →
+      (left : List ℕ) → MayFollow new left →
+      (plies : List WayPly) (end : EndOfWay) (last : Input) →
+      GoesOn arena opponent side kept spot.played (record { left = bytes ++ left; more = old.more })
+      spot.number plies end last →
+      LeavesText (record { left = left; more = new.more }) plies end last text result
 
 cut_by : (o : Opponent) (arena : Arena Step ℕ Value) (played entry code : ℕ) → entry ≡ code
     → is_cut (finder arena o) played entry ≡ ((code == 1) && late_by o played)
@@ -87,53 +105,10 @@ way_stage fills arena size finite opponent side spot arms cs kept are same due e
     (late_by opponent spot.played) agrees (sym local) refl cut
     ∙ ap (stage_told (spot.played, spot.number) spot.code) (sym e)
 
--- the text and the bytes are what the turn adds to each way
--- from here, but for the line of the start
-abbrev pub TailBy : Arena Step ℕ Value → Opponent → Colour → (ℕ → List ℕ) → Spot
-    → (old new : Reader)
-    → (bytes text : List ℕ) → Result Turn PlayFault → Type 0
-TailBy arena opponent side kept spot old new bytes text result =
-    slice_index (kept spot.played) spot.number ≡ spot.code →
-    (left : List ℕ) → MayFollow new left →
-    (plies : List WayPly) (end : EndOfWay) (last : Input) →
-    GoesOn arena opponent side kept spot.played (record { left = bytes ++ left; more = old.more }) spot.number
-    plies end last →
-    (rest : List ℕ) × (text ++ rest ≡ plies_text opponent side plies ++ end_text end)
-    × Leaves arena opponent side kept spot (record { left = left; more = new.more }) plies end last rest
-    result
-
 -- the turn of a way that is over
 abbrev pub turn_over : Result WayEnd PlayFault → Result Turn PlayFault
 turn_over (Ok answer) = Ok (Over answer)
 turn_over (Err fault) = Err fault
-
-pub leaves_over : (arena : Arena Step ℕ Value) (opponent : Opponent) (side : Colour) (kept : ℕ → List ℕ) (spot : Spot)
-    (left : Input) (plies : List WayPly) (end : EndOfWay) (last : Input) (rest : List ℕ)
-    (answer : Result WayEnd PlayFault) (unread : List ℕ) → unread ++ last.left ≡ left.left
-    → Finishes answer (told side end) rest unread → Leaves arena opponent side kept spot left plies end last rest
-    (turn_over answer)
-leaves_over arena opponent side kept spot left plies end last rest (Ok answer) unread e f = (unread, e, f)
-leaves_over arena opponent side kept spot left plies end last rest (Err fault) unread e f = (unread, e, f)
-
--- a way that is over here
-pub over_tail : (arena : Arena Step ℕ Value) (opponent : Opponent) (side : Colour) (kept : ℕ → List ℕ) (spot : Spot)
-    (reader : Reader) (text : List ℕ) (f : EndOfWay) (answer : Result WayEnd PlayFault)
-    → Stands arena opponent side kept spot (OverWay f) → text ≡ end_text f
-    → Finishes answer (told side f) [] []
-    → TailBy arena opponent side kept spot reader reader [] text (turn_over answer)
-over_tail arena opponent side kept spot reader text f answer stands is finishes =
-    λ agrees left may plies end last w.
-    let here : Input = record { left = left; more = reader.more } in
-    let o = over_here arena opponent side kept spot.played here last spot.number plies end f w
-    (stands agrees) in (
-      [],
-      append-nil text ∙ (is
-          ∙ (ap end_text (sym o.1)
-          ∙ ap (λ (ys : List WayPly). plies_text opponent side ys ++ end_text end) (sym o.0))),
-      leaves_over arena opponent side kept spot here plies end last [] answer []
-          (ap (λ (z : Input). z.left) o.2)
-          (subst (λ (z : EndOfWay). Finishes answer (told side z) [] []) (sym o.1) finishes),
-    )
 
 joined : (first move plies last : List ℕ)
     → (first ++ (move ++ [])) ++ (plies ++ last) ≡ ((first ++ move) ++ plies) ++ last
@@ -143,75 +118,81 @@ joined_exit : (first move exit : List ℕ) → (first ++ (move ++ exit)) ++ [] �
     ++ exit
 joined_exit first move exit = simp (append_assoc, append-nil)
 
--- a ply that was played, behind this front
-pub ply_leaves : (arena : Arena Step ℕ Value) (opponent : Opponent) (side : Colour) (kept : ℕ → List ℕ) (spot : Spot)
-    (u last : Input) (front : List ℕ) (move : Step) (next : Next ℕ Value) (code : ℕ)
-    (first : WayPly) (others : List WayPly) (end : EndOfWay)
-    → ((n : ℕ) → next ≡ Inside n → slice_index (kept (suc spot.played)) n ≡ code)
-    → ply_text opponent side first ≡ front ++ move_line move
-    → first.arm.next ≡ named_next (after (suc spot.played)) next
-    → LeadsTo (λ p. IsWay (way_player arena opponent side kept) (suc spot.played) u p others end last)
-    (λ v. (others ≡ []) × (end ≡ Exit v) × (last ≡ u)) (named_next (after (suc spot.played)) next)
-    → (rest : List ℕ)
-    × ((front ++ (move_line move ++ next_line next)) ++ rest ≡ plies_text opponent side (first ∷ others)
-    ++ end_text end) × Leaves arena opponent side kept spot u (first ∷ others) end last rest
-    (Ok (turn_of next code))
-ply_leaves arena opponent side kept spot u last front move (Inside n) code first others end is same to
-    leads =
-    let rest = plies_text opponent side others ++ end_text end in (
-      rest,
-      joined front (move_line move) (plies_text opponent side others) (end_text end)
-          ∙ ap (λ (l : List ℕ). (l ++ plies_text opponent side others) ++ end_text end) (sym same),
-      (is n refl, (first, others, refl, to, leads, refl)),
-    )
-ply_leaves arena opponent side kept spot u last front move (Outside v) code first others end is same to
-    leads =
-    let none : List WayPly = [] in
-    let out : EndOfWay = Exit v in
-    let whole : (front ++ (move_line move ++ exit_line v)) ++ [] ≡ (ply_text opponent side first ++ [])
-    ++ exit_line v = (
-    joined_exit front (move_line move) (exit_line v) ∙ ap (λ (l : List ℕ). (l ++ []) ++ exit_line v)
-    (sym same)) in
-    subst (λ (e : EndOfWay). (rest : List ℕ)
-    × ((front ++ (move_line move ++ exit_line v)) ++ rest ≡ plies_text opponent side (first ∷ others)
-    ++ end_text e) × Leaves arena opponent side kept spot u (first ∷ others) e last rest
-    (Ok (Over (ends.Exit v)))) (sym leads.1)
-    (subst (λ (ys : List WayPly). (rest : List ℕ)
-    × ((front ++ (move_line move ++ exit_line v)) ++ rest ≡ plies_text opponent side (first ∷ ys)
-    ++ end_text out) × Leaves arena opponent side kept spot u (first ∷ ys) out last rest
-    (Ok (Over (ends.Exit v)))) (sym leads.0)
-    ([], whole, ([], ap (λ (z : Input). z.left) leads.2, (refl, refl, refl))))
+module _ (arena : Arena Step ℕ Value) (opponent : Opponent) (side : Colour) (kept : ℕ → List ℕ)
+    (spot : Spot) where
+  leaves_over : (left : Input) (plies : List WayPly) (end : EndOfWay) (last : Input)
+      (rest : List ℕ) (answer : Result WayEnd PlayFault) (unread : List ℕ)
+      → unread ++ last.left ≡ left.left → Finishes answer (told side end) rest unread
+      → Leaves arena opponent side kept spot left plies end last rest (turn_over answer)
+  leaves_over left plies end last rest (Ok answer) unread e f = (unread, e, f)
+  leaves_over left plies end last rest (Err fault) unread e f = (unread, e, f)
 
--- the same where the sink failed, with the same text
-pub failed_leaves : (arena : Arena Step ℕ Value) (opponent : Opponent) (side : Colour) (kept : ℕ → List ℕ) (spot : Spot)
-    (u last : Input) (plies : List WayPly) (end : EndOfWay) (text : List ℕ) (turn : Turn)
-    → EndsWith last.left u.left → (rest : List ℕ)
-    × (text ++ rest ≡ plies_text opponent side plies ++ end_text end)
-    × Leaves arena opponent side kept spot u plies end last rest (Ok turn) → (rest : List ℕ)
-    × (text ++ rest ≡ plies_text opponent side plies ++ end_text end)
-    × Leaves arena opponent side kept spot u plies end last rest (Err (plays.Line faults.Output))
-failed_leaves arena opponent side kept spot u last plies end text turn front h =
-    (h.0, h.1, (front.0, front.1, tt))
+  -- a way that is over here, or that the input stops
+  whole_end : (here last : Input) (plies : List WayPly) (end f : EndOfWay) (text : List ℕ)
+      (answer : Result WayEnd PlayFault) → (plies ≡ []) × (end ≡ f) × (last ≡ here)
+      → text ≡ end_text f → Finishes answer (told side f) [] []
+      → LeavesText arena opponent side kept spot here plies end last text (turn_over answer)
+  whole_end here last plies end f text answer o is finishes = (
+    [],
+    append-nil text ∙ (is
+        ∙ (ap end_text (sym o.1)
+        ∙ ap (λ (ys : List WayPly). plies_text opponent side ys ++ end_text end) (sym o.0))),
+    leaves_over here plies end last [] answer [] (ap (λ (z : Input). z.left) o.2)
+        (subst (λ (z : EndOfWay). Finishes answer (told side z) [] []) (sym o.1) finishes),
+  )
 
-answered_leaves : (arena : Arena Step ℕ Value) (opponent : Opponent) (side : Colour) (kept : ℕ → List ℕ) (spot : Spot)
-    (u last : Input) (plies : List WayPly) (end : EndOfWay) (text written : List ℕ)
-    (turn : Turn) (result : Result Turn PlayFault) (old new : SinkTold) → EndsWith last.left u.left
-    → (rest : List ℕ) × (text ++ rest ≡ plies_text opponent side plies ++ end_text end)
-    × Leaves arena opponent side kept spot u plies end last rest (Ok turn)
-    → Answers turn written result old new → (rest : List ℕ)
-    × (text ++ rest ≡ plies_text opponent side plies ++ end_text end)
-    × Leaves arena opponent side kept spot u plies end last rest result
-answered_leaves arena opponent side kept spot u last plies end text written turn result old new front h
-    (inl a) =
-    subst (λ (z : Result Turn PlayFault). (rest : List ℕ)
-    × (text ++ rest ≡ plies_text opponent side plies ++ end_text end)
-    × Leaves arena opponent side kept spot u plies end last rest z) (sym a.0) h
-answered_leaves arena opponent side kept spot u last plies end text written turn result old new front h
-    (inr a) =
-    subst (λ (z : Result Turn PlayFault). (rest : List ℕ)
-    × (text ++ rest ≡ plies_text opponent side plies ++ end_text end)
-    × Leaves arena opponent side kept spot u plies end last rest z) (sym a.0)
-    (failed_leaves arena opponent side kept spot u last plies end text turn front h)
+  pub over_tail : (reader : Reader) (text : List ℕ) (f : EndOfWay)
+      (answer : Result WayEnd PlayFault) → Stands arena opponent side kept spot (OverWay f)
+      → text ≡ end_text f → Finishes answer (told side f) [] []
+      → TailBy arena opponent side kept spot reader reader [] text (turn_over answer)
+  over_tail reader text f answer stands is finishes = λ agrees left may plies end last w.
+      let here : Input = record { left = left; more = reader.more } in
+      whole_end here last plies end f text answer
+      (over_here arena opponent side kept spot.played here last spot.number plies end f w
+      (stands agrees)) is finishes
+
+  -- a ply that was played, behind this front
+  ply_leaves : (u last : Input) (front : List ℕ) (move : Step) (next : Next ℕ Value) (code : ℕ)
+      (first : WayPly) (others : List WayPly) (end : EndOfWay)
+      → ((n : ℕ) → next ≡ Inside n → slice_index (kept (suc spot.played)) n ≡ code)
+      → ply_text opponent side first ≡ front ++ move_line move
+      → first.arm.next ≡ named_next (after (suc spot.played)) next
+      → LeadsTo
+      (λ p. IsWay (way_player arena opponent side kept) (suc spot.played) u p others end last)
+      (λ v. (others ≡ []) × (end ≡ Exit v) × (last ≡ u))
+      (named_next (after (suc spot.played)) next)
+      → LeavesText arena opponent side kept spot u (first ∷ others) end last
+      (front ++ (move_line move ++ next_line next)) (Ok (turn_of next code))
+  ply_leaves u last front move (Inside n) code first others end is same to leads = (
+    plies_text opponent side others ++ end_text end,
+    joined front (move_line move) (plies_text opponent side others) (end_text end)
+        ∙ ap (λ (l : List ℕ). (l ++ plies_text opponent side others) ++ end_text end) (sym same),
+    (is n refl, (first, others, refl, to, leads, refl)),
+  )
+  ply_leaves u last front move (Outside v) code first others end is same to leads =
+      let text = front ++ (move_line move ++ exit_line v) in
+      let whole : text ++ [] ≡ (ply_text opponent side first ++ []) ++ exit_line v = (
+      joined_exit front (move_line move) (exit_line v)
+      ∙ ap (λ (l : List ℕ). (l ++ []) ++ exit_line v) (sym same)) in
+      subst (λ (e : EndOfWay). LeavesText arena opponent side kept spot u (first ∷ others) e last
+      text (Ok (Over (ends.Exit v)))) (sym leads.1)
+      (subst (λ (ys : List WayPly). LeavesText arena opponent side kept spot u (first ∷ ys)
+      (Exit v) last text (Ok (Over (ends.Exit v)))) (sym leads.0)
+      ([], whole, ([], ap (λ (z : Input). z.left) leads.2, (refl, refl, refl))))
+
+  -- the same where the sink failed, with the same text
+  answered_leaves : (u last : Input) (plies : List WayPly) (end : EndOfWay) (text written : List ℕ)
+      (turn : Turn) (result : Result Turn PlayFault) (old new : SinkTold)
+      → EndsWith last.left u.left
+      → LeavesText arena opponent side kept spot u plies end last text (Ok turn)
+      → Answers turn written result old new
+      → LeavesText arena opponent side kept spot u plies end last text result
+  answered_leaves u last plies end text written turn result old new front h (inl a) =
+      subst (λ (z : Result Turn PlayFault). LeavesText arena opponent side kept spot u plies end
+      last text z) (sym a.0) h
+  answered_leaves u last plies end text written turn result old new front h (inr a) =
+      subst (λ (z : Result Turn PlayFault). LeavesText arena opponent side kept spot u plies end
+      last text z) (sym a.0) (h.0, h.1, (front.0, front.1, tt))
 
 own_text : (o : Opponent) (side mover : Colour) (x : WayPly) (move : Step) → x.mover ≡ mover
     → by_codes o (same_colour mover side) ≡ true → x.arm.mv ≡ move
@@ -235,20 +216,21 @@ reply_text opponents.Input side mover x move n m own refused is =
 pub own_tail : AsksForOne → (arena : Arena Step ℕ Value) (size : ℕ) → IsFinite arena size
     → (opponent : Opponent) (side mover : Colour) (spot : Spot) (reader : Reader)
     (arms : List (Arm Step ℕ Value)) (cs : List ℕ) (kept : ℕ → List ℕ)
-    → by_codes opponent (same_colour mover side) ≡ true
-    → arms ≡ arena.arms spot.number
+    → by_codes opponent (same_colour mover side) ≡ true → arms ≡ arena.arms spot.number
     → cs ≡ map (arm_code side (kept (suc spot.played))) arms
     → Stands arena opponent side kept spot (Moves mover)
     → (place : ℕ) (x : Choice) (a : Arm Step ℕ Value)
-    → IsFound has_code (is_win spot.code) spot.code (choices_by (same_colour mover side) arms cs) place x
+    → IsFound has_code (is_win spot.code) spot.code (choices_by (same_colour mover side) arms cs)
+    place x
     → slice_get arms place ≡ Some a → (result : Result Turn PlayFault) (old new : SinkTold)
     → Answers (turn_of a.next (get_or cs place 0)) (moved_text (own_word opponent) a) result old new
-    → TailBy arena opponent side kept spot reader reader [] (moved_text (own_word opponent) a) result
+    → TailBy arena opponent side kept spot reader reader [] (moved_text (own_word opponent) a)
+    result
 own_tail one arena size finite opponent side mover spot reader arms cs kept own are same stands
     place x a found there result old new answers = λ agrees left may plies end last w.
     let here : Input = record { left = left; more = reader.more } in
-    let g = moves_by_codes arena opponent side kept spot.played here last spot.number plies end mover own w
-    (stands agrees) in
+    let g = moves_by_codes arena opponent side kept spot.played here last spot.number plies end
+    mover own w (stands agrees) in
     let chosen =
     (arm_found arena size finite side mover kept spot.played spot.number spot.code arms cs are
     same agrees place x a found there).chosen in
@@ -261,19 +243,21 @@ own_tail one arena size finite opponent side mover spot reader arms cs kept own 
     (λ v. (g.0.others ≡ []) × (end ≡ Exit v) × (last ≡ here)) z.next) arm g.0.leads in
     let text = own_text opponent side mover g.0.first a.mv g.0.moves own
     (ap (λ (z : Arm Step (ℕ × ℕ) Value). z.mv) arm) in
-    subst (λ (ys : List WayPly). (rest : List ℕ)
-    × (moved_text (own_word opponent) a ++ rest ≡ plies_text opponent side ys ++ end_text end)
-    × Leaves arena opponent side kept spot here ys end last rest result) (sym g.0.are)
+    let written = moved_text (own_word opponent) a in
+    subst (λ (ys : List WayPly). LeavesText arena opponent side kept spot here ys end last written
+    result) (sym g.0.are)
     (answered_leaves arena opponent side kept spot here last (g.0.first ∷ g.0.others) end
-    (moved_text (own_word opponent) a) (moved_text (own_word opponent) a)
-    (turn_of a.next (get_or cs place 0)) result old new
-    (way_front arena opponent side kept spot.played here last (spot.played, spot.number) plies end w)
-    (ply_leaves arena opponent side kept spot here last (own_word opponent) a.mv a.next (get_or cs place 0)
-    g.0.first g.0.others end (code_inside side (kept (suc spot.played)) arms cs same place a there) text
+    written written (turn_of a.next (get_or cs place 0)) result old new
+    (way_front arena opponent side kept spot.played here last (spot.played, spot.number) plies end
+    w)
+    (ply_leaves arena opponent side kept spot here last (own_word opponent) a.mv a.next
+    (get_or cs place 0) g.0.first g.0.others end
+    (code_inside side (kept (suc spot.played)) arms cs same place a there) text
     (ap (λ (z : Arm Step (ℕ × ℕ) Value). z.next) arm) leads) answers)
 
-module _ (arena : Arena Step ℕ Value) (opponent : Opponent) (side mover : Colour) (kept : ℕ → List ℕ) (spot : Spot)
-    (old new : Reader) (own : by_codes opponent (same_colour mover side) ≡ false)
+module _ (arena : Arena Step ℕ Value) (opponent : Opponent) (side mover : Colour)
+    (kept : ℕ → List ℕ) (spot : Spot) (old new : Reader)
+    (own : by_codes opponent (same_colour mover side) ≡ false)
     (stands : Stands arena opponent side kept spot (Moves mover)) where
   -- the reply, behind the refused lines
   pub reply_tail : (arms : List (Arm Step ℕ Value)) (cs : List ℕ) → arms ≡ arena.arms spot.number
@@ -309,22 +293,21 @@ module _ (arena : Arena Step ℕ Value) (opponent : Opponent) (side mover : Colo
       let text = reply_text opponent side mover r.on.first a.mv n r.on.moves own r.refused_is
       (ap (λ (z : Arm Step (ℕ × ℕ) Value). z.mv) arm) in
       let ends = leads_front arena opponent side kept spot.played u last r.on.others end
-      (λ p h. way_front arena opponent side kept (suc spot.played) u last p r.on.others end h) (turn a).next
-      leads in
+      (λ p h. way_front arena opponent side kept (suc spot.played) u last p r.on.others end h)
+      (turn a).next leads in
       let behind : front ++ (move_line a.mv ++ next_line a.next) ≡ refused_text n ++ moved_text
       (codes "reply ") a = append_assoc (refused_text n) (codes "reply ")
       (move_line a.mv ++ next_line a.next) in
-      subst (λ (ys : List WayPly). (rest : List ℕ)
-      × ((refused_text n ++ moved_text (codes "reply ") a) ++ rest ≡ plies_text opponent side ys
-      ++ end_text end) × Leaves arena opponent side kept spot u ys end last rest result) (sym r.on.are)
-      (subst (λ (t : List ℕ). (rest : List ℕ)
-      × (t ++ rest ≡ plies_text opponent side (r.on.first ∷ r.on.others) ++ end_text end)
-      × Leaves arena opponent side kept spot u (r.on.first ∷ r.on.others) end last rest result) behind
+      subst (λ (ys : List WayPly). LeavesText arena opponent side kept spot u ys end last
+      (refused_text n ++ moved_text (codes "reply ") a) result) (sym r.on.are)
+      (subst (λ (t : List ℕ). LeavesText arena opponent side kept spot u
+      (r.on.first ∷ r.on.others) end last t result) behind
       (answered_leaves arena opponent side kept spot u last (r.on.first ∷ r.on.others) end
       (front ++ (move_line a.mv ++ next_line a.next)) (moved_text (codes "reply ") a)
       (turn_of a.next (get_or cs place 0)) result between taken ends
-      (ply_leaves arena opponent side kept spot u last front a.mv a.next (get_or cs place 0) r.on.first
-      r.on.others end (code_inside side (kept (suc spot.played)) arms cs same place a there) text
+      (ply_leaves arena opponent side kept spot u last front a.mv a.next (get_or cs place 0)
+      r.on.first r.on.others end
+      (code_inside side (kept (suc spot.played)) arms cs same place a there) text
       (ap (λ (z : Arm Step (ℕ × ℕ) Value). z.next) arm) leads) answers))
 
   -- the input stops, behind them
@@ -334,8 +317,7 @@ module _ (arena : Arena Step ℕ Value) (opponent : Opponent) (side mover : Colo
       → (answer : Result WayEnd PlayFault)
       → Finishes answer (told side (Stopped (record { refused = hears.refused; why = why }))) [] []
       → TailBy arena opponent side kept spot old new hears.bytes
-      (refused_text hears.refused ++ why_line why)
-      (turn_over answer)
+      (refused_text hears.refused ++ why_line why) (turn_over answer)
   stop_tail arms are source left out between why hears answer finishes =
       λ agrees rest_in may plies end last w.
       let u : Input = record { left = rest_in; more = new.more } in
@@ -343,14 +325,8 @@ module _ (arena : Arena Step ℕ Value) (opponent : Opponent) (side mover : Colo
       let gives : reads (arena.arms spot.number) old.more (hears.bytes ++ rest_in) ≡ Stop halt u =
       subst (λ (z : List (Arm Step ℕ Value)). reads z old.more (hears.bytes ++ rest_in)
       ≡ Stop halt u) are (hears.heard rest_in may) in
-      let o = stops_here arena opponent side kept spot.played
+      whole_end arena opponent side kept spot u last plies end (Stopped halt)
+      (refused_text hears.refused ++ why_line why) answer
+      (stops_here arena opponent side kept spot.played
       (record { left = hears.bytes ++ rest_in; more = old.more }) last u spot.number plies end
-      mover halt own w (stands agrees) gives in (
-        [],
-        append-nil (refused_text hears.refused ++ why_line why)
-            ∙ (ap end_text (sym o.1)
-            ∙ ap (λ (ys : List WayPly). plies_text opponent side ys ++ end_text end) (sym o.0)),
-        leaves_over arena opponent side kept spot u plies end last [] answer []
-            (ap (λ (z : Input). z.left) o.2)
-            (subst (λ (z : EndOfWay). Finishes answer (told side z) [] []) (sym o.1) finishes),
-      )
+      mover halt own w (stands agrees) gives) refl finishes
