@@ -33,10 +33,10 @@ use Rattle.frz_ways.specs.Reading.{Input, Halt, reads, refuse_one}
 use Rattle.frz_ways.specs.Ways.{WayPly, EndOfWay, finder, way_player, GoesOn}
 use Rattle.frz_ways.specs.SessionTexts.{refused_text, why_line, end_text, start_line}
 use Rattle.frz_ways.specs.WayTexts.{ply_text, plies_text}
-use Rattle.frz_ways.specs.Turns.{by_codes, opening, rest_text, Leaves, GoesBy}
+use Rattle.frz_ways.specs.Turns.{by_codes, opening, rest_text, GoesBy}
 use Rattle.frz_ways.proofs.Goings.{over_here, stops_here, replies_here, leads_front, way_front}
 use Rattle.frz_ways.proofs.Taking.{ends_on}
-use Rattle.frz_ways.proofs.Turned.{Stands, TailBy, reply_text}
+use Rattle.frz_ways.proofs.Turned.{LeavesText, Stands, TailBy, reply_text}
 
 behind_some : (a b : List ℕ) → b ≢ [] → a ++ b ≢ []
 behind_some [] b some = some
@@ -96,11 +96,16 @@ short_of fault answer rest unread is short =
     ]
 
 -- nothing was written or taken
-pub store_goes : (arena : Arena Step ℕ Value) (opponent : Opponent) (side : Colour) (kept : ℕ → List ℕ) (spot : Spot)
+pub store_goes : (arena : Arena Step ℕ Value) (opponent : Opponent) (side : Colour) (kept : ℕ → List
+    ℕ) (spot : Spot)
     (reader : Reader) (fault : PlayFault) → IsStoreFault fault
     → GoesBy arena opponent side kept spot reader reader [] [] (Err fault)
 store_goes arena opponent side kept spot reader fault is = λ agrees left may plies end last w.
-    let front = way_front arena opponent side kept spot.played (record { left = left; more = reader.more }) last
+    let front = way_front arena opponent side kept spot.played (record {
+      left = left;
+      more =
+          reader.more;
+    }) last
     (spot.played, spot.number) plies end w in
     let rest = rest_text opponent side spot plies end in
     let short = short_text side end
@@ -122,19 +127,23 @@ nothing_both : (b : Bool) → let none : List ℕ = [] in none ≡ (if b then no
 nothing_both true = refl
 nothing_both false = refl
 
-module _ (arena : Arena Step ℕ Value) (opponent : Opponent) (side : Colour) (kept : ℕ → List ℕ) (spot : Spot) where
+module _ (arena : Arena Step ℕ Value) (opponent : Opponent) (side : Colour) (kept : ℕ → List ℕ)
+    (spot : Spot) where
   over_start : (s last : Input) (plies : List WayPly) (end f : EndOfWay)
       → GoesOn arena opponent side kept spot.played s spot.number plies end last
-      → stage (way_player arena opponent side kept) spot.played (spot.played, spot.number) ≡ OverWay f
+      → stage (way_player arena opponent side kept) spot.played (spot.played, spot.number) ≡ OverWay
+      f
       → start_line side spot.code [] f ≡ start_line side spot.code plies end
   over_start s last plies end f w over =
-      let o = over_here arena opponent side kept spot.played s last spot.number plies end f w over in
+      let o = over_here arena opponent side kept spot.played s last spot.number plies end f w over
+      in
       ap (λ (e : EndOfWay). start_line side spot.code [] e) (sym o.1)
       ∙ ap (λ (ys : List WayPly). start_line side spot.code ys end) (sym o.0)
 
   moved_start : (s last : Input) (plies : List WayPly) (end : EndOfWay)
       (mover : Colour) → GoesOn arena opponent side kept spot.played s spot.number plies end last
-      → stage (way_player arena opponent side kept) spot.played (spot.played, spot.number) ≡ Moves mover
+      → stage (way_player arena opponent side kept) spot.played (spot.played, spot.number) ≡ Moves
+      mover
       → kept_line side spot.code ≡ start_line side spot.code plies end
   moved_start s last [] end mover (inl w) due = absurd (let h = w.0 in cc)
   moved_start s last [] end mover (inr w) due =
@@ -150,10 +159,12 @@ module _ (arena : Arena Step ℕ Value) (opponent : Opponent) (side : Colour) (k
       ≡ stage_told (spot.played, spot.number) spot.code due → opening side spot due
       ≡ (if spot.played == 0 then start_line side spot.code plies end else [])
   opening_is (dues.Wrong given) s last plies end w stands =
-      nothing_both (spot.played == 0) ∙ same_start (spot.played == 0) [] (start_line side spot.code plies end)
+      nothing_both (spot.played == 0) ∙ same_start (spot.played == 0) [] (start_line side spot.code
+      plies end)
       (over_start s last plies end (Wrong (spot.played, spot.number) spot.code given) w stands)
   opening_is dues.NoBound s last plies end w stands =
-      nothing_both (spot.played == 0) ∙ same_start (spot.played == 0) [] (start_line side spot.code plies end)
+      nothing_both (spot.played == 0) ∙ same_start (spot.played == 0) [] (start_line side spot.code
+      plies end)
       (over_start s last plies end NoBound w stands)
   opening_is (dues.Mate m) s last plies end w stands =
       same_start (spot.played == 0) (kept_line side spot.code) (start_line side spot.code plies end)
@@ -175,7 +186,10 @@ module _ (arena : Arena Step ℕ Value) (opponent : Opponent) (side : Colour) (k
       (Err (plays.Line faults.Output))
   opening_failed due reader stands = λ agrees left may plies end last w.
       let here : Input = record { left = left; more = reader.more } in
-      let front = way_front arena opponent side kept spot.played here last (spot.played, spot.number) plies end w in
+      let front = way_front arena opponent side kept spot.played here last (
+        spot.played,
+        spot.number,
+      ) plies end w in
       let rest = plies_text opponent side plies ++ end_text end in (
         rest,
         ap (λ (l : List ℕ). l ++ rest)
@@ -240,7 +254,8 @@ front_of_text : (a b : List ℕ) (word move rest last : List ℕ)
     ++ last
 front_of_text a b word move rest last = simp append_assoc
 
-module _ (arena : Arena Step ℕ Value) (opponent : Opponent) (side mover : Colour) (kept : ℕ → List ℕ) (spot : Spot)
+module _ (arena : Arena Step ℕ Value) (opponent : Opponent) (side mover : Colour) (kept : ℕ → List
+    ℕ) (spot : Spot)
     (own : by_codes opponent (same_colour mover side) ≡ false)
     (stands : Stands arena opponent side kept spot (Moves mover))
     (fault : PlayFault) (fails : MayFail fault) where
@@ -248,27 +263,31 @@ module _ (arena : Arena Step ℕ Value) (opponent : Opponent) (side mover : Colo
   abbrev Lacks : (n : ℕ) (here : Input) (plies : List WayPly) (end : EndOfWay)
       (last : Input) → Type 0
   Lacks n here plies end last =
-      (rest : List ℕ) × (refused_text n ++ rest ≡ plies_text opponent side plies ++ end_text end)
-      × Leaves arena opponent side kept spot here plies end last rest (Err fault)
+      LeavesText arena opponent side kept spot here plies end last (refused_text n) (Err fault)
 
   lacks_by : (n : ℕ) (later : Answer Input Halt) (s here last : Input)
       (plies : List WayPly) (end : EndOfWay)
       → GoesOn arena opponent side kept spot.played s spot.number plies end last
-      → stage (way_player arena opponent side kept) spot.played (spot.played, spot.number) ≡ Moves mover
+      → stage (way_player arena opponent side kept) spot.played (spot.played, spot.number) ≡ Moves
+      mover
       → reads (arena.arms spot.number) s.more s.left ≡ refuse n later
       → EndsWith (left_by later) here.left → Lacks n here plies end last
   lacks_by n (Reply m place u) s here last plies end w due gives ends =
-      let r = replies_here arena opponent side kept spot.played s last u spot.number plies end mover (n + m) place
+      let r = replies_here arena opponent side kept spot.played s last u spot.number plies end mover
+      (n + m) place
       own w due (gives ∙ refuse_replies n m place u) in
       let first = r.on.first in
       let others = r.on.others in
       let word = codes "reply " in
       let move = move_line first.arm.mv in
-      let rest = refused_text m ++ ((word ++ move) ++ (plies_text opponent side others ++ end_text end)) in
-      let text : ply_text opponent side first ≡ ((refused_text n ++ refused_text m) ++ word) ++ move =
+      let rest = refused_text m ++ ((word ++ move) ++ (plies_text opponent side others ++ end_text
+      end)) in
+      let text : ply_text opponent side first ≡ ((refused_text n ++ refused_text m) ++ word) ++ move
+      =
       reply_text opponent side mover first first.arm.mv (n + m) r.on.moves own r.refused_is refl
       ∙ ap (λ (l : List ℕ). (l ++ word) ++ move) (refused_twice n m) in
-      let whole : refused_text n ++ rest ≡ plies_text opponent side (first ∷ others) ++ end_text end =
+      let whole : refused_text n ++ rest ≡ plies_text opponent side (first ∷ others) ++ end_text end
+      =
       front_of_text (refused_text n) (refused_text m) word move (plies_text opponent side others)
       (end_text end) ∙ ap (λ (l : List ℕ). (l ++ plies_text opponent side others) ++ end_text end)
       (sym text) in
@@ -278,7 +297,8 @@ module _ (arena : Arena Step ℕ Value) (opponent : Opponent) (side mover : Colo
       (before_some word move (λ e. absurd (cc)))) in
       let front = ends_on last.left u.left here.left
       (leads_front arena opponent side kept spot.played u last others end
-      (λ p h. way_front arena opponent side kept (suc spot.played) u last p others end h) first.arm.next
+      (λ p h. way_front arena opponent side kept (suc spot.played) u last p others end h)
+      first.arm.next
       r.on.leads) ends in
       subst (λ (ys : List WayPly). Lacks n here ys end last) (sym r.on.are) (
         rest,
@@ -292,7 +312,8 @@ module _ (arena : Arena Step ℕ Value) (opponent : Opponent) (side mover : Colo
       )
   lacks_by n (Stop halt u) s here last plies end w due gives ends =
       let all : Halt = record { refused = n + halt.refused; why = halt.why } in
-      let o = stops_here arena opponent side kept spot.played s last u spot.number plies end mover all own w due
+      let o = stops_here arena opponent side kept spot.played s last u spot.number plies end mover
+      all own w due
       (gives ∙ refuse_stops n halt u) in
       let rest = refused_text halt.refused ++ why_line halt.why in
       let whole : refused_text n ++ rest ≡ end_text (Stopped all) = sym

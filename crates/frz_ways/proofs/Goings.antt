@@ -25,9 +25,9 @@ use Rattle.frz_ways.proofs.InputLines.{reads_front}
 use Rattle.frz_ways.proofs.Taking.{ends_itself, ends_on}
 
 -- the first ply of a way, and what follows it
-pub record GoesTo (arena : Arena Step ℕ Value) (opponent : Opponent) (side : Colour) (kept : ℕ → List ℕ) (k : ℕ)
-    (u t : Input)
-    (ys : List WayPly) (e : EndOfWay) (mover : Colour) : Type 0 where
+pub record GoesTo (arena : Arena Step ℕ Value) (opponent : Opponent) (side : Colour)
+    (kept : ℕ → List ℕ) (k : ℕ) (u t : Input) (ys : List WayPly) (e : EndOfWay)
+    (mover : Colour) : Type 0 where
   pub first : WayPly
   pub others : List WayPly
   pub are : ys ≡ first ∷ others
@@ -36,14 +36,15 @@ pub record GoesTo (arena : Arena Step ℕ Value) (opponent : Opponent) (side : C
       (λ v. (others ≡ []) × (e ≡ Exit v) × (t ≡ u)) first.arm.next
 
 -- a reply, and what follows it
-pub record Replied (arena : Arena Step ℕ Value) (opponent : Opponent) (side : Colour) (kept : ℕ → List ℕ) (k : ℕ)
-    (u t : Input) (q refused place : ℕ) (ys : List WayPly) (e : EndOfWay)
-    (mover : Colour) : Type 0 where
+pub record Replied (arena : Arena Step ℕ Value) (opponent : Opponent) (side : Colour)
+    (kept : ℕ → List ℕ) (k : ℕ) (u t : Input) (q refused place : ℕ) (ys : List WayPly)
+    (e : EndOfWay) (mover : Colour) : Type 0 where
   pub on : GoesTo arena opponent side kept k u t ys e mover
   pub refused_is : on.first.refused ≡ refused
   pub there : slice_get ((counted arena).arms (k, q)) place ≡ Some on.first.arm
 
-module _ (arena : Arena Step ℕ Value) (opponent : Opponent) (side : Colour) (kept : ℕ → List ℕ) where
+module _ (arena : Arena Step ℕ Value) (opponent : Opponent) (side : Colour)
+    (kept : ℕ → List ℕ) where
   -- a way that is over here
   pub over_here : (k : ℕ) (s t : Input) (q : ℕ) (ys : List WayPly) (e f : EndOfWay)
       → GoesOn arena opponent side kept k s q ys e t
@@ -86,7 +87,8 @@ module _ (arena : Arena Step ℕ Value) (opponent : Opponent) (side : Colour) (k
 
   -- a ply that the codes find
   pub moves_by_codes : (k : ℕ) (s t : Input) (q : ℕ) (ys : List WayPly) (e : EndOfWay)
-      (mover : Colour) → by_codes opponent (same_colour mover side) ≡ true → GoesOn arena opponent side kept k s q ys e t
+      (mover : Colour) → by_codes opponent (same_colour mover side) ≡ true
+      → GoesOn arena opponent side kept k s q ys e t
       → stage (way_player arena opponent side kept) k (k, q) ≡ Moves mover
       → (g : GoesTo arena opponent side kept k s t ys e mover)
       × IsChosen (counted arena) side (known kept) mover (k, q) g.first.place g.first.arm

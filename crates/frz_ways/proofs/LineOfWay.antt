@@ -138,7 +138,8 @@ module _ (arena : Arena Step ℕ Value) (side : Colour) (codes : ℕ → List �
       (λ q. IsWay (way_player arena opponents.Codes side codes) (suc k) s q xs (as_way end) s)
       (λ v. (xs ≡ []) × (as_way end ≡ Exit v) × (s ≡ s)) next
   leads_both k s u e xs end ih (Inside q) h =
-      ih q (subst (λ (v : Unit {0}). IsWay (line_player arena side codes) (suc k) v q xs end tt) e h)
+      ih q (subst (λ (v : Unit {0}). IsWay (line_player arena side codes) (suc k) v q xs end tt) e
+      h)
   leads_both k s u e xs end ih (Outside v) h = (h.0, ap as_way h.1, refl)
 
   -- whatever the input is

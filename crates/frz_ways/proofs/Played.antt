@@ -108,7 +108,8 @@ follows_both old new bytes left stays may = λ e.
 
 -- a ply was played
 after_ply : (arena : Arena Step ℕ Value) (opponent : Opponent) (side : Colour) (kept : ℕ → List ℕ)
-    (start code : ℕ) (spot next : Spot) (old new : Reader) (numbers bytes more text written : List ℕ)
+    (start code : ℕ) (spot next : Spot) (old new : Reader) (numbers bytes more text written : List
+    ℕ)
     → next.played ≡ spot.played + 1 → StaysEnded old new more
     → ComeBy arena opponent side kept start code spot old numbers bytes text
     → GoesBy arena opponent side kept spot old new more written (Ok (On next.number next.code))
@@ -116,7 +117,8 @@ after_ply : (arena : Arena Step ℕ Value) (opponent : Opponent) (side : Colour)
     (bytes ++ more) (text ++ written)
 after_ply arena opponent side kept start code spot next old new numbers bytes more text written e
     stays comes goes = λ agrees left may plies end last w.
-    let v = subst (λ (l : List ℕ). GoesOn arena opponent side kept 0 (opened l) start plies end last)
+    let v = subst (λ (l : List ℕ). GoesOn arena opponent side kept 0 (opened l) start plies end
+    last)
     (append_assoc bytes more left) w in
     let l = comes agrees (more ++ left) (follows_both old new more left stays may) plies end last
     v in
@@ -217,15 +219,20 @@ over_wrote (Ok answer) text old new w = w
 over_wrote (Err fault) text old new w = same_wrote Turn WayEnd fault text old new w
 
 -- a fault that was answered
-fault_wrote : (known : Option (List ℕ)) (size : ℕ) (arena : Arena Step ℕ Value) (opponent : Opponent) (side : Colour)
+fault_wrote : (known : Option (List ℕ)) (size : ℕ) (arena : Arena Step ℕ Value) (opponent :
+    Opponent) (side : Colour)
     (start code : ℕ) (source left : SourceTold) (out taken : SinkTold) (before now : Spent)
     (fault : PlayFault) (result : Result WayEnd PlayFault) → IsErrAnd result (λ e. e ≡ fault)
-    → WayWrote known size arena opponent side start code (Err fault) source left out taken before now
+    → WayWrote known size arena opponent side start code (Err fault) source left out taken before
+    now
     → WayWrote known size arena opponent side start code result source left out taken before now
-fault_wrote known size arena opponent side start code source left out taken before now fault (Ok end) h w =
+fault_wrote known size arena opponent side start code source left out taken before now fault (Ok
+    end) h w =
     absurd h
-fault_wrote known size arena opponent side start code source left out taken before now fault (Err e) h w =
-    subst (λ (f : PlayFault). WayWrote known size arena opponent side start code (Err f) source left out
+fault_wrote known size arena opponent side start code source left out taken before now fault (Err e)
+    h w =
+    subst (λ (f : PlayFault). WayWrote known size arena opponent side start code (Err f) source left
+    out
     taken
     before now) (sym h) w
 
@@ -234,7 +241,8 @@ module _ {known : Option (List ℕ)} {size : ℕ} {arena : Arena Step ℕ Value}
     {side : Colour} {start code : ℕ}
     {spot : Spot} {old : Reader} (new : Reader) {source mid left : SourceTold}
     {out between : SinkTold} (taken : SinkTold) {before now after : Spent}
-    (far : SoFar known size arena opponent side start code spot old source mid out between before now)
+    (far : SoFar known size arena opponent side start code spot old source mid out between before
+    now)
     (few : SpendsAt arena 0 (spot.number ∷ []) now after) (next more : List ℕ)
     (lines : IsLines next) (took : TookBytes more mid left) (stays : StaysEnded old new more) where
   -- a ply was played

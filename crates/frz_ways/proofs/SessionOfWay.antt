@@ -41,7 +41,8 @@ plies_are side (x ∷ plies) = ap (λ (l : List ℕ). ply_text side x ++ l) (pli
 pub session_text_is : (side : Colour) (code : ℕ) (plies : List WayPly) (end : EndOfWay)
     → way_texts.way_text opponents.Input side code plies end ≡ session_text side code plies end
 session_text_is side code plies end =
-    ap (λ (l : List ℕ). start_line side code plies end ++ (l ++ end_text end)) (plies_are side plies)
+    ap (λ (l : List ℕ). start_line side code plies end ++ (l ++ end_text end)) (plies_are side
+    plies)
 
 -- the session's answer that gives this one of its way, where there is one
 abbrev session_of : Result WayEnd PlayFault → Result SessionEnd PlayFault

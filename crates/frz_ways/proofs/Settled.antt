@@ -76,7 +76,8 @@ store_kind opponent (Ok turn) fault h = absurd h
 store_kind opponent (Err e) fault h =
     subst (λ (f : PlayFault). IsFaultOf f opponent) (sym h) tt
 
-module _ (opponent : Opponent) (side : Colour) (spot : Spot) (arms : List (Arm Step ℕ Value)) (cs : List ℕ)
+module _ (opponent : Opponent) (side : Colour) (spot : Spot) (arms : List (Arm Step ℕ Value)) (cs :
+    List ℕ)
     (old new : Reader) (result : Result Turn PlayFault) (source left : SourceTold) where
   heard_settled : (heard_is : Result Heard PlayFault) (out between taken : SinkTold)
       → Hears arms old new heard_is source left out between
@@ -97,7 +98,8 @@ module _ (opponent : Opponent) (side : Colour) (spot : Spot) (arms : List (Arm S
   ply_settled false own out taken h = heard_settled h.heard out h.between taken h.hears h.after
 
   pub played_settled : (due : Due) (out taken : SinkTold)
-      → IsPlayed opponent side spot due arms cs old new result source left out taken → IsSettled result
+      → IsPlayed opponent side spot due arms cs old new result source left out taken → IsSettled
+      result
   played_settled (dues.Wrong given) out taken h = settled_by _ result h.1.0 tt
   played_settled dues.NoBound out taken h = settled_by _ result h.1.0 tt
   played_settled (dues.Mate m) out taken h = answers_settled _ _ result out taken h.1

@@ -158,7 +158,8 @@ module _ {arena : Arena Step ℕ Value} {size : ℕ} (finite : IsFinite arena si
 
   -- and behind any reply
   reply_code_stands : (m : Colour) → IsDue (dues.Ply m)
-      → by_codes opponent (same_colour m side) ≡ false → (place : ℕ) (a : Arm Step ℕ Value) → slice_get arms place ≡ Some a
+      → by_codes opponent (same_colour m side) ≡ false → (place : ℕ) (a : Arm Step ℕ Value) →
+      slice_get arms place ≡ Some a
       → is_failure (get_or cs place 0) ≡ false
   reply_code_stands m e found place a there =
       let own = not_own opponent (same_colour m side) found in
@@ -254,7 +255,8 @@ module _ {arena : Arena Step ℕ Value} {size : ℕ} (finite : IsFinite arena si
       → (result : Result Turn PlayFault) → AfterHeard arms cs heard_is result between taken
       → IfOk result (TurnsTo arena size opponent side spot old new)
   after_next m e own old new (Ok (heard.Reply place)) source left out between taken hears result h =
-      if_answers (TurnsTo arena size opponent side spot old new) (turn_of h.0.next (get_or cs place 0)) _
+      if_answers (TurnsTo arena size opponent side spot old new) (turn_of h.0.next (get_or cs place
+      0)) _
       result between taken
       (to_next old new h.0.next (get_or cs place 0)
       (λ n leads. (
@@ -263,7 +265,8 @@ module _ {arena : Arena Step ℕ Value} {size : ℕ} (finite : IsFinite arena si
         less_by_reply opponent (same_colour m side) own old new hears.fewer n (get_or cs place 0),
       ))) h.2
   after_next m e own old new (Ok (heard.Stop Ended)) source left out between taken hears result h =
-      if_answers (TurnsTo arena size opponent side spot old new) (Over ends.InputEnded) _ result between
+      if_answers (TurnsTo arena size opponent side spot old new) (Over ends.InputEnded) _ result
+      between
       taken tt h
   after_next m e own old new (Ok (heard.Stop (Limit limit))) source left out between taken hears
       result h =
@@ -297,22 +300,26 @@ module _ {arena : Arena Step ℕ Value} {size : ℕ} (finite : IsFinite arena si
   pub cut_is_line : (due : Due) → IsDue due → due ≡ dues.Cut → opponent ≡ opponents.Codes
   cut_is_line due e cut =
       cut_line opponent (spot.played == 0) spot.played spot.code
-      (node_code side (arena.node spot.number) (free_among arms cs) cs) (arena.node spot.number) due e
+      (node_code side (arena.node spot.number) (free_among arms cs) cs) (arena.node spot.number) due
+      e
       cut
 
   -- where a turn leads
   pub turn_next : Alternates arena → (due : Due) → IsDue due
       → (old new : Reader) (result : Result Turn PlayFault) (source left : SourceTold)
-      (out taken : SinkTold) → IsPlayed opponent side spot due arms cs old new result source left out taken
+      (out taken : SinkTold) → IsPlayed opponent side spot due arms cs old new result source left
+      out taken
       → IfOk result (TurnsTo arena size opponent side spot old new)
   turn_next alternates (dues.Wrong given) e old new result source left out taken h =
       if_failed (TurnsTo arena size opponent side spot old new) _ result h.1.0
   turn_next alternates dues.NoBound e old new result source left out taken h =
       if_failed (TurnsTo arena size opponent side spot old new) _ result h.1.0
   turn_next alternates (dues.Mate m) e old new result source left out taken h =
-      if_answers (TurnsTo arena size opponent side spot old new) (Over ends.Mate) _ result out taken tt h.1
+      if_answers (TurnsTo arena size opponent side spot old new) (Over ends.Mate) _ result out taken
+      tt h.1
   turn_next alternates (dues.Stalemate m) e old new result source left out taken h =
-      if_answers (TurnsTo arena size opponent side spot old new) (Over ends.Stalemate) _ result out taken tt
+      if_answers (TurnsTo arena size opponent side spot old new) (Over ends.Stalemate) _ result out
+      taken tt
       h.1
   turn_next alternates dues.Cut e old new result source left out taken h =
       if_answers (TurnsTo arena size opponent side spot old new) (Over ends.Cut) _ result out taken

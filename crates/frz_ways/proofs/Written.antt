@@ -133,7 +133,8 @@ TurnWrote is arena opponent side spot old new result source left out taken =
     → GoesBy arena opponent side kept spot old new bytes text result)
 
 -- the same behind the opening
-record Tail (is : (ℕ → List ℕ) → Type 0) (arena : Arena Step ℕ Value) (opponent : Opponent) (side : Colour)
+record Tail (is : (ℕ → List ℕ) → Type 0) (arena : Arena Step ℕ Value) (opponent : Opponent) (side :
+    Colour)
     (spot : Spot)
     (old new : Reader) (result : Result Turn PlayFault) (source left : SourceTold)
     (out taken : SinkTold) : Type 0 where
@@ -163,7 +164,8 @@ pub stopped_by : (is : (ℕ → List ℕ) → Type 0) (arena : Arena Step ℕ Va
     → TurnWrote is arena opponent side spot reader reader result source source out out
 stopped_by is arena opponent side spot reader fault (Ok turn) source out h = absurd h
 stopped_by is arena opponent side spot reader fault (Err e) source out h =
-    subst (λ (f : PlayFault). TurnWrote is arena opponent side spot reader reader (Err f) source source out
+    subst (λ (f : PlayFault). TurnWrote is arena opponent side spot reader reader (Err f) source
+    source out
     out) (sym h) (
       [],
       [],
@@ -177,7 +179,8 @@ stopped_by is arena opponent side spot reader fault (Err e) source out h =
 
 module _ (one : AsksForOne) (fills : FillsLocal)
     {arena : Arena Step ℕ Value} {size : ℕ} (finite : IsFinite arena size)
-    (opponent : Opponent) (side : Colour) (spot : Spot) {arms : List (Arm Step ℕ Value)} (cs : List ℕ)
+    (opponent : Opponent) (side : Colour) (spot : Spot) {arms : List (Arm Step ℕ Value)} (cs : List
+    ℕ)
     (are : arms ≡ arena.arms spot.number) where
   -- these codes were read for these moves in this turn
   abbrev pub IsReadBy : (ℕ → List ℕ) → Type 0
@@ -201,7 +204,8 @@ module _ (one : AsksForOne) (fills : FillsLocal)
       → TurnWrote IsReadBy arena opponent side spot reader reader result source source out taken
   opening_wrote due e reader (Ok turn) source out taken h failed = absurd h
   opening_wrote due e reader (Err f) source out taken h failed =
-      subst (λ (z : PlayFault). TurnWrote IsReadBy arena opponent side spot reader reader (Err z) source
+      subst (λ (z : PlayFault). TurnWrote IsReadBy arena opponent side spot reader reader (Err z)
+      source
       source
       out taken) (sym h) (
         opening side spot due,
@@ -231,7 +235,8 @@ module _ (one : AsksForOne) (fills : FillsLocal)
         took = took_none source left (ap (λ (z : SourceTold). z.left) unread.1);
         stays = λ x. (refl, ap (λ (z : Reader). z.ended) unread.0 ∙ x);
         goes = λ kept same.
-            subst (λ (z : Reader). TailBy arena opponent side kept spot old z [] (end_text f) result)
+            subst (λ (z : Reader). TailBy arena opponent side kept spot old z [] (end_text f)
+            result)
             (sym unread.0)
             (subst (λ (z : Result Turn PlayFault). TailBy arena opponent side kept spot old old []
             (end_text f) z) (sym is)
@@ -258,7 +263,8 @@ module _ (one : AsksForOne) (fills : FillsLocal)
         (sym unread.0)
         (subst (λ (z : Result Turn PlayFault). TailBy arena opponent side kept spot old old []
         [] z) (sym is)
-        (over_tail arena opponent side kept spot old [] (Wrong (spot.played, spot.number) spot.code given)
+        (over_tail arena opponent side kept spot old [] (Wrong (spot.played, spot.number) spot.code
+        given)
         (Err (wrong_at side spot given))
         (λ agrees. standing (dues.Wrong given) e kept same agrees) refl
         (refl, refl, refl)));
@@ -308,7 +314,8 @@ module _ (one : AsksForOne) (fills : FillsLocal)
       (source left : SourceTold) (out between taken : SinkTold)
       → (hears : Hears arms old new (Ok (heard.Stop Ended)) source left out between)
       → result ≡ turn_over answer → WroteBy result (codes "input ended\n") between taken
-      → Finishes answer (told side (Stopped (record { refused = hears.refused; why = Ended }))) [] []
+      → Finishes answer (told side (Stopped (record { refused = hears.refused; why = Ended }))) []
+      []
       → Tail IsReadBy arena opponent side spot old new result source left out taken
   ended_by m e own old new answer result source left out between taken hears is wrote finishes =
       let text = refused_text hears.refused ++ codes "input ended\n" in

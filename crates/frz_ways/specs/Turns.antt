@@ -174,7 +174,7 @@ abbrev pub late_by : Opponent → (played : ℕ) → Bool
 late_by opponents.Codes played = nat_le MOST_PLIES played
 late_by opponents.Input played = false
 
--- a ply leaves less to do: in a line the code is as the kept one asks, and a hold is not played past
+-- a ply leaves less to do: in a line the code is as the kept one asks, and no hold is played past
 -- its plies; in a session fewer lines are left, or the other side is to move
 abbrev pub LeavesLess : Opponent → Arena Step ℕ Value → Colour → Spot → (old new : Reader)
     → (number code : ℕ) → Type 0

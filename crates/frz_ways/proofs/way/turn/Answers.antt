@@ -18,7 +18,8 @@ returns-in_err-due-clause-wrote g c =
     let known = told_codes c.args.table.now c.args.player.side (g.S.Store.files c.args.store.now) in
     let any = any_read known (table_size c.args.table.now) in
     let h = stopped_by (λ codes. ⊤)
-    (g.G.NumberedGame.arena c.args.game.now) c.args.player.opponent c.args.player.side c.args.spot c.args.reader.now
+    (g.G.NumberedGame.arena c.args.game.now) c.args.player.opponent c.args.player.side c.args.spot
+    c.args.reader.now
     c.in_err-due.field-0.0 c.from_residual.result (source_of g.I.Source c.args.input.now)
     (sink_of g.O.Sink c.args.out.now) c.from_residual.ensures.1 in
     (h.0, h.1, h.2, h.3, h.4, h.5, (any.0, any.1, λ codes same. h.6 codes tt))
@@ -33,7 +34,8 @@ returns-in_err-write_opening-clause-wrote g c =
     c.args.player.side c.args.spot cs c.in_ok-due.ensures.arms c.in_ok-due.due
     (by_late (g.G.NumberedGame.arena c.args.game.now) c.args.player.opponent c.args.player.side
     c.args.spot c.sight.new.lists.nexts.items c.sight.new.lists.codes.items c.is_late.result
-    c.in_ok-due.due c.is_late.ensures c.in_ok-due.ensures.due) c.args.reader.now c.from_residual-in_err-write_opening.result
+    c.in_ok-due.due c.is_late.ensures c.in_ok-due.ensures.due) c.args.reader.now
+    c.from_residual-in_err-write_opening.result
     (source_of g.I.Source c.args.input.now) (sink_of g.O.Sink c.args.out.now)
     (sink_of g.O.Sink c.write_opening.new.out) c.from_residual-in_err-write_opening.ensures.1
     c.in_err-write_opening.ensures.failed in (
@@ -47,7 +49,8 @@ returns-in_err-write_opening-clause-wrote g c =
         read.0,
         read.1,
         λ codes same. h.6 codes
-            (subst (λ (z : List ℕ). cs ≡ map (arm_code c.args.player.side z) arms) (sym same) read.2),
+            (subst (λ (z : List ℕ). cs ≡ map (arm_code c.args.player.side z) arms) (sym same)
+            read.2),
       ),
     )
 
@@ -63,7 +66,8 @@ play-requires-clause-there g c =
 pub returns-clause-next : goal.returns-clause-next
 returns-clause-next g c =
     turn_next (g.met.G.NumberedGame.finite c.args.game.now c.requires.sound) c.args.player.opponent
-    c.args.player.side c.args.spot c.sight.new.lists.codes.items c.in_ok-due.ensures.arms c.in_ok-due.ensures.read
+    c.args.player.side c.args.spot c.sight.new.lists.codes.items c.in_ok-due.ensures.arms
+    c.in_ok-due.ensures.read
     c.requires.stands c.requires.turns c.in_ok-due.due
     (by_late (g.G.NumberedGame.arena c.args.game.now) c.args.player.opponent c.args.player.side
     c.args.spot c.sight.new.lists.nexts.items c.sight.new.lists.codes.items c.is_late.result
@@ -83,7 +87,8 @@ returns-clause-wrote g c =
     c.args.player.side c.args.spot cs c.in_ok-due.ensures.arms c.in_ok-due.due
     (by_late (g.G.NumberedGame.arena c.args.game.now) c.args.player.opponent c.args.player.side
     c.args.spot c.sight.new.lists.nexts.items c.sight.new.lists.codes.items c.is_late.result
-    c.in_ok-due.due c.is_late.ensures c.in_ok-due.ensures.due) c.args.reader.now c.play.new.reader c.play.result
+    c.in_ok-due.due c.is_late.ensures c.in_ok-due.ensures.due) c.args.reader.now c.play.new.reader
+    c.play.result
     (source_of g.I.Source c.args.input.now) (source_of g.I.Source c.play.new.input)
     (sink_of g.O.Sink c.args.out.now) (sink_of g.O.Sink c.write_opening.new.out)
     (sink_of g.O.Sink c.play.new.out) c.in_ok-write_opening.ensures.ok c.play.ensures.played in (
@@ -97,13 +102,15 @@ returns-clause-wrote g c =
         read.0,
         read.1,
         λ codes same. h.6 codes
-            (subst (λ (z : List ℕ). cs ≡ map (arm_code c.args.player.side z) arms) (sym same) read.2),
+            (subst (λ (z : List ℕ). cs ≡ map (arm_code c.args.player.side z) arms) (sym same)
+            read.2),
       ),
     )
 
 pub returns-clause-still_ended : goal.returns-clause-still_ended
 returns-clause-still_ended g c =
-    still_ended c.args.player.opponent c.args.player.side c.args.spot c.sight.new.lists.nexts.items c.sight.new.lists.codes.items
+    still_ended c.args.player.opponent c.args.player.side c.args.spot c.sight.new.lists.nexts.items
+    c.sight.new.lists.codes.items
     c.args.reader.now c.play.new.reader c.play.result (source_of g.I.Source c.args.input.now)
     (source_of g.I.Source c.play.new.input) c.in_ok-due.due
     (sink_of g.O.Sink c.write_opening.new.out) (sink_of g.O.Sink c.play.new.out)
@@ -112,7 +119,8 @@ returns-clause-still_ended g c =
 pub returns-clause-placed : goal.returns-clause-placed
 returns-clause-placed g c =
     settled_placed c.play.result
-    (played_settled c.args.player.opponent c.args.player.side c.args.spot c.sight.new.lists.nexts.items
+    (played_settled c.args.player.opponent c.args.player.side c.args.spot
+    c.sight.new.lists.nexts.items
     c.sight.new.lists.codes.items c.args.reader.now c.play.new.reader c.play.result
     (source_of g.I.Source c.args.input.now) (source_of g.I.Source c.play.new.input) c.in_ok-due.due
     (sink_of g.O.Sink c.write_opening.new.out) (sink_of g.O.Sink c.play.new.out)
@@ -122,7 +130,8 @@ pub returns-clause-cause : goal.returns-clause-cause
 returns-clause-cause g c =
     settled_cause c.play.result (store_of g.S.Store c.args.store.now)
     (store_of g.S.Store c.sight.new.store)
-    (played_settled c.args.player.opponent c.args.player.side c.args.spot c.sight.new.lists.nexts.items
+    (played_settled c.args.player.opponent c.args.player.side c.args.spot
+    c.sight.new.lists.nexts.items
     c.sight.new.lists.codes.items c.args.reader.now c.play.new.reader c.play.result
     (source_of g.I.Source c.args.input.now) (source_of g.I.Source c.play.new.input) c.in_ok-due.due
     (sink_of g.O.Sink c.write_opening.new.out) (sink_of g.O.Sink c.play.new.out)
