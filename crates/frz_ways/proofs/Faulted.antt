@@ -96,9 +96,8 @@ short_of fault answer rest unread is short =
     ]
 
 -- nothing was written or taken
-pub store_goes : (arena : Arena Step ℕ Value) (opponent : Opponent) (side : Colour) (kept : ℕ → List
-    ℕ) (spot : Spot)
-    (reader : Reader) (fault : PlayFault) → IsStoreFault fault
+pub store_goes : (arena : Arena Step ℕ Value) (opponent : Opponent) (side : Colour)
+    (kept : ℕ → List ℕ) (spot : Spot) (reader : Reader) (fault : PlayFault) → IsStoreFault fault
     → GoesBy arena opponent side kept spot reader reader [] [] (Err fault)
 store_goes arena opponent side kept spot reader fault is = λ agrees left may plies end last w.
     let front = way_front arena opponent side kept spot.played (record {
@@ -136,8 +135,7 @@ module _ (arena : Arena Step ℕ Value) (opponent : Opponent) (side : Colour) (k
       → start_line side spot.code [] f ≡ start_line side spot.code plies end
   over_start s last plies end f w over =
       let o = over_here arena opponent side kept spot.played s last spot.number plies end f w over
-      in
-      ap (λ (e : EndOfWay). start_line side spot.code [] e) (sym o.1)
+      in ap (λ (e : EndOfWay). start_line side spot.code [] e) (sym o.1)
       ∙ ap (λ (ys : List WayPly). start_line side spot.code ys end) (sym o.0)
 
   moved_start : (s last : Input) (plies : List WayPly) (end : EndOfWay)
@@ -164,8 +162,7 @@ module _ (arena : Arena Step ℕ Value) (opponent : Opponent) (side : Colour) (k
       (over_start s last plies end (Wrong (spot.played, spot.number) spot.code given) w stands)
   opening_is dues.NoBound s last plies end w stands =
       nothing_both (spot.played == 0) ∙ same_start (spot.played == 0) [] (start_line side spot.code
-      plies end)
-      (over_start s last plies end NoBound w stands)
+      plies end) (over_start s last plies end NoBound w stands)
   opening_is (dues.Mate m) s last plies end w stands =
       same_start (spot.played == 0) (kept_line side spot.code) (start_line side spot.code plies end)
       (over_start s last plies end (Mated m) w stands)
@@ -254,9 +251,8 @@ front_of_text : (a b : List ℕ) (word move rest last : List ℕ)
     ++ last
 front_of_text a b word move rest last = simp append_assoc
 
-module _ (arena : Arena Step ℕ Value) (opponent : Opponent) (side mover : Colour) (kept : ℕ → List
-    ℕ) (spot : Spot)
-    (own : by_codes opponent (same_colour mover side) ≡ false)
+module _ (arena : Arena Step ℕ Value) (opponent : Opponent) (side mover : Colour)
+    (kept : ℕ → List ℕ) (spot : Spot) (own : by_codes opponent (same_colour mover side) ≡ false)
     (stands : Stands arena opponent side kept spot (Moves mover))
     (fault : PlayFault) (fails : MayFail fault) where
   -- what the text still lacks where a fault stops the lines of a reply
@@ -274,8 +270,7 @@ module _ (arena : Arena Step ℕ Value) (opponent : Opponent) (side mover : Colo
       → EndsWith (left_by later) here.left → Lacks n here plies end last
   lacks_by n (Reply m place u) s here last plies end w due gives ends =
       let r = replies_here arena opponent side kept spot.played s last u spot.number plies end mover
-      (n + m) place
-      own w due (gives ∙ refuse_replies n m place u) in
+      (n + m) place own w due (gives ∙ refuse_replies n m place u) in
       let first = r.on.first in
       let others = r.on.others in
       let word = codes "reply " in
@@ -298,8 +293,7 @@ module _ (arena : Arena Step ℕ Value) (opponent : Opponent) (side mover : Colo
       let front = ends_on last.left u.left here.left
       (leads_front arena opponent side kept spot.played u last others end
       (λ p h. way_front arena opponent side kept (suc spot.played) u last p others end h)
-      first.arm.next
-      r.on.leads) ends in
+      first.arm.next r.on.leads) ends in
       subst (λ (ys : List WayPly). Lacks n here ys end last) (sym r.on.are) (
         rest,
         whole,
@@ -313,8 +307,7 @@ module _ (arena : Arena Step ℕ Value) (opponent : Opponent) (side mover : Colo
   lacks_by n (Stop halt u) s here last plies end w due gives ends =
       let all : Halt = record { refused = n + halt.refused; why = halt.why } in
       let o = stops_here arena opponent side kept spot.played s last u spot.number plies end mover
-      all own w due
-      (gives ∙ refuse_stops n halt u) in
+      all own w due (gives ∙ refuse_stops n halt u) in
       let rest = refused_text halt.refused ++ why_line halt.why in
       let whole : refused_text n ++ rest ≡ end_text (Stopped all) = sym
       (append_assoc (refused_text n) (refused_text halt.refused) (why_line halt.why))

@@ -108,8 +108,8 @@ follows_both old new bytes left stays may = λ e.
 
 -- a ply was played
 after_ply : (arena : Arena Step ℕ Value) (opponent : Opponent) (side : Colour) (kept : ℕ → List ℕ)
-    (start code : ℕ) (spot next : Spot) (old new : Reader) (numbers bytes more text written : List
-    ℕ)
+    (start code : ℕ) (spot next : Spot) (old new : Reader)
+    (numbers bytes more text written : List ℕ)
     → next.played ≡ spot.played + 1 → StaysEnded old new more
     → ComeBy arena opponent side kept start code spot old numbers bytes text
     → GoesBy arena opponent side kept spot old new more written (Ok (On next.number next.code))
@@ -118,8 +118,7 @@ after_ply : (arena : Arena Step ℕ Value) (opponent : Opponent) (side : Colour)
 after_ply arena opponent side kept start code spot next old new numbers bytes more text written e
     stays comes goes = λ agrees left may plies end last w.
     let v = subst (λ (l : List ℕ). GoesOn arena opponent side kept 0 (opened l) start plies end
-    last)
-    (append_assoc bytes more left) w in
+    last) (append_assoc bytes more left) w in
     let l = comes agrees (more ++ left) (follows_both old new more left stays may) plies end last
     v in
     let g = goes l.agrees left may l.others end last l.way in
@@ -219,8 +218,8 @@ over_wrote (Ok answer) text old new w = w
 over_wrote (Err fault) text old new w = same_wrote Turn WayEnd fault text old new w
 
 -- a fault that was answered
-fault_wrote : (known : Option (List ℕ)) (size : ℕ) (arena : Arena Step ℕ Value) (opponent :
-    Opponent) (side : Colour)
+fault_wrote : (known : Option (List ℕ)) (size : ℕ) (arena : Arena Step ℕ Value)
+    (opponent : Opponent) (side : Colour)
     (start code : ℕ) (source left : SourceTold) (out taken : SinkTold) (before now : Spent)
     (fault : PlayFault) (result : Result WayEnd PlayFault) → IsErrAnd result (λ e. e ≡ fault)
     → WayWrote known size arena opponent side start code (Err fault) source left out taken before
@@ -232,9 +231,7 @@ fault_wrote known size arena opponent side start code source left out taken befo
 fault_wrote known size arena opponent side start code source left out taken before now fault (Err e)
     h w =
     subst (λ (f : PlayFault). WayWrote known size arena opponent side start code (Err f) source left
-    out
-    taken
-    before now) (sym h) w
+    out taken before now) (sym h) w
 
 -- one turn more, which left the reader so
 module _ {known : Option (List ℕ)} {size : ℕ} {arena : Arena Step ℕ Value} {opponent : Opponent}
@@ -242,8 +239,7 @@ module _ {known : Option (List ℕ)} {size : ℕ} {arena : Arena Step ℕ Value}
     {spot : Spot} {old : Reader} (new : Reader) {source mid left : SourceTold}
     {out between : SinkTold} (taken : SinkTold) {before now after : Spent}
     (far : SoFar known size arena opponent side start code spot old source mid out between before
-    now)
-    (few : SpendsAt arena 0 (spot.number ∷ []) now after) (next more : List ℕ)
+    now) (few : SpendsAt arena 0 (spot.number ∷ []) now after) (next more : List ℕ)
     (lines : IsLines next) (took : TookBytes more mid left) (stays : StaysEnded old new more) where
   -- a ply was played
   pub next_far : {turn : Turn} {number read : ℕ} → turn ≡ On number read
@@ -266,8 +262,7 @@ module _ {known : Option (List ℕ)} {size : ℕ} {arena : Arena Step ℕ Value}
         may = now_may known size far.read spot.played goes.0 far.may goes.1;
         comes = λ kept same.
             after_ply arena opponent side kept start code spot there old new far.numbers far.bytes
-            more far.text next refl stays
-            (far.comes kept (λ k l. same k (omega (arith, l))
+            more far.text next refl stays (far.comes kept (λ k l. same k (omega (arith, l))
             ∙ before_is far.read spot.played goes.0 k l))
             (subst (λ (t : Turn). GoesBy arena opponent side kept spot old new more next (Ok t)) on
             (goes.2 kept (same spot.played (omega arith)

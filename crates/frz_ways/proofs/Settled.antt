@@ -76,9 +76,9 @@ store_kind opponent (Ok turn) fault h = absurd h
 store_kind opponent (Err e) fault h =
     subst (λ (f : PlayFault). IsFaultOf f opponent) (sym h) tt
 
-module _ (opponent : Opponent) (side : Colour) (spot : Spot) (arms : List (Arm Step ℕ Value)) (cs :
-    List ℕ)
-    (old new : Reader) (result : Result Turn PlayFault) (source left : SourceTold) where
+module _ (opponent : Opponent) (side : Colour) (spot : Spot) (arms : List (Arm Step ℕ Value))
+    (cs : List ℕ) (old new : Reader) (result : Result Turn PlayFault)
+    (source left : SourceTold) where
   heard_settled : (heard_is : Result Heard PlayFault) (out between taken : SinkTold)
       → Hears arms old new heard_is source left out between
       → AfterHeard arms cs heard_is result between taken → IsSettled result

@@ -256,9 +256,7 @@ module _ {arena : Arena Step ℕ Value} {size : ℕ} (finite : IsFinite arena si
       → IfOk result (TurnsTo arena size opponent side spot old new)
   after_next m e own old new (Ok (heard.Reply place)) source left out between taken hears result h =
       if_answers (TurnsTo arena size opponent side spot old new) (turn_of h.0.next (get_or cs place
-      0)) _
-      result between taken
-      (to_next old new h.0.next (get_or cs place 0)
+      0)) _ result between taken (to_next old new h.0.next (get_or cs place 0)
       (λ n leads. (
         inside_size place h.0 h.1 n leads,
         reply_code_stands m e own place h.0 h.1,
@@ -266,8 +264,7 @@ module _ {arena : Arena Step ℕ Value} {size : ℕ} (finite : IsFinite arena si
       ))) h.2
   after_next m e own old new (Ok (heard.Stop Ended)) source left out between taken hears result h =
       if_answers (TurnsTo arena size opponent side spot old new) (Over ends.InputEnded) _ result
-      between
-      taken tt h
+      between taken tt h
   after_next m e own old new (Ok (heard.Stop (Limit limit))) source left out between taken hears
       result h =
       if_failed (TurnsTo arena size opponent side spot old new) _ result h.0
@@ -301,8 +298,7 @@ module _ {arena : Arena Step ℕ Value} {size : ℕ} (finite : IsFinite arena si
   cut_is_line due e cut =
       cut_line opponent (spot.played == 0) spot.played spot.code
       (node_code side (arena.node spot.number) (free_among arms cs) cs) (arena.node spot.number) due
-      e
-      cut
+      e cut
 
   -- where a turn leads
   pub turn_next : Alternates arena → (due : Due) → IsDue due
@@ -319,8 +315,7 @@ module _ {arena : Arena Step ℕ Value} {size : ℕ} (finite : IsFinite arena si
       tt h.1
   turn_next alternates (dues.Stalemate m) e old new result source left out taken h =
       if_answers (TurnsTo arena size opponent side spot old new) (Over ends.Stalemate) _ result out
-      taken tt
-      h.1
+      taken tt h.1
   turn_next alternates dues.Cut e old new result source left out taken h =
       if_answers (TurnsTo arena size opponent side spot old new) (Over ends.Cut) _ result out taken
       tt h.1

@@ -133,9 +133,8 @@ TurnWrote is arena opponent side spot old new result source left out taken =
     → GoesBy arena opponent side kept spot old new bytes text result)
 
 -- the same behind the opening
-record Tail (is : (ℕ → List ℕ) → Type 0) (arena : Arena Step ℕ Value) (opponent : Opponent) (side :
-    Colour)
-    (spot : Spot)
+record Tail (is : (ℕ → List ℕ) → Type 0) (arena : Arena Step ℕ Value) (opponent : Opponent)
+    (side : Colour) (spot : Spot)
     (old new : Reader) (result : Result Turn PlayFault) (source left : SourceTold)
     (out taken : SinkTold) : Type 0 where
   pub text : List ℕ
@@ -165,8 +164,7 @@ pub stopped_by : (is : (ℕ → List ℕ) → Type 0) (arena : Arena Step ℕ Va
 stopped_by is arena opponent side spot reader fault (Ok turn) source out h = absurd h
 stopped_by is arena opponent side spot reader fault (Err e) source out h =
     subst (λ (f : PlayFault). TurnWrote is arena opponent side spot reader reader (Err f) source
-    source out
-    out) (sym h) (
+    source out out) (sym h) (
       [],
       [],
       inl refl,
@@ -179,9 +177,8 @@ stopped_by is arena opponent side spot reader fault (Err e) source out h =
 
 module _ (one : AsksForOne) (fills : FillsLocal)
     {arena : Arena Step ℕ Value} {size : ℕ} (finite : IsFinite arena size)
-    (opponent : Opponent) (side : Colour) (spot : Spot) {arms : List (Arm Step ℕ Value)} (cs : List
-    ℕ)
-    (are : arms ≡ arena.arms spot.number) where
+    (opponent : Opponent) (side : Colour) (spot : Spot) {arms : List (Arm Step ℕ Value)}
+    (cs : List ℕ) (are : arms ≡ arena.arms spot.number) where
   -- these codes were read for these moves in this turn
   abbrev pub IsReadBy : (ℕ → List ℕ) → Type 0
   IsReadBy kept = cs ≡ map (arm_code side (kept (suc spot.played))) arms
@@ -205,9 +202,7 @@ module _ (one : AsksForOne) (fills : FillsLocal)
   opening_wrote due e reader (Ok turn) source out taken h failed = absurd h
   opening_wrote due e reader (Err f) source out taken h failed =
       subst (λ (z : PlayFault). TurnWrote IsReadBy arena opponent side spot reader reader (Err z)
-      source
-      source
-      out taken) (sym h) (
+      source source out taken) (sym h) (
         opening side spot due,
         [],
         opening_lines side spot due,
@@ -236,8 +231,7 @@ module _ (one : AsksForOne) (fills : FillsLocal)
         stays = λ x. (refl, ap (λ (z : Reader). z.ended) unread.0 ∙ x);
         goes = λ kept same.
             subst (λ (z : Reader). TailBy arena opponent side kept spot old z [] (end_text f)
-            result)
-            (sym unread.0)
+            result) (sym unread.0)
             (subst (λ (z : Result Turn PlayFault). TailBy arena opponent side kept spot old old []
             (end_text f) z) (sym is)
             (over_tail arena opponent side kept spot old (end_text f) f answer
@@ -264,8 +258,7 @@ module _ (one : AsksForOne) (fills : FillsLocal)
         (subst (λ (z : Result Turn PlayFault). TailBy arena opponent side kept spot old old []
         [] z) (sym is)
         (over_tail arena opponent side kept spot old [] (Wrong (spot.played, spot.number) spot.code
-        given)
-        (Err (wrong_at side spot given))
+        given) (Err (wrong_at side spot given))
         (λ agrees. standing (dues.Wrong given) e kept same agrees) refl
         (refl, refl, refl)));
   }
@@ -323,12 +316,9 @@ module _ (one : AsksForOne) (fills : FillsLocal)
       (lines_behind (refused_text hears.refused) (codes "input ended\n")
       (refused_lines hears.refused) (inr (codes "input ended", refl)))
       (wrote_after (refused_text hears.refused) (codes "input ended\n") result out between taken
-      hears.wrote wrote)
-      (λ kept same.
+      hears.wrote wrote) (λ kept same.
       subst (λ (z : Result Turn PlayFault). TailBy arena opponent side kept spot old new hears.bytes
-      text z)
-      (sym is)
-      (stop_tail arena opponent side m kept spot old new own
+      text z) (sym is) (stop_tail arena opponent side m kept spot old new own
       (standing (dues.Ply m) e kept same) arms are
       source left out between Ended hears answer finishes))
 
@@ -363,8 +353,7 @@ module _ (one : AsksForOne) (fills : FillsLocal)
       (wrote_after (refused_text hears.refused) (moved_text (codes "reply ") h.0) result out between
       taken hears.wrote
       (by_answers (turn_of h.0.next (get_or cs place 0)) (moved_text (codes "reply ") h.0) result
-      between taken h.2))
-      (λ kept same.
+      between taken h.2)) (λ kept same.
       reply_tail arena opponent side m kept spot old new own
       (standing (dues.Ply m) e kept same) arms cs are
       same source left out between taken place hears h.0 h.1 result h.2)
@@ -378,8 +367,7 @@ module _ (one : AsksForOne) (fills : FillsLocal)
       (subst (λ (z : SinkTold). TookText text out z) (sym h.1) hears.wrote))
       (λ kept same.
       subst (λ (z : Result Turn PlayFault). TailBy arena opponent side kept spot old new hears.bytes
-      text z)
-      (sym h.0)
+      text z) (sym h.0)
       (subst (λ (t : List ℕ). TailBy arena opponent side kept spot old new hears.bytes t
       (Err (plays.Limit limit))) (append-nil text)
       (stop_tail arena opponent side m kept spot old new own
@@ -393,8 +381,7 @@ module _ (one : AsksForOne) (fills : FillsLocal)
       (same_wrote Heard Turn fault text out between hears.wrote)))
       (λ kept same.
       subst (λ (z : Result Turn PlayFault). TailBy arena opponent side kept spot old new hears.bytes
-      text z)
-      (sym h.0)
+      text z) (sym h.0)
       (fault_tail arena opponent side m kept spot own (standing (dues.Ply m) e kept same) fault
       (hears.fails fault refl) old new arms are source left out between hears))
 
@@ -441,18 +428,15 @@ module _ (one : AsksForOne) (fills : FillsLocal)
       (untouched (wrong_at side spot given) result out taken (took_nothing out) h.1.0 h.1.1)
   tail_wrote dues.NoBound e old new result source left out taken h =
       over_wrote dues.NoBound e NoBound refl old new (Err (plays.Line faults.NoBound))
-      result source
-      left out taken h.0 h.1.0 (inl refl)
+      result source left out taken h.0 h.1.0 (inl refl)
       (untouched (plays.Line faults.NoBound) result out taken (took_nothing out) h.1.0 h.1.1)
       (refl, refl, refl)
   tail_wrote (dues.Mate m) e old new result source left out taken h =
       ends_wrote (dues.Mate m) e (Mated m) refl old new ends.Mate result source left out
-      taken h.0
-      (inr (codes "mate", refl)) refl h.1
+      taken h.0 (inr (codes "mate", refl)) refl h.1
   tail_wrote (dues.Stalemate m) e old new result source left out taken h =
       ends_wrote (dues.Stalemate m) e (Stalemated m) refl old new ends.Stalemate result
-      source left
-      out taken h.0 (inr (codes "stalemate", refl)) refl h.1
+      source left out taken h.0 (inr (codes "stalemate", refl)) refl h.1
   tail_wrote dues.Cut e old new result source left out taken h =
       ends_wrote dues.Cut e Cut refl old new ends.Cut result source left out taken h.0
       (inr (codes "cut", refl)) refl h.1

@@ -72,9 +72,7 @@ returns-clause-played g c =
     let now = spent_by (store_of g.S.Store c.play_way.new.store) c.play_way.new.steps in
     let w = c.play_way.ensures.wrote in
     way_told (told_codes table side files) (table_size table) c.args.player.opponent table.rules
-    side
-    c.args.p.now
-    c.play_way.result
+    side c.args.p.now c.play_way.result
     source (source_of g.I.Source c.play_way.new.input) (sink_of g.O.Sink c.args.out.now)
     (sink_of g.O.Sink c.play_way.new.out) now start code
     (subst (λ (z : List GroupLine). start ≡ Num z c.args.p.now) c.set.ensures
@@ -89,8 +87,7 @@ returns-clause-played g c =
     c.in_ok-code.ensures.quiet.unwritten.files (w.5.1 k))
     (λ codes same. by_table {table = table.rules}
     (λ arena. Plays arena c.args.player.opponent side codes start code source w.1 w.0
-    c.play_way.result mid now)
-    c.new-book.ensures c.rules-rules.ensures.rules (w.5.2 codes same))
+    c.play_way.result mid now) c.new-book.ensures c.rules-rules.ensures.rules (w.5.2 codes same))
 
 pub play_way-requires-clause-different : goal.play_way-requires-clause-different
 play_way-requires-clause-different g c = λ i k l n.

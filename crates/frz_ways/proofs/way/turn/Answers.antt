@@ -67,15 +67,13 @@ pub returns-clause-next : goal.returns-clause-next
 returns-clause-next g c =
     turn_next (g.met.G.NumberedGame.finite c.args.game.now c.requires.sound) c.args.player.opponent
     c.args.player.side c.args.spot c.sight.new.lists.codes.items c.in_ok-due.ensures.arms
-    c.in_ok-due.ensures.read
-    c.requires.stands c.requires.turns c.in_ok-due.due
+    c.in_ok-due.ensures.read c.requires.stands c.requires.turns c.in_ok-due.due
     (by_late (g.G.NumberedGame.arena c.args.game.now) c.args.player.opponent c.args.player.side
     c.args.spot c.sight.new.lists.nexts.items c.sight.new.lists.codes.items c.is_late.result
     c.in_ok-due.due c.is_late.ensures c.in_ok-due.ensures.due) c.args.reader.now
     c.play.new.reader c.play.result (source_of g.I.Source c.args.input.now)
     (source_of g.I.Source c.play.new.input) (sink_of g.O.Sink c.write_opening.new.out)
-    (sink_of g.O.Sink c.play.new.out)
-    c.play.ensures.played
+    (sink_of g.O.Sink c.play.new.out) c.play.ensures.played
 
 pub returns-clause-wrote : goal.returns-clause-wrote
 returns-clause-wrote g c =
@@ -88,8 +86,7 @@ returns-clause-wrote g c =
     (by_late (g.G.NumberedGame.arena c.args.game.now) c.args.player.opponent c.args.player.side
     c.args.spot c.sight.new.lists.nexts.items c.sight.new.lists.codes.items c.is_late.result
     c.in_ok-due.due c.is_late.ensures c.in_ok-due.ensures.due) c.args.reader.now c.play.new.reader
-    c.play.result
-    (source_of g.I.Source c.args.input.now) (source_of g.I.Source c.play.new.input)
+    c.play.result (source_of g.I.Source c.args.input.now) (source_of g.I.Source c.play.new.input)
     (sink_of g.O.Sink c.args.out.now) (sink_of g.O.Sink c.write_opening.new.out)
     (sink_of g.O.Sink c.play.new.out) c.in_ok-write_opening.ensures.ok c.play.ensures.played in (
       h.0,
