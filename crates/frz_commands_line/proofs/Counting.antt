@@ -6,11 +6,11 @@ use Rattle.frz_board.specs.declared.man.Colour.{Colour}
 use Rattle.frz_game.specs.declared.wrong.Wrong.{Wrong as WrongEntry}
 use Rattle.frz_arena.specs.WayEnds.{Wrong, NoBound, Mated, Stalemated, Exit, Cut, Stopped}
 use Rattle.frz_prelude.specs.WrongLines.{place_text, codes_text, wrong_line}
-use Rattle.frz_line.specs.declared.end.LineEnd.{LineEnd}
-use Rattle.frz_line.specs.declared.end.LineEnd.TheVariants as ends
-use Rattle.frz_line.specs.Ends.{told, IsUnfinished}
-use Rattle.frz_line.specs.Lines.{LinePly, EndOfLine}
-use Rattle.frz_line.specs.Texts.{value_text, plies_text, end_line, last_line, start_line, line_text}
+use Rattle.frz_ways.specs.declared.end.LineEnd.{LineEnd}
+use Rattle.frz_ways.specs.declared.end.LineEnd.TheVariants as ends
+use Rattle.frz_ways.specs.Ends.{told, IsUnfinished}
+use Rattle.frz_ways.specs.Lines.{LinePly, EndOfLine}
+use Rattle.frz_ways.specs.Texts.{value_text, plies_text, end_line, last_line, start_line, line_text}
 use Rattle.frz_commands_line.specs.LineEnds.{naming_line}
 use Rattle.frz_commands_line.specs.LineOf.{told_text}
 

@@ -14,7 +14,7 @@ use Rattle.frz_table.specs.Opening.{contents_of, opened, table_format}
 use Rattle.frz_table.specs.Possible.{MayOpen}
 use Rattle.frz_table.specs.Tables.{Table, Carries, IsFileOf, table_size}
 use Rattle.frz_table.proofs.Lemmas.{belongs, file_bytes, magic_bytes, text_bytes, magic_long, opens_by, written_belongs, written_is_loaded}
-use Rattle.frz_line.specs.Kept.{told_codes, MayRead}
+use Rattle.frz_ways.specs.Kept.{told_codes, MayRead}
 use Rattle.frz_commands_line.specs.Later.{MayBeLater, OpensAtStart, from_opening, held_later}
 
 -- something that it may have held

@@ -26,8 +26,8 @@ use Rattle.frz_prelude.specs.Positions.{on_position}
 use Rattle.frz_prelude.specs.Refusals.{status_of, refusal_line}
 use Rattle.frz_prelude.specs.declared.refused.Refused.TheVariants as refusals
 use Rattle.frz_prelude.proofs.Lemmas.{fen_lawful}
-use Rattle.frz_line.specs.Ends as ends
-use Rattle.frz_line.specs.Lines.{LinePly, EndOfLine, IsLine}
+use Rattle.frz_ways.specs.Ends as ends
+use Rattle.frz_ways.specs.Lines.{LinePly, EndOfLine, IsLine}
 use Rattle.frz_commands_line.specs.Later.{from_opening, held_later}
 use Rattle.frz_commands_line.specs.LineOf.{code_at, codes_later, line_answer, IsLined, IsLinedBy, IsLinedAt}
 use Rattle.frz_commands_line.specs.Lining.{lining_at, line_words}

@@ -13,7 +13,7 @@ use Rattle.frz_table.specs.Opening.{Contents, opened, table_format}
 use Rattle.frz_answer.specs.Answers.{Answer, says, SomeAnswer}
 use Rattle.frz_prelude.specs.Refusals.{status_of, refusal_line}
 use Rattle.frz_prelude.specs.declared.refused.Refused.TheVariants as refusals
-use Rattle.frz_line.specs.Ends as ends
+use Rattle.frz_ways.specs.Ends as ends
 use Rattle.frz_commands_line.specs.Later.{held_later}
 use Rattle.frz_commands_line.specs.LineOf.{code_at, codes_later, line_answer, LineComes, IsLined, IsLinedIn, IsLinedBy, IsLinedAt}
 use Rattle.frz_commands_line.proofs.Counting.{told_said}

@@ -15,7 +15,7 @@ use Rattle.frz_table.specs.Possible.{held_text}
 use Rattle.frz_table.proofs.Lemmas.{opened_calls, opened_missing}
 use Rattle.frz_answer.specs.World.{Spent}
 use Rattle.frz_answer.specs.Jobs.{WithinCosts}
-use Rattle.frz_line.specs.Costs.{SpendsAt}
+use Rattle.frz_ways.specs.Costs.{SpendsAt}
 use Rattle.frz_commands_line.specs.Costs.{opening_costs, playing_costs, CostsIn, CostsBy, CostsAt}
 use Rattle.frz_commands_line.proofs.Seen.{not_member}
 

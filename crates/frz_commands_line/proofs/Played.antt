@@ -20,13 +20,13 @@ use Rattle.frz_answer.specs.Ends.{MayMeet, Ran, Said}
 use Rattle.frz_answer.proofs.Lemmas.{as_given, drop_none, fine_store, quiet_both, said, stopped}
 use Rattle.frz_prelude.specs.Refusals.{status_of, refusal_line}
 use Rattle.frz_prelude.specs.declared.refused.Refused.TheVariants as refusals
-use Rattle.frz_line.specs.declared.end.LineEnd.{LineEnd}
-use Rattle.frz_line.specs.declared.end.LineFault.{LineFault}
-use Rattle.frz_line.specs.declared.end.LineFault.TheVariants as faults
-use Rattle.frz_line.specs.BestLine.{TellsLine}
-use Rattle.frz_line.specs.Ends.{told, IsUnfinished, Finishes}
-use Rattle.frz_line.specs.Faults.{StoreCause, WroteBy}
-use Rattle.frz_line.specs.Texts.{line_text}
+use Rattle.frz_ways.specs.declared.end.LineEnd.{LineEnd}
+use Rattle.frz_ways.specs.declared.end.LineFault.{LineFault}
+use Rattle.frz_ways.specs.declared.end.LineFault.TheVariants as faults
+use Rattle.frz_ways.specs.BestLine.{TellsLine}
+use Rattle.frz_ways.specs.Ends.{told, IsUnfinished, Finishes}
+use Rattle.frz_ways.specs.Faults.{StoreCause, WroteBy}
+use Rattle.frz_ways.specs.Texts.{line_text}
 use Rattle.frz_commands_line.specs.Later.{held_later}
 use Rattle.frz_commands_line.specs.LineEnds.{end_status, naming_line, EndsLine}
 use Rattle.frz_commands_line.specs.LineOf.{code_at, codes_later, LineComes, told_text, line_answer}

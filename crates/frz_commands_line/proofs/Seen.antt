@@ -19,14 +19,14 @@ use Rattle.frz_answer.specs.World.{Spent}
 use Rattle.frz_answer.specs.Answers.{Answer, says}
 use Rattle.frz_prelude.specs.Refusals.{status_of, refusal_line}
 use Rattle.frz_prelude.specs.declared.refused.Refused.TheVariants as refusals
-use Rattle.frz_line.specs.declared.end.LineEnd.{LineEnd}
-use Rattle.frz_line.specs.declared.end.LineFault.{LineFault}
-use Rattle.frz_line.specs.BestLine.{TellsLine}
-use Rattle.frz_line.specs.Costs.{SpendsAt}
-use Rattle.frz_line.specs.Ends.{told, Finishes}
-use Rattle.frz_line.specs.Kept.{told_codes}
-use Rattle.frz_line.specs.Lines.{LinePly, EndOfLine, IsLine}
-use Rattle.frz_line.specs.Texts.{line_text}
+use Rattle.frz_ways.specs.declared.end.LineEnd.{LineEnd}
+use Rattle.frz_ways.specs.declared.end.LineFault.{LineFault}
+use Rattle.frz_ways.specs.BestLine.{TellsLine}
+use Rattle.frz_ways.specs.Costs.{SpendsAt}
+use Rattle.frz_ways.specs.Ends.{told, Finishes}
+use Rattle.frz_ways.specs.Kept.{told_codes}
+use Rattle.frz_ways.specs.Lines.{LinePly, EndOfLine, IsLine}
+use Rattle.frz_ways.specs.Texts.{line_text}
 use Rattle.frz_commands_line.specs.LineOf.{code_at, codes_later, IsLineBy, LineComes, line_answer, IsLined, IsLinedIn}
 
 -- that there is a line from each number

@@ -17,11 +17,11 @@ use Rattle.frz_answer.specs.Answers.{Answer, says}
 use Rattle.frz_answer.specs.Lawful.{HasOneAnswer, IsLawful}
 use Rattle.frz_prelude.specs.Refusals.{status_of, refusal_line}
 use Rattle.frz_prelude.specs.declared.refused.Refused.TheVariants as refusals
-use Rattle.frz_play.specs.declared.end.PlayFault.{PlayFault}
-use Rattle.frz_play.specs.declared.end.SessionEnd.{SessionEnd}
-use Rattle.frz_play.specs.Ends.{Tells}
-use Rattle.frz_play.specs.Reading.{Input}
-use Rattle.frz_play.specs.Sessions.{SessionPly, EndOfSession, IsSession}
+use Rattle.frz_ways.specs.declared.session_end.PlayFault.{PlayFault}
+use Rattle.frz_ways.specs.declared.session_end.SessionEnd.{SessionEnd}
+use Rattle.frz_ways.specs.SessionEnds.{Tells}
+use Rattle.frz_ways.specs.Reading.{Input}
+use Rattle.frz_ways.specs.Sessions.{SessionPly, EndOfSession, IsSession}
 use Rattle.frz_commands_line.specs.Later.{from_opening, held_later}
 use Rattle.frz_commands_line.specs.LineOf.{code_at, codes_later}
 use Rattle.frz_commands_line.specs.SessionOf.{session_answer, IsPlayed, IsPlayedBy, IsPlayedAt}

@@ -29,17 +29,17 @@ use Rattle.frz_commands_line.specs.LineOf.{codes_later}
 use Rattle.frz_answer.specs.declared.status.Status.{Status}
 use Rattle.frz_answer.specs.Answers.{Answer, says}
 use Rattle.frz_prelude.specs.TableFiles.{OpensAs}
-use Rattle.frz_line.specs.ChessGames.{IsGame}
-use Rattle.frz_line.specs.declared.end.LineFault.TheVariants as faults
-use Rattle.frz_play.specs.declared.end.PlayFault.{PlayFault}
-use Rattle.frz_play.specs.declared.end.PlayFault.TheVariants as plays
-use Rattle.frz_play.specs.declared.end.SessionEnd.{SessionEnd}
-use Rattle.frz_play.specs.declared.end.SessionEnd.TheVariants as ends
-use Rattle.frz_play.specs.declared.hearing.Why.{Why}
-use Rattle.frz_play.specs.declared.hearing.Why.TheVariants.{Ended, Limit}
-use Rattle.frz_play.specs.Ends.{why_told, Tells}
-use Rattle.frz_play.specs.Reading.{Input, Halt}
-use Rattle.frz_play.specs.Sessions.{SessionPly, EndOfSession, IsSession}
+use Rattle.frz_ways.specs.ChessGames.{IsGame}
+use Rattle.frz_ways.specs.declared.end.LineFault.TheVariants as faults
+use Rattle.frz_ways.specs.declared.session_end.PlayFault.{PlayFault}
+use Rattle.frz_ways.specs.declared.session_end.PlayFault.TheVariants as plays
+use Rattle.frz_ways.specs.declared.session_end.SessionEnd.{SessionEnd}
+use Rattle.frz_ways.specs.declared.session_end.SessionEnd.TheVariants as ends
+use Rattle.frz_ways.specs.declared.hearing.Why.{Why}
+use Rattle.frz_ways.specs.declared.hearing.Why.TheVariants.{Ended, Limit}
+use Rattle.frz_ways.specs.SessionEnds.{why_told, Tells}
+use Rattle.frz_ways.specs.Reading.{Input, Halt}
+use Rattle.frz_ways.specs.Sessions.{SessionPly, EndOfSession, IsSession}
 use Rattle.frz_commands_line.specs.SessionEnds.{session_status}
 use Rattle.frz_commands_line.specs.SessionOf.{played_text, IsPlayed, IsPlayedBy, IsPlayedAt}
 use Rattle.frz_commands_line.specs.SessionMeaning.{PlaysWin, PlaysHold, IsSafe, HasSession, start_code, IsExactFile, MeansStatus, MeansPlay}

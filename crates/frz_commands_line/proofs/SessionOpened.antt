@@ -14,8 +14,8 @@ use Rattle.frz_table.specs.Opening.{Contents, opened, table_format}
 use Rattle.frz_answer.specs.Answers.{Answer, says, SomeAnswer}
 use Rattle.frz_prelude.specs.Refusals.{status_of, refusal_line}
 use Rattle.frz_prelude.specs.declared.refused.Refused.TheVariants as refusals
-use Rattle.frz_play.specs.Reading as reading
-use Rattle.frz_play.specs.Sessions.{EndOfSession, IsSession}
+use Rattle.frz_ways.specs.Reading as reading
+use Rattle.frz_ways.specs.Sessions.{EndOfSession, IsSession}
 use Rattle.frz_commands_line.specs.Later.{held_later}
 use Rattle.frz_commands_line.specs.LineOf.{code_at, codes_later}
 use Rattle.frz_commands_line.specs.SessionOf.{session_answer, IsPlayed, IsPlayedIn, IsPlayedBy, IsPlayedAt, SessionComes}

@@ -21,14 +21,14 @@ use Rattle.frz_answer.specs.Ends.{MayMeet, Ran, Said}
 use Rattle.frz_answer.proofs.Lemmas.{as_given, fine_same, quiet_same, said, stopped}
 use Rattle.frz_prelude.specs.Refusals.{status_of, refusal_line}
 use Rattle.frz_prelude.specs.declared.refused.Refused.TheVariants as refusals
-use Rattle.frz_line.specs.declared.end.LineFault.TheVariants as faults
-use Rattle.frz_play.specs.declared.end.PlayFault.{PlayFault}
-use Rattle.frz_play.specs.declared.end.PlayFault.TheVariants as plays
-use Rattle.frz_play.specs.declared.end.SessionEnd.{SessionEnd}
-use Rattle.frz_play.specs.Ends.{Tells, StopsShort, Finishes}
-use Rattle.frz_play.specs.Faults.{WroteBy, StoreCause, InputCause, TookBytes, MayHold}
-use Rattle.frz_play.specs.PlaySession.{TellsSession}
-use Rattle.frz_play.specs.Sessions.{EndOfSession}
+use Rattle.frz_ways.specs.declared.end.LineFault.TheVariants as faults
+use Rattle.frz_ways.specs.declared.session_end.PlayFault.{PlayFault}
+use Rattle.frz_ways.specs.declared.session_end.PlayFault.TheVariants as plays
+use Rattle.frz_ways.specs.declared.session_end.SessionEnd.{SessionEnd}
+use Rattle.frz_ways.specs.SessionEnds.{Tells, StopsShort, Finishes}
+use Rattle.frz_ways.specs.SessionFaults.{WroteBy, StoreCause, InputCause, TookBytes, MayHold}
+use Rattle.frz_ways.specs.PlaySession.{TellsSession}
+use Rattle.frz_ways.specs.Sessions.{EndOfSession}
 use Rattle.frz_commands_line.specs.SessionEnds.{session_status, session_naming, EndsSession}
 use Rattle.frz_commands_line.specs.Later.{held_later}
 use Rattle.frz_commands_line.specs.LineOf.{code_at, codes_later}
@@ -37,7 +37,7 @@ use Rattle.frz_commands_line.specs.Playing.{playing_in}
 use Rattle.frz_game.specs.Games.{graph_by}
 use Rattle.frz_exits.specs.Books.{value_by}
 use Rattle.frz_index.specs.Members.{Num}
-use Rattle.frz_play.specs.Reading.{opened}
+use Rattle.frz_ways.specs.Reading.{opened}
 use Rattle.frz_commands_line.proofs.Behind.{cut_within}
 use Rattle.frz_commands_line.proofs.OpeningCosts.{costs_inside, costs_outside}
 use Rattle.frz_commands_line.proofs.SessionSeen.{SessionThere, SessionSo, played_inside, played_outside, session_so}

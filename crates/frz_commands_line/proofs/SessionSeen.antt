@@ -19,14 +19,14 @@ use Rattle.frz_answer.specs.World.{Spent}
 use Rattle.frz_answer.specs.Answers.{Answer, says}
 use Rattle.frz_prelude.specs.Refusals.{status_of, refusal_line}
 use Rattle.frz_prelude.specs.declared.refused.Refused.TheVariants as refusals
-use Rattle.frz_line.specs.Costs.{SpendsAt}
-use Rattle.frz_line.specs.Kept.{told_codes}
-use Rattle.frz_play.specs.declared.end.PlayFault.{PlayFault}
-use Rattle.frz_play.specs.declared.end.SessionEnd.{SessionEnd}
-use Rattle.frz_play.specs.Faults.{MayHold}
-use Rattle.frz_play.specs.PlaySession.{PlayedOf, TellsSession}
-use Rattle.frz_play.specs.Reading.{Input}
-use Rattle.frz_play.specs.Sessions.{SessionPly, EndOfSession, IsSession}
+use Rattle.frz_ways.specs.Costs.{SpendsAt}
+use Rattle.frz_ways.specs.Kept.{told_codes}
+use Rattle.frz_ways.specs.declared.session_end.PlayFault.{PlayFault}
+use Rattle.frz_ways.specs.declared.session_end.SessionEnd.{SessionEnd}
+use Rattle.frz_ways.specs.SessionFaults.{MayHold}
+use Rattle.frz_ways.specs.PlaySession.{PlayedOf, TellsSession}
+use Rattle.frz_ways.specs.Reading.{Input}
+use Rattle.frz_ways.specs.Sessions.{SessionPly, EndOfSession, IsSession}
 use Rattle.frz_commands_line.specs.LineOf.{code_at, codes_later}
 use Rattle.frz_commands_line.specs.SessionOf.{IsSessionBy, SessionComes, IsPlayed, IsPlayedIn}
 use Rattle.frz_commands_line.proofs.Seen.{not_member}

@@ -16,19 +16,19 @@ use Rattle.frz_arena.specs.LocalCodes.{local_code}
 use Rattle.frz_arena.specs.Plies.{LeadsTo}
 use Rattle.frz_arena.specs.WayEnds.{Wrong, NoBound, Mated, Stalemated, Exit, Cut, Stopped}
 use Rattle.frz_arena.specs.Ways.{Over, stage, stage_of, IsStopBy, IsWay}
-use Rattle.frz_line.specs.declared.end.LineFault.TheVariants as faults
-use Rattle.frz_line.specs.Texts.{exit_line}
-use Rattle.frz_play.specs.declared.end.PlayFault.{PlayFault}
-use Rattle.frz_play.specs.declared.end.PlayFault.TheVariants as plays
-use Rattle.frz_play.specs.declared.end.SessionEnd.{SessionEnd}
-use Rattle.frz_play.specs.declared.end.SessionEnd.TheVariants as ends
-use Rattle.frz_play.specs.declared.hearing.Why.{Why}
-use Rattle.frz_play.specs.declared.hearing.Why.TheVariants.{Ended, Limit}
-use Rattle.frz_play.specs.declared.end.PlayLimit.TheVariants.{Lines, LineLength}
-use Rattle.frz_play.specs.Ends.{why_told, Tells, StopsShort}
-use Rattle.frz_play.specs.Reading.{Input}
-use Rattle.frz_play.specs.Sessions.{SessionPly, EndOfSession, session_player, GoesOn}
-use Rattle.frz_play.specs.Texts.{refused_text, plies_text, why_line, end_text, start_line}
+use Rattle.frz_ways.specs.declared.end.LineFault.TheVariants as faults
+use Rattle.frz_ways.specs.Texts.{exit_line}
+use Rattle.frz_ways.specs.declared.session_end.PlayFault.{PlayFault}
+use Rattle.frz_ways.specs.declared.session_end.PlayFault.TheVariants as plays
+use Rattle.frz_ways.specs.declared.session_end.SessionEnd.{SessionEnd}
+use Rattle.frz_ways.specs.declared.session_end.SessionEnd.TheVariants as ends
+use Rattle.frz_ways.specs.declared.hearing.Why.{Why}
+use Rattle.frz_ways.specs.declared.hearing.Why.TheVariants.{Ended, Limit}
+use Rattle.frz_ways.specs.declared.session_end.PlayLimit.TheVariants.{Lines, LineLength}
+use Rattle.frz_ways.specs.SessionEnds.{why_told, Tells, StopsShort}
+use Rattle.frz_ways.specs.Reading.{Input}
+use Rattle.frz_ways.specs.Sessions.{SessionPly, EndOfSession, session_player, GoesOn}
+use Rattle.frz_ways.specs.SessionTexts.{refused_text, plies_text, why_line, end_text, start_line}
 use Rattle.frz_commands_line.specs.SessionEnds.{session_naming}
 use Rattle.frz_commands_line.specs.SessionOf.{played_text}
 use Rattle.frz_commands_line.proofs.Counting.{no_left, no_right}

@@ -11,7 +11,7 @@ use Rattle.frz_table.specs.Opening.{Contents, opened, opening_calls, table_forma
 use Rattle.frz_table.specs.Possible.{held_text}
 use Rattle.frz_answer.specs.World.{Spent}
 use Rattle.frz_answer.specs.Jobs.{Costs, WithinCosts}
-use Rattle.frz_line.specs.Costs.{reads_at}
+use Rattle.frz_ways.specs.Costs.{reads_at}
 
 -- opening alone: no step
 abbrev pub opening_costs : (calls asked : ℕ) → Costs

@@ -10,9 +10,9 @@ use Rattle.frz_answer.specs.Ends.{Said}
 use Rattle.frz_prelude.specs.Refusals.{refusal_line}
 use Rattle.frz_prelude.specs.WrongLines.{wrong_line}
 use Rattle.frz_prelude.specs.declared.refused.Refused.TheVariants as refusals
-use Rattle.frz_line.specs.declared.end.LineEnd.{LineEnd}
-use Rattle.frz_line.specs.declared.end.LineFault.{LineFault}
-use Rattle.frz_line.specs.declared.end.LineFault.TheVariants as faults
+use Rattle.frz_ways.specs.declared.end.LineEnd.{LineEnd}
+use Rattle.frz_ways.specs.declared.end.LineFault.{LineFault}
+use Rattle.frz_ways.specs.declared.end.LineFault.TheVariants as faults
 
 -- by what the line answers
 abbrev pub end_status : Result LineEnd LineFault → Status

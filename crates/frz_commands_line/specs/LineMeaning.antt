@@ -20,11 +20,11 @@ use Rattle.frz_answer.specs.declared.status.Status.{Status}
 use Rattle.frz_answer.specs.declared.status.Status.TheVariants.{Success, Wrong, Table, Outside, Missing}
 use Rattle.frz_answer.specs.Answers.{Answer}
 use Rattle.frz_prelude.specs.TableFiles.{OpensAs, TellsTableFault}
-use Rattle.frz_line.specs.declared.end.LineEnd.{LineEnd}
-use Rattle.frz_line.specs.declared.end.TheConstants.{MOST_PLIES}
-use Rattle.frz_line.specs.ChessGames.{IsGame}
-use Rattle.frz_line.specs.Ends as line_ends
-use Rattle.frz_line.specs.Lines.{LinePly, EndOfLine}
+use Rattle.frz_ways.specs.declared.end.LineEnd.{LineEnd}
+use Rattle.frz_ways.specs.declared.end.TheConstants.{MOST_PLIES}
+use Rattle.frz_ways.specs.ChessGames.{IsGame}
+use Rattle.frz_ways.specs.Ends as line_ends
+use Rattle.frz_ways.specs.Lines.{LinePly, EndOfLine}
 use Rattle.frz_commands_line.specs.Later.{held_later}
 use Rattle.frz_commands_line.specs.LineOf.{code_at, IsLineBy, told_text}
 

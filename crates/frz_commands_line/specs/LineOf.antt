@@ -15,12 +15,12 @@ use Rattle.frz_check.specs.Kept.{kept_codes}
 use Rattle.frz_answer.specs.Answers.{Answer, says}
 use Rattle.frz_prelude.specs.Refusals.{status_of, refusal_line}
 use Rattle.frz_prelude.specs.declared.refused.Refused.TheVariants as refusals
-use Rattle.frz_line.specs.declared.end.LineEnd.{LineEnd}
-use Rattle.frz_line.specs.declared.end.LineFault.{LineFault}
-use Rattle.frz_line.specs.Costs.{way_numbers}
-use Rattle.frz_line.specs.Ends as ends
-use Rattle.frz_line.specs.Lines.{LinePly, EndOfLine, IsLine}
-use Rattle.frz_line.specs.Texts.{line_text}
+use Rattle.frz_ways.specs.declared.end.LineEnd.{LineEnd}
+use Rattle.frz_ways.specs.declared.end.LineFault.{LineFault}
+use Rattle.frz_ways.specs.Costs.{way_numbers}
+use Rattle.frz_ways.specs.Ends as ends
+use Rattle.frz_ways.specs.Lines.{LinePly, EndOfLine, IsLine}
+use Rattle.frz_ways.specs.Texts.{line_text}
 use Rattle.frz_commands_line.specs.Later.{held_later}
 use Rattle.frz_commands_line.specs.LineEnds.{end_status, naming_line}
 

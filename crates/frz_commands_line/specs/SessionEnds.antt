@@ -7,11 +7,11 @@ use Rattle.frz_answer.specs.declared.fault.Fault.TheVariants as stops
 use Rattle.frz_answer.specs.declared.end.End.{End}
 use Rattle.frz_answer.specs.declared.end.End.TheVariants.{Stopped}
 use Rattle.frz_answer.specs.Ends.{Said}
-use Rattle.frz_play.specs.declared.end.PlayFault.{PlayFault}
-use Rattle.frz_play.specs.declared.end.PlayFault.TheVariants as plays
-use Rattle.frz_play.specs.declared.end.PlayLimit.{PlayLimit}
-use Rattle.frz_play.specs.declared.end.PlayLimit.TheVariants.{Lines, LineLength}
-use Rattle.frz_play.specs.declared.end.SessionEnd.{SessionEnd}
+use Rattle.frz_ways.specs.declared.session_end.PlayFault.{PlayFault}
+use Rattle.frz_ways.specs.declared.session_end.PlayFault.TheVariants as plays
+use Rattle.frz_ways.specs.declared.session_end.PlayLimit.{PlayLimit}
+use Rattle.frz_ways.specs.declared.session_end.PlayLimit.TheVariants.{Lines, LineLength}
+use Rattle.frz_ways.specs.declared.session_end.SessionEnd.{SessionEnd}
 use Rattle.frz_commands_line.specs.LineEnds.{end_status, naming_line, EndsLine}
 
 -- by what the session answers

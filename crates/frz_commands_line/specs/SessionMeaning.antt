@@ -28,14 +28,14 @@ use Rattle.frz_answer.specs.declared.status.Status.{Status}
 use Rattle.frz_answer.specs.declared.status.Status.TheVariants.{Success, Wrong, Table, Outside, Missing, Limit}
 use Rattle.frz_answer.specs.Answers.{Answer}
 use Rattle.frz_prelude.specs.TableFiles.{OpensAs, TellsTableFault}
-use Rattle.frz_line.specs.ChessGames.{IsGame}
-use Rattle.frz_play.specs.declared.end.PlayFault.{PlayFault}
-use Rattle.frz_play.specs.declared.end.PlayFault.TheVariants as plays
-use Rattle.frz_play.specs.declared.end.PlayLimit.{PlayLimit}
-use Rattle.frz_play.specs.declared.end.SessionEnd.{SessionEnd}
-use Rattle.frz_play.specs.Ends.{Tells}
-use Rattle.frz_play.specs.Reading.{Input}
-use Rattle.frz_play.specs.Sessions.{SessionPly, EndOfSession}
+use Rattle.frz_ways.specs.ChessGames.{IsGame}
+use Rattle.frz_ways.specs.declared.session_end.PlayFault.{PlayFault}
+use Rattle.frz_ways.specs.declared.session_end.PlayFault.TheVariants as plays
+use Rattle.frz_ways.specs.declared.session_end.PlayLimit.{PlayLimit}
+use Rattle.frz_ways.specs.declared.session_end.SessionEnd.{SessionEnd}
+use Rattle.frz_ways.specs.SessionEnds.{Tells}
+use Rattle.frz_ways.specs.Reading.{Input}
+use Rattle.frz_ways.specs.Sessions.{SessionPly, EndOfSession}
 use Rattle.frz_commands_line.specs.LineMeaning.{TellsOutside}
 use Rattle.frz_commands_line.specs.Later.{held_later}
 use Rattle.frz_commands_line.specs.LineOf.{code_at}

@@ -6,10 +6,10 @@ ghost use Rattle.frz_answer.specs.Lawful.{IsLawful};
 ghost use Rattle.frz_commands_line.specs.Lining.{line_words};
 ghost use Rattle.frz_commands_line.specs.Playing.{play_words};
 
-use frz_line::laws::{
+use frz_ways::laws::lines::{
     holds_are_drawn, least_plies, lines_are_games, one_line, tables_are_never_wrong,
 };
-use frz_play::laws as sessions;
+use frz_ways::laws::sessions;
 
 /// Whatever the words behind `line` are, and whatever the store holds later, there is one answer
 /// over any files and any input, and over files of bytes it means what it is to mean.

@@ -21,12 +21,12 @@ use crate::side::{read_side, refuse_side};
 use frz_answer::{End, Fault, Refusal, Status, refuse, said, say, three_words};
 use frz_board::{Colour, Position};
 use frz_fen::read_fen;
-use frz_line::laws::one_line;
-use frz_line::{LineEnd, LineFault, best_line};
 use frz_prelude::{Refused, Stop, refuse_named, write_wrong};
 use frz_steps::Steps;
 use frz_store::{Sink, Store};
 use frz_table::{TableFile, open_table};
+use frz_ways::laws::lines::one_line;
+use frz_ways::{LineEnd, LineFault, best_line};
 use std::alloc::Global;
 use std::sync::ledger::Ledger;
 

@@ -22,12 +22,12 @@ use crate::side::{read_side, refuse_side};
 use frz_answer::{End, Fault, Refusal, Status, refuse, say, three_words};
 use frz_board::{Colour, Position};
 use frz_fen::read_fen;
-use frz_play::laws::one_session;
-use frz_play::{PlayFault, PlayLimit, SessionEnd, play_session};
 use frz_prelude::{Refused, Stop, number_in, refuse_named};
 use frz_steps::Steps;
 use frz_store::{Sink, Source, Store};
 use frz_table::{TableFile, open_table};
+use frz_ways::laws::sessions::one_session;
+use frz_ways::{PlayFault, PlayLimit, SessionEnd, play_session};
 use std::alloc::Global;
 use std::sync::ledger::Ledger;
 

@@ -6,12 +6,13 @@ use frz_board::Colour;
 use frz_fen::read_fen;
 use frz_game::Wrong;
 use frz_handmade::rook;
-use frz_line::LineFault;
-use frz_play::{MOST_LENGTH, MOST_LINES, PlayFault, PlayLimit, SessionEnd, play_session};
 use frz_sets::Value;
 use frz_steps::Steps;
 use frz_store::{Fail as Failing, FailOn, MemSink, MemSource, MemStore};
 use frz_table::open_table;
+use frz_ways::{
+    LineFault, MOST_LENGTH, MOST_LINES, PlayFault, PlayLimit, SessionEnd, play_session,
+};
 use std::alloc::Global;
 use std::marker::Brand;
 use std::process::Abort;

@@ -1,0 +1,314 @@
+-- A way as far as it was played.
+use Rattle.std.proofs.Common.{◌≡◌, ◌==◌, ◌++◌, ℕ, suc, inl, Bool, true, false, List, [], ◌∷◌, Option, refl, sym, subst, ap, ◌∙◌, arith, if◌then◌else◌, Result, Ok, Err, append_assoc, ◌<◌, ◌+◌}
+use Rattle.std.specs.Prelude.{slice_index}
+use Rattle.std.specs.Result.{IsErrAnd}
+use Rattle.std.proofs.lemmas.Bool.Decides.{nat_tests}
+use Rattle.frz_board.specs.declared.man.Colour.{Colour}
+use Rattle.frz_board.specs.Moving.{Step}
+use Rattle.frz_sets.specs.declared.exit.Value.{Value}
+use Rattle.frz_store.specs.Told.{SourceTold, SinkTold}
+use Rattle.frz_answer.specs.Answers.{IsLines}
+use Rattle.frz_answer.specs.Texts.{TookText}
+use Rattle.frz_answer.specs.World.{Spent}
+use Rattle.frz_answer.proofs.Lemmas.{took_nothing, took_behind, lines_behind}
+use Rattle.frz_arena.specs.declared.arm.Next.TheVariants.{Inside}
+use Rattle.frz_arena.specs.Arena.{Arena}
+use Rattle.frz_ways.specs.Costs.{way_numbers, SpendsAt}
+use Rattle.frz_ways.specs.Kept.{MayRead}
+use Rattle.frz_ways.proofs.Gathered.{any_read}
+use Rattle.frz_ways.proofs.ReadBefore.{and_now, before_is, now_is, now_may}
+use Rattle.frz_ways.proofs.Spending.{came_on, nothing_spent, spends_last, spends_on}
+use Rattle.frz_ways.specs.declared.way_end.WayEnd.{WayEnd}
+use Rattle.frz_ways.specs.declared.session_end.PlayFault.{PlayFault}
+use Rattle.frz_ways.specs.declared.session_end.TheConstants.{MOST_LINES}
+use Rattle.frz_ways.specs.declared.hearing.Reader.{Reader}
+use Rattle.frz_ways.specs.declared.playing.Spot.{Spot}
+use Rattle.frz_ways.specs.declared.playing.Turn.{Turn}
+use Rattle.frz_ways.specs.declared.playing.Turn.TheVariants.{Over, On}
+use Rattle.frz_ways.specs.declared.opponent.Opponent.{Opponent}
+use Rattle.frz_ways.specs.PlayWay.{Plays}
+use Rattle.frz_ways.specs.WayEnds.{told, Finishes}
+use Rattle.frz_ways.specs.SessionFaults.{WroteBy, TookBytes}
+use Rattle.frz_ways.specs.Hearing.{HasEnded, MayFollow, StaysEnded}
+use Rattle.frz_ways.specs.Reading.{Input, opened}
+use Rattle.frz_ways.specs.Ways.{WayPly, EndOfWay, GoesOn}
+use Rattle.frz_ways.specs.SessionTexts.{end_text, start_line}
+use Rattle.frz_ways.specs.WayTexts.{plies_text, way_text}
+use Rattle.frz_ways.specs.Turns.{rest_text, Leaves, GoesBy}
+use Rattle.frz_ways.proofs.Taking.{took_none, took_on, held_whole, some_rest}
+use Rattle.frz_ways.proofs.Turned.{turn_over}
+use Rattle.frz_ways.proofs.Written.{wrote_after, same_wrote}
+
+-- what is left of a way from the start, behind the text that was written and the numbers that it
+-- came to
+pub record IsLeft (arena : Arena Step ℕ Value) (opponent : Opponent) (side : Colour)
+    (kept : ℕ → List ℕ) (start code : ℕ) (spot : Spot) (input : Input) (numbers text : List ℕ)
+    (plies : List WayPly) (end : EndOfWay) (last : Input) : Type 0 where
+  pub agrees : slice_index (kept spot.played) spot.number ≡ spot.code
+  pub others : List WayPly
+  pub way : GoesOn arena opponent side kept spot.played input spot.number others end last
+  pub is : text ++ rest_text opponent side spot others end ≡ way_text opponent side code plies end
+  pub came : numbers ++ way_numbers (Inside (spot.played, spot.number)) others
+      ≡ way_numbers (Inside (0, start)) plies
+
+-- each way from the start against these bytes comes by here
+abbrev pub ComeBy : Arena Step ℕ Value → Opponent → Colour → (ℕ → List ℕ) → (start code : ℕ) → Spot
+    → Reader → (numbers bytes text : List ℕ) → Type 0
+ComeBy arena opponent side kept start code spot reader numbers bytes text =
+    slice_index (kept 0) start ≡ code → (left : List ℕ) → MayFollow reader left →
+    (plies : List WayPly) (end : EndOfWay) (last : Input) →
+    GoesOn arena opponent side kept 0 (opened (bytes ++ left)) start plies end last →
+    IsLeft arena opponent side kept start code spot (record { left = left; more = reader.more })
+    numbers text plies end last
+
+pub record SoFar (known : Option (List ℕ)) (size : ℕ) (arena : Arena Step ℕ Value)
+    (opponent : Opponent) (side : Colour)
+    (start code : ℕ) (spot : Spot) (reader : Reader) (source left : SourceTold)
+    (out taken : SinkTold) (before now : Spent) : Type 0 where
+  pub text : List ℕ
+  pub bytes : List ℕ
+  pub lines : IsLines text
+  pub wrote : TookText text out taken
+  pub took : TookBytes bytes source left
+  pub numbers : List ℕ
+  pub spent : SpendsAt arena 0 numbers before now
+  -- what was read after each ply
+  pub read : ℕ → List ℕ
+  pub may : (k : ℕ) → MayRead known size (read k)
+  pub comes : (kept : ℕ → List ℕ) → ((k : ℕ) → k < spot.played → kept (suc k) ≡ read k) →
+      ComeBy arena opponent side kept start code spot reader numbers bytes text
+
+pub at_start : (known : Option (List ℕ)) (size : ℕ) (arena : Arena Step ℕ Value)
+    (opponent : Opponent) (side : Colour)
+    (start code : ℕ) (source : SourceTold) (out : SinkTold) (now : Spent)
+    → SoFar known size arena opponent side start code
+    (record { number = start; code = code; played = 0 })
+    (record { more = MOST_LINES; ended = false }) source source out out now now
+at_start known size arena opponent side start code source out now = record {
+  text = [];
+  bytes = [];
+  lines = inl refl;
+  wrote = took_nothing out;
+  took = took_none source source refl;
+  numbers = [];
+  spent = nothing_spent arena now;
+  read = λ k. (any_read known size).0;
+  may = λ k. (any_read known size).1;
+  comes = λ kept same agrees left may plies end last w.
+      record { agrees = agrees; others = plies; way = w; is = refl; came = refl };
+}
+
+more_is : (k : ℕ) → (k + 1 == 0) ≡ false
+more_is k = grind (arith, nat_tests)
+
+follows_both : (old new : Reader) (bytes left : List ℕ) → StaysEnded old new bytes
+    → MayFollow new left → MayFollow old (bytes ++ left)
+follows_both old new bytes left stays may = λ e.
+    let s = stays e in ap (λ (l : List ℕ). l ++ left) s.0 ∙ may s.1
+
+-- a ply was played
+after_ply : (arena : Arena Step ℕ Value) (opponent : Opponent) (side : Colour) (kept : ℕ → List ℕ)
+    (start code : ℕ) (spot next : Spot) (old new : Reader)
+    (numbers bytes more text written : List ℕ)
+    → next.played ≡ spot.played + 1 → StaysEnded old new more
+    → ComeBy arena opponent side kept start code spot old numbers bytes text
+    → GoesBy arena opponent side kept spot old new more written (Ok (On next.number next.code))
+    → ComeBy arena opponent side kept start code next new (numbers ++ spot.number ∷ [])
+    (bytes ++ more) (text ++ written)
+after_ply arena opponent side kept start code spot next old new numbers bytes more text written e
+    stays comes goes = λ agrees left may plies end last w.
+    let v = subst (λ (l : List ℕ). GoesOn arena opponent side kept 0 (opened l) start plies end
+    last) (append_assoc bytes more left) w in
+    let l = comes agrees (more ++ left) (follows_both old new more left stays may) plies end last
+    v in
+    let g = goes l.agrees left may l.others end last l.way in
+    let others = g.2.1.1 in
+    let here : Input = record { left = left; more = new.more } in
+    let played : suc spot.played ≡ next.played = (omega (arith, e)) in
+    let later : (next.played == 0) ≡ false = subst (λ (k : ℕ). (k == 0) ≡ false) (sym e)
+    (more_is spot.played) in
+    let rest : rest_text opponent side next others end ≡ g.0 =
+    ap (λ (b : Bool). (if b then start_line side next.code others end else [])
+    ++ (plies_text opponent side others ++ end_text end)) later ∙ sym g.2.1.5 in
+    record {
+      agrees = subst (λ k. slice_index (kept k) next.number ≡ next.code) played g.2.0;
+      others = others;
+      way = subst (λ k. GoesOn arena opponent side kept k here next.number others end last) played
+          g.2.1.4;
+      is = ap (λ (z : List ℕ). (text ++ written) ++ z) rest
+          ∙ (append_assoc text written g.0 ∙ (ap (λ (z : List ℕ). text ++ z) g.1 ∙ l.is));
+      came = subst
+          (λ k. (numbers ++ spot.number ∷ []) ++ way_numbers (Inside (k, next.number)) others
+          ≡ way_numbers (Inside (0, start)) plies) played
+          (came_on numbers spot.played spot.number (suc spot.played, next.number) l.others others
+          g.2.1.0 (way_numbers (Inside (0, start)) plies) l.came g.2.1.2 g.2.1.3);
+    }
+
+left_over : (arena : Arena Step ℕ Value) (opponent : Opponent) (side : Colour) (kept : ℕ → List ℕ)
+    (spot : Spot) (left : Input) (plies : List WayPly) (end : EndOfWay) (last : Input)
+    (rest : List ℕ) (answer : Result WayEnd PlayFault)
+    → Leaves arena opponent side kept spot left plies end last rest (turn_over answer)
+    → (unread : List ℕ) × (unread ++ last.left ≡ left.left)
+    × Finishes answer (told side end) rest unread
+left_over arena opponent side kept spot left plies end last rest (Ok answer) h = h
+left_over arena opponent side kept spot left plies end last rest (Err fault) h = h
+
+-- the last turn
+played_out : (arena : Arena Step ℕ Value) (opponent : Opponent) (side : Colour) (kept : ℕ → List ℕ)
+    (start code : ℕ) (spot : Spot) (old new : Reader) (numbers bytes more text next : List ℕ)
+    (answer : Result WayEnd PlayFault) (before now after : Spent) (source left : SourceTold)
+    → SpendsAt arena 0 numbers before now
+    → SpendsAt arena 0 (spot.number ∷ []) now after → StaysEnded old new more
+    → TookBytes (bytes ++ more) source left → (new.ended ≡ true → HasEnded left)
+    → ComeBy arena opponent side kept start code spot old numbers bytes text
+    → GoesBy arena opponent side kept spot old new more next (turn_over answer)
+    → Plays arena opponent side kept start code source (bytes ++ more) (text ++ next) answer before
+    after
+played_out arena opponent side kept start code spot old new numbers bytes more text next answer
+    before now after source left b n stays took has comes goes =
+    let r = some_rest left (new.ended ≡ true) has in
+    let rest = r.0 in (
+      (bytes ++ more) ++ rest,
+      held_whole (bytes ++ more) source left took rest r.1,
+      λ agrees plies end last w.
+          let v = subst
+          (λ (l : List ℕ). GoesOn arena opponent side kept 0 (opened l) start plies end last)
+          (append_assoc bytes more rest) w in
+          let l = comes agrees (more ++ rest) (follows_both old new more rest stays r.2) plies end
+          last v in
+          let g = goes l.agrees rest r.2 l.others end last l.way in
+          let o = left_over arena opponent side kept spot (record { left = rest; more = new.more })
+          l.others end last g.0 answer g.2 in
+          let spent = spends_last arena numbers spot.played spot.number l.others
+          (way_numbers (Inside (0, start)) plies) before now after l.came b n in (
+            record {
+              rest = g.0;
+              unread = o.0;
+              begins = append_assoc text next g.0 ∙ (ap (λ (z : List ℕ). text ++ z) g.1 ∙ l.is);
+              takes = ap (λ (z : List ℕ). (bytes ++ more) ++ z) o.1;
+              finishes = o.2;
+            },
+            spent,
+          ),
+    )
+
+-- what a way wrote and took
+abbrev pub WayWrote : Option (List ℕ) → (size : ℕ) → Arena Step ℕ Value → Opponent → Colour
+    → (start code : ℕ)
+    → Result WayEnd PlayFault → (source left : SourceTold) → (out taken : SinkTold)
+    → (before now : Spent) → Type 0
+WayWrote known size arena opponent side start code result source left out taken before now =
+    (text bytes : List ℕ) × IsLines text × WroteBy result text out taken
+    × TookBytes bytes source left
+    × ((read : ℕ → List ℕ) × ((k : ℕ) → MayRead known size (read k))
+    × ((kept : ℕ → List ℕ) → ((k : ℕ) → kept (suc k) ≡ read k)
+    → Plays arena opponent side kept start code source bytes text result before now))
+
+-- what was read in a turn
+abbrev pub TurnRead : Option (List ℕ) → (size : ℕ) → Arena Step ℕ Value → Opponent → Colour → Spot
+    → (old new : Reader) → (more next : List ℕ) → Result Turn PlayFault → Type 0
+TurnRead known size arena opponent side spot old new more next result =
+    (now : List ℕ) × MayRead known size now
+    × ((kept : ℕ → List ℕ) → kept (suc spot.played) ≡ now
+    → GoesBy arena opponent side kept spot old new more next result)
+
+over_wrote : (answer : Result WayEnd PlayFault) (text : List ℕ) (old new : SinkTold)
+    → WroteBy (turn_over answer) text old new → WroteBy answer text old new
+over_wrote (Ok answer) text old new w = w
+over_wrote (Err fault) text old new w = same_wrote Turn WayEnd fault text old new w
+
+-- a fault that was answered
+fault_wrote : (known : Option (List ℕ)) (size : ℕ) (arena : Arena Step ℕ Value)
+    (opponent : Opponent) (side : Colour)
+    (start code : ℕ) (source left : SourceTold) (out taken : SinkTold) (before now : Spent)
+    (fault : PlayFault) (result : Result WayEnd PlayFault) → IsErrAnd result (λ e. e ≡ fault)
+    → WayWrote known size arena opponent side start code (Err fault) source left out taken before
+    now
+    → WayWrote known size arena opponent side start code result source left out taken before now
+fault_wrote known size arena opponent side start code source left out taken before now fault (Ok
+    end) h w =
+    absurd h
+fault_wrote known size arena opponent side start code source left out taken before now fault (Err e)
+    h w =
+    subst (λ (f : PlayFault). WayWrote known size arena opponent side start code (Err f) source left
+    out taken before now) (sym h) w
+
+-- one turn more, which left the reader so
+module _ {known : Option (List ℕ)} {size : ℕ} {arena : Arena Step ℕ Value} {opponent : Opponent}
+    {side : Colour} {start code : ℕ}
+    {spot : Spot} {old : Reader} (new : Reader) {source mid left : SourceTold}
+    {out between : SinkTold} (taken : SinkTold) {before now after : Spent}
+    (far : SoFar known size arena opponent side start code spot old source mid out between before
+    now) (few : SpendsAt arena 0 (spot.number ∷ []) now after) (next more : List ℕ)
+    (lines : IsLines next) (took : TookBytes more mid left) (stays : StaysEnded old new more) where
+  -- a ply was played
+  pub next_far : {turn : Turn} {number read : ℕ} → turn ≡ On number read
+      → TookText next between taken
+      → TurnRead known size arena opponent side spot old new more next (Ok turn)
+      → SoFar known size arena opponent side start code
+      (record { number = number; code = read; played = spot.played + 1 }) new source left out taken
+      before after
+  next_far {turn} {number} {read} on wrote goes =
+      let there : Spot = record { number = number; code = read; played = spot.played + 1 } in
+      record {
+        text = far.text ++ next;
+        bytes = far.bytes ++ more;
+        lines = lines_behind far.text next far.lines lines;
+        wrote = took_behind far.text next (far.text ++ next) out between taken far.wrote refl wrote;
+        took = took_on far.bytes more source mid left far.took took;
+        numbers = far.numbers ++ spot.number ∷ [];
+        spent = spends_on arena far.numbers (spot.number ∷ []) before now after far.spent few;
+        read = and_now far.read spot.played goes.0;
+        may = now_may known size far.read spot.played goes.0 far.may goes.1;
+        comes = λ kept same.
+            after_ply arena opponent side kept start code spot there old new far.numbers far.bytes
+            more far.text next refl stays (far.comes kept (λ k l. same k (omega (arith, l))
+            ∙ before_is far.read spot.played goes.0 k l))
+            (subst (λ (t : Turn). GoesBy arena opponent side kept spot old new more next (Ok t)) on
+            (goes.2 kept (same spot.played (omega arith)
+            ∙ now_is far.read spot.played goes.0)));
+      }
+
+  last_far : (answer : Result WayEnd PlayFault) → (new.ended ≡ true → HasEnded left)
+      → WroteBy (turn_over answer) next between taken
+      → TurnRead known size arena opponent side spot old new more next (turn_over answer)
+      → WayWrote known size arena opponent side start code answer source left out taken before after
+  last_far answer has wrote goes =
+      let all = took_on far.bytes more source mid left far.took took in (
+        far.text ++ next,
+        far.bytes ++ more,
+        lines_behind far.text next far.lines lines,
+        wrote_after far.text next answer out between taken far.wrote
+            (over_wrote answer next between taken wrote),
+        all,
+        (
+          and_now far.read spot.played goes.0,
+          now_may known size far.read spot.played goes.0 far.may goes.1,
+          λ kept same.
+              played_out arena opponent side kept start code spot old new far.numbers far.bytes
+              more far.text next answer before now after source left far.spent few stays all has
+              (far.comes kept (λ k l. same k ∙ before_is far.read spot.played goes.0 k l))
+              (goes.2 kept (same spot.played ∙ now_is far.read spot.played goes.0)),
+        ),
+      )
+
+  -- the way's end
+  pub over_far : {turn : Turn} {end : WayEnd} → turn ≡ Over end
+      → (new.ended ≡ true → HasEnded left) → TookText next between taken
+      → TurnRead known size arena opponent side spot old new more next (Ok turn)
+      → WayWrote known size arena opponent side start code (Ok end) source left out taken before
+      after
+  over_far {turn} {end} over has wrote goes =
+      last_far (Ok end) has wrote
+      (subst (λ (t : Turn). TurnRead known size arena opponent side spot old new more next (Ok t))
+      over goes)
+
+  -- a fault on its way
+  pub fault_far : (fault : PlayFault) (result : Result WayEnd PlayFault)
+      → IsErrAnd result (λ e. e ≡ fault) → (new.ended ≡ true → HasEnded left)
+      → WroteBy {T = Turn} (Err fault) next between taken
+      → TurnRead known size arena opponent side spot old new more next (Err fault)
+      → WayWrote known size arena opponent side start code result source left out taken before after
+  fault_far fault result is has wrote goes =
+      fault_wrote known size arena opponent side start code source left out taken before after fault
+      result is (last_far (Err fault) has wrote goes)

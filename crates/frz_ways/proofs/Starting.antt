@@ -1,0 +1,197 @@
+-- A way from the number of a position.
+use Rattle.std.proofs.Common.{◌≡◌, ◌<◌, ◌^◌, ℕ, zero, suc, inl, List, [], Option, Some, None, IfSome, Result, Ok, Err, refl, sym, subst, ap, ◌∙◌}
+use Rattle.std.specs.Prelude.{slice_index, ◌↔◌, IsSome}
+use Rattle.std.specs.Result.{IsErrAnd}
+use Rattle.frz_board.specs.declared.man.Colour.{Colour}
+use Rattle.frz_board.specs.Boards.{Board}
+use Rattle.frz_sets.specs.Sets.{size_of}
+use Rattle.frz_sets.specs.Views.{RuleLines, GroupLine}
+use Rattle.frz_store.specs.Told.{SourceTold, SinkTold}
+use Rattle.frz_store.specs.declared.outside.StoreFault.{StoreFault}
+use Rattle.frz_store.specs.declared.outside.StoreFault.TheVariants.{Failed, NoMemory}
+use Rattle.frz_answer.specs.Answers.{IsLines}
+use Rattle.frz_answer.specs.World.{Spent}
+use Rattle.frz_arena.specs.declared.arm.Next.TheVariants.{Inside}
+use Rattle.frz_answer.proofs.Lemmas.{took_nothing}
+use Rattle.frz_exits.specs.Books.{value_by}
+use Rattle.frz_arena.specs.Names.{IsNumbering}
+use Rattle.frz_game.specs.Games.{arena_by, graph_by}
+use Rattle.frz_game.specs.Numbers.{number_of, numbers_by}
+use Rattle.frz_index.specs.Members.{Member, Num}
+use Rattle.frz_ways.specs.Faults.{fault_of}
+use Rattle.frz_ways.specs.Costs.{way_numbers, Spends, SpendsAt}
+use Rattle.frz_ways.proofs.Gathered.{any_read, start_read}
+use Rattle.frz_ways.proofs.Spending.{read_alone, read_first}
+use Rattle.frz_ways.specs.Kept.{MayRead}
+use Rattle.frz_ways.specs.declared.end.LineFault.TheVariants as faults
+use Rattle.frz_ways.specs.declared.way_end.WayEnd.{WayEnd}
+use Rattle.frz_ways.specs.declared.session_end.PlayFault.{PlayFault}
+use Rattle.frz_ways.specs.declared.session_end.PlayFault.TheVariants as plays
+use Rattle.frz_ways.specs.SessionFaults.{WroteBy, TookBytes, MayHold}
+use Rattle.frz_ways.specs.declared.opponent.Opponent.{Opponent}
+use Rattle.frz_ways.specs.PlayWay.{Plays, WayPlayed, TellsWay}
+use Rattle.frz_ways.specs.WayEnds.{told}
+use Rattle.frz_ways.specs.Reading.{opened}
+use Rattle.frz_ways.specs.Ways.{GoesOn}
+use Rattle.frz_ways.specs.SessionTexts.{start_line}
+use Rattle.frz_ways.specs.WayTexts.{plies_text, way_text}
+use Rattle.frz_ways.proofs.Faulted.{IsStoreFault, short_of, short_text}
+use Rattle.frz_ways.proofs.Goings.{way_front}
+use Rattle.frz_ways.proofs.Taking.{took_none, some_rest}
+use Rattle.frz_ways.proofs.Written.{store_fault}
+
+-- the number of a position is within the size of its set
+pub start_inside : (rules : RuleLines) (p : Board) {set : List GroupLine} {found : Option ℕ}
+    {start : ℕ} → IsNumbering (numbers_by rules.groups) (arena_by rules (value_by rules))
+    → set ≡ rules.groups → found ≡ number_of set p → found ≡ Some start
+    → start < size_of rules.groups
+start_inside rules p {start = start} numbering same is there =
+    numbering.in_size p start
+    (subst (λ (z : List GroupLine). number_of z p ≡ Some start) same (sym is ∙ there))
+
+-- a position that has no number is not in its set
+pub no_member : {set groups : List GroupLine} (p : Board) → set ≡ groups
+    → IsSome {T = ℕ} None ↔ Member set p → Member groups p → ⊥
+no_member p same is member =
+    (let no = is.1 (subst (λ (z : List GroupLine). Member z p) (sym same) member) in cc)
+
+-- the codes that were read of the start, and then after each ply
+abbrev from_start : List ℕ → (ℕ → List ℕ) → ℕ → List ℕ
+from_start first read zero = first
+from_start first read (suc k) = read k
+
+from_start_may : (known : Option (List ℕ)) (size : ℕ) (first : List ℕ) (read : ℕ → List ℕ)
+    → MayRead known size first → ((k : ℕ) → MayRead known size (read k)) → (k : ℕ)
+    → MayRead known size (from_start first read k)
+from_start_may known size first read here rest zero = here
+from_start_may known size first read here rest (suc k) = rest k
+
+store_wrote : (fault : StoreFault) (out : SinkTold)
+    → WroteBy {T = WayEnd} (Err (plays.Line (fault_of fault))) [] out out
+store_wrote Failed out = took_nothing out
+store_wrote NoMemory out = took_nothing out
+
+module _ (known : Option (List ℕ)) (size : ℕ) (opponent : Opponent) (rules : RuleLines)
+    (side : Colour) (p : Board) where
+  -- what was written and taken of the way
+  abbrev pub WroteWay : Result WayEnd PlayFault → (source left : SourceTold)
+      → (out taken : SinkTold) → (before now : Spent) → Type 0
+  WroteWay result source left out taken before now =
+      (text bytes : List ℕ) × IsLines text × WroteBy result text out taken
+      × TookBytes bytes source left
+      × ((read : ℕ → List ℕ) × ((k : ℕ) → MayRead known size (read k))
+      × ((codes : ℕ → List ℕ) → ((k : ℕ) → codes k ≡ read k) → (whole : List ℕ)
+      × MayHold source whole
+      × TellsWay opponent rules side codes p whole bytes text result before now))
+
+  -- where nothing was written or taken
+  untouched : (source : SourceTold) (out : SinkTold) (before now : Spent)
+      (result : Result WayEnd PlayFault) → WroteBy result [] out out
+      → ((codes : ℕ → List ℕ) (whole : List ℕ)
+      → TellsWay opponent rules side codes p whole [] [] result before now)
+      → WroteWay result source source out out before now
+  untouched source out before now result wrote tells =
+      let r = some_rest source ⊥ (λ e. absurd e) in (
+        [],
+        [],
+        inl refl,
+        wrote,
+        took_none source source refl,
+        (
+          λ k. (any_read known size).0,
+          λ k. (any_read known size).1,
+          λ codes same. (r.0, r.1, tells codes r.0),
+        ),
+      )
+
+  -- a position that is not in the set
+  pub nothing_told : (source : SourceTold) (out : SinkTold) (before : Spent)
+      → (Member rules.groups p → ⊥)
+      → WroteWay (Err (plays.Line faults.Outside)) source source out out before before
+  nothing_told source out before none =
+      untouched source out before before (Err (plays.Line faults.Outside)) (took_nothing out)
+      (λ codes whole member plies end last w. absurd (none member))
+
+  unread : (source : SourceTold) (out : SinkTold) (before now : Spent) → Spends 1 0 before now
+      → (fault : PlayFault) → IsStoreFault fault → WroteBy {T = WayEnd} (Err fault) [] out out
+      → WroteWay (Err fault) source source out out before now
+  unread source out before now few fault is wrote =
+      untouched source out before now (Err fault) wrote
+      (λ codes whole member plies end last w.
+      let front = way_front (graph_by rules (value_by rules)) opponent side codes 0 (opened whole)
+      last (0, Num rules.groups p) plies end w in
+      let code = slice_index (codes 0) (Num rules.groups p) in
+      let text = way_text opponent side code plies end in (
+        record {
+          rest = text;
+          unread = front.0;
+          begins = refl;
+          takes = front.1;
+          finishes = short_of fault (told side end) text front.0 is
+              (short_text side end (start_line side code plies end)
+              (plies_text opponent side plies));
+        },
+        read_alone (graph_by rules (value_by rules))
+            (way_numbers (Inside (0, Num rules.groups p)) plies) before now few,
+      ))
+
+  -- the code of the start was not read
+  pub start_unread : (source : SourceTold) (out : SinkTold) {before now : Spent}
+      → Spends 1 0 before now → (fault : StoreFault) (result : Result WayEnd PlayFault)
+      → IsErrAnd result (λ e. e ≡ plays.Line (fault_of fault))
+      → WroteWay result source source out out before now
+  start_unread source out few fault (Ok end) h = absurd h
+  start_unread source out {before} {now} few fault (Err f) h =
+      subst (λ (z : PlayFault). WroteWay (Err z) source source out out before now) (sym h)
+      (unread source out before now few (plays.Line (fault_of fault)) (store_fault fault)
+      (store_wrote fault out))
+
+  tells : (codes : ℕ → List ℕ) (source : SourceTold) (bytes text : List ℕ)
+      (result : Result WayEnd PlayFault) (before mid now : Spent) (start code : ℕ)
+      → start ≡ Num rules.groups p → Spends 1 0 before mid → slice_index (codes 0) start ≡ code
+      → Plays (graph_by rules (value_by rules)) opponent side codes start code source bytes text
+      result mid now → (whole : List ℕ) × MayHold source whole
+      × TellsWay opponent rules side codes p whole bytes text result before now
+  tells codes source bytes text result before mid now start code is few agrees plays = (
+    plays.0,
+    plays.1,
+    λ member plies end last w.
+        let h = plays.2 agrees plies end last
+        (subst (λ i. GoesOn (graph_by rules (value_by rules)) opponent side codes 0
+        (opened plays.0) i plies end last) (sym is) w) in
+        let same : code ≡ slice_index (codes 0) (Num rules.groups p) = sym agrees
+        ∙ ap (slice_index (codes 0)) is in
+        let at_it = subst (λ i. SpendsAt (graph_by rules (value_by rules)) 0
+        (way_numbers (Inside (0, i)) plies) mid now) is h.1 in (
+          subst (λ c. WayPlayed opponent side c plays.0 bytes text result plies end last) same h.0,
+          read_first (graph_by rules (value_by rules))
+              (way_numbers (Inside (0, Num rules.groups p)) plies) before mid now few at_it,
+        ),
+  )
+
+  pub way_told : (result : Result WayEnd PlayFault) (source left : SourceTold)
+      (out taken : SinkTold) {before mid : Spent} (now : Spent) (start code : ℕ)
+      → start ≡ Num rules.groups p → Spends 1 0 before mid → start < size → code < 2 ^ 32
+      → IfSome known (λ codes. slice_index codes start ≡ code)
+      → (text bytes : List ℕ) → IsLines text → WroteBy result text out taken
+      → TookBytes bytes source left
+      → (read : ℕ → List ℕ) → ((k : ℕ) → MayRead known size (read k))
+      → ((codes : ℕ → List ℕ) → ((k : ℕ) → codes (suc k) ≡ read k)
+      → Plays (graph_by rules (value_by rules)) opponent side codes start code source bytes text
+      result mid now) → WroteWay result source left out taken before now
+  way_told result source left out taken {before} {mid} now start code is few inside small agrees
+      text bytes lines wrote took read may plays =
+      let first = start_read known size start code inside small agrees in (
+        text,
+        bytes,
+        lines,
+        wrote,
+        took,
+        (
+          from_start first.0 read,
+          from_start_may known size first.0 read first.1 may,
+          λ codes same. tells codes source bytes text result before mid now start code is few
+              (ap (λ (l : List ℕ). slice_index l start) (same 0) ∙ first.2)
+              (plays codes (λ k. same (suc k))),
+        ),
+      )

@@ -1,0 +1,464 @@
+-- What a turn of a way wrote and took, by what was due.
+use Rattle.std.proofs.Common.{◌≡◌, ◌==◌, ◌++◌, ℕ, zero, suc, inl, inr, Bool, true, false, List, [], map, refl, sym, subst, ap, ◌∙◌, get_or, if◌then◌else◌, Result, Ok, Err, append-nil}
+use Rattle.std.specs.Prelude.{codes}
+use Rattle.std.specs.Result.{IsErrAnd}
+use Rattle.frz_board.specs.declared.man.Colour.{Colour}
+use Rattle.frz_board.specs.Men.{same_colour}
+use Rattle.frz_board.specs.Moving.{Step}
+use Rattle.frz_sets.specs.declared.exit.Value.{Value}
+use Rattle.frz_store.specs.Told.{SourceTold, SinkTold}
+use Rattle.frz_store.specs.declared.outside.StoreFault.{StoreFault}
+use Rattle.frz_store.specs.declared.outside.StoreFault.TheVariants.{Failed, NoMemory}
+use Rattle.frz_answer.specs.Answers.{IsLines}
+use Rattle.frz_answer.specs.Texts.{TookText, FailedWithin}
+use Rattle.frz_answer.proofs.Lemmas.{took_nothing, took_behind, failed_behind, lines_behind}
+use Rattle.frz_arena.specs.declared.arm.Arm.{Arm}
+use Rattle.frz_arena.specs.Arena.{Arena}
+use Rattle.frz_arena.specs.LocalCodes.{node_code}
+use Rattle.frz_arena.specs.WayEnds.{Wrong, NoBound, Mated, Stalemated, Cut, Stopped}
+use Rattle.frz_arena.specs.Ways.{Over as OverWay}
+use Rattle.frz_graph.specs.EntryCodes.{arm_code}
+use Rattle.frz_graph.specs.Finite.{IsFinite}
+use Rattle.frz_graph.specs.FreeCodes.{free_among}
+use Rattle.frz_prelude.specs.BoundLines.{side_name, kept_words, kept_line}
+use Rattle.frz_ways.specs.declared.due.Due.{Due}
+use Rattle.frz_ways.specs.declared.due.Due.TheVariants as dues
+use Rattle.frz_ways.specs.declared.end.LineFault.TheVariants as faults
+use Rattle.frz_ways.specs.Dues.{due_by}
+use Rattle.frz_ways.specs.Faults.{fault_of}
+use Rattle.frz_ways.specs.Texts.{arm_text}
+use Rattle.frz_ways.proofs.Chosen.{AsksForOne, FillsLocal}
+use Rattle.frz_ways.proofs.Stages.{stage_told}
+use Rattle.frz_ways.proofs.TextLines.{as_lines, ends_arm, ends_behind}
+use Rattle.frz_ways.specs.declared.way_end.WayEnd.{WayEnd}
+use Rattle.frz_ways.specs.declared.way_end.WayEnd.TheVariants as ends
+use Rattle.frz_ways.specs.declared.session_end.PlayFault.{PlayFault}
+use Rattle.frz_ways.specs.declared.session_end.PlayFault.TheVariants as plays
+use Rattle.frz_ways.specs.declared.hearing.Heard.{Heard}
+use Rattle.frz_ways.specs.declared.hearing.Heard.TheVariants as heard
+use Rattle.frz_ways.specs.declared.hearing.Reader.{Reader}
+use Rattle.frz_ways.specs.declared.hearing.Why.TheVariants.{Ended, Limit}
+use Rattle.frz_ways.specs.declared.playing.Spot.{Spot}
+use Rattle.frz_ways.specs.declared.playing.Turn.{Turn}
+use Rattle.frz_ways.specs.declared.playing.Turn.TheVariants.{Over}
+use Rattle.frz_ways.specs.declared.opponent.Opponent.{Opponent}
+use Rattle.frz_ways.specs.WayEnds.{told, Finishes}
+use Rattle.frz_ways.specs.SessionFaults.{WroteBy, TookBytes}
+use Rattle.frz_ways.specs.Hearing.{StaysEnded, Hears}
+use Rattle.frz_ways.specs.Ways.{EndOfWay}
+use Rattle.frz_ways.specs.SessionTexts.{refused_text, end_text}
+use Rattle.frz_ways.specs.Turns.{moved_text, opening, turn_of, by_codes, own_word, late_by, Answers, PlaysByCodes, PlaysPly, AfterHeard, Unread, IsPlayed, GoesBy, wrong_at}
+use Rattle.frz_ways.proofs.Faulted.{IsStoreFault, store_goes, opening_failed, opened_tail, fault_tail}
+use Rattle.frz_ways.proofs.Taking.{took_none}
+use Rattle.frz_ways.proofs.Turned.{Stands, TailBy, turn_over, way_stage, over_tail, own_tail, reply_tail, stop_tail}
+
+moved_lines : (word : List ℕ) (a : Arm Step ℕ Value) → IsLines (moved_text word a)
+moved_lines word a = as_lines (moved_text word a) (ends_behind word (arm_text a) (ends_arm a))
+
+refused_lines : (n : ℕ) → IsLines (refused_text n)
+refused_lines zero = inl refl
+refused_lines (suc n) = lines_behind (codes "illegal\n") (refused_text n)
+    (inr (codes "illegal", refl)) (refused_lines n)
+
+kept_lines : (side : Colour) (code : ℕ) → IsLines (kept_line side code)
+kept_lines side code = inr (side_name side ++ kept_words code, refl)
+
+lines_if : (b : Bool) (text : List ℕ) → IsLines text → IsLines (if b then text else [])
+lines_if true text l = l
+lines_if false text l = inl refl
+
+opening_lines : (side : Colour) (spot : Spot) (due : Due) → IsLines (opening side spot due)
+opening_lines side spot (dues.Wrong given) = inl refl
+opening_lines side spot dues.NoBound = inl refl
+opening_lines side spot (dues.Mate m) =
+    lines_if (spot.played == 0) (kept_line side spot.code) (kept_lines side spot.code)
+opening_lines side spot (dues.Stalemate m) =
+    lines_if (spot.played == 0) (kept_line side spot.code) (kept_lines side spot.code)
+opening_lines side spot dues.Cut =
+    lines_if (spot.played == 0) (kept_line side spot.code) (kept_lines side spot.code)
+opening_lines side spot (dues.Ply m) =
+    lines_if (spot.played == 0) (kept_line side spot.code) (kept_lines side spot.code)
+
+-- a text behind one that was taken
+pub wrote_after : {T : Type 0} (text more : List ℕ) (result : Result T PlayFault)
+    (old mid new : SinkTold) → TookText text old mid → WroteBy result more mid new
+    → WroteBy result (text ++ more) old new
+wrote_after text more (Ok x) old mid new t w =
+    took_behind text more (text ++ more) old mid new t refl w
+wrote_after text more (Err plays.Input) old mid new t w =
+    took_behind text more (text ++ more) old mid new t refl w
+wrote_after text more (Err (plays.Limit l)) old mid new t w =
+    took_behind text more (text ++ more) old mid new t refl w
+wrote_after text more (Err (plays.Line faults.Outside)) old mid new t w =
+    took_behind text more (text ++ more) old mid new t refl w
+wrote_after text more (Err (plays.Line faults.NoBound)) old mid new t w =
+    took_behind text more (text ++ more) old mid new t refl w
+wrote_after text more (Err (plays.Line (faults.Wrong x))) old mid new t w =
+    took_behind text more (text ++ more) old mid new t refl w
+wrote_after text more (Err (plays.Line faults.Store)) old mid new t w =
+    took_behind text more (text ++ more) old mid new t refl w
+wrote_after text more (Err (plays.Line faults.Output)) old mid new t w =
+    failed_behind text more (text ++ more) old mid new t refl w
+wrote_after text more (Err (plays.Line faults.NoMemory)) old mid new t w =
+    took_behind text more (text ++ more) old mid new t refl w
+
+-- the same fault, whatever was to be answered
+pub same_wrote : (A B : Type 0) (fault : PlayFault) (text : List ℕ) (old new : SinkTold)
+    → WroteBy {T = A} (Err fault) text old new → WroteBy {T = B} (Err fault) text old new
+same_wrote A B plays.Input text old new w = w
+same_wrote A B (plays.Limit l) text old new w = w
+same_wrote A B (plays.Line faults.Outside) text old new w = w
+same_wrote A B (plays.Line faults.NoBound) text old new w = w
+same_wrote A B (plays.Line (faults.Wrong x)) text old new w = w
+same_wrote A B (plays.Line faults.Store) text old new w = w
+same_wrote A B (plays.Line faults.Output) text old new w = w
+same_wrote A B (plays.Line faults.NoMemory) text old new w = w
+
+by_answers : (turn : Turn) (text : List ℕ) (result : Result Turn PlayFault) (old new : SinkTold)
+    → Answers turn text result old new → WroteBy result text old new
+by_answers turn text result old new (inl a) =
+    subst (λ (z : Result Turn PlayFault). WroteBy z text old new) (sym a.0) a.1
+by_answers turn text result old new (inr a) =
+    subst (λ (z : Result Turn PlayFault). WroteBy z text old new) (sym a.0) a.1
+
+-- what a turn wrote and took
+abbrev pub TurnWrote : ((ℕ → List ℕ) → Type 0) → Arena Step ℕ Value → Opponent → Colour → Spot
+    → (old new : Reader)
+    → Result Turn PlayFault → (source left : SourceTold) → (out taken : SinkTold) → Type 0
+TurnWrote is arena opponent side spot old new result source left out taken =
+    (text bytes : List ℕ) × IsLines text × WroteBy result text out taken
+    × TookBytes bytes source left
+    × StaysEnded old new bytes
+    × ((kept : ℕ → List ℕ) → is kept
+    → GoesBy arena opponent side kept spot old new bytes text result)
+
+-- the same behind the opening
+record Tail (is : (ℕ → List ℕ) → Type 0) (arena : Arena Step ℕ Value) (opponent : Opponent)
+    (side : Colour) (spot : Spot)
+    (old new : Reader) (result : Result Turn PlayFault) (source left : SourceTold)
+    (out taken : SinkTold) : Type 0 where
+  pub text : List ℕ
+  pub bytes : List ℕ
+  pub lines : IsLines text
+  pub wrote : WroteBy result text out taken
+  pub took : TookBytes bytes source left
+  pub stays : StaysEnded old new bytes
+  pub goes : (kept : ℕ → List ℕ) → is kept
+      → TailBy arena opponent side kept spot old new bytes text result
+
+pub store_fault : (fault : StoreFault) → IsStoreFault (plays.Line (fault_of fault))
+store_fault Failed = record { is = inl refl }
+store_fault NoMemory = record { is = inr refl }
+
+store_wrote : (fault : StoreFault) (out : SinkTold)
+    → WroteBy {T = Turn} (Err (plays.Line (fault_of fault))) [] out out
+store_wrote Failed out = took_nothing out
+store_wrote NoMemory out = took_nothing out
+
+-- the store failed before anything was written
+pub stopped_by : (is : (ℕ → List ℕ) → Type 0) (arena : Arena Step ℕ Value)
+    (opponent : Opponent) (side : Colour) (spot : Spot)
+    (reader : Reader) (fault : StoreFault) (result : Result Turn PlayFault) (source : SourceTold)
+    (out : SinkTold) → IsErrAnd result (λ e. e ≡ plays.Line (fault_of fault))
+    → TurnWrote is arena opponent side spot reader reader result source source out out
+stopped_by is arena opponent side spot reader fault (Ok turn) source out h = absurd h
+stopped_by is arena opponent side spot reader fault (Err e) source out h =
+    subst (λ (f : PlayFault). TurnWrote is arena opponent side spot reader reader (Err f) source
+    source out out) (sym h) (
+      [],
+      [],
+      inl refl,
+      store_wrote fault out,
+      took_none source source refl,
+      λ e. (refl, e),
+      λ kept any. store_goes arena opponent side kept spot reader
+          (plays.Line (fault_of fault)) (store_fault fault),
+    )
+
+module _ (one : AsksForOne) (fills : FillsLocal)
+    {arena : Arena Step ℕ Value} {size : ℕ} (finite : IsFinite arena size)
+    (opponent : Opponent) (side : Colour) (spot : Spot) {arms : List (Arm Step ℕ Value)}
+    (cs : List ℕ) (are : arms ≡ arena.arms spot.number) where
+  -- these codes were read for these moves in this turn
+  abbrev pub IsReadBy : (ℕ → List ℕ) → Type 0
+  IsReadBy kept = cs ≡ map (arm_code side (kept (suc spot.played))) arms
+
+  abbrev IsDue : Due → Type 0
+  IsDue due =
+      due ≡ due_by (spot.played == 0) (late_by opponent spot.played) spot.code
+      (node_code side (arena.node spot.number) (free_among arms cs) cs) (arena.node spot.number)
+
+  standing : (due : Due) → IsDue due → (kept : ℕ → List ℕ) → IsReadBy kept
+      → Stands arena opponent side kept spot (stage_told (spot.played, spot.number) spot.code due)
+  standing due e kept same =
+      way_stage fills arena size finite opponent side spot arms cs kept are same due e
+
+  -- the sink failed within the opening
+  pub opening_wrote : (due : Due) → IsDue due → (reader : Reader) (result : Result Turn PlayFault)
+      (source : SourceTold) (out taken : SinkTold)
+      → IsErrAnd result (λ e. e ≡ plays.Line faults.Output)
+      → FailedWithin (opening side spot due) out taken
+      → TurnWrote IsReadBy arena opponent side spot reader reader result source source out taken
+  opening_wrote due e reader (Ok turn) source out taken h failed = absurd h
+  opening_wrote due e reader (Err f) source out taken h failed =
+      subst (λ (z : PlayFault). TurnWrote IsReadBy arena opponent side spot reader reader (Err z)
+      source source out taken) (sym h) (
+        opening side spot due,
+        [],
+        opening_lines side spot due,
+        failed,
+        took_none source source refl,
+        λ x. (refl, x),
+        λ kept same.
+            opening_failed arena opponent side kept spot due reader (standing due e kept same),
+      )
+
+  -- a way that is over here: its text is that of its end
+  over_wrote : (due : Due) → IsDue due → (f : EndOfWay)
+      → (stage_told (spot.played, spot.number) spot.code due ≡ OverWay f)
+      → (old new : Reader) (answer : Result WayEnd PlayFault) (result : Result Turn PlayFault)
+      (source left : SourceTold) (out taken : SinkTold) → Unread old new source left
+      → result ≡ turn_over answer → IsLines (end_text f) → WroteBy result (end_text f) out taken
+      → Finishes answer (told side f) [] []
+      → Tail IsReadBy arena opponent side spot old new result source left out taken
+  over_wrote due e f stops old new answer result source left out taken unread is lines wrote
+      finishes = record {
+        text = end_text f;
+        bytes = [];
+        lines = lines;
+        wrote = wrote;
+        took = took_none source left (ap (λ (z : SourceTold). z.left) unread.1);
+        stays = λ x. (refl, ap (λ (z : Reader). z.ended) unread.0 ∙ x);
+        goes = λ kept same.
+            subst (λ (z : Reader). TailBy arena opponent side kept spot old z [] (end_text f)
+            result) (sym unread.0)
+            (subst (λ (z : Result Turn PlayFault). TailBy arena opponent side kept spot old old []
+            (end_text f) z) (sym is)
+            (over_tail arena opponent side kept spot old (end_text f) f answer
+            (λ agrees. standing due e kept same agrees ∙ stops) refl
+            finishes));
+      }
+
+  -- the kept code is not the local one
+  wrong_wrote : (given : ℕ) → IsDue (dues.Wrong given) → (old new : Reader)
+      (result : Result Turn PlayFault) (source left : SourceTold) (out taken : SinkTold)
+      → Unread old new source left → result ≡ Err (wrong_at side spot given)
+      → WroteBy result [] out taken
+      → Tail IsReadBy arena opponent side spot old new result source left out taken
+  wrong_wrote given e old new result source left out taken unread is wrote = record {
+    text = [];
+    bytes = [];
+    lines = inl refl;
+    wrote = wrote;
+    took = took_none source left (ap (λ (z : SourceTold). z.left) unread.1);
+    stays = λ x. (refl, ap (λ (z : Reader). z.ended) unread.0 ∙ x);
+    goes = λ kept same.
+        subst (λ (z : Reader). TailBy arena opponent side kept spot old z [] [] result)
+        (sym unread.0)
+        (subst (λ (z : Result Turn PlayFault). TailBy arena opponent side kept spot old old []
+        [] z) (sym is)
+        (over_tail arena opponent side kept spot old [] (Wrong (spot.played, spot.number) spot.code
+        given) (Err (wrong_at side spot given))
+        (λ agrees. standing (dues.Wrong given) e kept same agrees) refl
+        (refl, refl, refl)));
+  }
+
+  ends_wrote : (due : Due) → IsDue due → (f : EndOfWay)
+      → (stage_told (spot.played, spot.number) spot.code due ≡ OverWay f)
+      → (old new : Reader) (last : WayEnd) (result : Result Turn PlayFault)
+      (source left : SourceTold) (out taken : SinkTold) → Unread old new source left
+      → IsLines (end_text f) → Ok last ≡ told side f
+      → Answers (Over last) (end_text f) result out taken
+      → Tail IsReadBy arena opponent side spot old new result source left out taken
+  ends_wrote due e f stops old new last result source left out taken unread lines tells (inl a) =
+      over_wrote due e f stops old new (Ok last) result source left out taken unread a.0 lines
+      (by_answers (Over last) (end_text f) result out taken (inl a)) (tells, refl, refl)
+  ends_wrote due e f stops old new last result source left out taken unread lines tells (inr a) =
+      over_wrote due e f stops old new (Err (plays.Line faults.Output)) result source left out taken
+      unread a.0 lines (by_answers (Over last) (end_text f) result out taken (inr a)) tt
+
+  untouched : (fault : PlayFault) (result : Result Turn PlayFault) (out taken : SinkTold)
+      → WroteBy {T = Turn} (Err fault) [] out out → result ≡ Err fault → taken ≡ out
+      → WroteBy result [] out taken
+  untouched fault result out taken w e same =
+      subst (λ (z : Result Turn PlayFault). WroteBy z [] out taken) (sym e)
+      (subst (λ (z : SinkTold). WroteBy {T = Turn} (Err fault) [] out z) (sym same) w)
+
+  -- what was written behind what was heard, and how the way goes on by it
+  tail_with : {old new : Reader} {heard_is : Result Heard PlayFault}
+      {result : Result Turn PlayFault} {source left : SourceTold} {out between taken : SinkTold}
+      (hears : Hears arms old new heard_is source left out between) (text : List ℕ) → IsLines text
+      → WroteBy result text out taken → ((kept : ℕ → List ℕ) → IsReadBy kept
+      → TailBy arena opponent side kept spot old new hears.bytes text result)
+      → Tail IsReadBy arena opponent side spot old new result source left out taken
+  tail_with {old} {new} {result = result} hears text lines wrote goes = record {
+    text = text;
+    bytes = hears.bytes;
+    lines = lines;
+    wrote = wrote;
+    took = hears.took;
+    stays = hears.stays;
+    goes = goes;
+  }
+
+  -- the input has ended
+  ended_by : (m : Colour) → IsDue (dues.Ply m) → by_codes opponent (same_colour m side) ≡ false
+      → (old new : Reader) (answer : Result WayEnd PlayFault) (result : Result Turn PlayFault)
+      (source left : SourceTold) (out between taken : SinkTold)
+      → (hears : Hears arms old new (Ok (heard.Stop Ended)) source left out between)
+      → result ≡ turn_over answer → WroteBy result (codes "input ended\n") between taken
+      → Finishes answer (told side (Stopped (record { refused = hears.refused; why = Ended }))) []
+      []
+      → Tail IsReadBy arena opponent side spot old new result source left out taken
+  ended_by m e own old new answer result source left out between taken hears is wrote finishes =
+      let text = refused_text hears.refused ++ codes "input ended\n" in
+      tail_with hears text
+      (lines_behind (refused_text hears.refused) (codes "input ended\n")
+      (refused_lines hears.refused) (inr (codes "input ended", refl)))
+      (wrote_after (refused_text hears.refused) (codes "input ended\n") result out between taken
+      hears.wrote wrote) (λ kept same.
+      subst (λ (z : Result Turn PlayFault). TailBy arena opponent side kept spot old new hears.bytes
+      text z) (sym is) (stop_tail arena opponent side m kept spot old new own
+      (standing (dues.Ply m) e kept same) arms are
+      source left out between Ended hears answer finishes))
+
+  ended_wrote : (m : Colour) → IsDue (dues.Ply m) → by_codes opponent (same_colour m side) ≡ false
+      → (old new : Reader) (result : Result Turn PlayFault) (source left : SourceTold)
+      (out between taken : SinkTold)
+      → (hears : Hears arms old new (Ok (heard.Stop Ended)) source left out between)
+      → Answers (Over ends.InputEnded) (codes "input ended\n") result between taken
+      → Tail IsReadBy arena opponent side spot old new result source left out taken
+  ended_wrote m e own old new result source left out between taken hears (inl a) =
+      ended_by m e own old new (Ok ends.InputEnded) result source left out between taken hears a.0
+      (by_answers (Over ends.InputEnded) (codes "input ended\n") result between taken (inl a))
+      (refl, refl, refl)
+  ended_wrote m e own old new result source left out between taken hears (inr a) =
+      ended_by m e own old new (Err (plays.Line faults.Output)) result source left out between taken
+      hears a.0 (by_answers (Over ends.InputEnded) (codes "input ended\n") result between taken
+      (inr a)) tt
+
+  -- the reply, by what was heard
+  reply_wrote : (m : Colour) → IsDue (dues.Ply m) → by_codes opponent (same_colour m side) ≡ false
+      → (old new : Reader) (heard_is : Result Heard PlayFault) (result : Result Turn PlayFault)
+      (source left : SourceTold) (out between taken : SinkTold)
+      → Hears arms old new heard_is source left out between
+      → AfterHeard arms cs heard_is result between taken
+      → Tail IsReadBy arena opponent side spot old new result source left out taken
+  reply_wrote m e own old new (Ok (heard.Reply place)) result source left out between taken
+      hears h =
+      let text = refused_text hears.refused ++ moved_text (codes "reply ") h.0 in
+      tail_with hears text
+      (lines_behind (refused_text hears.refused) (moved_text (codes "reply ") h.0)
+      (refused_lines hears.refused) (moved_lines (codes "reply ") h.0))
+      (wrote_after (refused_text hears.refused) (moved_text (codes "reply ") h.0) result out between
+      taken hears.wrote
+      (by_answers (turn_of h.0.next (get_or cs place 0)) (moved_text (codes "reply ") h.0) result
+      between taken h.2)) (λ kept same.
+      reply_tail arena opponent side m kept spot old new own
+      (standing (dues.Ply m) e kept same) arms cs are
+      same source left out between taken place hears h.0 h.1 result h.2)
+  reply_wrote m e own old new (Ok (heard.Stop Ended)) result source left out between taken hears h =
+      ended_wrote m e own old new result source left out between taken hears h
+  reply_wrote m e own old new (Ok (heard.Stop (Limit limit))) result source left out between taken
+      hears h =
+      let text = refused_text hears.refused in
+      tail_with hears text (refused_lines hears.refused)
+      (subst (λ (z : Result Turn PlayFault). WroteBy z text out taken) (sym h.0)
+      (subst (λ (z : SinkTold). TookText text out z) (sym h.1) hears.wrote))
+      (λ kept same.
+      subst (λ (z : Result Turn PlayFault). TailBy arena opponent side kept spot old new hears.bytes
+      text z) (sym h.0)
+      (subst (λ (t : List ℕ). TailBy arena opponent side kept spot old new hears.bytes t
+      (Err (plays.Limit limit))) (append-nil text)
+      (stop_tail arena opponent side m kept spot old new own
+      (standing (dues.Ply m) e kept same) arms are
+      source left out between (Limit limit) hears (Err (plays.Limit limit)) (refl, refl, refl))))
+  reply_wrote m e own old new (Err fault) result source left out between taken hears h =
+      let text = refused_text hears.refused in
+      tail_with hears text (refused_lines hears.refused)
+      (subst (λ (z : Result Turn PlayFault). WroteBy z text out taken) (sym h.0)
+      (subst (λ (z : SinkTold). WroteBy {T = Turn} (Err fault) text out z) (sym h.1)
+      (same_wrote Heard Turn fault text out between hears.wrote)))
+      (λ kept same.
+      subst (λ (z : Result Turn PlayFault). TailBy arena opponent side kept spot old new hears.bytes
+      text z) (sym h.0)
+      (fault_tail arena opponent side m kept spot own (standing (dues.Ply m) e kept same) fault
+      (hears.fails fault refl) old new arms are source left out between hears))
+
+  own_wrote : (m : Colour) → IsDue (dues.Ply m) → by_codes opponent (same_colour m side) ≡ true
+      → (old new : Reader) (result : Result Turn PlayFault) (source left : SourceTold)
+      (out taken : SinkTold) → Unread old new source left
+      → PlaysByCodes opponent (same_colour m side) spot arms cs result out taken
+      → Tail IsReadBy arena opponent side spot old new result source left out taken
+  own_wrote m e own old new result source left out taken unread h =
+      let place = h.0 in
+      let a = h.3.0 in
+      let text = moved_text (own_word opponent) a in
+      record {
+        text = text;
+        bytes = [];
+        lines = moved_lines (own_word opponent) a;
+        wrote = by_answers (turn_of a.next (get_or cs place 0)) text result out taken h.3.2;
+        took = took_none source left (ap (λ (z : SourceTold). z.left) unread.1);
+        stays = λ x. (refl, ap (λ (z : Reader). z.ended) unread.0 ∙ x);
+        goes = λ kept same.
+            subst (λ (z : Reader). TailBy arena opponent side kept spot old z [] text result)
+            (sym unread.0)
+            (own_tail one arena size finite opponent side m spot old arms cs kept own are same
+            (standing (dues.Ply m) e kept same) place h.1 a h.2 h.3.1 result out taken
+            h.3.2);
+      }
+
+  ply_wrote : (m : Colour) → IsDue (dues.Ply m) → (found : Bool)
+      → by_codes opponent (same_colour m side) ≡ found → (old new : Reader)
+      (result : Result Turn PlayFault) (source left : SourceTold) (out taken : SinkTold)
+      → PlaysPly found opponent (same_colour m side) spot arms cs old new result source left out
+      taken → Tail IsReadBy arena opponent side spot old new result source left out taken
+  ply_wrote m e true own old new result source left out taken h =
+      own_wrote m e own old new result source left out taken h.0 h.1
+  ply_wrote m e false own old new result source left out taken h =
+      reply_wrote m e own old new h.heard result source left out h.between taken h.hears h.after
+
+  tail_wrote : (due : Due) → IsDue due → (old new : Reader) (result : Result Turn PlayFault)
+      (source left : SourceTold) (out taken : SinkTold)
+      → IsPlayed opponent side spot due arms cs old new result source left out taken
+      → Tail IsReadBy arena opponent side spot old new result source left out taken
+  tail_wrote (dues.Wrong given) e old new result source left out taken h =
+      wrong_wrote given e old new result source left out taken h.0 h.1.0
+      (untouched (wrong_at side spot given) result out taken (took_nothing out) h.1.0 h.1.1)
+  tail_wrote dues.NoBound e old new result source left out taken h =
+      over_wrote dues.NoBound e NoBound refl old new (Err (plays.Line faults.NoBound))
+      result source left out taken h.0 h.1.0 (inl refl)
+      (untouched (plays.Line faults.NoBound) result out taken (took_nothing out) h.1.0 h.1.1)
+      (refl, refl, refl)
+  tail_wrote (dues.Mate m) e old new result source left out taken h =
+      ends_wrote (dues.Mate m) e (Mated m) refl old new ends.Mate result source left out
+      taken h.0 (inr (codes "mate", refl)) refl h.1
+  tail_wrote (dues.Stalemate m) e old new result source left out taken h =
+      ends_wrote (dues.Stalemate m) e (Stalemated m) refl old new ends.Stalemate result
+      source left out taken h.0 (inr (codes "stalemate", refl)) refl h.1
+  tail_wrote dues.Cut e old new result source left out taken h =
+      ends_wrote dues.Cut e Cut refl old new ends.Cut result source left out taken h.0
+      (inr (codes "cut", refl)) refl h.1
+  tail_wrote (dues.Ply m) e old new result source left out taken h =
+      ply_wrote m e (by_codes opponent (same_colour m side)) refl old new result source left out
+      taken h
+
+  -- what a turn wrote and took
+  pub turn_wrote : (due : Due) → IsDue due → (old new : Reader) (result : Result Turn PlayFault)
+      (source left : SourceTold) (out mid taken : SinkTold)
+      → TookText (opening side spot due) out mid
+      → IsPlayed opponent side spot due arms cs old new result source left mid taken
+      → TurnWrote IsReadBy arena opponent side spot old new result source left out taken
+  turn_wrote due e old new result source left out mid taken opened h =
+      let t = tail_wrote due e old new result source left mid taken h in (
+        opening side spot due ++ t.text,
+        t.bytes,
+        lines_behind (opening side spot due) t.text (opening_lines side spot due) t.lines,
+        wrote_after (opening side spot due) t.text result out mid taken opened t.wrote,
+        t.took,
+        t.stays,
+        λ kept same.
+            opened_tail arena opponent side kept spot due old new t.bytes t.text result
+            (standing due e kept same) (t.goes kept same),
+      )

@@ -1,0 +1,9 @@
+use Rattle.frz_answer.proofs.Lemmas.{failed_first, gave_up, wrote_next}
+use Rattle.frz_ways.proofs.texts.write_move.Goals as goal
+
+pub returns-in_err-write_move_text : goal.returns-in_err-write_move_text
+returns-in_err-write_move_text g c =
+    gave_up c.from_residual.ensures.0 (failed_first _ c.in_err-write_move_text.ensures.failed)
+
+pub returns : goal.returns
+returns g c = wrote_next c.in_ok-write_move_text.ensures.ok c.write_piece.ensures

@@ -1,0 +1,110 @@
+use Rattle.std.proofs.Common.{inl, inr, refl, subst, ◌∙◌, arith}
+use Rattle.frz_store.specs.Told.{store_of, source_of, sink_of}
+use Rattle.frz_answer.specs.World.{spent_by}
+use Rattle.frz_table.proofs.Lemmas.{fine_after, quiet_after}
+use Rattle.frz_ways.specs.declared.playing.Turn.{Turn}
+use Rattle.frz_ways.specs.declared.playing.Turn.TheVariants.{On}
+use Rattle.frz_ways.specs.Kept.{told_codes}
+use Rattle.frz_ways.specs.Turns.{TurnsTo}
+use Rattle.frz_ways.proofs.Counting.{few_at_start, few_on, left_on, quiet_here}
+use Rattle.frz_ways.proofs.Kept.{may_before}
+use Rattle.frz_table.specs.Tables.{table_size}
+use Rattle.frz_ways.proofs.Played.{at_start, next_far, over_far, fault_far}
+use Rattle.frz_ways.proofs.Spending.{at_one}
+use Rattle.frz_ways.proofs.way.play_way.Goals as goal
+
+pub plies-init : goal.plies-init
+plies-init g c = record {
+  inside = c.requires.inside;
+  stands = inl refl;
+  ended = λ e. absurd (cc);
+  few = few_at_start c.args.player.opponent (g.G.NumberedGame.arena c.args.game.now)
+      c.args.player.side c.args.start c.args.code c.ranges.code.fits;
+  far = at_start (told_codes c.args.table.now c.args.player.side
+      (g.S.Store.files c.args.store.now)) (table_size c.args.table.now)
+      (g.G.NumberedGame.arena c.args.game.now) c.args.player.opponent c.args.player.side
+      c.args.start c.args.code
+      (source_of g.I.Source c.args.input.now) (sink_of g.O.Sink c.args.out.now)
+      (spent_by (store_of g.S.Store c.args.store.now) c.args.steps.now);
+  unread = λ by. refl;
+  quiet = quiet_here (store_of g.S.Store c.args.store.now);
+  fine = record { faults = refl; wants = refl };
+  heard = refl;
+  later = omega arith;
+}
+
+pub returns-in_err-end-clause-wrote : goal.returns-in_err-end-clause-wrote
+returns-in_err-end-clause-wrote g c =
+    let arena = g.G.NumberedGame.arena c.args.game.now in
+    let e = c.in_err-end.ensures in
+    let w = e.wrote in
+    fault_far c.turn.new.reader _ c.plies.invariant.far
+    (at_one arena c.plies.spot.number e.asked e.calls e.step) w.0 w.1 w.2 w.4 w.5
+    c.in_err-end.field-0.0 c.from_residual.result c.from_residual.ensures.1 e.still_ended w.3 (
+      w.6.0,
+      may_before c.args.table.now c.args.player.side (table_size c.args.table.now) w.6.0
+          c.plies.invariant.quiet.unwritten.files w.6.1,
+      w.6.2,
+    )
+
+pub returns-in-Over-clause-wrote : goal.returns-in-Over-clause-wrote
+returns-in-Over-clause-wrote g c =
+    let arena = g.G.NumberedGame.arena c.args.game.now in
+    let e = c.in_ok-end.ensures in
+    let w = e.wrote in
+    over_far c.turn.new.reader _ c.plies.invariant.far
+    (at_one arena c.plies.spot.number e.asked e.calls e.step) w.0 w.1 w.2 w.4 w.5 c.in-Over.is
+    e.still_ended w.3 (
+      w.6.0,
+      may_before c.args.table.now c.args.player.side (table_size c.args.table.now) w.6.0
+          c.plies.invariant.quiet.unwritten.files w.6.1,
+      w.6.2,
+    )
+
+pub plies-preserved : goal.plies-preserved
+plies-preserved g c =
+    let arena = g.G.NumberedGame.arena c.args.game.now in
+    let size = g.G.NumberedGame.count c.args.game.now in
+    let opponent = c.args.player.opponent in
+    let side = c.args.player.side in
+    let e = c.in_ok-end.ensures in
+    let w = e.wrote in
+    let to : TurnsTo arena size opponent side c.plies.spot c.plies.reader c.turn.new.reader
+    (On c.in-On.number c.in-On.code) =
+    subst (λ (t : Turn). TurnsTo arena size opponent side c.plies.spot c.plies.reader
+    c.turn.new.reader t) c.in-On.is e.next in
+    record {
+      inside = to.0;
+      stands = inr to.1;
+      ended = e.still_ended;
+      few = few_on arena side c.plies.spot c.plies.reader c.turn.new.reader c.in-On.number
+          c.in-On.code opponent to.2 c.plies.invariant.few;
+      far = next_far c.turn.new.reader _ c.plies.invariant.far
+          (at_one arena c.plies.spot.number e.asked e.calls e.step) w.0 w.1 w.2 w.4 w.5 c.in-On.is
+          w.3 (
+            w.6.0,
+            may_before c.args.table.now side (table_size c.args.table.now) w.6.0
+                c.plies.invariant.quiet.unwritten.files w.6.1,
+            w.6.2,
+          );
+      unread = λ by. e.unread by ∙ c.plies.invariant.unread by;
+      quiet = quiet_after (store_of g.S.Store c.args.store.now) (store_of g.S.Store c.plies.store)
+          (store_of g.S.Store c.turn.new.store) c.plies.invariant.quiet e.quiet;
+      fine = fine_after (store_of g.S.Store c.args.store.now) (store_of g.S.Store c.plies.store)
+          (store_of g.S.Store c.turn.new.store) c.plies.invariant.fine e.cause;
+      heard = e.input ∙ c.plies.invariant.heard;
+      later = (let a = c.plies.invariant.later in let b = e.later in omega (arith, a, b));
+    }
+
+pub plies-smaller : goal.plies-smaller
+plies-smaller g c =
+    let arena = g.G.NumberedGame.arena c.args.game.now in
+    let size = g.G.NumberedGame.count c.args.game.now in
+    let opponent = c.args.player.opponent in
+    let side = c.args.player.side in
+    let to : TurnsTo arena size opponent side c.plies.spot c.plies.reader c.turn.new.reader
+    (On c.in-On.number c.in-On.code) =
+    subst (λ (t : Turn). TurnsTo arena size opponent side c.plies.spot c.plies.reader
+    c.turn.new.reader t) c.in-On.is c.in_ok-end.ensures.next in
+    left_on arena side c.plies.spot c.plies.reader c.turn.new.reader c.in-On.number c.in-On.code
+    opponent to.2

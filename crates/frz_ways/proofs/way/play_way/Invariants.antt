@@ -1,0 +1,35 @@
+use Rattle.std.proofs.Common.{◌≡◌, ◌≤◌, ◌<◌, ◌⊎◌, true, false}
+use Rattle.frz_store.specs.Told.{store_of, source_of, sink_of, StoreQuiet, StoreFine}
+use Rattle.frz_arena.specs.Codes.{is_failure}
+use Rattle.frz_answer.specs.World.{spent_by}
+use Rattle.frz_table.specs.Tables.{table_size}
+use Rattle.frz_ways.specs.declared.opponent.Opponent.TheVariants as opponents
+use Rattle.frz_ways.specs.Kept.{told_codes}
+use Rattle.frz_ways.specs.Hearing.{HasEnded}
+use Rattle.frz_ways.proofs.Counting.{HasFew, way_left}
+use Rattle.frz_ways.proofs.Played.{SoFar}
+use Rattle.frz_ways.proofs.way.play_way.Given as goal
+
+abbrev pub invariant-plies : goal.invariant-plies
+invariant-plies g l = record {
+  inside : l.spot.number < g.G.NumberedGame.count l.game;
+  stands : (l.spot.played ≡ 0) ⊎ (is_failure l.spot.code ≡ false);
+  ended : l.reader.ended ≡ true → HasEnded (source_of g.I.Source l.input);
+  few : HasFew l.player.opponent (g.G.NumberedGame.arena l.game) l.player.side l.reader l.spot;
+  far : SoFar (told_codes l.table l.player.side (g.S.Store.files l.initial.store))
+      (table_size l.table)
+      (g.G.NumberedGame.arena l.game) l.player.opponent l.player.side l.start l.code l.spot l.reader
+      (source_of g.I.Source l.initial.input) (source_of g.I.Source l.input)
+      (sink_of g.O.Sink l.initial.out) (sink_of g.O.Sink l.out)
+      (spent_by (store_of g.S.Store l.initial.store) l.initial.steps)
+      (spent_by (store_of g.S.Store l.store) l.steps);
+  unread : l.player.opponent ≡ opponents.Codes → l.input ≡ l.initial.input;
+  quiet : StoreQuiet (store_of g.S.Store l.initial.store) (store_of g.S.Store l.store);
+  fine : StoreFine (store_of g.S.Store l.initial.store) (store_of g.S.Store l.store);
+  heard : g.I.Source.faults l.input ≡ g.I.Source.faults l.initial.input;
+  later : l.initial.steps ≤ l.steps;
+}
+
+abbrev pub decreases-plies : goal.decreases-plies
+decreases-plies g l =
+    way_left l.player.opponent (g.G.NumberedGame.arena l.game) l.player.side l.reader l.spot

@@ -1,0 +1,4 @@
+//! The laws, of lines and of sessions.
+
+pub mod lines;
+pub mod sessions;

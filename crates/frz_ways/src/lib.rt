@@ -1,0 +1,27 @@
+//! Ways of a side that plays by the codes in a table file: its best line, in which the opponent
+//! goes by them too, and sessions against the lines of an input.
+#![tactic(auto)]
+
+mod best;
+mod choosing;
+mod due;
+mod end;
+mod hearing;
+mod input_line;
+pub mod laws;
+mod naming;
+mod opponent;
+mod playing;
+mod reading;
+mod seeing;
+mod session;
+mod session_end;
+mod start;
+mod texts;
+mod way;
+mod way_end;
+
+pub use best::best_line;
+pub use end::{LineEnd, LineFault, MOST_PLIES};
+pub use session::play_session;
+pub use session_end::{MOST_LENGTH, MOST_LINES, PlayFault, PlayLimit, SessionEnd};
