@@ -1,6 +1,6 @@
 //! A position with words of its men, and what attacks what in it.
 
-ghost use Rattle.std.specs.Prelude.{◌≡◌, ◌≤◌, ◌&&◌, not, replicate, slice_set};
+ghost use Rattle.std.specs.Prelude.{◌≡◌, ◌≤◌, ◌==◌, ◌&&◌, not, replicate, slice_index, slice_set};
 ghost use Rattle.frz_board.specs.Men.{is_man_of, man_of_cell, other_of};
 ghost use Rattle.frz_board.specs.Boards.{Board, is_empty, man_on, holds, has};
 ghost use Rattle.frz_board.specs.EnPassant.{has_pawn_beside};
@@ -8,7 +8,7 @@ ghost use Rattle.frz_board.specs.Attacks.{is_clear, reaches, attacks, is_attacke
 ghost use Rattle.frz_squares.specs.SquareSets.{set_of};
 ghost use Rattle.frz_bits.specs.Reaching.{may_attack};
 
-use super::lanes::{cells_equal, cells_from};
+use super::lanes::{cells_equal, cells_from, cells_unlike};
 use super::sets::{between, bishop_lines, king_set, knight_set, pawn_set, rook_lines};
 use super::ways::reaching_set;
 use super::word::{both, contains, next_square, replaced, with_square};
@@ -284,4 +284,15 @@ pub fn attackers(p: &Position, s: Square, by: Colour) -> u64
     ensures { result ≡ set_of (λ a. holds p.now by a && attacks p.now a s) }
 {
     Bitboards::of(p).attackers(s, by)
+}
+
+/// The squares on which the cells of the two positions differ.
+pub fn changed(p: &Bitboards, q: &Bitboards) -> u64
+    ensures { result
+        ≡ set_of (λ s. not (slice_index p.now.cells s == slice_index q.now.cells s)) }
+{
+    cells_unlike(
+        u8x64::from_array(p.position.cells()),
+        u8x64::from_array(q.position.cells()),
+    )
 }

@@ -27,3 +27,11 @@ pub(crate) fn cells_from(cells: u8x64, first: u8, end: u8) -> u64
 {
     without(cells_below(cells, end), cells_below(cells, first))
 }
+
+/// The squares on which the cells are not the same.
+pub(crate) fn cells_unlike(cells: u8x64, others: u8x64) -> u64
+    ensures { (k : ℕ) → k < 64 →
+        has_square result k ≡ not (slice_index cells k == slice_index others k) }
+{
+    cells.simd_ne(others).to_bitmask()
+}

@@ -12,7 +12,7 @@ mod shape;
 mod ways;
 mod word;
 
-pub use bitboards::{Bitboards, attackers};
+pub use bitboards::{Bitboards, attackers, changed};
 pub use rays::{bishop_rays, rook_rays};
 pub use sets::{between, king_set, knight_set, pawn_set};
 pub use ways::move_set;

@@ -47,12 +47,13 @@ impl<B: ExitBook> Clone for Game<'_, B> {
     }
 }
 
-/// The number of a position, as the set gives it.
-fn number(set: &Set, q: &Bitboards) -> Option<u32>
-    requires { IsValid q.now }
+/// The number of a position, as the set gives it by that of another one.
+fn number(set: &Set, i: u32, p: &Bitboards, q: &Bitboards) -> Option<u32>
+    requires number { HasNumber set.now i p.now }
+    requires valid { IsValid q.now }
     ensures { result ≡ number_of set.now q.now }
 {
-    set.number_on(q)
+    set.number_beside(i, p, q)
 }
 
 /// The position of a number, as the set gives it.
@@ -78,22 +79,23 @@ fn node(p: &Position, moves: &MoveList) -> Node
 }
 
 impl<B: ExitBook> Game<'_, B> {
-    /// What a position is to the move that leads to it.
-    fn next_of(&self, q: &Bitboards) -> Next
-        requires { IsValid q.now }
+    /// What a position is to the move that leads to it from another one.
+    fn next_of(&self, i: u32, p: &Bitboards, q: &Bitboards) -> Next
+        requires number { HasNumber self.now.set.now i p.now }
+        requires valid { IsValid q.now }
         ensures { let groups = self.now.rules.now.groups in
             result ≡ named_next (name_in (numbers_by groups))
             (next_by (is_member groups q.now) q.now (B.value_at self.now.book.now q.now)) }
     {
-        match number(self.set, q) {
+        match number(self.set, i, p, q) {
             Some(n) => Next::Inside(n),
             None => Next::Outside(self.book.value_on(q)),
         }
     }
 
     /// Where a legal move leads, by the position after it.
-    fn next_after(&self, p: &Bitboards, m: Move) -> Next
-        requires valid { IsValid p.now }
+    fn next_after(&self, i: u32, p: &Bitboards, m: Move) -> Next
+        requires number { HasNumber self.now.set.now i p.now }
         requires legal { is_legal p.now m ≡ true }
         ensures { let groups = self.now.rules.now.groups in
             let q = board_after p.now m in
@@ -105,7 +107,7 @@ impl<B: ExitBook> Game<'_, B> {
         if self.set.leaves(p, m) {
             Next::Outside(self.book.value_on(&q))
         } else {
-            self.next_of(&q)
+            self.next_of(i, p, &q)
         }
     }
 
@@ -120,7 +122,7 @@ impl<B: ExitBook> Game<'_, B> {
     {
         match self.set.number_after_taking(i, p, m) {
             Some(n) => Next::Inside(n),
-            None => self.next_after(p, m),
+            None => self.next_after(i, p, m),
         }
     }
 

@@ -203,10 +203,10 @@ words_start states = record {
 abbrev pub IsPut : ℕ → ℕ → ℕ → Type 0
 IsPut w q r = (x : ℕ) → x < 64 → has_square r x ≡ cond (x == q) true (has_square w x)
 
-put_there : (w q r : ℕ) → IsPut w q r → q < 64 → has_square r q ≡ true
+pub put_there : (w q r : ℕ) → IsPut w q r → q < 64 → has_square r q ≡ true
 put_there w q r h l = h q l ∙ ap (λ b. cond b true (has_square w q)) (eq-eqb q q refl)
 
-put_keeps : (w q r x : ℕ) → IsPut w q r → x < 64 → has_square w x ≡ true → has_square r x ≡ true
+pub put_keeps : (w q r x : ℕ) → IsPut w q r → x < 64 → has_square w x ≡ true → has_square r x ≡ true
 put_keeps w q r x h l e =
     h x l ∙ elim (x == q) as (λ b. cond b true (has_square w x) ≡ true) [ true ↦ refl | false ↦ e ]
 

@@ -44,7 +44,7 @@ pub place_off : (f : ℕ → Bool) (k : ℕ) → f k ≡ false → places_below 
 place_off f k e =
     ap (places_below f) (add-one k) ∙ ap (λ x. cond x (k ∷ places_below f k) (places_below f k)) e
 
-and_off : (a b : Bool) → (a && b) ≡ false → b ≡ true → a ≡ false
+pub and_off : (a b : Bool) → (a && b) ≡ false → b ≡ true → a ≡ false
 and_off false b h e = refl
 and_off true b h e = let wrong : true ≡ false = sym e ∙ h in cc
 

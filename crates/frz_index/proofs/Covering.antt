@@ -144,7 +144,7 @@ left_of p covered occupied left e h s low =
     ∙ ap (λ b. b && not (has_square covered s))
     (ap (λ w. has_square w s) e ∙ has-set_of (λ s. not (is_empty p s)) s low)
 
-none_left : (a b : Bool) → (not a && not b) ≡ false → a ≡ false → b ≡ true
+pub none_left : (a b : Bool) → (not a && not b) ≡ false → a ≡ false → b ≡ true
 none_left a true h e = refl
 none_left a false h e = let wrong : true ≡ false = sym (ap (λ a. not a && true) e) ∙ h in cc
 
@@ -163,7 +163,7 @@ member gs p covered left v cover rest none counts =
       counts = counts;
     }
 
-not_left : (a b : Bool) → (a ≡ false → b ≡ true) → (not a && not b) ≡ false
+pub not_left : (a b : Bool) → (a ≡ false → b ≡ true) → (not a && not b) ≡ false
 not_left true b h = refl
 not_left false b h = ap not (h refl)
 

@@ -30,3 +30,5 @@ pub mod LeavingMoves
 pub mod TakenMen
 pub mod NumbersAfterTaking
 pub mod AfterTaking
+pub mod MovedMen
+pub mod DigitsBeside

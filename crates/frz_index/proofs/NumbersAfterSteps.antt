@@ -37,12 +37,12 @@ pub record Shifted (gs : List GroupLine) (p q : Board) (cell a b i up down : ℕ
       is_state cell a g ≡ true → is_state cell b g ≡ true
 
 -- no group yet
-shifted_start : (gs : List GroupLine) (p q : Board) (cell a b : ℕ) → Shifted gs p q cell a b 0 0 0
+pub shifted_start : (gs : List GroupLine) (p q : Board) (cell a b : ℕ) → Shifted gs p q cell a b 0 0 0
 shifted_start gs p q cell a b =
     record { counted = λ h. h; sum = omega arith; covered = λ j g l e t. absurd (omega (arith, l)) }
 
 -- one more group
-shifted_step : (gs : List GroupLine) (p q : Board) (cell a b i up down more less : ℕ)
+pub shifted_step : (gs : List GroupLine) (p q : Board) (cell a b i up down more less : ℕ)
     (g : GroupLine) → slice_get gs i ≡ Some g →
     Shifted gs p q cell a b i up down → Shifts p q cell a b g more less →
     Shifted gs p q cell a b (suc i) (up + more * product_from gs (suc i))

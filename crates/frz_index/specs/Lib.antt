@@ -14,3 +14,4 @@ pub mod Stepping
 pub mod Shares
 pub mod Leaving
 pub mod Taking
+pub mod Beside

@@ -26,7 +26,7 @@ fn share(plan: &Plan, man: Man, s: Square) -> Option<Share>
 }
 
 /// What a turn state adds to a number.
-fn turn_adds(plan: &Plan, turn: Colour, target: Option<Square>) -> u64
+pub(crate) fn turn_adds(plan: &Plan, turn: Colour, target: Option<Square>) -> u64
     requires { IsPlan plan.now }
     ensures adds { result ≡ turn_adds_to plan.now.groups.items turn target }
     ensures small { result ≤ 66 * 134217728 }

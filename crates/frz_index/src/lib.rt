@@ -3,6 +3,7 @@
 #![tactic(auto)]
 
 mod across;
+mod beside;
 mod chart;
 mod digit;
 mod digits;

@@ -24,6 +24,7 @@ ghost use Rattle.frz_index.specs.Stepping.{IsCountedOnBoth, IsQuiet, stepped};
 ghost use Rattle.frz_index.specs.Taking.{IsCountedTaking, IsTaking};
 
 use crate::across::{arriving, number_after_in, number_after_taking_in, stepping_man, taking_men};
+use crate::beside::number_beside_in;
 use crate::digits::{number_of_digits, put_all};
 use crate::plan::{Plan, plan_of};
 use crate::quotient::{left_over, quotient};
@@ -196,6 +197,18 @@ impl Set {
         ensures function { result ≡ number_of self.now p.now }
     {
         number_in(&self.plan, p)
+    }
+
+    /// The number of a position beside one whose number is known, and `None` exactly where the
+    /// position is outside the set: only the digits of groups whose men have moved are made.
+    pub fn number_beside(&self, i: u32, p: &Bitboards, q: &Bitboards) -> Option<u32>
+        requires number { HasNumber self.now i p.now }
+        requires valid { IsValid q.now }
+        ensures member { IsSome result ↔ Member self.now q.now }
+        ensures number { IfSome result (λ n. n ≡ Num self.now q.now) }
+        ensures function { result ≡ number_of self.now q.now }
+    {
+        number_beside_in(&self.plan, i, p, q)
     }
 
     /// The number of the position after this man has gone to an empty square, with the other side

@@ -65,14 +65,16 @@ pub(crate) fn is_valid(p: &Bitboards) -> bool
     valid_boards(p).is_ok()
 }
 
-/// The number of that earlier position, by its cells.
+/// The number of that earlier position, by the men that moved.
 fn number_of_earlier(
     set: &Set,
+    at: u32,
     q: &Bitboards,
     m: Move,
     taken: u8,
     target: &Option<Square>,
 ) -> Option<u32>
+    requires number { HasNumber set.now at q.now }
     requires valid { IsValid q.now }
     requires taken { taken ≤ 12 }
     ensures step { IsStep m }
@@ -84,7 +86,7 @@ fn number_of_earlier(
     let _to = m.to.number();
     let p = earlier(q, m, taken, target);
     if leads(&p, m, q.as_position()) && is_valid(&p) {
-        set.number_on(&p)
+        set.number_beside(at, q, &p)
     } else {
         None
     }
@@ -113,6 +115,6 @@ pub(crate) fn number_before(
     let _to = m.to.number();
     match stepped_man(q, m, taken) {
         Some(man) => number_before_step(set, at, q, man, m, taken, target, ready),
-        None => number_of_earlier(set, q, m, taken, target),
+        None => number_of_earlier(set, at, q, m, taken, target),
     }
 }

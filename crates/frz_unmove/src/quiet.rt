@@ -117,7 +117,7 @@ fn number_by_lines(
     }
     match set.number_after_step(at, q, man, m.to, m.from, target) {
         Some(n) => Some(n),
-        None => set.number_on(&back(q, man, m.from, m.to, target)),
+        None => set.number_beside(at, q, &back(q, man, m.from, m.to, target)),
     }
 }
 
@@ -146,7 +146,7 @@ fn number_by_board(
     }
     match set.number_after_step(at, q, man, m.to, m.from, target) {
         Some(n) => Some(n),
-        None => set.number_on(&p),
+        None => set.number_beside(at, q, &p),
     }
 }
 

@@ -57,10 +57,10 @@ number_after_step-requires-clause-valid c =
     c.requires.number.member.valid (from_on d) (to_on d) c.requires.quiet c.args.ready.now
     c.requires.ready (check e ∙ c.if-reaches.false) c.requires.none)
 
-pub number_on-requires : goal.number_on-requires
-number_on-requires c =
-    let d = (goal.at.number_on-requires c).After-reaches in
-    let e = (goal.at.number_on-requires c).After-reaches-2 in
+pub number_beside-requires-clause-valid : goal.number_beside-requires-clause-valid
+number_beside-requires-clause-valid c =
+    let d = (goal.at.number_beside-requires-clause-valid c).After-reaches in
+    let e = (goal.at.number_beside-requires-clause-valid c).After-reaches-2 in
     subst IsValid
     (ap (λ (s : Step). stepped c.args.q.now c.args.man s.to s.from
     c.args.target.now) (sym c.m.view_is)
@@ -84,8 +84,8 @@ returns-in-None c =
     let d = (goal.at.returns-in-None c).After-reaches in
     looked_up c.args.q.now c.args.m c.args.taken c.args.target.now c.args.man
     c.requires.number.member.valid (from_on d) (to_on d) c.requires.quiet c.args.ready.now
-    c.requires.ready c.args.set.now c.number_on.result (reach d ∙ c.if-not-reaches.false)
-    (c.number_on.ensures.function
+    c.requires.ready c.args.set.now c.number_beside.result (reach d ∙ c.if-not-reaches.false)
+    (c.number_beside.ensures.function
     ∙ ap (number_of c.args.set.now) (c.back.ensures
     ∙ ap (λ (s : Step). stepped c.args.q.now c.args.man s.to s.from
     c.args.target.now) c.m.view_is))

@@ -1,0 +1,49 @@
+-- A position beside one whose number is known: what changed, and what the digits then add.
+use Rattle.std.specs.Prelude.{ℕ, ◌+◌, ◌*◌, ◌≡◌, ◌≢◌, ◌<◌, ◌≤◌, false, true, List, length, map, slice_index}
+use Rattle.std.specs.List.{AllByRecursion}
+use Rattle.frz_board.specs.Boards.{Board}
+use Rattle.frz_squares.specs.SquareSets.{has_square}
+use Rattle.frz_combinations.specs.MixedRadix.{value}
+use Rattle.frz_sets.specs.Sets.{has_state, is_state, radix_of}
+use Rattle.frz_sets.specs.Views.{GroupLine}
+use Rattle.frz_sets.specs.declared.limits.TheConstants.{MOST_NUMBERS}
+use Rattle.frz_index.specs.Places.{IsWithinCount, digit_of}
+use Rattle.frz_index.specs.declared.beside.Change.{Change}
+use Rattle.frz_index.specs.declared.beside.Changes.{Changes}
+
+-- the cells of the square differ
+abbrev pub DiffersOn : Board → Board → ℕ → Type 0
+DiffersOn p q s = slice_index p.cells s ≢ slice_index q.cells s
+
+-- a word for each cell, with the squares that changed to it or from it
+pub record AreMoved (p q : Board) (moved : List ℕ) : Type 0 where
+  pub size : length moved ≡ 13
+  pub before : (s : ℕ) → s < 64 → DiffersOn p q s →
+      has_square (slice_index moved (slice_index p.cells s)) s ≡ true
+  pub after : (s : ℕ) → s < 64 → DiffersOn p q s →
+      has_square (slice_index moved (slice_index q.cells s)) s ≡ true
+
+-- no cell of the words is a state of the group on one of its squares
+abbrev pub HasNoneOf : GroupLine → List ℕ → Type 0
+HasNoneOf g moved =
+    (cell s : ℕ) → s < 64 → is_state cell s g ≡ true →
+    has_square (slice_index moved cell) s ≡ false
+
+-- the group's digits after and before, or none of both where they are the same; and of the squares
+-- that changed those on which its men stand after
+pub record IsChange (p q : Board) (g : GroupLine) (x : Change) : Type 0 where
+  pub counted : IsWithinCount q g
+  pub digit : digit_of q g + x.before ≡ digit_of p g + x.after
+  pub some_before : x.before ≤ digit_of p g
+  pub some_after : x.after ≤ digit_of q g
+  pub squares : (s : ℕ) → s < 64 → DiffersOn p q s →
+      has_square x.squares s ≡ is_state (slice_index q.cells s) s g
+
+-- what the digits of all groups add after and before
+pub record AreChanges (p q : Board) (gs : List GroupLine) (x : Changes) : Type 0 where
+  pub counted : AllByRecursion (IsWithinCount q) gs
+  pub sum : value (map radix_of gs) (map (digit_of q) gs) + x.before
+      ≡ value (map radix_of gs) (map (digit_of p) gs) + x.after
+  pub small : x.after ≤ length gs * MOST_NUMBERS
+  pub squares : (s : ℕ) → s < 64 → DiffersOn p q s →
+      has_square x.squares s ≡ has_state gs (slice_index q.cells s) s
