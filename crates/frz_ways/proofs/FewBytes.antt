@@ -18,7 +18,8 @@ use Rattle.frz_arena.specs.Ways.{ByInput, IsTakenBy, IsStopBy, IsWay}
 use Rattle.frz_ways.specs.declared.session_end.TheConstants.{MOST_LENGTH}
 use Rattle.frz_ways.specs.declared.opponent.Opponent.TheVariants as opponents
 use Rattle.frz_ways.specs.Reading.{Input, Halt, line_length, first_line, behind_line, place_said, refuse_one, reply_or, reads}
-use Rattle.frz_ways.specs.Sessions.{SessionPly, EndOfSession, session_player, GoesOn}
+use Rattle.frz_ways.specs.Sessions.{SessionPly, EndOfSession, session_player}
+use Rattle.frz_ways.specs.Ways.{GoesOn}
 use Rattle.frz_ways.proofs.Goings.{way_front}
 
 -- the most bytes of so many lines
@@ -120,7 +121,7 @@ module _ (arena : Arena Step ℕ Value) (side : Colour) (codes : ℕ → List �
 
   -- what was taken stands at the front
   pub few_taken : (k : ℕ) (s : Input) (number : ℕ) (plies : List SessionPly) (end : EndOfSession)
-      (t : Input) → GoesOn arena side codes k s number plies end t
+      (t : Input) → GoesOn arena opponents.Input side codes k s number plies end t
       → (taken : List ℕ) × (taken ++ t.left ≡ s.left) × (length taken ≤ most_bytes s.more)
   few_taken k s number plies end t w =
       let front = way_front arena opponents.Input side codes k s t (k, number) plies end w in

@@ -27,14 +27,8 @@ abbrev pub line_player : Arena Step ℕ Value → Colour → (codes : ℕ → Li
     → Player Step (ℕ × ℕ) Value (Unit {0}) Infallible
 line_player arena side codes = reader arena side codes (ByCodes MOST_PLIES)
 
--- after so many plies the line goes on from the number with these plies to this end
-abbrev pub GoesOn : Arena Step ℕ Value → Colour → (codes : ℕ → List ℕ) → (played number : ℕ)
-    → List LinePly → EndOfLine → Type 0
-GoesOn arena side codes played number plies end =
-    IsWay (line_player arena side codes) played tt (played, number) plies end tt
-
 -- the line of the side from the number, in the game of the rules with these values outside its set
 abbrev pub IsLine : RuleLines → (Board → Value) → Colour → (codes : ℕ → List ℕ) → (start : ℕ)
     → List LinePly → EndOfLine → Type 0
 IsLine rules value side codes start plies end =
-    GoesOn (graph_by rules value) side codes 0 start plies end
+    IsWay (line_player (graph_by rules value) side codes) 0 tt (0, start) plies end tt

@@ -7,32 +7,23 @@ use Rattle.frz_board.specs.Moving.{Step}
 use Rattle.frz_sets.specs.declared.exit.Value.{Value}
 use Rattle.frz_sets.specs.Views.{RuleLines}
 use Rattle.frz_arena.specs.Arena.{Arena}
-use Rattle.frz_arena.specs.Counted.{reader}
-use Rattle.frz_arena.specs.WayEnds.{End}
-use Rattle.frz_arena.specs.Ways.{Player, Ply, ByInput, IsWay}
+use Rattle.frz_arena.specs.Ways.{Player}
 use Rattle.frz_game.specs.Games.{graph_by}
-use Rattle.frz_ways.specs.Reading.{Input, Halt, opened, reads}
+use Rattle.frz_ways.specs.declared.opponent.Opponent.TheVariants as opponents
+use Rattle.frz_ways.specs.Reading.{Input, Halt, opened}
+use Rattle.frz_ways.specs.Ways.{WayPly, EndOfWay, way_player, GoesOn}
 
 -- a ply is from a number after so many plies
 abbrev pub SessionPly : Type 0
-SessionPly = Ply Step (ℕ × ℕ) Value
+SessionPly = WayPly
 
 abbrev pub EndOfSession : Type 0
-EndOfSession = End (ℕ × ℕ) Value Halt
+EndOfSession = EndOfWay
 
 -- the side goes by the codes, as they are known after so many plies, and the opponent by the input
 abbrev pub session_player : Arena Step ℕ Value → Colour → (codes : ℕ → List ℕ)
     → Player Step (ℕ × ℕ) Value Input Halt
-session_player arena side codes =
-    reader arena side codes (ByInput (λ p input. reads (arena.arms p.1) input.more input.left))
-
--- after so many plies the session goes on from the number and
--- this input with these plies to this end, and leaves this
-abbrev pub GoesOn : Arena Step ℕ Value → Colour → (codes : ℕ → List ℕ) → (played : ℕ) → Input →
-    (number : ℕ) → List SessionPly →
-    EndOfSession → Input → Type 0
-GoesOn arena side codes played input number plies end left =
-    IsWay (session_player arena side codes) played input (played, number) plies end left
+session_player arena side codes = way_player arena opponents.Input side codes
 
 -- the session of the side from the number, in the game of the
 -- rules with these values outside its set
@@ -40,4 +31,4 @@ abbrev pub IsSession : RuleLines → (Board → Value) → Colour → (codes : �
     (input : List ℕ) →
     List SessionPly → EndOfSession → Input → Type 0
 IsSession rules value side codes start input plies end left =
-    GoesOn (graph_by rules value) side codes 0 (opened input) start plies end left
+    GoesOn (graph_by rules value) opponents.Input side codes 0 (opened input) start plies end left
