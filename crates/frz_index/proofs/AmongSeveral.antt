@@ -227,7 +227,8 @@ counter_of gs man s i g h e t =
             | inl less ↦
                 let off = apart_later gs (cell_of_man man) s j i l g h less ej e u in absurd cc
             | inr more ↦
-                let off = apart_later gs (cell_of_man man) s i j g l h (omega (arith, more, n)) e ej t
+                let later : i < j = omega (arith, more, n) in
+                let off = apart_later gs (cell_of_man man) s i j g l h later e ej t
                 in absurd cc
           ]);
     }
@@ -253,7 +254,7 @@ on_both gs man a b t =
           (state_of_place t.then.group man b t.then.place t.then.place_is),
     )
 
--- by what the group's digit adds before and after, the number of the position after the step is told
+-- by what the group's digit adds before and after, the number after the step is told
 abbrev pub SumTold : List GroupLine → Board → Man → ℕ → ℕ → Option ℕ → ℕ → ℕ → ℕ → Type 0
 SumTold gs p man a b target i left comes =
     (left + turn_adds gs p.turn p.ep ≤ i + comes + turn_adds gs (other_of p.turn) target)

@@ -38,7 +38,8 @@ pub record Shifted (gs : List GroupLine) (p q : Board) (cell a b i up down : ℕ
       is_state cell a g ≡ true → is_state cell b g ≡ true
 
 -- no group yet
-pub shifted_start : (gs : List GroupLine) (p q : Board) (cell a b : ℕ) → Shifted gs p q cell a b 0 0 0
+pub shifted_start : (gs : List GroupLine) (p q : Board) (cell a b : ℕ) →
+    Shifted gs p q cell a b 0 0 0
 shifted_start gs p q cell a b =
     record { counted = λ h. h; sum = omega arith; covered = λ j g l e t. absurd (omega (arith, l)) }
 
@@ -197,21 +198,22 @@ number_parts gs p = refl
 module _ (gs : List GroupLine) (p : Board) (man : Man) (a b : ℕ) (target : Option ℕ)
     (i left comes : ℕ) (number : HasNumber gs i p) (h : IsStep p man a b)
     (valid : IsValid (stepped p man a b target))
-    (by : Shifted gs p (stepped p man a b target) (cell_of_man man) a b (length gs) comes left) where
-  pub after_shift :
-      (left + turn_adds gs p.turn p.ep ≤ i + comes + turn_adds gs (other_of p.turn) target)
-      × HasNumber gs (number_after gs p.turn p.ep target i left comes) (stepped p man a b target)
-  after_shift =
-      let before = number_parts gs p in
-      let after = number_parts gs (stepped p man a b target) in
-      let sum = sums gs p (stepped p man a b target) (cell_of_man man) a b comes left by in
-      let there = number.number in (
-        omega (arith, before, sum, there),
-        record {
-          member = Member-stepped gs p man a b target comes left number.member.men h valid by;
-          number = omega (arith, before, after, sum, there);
-        },
-      )
+    (by : Shifted gs p (stepped p man a b target) (cell_of_man man) a b (length gs) comes left)
+  where
+    pub after_shift :
+        (left + turn_adds gs p.turn p.ep ≤ i + comes + turn_adds gs (other_of p.turn) target)
+        × HasNumber gs (number_after gs p.turn p.ep target i left comes) (stepped p man a b target)
+    after_shift =
+        let before = number_parts gs p in
+        let after = number_parts gs (stepped p man a b target) in
+        let sum = sums gs p (stepped p man a b target) (cell_of_man man) a b comes left by in
+        let there = number.number in (
+          omega (arith, before, sum, there),
+          record {
+            member = Member-stepped gs p man a b target comes left number.member.men h valid by;
+            number = omega (arith, before, after, sum, there);
+          },
+        )
 
 -- the number after a quiet move is that of the position after it
 pub after_step : (gs : List GroupLine) (p : Board) (man : Man) (a b : ℕ) (target : Option ℕ)

@@ -84,8 +84,8 @@ DigitAdds gs p k g adds =
 abbrev pub turn_adds : List GroupLine → Colour → Option ℕ → ℕ
 turn_adds gs turn target = turn_number gs turn target * product (map radix_of gs)
 
--- The number after a step, with the targets before and after it: what the man or his group adds before
--- goes, what they add after it comes, and so for the turn states.
+-- The number after a step, with the targets before and after it: what the man or his group adds
+-- before goes, what they add after it comes, and so for the turn states.
 abbrev pub number_after : List GroupLine → Colour → Option ℕ → Option ℕ → ℕ → ℕ → ℕ → ℕ
 number_after gs turn before after i left comes =
     i + comes + turn_adds gs (other_of turn) after - left - turn_adds gs turn before

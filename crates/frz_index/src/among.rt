@@ -53,7 +53,7 @@ fn gone(p: &Bitboards, man: Man, from: Square, to: Square, target: &Option<Squar
     q
 }
 
-/// What the digit of the group at this place adds to a number, unless it has too few men or too many.
+/// What the digit of the group at this place adds, unless it has too few men or too many.
 fn digit_adds(plan: &Plan, p: &Bitboards, k: usize) -> Option<u64>
     requires plan { IsPlan plan.now }
     requires within { k < length plan.now.groups.items }

@@ -49,8 +49,8 @@ told c =
     c.args.target.now c.args.i c.in_ok-k.k c.requires.plan.apart c.requires.number (is_step c)
     c.requires.valid (on c) (in_order c)
 
-sum : (c : In_ok-comes) (on : HasOnBoth c.args.plan.now.groups.items c.args.man c.args.from c.args.to
-    c.in_ok-k.k) → StepTold c.args.plan.now.groups.items c.args.p.now c.args.man
+sum : (c : In_ok-comes) (on : HasOnBoth c.args.plan.now.groups.items c.args.man c.args.from
+    c.args.to c.in_ok-k.k) → StepTold c.args.plan.now.groups.items c.args.p.now c.args.man
     c.args.from c.args.to c.args.target.now c.args.i c.in_ok-k.k on.0 →
     SumTold c.args.plan.now.groups.items c.args.p.now c.args.man
     c.args.from c.args.to c.args.target.now c.args.i c.in_ok-left.left c.in_ok-comes.comes
