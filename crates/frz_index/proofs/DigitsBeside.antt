@@ -170,15 +170,18 @@ module _ (gs : List GroupLine) (p q : Board) (x : Changes) (squares occupied som
     (h : AreChanges p q gs x)
     (changed_is : squares ≡ set_of (λ s. not (slice_index p.cells s == slice_index q.cells s)))
     (occupied_is : occupied ≡ set_of (λ s. not (is_empty q s)))
-    (some_is : (s : ℕ) → s < 64 → has_square some s ≡ (has_square squares s && has_square occupied s))
-    (left_is : (s : ℕ) → s < 64 → has_square left s ≡ (has_square some s && not (has_square x.squares s)))
+    (some_is : (s : ℕ) → s < 64 →
+    has_square some s ≡ (has_square squares s && has_square occupied s))
+    (left_is : (s : ℕ) → s < 64 →
+    has_square left s ≡ (has_square some s && not (has_square x.squares s)))
   where
     left_on : (s : ℕ) → s < 64 → DiffersOn p q s →
         has_square left s ≡ (not (is_empty q s) && not (has_state gs (slice_index q.cells s) s))
     left_on s l d =
         left_is s l
         ∙ ap (λ b. b && not (has_square x.squares s))
-        (some_is s l ∙ ap (λ b. b && has_square occupied s) (in_changed p q squares s changed_is l d)
+        (some_is s l
+        ∙ ap (λ b. b && has_square occupied s) (in_changed p q squares s changed_is l d)
         ∙ ap (λ w. has_square w s) occupied_is ∙ has-set_of (λ s. not (is_empty q s)) s l)
         ∙ ap (λ b. not (is_empty q s) && not b) (h.squares s l d)
 

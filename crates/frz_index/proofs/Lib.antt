@@ -32,3 +32,4 @@ pub mod NumbersAfterTaking
 pub mod AfterTaking
 pub mod MovedMen
 pub mod DigitsBeside
+pub mod AmongSeveral

@@ -137,7 +137,8 @@ pub none_first : (g : GroupLine) (chart : Chart) (moved : List ℕ) → IsChart 
     NoneOfKinds g moved chart.first
 none_first g chart moved h j st e l =
     let low = state_low 0 g.states j st h.in_order.increasing e in
-    let cut = h.cuts_are.cut (64 * chart.first) (let o = h.order in let k = h.kinds in omega arith) in
+    let cut = h.cuts_are.cut (64 * chart.first)
+    (let o = h.order in let k = h.kinds in omega arith) in
     let from = cut.from j st (omega (arith, h.none_before)) e in
     let some = (kind_numbers st.0).0 in
     absurd (omega (arith, from, low.1, some, l))

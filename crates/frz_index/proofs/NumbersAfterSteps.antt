@@ -1,7 +1,8 @@
 -- The number after a man's step to an empty square, group by group.
-use Rattle.std.proofs.Common.{◌≡◌, ◌≢◌, ℕ, zero, suc, ◌+◌, ◌-◌, ◌*◌, ◌<◌, ◌≤◌, true, Option, Some, List, ◌∷◌, drop, get_or, length, map, slice_index, refl, ap, sym, subst, ◌∙◌, arith, inl, inr}
+use Rattle.std.proofs.Common.{◌≡◌, ◌≢◌, ℕ, zero, suc, ◌+◌, ◌-◌, ◌*◌, ◌<◌, ◌≤◌, true, false, Option, None, Some, List, ◌↔◌, ◌∷◌, drop, get_or, length, map, slice_index, refl, ap, sym, subst, ◌∙◌, arith, inl, inr}
 use Rattle.std.proofs.Math.Nat.{add-mul}
 use Rattle.std.specs.List.{AllByRecursion, slice_get}
+use Rattle.std.specs.Prelude.{IsSome}
 use Rattle.std.proofs.lemmas.Bool.{cases_eq}
 use Rattle.std.proofs.lemmas.Option.{get_or_from_slice_get, same_Some, slice_get-get_or, slice_get_within}
 use Rattle.frz_board.proofs.Lemmas.{cell-some}
@@ -37,7 +38,8 @@ pub record Shifted (gs : List GroupLine) (p q : Board) (cell a b i up down : ℕ
       is_state cell a g ≡ true → is_state cell b g ≡ true
 
 -- no group yet
-pub shifted_start : (gs : List GroupLine) (p q : Board) (cell a b : ℕ) → Shifted gs p q cell a b 0 0 0
+pub shifted_start : (gs : List GroupLine) (p q : Board) (cell a b : ℕ) →
+    Shifted gs p q cell a b 0 0 0
 shifted_start gs p q cell a b =
     record { counted = λ h. h; sum = omega arith; covered = λ j g l e t. absurd (omega (arith, l)) }
 
@@ -192,33 +194,44 @@ pub number_parts : (gs : List GroupLine) (p : Board) →
     Num gs p ≡ turn_adds gs p.turn p.ep + digits_of p gs
 number_parts gs p = refl
 
--- the number after a quiet move is that of the position after it
+-- the number after a step by which the digits together grow by comes and fall by left
 module _ (gs : List GroupLine) (p : Board) (man : Man) (a b : ℕ) (target : Option ℕ)
-    (i k left comes : ℕ) (number : HasNumber gs i p) (h : IsStep p man a b)
-    (valid : IsValid (stepped p man a b target)) (from : IsShare gs man a k left)
-    (in_order : AreStates from.group.states) (to : IsShare gs man b k comes) where
-  shifted_by : Shifted gs p (stepped p man a b target) (cell_of_man man) a b (length gs) comes left
-  shifted_by = all_shifted gs p man a b target k left comes number.member.counts h from in_order to
+    (i left comes : ℕ) (number : HasNumber gs i p) (h : IsStep p man a b)
+    (valid : IsValid (stepped p man a b target))
+    (by : Shifted gs p (stepped p man a b target) (cell_of_man man) a b (length gs) comes left)
+  where
+    pub after_shift :
+        (left + turn_adds gs p.turn p.ep ≤ i + comes + turn_adds gs (other_of p.turn) target)
+        × HasNumber gs (number_after gs p.turn p.ep target i left comes) (stepped p man a b target)
+    after_shift =
+        let before = number_parts gs p in
+        let after = number_parts gs (stepped p man a b target) in
+        let sum = sums gs p (stepped p man a b target) (cell_of_man man) a b comes left by in
+        let there = number.number in (
+          omega (arith, before, sum, there),
+          record {
+            member = Member-stepped gs p man a b target comes left number.member.men h valid by;
+            number = omega (arith, before, after, sum, there);
+          },
+        )
 
-  after_member : Member gs (stepped p man a b target)
-  after_member = Member-stepped gs p man a b target comes left number.member.men h valid shifted_by
+-- the number after a quiet move is that of the position after it
+pub after_step : (gs : List GroupLine) (p : Board) (man : Man) (a b : ℕ) (target : Option ℕ)
+    (i k left comes : ℕ) → HasNumber gs i p → IsStep p man a b →
+    IsValid (stepped p man a b target) → (from : IsShare gs man a k left) →
+    AreStates from.group.states → IsShare gs man b k comes →
+    (left + turn_adds gs p.turn p.ep ≤ i + comes + turn_adds gs (other_of p.turn) target)
+    × HasNumber gs (number_after gs p.turn p.ep target i left comes) (stepped p man a b target)
+after_step gs p man a b target i k left comes number h valid from in_order to =
+    after_shift gs p man a b target i left comes number h valid
+    (all_shifted gs p man a b target k left comes number.member.counts h from in_order to)
 
-  sum : digits_of (stepped p man a b target) gs + left ≡ digits_of p gs + comes
-  sum = sums gs p (stepped p man a b target) (cell_of_man man) a b comes left shifted_by
-
-  pub after_step :
-      (left + turn_adds gs p.turn p.ep ≤ i + comes + turn_adds gs (other_of p.turn) target)
-      × HasNumber gs (number_after gs p.turn p.ep target i left comes) (stepped p man a b target)
-  after_step =
-      let before = number_parts gs p in
-      let after = number_parts gs (stepped p man a b target) in
-      let there = number.number in (
-        omega (arith, before, sum, there),
-        record {
-          member = after_member;
-          number = omega (arith, before, after, sum, there);
-        },
-      )
+-- none is told where there is nothing to tell
+pub none_told : (o : Option ℕ) (T : Type 0) → o ≡ None → (T → ⊥) → IsSome o ↔ T
+none_told o T e never = (
+  λ s. let w : false ≡ true = subst IsSome e s in absurd cc,
+  λ t. absurd (never t),
+)
 
 -- what a man adds fits
 pub share_small : (gs : List GroupLine) (man : Man) (s k adds : ℕ) → AreNumberable gs →

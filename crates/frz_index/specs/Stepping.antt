@@ -1,5 +1,5 @@
 -- A man gone to an empty square, with the other side to move, and the number after that.
-use Rattle.std.specs.Prelude.{ℕ, suc, ◌+◌, ◌-◌, ◌*◌, ◌≡◌, ◌≢◌, ◌<◌, ◌==◌, ◌&&◌, ◌||◌, Bool, false, not, true, Option, None, Some, List, drop, length, map, slice_index, slice_set}
+use Rattle.std.specs.Prelude.{ℕ, suc, ◌+◌, ◌-◌, ◌*◌, ◌≡◌, ◌≢◌, ◌<◌, ◌==◌, ◌&&◌, ◌||◌, Bool, false, not, true, Option, None, Some, List, MatchOption, drop, length, map, slice_index, slice_set}
 use Rattle.std.specs.List.{slice_get}
 use Rattle.frz_board.specs.declared.man.Colour.{Colour}
 use Rattle.frz_board.specs.declared.man.Man.{Man}
@@ -10,6 +10,7 @@ use Rattle.frz_board.specs.Squares.{files_apart, is_forward}
 use Rattle.frz_combinations.specs.MixedRadix.{product}
 use Rattle.frz_sets.specs.Sets.{is_state, radix_of}
 use Rattle.frz_sets.specs.Views.{GroupLine}
+use Rattle.frz_index.specs.Places.{IsWithinCount, digit_of}
 use Rattle.frz_index.specs.TurnStates.{turn_number}
 
 -- the man goes from a to b; the other side is to move, and this is the target
@@ -44,20 +45,47 @@ pub record IsShare (gs : List GroupLine) (man : Man) (s i adds : ℕ) : Type 0 w
   pub alone : (j : ℕ) (g : GroupLine) → j ≢ i → slice_get gs j ≡ Some g →
       is_state (cell_of_man man) s g ≡ false
 
--- one group alone, which has one man at most, counts the man on both squares
+-- the man on the square is a state of the group at i alone
+pub record IsCounter (gs : List GroupLine) (man : Man) (s i : ℕ) : Type 0 where
+  pub group : GroupLine
+  pub there : slice_get gs i ≡ Some group
+  pub place : ℕ
+  pub place_is : IsPlace group man s place
+  pub alone : (j : ℕ) (g : GroupLine) → j ≢ i → slice_get gs j ≡ Some g →
+      is_state (cell_of_man man) s g ≡ false
+
+-- the group at i has the man on both squares as states
+abbrev pub HasOnBoth : List GroupLine → Man → ℕ → ℕ → ℕ → Type 0
+HasOnBoth gs man a b i =
+    (g : GroupLine) × (slice_get gs i ≡ Some g) × (is_state (cell_of_man man) a g ≡ true)
+    × (is_state (cell_of_man man) b g ≡ true)
+
+-- one group alone counts the man on both squares
 pub record IsCountedOnBoth (gs : List GroupLine) (man : Man) (a b : ℕ) : Type 0 where
+  pub group : ℕ
+  pub there : IsCounter gs man a group
+  pub then : IsCounter gs man b group
+
+-- and it has one man at most, who adds a fixed amount on each square
+pub record IsSharedOnBoth (gs : List GroupLine) (man : Man) (a b : ℕ) : Type 0 where
   pub group : ℕ
   pub left : ℕ
   pub comes : ℕ
   pub there : IsShare gs man a group left
   pub then : IsShare gs man b group comes
 
+-- what the digit of the group at k adds to a number, and none where it has too few men or too many
+abbrev pub DigitAdds : List GroupLine → Board → ℕ → GroupLine → Option ℕ → Type 0
+DigitAdds gs p k g adds =
+    MatchOption adds (IsWithinCount p g → ⊥)
+    (λ x. IsWithinCount p g × (x ≡ digit_of p g * product (map radix_of (drop (suc k) gs))))
+
 -- what a turn state adds to a number
 abbrev pub turn_adds : List GroupLine → Colour → Option ℕ → ℕ
 turn_adds gs turn target = turn_number gs turn target * product (map radix_of gs)
 
--- The number after a step, with the targets before and after it: what the man adds on the square that
--- he leaves goes, what he adds on the other one comes, and so for the turn states.
+-- The number after a step, with the targets before and after it: what the man or his group adds
+-- before goes, what they add after it comes, and so for the turn states.
 abbrev pub number_after : List GroupLine → Colour → Option ℕ → Option ℕ → ℕ → ℕ → ℕ → ℕ
 number_after gs turn before after i left comes =
     i + comes + turn_adds gs (other_of turn) after - left - turn_adds gs turn before

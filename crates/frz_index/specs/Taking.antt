@@ -5,7 +5,7 @@ use Rattle.frz_board.specs.Boards.{Board, man_on}
 use Rattle.frz_board.specs.Moving.{Step}
 use Rattle.frz_sets.specs.Views.{GroupLine}
 use Rattle.frz_index.specs.Kept.{product_from}
-use Rattle.frz_index.specs.Stepping.{IsCountedOnBoth, IsShare}
+use Rattle.frz_index.specs.Stepping.{IsSharedOnBoth, IsShare}
 
 -- the man takes the other one, and stays what he is
 pub record IsTaking (p : Board) (m : Step) (man taken : Man) : Type 0 where
@@ -22,8 +22,9 @@ pub record IsSpare (gs : List GroupLine) (man : Man) (s loss : ℕ) : Type 0 whe
   pub none : share.group.least ≡ 0
   pub loss_is : loss ≡ adds + product_from gs (suc group)
 
--- one group alone counts the man on both squares, and another that may be empty the taken man
+-- one group alone of one man at most counts the man on both squares, and another that may be empty
+-- the taken man
 pub record IsCountedTaking (gs : List GroupLine) (man taken : Man) (a b : ℕ) : Type 0 where
-  pub moves : IsCountedOnBoth gs man a b
+  pub moves : IsSharedOnBoth gs man a b
   pub loss : ℕ
   pub goes : IsSpare gs taken b loss

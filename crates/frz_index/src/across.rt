@@ -1,13 +1,14 @@
 //! The number of a position after a man has gone to another square, by what that changes.
-ghost use Rattle.std.specs.Prelude.{ℕ, ◌≡◌, ◌≢◌, ◌≤◌, ◌*◌, ◌↔◌, IfSome, IsSome, MatchOption, None, Some, true};
+ghost use Rattle.std.specs.Prelude.{ℕ, ◌≡◌, ◌≢◌, ◌<◌, ◌≤◌, ◌+◌, ◌*◌, ◌↔◌, IfSome, IsSome, MatchOption, None, Some, true};
 ghost use Rattle.frz_board.specs.Boards.{is_empty, man_on};
+ghost use Rattle.frz_board.specs.Men.{other_of};
 ghost use Rattle.frz_board.specs.declared.man.Man.{Man};
 ghost use Rattle.frz_fide.specs.Legal.{arrives};
 ghost use Rattle.frz_fide.specs.Valid.{IsValid};
 ghost use Rattle.frz_index.specs.Kept.{IsPlan};
 ghost use Rattle.frz_index.specs.Members.{HasNumber};
 ghost use Rattle.frz_index.specs.Shares.{IsShareOf};
-ghost use Rattle.frz_index.specs.Stepping.{IsCountedOnBoth, IsQuiet, is_plain as is_plain_move, stepped, turn_adds as turn_adds_to};
+ghost use Rattle.frz_index.specs.Stepping.{IsQuiet, IsSharedOnBoth, is_plain as is_plain_move, number_after, stepped, turn_adds as turn_adds_to};
 ghost use Rattle.frz_index.specs.Taking.{IsCountedTaking, IsSpare, IsTaking};
 
 use crate::plan::Plan;
@@ -17,7 +18,7 @@ use frz_bits::Bitboards;
 use frz_board::{Colour, Kind, Man, Move, Square, cell_of};
 
 /// What the man adds to a number on the square, where one group alone tells it.
-fn share(plan: &Plan, man: Man, s: Square) -> Option<Share>
+pub(crate) fn share(plan: &Plan, man: Man, s: Square) -> Option<Share>
     requires { IsPlan plan.now }
     ensures { IsShareOf plan.now.groups.items man s result }
 {
@@ -34,8 +35,33 @@ pub(crate) fn turn_adds(plan: &Plan, turn: Colour, target: Option<Square>) -> u6
     u64::from(turn_number(&plan.targets, turn, target)) * u64::from(plan.whole)
 }
 
+/// The number after a step: what is added before it goes, what is added after it comes, and so for
+/// the turn states.
+pub(crate) fn number_by(
+    plan: &Plan,
+    i: u32,
+    p: &Bitboards,
+    target: &Option<Square>,
+    left: u64,
+    comes: u64,
+) -> u32
+    requires plan { IsPlan plan.now }
+    requires few { comes ≤ 384 * 134217728 }
+    requires some { let gs = plan.now.groups.items in
+        left + turn_adds_to gs p.now.turn p.now.ep
+        ≤ i + comes + turn_adds_to gs (other_of p.now.turn) target.now }
+    requires small { let gs = plan.now.groups.items in
+        number_after gs p.now.turn p.now.ep target.now i left comes < 134217728 }
+    ensures { let gs = plan.now.groups.items in
+        result ≡ number_after gs p.now.turn p.now.ep target.now i left comes }
+{
+    let before = turn_adds(plan, p.turn(), p.ep());
+    let after = turn_adds(plan, p.turn().other(), *target);
+    (u64::from(i) + comes + after - left - before) as u32
+}
+
 /// The number of the position after the man has gone from one square to another, which is empty,
-/// with this target after it, where that can be told by what it changes.
+/// with this target after it, where that can be told by what he adds on each.
 pub(crate) fn number_after_in(
     plan: &Plan,
     i: u32,
@@ -50,7 +76,7 @@ pub(crate) fn number_after_in(
     requires man { man_on p.now from ≡ Some man }
     requires free { is_empty p.now to ≡ true }
     requires valid { IsValid (stepped p.now man from to target.now) }
-    ensures told { IsSome result ↔ IsCountedOnBoth plan.now.groups.items man from to }
+    ensures told { IsSome result ↔ IsSharedOnBoth plan.now.groups.items man from to }
     ensures number { IfSome result
         (λ n. HasNumber plan.now.groups.items n (stepped p.now man from to target.now)) }
 {
@@ -61,9 +87,7 @@ pub(crate) fn number_after_in(
     if left.group != comes.group {
         return None;
     }
-    let before = turn_adds(plan, p.turn(), p.ep());
-    let after = turn_adds(plan, p.turn().other(), *target);
-    Some((u64::from(i) + comes.adds + after - left.adds - before) as u32)
+    Some(number_by(plan, i, p, target, left.adds, comes.adds))
 }
 
 /// Is the man no pawn, or does it go one square forward?
@@ -146,9 +170,7 @@ pub(crate) fn number_after_taking_in(
     if left.group != comes.group {
         return None;
     }
-    let before = turn_adds(plan, p.turn(), p.ep());
-    let after = turn_adds(plan, p.turn().other(), None);
-    Some((u64::from(i) + comes.adds + after - left.adds - before - less) as u32)
+    Some(number_by(plan, i, p, &None, left.adds + less, comes.adds))
 }
 
 /// The man that makes the move and the man that it takes on its last square, unless it promotes.

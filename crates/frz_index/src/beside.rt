@@ -23,7 +23,8 @@ use frz_sets::Group;
 
 /// Of each cell, the squares that changed to it or from it.
 fn moved_men(p: &Bitboards, q: &Bitboards, squares: u64) -> [u64; 13]
-    requires { squares ≡ set_of (λ s. not (slice_index p.now.cells s == slice_index q.now.cells s)) }
+    requires { squares
+        ≡ set_of (λ s. not (slice_index p.now.cells s == slice_index q.now.cells s)) }
     ensures { AreMoved p.now q.now result }
 {
     let mut moved = [0; 13];
@@ -79,7 +80,8 @@ fn change_of(
     requires rows { length group.now.states < triangle.now }
     requires before { IsWithinCount p.now group.now }
     requires moved { AreMoved p.now q.now moved.now }
-    ensures { MatchOption result (IsWithinCount q.now group.now → ⊥) (IsChange p.now q.now group.now) }
+    ensures { MatchOption result (IsWithinCount q.now group.now → ⊥)
+        (IsChange p.now q.now group.now) }
 {
     if !is_touched(group, chart, moved) {
         return Some(Change {

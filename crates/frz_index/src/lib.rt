@@ -3,6 +3,7 @@
 #![tactic(auto)]
 
 mod across;
+mod among;
 mod beside;
 mod chart;
 mod digit;

@@ -23,7 +23,8 @@ ghost use Rattle.frz_index.specs.Room.{has_room};
 ghost use Rattle.frz_index.specs.Stepping.{IsCountedOnBoth, IsQuiet, stepped};
 ghost use Rattle.frz_index.specs.Taking.{IsCountedTaking, IsTaking};
 
-use crate::across::{arriving, number_after_in, number_after_taking_in, stepping_man, taking_men};
+use crate::across::{arriving, number_after_taking_in, stepping_man, taking_men};
+use crate::among::number_after_step_in;
 use crate::beside::number_beside_in;
 use crate::digits::{number_of_digits, put_all};
 use crate::plan::{Plan, plan_of};
@@ -212,8 +213,7 @@ impl Set {
     }
 
     /// The number of the position after this man has gone to an empty square, with the other side
-    /// to move and this target, exactly where one group alone, of one man at most, counts the man on
-    /// both squares.
+    /// to move and this target, exactly where one group alone counts the man on both squares.
     pub fn number_after_step(
         &self,
         i: u32,
@@ -231,11 +231,11 @@ impl Set {
         ensures number { IfSome result
             (λ n. HasNumber self.now n (stepped p.now man from to target.now)) }
     {
-        number_after_in(&self.plan, i, p, man, from, to, target)
+        number_after_step_in(&self.plan, i, p, man, from, to, target)
     }
 
     /// The number of the position after a legal move, exactly where the move is quiet, and one
-    /// group alone, of one man at most, counts its man on both squares.
+    /// group alone counts its man on both squares.
     pub fn number_after_move(&self, i: u32, p: &Bitboards, m: Move) -> Option<u32>
         requires number { HasNumber self.now i p.now }
         requires legal { is_legal p.now m ≡ true }

@@ -1,11 +1,11 @@
-use Rattle.std.proofs.Common.{◌≡◌, ◌≤◌, ◌+◌, ◌-◌, ◌∙◌, ◌↔◌, Option, None, ap, arith, false, refl, true, ℕ, [], subst, sym}
-use Rattle.std.specs.Prelude.{IsSome}
+use Rattle.std.proofs.Common.{◌≡◌, ◌≤◌, ◌+◌, ◌-◌, ◌∙◌, None, arith, refl, [], subst, suc, sym}
 use Rattle.std.proofs.lemmas.Option.{slice_get-get_or, slice_get_within}
 use Rattle.frz_board.proofs.Lemmas.{cell_back}
 use Rattle.frz_board.specs.Boards.{Board}
 use Rattle.frz_board.specs.Men.{other_of}
 use Rattle.frz_sets.specs.Sound.{AreStates}
-use Rattle.frz_index.proofs.NumbersAfterSteps.{share_small}
+use Rattle.frz_index.proofs.GroupSteps.{product_le, whole_fits}
+use Rattle.frz_index.proofs.NumbersAfterSteps.{none_told, share_small}
 use Rattle.frz_index.proofs.NumbersAfterTaking.{after_taking}
 use Rattle.frz_index.proofs.OneShare.{share_once}
 use Rattle.frz_index.proofs.WholeNumbers.{Num_below}
@@ -13,20 +13,20 @@ use Rattle.frz_index.specs.Members.{HasNumber}
 use Rattle.frz_index.specs.Taking.{IsCountedTaking}
 use Rattle.frz_index.specs.Stepping.{IsShare, number_after, stepped, turn_adds}
 use Rattle.frz_index.proofs.across.number_after_taking_in.Goals as goal
-use Rattle.frz_index.proofs.across.number_after_taking_in.Goals.{After-from}
+use Rattle.frz_index.proofs.across.number_after_taking_in.Goals.{Else-left-comes}
 
 -- the group that counts the man on both squares
-from_share : (c : After-from) → IsShare c.args.plan.now.groups.items c.args.man c.args.from
+from_share : (c : Else-left-comes) → IsShare c.args.plan.now.groups.items c.args.man c.args.from
     c.in_ok-left.left.group c.in_ok-left.left.adds
 from_share c = c.in_ok-left.ensures
 
-to_share : (c : After-from) → IsShare c.args.plan.now.groups.items c.args.man c.args.to
+to_share : (c : Else-left-comes) → IsShare c.args.plan.now.groups.items c.args.man c.args.to
     c.in_ok-left.left.group c.in_ok-comes.comes.adds
 to_share c =
     subst (λ k. IsShare c.args.plan.now.groups.items c.args.man c.args.to k
     c.in_ok-comes.comes.adds) (sym c.if-left-comes.false) c.in_ok-comes.ensures
 
-in_order : (c : After-from) → AreStates (from_share c).group.states
+in_order : (c : Else-left-comes) → AreStates (from_share c).group.states
 in_order c =
     let plan = c.requires.plan in
     let share = from_share c in
@@ -37,10 +37,10 @@ in_order c =
     (slice_get-get_or c.args.plan.now.charts.items k
     (record { words = []; cuts = []; first = 0; end = 0 }) (omega (arith, low, size)))).in_order
 
-abbrev gone : (c : After-from) → Board
+abbrev gone : (c : Else-left-comes) → Board
 gone c = stepped c.args.p.now c.args.man c.args.from c.args.to None
 
-told : (c : After-from) → let gs = c.args.plan.now.groups.items in
+told : (c : Else-left-comes) → let gs = c.args.plan.now.groups.items in
     let p = c.args.p.now in
     (c.in_ok-left.left.adds + turn_adds gs p.turn p.ep + c.in_ok-less.less
     ≤ c.args.i + c.in_ok-comes.comes.adds + turn_adds gs (other_of p.turn) None)
@@ -59,30 +59,6 @@ told c =
     (cell_back _ c.args.man.colour c.args.man.kind c.requires.man)
     (cell_back _ c.args.taken.colour c.args.taken.kind c.requires.taken) c.requires.valid
     (from_share c) (in_order c) (to_share c) c.in_ok-less.ensures
-
--- what each turn state adds
-before_adds : (c : After-from) → c.turn_adds-before.result
-    ≡ turn_adds c.args.plan.now.groups.items c.args.p.now.turn c.args.p.now.ep
-before_adds c =
-    let gs = c.args.plan.now.groups.items in
-    c.turn_adds-before.ensures.adds
-    ∙ ap (λ t. turn_adds gs t c.ep.result) c.turn.ensures
-    ∙ ap (turn_adds gs c.args.p.now.turn) c.ep.ensures
-
-after_adds : (c : After-from) → c.turn_adds-after.result
-    ≡ turn_adds c.args.plan.now.groups.items (other_of c.args.p.now.turn) None
-after_adds c =
-    let gs = c.args.plan.now.groups.items in
-    c.turn_adds-after.ensures.adds
-    ∙ ap (λ t. turn_adds gs t None)
-    (c.other.ensures.other ∙ ap other_of c.turn-2.ensures)
-
--- none is told where the group is not there
-none_told : (o : Option ℕ) (T : Type 0) → o ≡ None → (T → ⊥) → IsSome o ↔ T
-none_told o T e never = (
-  λ s. let w : false ≡ true = subst IsSome e s in absurd cc,
-  λ t. absurd (never t),
-)
 
 pub returns-in_err-left-clause-told : goal.returns-in_err-left-clause-told
 returns-in_err-left-clause-told c =
@@ -122,8 +98,8 @@ returns-clause-told c = (
       group = c.in_ok-left.left.group;
       left = c.in_ok-left.left.adds;
       comes = c.in_ok-comes.comes.adds;
-      there = from_share (goal.at.returns-clause-told c).After-from;
-      then = to_share (goal.at.returns-clause-told c).After-from;
+      there = from_share (goal.at.returns-clause-told c).Else-left-comes;
+      then = to_share (goal.at.returns-clause-told c).Else-left-comes;
     };
     loss = c.in_ok-less.less;
     goes = c.in_ok-less.ensures;
@@ -131,69 +107,53 @@ returns-clause-told c = (
   λ _. refl,
 )
 
-pub overflow_add-result : goal.overflow_add-result
-overflow_add-result c =
-    let i = c.ranges.i.fits in
-    let e = c.from.ensures in
-    let small = share_small c.args.plan.now.groups.items c.args.man c.args.to
-    c.in_ok-comes.comes.group c.in_ok-comes.comes.adds c.requires.plan.numberable
-    c.in_ok-comes.ensures in
-    omega (arith, i, e, small)
+-- the taken man's loss goes with what the man adds before
+same : (c : Else-left-comes) → let gs = c.args.plan.now.groups.items in
+    let p = c.args.p.now in
+    number_after gs p.turn p.ep None c.args.i (c.in_ok-left.left.adds + c.in_ok-less.less)
+    c.in_ok-comes.comes.adds
+    ≡ number_after gs p.turn p.ep None c.args.i c.in_ok-left.left.adds c.in_ok-comes.comes.adds
+    - c.in_ok-less.less
+same c = omega arith
 
-pub overflow_add-result-2 : goal.overflow_add-result-2
-overflow_add-result-2 c =
-    let i = c.ranges.i.fits in
-    let e = c.from.ensures in
-    let turn = c.turn_adds-after.ensures.small in
-    let small = share_small c.args.plan.now.groups.items c.args.man c.args.to
-    c.in_ok-comes.comes.group c.in_ok-comes.comes.adds c.requires.plan.numberable
-    c.in_ok-comes.ensures in
-    omega (arith, i, e, turn, small)
-
-pub overflow_sub-result : goal.overflow_sub-result
-overflow_sub-result c =
-    let d = (goal.at.overflow_sub-result c).After-from in
-    let low = (told d).0 in
-    let e = c.from.ensures in
-    let after = after_adds d in
-    omega (arith, low, e, after)
-
-pub overflow_sub-result-2 : goal.overflow_sub-result-2
-overflow_sub-result-2 c =
-    let d = (goal.at.overflow_sub-result-2 c).After-from in
-    let low = (told d).0 in
-    let e = c.from.ensures in
-    let before = before_adds d in
-    let after = after_adds d in
-    omega (arith, low, e, before, after)
-
-pub overflow_sub-result-3 : goal.overflow_sub-result-3
-overflow_sub-result-3 c =
-    let d = (goal.at.overflow_sub-result-3 c).After-from in
-    let low = (told d).0 in
-    let e = c.from.ensures in
-    let before = before_adds d in
-    let after = after_adds d in
-    omega (arith, low, e, before, after)
-
-pub overflow_cast-result : goal.overflow_cast-result
-overflow_cast-result c =
+pub overflow_add-left : goal.overflow_add-left
+overflow_add-left c =
     let gs = c.args.plan.now.groups.items in
-    let d = (goal.at.overflow_cast-result c).After-from in
+    let n = c.requires.plan.numberable in
+    let spare = c.in_ok-less.ensures in
+    let left = share_small gs c.args.man c.args.from c.in_ok-left.left.group
+    c.in_ok-left.left.adds n c.in_ok-left.ensures in
+    let taken = share_small gs c.args.taken c.args.to spare.group spare.adds n spare.share in
+    omega (
+      arith,
+      left,
+      taken,
+      spare.loss_is,
+      product_le gs n.groups (suc spare.group),
+      whole_fits gs n,
+    )
+
+pub number_by-requires-clause-few : goal.number_by-requires-clause-few
+number_by-requires-clause-few c =
+    share_small c.args.plan.now.groups.items c.args.man c.args.to c.in_ok-comes.comes.group
+    c.in_ok-comes.comes.adds c.requires.plan.numberable c.in_ok-comes.ensures
+
+pub number_by-requires-clause-some : goal.number_by-requires-clause-some
+number_by-requires-clause-some c =
+    let low = (told (goal.at.number_by-requires-clause-some c).Else-left-comes).0 in
+    omega (arith, low)
+
+pub number_by-requires-clause-small : goal.number_by-requires-clause-small
+number_by-requires-clause-small c =
+    let d = (goal.at.number_by-requires-clause-small c).Else-left-comes in
     let h = (told d).1 in
-    let e = c.from.ensures in
-    let before = before_adds d in
-    let after = after_adds d in
+    let below = Num_below c.args.plan.now.groups.items _ h.member in
     let is = h.number in
-    let below = Num_below gs (gone d) h.member in
     let size = c.requires.plan.numberable.size in
-    omega (arith, is, below, size, e, before, after)
+    omega (arith, same d, is, below, size)
 
 pub returns-clause-number : goal.returns-clause-number
 returns-clause-number c =
-    let d = (goal.at.returns-clause-number c).After-from in
-    let e = c.from.ensures in
-    let before = before_adds d in
-    let after = after_adds d in
+    let d = (goal.at.returns-clause-number c).Else-left-comes in
     subst (λ n. HasNumber c.args.plan.now.groups.items n (gone d))
-    (omega (arith, e, before, after)) (told d).1
+    (sym (c.number_by.ensures ∙ same d)) (told d).1

@@ -24,7 +24,8 @@ returns-then-leaves g c =
       ap (λ (s : Step). s.to) c.m.view_is,
     ) in
     let outside : is_member groups q ≡ false = false_from_ne_true (is_member groups q)
-    (λ inside. outside_after c.args.self.now.set.now p m c.requires.number.member.valid low c.requires.legal
+    (λ inside. outside_after c.args.self.now.set.now p m c.requires.number.member.valid low
+    c.requires.legal
     (sym c.leaves.ensures ∙ c.if-leaves.true)
     (subst (λ (gs : List GroupLine). Member gs q) (sym c.args.self.now.fits)
     (member_of groups q inside))) in
