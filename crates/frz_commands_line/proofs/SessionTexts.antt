@@ -27,7 +27,7 @@ use Rattle.frz_ways.specs.declared.hearing.Why.TheVariants.{Ended, Limit}
 use Rattle.frz_ways.specs.declared.session_end.PlayLimit.TheVariants.{Lines, LineLength}
 use Rattle.frz_ways.specs.SessionEnds.{why_told, Tells, StopsShort}
 use Rattle.frz_ways.specs.Reading.{Input}
-use Rattle.frz_ways.specs.Sessions.{SessionPly, EndOfSession, session_player, GoesOn}
+use Rattle.frz_ways.specs.Sessions.{SessionPly, EndOfSession, session_player}
 use Rattle.frz_ways.specs.SessionTexts.{refused_text, plies_text, why_line, end_text, start_line}
 use Rattle.frz_commands_line.specs.SessionEnds.{session_naming}
 use Rattle.frz_commands_line.specs.SessionOf.{played_text}
@@ -90,7 +90,7 @@ never_cut_at arena side codes_of k s p (x ∷ plies) t h =
 
 pub never_cut : (arena : Arena Step ℕ Value) (side : Colour) (codes_of : ℕ → List ℕ) (k : ℕ)
     (s : Input) (p : ℕ) (plies : List SessionPly) (t : Input)
-    → GoesOn arena side codes_of k s p plies Cut t → ⊥
+    → IsWay (session_player arena side codes_of) k s (k, p) plies Cut t → ⊥
 never_cut arena side codes_of k s p plies t w =
     never_cut_at arena side codes_of k s (k, p) plies t w
 
