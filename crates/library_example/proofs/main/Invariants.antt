@@ -1,0 +1,5 @@
+-- The brand stands for the blank ledger of the program.
+use Rattle.library_example.proofs.main.Given as goal
+
+abbrev pub ghosts-run : goal.ghosts-run
+ghosts-run a = record { name = a.blank.name; parts = a.blank.parts }
