@@ -1,11 +1,11 @@
 //! The codes of both sides at the numbers, and those of the moves of a number.
 
-ghost use Rattle.std.specs.Prelude.{◌≡◌, ◌<◌, ℕ, List, length, slice_index};
+ghost use Rattle.std.specs.Prelude.{◌≡◌, ◌<◌, ℕ, List, All, length, map, slice_index};
 ghost use Rattle.frz_board.specs.declared.man.Colour.{Colour};
 ghost use Rattle.frz_board.specs.declared.man.Colour.TheVariants.{White, Black};
-ghost use Rattle.frz_graph.specs.EntryCodes.{next_code, IsWithin};
+ghost use Rattle.frz_graph.specs.EntryCodes.{arm_code, next_code, IsWithin};
 
-use crate::arm::Next;
+use crate::arm::{Next, NextList};
 use crate::codes::exit_code;
 use arrayvec::ArrayVec;
 use frz_board::Colour;
@@ -58,5 +58,16 @@ pub(crate) fn next_code_of<E: Entries>(side: Colour, next: Next, entries: &E) ->
     match next {
         Next::Inside(number) => entries.entry(side, number),
         Next::Outside(value) => exit_code(value, side),
+    }
+}
+
+/// Puts the code of each move of the list for the side into `codes`, and drops what was there.
+pub fn fill<E: Entries>(side: Colour, list: &NextList, entries: &E, codes: &mut CodeList)
+    requires { All (λ a. IsWithin (length (E.codes entries.now side)) a.next) list.now.items }
+    ensures { codes.new.items ≡ map (arm_code side (E.codes entries.now side)) list.now.items }
+{
+    codes.clear();
+    for arm in list.as_slice() {
+        codes.push(next_code_of(side, arm.next, entries));
     }
 }

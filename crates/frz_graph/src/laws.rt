@@ -11,7 +11,8 @@ ghost use Rattle.frz_graph.specs.EntryCodes.{arm_code, IsWithin};
 ghost use Rattle.frz_graph.specs.Finite.{IsFinite};
 ghost use Rattle.frz_graph.specs.FreeCodes.{free_among};
 
-/// What `local_by` gives, from the moves of a number, is its local code.
+/// What `fill` and `local` give together, and `local_by` alone, from the moves of a number, is its
+/// local code.
 pub fn filled()
     ensures { (arena : Arena Step ℕ Value) → arena.class ≡ class_of → arena.lag ≡ lag_of →
         (side : Colour) (entries : List ℕ) (i : ℕ) →
@@ -21,7 +22,7 @@ pub fn filled()
         ≡ local_code arena side (λ k. slice_index entries k) i }
 {}
 
-/// Where the arena is finite, the moves of each number may be given to `local_by`.
+/// Where the arena is finite, the moves of each number may be given to `fill` and `local_by`.
 pub fn within()
     ensures { (arena : Arena Step ℕ Value) (size : ℕ) → IsFinite arena size → (i : ℕ) →
         All (λ a. IsWithin size a.next) (arena.arms i) }

@@ -12,7 +12,7 @@ mod numbered_game;
 
 pub use arm::{Arm, Next, NextList};
 pub use codes::exit_code;
-pub use entries::{CodeList, Entries, Pair};
+pub use entries::{CodeList, Entries, Pair, fill};
 pub use lists::Lists;
 pub use local_code::{local, local_by};
 pub use numbered_game::{NumberedGame, local_at};
