@@ -5,7 +5,7 @@ ghost use Rattle.frz_arena.specs.declared.arm.Next.TheVariants.{Inside};
 use frz_arena::Node;
 use frz_board::Colour::{Black, White};
 use frz_board::{Move, Square};
-use frz_graph::{Arm, CodeList, Next, NextList, Pair, exit_code, local, local_by};
+use frz_graph::{Arm, CodeList, Next, NextList, Pair, exit_code, fill, local, local_by};
 use frz_sets::Value;
 
 #[test]
@@ -67,4 +67,20 @@ fn codes_that_were_read_give_local_codes(rt: HostRuntime) {
         local(White, Node::Stalemate(White), &list, &codes),
     ];
     assert_eq!(rt; given, [6, 9, 1]);
+}
+
+#[test]
+fn moves_have_codes(rt: HostRuntime) {
+    let mut list = NextList::new();
+    list.push(arm(false, 0));
+    list.push(arm(true, 1));
+    let pair = Pair {
+        white: &[4, 6],
+        black: &[5, 7],
+    };
+    let mut codes = CodeList::new();
+    fill(White, &list, &pair, &mut codes);
+    assert!(rt; codes.as_slice() == [4, 6].as_slice());
+    fill(Black, &list, &pair, &mut codes);
+    assert!(rt; codes.as_slice() == [5, 7].as_slice());
 }
