@@ -10,7 +10,7 @@ use Rattle.frz_rules.specs.Text.{rules_of, too_long}
 use Rattle.frz_rules.specs.declared.fault.RulesFault.{RulesFault}
 use Rattle.frz_store.specs.Files.{Files}
 use Rattle.frz_table.specs.declared.kind.FileKind.{FileKind}
-use Rattle.frz_table.specs.declared.kind.FileKind.TheVariants.{Plain, Chained}
+use Rattle.frz_table.specs.declared.kind.FileKind.TheVariants.{Plain, Chained, Atlas}
 use Rattle.frz_table.specs.Layout.{magic_of, header_of, file_of, codes_at}
 use Rattle.frz_table.specs.Numbers.{AreBytes, number_bytes}
 use Rattle.frz_table.specs.Possible.{MayKeepCodes}
@@ -34,6 +34,7 @@ read_short text rules read =
 pub magic_long : (kind : FileKind) → length (magic_of kind) ≡ 8
 magic_long Plain = refl
 magic_long Chained = refl
+magic_long Atlas = refl
 
 pub short_bytes : (xs : List ℕ) → list_all (λ x. ltb x 256) xs ≡ true → (i : ℕ)
     → get_or xs i 0 < 256
@@ -46,6 +47,7 @@ short_bytes (x ∷ xs) h (suc i) =
 pub magic_bytes : (kind : FileKind) → AreBytes (magic_of kind)
 magic_bytes Plain = short_bytes (magic_of Plain) refl
 magic_bytes Chained = short_bytes (magic_of Chained) refl
+magic_bytes Atlas = short_bytes (magic_of Atlas) refl
 
 -- a magic, a text and a size that a file can have
 pub record IsHead (magic text : List ℕ) (size : ℕ) : Type 0 where

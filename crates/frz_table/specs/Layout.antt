@@ -5,13 +5,14 @@ use Rattle.std.specs.Int.{w32, to_le_bytes}
 use Rattle.frz_board.specs.declared.man.Colour.{Colour}
 use Rattle.frz_board.specs.declared.man.Colour.TheVariants.{White, Black}
 use Rattle.frz_table.specs.declared.kind.FileKind.{FileKind}
-use Rattle.frz_table.specs.declared.kind.FileKind.TheVariants.{Plain, Chained}
+use Rattle.frz_table.specs.declared.kind.FileKind.TheVariants.{Plain, Chained, Atlas}
 use Rattle.frz_table.specs.Numbers.{numbers, number_bytes}
 
 -- the first eight bytes
 abbrev pub magic_of : FileKind → List ℕ
 magic_of Plain = codes "FREEZER2"
 magic_of Chained = codes "FREEZERC"
+magic_of Atlas = codes "FREEZERA"
 
 abbrev pub header_of : List ℕ → List ℕ → ℕ → List ℕ
 header_of magic text size =

@@ -1,4 +1,4 @@
-//! The two kinds of table files.
+//! The kinds of table files.
 ghost use Rattle.std.specs.Prelude.{◌≡◌, length};
 ghost use Rattle.frz_table.specs.Layout.{magic_of};
 
@@ -9,6 +9,9 @@ pub enum FileKind {
     Plain,
     /// By its exit lines and, where these say nothing, by a second table.
     Chained,
+    /// By its exit lines and, where these say nothing, by the first of several tables whose set
+    /// holds the position.
+    Atlas,
 }
 
 impl FileKind {
@@ -19,6 +22,7 @@ impl FileKind {
         match self {
             FileKind::Plain => b"FREEZER2",
             FileKind::Chained => b"FREEZERC",
+            FileKind::Atlas => b"FREEZERA",
         }
     }
 }
