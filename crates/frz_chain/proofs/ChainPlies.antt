@@ -30,11 +30,11 @@ use Rattle.frz_chain.specs.PairValues.{pair_value}
 use Rattle.frz_chain.proofs.Pairs.{of_pairs}
 
 -- a value by which the side wins is a mate within so many plies more
-abbrev Forced : Colour → ℕ → Board → Value → Type 0
+abbrev pub Forced : Colour → ℕ → Board → Value → Type 0
 Forced side most q v = class_of v side ≡ Good → ForcesMate chess side (lag_of v + most) q
 
 -- what holds of the first value, and of the second one where the first is unknown
-of_either : (P : Value → Type 0) (first second : Value) → P first → P second →
+pub of_either : (P : Value → Type 0) (first second : Value) → P first → P second →
     P (or_else first second)
 of_either P WhiteWins second h k = h
 of_either P BlackWins second h k = h
@@ -102,7 +102,7 @@ side_pair back White most q i h =
 side_pair back Black most q i h =
     black_pair most q (slice_index back.white i) (slice_index back.black i) h
 
-unknown_forced : (side : Colour) (most : ℕ) (q : Board) → Forced side most q Unknown
+pub unknown_forced : (side : Colour) (most : ℕ) (q : Board) → Forced side most q Unknown
 unknown_forced side most q good = absurd (cc)
 
 module _ (backs : RuleLines) (value : Board → Value) (back : Back)

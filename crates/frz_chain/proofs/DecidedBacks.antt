@@ -47,7 +47,7 @@ hold_decided white black w b =
     ap (λ x. is_decided (pair_value x black)) w ∙ ap (λ x. is_decided (pair_value 1 x)) b
 
 -- a first value that decides the game is not passed over
-first_decides : (v second : Value) → is_decided v ≡ true → is_decided (or_else v second) ≡ true
+pub first_decides : (v second : Value) → is_decided v ≡ true → is_decided (or_else v second) ≡ true
 first_decides WhiteWins second d = refl
 first_decides BlackWins second d = refl
 first_decides Draw second d = refl
@@ -83,7 +83,7 @@ module _ (backs : RuleLines) (value : Board → Value) (back : Back)
       black_decided (slice_index back.white i) (slice_index back.black i) fails
       ((black.win q member).1 ((white.failure q member).0 fails))
 
-  back_decides : is_decided (back_value back q) ≡ true
+  pub back_decides : is_decided (back_value back q) ≡ true
   back_decides =
       let there : number_of back.groups q ≡ Some (Num backs.groups q) =
       ap (λ (g : List GroupLine). number_of g q) exact.set

@@ -14,14 +14,14 @@ use Rattle.frz_chain.specs.Books.{Back, back_value, chain_value, or_else, told_a
 use Rattle.frz_chain.proofs.Pairs.{of_pairs}
 
 -- two codes tell no number
-told_small : (back : Back) (o : Option ℕ) → lag_of (told_at back o) ≤ 1000
+pub told_small : (back : Back) (o : Option ℕ) → lag_of (told_at back o) ≤ 1000
 told_small back None = omega arith
 told_small back (Some i) =
     of_pairs (λ (v : Value). lag_of v ≤ 1000) (slice_index back.white i) (slice_index back.black i)
     (λ _. omega arith) (λ _. omega arith) (λ _ _. omega arith) (λ _. omega arith) (λ _. omega arith)
     (omega arith)
 
-either_small : (first second : Value) → lag_of first ≤ 1000 → lag_of second ≤ 1000
+pub either_small : (first second : Value) → lag_of first ≤ 1000 → lag_of second ≤ 1000
     → lag_of (or_else first second) ≤ 1000
 either_small WhiteWins second h k = h
 either_small BlackWins second h k = h

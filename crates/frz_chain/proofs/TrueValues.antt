@@ -95,7 +95,7 @@ module _ (rules : RuleLines) (value : Board → Value) (back : Back)
   back_true = by_membership (is_member rules.groups q) refl
 
 -- the first value or the second
-either_true : (first second : Value) (q : Board) → IsTrueValue first q → IsTrueValue second q
+pub either_true : (first second : Value) (q : Board) → IsTrueValue first q → IsTrueValue second q
     → IsTrueValue (or_else first second) q
 either_true WhiteWins second q h k = h
 either_true BlackWins second q h k = h

@@ -8,6 +8,7 @@ mod querying;
 mod reporting;
 mod solving;
 
-pub use querying::{chainquery, query};
+pub use kept::{KeptCodes, kept_codes_at};
+pub use querying::{chainquery, query, query_kind};
 pub use reporting::run_report;
 pub use solving::solve;

@@ -13,7 +13,7 @@ use frz_table::FileKind;
 use std::alloc::Global;
 
 /// Queries a table of this kind, with these words behind the command's name.
-fn query_kind<S: Store>(
+pub fn query_kind<S: Store>(
     alloc: Global,
     kind: FileKind,
     words: &[String],
