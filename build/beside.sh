@@ -1,7 +1,7 @@
 # shellcheck shell=bash
 # Makes a file that is there already under another name beside it, and moves it into place when it is
 # whole: the program empties the file that it makes, so a run that is cut off would destroy the old one.
-# Sourced by ./freezer, which has `words`, `makes` and `tell`.
+# Sourced by build/program.sh, which has `words`, `makes` and `tell`.
 
 # The file that is to be made is there already. What is no common file, as /dev/null, or may not be
 # written is left to the program, which writes to it or fails.

@@ -1,6 +1,6 @@
 # shellcheck shell=bash
 # Proves and builds the program: each crate by a check of its own, side by side, the lowest first.
-# Sourced by ./freezer, which has `top`, `program` and `tell`. What happens is told on standard error,
+# Sourced by build/program.sh, which has `top`, `crate`, `program` and `tell`. What happens is told on standard error,
 # and what was proved is kept, so that a build that was cut off goes on from there.
 
 # shellcheck source=build/machine.sh
@@ -64,7 +64,7 @@ read_crates() {
         case "$line" in '' | '#'*) continue ;; esac
         stands_on[${line%%:*}]=${line#*:}
     done < "$top/crates.txt"
-    gather_below freezer
+    gather_below "$crate"
     crates=("${gathered[@]}")
     upwards=("${gathered[@]}")
 }
@@ -152,7 +152,7 @@ find_longest_chain() {
             [ "${front[$name]}" -ge $((front[$below] + expected[$below])) ] ||
                 front[$name]=$((front[$below] + expected[$below]))
         done
-        [ "$name" = freezer ] || [ $((front[$name] + rank[$name])) -lt "${rank[${crates[0]}]}" ] ||
+        [ "$name" = "$crate" ] || [ $((front[$name] + rank[$name])) -lt "${rank[${crates[0]}]}" ] ||
             in_chain[$name]=2
     done
 }
@@ -262,7 +262,7 @@ make_room() {
 
 prove() {
     cd "$rooms/$1/crates/$1" || exit 1
-    if [ "$1" = freezer ]; then
+    if [ "$1" = "$crate" ]; then
         exec rt run </dev/null >"$rooms/$1/log" 2>&1
     fi
     exec rt lib --jobs "$2" </dev/null >"$rooms/$1/log" 2>&1
@@ -298,7 +298,7 @@ finish_one() {
     status=$?
     name=${running[$pid]}
     unset "running[$pid]"
-    if [ "$name" = freezer ]; then
+    if [ "$name" = "$crate" ]; then
         grep -q '^rt: running ' "$rooms/$name/log" && status=0 || status=1
     fi
     [ "$status" -eq 0 ] || cat "$rooms/$name/log" >&2
@@ -307,7 +307,7 @@ finish_one() {
         tell "crate $name was not proved"
         return 1
     fi
-    [ "$name" != freezer ] || [ "$program" -nt "$rooms/begun" ] || touch -r "$rooms/begun" "$program"
+    [ "$name" != "$crate" ] || [ "$program" -nt "$rooms/begun" ] || touch -r "$rooms/begun" "$program"
     state[$name]="done"
     finished=$((finished + 1))
     seconds=$((SECONDS - started[$name]))

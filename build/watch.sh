@@ -1,5 +1,5 @@
 # shellcheck shell=bash
-# Tells how far a command over a large set is, while it runs. Sourced by ./freezer.
+# Tells how far a command over a large set is, while it runs. Sourced by build/program.sh.
 # It looks at the files alone: the numbers of a set stand in the head of its table, and build writes
 # White's codes before it solves Black.
 
@@ -10,7 +10,11 @@ to_check=900
 # One of the long commands is given, and somebody sees what is told.
 is_watched() {
     [ -t 2 ] && [ -z "${FREEZER_QUIET+set}" ] && [ "${TERM:-dumb}" != dumb ] || return 1
-    case "${words[0]-}/${#words[@]}" in build/3 | check/2 | chain/4 | chaincheck/3) ;; *) return 1 ;; esac
+    [ "$crate" = freezer ] || [ "${#reads[@]}" -lt 2 ] || return 0
+    case "$crate ${words[0]-}/${#words[@]}" in
+        freezer\ build/3 | freezer\ check/2 | freezer\ chain/4 | freezer\ chaincheck/3) ;;
+        *) return 1 ;;
+    esac
 }
 
 # Rewrites a line each three seconds (FREEZER_EVERY is for the tests), as long as the process is there.
@@ -22,7 +26,7 @@ watch_process() {
     while read -r -t "${FREEZER_EVERY:-3}" -u "$never"; [ -d "/proc/$1" ]; do
         columns=$(stty size <&"$screen" | cut -d ' ' -f 2)
         [[ $columns =~ ^[1-9] ]] || columns=80
-        text="freezer: $(how_far "$2"), $(clock "$SECONDS")$(of_expected "$2")"
+        text="$crate: $(how_far "$2"), $(clock "$SECONDS")$(of_expected "$2")"
         printf '\e[J\n\r%s\e[A\r' "${text:0:columns-1}" >&"$screen"
     done
 }
@@ -34,7 +38,7 @@ end_watch() { printf '\r\e[J' >&2; }
 how_far() {
     local numbers
     case "${words[0]}" in
-        check) told_of "$(numbers_of "${words[1]}")" "checking" ;;
+        check) told_of "$(numbers_of "${words[1]}")" "checking$(it_and_those_behind)" ;;
         chaincheck) told_of "$(numbers_of "${words[1]}")" "checking it and the table behind" ;;
         *)
             numbers=$(numbers_of "$1")
@@ -42,12 +46,16 @@ how_far() {
                 told_of "$numbers" "$(side_of "$1" "$numbers")"
             elif [ "${words[0]}" = chain ]; then
                 told_of "$(numbers_of "${words[2]}")" "checking the table behind"
+            elif [ "$crate" = atlas ]; then
+                told_of "$(numbers_behind)" "checking the tables behind"
             else
                 echo "reading the rules"
             fi
             ;;
     esac
 }
+
+it_and_those_behind() { [ "$crate" != atlas ] || echo " it and the tables behind"; }
 
 told_of() { echo "${1:+$1 numbers: }$2"; }
 
@@ -69,14 +77,27 @@ side_of() {
 of_expected() {
     local numbers back time
     case "${words[0]}" in
-        build) numbers=$(numbers_of "$1") time=$((${numbers:-0} * to_build)) ;;
-        check) numbers=$(numbers_of "${words[1]}") time=$((${numbers:-0} * to_check)) ;;
+        build) numbers=$(numbers_of "$1") back=$(numbers_behind)
+            time=$((${numbers:-0} * to_build + ${back:-0} * to_check)) ;;
+        check) numbers=$(numbers_of "${words[1]}") back=$(numbers_behind)
+            time=$((${numbers:-0} * to_check + ${back:-0} * to_check)) ;;
         chain) numbers=$(numbers_of "$1") back=$(numbers_of "${words[2]}")
             time=$((${numbers:-0} * to_build + ${back:-0} * to_check)) ;;
         chaincheck) numbers=$(numbers_of "${words[1]}") back=$(numbers_of "${words[2]}")
             time=$((${numbers:-0} * to_check + ${back:-0} * to_check)) ;;
     esac
     [ -z "$numbers" ] || echo " of about $(clock $((time / 1000000000 + 1)))"
+}
+
+# The numbers of all tables behind that of `atlas`; nothing where there are none.
+numbers_behind() {
+    local at numbers all=0
+    [ "$crate" = atlas ] || return 0
+    for at in "${reads[@]:1}"; do
+        numbers=$(numbers_of "${words[at]}")
+        all=$((all + ${numbers:-0}))
+    done
+    echo "$all"
 }
 
 clock() { printf '%d:%02d' $(($1 / 60)) $(($1 % 60)); }

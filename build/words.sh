@@ -1,11 +1,15 @@
 # shellcheck shell=bash
-# Which words of a command are names of files. Sourced by ./freezer and ./try.
+# Which words of a command are names of files. Sourced by build/program.sh and ./try.
 
 # Sets `reads`, the places of the words that name files to be read, and `makes`, the place of the
 # name that is written, 0 for none. Where the words are too few or too many, or no command's, the
 # program refuses them, and no word is a name.
 find_names() {
     reads=() makes=0
+    if [ "$crate" = atlas ]; then
+        find_names_of_atlas "$@"
+        return
+    fi
     case "${1-}/$#" in
         solve/3 | check/2 | query/3 | chainquery/3 | line/4 | play/4 | report/2) reads=(1) ;;
         chaincheck/3) reads=(1 2) ;;
@@ -14,15 +18,36 @@ find_names() {
     esac
 }
 
+# The most tables behind another.
+most_backs=16
+
+find_names_of_atlas() {
+    case "${1-}" in
+        build) [ $# -lt 4 ] || [ $# -gt $((3 + most_backs)) ] || mapfile -t reads < <(echo 1 && seq 3 $(($# - 1))) ;;
+        check) [ $# -lt 3 ] || [ $# -gt $((2 + most_backs)) ] || mapfile -t reads < <(seq 1 $(($# - 1))) ;;
+        query) [ $# -ne 3 ] || reads=(1) ;;
+        size) [ $# -ne 2 ] || reads=(1) ;;
+    esac
+    [ "${1-}" != build ] || [ "${#reads[@]}" -eq 0 ] || makes=2
+}
+
+# Two names are of one file.
+is_one_file() { [[ ${words[$1]} = "${words[$2]}" || ${words[$1]} -ef ${words[$2]} ]]; }
+
 # The name that is written is one of a file that is read. The program compares the texts of names
-# alone, so it would empty a rules text that is named once as A and once as ./A.
+# alone, so it would empty a rules text that is named once as A and once as ./A. Among the names of
+# `atlas` no file may stand twice at all.
 is_same_file() {
-    local at
-    [ "$makes" -gt 0 ] || return 1
+    local at other names=("${reads[@]}")
     for at in "${reads[@]}"; do
-        if [[ ${words[at]} = "${words[makes]}" || ${words[at]} -ef ${words[makes]} ]]; then
-            return 0
-        fi
+        [ "$makes" -eq 0 ] || ! is_one_file "$at" "$makes" || return 0
+    done
+    [ "$crate" = atlas ] || return 1
+    while [ "${#names[@]}" -gt 1 ]; do
+        at=${names[0]} names=("${names[@]:1}")
+        for other in "${names[@]}"; do
+            ! is_one_file "$at" "$other" || return 0
+        done
     done
     return 1
 }

@@ -10,7 +10,7 @@ make_toy() {
     toy=$room/toy
     export FAKE_TOP=$toy FAKE_LOG=$room/log
     mkdir -p "$toy/tests" "$room/bin"
-    cp -r "$repository/freezer" "$repository/try" "$repository/build" "$repository/HANDLES" "$toy"
+    cp -r "$repository/freezer" "$repository/atlas" "$repository/try" "$repository/build" "$repository/HANDLES" "$toy"
     cp -r "$repository/tests/fake" "$toy/tests"
     printf '# a toy\na:\nb: a\nc: a arrayvec\nd: b a\nfreezer: c d b a arrayvec\n' > "$toy/crates.txt"
     printf '# toy\na 4\nb 4\nc 4\nd 4\nfreezer 4\n' > "$toy/build/seconds"
