@@ -1,0 +1,81 @@
+-- Several tables whose outcomes are those of chess decide the game in their sets.
+use Rattle.std.proofs.Common.{◌≡◌, ◌⊎◌, zero, suc, inl, inr, Bool, true, false, List, [], ◌∷◌, ◌++◌, All, Any, Some, None, refl, sym, ap, subst, ◌∙◌, arith}
+use Rattle.std.proofs.lemmas.List.Elements.{All-head, All-tail}
+use Rattle.frz_board.specs.Boards.{Board}
+use Rattle.frz_sets.specs.declared.exit.Value.{Value}
+use Rattle.frz_sets.specs.Views.{GroupLine, RuleLines}
+use Rattle.frz_exits.specs.Books.{value_by}
+use Rattle.frz_index.specs.Members.{Member, Num}
+use Rattle.frz_index.specs.Membership.{is_member, number_of}
+use Rattle.frz_index.proofs.Lemmas.{member_of, of_member, number_missing, number_there}
+use Rattle.frz_game.specs.ExactTables.{AreDecidedOutside, is_decided}
+use Rattle.frz_chain.specs.Books.{Back, back_value, or_else, told_at}
+use Rattle.frz_chain.specs.FileOn.{IsExactBack}
+use Rattle.frz_chain.proofs.Lemmas.{back_decides, first_decides}
+use Rattle.frz_backs.specs.Decided.{AreLinesOrTables, HasBothOutcomes, IsBehind}
+use Rattle.frz_backs.specs.Links.{AreExact, AreExactOver, Link, backs_of, value_over}
+use Rattle.frz_backs.specs.Values.{atlas_value, first_value, told_or}
+use Rattle.frz_backs.proofs.FirstValue.{front_tells}
+
+-- some element is the first or one of the rest
+first_or_rest : {X : Type 0} (P : X → Type 0) (x : X) (xs : List X) → Any P (x ∷ xs) →
+    P x ⊎ Any P xs
+first_or_rest P x xs (zero, y, l, e, h) = inl (subst P (sym e) h)
+first_or_rest P x xs (suc k, y, l, e, h) = inr (k, y, omega arith, e, h)
+
+-- the table in front decides the game in its set, and the rest do elsewhere
+module _ (link : Link) (before backs : List Back)
+    (exact : IsExactBack link.rules (value_over link.leans link.rules before) link.back)
+    (outcomes : HasBothOutcomes link) (q : Board) where
+  front_decides : Member link.rules.groups q →
+      is_decided (first_value (link.back ∷ backs) q) ≡ true
+  front_decides member =
+      let there : number_of link.back.groups q ≡ Some (Num link.rules.groups q) =
+      ap (λ (g : List GroupLine). number_of g q) exact.set
+      ∙ number_there link.rules.groups q (of_member link.rules.groups q member) in
+      let told : first_value (link.back ∷ backs) q ≡ back_value link.back q =
+      front_tells link.back backs q
+      ∙ (ap (told_or link.back (first_value backs q)) there
+      ∙ sym (ap (told_at link.back) there)) in
+      ap is_decided told
+      ∙ back_decides link.rules (value_over link.leans link.rules before) link.back exact
+      outcomes.0 outcomes.1 q member
+
+  rest_decides : (member : Bool) → is_member link.rules.groups q ≡ member →
+      is_decided (first_value backs q) ≡ true →
+      is_decided (first_value (link.back ∷ backs) q) ≡ true
+  rest_decides true e rest = front_decides (member_of link.rules.groups q e)
+  rest_decides false e rest =
+      let none : number_of link.back.groups q ≡ None =
+      ap (λ (g : List GroupLine). number_of g q) exact.set
+      ∙ number_missing link.rules.groups q e in
+      ap is_decided
+      (front_tells link.back backs q ∙ ap (told_or link.back (first_value backs q)) none)
+      ∙ rest
+
+-- table by table
+each_decides : (before : List Back) (links : List Link) → AreExactOver before links →
+    All HasBothOutcomes links → (q : Board) → IsBehind links q →
+    is_decided (first_value (backs_of links) q) ≡ true
+unfolding AreExactOver
+each_decides before [] exact outcomes q (k, link, l, e, h) = absurd (omega arith)
+each_decides before (link ∷ links) exact outcomes q behind =
+    let here = All-head HasBothOutcomes link links outcomes in
+    let In : Link → Type 0 = λ l. Member l.rules.groups q in
+    elim (first_or_rest In link links behind) [
+      | inl member ↦ front_decides link before (backs_of links) exact.0 here q member
+      | inr rest ↦ rest_decides link before (backs_of links) exact.0 here q
+          (is_member link.rules.groups q) refl
+          (each_decides (before ++ (link.back ∷ [])) links exact.1
+          (All-tail HasBothOutcomes link links outcomes) q rest)
+    ]
+
+pub tables_decide : (rules : RuleLines) (links : List Link) → AreExact links →
+    All HasBothOutcomes links → AreLinesOrTables rules links →
+    AreDecidedOutside rules (atlas_value rules (backs_of links))
+tables_decide rules links exact outcomes told q x =
+    elim (told q x) [
+      | inl d ↦ first_decides (value_by rules q) (first_value (backs_of links) q) d
+      | inr b ↦ ap (λ (v : Value). is_decided (or_else v (first_value (backs_of links) q))) b.0
+          ∙ each_decides [] links exact outcomes q b.1
+    ]

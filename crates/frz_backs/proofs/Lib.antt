@@ -1,0 +1,11 @@
+pub mod Lemmas
+mod FirstValue
+mod SmallLags
+mod FewTables
+mod TrueTables
+mod Transfer
+mod WinsTold
+mod TablePlies
+mod LinkPlies
+mod DecidedTables
+mod ExactTables

@@ -1,0 +1,31 @@
+-- Where the exit lines and the tables behind them together decide the game outside the set.
+use Rattle.std.specs.Prelude.{◌≡◌, ◌⊎◌, true, List, Any}
+use Rattle.frz_board.specs.Boards.{Board}
+use Rattle.frz_board.specs.declared.man.Colour.TheVariants.{White, Black}
+use Rattle.frz_sets.specs.declared.exit.Value.TheVariants.{Unknown}
+use Rattle.frz_sets.specs.Views.{RuleLines}
+use Rattle.frz_index.specs.Members.{Member}
+use Rattle.frz_arena.specs.Exits.{IsExit}
+use Rattle.frz_exits.specs.Books.{value_by}
+use Rattle.frz_game.specs.ExactTables.{HasExactOutcomes, is_decided}
+use Rattle.frz_game.specs.Games.{game_of}
+use Rattle.frz_backs.specs.Links.{Link, backs_of}
+use Rattle.frz_backs.specs.Values.{atlas_value}
+
+-- the outcomes of both sides in a table are those of chess
+abbrev pub HasBothOutcomes : Link → Type 0
+HasBothOutcomes link =
+    HasExactOutcomes link.rules White link.back.white
+    × HasExactOutcomes link.rules Black link.back.black
+
+-- one of the tables has the position in the set of its rules
+abbrev pub IsBehind : List Link → Board → Type 0
+IsBehind links q = Any (λ link. Member link.rules.groups q) links
+
+-- at each position one legal move outside the set an exit line says who wins or that the game is
+-- drawn, or none says anything and one of the tables has it
+abbrev pub AreLinesOrTables : RuleLines → List Link → Type 0
+AreLinesOrTables rules links =
+    (q : Board) → IsExit (game_of rules (atlas_value rules (backs_of links))) q →
+    (is_decided (value_by rules q) ≡ true)
+    ⊎ ((value_by rules q ≡ Unknown) × IsBehind links q)

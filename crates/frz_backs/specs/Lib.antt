@@ -1,0 +1,4 @@
+pub mod Values
+pub mod Links
+pub mod LinkPlies
+pub mod Decided

@@ -1,0 +1,41 @@
+-- The plies in which a win over several tables mates.
+use Rattle.std.specs.Prelude.{◌≡◌, ◌+◌, max, ℕ, List, [], ◌∷◌, ◌++◌, Bool, true, false, ⊤}
+use Rattle.frz_board.specs.declared.man.Colour.{Colour}
+use Rattle.frz_board.specs.Boards.{Board}
+use Rattle.frz_sets.specs.declared.exit.Value.{Value}
+use Rattle.frz_sets.specs.Views.{RuleLines}
+use Rattle.frz_arena.specs.declared.class.Class.TheVariants.{Good}
+use Rattle.frz_arena.specs.Exits.{IsExit}
+use Rattle.frz_exits.specs.Books.{value_by}
+use Rattle.frz_exits.specs.Values.{class_of, is_numbered}
+use Rattle.frz_game.specs.Games.{game_of}
+use Rattle.frz_chain.specs.Books.{Back}
+use Rattle.frz_chain.specs.ChainPlies.{WinsWithinPlies}
+use Rattle.frz_backs.specs.Links.{Link, value_over}
+
+-- each value by which the side wins just outside the set by the rules' own exit lines has a number
+abbrev pub OwnWinsNumbered : RuleLines → (Board → Value) → Colour → Type 0
+OwnWinsNumbered rules value side =
+    (q : Board) → IsExit (game_of rules value) q →
+    class_of (value_by rules q) side ≡ Good → is_numbered (value_by rules q) ≡ true
+
+-- the plies to the mate from a table whose longest win is so many: behind a table that leans there
+-- are those of the tables before it
+abbrev pub plies_through : Bool → (before most : ℕ) → ℕ
+plies_through true before most = before + most
+plies_through false before most = most
+
+-- the most of them, over tables with these longest wins
+unfoldable pub longest_over : ℕ → List Link → (Link → ℕ) → ℕ
+longest_over before [] most = before
+longest_over before (link ∷ links) most =
+    longest_over (max before (plies_through link.leans before (most link))) links most
+
+-- each table's wins of the side are within its plies, and its own exit lines by which the side
+-- wins tell theirs
+unfoldable pub AreWithinPlies : List Back → List Link → Colour → (Link → ℕ) → Type 0
+AreWithinPlies before [] side most = ⊤
+AreWithinPlies before (link ∷ links) side most =
+    WinsWithinPlies link.back side (most link)
+    × OwnWinsNumbered link.rules (value_over link.leans link.rules before) side
+    × AreWithinPlies (before ++ (link.back ∷ [])) links side most

@@ -1,0 +1,68 @@
+//! What values told by several tables say of chess. Each law is the contract of a function that
+//! does nothing.
+ghost use Rattle.std.specs.Prelude.{◌≡◌, ◌+◌, ℕ, List, [], ◌∷◌, All};
+ghost use Rattle.frz_board.specs.Boards.{Board};
+ghost use Rattle.frz_board.specs.declared.man.Colour.{Colour};
+ghost use Rattle.frz_sets.specs.Views.{RuleLines};
+ghost use Rattle.frz_exits.specs.Books.{value_by};
+ghost use Rattle.frz_arena.specs.declared.bound.Bound.TheVariants.{Wins};
+ghost use Rattle.frz_arena.specs.Chess.{ForcesMate};
+ghost use Rattle.frz_game.specs.Bounds.{IsTableOf, IsBoundAt};
+ghost use Rattle.frz_game.specs.Games.{chess};
+ghost use Rattle.frz_game.specs.ExactTables.{AreDecidedOutside};
+ghost use Rattle.frz_game.specs.Values.{AreTrueExits, IsTrueValue};
+ghost use Rattle.frz_chain.specs.Books.{Back, back_value, chain_value};
+ghost use Rattle.frz_chain.specs.Transfer.{TellsChess};
+ghost use Rattle.frz_backs.specs.Decided.{AreLinesOrTables, HasBothOutcomes};
+ghost use Rattle.frz_backs.specs.LinkPlies.{AreWithinPlies, OwnWinsNumbered, longest_over};
+ghost use Rattle.frz_backs.specs.Links.{AreExact, AreTrueLines, Link, backs_of};
+ghost use Rattle.frz_backs.specs.Values.{atlas_value};
+
+/// With no table behind them the exit lines alone tell the value, and with one it is the value of a
+/// chain.
+pub fn few_tables()
+    ensures none { (rules : RuleLines) (q : Board) → atlas_value rules [] q ≡ value_by rules q }
+    ensures one { (rules : RuleLines) (back : Back) (q : Board) →
+        atlas_value rules (back ∷ []) q ≡ chain_value rules back q }
+{}
+
+/// Where each table is exact, over those before it if it leans on them, and the exit lines of each
+/// are true, all that the tables tell is true.
+pub fn tables_tell_true()
+    ensures { (links : List Link) → AreExact links → AreTrueLines links → (q : Board) →
+        All (λ back. IsTrueValue (back_value back q) q) (backs_of links) }
+{}
+
+/// And so are the values of the exits of rules over them whose own lines are true.
+pub fn exits_over_tables_true()
+    ensures { (rules : RuleLines) (links : List Link) → AreExact links → AreTrueLines links →
+        AreTrueExits rules (value_by rules) →
+        AreTrueExits rules (atlas_value rules (backs_of links)) }
+{}
+
+/// The codes of a table over them say of chess what they say of the restricted game.
+pub fn codes_over_tables_tell()
+    ensures { (rules : RuleLines) (links : List Link) → AreExact links → AreTrueLines links →
+        AreTrueExits rules (value_by rules) → (side : Colour) (codes : List ℕ) →
+        IsTableOf rules (atlas_value rules (backs_of links)) side codes →
+        TellsChess rules (atlas_value rules (backs_of links)) side codes }
+{}
+
+/// A win of a table over them forces mate within its own plies and the longest win behind it.
+pub fn plies_over_tables()
+    ensures { (rules : RuleLines) (links : List Link) → AreExact links → AreTrueLines links →
+        AreTrueExits rules (value_by rules) → (side : Colour) →
+        OwnWinsNumbered rules (atlas_value rules (backs_of links)) side →
+        (most : Link → ℕ) → AreWithinPlies [] links side most →
+        (n : ℕ) (p : Board) →
+        IsBoundAt rules (atlas_value rules (backs_of links)) side p (Wins n) →
+        ForcesMate chess side (n + longest_over 0 links most) p }
+{}
+
+/// Where the outcomes of the tables are those of chess, and each way out of the set is decided by
+/// an exit line or lies in the set of one of them, each value outside decides the game.
+pub fn tables_decide()
+    ensures { (rules : RuleLines) (links : List Link) → AreExact links →
+        All HasBothOutcomes links → AreLinesOrTables rules links →
+        AreDecidedOutside rules (atlas_value rules (backs_of links)) }
+{}
