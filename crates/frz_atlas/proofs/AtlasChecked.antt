@@ -1,0 +1,208 @@
+-- What is found of a table over several others, under its name and theirs.
+use Rattle.std.specs.Prelude.{map, sum_by}
+use Rattle.std.proofs.Common.{◌≡◌, ap, subst, ◌∙◌, ℕ, ◌+◌, ◌*◌, ◌≤◌, List, length, Option, Some, Ok, arith}
+use Rattle.std.proofs.lemmas.Simd.{map-map}
+use Rattle.frz_sets.specs.Sets.{size_of}
+use Rattle.frz_store.specs.Files.{Files}
+use Rattle.frz_store.specs.Told.{StoreTold}
+use Rattle.frz_table.specs.declared.fault.TableFault.{TableFault}
+use Rattle.frz_table.specs.declared.fault.TableFault.TheVariants.{Missing, Magic, Truncated, Extra, Rules, Size, Failed, NoMemory}
+use Rattle.frz_table.specs.declared.kind.FileKind.{FileKind}
+use Rattle.frz_table.specs.declared.kind.FileKind.TheVariants.{Atlas}
+use Rattle.frz_table.specs.Faults.{IsOutside}
+use Rattle.frz_table.specs.Layout.{pieces_of}
+use Rattle.frz_table.specs.Opening.{Contents, Refuses, contents_of, kept_text, opened, opening_calls, table_format}
+use Rattle.frz_table.specs.Possible.{MayOpen, MayRefuse}
+use Rattle.frz_table.specs.Tables.{Table, table_size}
+use Rattle.frz_table.proofs.Lemmas.{belongs, opened_calls, text_kept}
+use Rattle.frz_check.specs.Kept.{ChecksTable, IsVerdictOn, opened_size}
+use Rattle.frz_check.proofs.Lemmas.{file_opens}
+use Rattle.frz_chain.specs.Books.{Back}
+use Rattle.frz_backs.specs.Values.{atlas_value}
+use Rattle.frz_atlas.specs.Behind.{TableBytes, backs_in}
+use Rattle.frz_atlas.specs.Causes.{table_fault}
+use Rattle.frz_atlas.specs.Checking.{ChecksAtlas, IsRefusedAtlas, RefusesAtlas, WithinChecking, own_size, sizes_in}
+use Rattle.frz_atlas.specs.Costs.{WithinAll, bytes_of, calls_of, steps_of}
+use Rattle.frz_atlas.specs.Held.{MayHoldAll, all_held}
+use Rattle.frz_atlas.specs.Opening.{IsOneRefused, OpensAll, RefusesAll}
+use Rattle.frz_atlas.specs.declared.checking.Checked.{Checked}
+use Rattle.frz_atlas.specs.declared.fault.AtlasFault.{AtlasFault}
+use Rattle.frz_atlas.specs.declared.fault.AtlasFault.TheVariants as atlas
+use Rattle.frz_atlas.proofs.Behind.{may_hold_some, some_helds}
+
+-- a file that is refused is refused as a table
+file_refused : (held : Option (List ℕ)) (behind : List (Option (List ℕ))) (fault : TableFault)
+    → Refuses (opened (table_format Atlas) held) fault
+    → IsRefusedAtlas held behind (table_fault fault)
+file_refused held behind Missing h = h
+file_refused held behind Magic h = h
+file_refused held behind (Truncated length due) h = h
+file_refused held behind (Extra length due) h = h
+file_refused held behind (Rules fault) h = h
+file_refused held behind (Size kept due) h = h
+file_refused held behind Failed h = tt
+file_refused held behind NoMemory h = tt
+
+-- the table was not opened
+pub not_opened : (table : List ℕ) (behind : List (List ℕ)) (old new : StoreTold) (steps : ℕ)
+    (fault : TableFault) → MayRefuse (table_format Atlas) table old new fault
+    → RefusesAtlas table behind old new steps steps (table_fault fault)
+not_opened table behind old new steps fault h =
+    let others = some_helds old.files behind in record {
+      held = h.held;
+      may = h.may;
+      helds = others;
+      may_all = may_hold_some old.files behind;
+      refuses = file_refused h.held others fault h.refuses;
+      within = record {
+        steps = omega arith;
+        asked = (let a = h.asked in omega (arith, a));
+        calls = (let a = h.calls in omega (arith, a));
+      };
+    }
+
+-- what was spent is within the costs of all files
+within_all : (bytes : List ℕ) (contents : Contents) (helds : List (Option (List ℕ)))
+    (old mid then new : StoreTold) (steps_before steps_then steps_now : ℕ)
+    → opened (table_format Atlas) (Some bytes) ≡ Ok contents
+    → mid.asked ≤ old.asked + (16 + length contents.text) → mid.calls ≤ old.calls + 5
+    → WithinAll helds mid then steps_before steps_then
+    → new.asked ≤ then.asked + 8 * size_of contents.rules.groups
+    → new.calls ≤ then.calls + 2 * pieces_of (size_of contents.rules.groups)
+    → steps_now ≤ steps_then + size_of contents.rules.groups
+    → WithinChecking (Some bytes) helds old new steps_before steps_now
+within_all bytes contents helds old mid then new steps_before steps_then steps_now opens asked calls
+    h more_asked more_calls steps =
+    let file = belongs (table_format Atlas) bytes contents opens in
+    let text : length (kept_text bytes) ≡ length contents.text =
+    ap (length {A = ℕ}) (text_kept _ contents.text (size_of contents.rules.groups) bytes
+    file.file) in
+    let size : own_size (Some bytes) ≡ size_of contents.rules.groups = ap opened_size opens in
+    record {
+      steps = summed (sum_by steps_of helds) (own_size (Some bytes)) size h.steps;
+      asked = asked_all (length (kept_text bytes)) (sum_by bytes_of helds) (own_size (Some bytes))
+          text size h.asked;
+      calls = calls_all (opening_calls (table_format Atlas) (Some bytes)) (sum_by calls_of helds)
+          (pieces_of (own_size (Some bytes))) (opened_calls (table_format Atlas) bytes contents opens)
+          (ap pieces_of size) h.calls;
+    }
+  where
+    summed : (behind own : ℕ) → own ≡ size_of contents.rules.groups
+        → steps_then ≤ steps_before + behind → steps_now ≤ steps_before + (own + behind)
+    summed behind own is few = omega (arith, is, few, steps)
+
+    asked_all : (text behind own : ℕ) → text ≡ length contents.text
+        → own ≡ size_of contents.rules.groups → then.asked ≤ mid.asked + behind
+        → new.asked ≤ old.asked + (16 + text + 8 * own + behind)
+    asked_all text behind own same is few = omega (arith, same, is, few, asked, more_asked)
+
+    calls_all : (opening behind pieces : ℕ) → opening ≡ 5
+        → pieces ≡ pieces_of (size_of contents.rules.groups) → then.calls ≤ mid.calls + behind
+        → new.calls ≤ old.calls + (opening + 2 * pieces + behind)
+    calls_all opening behind pieces five is few = omega (arith, five, is, few, calls, more_calls)
+
+-- the table was opened, and one of those behind it refused
+behind_refused : (bytes : List ℕ) (contents : Contents) (helds : List (Option (List ℕ)))
+    (fault : AtlasFault) → opened (table_format Atlas) (Some bytes) ≡ Ok contents
+    → IsOneRefused helds fault → IsRefusedAtlas (Some bytes) helds fault
+behind_refused bytes contents helds (atlas.Back place fault) opens h = ((contents, opens), h)
+behind_refused bytes contents helds atlas.Failed opens h = tt
+behind_refused bytes contents helds atlas.NoMemory opens h = tt
+behind_refused bytes contents helds (atlas.Rules fault) opens h = absurd h
+behind_refused bytes contents helds (atlas.Table fault) opens h = absurd h
+
+-- all were opened, and the codes of the table were not loaded
+outside_refused : (held : Option (List ℕ)) (behind : List (Option (List ℕ))) (fault : TableFault)
+    → IsOutside fault → IsRefusedAtlas held behind (table_fault fault)
+outside_refused held behind Failed h = tt
+outside_refused held behind NoMemory h = tt
+outside_refused held behind Missing h = absurd h
+outside_refused held behind Magic h = absurd h
+outside_refused held behind (Truncated length due) h = absurd h
+outside_refused held behind (Extra length due) h = absurd h
+outside_refused held behind (Rules fault) h = absurd h
+outside_refused held behind (Size kept due) h = absurd h
+
+-- so many numbers has each of the tables that were loaded
+sizes_behind : (sizes : List ℕ) (loaded : List Back) (tables : List TableBytes)
+    → sizes ≡ map (λ back. size_of back.groups) loaded → loaded ≡ backs_in tables
+    → sizes ≡ sizes_in tables
+sizes_behind sizes loaded tables are keeps =
+    are ∙ ap (map (λ (b : Back). size_of b.groups)) keeps
+    ∙ map-map (λ (b : Back). size_of b.groups) _ tables
+
+-- the table was opened
+module _ (table : Table) (name : List ℕ) (behind : List (List ℕ)) (old mid : StoreTold)
+    (steps_before : ℕ)
+    (opens : MayOpen (table_format Atlas) old.files name (contents_of table))
+    (same : mid.files ≡ old.files) (asked : mid.asked ≤ old.asked + (16 + length table.text))
+    (calls : mid.calls ≤ old.calls + 5) where
+  pub back_refused : (new : StoreTold) (steps_now : ℕ) (fault : AtlasFault)
+      → RefusesAll behind mid new steps_before steps_now fault
+      → RefusesAtlas name behind old new steps_before steps_now fault
+  back_refused new steps_now fault h = record {
+    held = Some opens.bytes;
+    may = opens.may;
+    helds = h.helds;
+    may_all = subst (λ (o : Option Files). MayHoldAll o behind h.helds) same h.may;
+    refuses = behind_refused opens.bytes (contents_of table) h.helds fault opens.opens h.refuses;
+    within =
+        within_all opens.bytes (contents_of table) h.helds old mid new new steps_before steps_now
+        steps_now opens.opens asked calls h.within (omega arith) (omega arith) (omega arith);
+  }
+
+  -- and all of those behind it
+  module _ (loaded : List Back) (then new : StoreTold) (steps_then steps_now : ℕ)
+      (h : OpensAll behind loaded mid then steps_before steps_then)
+      (more_asked : new.asked ≤ then.asked + 8 * table_size table)
+      (more_calls : new.calls ≤ then.calls + 2 * pieces_of (table_size table))
+      (steps : steps_now ≤ steps_then + table_size table) where
+    held_before : MayHoldAll old.files behind (all_held h.tables)
+    held_before = subst (λ (o : Option Files). MayHoldAll o behind (all_held h.tables)) same h.may
+
+    within_opened : (bytes : List ℕ)
+        → opened (table_format Atlas) (Some bytes) ≡ Ok (contents_of table)
+        → WithinChecking (Some bytes) (all_held h.tables) old new steps_before steps_now
+    within_opened bytes given =
+        within_all bytes (contents_of table) (all_held h.tables) old mid
+        then new steps_before steps_then steps_now given asked calls h.within more_asked more_calls
+        steps
+
+    pub not_loaded : (fault : TableFault) → IsOutside fault
+        → RefusesAtlas name behind old new steps_before steps_now (table_fault fault)
+    not_loaded fault outside = record {
+      held = Some opens.bytes;
+      may = opens.may;
+      helds = all_held h.tables;
+      may_all = held_before;
+      refuses = outside_refused (Some opens.bytes) (all_held h.tables) fault outside;
+      within = within_opened opens.bytes opens.opens;
+    }
+
+    pub checked : then.files ≡ mid.files → table.kind ≡ Atlas → table.name ≡ name → (c : Checked)
+        → c.size ≡ table_size table
+        → c.behind.items ≡ map (λ back. size_of back.groups) loaded
+        → ChecksTable then.files table (atlas_value table.rules loaded) c.verdict
+        → ChecksAtlas name behind old new steps_before steps_now c
+    checked then_same kind named c size sizes told =
+        let contents : Contents = contents_of table in
+        let read = (belongs (table_format Atlas) opens.bytes contents opens.opens).read in
+        let there = file_opens Atlas table name told.bytes old.files then.files (then_same ∙ same)
+        kind named read told.may told.file in
+        record {
+          bytes = told.bytes;
+          may = there.0;
+          contents = contents;
+          opens = there.1;
+          tables = h.tables;
+          may_all = held_before;
+          exact = h.exact;
+          told =
+              subst (λ (k : FileKind). IsVerdictOn k
+              (atlas_value table.rules (backs_in h.tables)) contents told.bytes c.verdict) kind
+              (subst (λ (b : List Back). IsVerdictOn table.kind (atlas_value table.rules b) contents
+              told.bytes c.verdict) h.keeps told.told);
+          size = size;
+          sizes = sizes_behind c.behind.items loaded h.tables sizes h.keeps;
+          within = within_opened told.bytes there.1;
+        }

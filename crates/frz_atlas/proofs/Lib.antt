@@ -1,0 +1,12 @@
+pub mod Lemmas
+mod OwnKinds
+mod Causes
+mod Moved
+mod Opened
+mod Behind
+mod Names
+mod ExactTables
+mod StillHeld
+mod AtlasBuilt
+mod MovedBooks
+mod AtlasChecked

@@ -1,0 +1,57 @@
+-- Verdicts by equal rules, equal values and equal codes.
+use Rattle.std.proofs.Common.{◌≡◌, refl, subst, ℕ, List, map}
+use Rattle.frz_board.specs.Boards.{Board}
+use Rattle.frz_board.specs.declared.man.Colour.{Colour}
+use Rattle.frz_sets.specs.Views.{RuleLines}
+use Rattle.frz_sets.specs.declared.exit.Value.{Value}
+use Rattle.frz_exits.specs.Books.{value_by}
+use Rattle.frz_graph.specs.EntryCodes.{of_side}
+use Rattle.frz_table.specs.declared.kind.FileKind.{FileKind}
+use Rattle.frz_table.specs.declared.kind.FileKind.TheVariants.{Plain, Chained, Atlas}
+use Rattle.frz_check.specs.declared.verdict.Verdict.{Verdict}
+use Rattle.frz_check.specs.Verdicts.{IsVerdict}
+use Rattle.frz_chain.specs.Books.{Back}
+use Rattle.frz_chain.specs.FileOn.{loaded_back}
+use Rattle.frz_chain.specs.declared.back.BackTable.{BackTable}
+use Rattle.frz_backs.specs.Links.{value_over}
+use Rattle.frz_backs.specs.Values.{atlas_value}
+use Rattle.frz_atlas.specs.Opening.{leans_as}
+
+pub moved_rules : (r s : RuleLines) (value : Board → Value) (codes : Colour → List ℕ) (v : Verdict)
+    → r ≡ s → IsVerdict r value codes v → IsVerdict s value codes v
+moved_rules r s value codes v same h =
+    subst (λ (x : RuleLines). IsVerdict x value codes v) same h
+
+-- by a book of tables, where the kind is one that leans on them
+pub moved_leaning : (kind : FileKind) (r s : RuleLines) (a b : List BackTable)
+    (codes : Colour → List ℕ) (v : Verdict) → Atlas ≡ kind → r ≡ s → a ≡ b
+    → IsVerdict s (λ q. atlas_value r (map loaded_back a) q) codes v
+    → IsVerdict s (value_over (leans_as kind) s (map loaded_back b)) codes v
+moved_leaning kind r s a b codes v is rules backs h =
+    subst (λ (k : FileKind). IsVerdict s (value_over (leans_as k) s (map loaded_back b)) codes v) is
+    (subst (λ (l : List BackTable). IsVerdict s (λ q. atlas_value s (map loaded_back l) q) codes v)
+    backs
+    (subst (λ (x : RuleLines). IsVerdict s (λ q. atlas_value x (map loaded_back a) q) codes v)
+    rules h))
+
+-- by exit lines alone, where it does not
+pub moved_plain : (kind : FileKind) (r s : RuleLines) (before : List Back)
+    (codes : Colour → List ℕ) (v : Verdict) → (kind ≡ Atlas → ⊥) → r ≡ s
+    → IsVerdict s (λ q. value_by r q) codes v
+    → IsVerdict s (value_over (leans_as kind) s before) codes v
+moved_plain Plain r s before codes v other rules h =
+    subst (λ (x : RuleLines). IsVerdict s (λ q. value_by x q) codes v) rules h
+moved_plain Chained r s before codes v other rules h =
+    subst (λ (x : RuleLines). IsVerdict s (λ q. value_by x q) codes v) rules h
+moved_plain Atlas r s before codes v other rules h = absurd (other refl)
+
+-- by equal lists
+pub moved_codes : (rules : RuleLines) (value : Board → Value)
+    (white black white_slice black_slice : List ℕ) (v : Verdict)
+    → white_slice ≡ white → black_slice ≡ black
+    → IsVerdict rules value (λ side. of_side side white_slice black_slice) v
+    → IsVerdict rules value (λ side. of_side side white black) v
+moved_codes rules value white black white_slice black_slice v white_is black_is h =
+    subst (λ (l : List ℕ). IsVerdict rules value (λ side. of_side side white l) v) black_is
+    (subst (λ (l : List ℕ). IsVerdict rules value (λ side. of_side side l black_slice) v) white_is
+    h)

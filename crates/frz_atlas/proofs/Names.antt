@@ -1,0 +1,82 @@
+-- A step over names in order: those before a place, the one at it and those behind it.
+use Rattle.std.proofs.Common.{◌≡◌, sym, ap, subst, ◌∙◌, ℕ, suc, ◌+◌, ◌<◌, List, [], ◌∷◌, ◌++◌, length, map, take, drop, get_or, drop-cons, append_assoc}
+use Rattle.std.proofs.lemmas.List.{length-map, map-append, map_more, take-append-drop}
+use Rattle.frz_store.specs.Told.{StoreTold}
+use Rattle.frz_chain.specs.Books.{Back}
+use Rattle.frz_chain.specs.FileOn.{loaded_back}
+use Rattle.frz_chain.specs.declared.back.BackTable.{BackTable}
+use Rattle.frz_atlas.specs.Causes.{back_fault}
+use Rattle.frz_atlas.specs.Opening.{OpensAll, OpensOver, RefusesAll, RefusesOver}
+use Rattle.frz_atlas.specs.declared.fault.AtlasFault.TheVariants as atlas
+use Rattle.frz_atlas.specs.declared.fault.BackFault.{BackFault}
+use Rattle.frz_atlas.proofs.Behind.{memory_wanted, one_more, one_refused}
+
+module _ {A B : Type 0} (f : A → B) (xs : List A) (i : ℕ) (x : A) (h : i < length xs)
+    (is : x ≡ get_or xs i x) where
+  pub names_here : map f (take i xs) ++ (f x ∷ map f (drop (suc i) xs)) ≡ map f xs
+  names_here =
+      ap (λ (y : A). map f (take i xs) ++ (f y ∷ map f (drop (suc i) xs))) is
+      ∙ ap (λ (l : List A). map f (take i xs) ++ map f l) (sym (drop-cons xs i x h))
+      ∙ sym (map-append f (take i xs) (drop i xs))
+      ∙ ap (λ (l : List A). map f l) (take-append-drop i xs)
+
+  pub names_next : map f (take i xs) ++ (f x ∷ []) ≡ map f (take (i + 1) xs)
+  names_next =
+      ap (λ (y : A). map f (take i xs) ++ (f y ∷ [])) is ∙ sym (map_more f xs i x h)
+
+-- the name at a place is opened over the tables of those before it
+module _ {A : Type 0} (f : A → List ℕ) (names : List A) (i : ℕ) (x : A) (name : List ℕ)
+    (items slice : List BackTable) (old mid new : StoreTold)
+    (steps_before steps_between steps_now : ℕ) (inside : i < length names)
+    (is : x ≡ get_or names i x) (named : name ≡ f x) (sliced : slice ≡ items)
+    (h : OpensAll (map f (take i names)) (map loaded_back items) old mid steps_before steps_between)
+    (same : mid.files ≡ old.files) where
+  next_open : (back : Back)
+      → OpensOver (map loaded_back slice) name back mid new steps_between steps_now
+      → OpensAll (map f (take i names) ++ (f x ∷ [])) (map loaded_back items ++ (back ∷ [])) old new
+      steps_before steps_now
+  next_open back k =
+      one_more (map f (take i names)) (map loaded_back items) old mid new steps_before steps_between
+      steps_now (f x) h same back
+      (subst (λ (l : List BackTable). OpensOver (map loaded_back l) (f x) back mid new
+      steps_between steps_now) sliced
+      (subst (λ (n : List ℕ). OpensOver (map loaded_back slice) n back mid new
+      steps_between steps_now) named k))
+
+  pub opened_next : (given : BackTable) (pushed : List BackTable) → pushed ≡ items ++ (given ∷ [])
+      → OpensOver (map loaded_back slice) name (loaded_back given) mid new steps_between steps_now
+      → OpensAll (map f (take (i + 1) names)) (map loaded_back pushed) old new
+      steps_before steps_now
+  opened_next given pushed push k =
+      subst (λ (l : List (List ℕ)). OpensAll l (map loaded_back pushed) old new
+      steps_before steps_now) (names_next f names i x inside is)
+      (subst (λ (l : List Back). OpensAll (map f (take i names) ++ (f x ∷ [])) l old new
+      steps_before steps_now)
+      (sym (ap (λ (l : List BackTable). map loaded_back l) push
+      ∙ map-append loaded_back items (given ∷ [])))
+      (next_open (loaded_back given) k))
+
+  pub refused_here : (fault : BackFault) → length items ≡ i
+      → RefusesOver (map loaded_back slice) name mid new steps_between steps_now fault
+      → RefusesAll (map f names) old new steps_before steps_now (back_fault i fault)
+  refused_here fault many k =
+      subst (λ (l : List (List ℕ)). RefusesAll l old new steps_before steps_now
+      (back_fault i fault)) (names_here f names i x inside is)
+      (subst (λ (n : ℕ). RefusesAll (map f (take i names) ++ (f x ∷ map f (drop (suc i) names)))
+      old new steps_before steps_now (back_fault n fault)) (length-map items loaded_back ∙ many)
+      (one_refused (map f (take i names)) (map loaded_back items) old mid new steps_before
+      steps_between steps_now (f x) h same (map f (drop (suc i) names)) fault
+      (subst (λ (l : List BackTable). RefusesOver (map loaded_back l) (f x) mid new
+      steps_between steps_now fault) sliced
+      (subst (λ (n : List ℕ). RefusesOver (map loaded_back slice) n mid new
+      steps_between steps_now fault) named k))))
+
+  pub wanted_here : (back : Back)
+      → OpensOver (map loaded_back slice) name back mid new steps_between steps_now
+      → RefusesAll (map f names) old new steps_before steps_now atlas.NoMemory
+  wanted_here back k =
+      subst (λ (l : List (List ℕ)). RefusesAll l old new steps_before steps_now atlas.NoMemory)
+      (append_assoc (map f (take i names)) (f x ∷ []) (map f (drop (suc i) names))
+      ∙ names_here f names i x inside is)
+      (memory_wanted (map f (take i names) ++ (f x ∷ [])) (map f (drop (suc i) names))
+      (map loaded_back items ++ (back ∷ [])) old new steps_before steps_now (next_open back k))

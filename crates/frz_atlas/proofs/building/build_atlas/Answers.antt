@@ -1,0 +1,88 @@
+use Rattle.std.specs.Prelude.{map}
+use Rattle.std.specs.String.{string_bytes}
+use Rattle.std.proofs.Common.{◌∙◌, ◌≤◌, ℕ, length, refl, sym, ap, subst, Result, Ok, Err, IfErr, arith}
+use Rattle.std.proofs.lemmas.Result.{err_from_is_err_and}
+use Rattle.frz_rules.specs.declared.fault.RulesError.{RulesError}
+use Rattle.frz_sets.specs.Views.{RuleLines}
+use Rattle.frz_store.specs.Told.{store_of}
+use Rattle.frz_table.proofs.Lemmas.{read_short}
+use Rattle.frz_chain.specs.FileOn.{loaded_back}
+use Rattle.frz_atlas.specs.Building.{RefusesToBuild}
+use Rattle.frz_atlas.specs.Causes.{HasAtlasCause}
+use Rattle.frz_atlas.specs.declared.fault.AtlasFault.{AtlasFault}
+use Rattle.frz_atlas.proofs.AtlasBuilt.{built, moved_built, not_built, not_read, write_cause}
+use Rattle.frz_atlas.proofs.building.build_atlas.Goals as goal
+
+pub build_over-requires-clause-text : goal.build_over-requires-clause-text
+build_over-requires-clause-text g c =
+    let short : length c.args.text.now ≤ 65536 = read_short c.args.text.now c.in_ok-rules.rules
+    c.in_ok-rules.ensures.exact in omega (arith, short)
+
+pub returns-in_err-rules-clause-refused : goal.returns-in_err-rules-clause-refused
+returns-in_err-rules-clause-refused g c =
+    let err : RulesError → Result RuleLines RulesError = λ f. Err f in
+    let p = err_from_is_err_and c.from_residual.result c.from_residual.ensures.1 in
+    rw (p.1, p.2)
+    (not_read c.args.text.now (map string_bytes c.args.behind.now) c.args.name.now
+    (store_of g.S.Store c.args.store.now)
+    c.args.steps.now c.in_err-rules.field-0.0 c.in_err-rules.ensures.exact
+    (λ e. c.in_err-rules.ensures.memory (ap err e)))
+
+pub returns-in_err-build_over-clause-refused : goal.returns-in_err-build_over-clause-refused
+returns-in_err-build_over-clause-refused g c =
+    let old = store_of g.S.Store c.args.store.now in
+    let mid = store_of g.S.Store c.open_behind.new.store in
+    let new = store_of g.S.Store c.build_over.new.store in
+    let backs = c.in_ok-backs.ensures in
+    let over = c.in_err-build_over.ensures in
+    let err : AtlasFault → Result ℕ AtlasFault = λ f. Err f in
+    let p = err_from_is_err_and c.from_residual-in_err-build_over.result
+    c.from_residual-in_err-build_over.ensures.1 in
+    subst (λ (r : Result ℕ AtlasFault). IfErr r
+    (RefusesToBuild c.args.text.now (map string_bytes c.args.behind.now) c.args.name.now old new
+    c.args.steps.now c.build_over.new.steps))
+    (sym (p.1 ∙ ap err p.2))
+    (not_built c.args.text.now (map string_bytes c.args.behind.now) c.args.name.now
+    c.in_ok-rules.rules c.in_ok-rules.ensures.exact (map loaded_back c.in_ok-backs.backs.items) old
+    mid new c.args.steps.now c.open_behind.new.steps c.build_over.new.steps backs.quiet backs.cause
+    backs.opened over.cost over.asked over.calls c.in_err-build_over.field-0.0
+    (moved_built c.args.text.now c.in_ok-rules.rules c.in_ok-rules.rules
+    (map loaded_back c.deref.result.now) (map loaded_back c.in_ok-backs.backs.items) ℕ
+    c.args.name.now (Err c.in_err-build_over.field-0.0) mid new refl
+    (ap (map loaded_back) c.deref.ensures.value) over.built))
+
+pub returns-in_err-build_over-clause-cause : goal.returns-in_err-build_over-clause-cause
+returns-in_err-build_over-clause-cause g c =
+    let old = store_of g.S.Store c.args.store.now in
+    let mid = store_of g.S.Store c.open_behind.new.store in
+    let new = store_of g.S.Store c.build_over.new.store in
+    let backs = c.in_ok-backs.ensures in
+    let over = c.in_err-build_over.ensures in
+    let err : AtlasFault → Result ℕ AtlasFault = λ f. Err f in
+    let p = err_from_is_err_and c.from_residual-in_err-build_over.result
+    c.from_residual-in_err-build_over.ensures.1 in
+    subst (λ (r : Result ℕ AtlasFault). HasAtlasCause r old new) (sym (p.1 ∙ ap err p.2))
+    (write_cause c.args.text.now (map string_bytes c.args.behind.now) c.args.name.now
+    c.in_ok-rules.rules c.in_ok-rules.ensures.exact (map loaded_back c.in_ok-backs.backs.items) old
+    mid new c.args.steps.now c.open_behind.new.steps c.build_over.new.steps backs.quiet backs.cause
+    backs.opened over.cost over.asked over.calls c.in_err-build_over.field-0.0
+    (moved_built c.args.text.now c.in_ok-rules.rules c.in_ok-rules.rules
+    (map loaded_back c.deref.result.now) (map loaded_back c.in_ok-backs.backs.items) ℕ
+    c.args.name.now (Err c.in_err-build_over.field-0.0) mid new refl
+    (ap (map loaded_back) c.deref.ensures.value) over.built))
+
+pub returns-clause-built : goal.returns-clause-built
+returns-clause-built g c =
+    let old = store_of g.S.Store c.args.store.now in
+    let mid = store_of g.S.Store c.open_behind.new.store in
+    let new = store_of g.S.Store c.build_over.new.store in
+    let backs = c.in_ok-backs.ensures in
+    let over = c.in_ok-build_over.ensures in
+    built c.args.text.now (map string_bytes c.args.behind.now) c.args.name.now c.in_ok-rules.rules
+    c.in_ok-rules.ensures.exact (map loaded_back c.in_ok-backs.backs.items) old mid new
+    c.args.steps.now c.open_behind.new.steps c.build_over.new.steps backs.quiet backs.cause
+    backs.opened over.cost over.asked over.calls c.requires c.in_ok-build_over.field-0 over.size
+    (moved_built c.args.text.now c.in_ok-rules.rules c.in_ok-rules.rules
+    (map loaded_back c.deref.result.now) (map loaded_back c.in_ok-backs.backs.items) ℕ
+    c.args.name.now (Ok c.in_ok-build_over.field-0) mid new refl
+    (ap (map loaded_back) c.deref.ensures.value) over.built)

@@ -1,0 +1,93 @@
+-- Files of tables that stand behind others, from the left: each may lean on those before it.
+use Rattle.std.specs.Prelude.{◌≡◌, ℕ, zero, suc, List, [], ◌∷◌, ◌++◌, map, take, Bool, true, false, Option, None, Some, Ok, Err, ⊤}
+use Rattle.std.specs.Str.{bytes_eq}
+use Rattle.frz_game.specs.declared.wrong.Wrong.{Wrong as WrongEntry}
+use Rattle.frz_table.specs.declared.kind.FileKind.{FileKind}
+use Rattle.frz_table.specs.declared.kind.FileKind.TheVariants.{Plain, Atlas}
+use Rattle.frz_table.specs.Layout.{magic_of}
+use Rattle.frz_table.specs.Numbers.{AreBytes}
+use Rattle.frz_table.specs.Opening.{Contents, opened, table_format}
+use Rattle.frz_check.specs.declared.verdict.Verdict.{Verdict}
+use Rattle.frz_check.specs.declared.verdict.Verdict.TheVariants as verdicts
+use Rattle.frz_check.specs.Kept.{IsVerdictOn, kept_codes}
+use Rattle.frz_check.specs.Verdicts.{IsVerdict}
+use Rattle.frz_chain.specs.Books.{Back}
+use Rattle.frz_chain.specs.FileOn.{back_of}
+use Rattle.frz_backs.specs.Links.{Link, value_over}
+use Rattle.frz_atlas.specs.declared.fault.BackFault.{BackFault}
+use Rattle.frz_atlas.specs.declared.fault.BackFault.TheVariants.{Refused, Wrong}
+
+-- the bytes begin as a table that leans on others
+abbrev pub leans : List ℕ → Bool
+leans bytes = bytes_eq (take 8 bytes) (magic_of Atlas)
+
+-- as which kind the bytes are opened: as one that leans where they begin so, and else as a plain one
+abbrev pub kind_by : Bool → FileKind
+kind_by true = Atlas
+kind_by false = Plain
+
+abbrev pub kind_of : List ℕ → FileKind
+kind_of bytes = kind_by (leans bytes)
+
+abbrev pub kind_held : Option (List ℕ) → FileKind
+kind_held None = Plain
+kind_held (Some bytes) = kind_of bytes
+
+-- bytes with the text and the rules that they keep
+pub record TableBytes : Type 0 where
+  pub bytes : List ℕ
+  pub contents : Contents
+
+-- the table in them, with its rules, and whether it leans on those before it
+abbrev pub link_of : TableBytes → Link
+link_of t = record {
+  rules = t.contents.rules;
+  leans = leans t.bytes;
+  back = back_of t.contents t.bytes;
+}
+
+abbrev pub backs_in : List TableBytes → List Back
+backs_in tables = map (λ t. back_of t.contents t.bytes) tables
+
+-- the bytes open as a table of their kind, and this is the verdict on its codes, with its exit lines
+-- outside and, where it leans, the tables before it behind them; of bytes it says too whether they
+-- are the one file of their text
+pub record IsJudgedOver (before : List Back) (table : TableBytes) (verdict : Verdict) : Type 0 where
+  pub opens : opened (table_format (kind_of table.bytes)) (Some table.bytes) ≡ Ok table.contents
+  pub codes : IsVerdict table.contents.rules
+      (value_over (leans table.bytes) table.contents.rules before)
+      (kept_codes table.contents table.bytes) verdict
+  pub told : AreBytes table.bytes → IsVerdictOn (kind_of table.bytes)
+      (value_over (leans table.bytes) table.contents.rules before) table.contents table.bytes verdict
+
+-- each table is exact over those before it
+unfoldable pub AreJudgedOver : List Back → List TableBytes → Type 0
+AreJudgedOver before [] = ⊤
+AreJudgedOver before (table ∷ more) =
+    AreBytes table.bytes × IsJudgedOver before table verdicts.Exact
+    × AreJudgedOver (before ++ (back_of table.contents table.bytes ∷ [])) more
+
+-- and the first leans on none
+abbrev pub AreJudged : List TableBytes → Type 0
+AreJudged tables = AreJudgedOver [] tables
+
+-- the first entry of these bytes that is not its local code
+pub record HasWrongOver (before : List Back) (held : Option (List ℕ)) (wrong : WrongEntry) : Type 0 where
+  pub table : TableBytes
+  pub there : held ≡ Some table.bytes
+  pub judged : IsJudgedOver before table (verdicts.Wrong wrong)
+
+-- what a name holds is refused so as a table over these
+abbrev pub IsRefusedOver : List Back → Option (List ℕ) → BackFault → Type 0
+IsRefusedOver before held (Refused fault) = opened (table_format (kind_held held)) held ≡ Err fault
+IsRefusedOver before held (Wrong wrong) = HasWrongOver before held wrong
+
+-- of what the names hold, from the left, the one at this place is refused so, and all before it are
+-- exact, each over those before it
+unfoldable pub IsRefusedAt : List Back → List (Option (List ℕ)) → ℕ → BackFault → Type 0
+IsRefusedAt before [] place fault = ⊥
+IsRefusedAt before (held ∷ more) zero fault = IsRefusedOver before held fault
+IsRefusedAt before (held ∷ more) (suc place) fault =
+    (table : TableBytes) × (held ≡ Some table.bytes)
+    × IsJudgedOver before table verdicts.Exact
+    × IsRefusedAt (before ++ (back_of table.contents table.bytes ∷ [])) more place fault

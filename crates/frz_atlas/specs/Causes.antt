@@ -1,0 +1,52 @@
+-- The faults of tables over several others that come from the store, from memory, from a file or
+-- from the reader of rules.
+use Rattle.std.specs.Prelude.{ℕ, Result, Err, ⊤}
+use Rattle.frz_rules.specs.declared.fault.RulesError.{RulesError}
+use Rattle.frz_rules.specs.declared.fault.RulesError.TheVariants as reading
+use Rattle.frz_store.specs.Outside.{Rose}
+use Rattle.frz_store.specs.Told.{StoreTold, StoreFine}
+use Rattle.frz_store.specs.declared.outside.StoreFault.{StoreFault}
+use Rattle.frz_store.specs.declared.outside.StoreFault.TheVariants as store
+use Rattle.frz_table.specs.declared.fault.TableFault.{TableFault}
+use Rattle.frz_table.specs.declared.fault.TableFault.TheVariants as table
+use Rattle.frz_atlas.specs.declared.fault.AtlasFault.{AtlasFault}
+use Rattle.frz_atlas.specs.declared.fault.AtlasFault.TheVariants.{Rules, Table, Back, Failed, NoMemory}
+use Rattle.frz_atlas.specs.declared.fault.BackFault.{BackFault}
+use Rattle.frz_atlas.specs.declared.fault.BackFault.TheVariants as one
+
+abbrev pub fault_of : StoreFault → AtlasFault
+fault_of store.Failed = Failed
+fault_of store.NoMemory = NoMemory
+
+abbrev pub rules_fault : RulesError → AtlasFault
+rules_fault (reading.Bad fault) = Rules fault
+rules_fault reading.NoMemory = NoMemory
+
+-- a fault of the table's file
+abbrev pub table_fault : TableFault → AtlasFault
+table_fault table.Failed = Failed
+table_fault table.NoMemory = NoMemory
+table_fault fault = Table fault
+
+-- a fault of the file at this place behind it
+abbrev pub back_fault : ℕ → BackFault → AtlasFault
+back_fault place (one.Refused table.Failed) = Failed
+back_fault place (one.Refused table.NoMemory) = NoMemory
+back_fault place fault = Back place fault
+
+-- a failure has raised the count of faults, want of memory is free, and with any other answer no
+-- call of the store was refused
+abbrev pub HasFileCause : {T : Type 0} → Result T TableFault → StoreTold → StoreTold → Type 0
+HasFileCause (Err table.Failed) old new = Rose old.faults new.faults
+HasFileCause (Err table.NoMemory) old new = ⊤
+HasFileCause result old new = StoreFine old new
+
+abbrev pub HasOneCause : {T : Type 0} → Result T BackFault → StoreTold → StoreTold → Type 0
+HasOneCause (Err (one.Refused table.Failed)) old new = Rose old.faults new.faults
+HasOneCause (Err (one.Refused table.NoMemory)) old new = ⊤
+HasOneCause result old new = StoreFine old new
+
+abbrev pub HasAtlasCause : {T : Type 0} → Result T AtlasFault → StoreTold → StoreTold → Type 0
+HasAtlasCause (Err Failed) old new = Rose old.faults new.faults
+HasAtlasCause (Err NoMemory) old new = ⊤
+HasAtlasCause result old new = StoreFine old new

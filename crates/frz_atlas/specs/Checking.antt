@@ -1,0 +1,74 @@
+-- What is said of a table over several others, by what the names may hold.
+use Rattle.std.specs.Prelude.{◌≡◌, ◌≤◌, ◌+◌, ◌*◌, ℕ, List, [], length, map, sum_by, Option, Some, Ok, Err, ⊤}
+use Rattle.frz_sets.specs.Sets.{size_of}
+use Rattle.frz_store.specs.Told.{StoreTold}
+use Rattle.frz_table.specs.declared.kind.FileKind.TheVariants.{Atlas}
+use Rattle.frz_table.specs.Layout.{pieces_of}
+use Rattle.frz_table.specs.Opening.{Contents, opened, opening_calls, table_format}
+use Rattle.frz_table.specs.Possible.{MayHold, held_text}
+use Rattle.frz_check.specs.Kept.{IsVerdictOn, opened_size}
+use Rattle.frz_backs.specs.Values.{atlas_value}
+use Rattle.frz_atlas.specs.Behind.{AreJudged, IsRefusedAt, TableBytes, backs_in}
+use Rattle.frz_atlas.specs.Costs.{bytes_of, calls_of, steps_of}
+use Rattle.frz_atlas.specs.Held.{MayHoldAll, all_held}
+use Rattle.frz_atlas.specs.declared.checking.Checked.{Checked}
+use Rattle.frz_atlas.specs.declared.fault.AtlasFault.{AtlasFault}
+use Rattle.frz_atlas.specs.declared.fault.AtlasFault.TheVariants.{Rules, Table, Back, Failed, NoMemory}
+
+-- how many numbers each table has
+abbrev pub sizes_in : List TableBytes → List ℕ
+sizes_in tables = map (λ t. size_of t.contents.rules.groups) tables
+
+-- what the table that leans costs itself: to be opened, and its codes to be loaded and checked
+abbrev pub own_size : Option (List ℕ) → ℕ
+own_size held = opened_size (opened (table_format Atlas) held)
+
+-- no more than checking the table and all that it leans on costs
+pub record WithinChecking (held : Option (List ℕ)) (behind : List (Option (List ℕ)))
+    (old new : StoreTold) (steps_before steps_now : ℕ) : Type 0 where
+  pub steps : steps_now ≤ steps_before + (own_size held + sum_by steps_of behind)
+  pub asked : new.asked ≤
+      old.asked + (16 + length (held_text held) + 8 * own_size held + sum_by bytes_of behind)
+  pub calls : new.calls ≤
+      old.calls + (opening_calls (table_format Atlas) held + 2 * pieces_of (own_size held)
+      + sum_by calls_of behind)
+
+-- what the names may hold: the tables behind are exact, each over those before it, and this is the
+-- verdict on the table over them
+pub record ChecksAtlas (table : List ℕ) (behind : List (List ℕ)) (old new : StoreTold)
+    (steps_before steps_now : ℕ) (checked : Checked) : Type 0 where
+  pub bytes : List ℕ
+  pub may : MayHold old.files table (Some bytes)
+  pub contents : Contents
+  pub opens : opened (table_format Atlas) (Some bytes) ≡ Ok contents
+  pub tables : List TableBytes
+  pub may_all : MayHoldAll old.files behind (all_held tables)
+  pub exact : AreJudged tables
+  pub told : IsVerdictOn Atlas (atlas_value contents.rules (backs_in tables)) contents bytes
+      checked.verdict
+  pub size : checked.size ≡ size_of contents.rules.groups
+  pub sizes : checked.behind.items ≡ sizes_in tables
+  pub within : WithinChecking (Some bytes) (all_held tables) old new steps_before steps_now
+
+-- the file opens as a table that leans on others
+abbrev pub OpensAtlas : Option (List ℕ) → Type 0
+OpensAtlas held = (contents : Contents) × (opened (table_format Atlas) held ≡ Ok contents)
+
+-- the first file is refused so, or it opens and one of the others is refused so
+abbrev pub IsRefusedAtlas : Option (List ℕ) → List (Option (List ℕ)) → AtlasFault → Type 0
+IsRefusedAtlas held behind (Table fault) = opened (table_format Atlas) held ≡ Err fault
+IsRefusedAtlas held behind (Back place fault) =
+    OpensAtlas held × IsRefusedAt [] behind place fault
+IsRefusedAtlas held behind Failed = ⊤
+IsRefusedAtlas held behind NoMemory = ⊤
+IsRefusedAtlas held behind (Rules fault) = ⊥
+
+-- the names may hold what is refused so
+pub record RefusesAtlas (table : List ℕ) (behind : List (List ℕ)) (old new : StoreTold)
+    (steps_before steps_now : ℕ) (fault : AtlasFault) : Type 0 where
+  pub held : Option (List ℕ)
+  pub may : MayHold old.files table held
+  pub helds : List (Option (List ℕ))
+  pub may_all : MayHoldAll old.files behind helds
+  pub refuses : IsRefusedAtlas held helds fault
+  pub within : WithinChecking held helds old new steps_before steps_now

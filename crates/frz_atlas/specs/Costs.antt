@@ -1,0 +1,37 @@
+-- What it costs to open and to check files of tables that stand behind others.
+use Rattle.std.specs.Prelude.{ℕ, ◌+◌, ◌*◌, ◌≤◌, List, length, sum_by, Option}
+use Rattle.frz_store.specs.Told.{StoreTold}
+use Rattle.frz_table.specs.Layout.{pieces_of}
+use Rattle.frz_table.specs.Opening.{opened, table_format}
+use Rattle.frz_table.specs.Possible.{held_text}
+use Rattle.frz_check.specs.Kept.{opened_size}
+use Rattle.frz_atlas.specs.Behind.{kind_held}
+
+-- how many numbers the table has, and 0 where the file is refused
+abbrev pub size_held : Option (List ℕ) → ℕ
+size_held held = opened_size (opened (table_format (kind_held held)) held)
+
+-- a step for each number; the text, two codes a number and at most 24 bytes; the calls that load the
+-- codes, and at most seven that open the file, as a plain table first and then as one that leans
+abbrev pub steps_of : Option (List ℕ) → ℕ
+steps_of held = size_held held
+
+abbrev pub bytes_of : Option (List ℕ) → ℕ
+bytes_of held = 24 + length (held_text held) + 8 * size_held held
+
+abbrev pub calls_of : Option (List ℕ) → ℕ
+calls_of held = 7 + 2 * pieces_of (size_held held)
+
+-- no more than opening and checking one file costs
+pub record WithinOne (held : Option (List ℕ)) (old new : StoreTold)
+    (steps_before steps_now : ℕ) : Type 0 where
+  pub steps : steps_now ≤ steps_before + steps_of held
+  pub asked : new.asked ≤ old.asked + bytes_of held
+  pub calls : new.calls ≤ old.calls + calls_of held
+
+-- or all of them
+pub record WithinAll (helds : List (Option (List ℕ))) (old new : StoreTold)
+    (steps_before steps_now : ℕ) : Type 0 where
+  pub steps : steps_now ≤ steps_before + sum_by steps_of helds
+  pub asked : new.asked ≤ old.asked + sum_by bytes_of helds
+  pub calls : new.calls ≤ old.calls + sum_by calls_of helds

@@ -1,0 +1,99 @@
+-- What is found of tables that stand behind others, under their names.
+use Rattle.std.specs.Prelude.{◌≡◌, ◌≤◌, ◌+◌, ℕ, Bool, true, false, List, [], length, Option, Some, Result, Ok, Err, ⊤}
+use Rattle.frz_store.specs.Files.{Files}
+use Rattle.frz_store.specs.Told.{StoreTold}
+use Rattle.frz_table.specs.declared.fault.TableFault.{TableFault}
+use Rattle.frz_table.specs.declared.fault.TableFault.TheVariants.{Failed, NoMemory}
+use Rattle.frz_table.specs.declared.kind.FileKind.{FileKind}
+use Rattle.frz_table.specs.declared.kind.FileKind.TheVariants.{Plain, Chained, Atlas}
+use Rattle.frz_table.specs.Numbers.{AreBytes}
+use Rattle.frz_table.specs.Opening.{Contents, Refuses, opened, table_format}
+use Rattle.frz_table.specs.Possible.{MayHold, held_text}
+use Rattle.frz_check.specs.declared.verdict.Verdict.{Verdict}
+use Rattle.frz_check.specs.declared.verdict.Verdict.TheVariants.{Exact, Wrong as WrongCodes}
+use Rattle.frz_chain.specs.Books.{Back}
+use Rattle.frz_chain.specs.FileOn.{back_of, loaded_back}
+use Rattle.frz_chain.specs.declared.back.BackTable.{BackTable}
+use Rattle.frz_atlas.specs.Behind.{AreJudged, IsJudgedOver, IsRefusedAt, IsRefusedOver, TableBytes, backs_in, kind_by, kind_held, kind_of}
+use Rattle.frz_atlas.specs.Costs.{WithinAll, WithinOne}
+use Rattle.frz_atlas.specs.Held.{MayHoldAll, all_held}
+use Rattle.frz_atlas.specs.declared.fault.AtlasFault.{AtlasFault}
+use Rattle.frz_atlas.specs.declared.fault.AtlasFault.TheVariants as atlas
+use Rattle.frz_atlas.specs.declared.fault.BackFault.{BackFault}
+use Rattle.frz_atlas.specs.declared.fault.BackFault.TheVariants as one
+
+-- whether a table of this kind leans on others
+abbrev pub leans_as : FileKind → Bool
+leans_as Atlas = true
+leans_as Plain = false
+leans_as Chained = false
+
+-- the kind is one of those as which files are opened here
+abbrev pub IsOwnKind : FileKind → Type 0
+IsOwnKind kind = kind ≡ kind_by (leans_as kind)
+
+-- the name may hold bytes that open so as their kind
+pub record MayOpenOwn (files : Option Files) (name : List ℕ) (contents : Contents) : Type 0 where
+  pub bytes : List ℕ
+  pub may : MayHold files name (Some bytes)
+  pub opens : opened (table_format (kind_of bytes)) (Some bytes) ≡ Ok contents
+
+-- the name may hold what is refused so as its kind, and no more bytes were asked for than open it
+pub record MayRefuseOwn (name : List ℕ) (old new : StoreTold) (fault : TableFault) : Type 0 where
+  pub held : Option (List ℕ)
+  pub may : MayHold old.files name held
+  pub refuses : Refuses (opened (table_format (kind_held held)) held) fault
+  pub asked : new.asked ≤ old.asked + (24 + length (held_text held))
+
+-- the table is given where the verdict on its codes is exact
+abbrev pub GivesBack : Back → Verdict → Result BackTable BackFault → Type 0
+GivesBack back verdict (Ok given) = (verdict ≡ Exact) × (loaded_back given ≡ back)
+GivesBack back verdict (Err (one.Wrong wrong)) = verdict ≡ WrongCodes wrong
+GivesBack back verdict (Err (one.Refused fault)) = ⊥
+
+-- the name may hold a table that is exact over those before it, and this is the table that it keeps
+pub record OpensOver (before : List Back) (name : List ℕ) (back : Back) (old new : StoreTold)
+    (steps_before steps_now : ℕ) : Type 0 where
+  pub table : TableBytes
+  pub may : MayHold old.files name (Some table.bytes)
+  pub are_bytes : AreBytes table.bytes
+  pub judged : IsJudgedOver before table Exact
+  pub keeps : back ≡ back_of table.contents table.bytes
+  pub within : WithinOne (Some table.bytes) old new steps_before steps_now
+
+-- the name may hold what is refused so, unless the store failed or memory was wanted
+abbrev pub MayBeRefused : List Back → Option (List ℕ) → BackFault → Type 0
+MayBeRefused before held (one.Refused Failed) = ⊤
+MayBeRefused before held (one.Refused NoMemory) = ⊤
+MayBeRefused before held fault = IsRefusedOver before held fault
+
+pub record RefusesOver (before : List Back) (name : List ℕ) (old new : StoreTold)
+    (steps_before steps_now : ℕ) (fault : BackFault) : Type 0 where
+  pub held : Option (List ℕ)
+  pub may : MayHold old.files name held
+  pub refuses : MayBeRefused before held fault
+  pub within : WithinOne held old new steps_before steps_now
+
+-- the names may hold tables that are exact, each over those before it, and these are the tables
+pub record OpensAll (names : List (List ℕ)) (backs : List Back) (old new : StoreTold)
+    (steps_before steps_now : ℕ) : Type 0 where
+  pub tables : List TableBytes
+  pub may : MayHoldAll old.files names (all_held tables)
+  pub exact : AreJudged tables
+  pub keeps : backs ≡ backs_in tables
+  pub within : WithinAll (all_held tables) old new steps_before steps_now
+
+-- one of the names may hold what is refused so, and those before it exact tables
+abbrev pub IsOneRefused : List (Option (List ℕ)) → AtlasFault → Type 0
+IsOneRefused helds (atlas.Back place fault) = IsRefusedAt [] helds place fault
+IsOneRefused helds atlas.Failed = ⊤
+IsOneRefused helds atlas.NoMemory = ⊤
+IsOneRefused helds (atlas.Rules fault) = ⊥
+IsOneRefused helds (atlas.Table fault) = ⊥
+
+pub record RefusesAll (names : List (List ℕ)) (old new : StoreTold)
+    (steps_before steps_now : ℕ) (fault : AtlasFault) : Type 0 where
+  pub helds : List (Option (List ℕ))
+  pub may : MayHoldAll old.files names helds
+  pub refuses : IsOneRefused helds fault
+  pub within : WithinAll helds old new steps_before steps_now

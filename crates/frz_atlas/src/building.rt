@@ -1,0 +1,96 @@
+//! A table over several others is built.
+ghost use Rattle.std.specs.Prelude.{◌≡◌, ◌≤◌, ◌<◌, ◌+◌, ◌*◌, ◌^◌, length, map, Contains, IfOk, IfErr, OnOk};
+ghost use Rattle.std.specs.String.{string_bytes};
+ghost use Rattle.frz_sets.specs.Sets.{size_of};
+ghost use Rattle.frz_sets.specs.Sound.{IsSound};
+ghost use Rattle.frz_store.specs.Told.{store_of};
+ghost use Rattle.frz_table.specs.declared.kind.FileKind.TheVariants.{Atlas};
+ghost use Rattle.frz_table.specs.Layout.{magic_of};
+ghost use Rattle.frz_build.specs.Building.{Builds, writing_calls};
+ghost use Rattle.frz_backs.specs.Values.{atlas_value};
+ghost use Rattle.frz_chain.specs.FileOn.{loaded_back};
+ghost use Rattle.frz_atlas.specs.Building.{BuildsAtlas, RefusesToBuild};
+ghost use Rattle.frz_atlas.specs.Causes.{HasAtlasCause};
+
+use crate::{AtlasFault, open_behind};
+use frz_backs::AtlasBook;
+use frz_build::{NewTable, build_table};
+use frz_chain::{BackTable, ReadRules};
+use frz_game::Game;
+use frz_game::laws::tables::tables;
+use frz_index::Set;
+use frz_rules::read_rules;
+use frz_steps::Steps;
+use frz_store::{Store, StoreFault};
+use frz_table::FileKind;
+use std::alloc::Global;
+use std::sync::ledger::Ledger;
+
+/// Builds the table of the rules over the tables under the name, and gives its size. All memory is
+/// taken before the file is created, and a file of that name is replaced.
+pub fn build_over<S: Store, L: Ledger>(
+    alloc: Global,
+    read: &ReadRules<'_>,
+    backs: &[BackTable],
+    name: &str,
+    store: &mut S,
+    steps: &mut Steps<L>,
+) -> Result<u32, StoreFault>
+    requires sound { IsSound read.now.rules.now }
+    requires text { length read.now.text.now < 2 ^ 32 }
+    ensures size { IfOk result (λ size. size ≡ size_of read.now.rules.now.groups) }
+    ensures built { Builds (magic_of Atlas) read.now.text.now read.now.rules.now
+        (atlas_value read.now.rules.now (map loaded_back backs.now)) name.now result
+        (store_of S.Store store.old) (store_of S.Store store.new) }
+    ensures room { OnOk result (S.room store.new ≡ 0) }
+    ensures asked { S.asked store.new ≡ S.asked store.old }
+    ensures calls { S.calls store.new
+        ≤ S.calls store.old + writing_calls (size_of read.now.rules.now.groups) }
+    ensures cost { steps.new ≤ steps.old + 4 * size_of read.now.rules.now.groups }
+    ensures later { steps.old ≤ steps.new }
+{
+    tables();
+    let Ok(set) = Set::new(alloc, read.rules) else {
+        return Err(StoreFault::NoMemory);
+    };
+    let game = Game {
+        set: &set,
+        rules: read.rules,
+        book: &AtlasBook::new(read.rules, backs),
+    };
+    let file = NewTable {
+        name,
+        kind: FileKind::Atlas,
+        text: read.text,
+    };
+    build_table(alloc, &game, &file, store, steps)
+}
+
+/// Reads the rules of the text, opens and checks the tables behind it from the left, and writes the
+/// one file of the text over them under the name, which is none of theirs. Gives the size. The text
+/// is read before a table is opened, and all memory is taken before the file is created.
+pub fn build_atlas<S: Store, L: Ledger>(
+    alloc: Global,
+    store: &mut S,
+    text: &[u8],
+    behind: &[String],
+    name: &str,
+    steps: &mut Steps<L>,
+) -> Result<u32, AtlasFault>
+    requires { Contains (map string_bytes behind.now) name.now → ⊥ }
+    ensures built { IfOk result (BuildsAtlas text.now (map string_bytes behind.now) name.now
+        (store_of S.Store store.old) (store_of S.Store store.new) steps.old steps.new) }
+    ensures refused { IfErr result (RefusesToBuild text.now (map string_bytes behind.now) name.now
+        (store_of S.Store store.old) (store_of S.Store store.new) steps.old steps.new) }
+    ensures room { OnOk result (S.room store.new ≡ 0) }
+    ensures later { steps.old ≤ steps.new }
+    ensures cause { HasAtlasCause result (store_of S.Store store.old) (store_of S.Store store.new) }
+{
+    let rules = read_rules(alloc, text)?;
+    let backs = open_behind(alloc, store, behind, steps)?;
+    let read = ReadRules {
+        text,
+        rules: &rules,
+    };
+    Ok(build_over(alloc, &read, &backs, name, store, steps)?)
+}

@@ -1,0 +1,16 @@
+//! Table files over several others: where the exit lines of a text say nothing of a position, the
+//! first of these tables tells its value whose set holds it. Each was checked before, over those
+//! that stand before it.
+#![tactic(auto)]
+
+mod building;
+mod checking;
+mod fault;
+mod kinds;
+pub mod laws;
+mod opening;
+
+pub use building::{build_atlas, build_over};
+pub use checking::{Checked, check_atlas};
+pub use fault::{AtlasFault, BackFault};
+pub use opening::{open_behind, open_over};

@@ -1,0 +1,193 @@
+//! The tables behind another: opened, loaded and checked from the left, each over those before it.
+ghost use Rattle.std.specs.Prelude.{◌≡◌, ◌≤◌, ◌+◌, ◌*◌, length, map, IfOk, IfErr};
+ghost use Rattle.std.specs.String.{string_bytes};
+ghost use Rattle.frz_graph.specs.EntryCodes.{of_side};
+ghost use Rattle.frz_store.specs.Told.{store_of, StoreQuiet};
+ghost use Rattle.frz_table.specs.Faults.{IsOutside};
+ghost use Rattle.frz_table.specs.Layout.{pieces_of};
+ghost use Rattle.frz_table.specs.Possible.{MayKeep};
+ghost use Rattle.frz_table.specs.Tables.{Carries, table_size};
+ghost use Rattle.frz_check.specs.Verdicts.{IsVerdict};
+ghost use Rattle.frz_chain.specs.Books.{back_with};
+ghost use Rattle.frz_chain.specs.FileOn.{loaded_back};
+ghost use Rattle.frz_backs.specs.Links.{value_over};
+ghost use Rattle.frz_atlas.specs.Causes.{HasAtlasCause, HasFileCause, HasOneCause};
+ghost use Rattle.frz_atlas.specs.Opening.{GivesBack, OpensAll, OpensOver, RefusesAll, RefusesOver, leans_as};
+
+use crate::kinds::open_own;
+use crate::{AtlasFault, BackFault};
+use frz_backs::AtlasBook;
+use frz_chain::BackTable;
+use frz_check::{Verdict, check_entries};
+use frz_exits::{ExitBook, RuleBook};
+use frz_game::{Game, Pair};
+use frz_steps::Steps;
+use frz_store::Store;
+use frz_table::{FileKind, TableFault, TableFile};
+use std::alloc::Global;
+use std::sync::ledger::Ledger;
+
+/// The codes of a table with the verdict on them.
+#[derive(Drop)]
+struct Loaded {
+    white: Vec<u32>,
+    black: Vec<u32>,
+    verdict: Verdict,
+}
+
+/// The verdict on these codes of the table, with the values of a book outside its set.
+fn verdict_by<B: ExitBook, L: Ledger>(
+    table: &TableFile,
+    book: &B,
+    white: &[u32],
+    black: &[u32],
+    steps: &mut Steps<L>,
+) -> Verdict
+    requires white { length white.now ≡ table_size table.now }
+    requires black { length black.now ≡ table_size table.now }
+    ensures verdict { IsVerdict table.now.rules (B.value_at book.now)
+        (λ side. of_side side white.now black.now) result }
+    ensures steps { steps.new ≤ steps.old + table_size table.now }
+    ensures later { steps.old ≤ steps.new }
+{
+    let game = Game {
+        set: table.set(),
+        rules: table.rules(),
+        book,
+    };
+    let entries = Pair { white, black };
+    check_entries(&game, &entries, steps)
+}
+
+/// The verdict on these codes of the table by its exit lines and, where it leans on others, by the
+/// tables before it.
+fn verdict_over<L: Ledger>(
+    table: &TableFile,
+    before: &[BackTable],
+    white: &[u32],
+    black: &[u32],
+    steps: &mut Steps<L>,
+) -> Verdict
+    requires white { length white.now ≡ table_size table.now }
+    requires black { length black.now ≡ table_size table.now }
+    ensures verdict { IsVerdict table.now.rules
+        (value_over (leans_as table.now.kind) table.now.rules (map loaded_back before.now))
+        (λ side. of_side side white.now black.now) result }
+    ensures steps { steps.new ≤ steps.old + table_size table.now }
+    ensures later { steps.old ≤ steps.new }
+{
+    match table.kind() {
+        FileKind::Atlas => {
+            let book = AtlasBook::new(table.rules(), before);
+            verdict_by(table, &book, white, black, steps)
+        }
+        _ => verdict_by(table, &RuleBook::new(table.rules()), white, black, steps),
+    }
+}
+
+/// Loads the codes of an open table and checks them, over the tables before it where it leans on
+/// them.
+fn load_checked<S: Store, L: Ledger>(
+    alloc: Global,
+    table: &TableFile,
+    before: &[BackTable],
+    store: &mut S,
+    steps: &mut Steps<L>,
+) -> Result<Loaded, TableFault>
+    requires { Carries (S.files store.old) table.now }
+    ensures kept { IfOk result
+        (λ l. MayKeep (S.files store.old) table.now l.white.items l.black.items) }
+    ensures verdict { IfOk result (λ l. IsVerdict table.now.rules
+        (value_over (leans_as table.now.kind) table.now.rules (map loaded_back before.now))
+        (λ side. of_side side l.white.items l.black.items) l.verdict) }
+    ensures white_many { IfOk result (λ l. length l.white.items ≡ table_size table.now) }
+    ensures black_many { IfOk result (λ l. length l.black.items ≡ table_size table.now) }
+    ensures outside { IfErr result IsOutside }
+    ensures quiet { StoreQuiet (store_of S.Store store.old) (store_of S.Store store.new) }
+    ensures asked { S.asked store.new ≤ S.asked store.old + 8 * table_size table.now }
+    ensures calls { S.calls store.new ≤ S.calls store.old + 2 * pieces_of (table_size table.now) }
+    ensures steps { steps.new ≤ steps.old + table_size table.now }
+    ensures later { steps.old ≤ steps.new }
+    ensures cause { HasFileCause result (store_of S.Store store.old) (store_of S.Store store.new) }
+{
+    let (white, black) = table.load(alloc, store)?;
+    let verdict = verdict_over(table, before, &white, &black, steps);
+    Ok(Loaded {
+        white,
+        black,
+        verdict,
+    })
+}
+
+/// The table with its codes, where these are exact.
+fn exact_back(table: TableFile, loaded: Loaded) -> Result<BackTable, BackFault>
+    requires white { length loaded.white.items ≡ table_size table }
+    requires black { length loaded.black.items ≡ table_size table }
+    ensures { GivesBack (back_with table.rules.groups loaded.white.items loaded.black.items)
+        loaded.verdict result }
+{
+    match loaded.verdict {
+        Verdict::Exact => Ok(BackTable {
+            table,
+            white: loaded.white,
+            black: loaded.black,
+        }),
+        Verdict::Wrong(wrong) => Err(BackFault::Wrong(wrong)),
+    }
+}
+
+/// Opens the table of this name, loads its codes and checks them, over the tables before it where it
+/// leans on them.
+pub fn open_over<S: Store, L: Ledger>(
+    alloc: Global,
+    store: &mut S,
+    name: &str,
+    before: &[BackTable],
+    steps: &mut Steps<L>,
+) -> Result<BackTable, BackFault>
+    ensures opened { IfOk result (λ back. OpensOver (map loaded_back before.now) name.now
+        (loaded_back back) (store_of S.Store store.old) (store_of S.Store store.new)
+        steps.old steps.new) }
+    ensures refused { IfErr result (RefusesOver (map loaded_back before.now) name.now
+        (store_of S.Store store.old) (store_of S.Store store.new) steps.old steps.new) }
+    ensures quiet { StoreQuiet (store_of S.Store store.old) (store_of S.Store store.new) }
+    ensures later { steps.old ≤ steps.new }
+    ensures cause { HasOneCause result (store_of S.Store store.old) (store_of S.Store store.new) }
+{
+    let table = match open_own(alloc, store, name) {
+        Ok(table) => table,
+        Err(fault) => return Err(BackFault::Refused(fault)),
+    };
+    match load_checked(alloc, &table, before, store, steps) {
+        Ok(loaded) => exact_back(table, loaded),
+        Err(fault) => Err(BackFault::Refused(fault)),
+    }
+}
+
+/// Opens the tables of these names from the left, loads their codes and checks them, each over those
+/// before it.
+pub fn open_behind<S: Store, L: Ledger>(
+    alloc: Global,
+    store: &mut S,
+    names: &[String],
+    steps: &mut Steps<L>,
+) -> Result<Vec<BackTable>, AtlasFault>
+    ensures opened { IfOk result (λ backs. OpensAll (map string_bytes names.now)
+        (map loaded_back backs.items) (store_of S.Store store.old) (store_of S.Store store.new)
+        steps.old steps.new) }
+    ensures refused { IfErr result (RefusesAll (map string_bytes names.now)
+        (store_of S.Store store.old) (store_of S.Store store.new) steps.old steps.new) }
+    ensures quiet { StoreQuiet (store_of S.Store store.old) (store_of S.Store store.new) }
+    ensures later { steps.old ≤ steps.new }
+    ensures cause { HasAtlasCause result (store_of S.Store store.old) (store_of S.Store store.new) }
+{
+    let mut backs = Vec::new(alloc);
+    for (place, name) in names.iter().enumerate() {
+        let back = match open_over(alloc, store, name, &backs, steps) {
+            Ok(back) => back,
+            Err(fault) => return Err(AtlasFault::of_back(place, fault)),
+        };
+        backs.push(back)?;
+    }
+    Ok(backs)
+}
