@@ -1,0 +1,333 @@
+-- How `build` ends, by what was read of the rules and found of the tables behind.
+use Rattle.std.proofs.Common.{◌≡◌, ◌⊎◌, inl, inr, refl, sym, ap, subst, ◌∙◌, ℕ, ◌+◌, ◌*◌, ◌≤◌, List, [], ◌∷◌, length, take, Option, Some, Result, Err, Ok, arith, false}
+use Rattle.std.specs.Prelude.{map, sum_by, OnSome}
+use Rattle.std.specs.Option.{option_map}
+use Rattle.frz_rules.specs.Text.{rules_of}
+use Rattle.frz_rules.specs.declared.fault.RulesFault.{RulesFault}
+use Rattle.frz_sets.specs.Sets.{size_of}
+use Rattle.frz_sets.specs.Views.{RuleLines}
+use Rattle.frz_store.specs.Files.{Files, put}
+use Rattle.frz_store.specs.Outside.{Rose}
+use Rattle.frz_store.specs.Told.{StoreTold, SourceTold, SinkTold, StoreFine, StoreQuiet}
+use Rattle.frz_store.specs.Writes.{Wrote, WrotePart}
+use Rattle.frz_store.specs.declared.outside.StoreFault.TheVariants as store_faults
+use Rattle.frz_store.proofs.Lemmas.{later_store}
+use Rattle.frz_table.proofs.Lemmas.{fine_after, quiet_after}
+use Rattle.frz_table.specs.Possible.{MayHold}
+use Rattle.frz_build.specs.Building.{writing_calls}
+use Rattle.frz_answer.specs.declared.end.End.{End}
+use Rattle.frz_answer.specs.declared.status.Status.TheVariants as statuses
+use Rattle.frz_answer.specs.Answers.{says}
+use Rattle.frz_answer.specs.Ends.{Ran, Said}
+use Rattle.frz_answer.specs.Jobs.{Costs, WithinCosts}
+use Rattle.frz_answer.specs.Statuses.{OneOf}
+use Rattle.frz_answer.specs.World.{World, world, Agrees, spent}
+use Rattle.frz_answer.proofs.Lemmas.{Begun, Found, fine_store, not_written, quiet_both, wrote_it}
+use Rattle.frz_prelude.specs.Refusals.{status_of}
+use Rattle.frz_prelude.specs.Replies.{built_line}
+use Rattle.frz_prelude.specs.RulesFiles.{GivesText, IsTextRead, asked_of, or_fault, reads_of}
+use Rattle.frz_prelude.specs.declared.refused.Refused.{Refused as Refusal}
+use Rattle.frz_prelude.specs.declared.rules_at.RulesText.{RulesText}
+use Rattle.frz_prelude.specs.declared.stop.Stop.{Stop}
+use Rattle.frz_prelude.specs.declared.stop.Stop.TheVariants as stops
+use Rattle.frz_prelude.proofs.Lemmas.{StopsWith, found_where, of_rules, table_own}
+use Rattle.frz_atlas.specs.Behind.{IsRefusedAt, TableBytes, backs_in}
+use Rattle.frz_atlas.specs.Building.{BuildsAtlas, FailsWriting, IsNotBuilt, RefusesToBuild, WithinBuilding, if_read}
+use Rattle.frz_atlas.specs.Building.{size_by as text_size}
+use Rattle.frz_atlas.specs.Causes.{HasAtlasCause}
+use Rattle.frz_atlas.specs.Costs.{bytes_of, calls_of, steps_of}
+use Rattle.frz_atlas.specs.FileOver.{IsFileOver}
+use Rattle.frz_atlas.specs.Held.{MayHoldAll, all_held}
+use Rattle.frz_atlas.specs.declared.fault.AtlasFault.{AtlasFault}
+use Rattle.frz_atlas.specs.declared.fault.AtlasFault.TheVariants.{Rules, Table, Back, Failed, NoMemory}
+use Rattle.frz_atlas.specs.declared.fault.BackFault.{BackFault}
+use Rattle.frz_atlas.specs.declared.fault.BackFault.TheVariants.{Refused, Wrong}
+use Rattle.frz_commands_atlas.specs.declared.names.TheConstants.{MOST_BACKS}
+use Rattle.frz_commands_atlas.specs.BackLines.{back_status}
+use Rattle.frz_commands_atlas.specs.Building.{IsBuiltAt, build_costs, building_at, if_rules, made, no_back, no_rules, size_by}
+use Rattle.frz_commands_atlas.specs.Ending.{EndsAt, HasSmallPlace}
+use Rattle.frz_commands_atlas.specs.Names.{has_twice}
+use Rattle.frz_commands_atlas.specs.Tables.{AreTablesIn}
+use Rattle.frz_commands_atlas.proofs.BuildOnce.{held_rules, some_build}
+use Rattle.frz_commands_atlas.proofs.Ended.{ended_at}
+use Rattle.frz_commands_atlas.proofs.HeldNames.{HoldingAll, as_many, holding_all, judged_exact, may_hold_first, may_hold_there, place_below, same_first, same_rest, without_second}
+
+-- each end has a status of `build`
+pub own_stop : (rules table : List ℕ) (behind : List (List ℕ)) (held : Option (List ℕ))
+    (stop : Stop) → GivesText held (Err stop) → (why : Refusal) → stop ≡ stops.Refused why
+    → OneOf (status_of why) (building_at rules table behind).statuses
+own_stop rules table behind held stop due why is =
+    of_rules (λ (w : Refusal). OneOf (status_of w) (building_at rules table behind).statuses) held
+    why (subst (λ (s : Stop). GivesText held (Err s)) is due) refl (λ fault. refl)
+
+own_back : (fault : BackFault) (rules table : List ℕ) (behind : List (List ℕ))
+    → OneOf (back_status fault) (building_at rules table behind).statuses
+own_back (Refused fault) rules table behind =
+    table_own fault (building_at rules table behind).statuses refl refl
+own_back (Wrong wrong) rules table behind = refl
+
+-- where the rules file was not read
+pub stopped_at : (rules table : List ℕ) (behind : List (List ℕ)) (stop : Stop) (files : Files)
+    (input : List ℕ) (old new : World) → IsTextRead rules (Err stop) old.store new.store
+    → new.steps ≤ old.steps → Agrees old files input
+    → StopsWith (building_at rules table behind) stop files input old new
+stopped_at rules table behind (stops.Refused why) files input old new read steps agrees = record {
+  found = found_where (building_at rules table behind) read.files files input old (λ e. cc)
+      read.agrees agrees;
+  answer = no_rules (record { why = why; refused = read.due; told = refl });
+  costs = (let a = read.calls in let b = read.asked in record {
+    steps = omega (arith, steps);
+    calls = omega (arith, a);
+    asked = omega (arith, b);
+  });
+}
+stopped_at rules table behind (stops.Fault fault) files input old new read steps agrees = record {
+  found = found_where (building_at rules table behind) read.files files input old (λ e. cc)
+      read.agrees agrees;
+  some = some_build rules table behind read.files;
+  costs = (let a = read.calls in let b = read.asked in record {
+    steps = omega (arith, steps);
+    calls = omega (arith, a);
+    asked = omega (arith, b);
+  });
+}
+
+-- what was written after calls that wrote nothing
+wrote_after : (name bytes : List ℕ) (old mid new : StoreTold) → StoreQuiet old mid
+    → Wrote name bytes mid new → Wrote name bytes old new
+wrote_after name bytes old mid new quiet h = record {
+  files = h.files ∙ ap (λ (o : Option Files). option_map (λ m. put m name bytes) o)
+      quiet.unwritten.files;
+  last = subst (λ (o : Option Files). OnSome o (new.last ≡ Some name)) quiet.unwritten.files h.last;
+  later = later_store old mid new quiet.later h.later;
+}
+
+part_after : (name whole : List ℕ) (old mid new : StoreTold) → StoreQuiet old mid
+    → WrotePart name whole mid new → WrotePart name whole old new
+part_after name whole old mid new quiet h = record {
+  files = subst (λ (o : Option Files). (new.files ≡ o)
+      ⊎ ((k : ℕ) × (new.files ≡ option_map (λ m. put m name (take k whole)) o)))
+      quiet.unwritten.files h.files;
+  later = later_store old mid new quiet.later h.later;
+}
+
+-- what is spent, by the rules that the file gives
+abbrev costs_by : Result RuleLines Refusal → Option (List ℕ) → List (Option (List ℕ)) → Costs
+costs_by read held behind = record {
+  steps = Some (if_rules read (sum_by steps_of behind + 4 * size_by read));
+  calls = Some (1 + reads_of held
+      + if_rules read (sum_by calls_of behind + writing_calls (size_by read)));
+  asked = Some (asked_of held + if_rules read (sum_by bytes_of behind));
+}
+
+module _ (rules table : List ℕ) (behind : List (List ℕ))
+    (apart : has_twice (rules ∷ table ∷ behind) ≡ false) (read : RulesText)
+    (old mid new : StoreTold) (before now : ℕ) (text_read : IsTextRead rules (Ok read) old mid)
+    (quiet : StoreQuiet old mid) (fine : StoreFine old mid) (later : before ≤ now) where
+  abbrev text : List ℕ
+  text = read.text.items
+
+  abbrev lines : RuleLines
+  lines = read.rules
+
+  accepted : rules_of text ≡ Ok lines
+  accepted = text_read.due.1
+
+  -- files that hold what the names may hold
+  record Holds (helds : List (Option (List ℕ))) : Type 0 where
+    pub all : HoldingAll old.files (rules ∷ behind) (Some text ∷ helds)
+    pub here : all.files rules ≡ Some text
+    pub others : map all.files behind ≡ helds
+
+  holds : (helds : List (Option (List ℕ))) → MayHoldAll mid.files behind helds → Holds helds
+  holds helds may =
+      let first = subst (λ (x : Option (List ℕ)). MayHold old.files rules x) text_read.due.0
+      (may_hold_there old.files text_read.files rules text_read.agrees) in
+      let rest = subst (λ (o : Option Files). MayHoldAll o behind helds) quiet.unwritten.files may in
+      let all = holding_all old.files (rules ∷ behind) (Some text ∷ helds)
+      (without_second rules table behind apart)
+      (may_hold_first old.files rules (Some text) behind helds first rest) in
+      record {
+        all = all;
+        here = same_first (all.files rules) (Some text) (map all.files behind) helds all.hold;
+        others = same_rest (all.files rules) (Some text) (map all.files behind) helds all.hold;
+      }
+
+  module _ (input : SourceTold) (out : SinkTold) where
+    abbrev start : World
+    start = world old input out before
+
+    abbrev done : World
+    done = world new input out now
+
+    spends : (helds : List (Option (List ℕ))) (h : Holds helds)
+        → WithinBuilding text helds mid new before now
+        → WithinCosts (build_costs (h.all.files rules) (map h.all.files behind)) (spent start)
+        (spent done)
+    spends helds h within =
+        let steps = subst (λ (x : Result RuleLines RulesFault). now ≤ before + if_read x
+        (sum_by steps_of helds + 4 * text_size x)) accepted within.steps in
+        let asked = subst (λ (x : Result RuleLines RulesFault). new.asked ≤ mid.asked + if_read x
+        (sum_by bytes_of helds)) accepted within.asked in
+        let calls = subst (λ (x : Result RuleLines RulesFault). new.calls ≤ mid.calls + if_read x
+        (sum_by calls_of helds + writing_calls (text_size x))) accepted within.calls in
+        let first_asked = subst (λ (x : Option (List ℕ)). mid.asked ≤ old.asked + asked_of x)
+        text_read.due.0 text_read.asked in
+        let first_calls = subst (λ (x : Option (List ℕ)). mid.calls ≤ old.calls + (1 + reads_of x))
+        text_read.due.0 text_read.calls in
+        let by_lines : WithinCosts (costs_by (Ok lines) (Some text) helds) (spent start)
+        (spent done) = record {
+          steps = steps;
+          calls = omega (arith, calls, first_calls);
+          asked = omega (arith, asked, first_asked);
+        } in
+        subst (λ (x : Option (List ℕ)). WithinCosts (build_costs x (map h.all.files behind))
+        (spent start) (spent done)) (sym h.here)
+        (subst (λ (l : List (Option (List ℕ))). WithinCosts (build_costs (Some text) l)
+        (spent start) (spent done)) (sym h.others)
+        (subst (λ (x : Result RuleLines Refusal). WithinCosts (costs_by x (Some text) helds)
+        (spent start) (spent done)) (sym (ap or_fault accepted)) by_lines))
+
+    abbrev found : (helds : List (Option (List ℕ))) (h : Holds helds) (files : Files)
+        (left : List ℕ) → Agrees start files left
+        → Found (building_at rules table behind) files left start
+    found helds h files left agrees =
+        found_where (building_at rules table behind) h.all.files files left start (λ e. cc)
+        h.all.agrees agrees
+
+    -- the table is made
+    is_made : (helds : List (Option (List ℕ))) (h : Holds helds) (tables : List TableBytes)
+        (bytes : List ℕ) (r : RuleLines) → rules_of text ≡ Ok r → helds ≡ all_held tables
+        → AreTablesIn helds tables → IsFileOver text r (backs_in tables) bytes
+        → IsBuiltAt rules table behind h.all.files
+        (says statuses.Success (built_line (size_of r.groups)) (put h.all.files table bytes))
+    is_made helds h tables bytes r reads there exact one = made (record {
+      text = text;
+      there = h.here;
+      lines = r;
+      accepted = reads;
+      tables = tables;
+      behind_it = subst (λ (l : List (Option (List ℕ))). AreTablesIn l tables) (sym h.others) exact;
+      bytes = bytes;
+      one_file = one;
+      told = refl;
+    })
+
+    pub made_so : (size : ℕ) (end : End) (after : SinkTold)
+        → BuildsAtlas text behind table mid new before now size → new.room ≡ 0
+        → Said statuses.Success (built_line size) end out after
+        → Ran (building_at rules table behind) end start (world new input after now)
+    made_so size end after b full told =
+        wrote_it (building_at rules table behind) table b.bytes start new now later refl refl
+        (built_line size) end after refl (wrote_after table b.bytes old mid new quiet b.written)
+        (fine_after old mid new fine b.fine) full told
+        (λ files left agrees.
+        let h = holds (all_held b.tables) b.may_all in
+        let whole = is_made (all_held b.tables) h b.tables b.bytes b.rules b.accepted refl
+        (record { there = refl; exact = judged_exact [] b.tables b.exact }) b.one_file in
+        record {
+          found = found (all_held b.tables) h files left agrees;
+          answer = subst (λ (n : ℕ). IsBuiltAt rules table behind h.all.files
+              (says statuses.Success (built_line n) (put h.all.files table b.bytes))) (sym b.sized)
+              whole;
+          costs = (let c = spends (all_held b.tables) h b.within in
+              record { steps = c.steps; calls = c.calls; asked = c.asked });
+        })
+
+    module _ (end : End) (after : SinkTold) (fault : AtlasFault)
+        (r : RefusesToBuild text behind table mid new before now fault) where
+      abbrev h : Holds r.helds
+      h = holds r.helds r.may_all
+
+      some : (files : Files) (left : List ℕ) → Agrees start files left
+          → Begun (building_at rules table behind) files left start done
+      some files left agrees = record {
+        found = found r.helds h files left agrees;
+        some = some_build rules table behind h.all.files;
+        costs = spends r.helds h r.within;
+      }
+
+      rose_all : Rose mid.faults new.faults → Rose old.faults new.faults
+      rose_all rose = subst (λ (n : ℕ). Rose n new.faults) fine.faults rose
+
+      quietly : StoreQuiet mid new → StoreQuiet old new
+      quietly more = quiet_after old mid new quiet more
+
+      -- the store failed within the bytes
+      partly : FailsWriting text table r.helds mid new → Rose mid.faults new.faults
+          → EndsAt Failed end out after
+          → Ran (building_at rules table behind) end start (world new input after now)
+      partly f rose ends =
+          subst (λ (o : SinkTold). Ran (building_at rules table behind) end start
+          (world new input o now)) (sym ends.1)
+          (not_written (building_at rules table behind) table f.bytes start new now later refl refl
+          ℕ store_faults.Failed end ends.0 refl
+          (part_after table f.bytes old mid new quiet f.part, rose_all rose)
+          (λ files left agrees. record {
+            found = found r.helds h files left agrees;
+            some = record {
+              a = says statuses.Success (built_line (size_of f.rules.groups))
+                  (put h.all.files table f.bytes);
+              answer = is_made r.helds h f.tables f.bytes f.rules f.accepted f.there
+                  (record { there = f.there; exact = judged_exact [] f.tables f.exact }) f.one_file;
+              text = λ e. cc;
+            };
+            given = refl;
+            costs = (let c = spends r.helds h r.within in
+                record { steps = c.steps; calls = c.calls; asked = c.asked });
+          }))
+
+      by_fault : (f : AtlasFault) → IsNotBuilt text table r.helds mid new f
+          → HasAtlasCause {T = ℕ} (Err f) mid new → EndsAt f end out after
+          → Ran (building_at rules table behind) end start (world new input after now)
+      by_fault (Rules f) refused cause ends =
+          let no : ◌≡◌ {A = Result RuleLines RulesFault} (Ok lines) (Err f) = sym accepted
+          ∙ refused.0 in cc
+      by_fault (Table f) refused cause ends = absurd refused
+      by_fault (Back place f) refused cause ends =
+          ended_at (building_at rules table behind) end start done after
+          (quiet_both old new input out before now (quietly refused.2) later) (Back place f) (
+            own_back f rules table behind,
+            fine_store old new input out before now (fine_after old mid new fine cause),
+          ) ends
+          (λ files left agrees. record {
+            found = found r.helds h files left agrees;
+            answer = no_back (record {
+              lines = lines;
+              accepted = held_rules (h.all.files rules) text lines h.here accepted;
+              place = place;
+              fault = f;
+              refused = subst (λ (l : List (Option (List ℕ))). IsRefusedAt [] l place f)
+                  (sym h.others) refused.1;
+              told = refl;
+            });
+            costs = spends r.helds h r.within;
+          })
+      by_fault Failed (rose, inl early) cause ends =
+          ended_at (building_at rules table behind) end start done after
+          (quiet_both old new input out before now (quietly early.1) later) Failed
+          (refl, rose_all rose) ends (λ files left agrees. some files left agrees)
+      by_fault Failed (rose, inr part) cause ends = partly part rose ends
+      by_fault NoMemory refused cause ends =
+          ended_at (building_at rules table behind) end start done after
+          (quiet_both old new input out before now (quietly refused.1) later) NoMemory
+          refl ends (λ files left agrees. some files left agrees)
+
+      pub not_made_so : HasAtlasCause {T = ℕ} (Err fault) mid new → EndsAt fault end out after
+          → Ran (building_at rules table behind) end start (world new input after now)
+      not_made_so cause ends = by_fault fault r.refuses cause ends
+
+-- the place that is told is one of the names behind
+pub small_place : (text table : List ℕ) (behind : List (List ℕ)) (old new : StoreTold)
+    (before now : ℕ) (fault : AtlasFault) → length behind ≤ MOST_BACKS
+    → RefusesToBuild text behind table old new before now fault → HasSmallPlace fault
+small_place text table behind old new before now fault few r = by_fault fault r.refuses
+  where
+    by_fault : (f : AtlasFault) → IsNotBuilt text table r.helds old new f → HasSmallPlace f
+    by_fault (Rules f) refused = tt
+    by_fault (Table f) refused = tt
+    by_fault (Back place f) refused =
+        let below = place_below [] r.helds place f refused.1 in
+        let many = as_many old.files behind r.helds r.may_all in omega (arith, below, many, few)
+    by_fault Failed refused = tt
+    by_fault NoMemory refused = tt

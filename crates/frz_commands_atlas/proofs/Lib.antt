@@ -1,0 +1,14 @@
+pub mod Lemmas
+mod Choices
+mod GroupLines
+mod Sized
+mod TablesOnce
+mod CheckOnce
+mod CheckMeaning
+mod BuildOnce
+mod Lawful
+mod HeldNames
+mod Ended
+mod Checked
+mod Built
+mod Taken

@@ -1,0 +1,65 @@
+-- What it says that `check` has ended with status 0.
+use Rattle.std.specs.Prelude.{◌≡◌, ℕ, List, map, All, Some, Ok}
+use Rattle.frz_board.specs.declared.man.Colour.TheVariants.{White, Black}
+use Rattle.frz_exits.specs.Books.{value_by}
+use Rattle.frz_game.specs.Bounds.{IsTableOf}
+use Rattle.frz_game.specs.ExactBounds.{TableIsExactWhereFree}
+use Rattle.frz_game.specs.ExactTables.{AreDecidedOutside}
+use Rattle.frz_game.specs.Meaning.{TableMeans}
+use Rattle.frz_game.specs.Values.{AreTrueExits}
+use Rattle.frz_rules.specs.Text.{rules_of}
+use Rattle.frz_sets.specs.Sets.{size_of}
+use Rattle.frz_sets.specs.Views.{RuleLines}
+use Rattle.frz_store.specs.Files.{Files}
+use Rattle.frz_table.specs.declared.kind.FileKind.TheVariants.{Atlas}
+use Rattle.frz_table.specs.Layout.{codes_at, magic_of}
+use Rattle.frz_table.specs.Tables.{IsTableFile}
+use Rattle.frz_backs.specs.Decided.{AreLinesOrTables, HasBothOutcomes}
+use Rattle.frz_backs.specs.Links.{AreExact, AreTrueLines, Link, backs_of}
+use Rattle.frz_backs.specs.Values.{atlas_value}
+use Rattle.frz_atlas.specs.Behind.{AreJudged, TableBytes, link_of}
+use Rattle.frz_atlas.specs.FileOver.{IsFileOver}
+use Rattle.frz_atlas.specs.Held.{all_held}
+
+-- the BACKs are exact tables, each over those before it where it leans on them, and TABLE one over
+-- all of them
+pub record AtlasHeadline (table : List ℕ) (behind : List (List ℕ)) (files : Files) : Type 0 where
+  -- each BACK holds the one file of a text that is accepted, with the tables of both sides
+  pub tables : List TableBytes
+  pub behind_there : map files behind ≡ all_held tables
+  pub behind_judged : AreJudged tables
+  pub links : List Link
+  pub links_are : map link_of tables ≡ links
+  pub behind_exact : AreExact links
+  -- TABLE holds a text that is accepted, and behind it the tables of both sides, with the values of
+  -- its exit lines and of the BACKs behind them
+  pub bytes : List ℕ
+  pub there : files table ≡ Some bytes
+  pub text : List ℕ
+  pub rules : RuleLines
+  pub accepted : rules_of text ≡ Ok rules
+  pub layout : IsTableFile (magic_of Atlas) text (size_of rules.groups) bytes
+  pub white : List ℕ
+  pub black : List ℕ
+  pub white_is : codes_at White text (size_of rules.groups) bytes ≡ white
+  pub black_is : codes_at Black text (size_of rules.groups) bytes ≡ black
+  pub white_table : IsTableOf rules (atlas_value rules (backs_of links)) White white
+  pub black_table : IsTableOf rules (atlas_value rules (backs_of links)) Black black
+  pub one_file : IsFileOver text rules (backs_of links) bytes
+  -- a win forces mate or an assigned win within its plies; where the exits are true it forces mate,
+  -- and with a win or a hold the opponent forces none
+  pub white_means : TableMeans rules (atlas_value rules (backs_of links)) White white
+  pub black_means : TableMeans rules (atlas_value rules (backs_of links)) Black black
+  -- and the exits are true where the exit lines of all texts are
+  pub true_exits : AreTrueExits rules (value_by rules) → AreTrueLines links
+      → AreTrueExits rules (atlas_value rules (backs_of links))
+  -- where no line of TABLE forbids a side a move, its codes there say of chess both ways what
+  -- TableMeansExactly says
+  pub white_exact :
+      TableIsExactWhereFree rules (atlas_value rules (backs_of links)) White white
+  pub black_exact :
+      TableIsExactWhereFree rules (atlas_value rules (backs_of links)) Black black
+  -- where the outcomes in the BACKs are those of chess, and each way out of TABLE's set is decided
+  -- by an exit line or lies in the set of a BACK, each value outside TABLE's set decides the game
+  pub decided : All HasBothOutcomes links → AreLinesOrTables rules links →
+      AreDecidedOutside rules (atlas_value rules (backs_of links))

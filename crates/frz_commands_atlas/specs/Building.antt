@@ -1,0 +1,116 @@
+-- What `build RULES TABLE BACK ..` is to do: the table file of the rules over the tables behind it is
+-- written under the name TABLE.
+use Rattle.std.specs.Prelude.{◌≡◌, ℕ, ◌+◌, ◌*◌, List, [], ◌∷◌, map, sum_by, true, false, Option, Some, Result, Ok, Err}
+use Rattle.frz_store.specs.Files.{Files, put}
+use Rattle.frz_answer.specs.declared.status.Status.{Status}
+use Rattle.frz_answer.specs.declared.status.Status.TheVariants as statuses
+use Rattle.frz_answer.specs.Answers.{Answer, says}
+use Rattle.frz_answer.specs.Jobs.{Costs, Job, Once, plain, WithinCosts}
+use Rattle.frz_answer.specs.Words.{taking, unless}
+use Rattle.frz_prelude.specs.Refusals.{refusal_line, status_of}
+use Rattle.frz_prelude.specs.Replies.{built_line}
+use Rattle.frz_prelude.specs.RulesFiles.{asked_of, reads_of, rules_held}
+use Rattle.frz_prelude.specs.declared.refused.Refused.{Refused}
+use Rattle.frz_sets.specs.Sets.{size_of}
+use Rattle.frz_sets.specs.Views.{RuleLines}
+use Rattle.frz_rules.specs.Text.{rules_of}
+use Rattle.frz_build.specs.Building.{writing_calls}
+use Rattle.frz_atlas.specs.Behind.{IsRefusedAt, TableBytes, backs_in}
+use Rattle.frz_atlas.specs.Costs.{bytes_of, calls_of, steps_of}
+use Rattle.frz_atlas.specs.FileOver.{IsFileOver}
+use Rattle.frz_atlas.specs.declared.fault.BackFault.{BackFault}
+use Rattle.frz_commands_atlas.specs.BackLines.{back_line, back_status}
+use Rattle.frz_commands_atlas.specs.Names.{build_names_of, has_twice}
+use Rattle.frz_commands_atlas.specs.Tables.{AreTablesIn}
+
+-- RULES holds a text that is accepted, the BACKs tables that are exact, each over those before it,
+-- and TABLE the one file of the text over them afterwards, and every other name what it held
+pub record MakesAtlas (rules table : List ℕ) (behind : List (List ℕ)) (files : Files)
+    (a : Answer) : Type 0 where
+  pub text : List ℕ
+  pub there : files rules ≡ Some text
+  pub lines : RuleLines
+  pub accepted : rules_of text ≡ Ok lines
+  pub tables : List TableBytes
+  pub behind_it : AreTablesIn (map files behind) tables
+  pub bytes : List ℕ
+  pub one_file : IsFileOver text lines (backs_in tables) bytes
+  pub told : a ≡ says statuses.Success (built_line (size_of lines.groups)) (put files table bytes)
+
+-- RULES names no rules, and the line says why
+pub record RefusesRules (rules : List ℕ) (files : Files) (a : Answer) : Type 0 where
+  pub why : Refused
+  pub refused : rules_held (files rules) ≡ Err why
+  pub told : a ≡ says (status_of why) (refusal_line why) files
+
+-- RULES holds a text that is accepted. The BACK at this place, which the line tells from 1, is
+-- refused, and all before it are exact
+pub record RefusesBack (rules : List ℕ) (behind : List (List ℕ)) (files : Files)
+    (a : Answer) : Type 0 where
+  pub lines : RuleLines
+  pub accepted : rules_held (files rules) ≡ Ok lines
+  pub place : ℕ
+  pub fault : BackFault
+  pub refused : IsRefusedAt [] (map files behind) place fault
+  pub told : a ≡ says (back_status fault) (back_line place fault) files
+
+-- RULES or one of the BACKs is refused, in this order, or the table is made
+pub data IsBuiltAt (rules table : List ℕ) (behind : List (List ℕ)) (files : Files)
+    (a : Answer) : Type 0 where
+  no_rules : RefusesRules rules files a → IsBuiltAt rules table behind files a
+  no_back : RefusesBack rules behind files a → IsBuiltAt rules table behind files a
+  made : MakesAtlas rules table behind files a → IsBuiltAt rules table behind files a
+
+-- what is refused, by its status
+pub data Refuses (rules : List ℕ) (behind : List (List ℕ)) (files : Files) (a : Answer) : Type 0 where
+  of_rules : RefusesRules rules files a → Refuses rules behind files a
+  of_back : RefusesBack rules behind files a → Refuses rules behind files a
+
+-- what an answer says, by its status; a refusal changes no file
+abbrev pub MeansByStatus : List ℕ → List ℕ → List (List ℕ) → Files → Answer → Status → Type 0
+MeansByStatus rules table behind files a statuses.Success = MakesAtlas rules table behind files a
+MeansByStatus rules table behind files a status = Refuses rules behind files a
+
+-- what an answer of `build` means: it takes no input, and each status has its cause
+pub record MeansBuild (rules table : List ℕ) (behind : List (List ℕ)) (files : Files)
+    (a : Answer) : Type 0 where
+  pub untaken : a.taken ≡ 0
+  pub says : MeansByStatus rules table behind files a a.status
+
+-- so many where there are rules, and else none
+abbrev pub if_rules : Result RuleLines Refused → ℕ → ℕ
+if_rules (Ok lines) count = count
+if_rules (Err why) count = 0
+
+abbrev pub size_by : Result RuleLines Refused → ℕ
+size_by (Ok lines) = size_of lines.groups
+size_by (Err why) = 0
+
+-- what reading the rules file costs and, where it is accepted, what checking each of the tables
+-- behind costs, four steps a number, and the calls that write the table
+abbrev pub build_costs : (held : Option (List ℕ)) → List (Option (List ℕ)) → Costs
+build_costs held behind =
+    let read = rules_held held in
+    record {
+      steps = Some (if_rules read (sum_by steps_of behind + 4 * size_by read));
+      calls = Some (1 + reads_of held
+          + if_rules read (sum_by calls_of behind + writing_calls (size_by read)));
+      asked = Some (asked_of held + if_rules read (sum_by bytes_of behind));
+    }
+
+-- `build` by names of which no two are one
+abbrev pub building_at : List ℕ → List ℕ → List (List ℕ) → Job
+building_at rules table behind = record (plain
+    (statuses.Success ∷ statuses.Rules ∷ statuses.Table ∷ statuses.Wrong ∷ statuses.Missing ∷ [])
+    (λ files input a. IsBuiltAt rules table behind files a)) {
+      means = λ files input a. MeansBuild rules table behind files a;
+      needs = record { store = true; reads = Once; input = false; memory = true };
+      writes = Some table;
+      costs = λ files input a. WithinCosts (build_costs (files rules) (map files behind));
+    }
+
+-- build RULES TABLE BACK ..
+abbrev pub build_words : List (List ℕ) → Job
+build_words words =
+    taking (λ names. unless (has_twice words) (building_at names.0 names.1.0 names.1.1))
+    (build_names_of words)

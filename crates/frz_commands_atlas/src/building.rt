@@ -1,0 +1,72 @@
+//! The command `build RULES TABLE BACK ..`: writes the table file of a rules text over the tables of
+//! the names behind it.
+ghost use Rattle.std.specs.Prelude.{◌≡◌, ◌≤◌, ◌∷◌, length, map, false};
+ghost use Rattle.std.specs.String.{string_bytes};
+ghost use Rattle.frz_store.specs.Told.{SourceTold, store_of, sink_of};
+ghost use Rattle.frz_answer.specs.World.{world};
+ghost use Rattle.frz_answer.specs.Ends.{Ran};
+ghost use Rattle.frz_commands_atlas.specs.Building.{building_at, build_words};
+ghost use Rattle.frz_commands_atlas.specs.Names.{has_twice as is_twice};
+ghost use Rattle.frz_commands_atlas.specs.declared.names.TheConstants.{MOST_BACKS};
+
+use crate::ending::end_at;
+use crate::names::{build_names, has_twice};
+use frz_answer::{End, Refusal, refuse};
+use frz_atlas::build_atlas;
+use frz_prelude::{Reply, read_rules_text, tell};
+use frz_steps::Steps;
+use frz_store::{Sink, Store};
+use std::alloc::Global;
+use std::sync::ledger::Ledger;
+
+/// Builds by these names, of which no two are one.
+fn build_named<S: Store, O: Sink, L: Ledger>(
+    alloc: Global,
+    rules: &str,
+    table: &str,
+    behind: &[String],
+    store: &mut S,
+    out: &mut O,
+    steps: &mut Steps<L>,
+) -> End
+    requires apart { is_twice (rules.now ∷ table.now ∷ map string_bytes behind.now) ≡ false }
+    requires few { length (map string_bytes behind.now) ≤ MOST_BACKS }
+    ensures { (input : SourceTold)
+        → Ran (building_at rules.now table.now (map string_bytes behind.now)) result
+        (world (store_of S.Store store.old) input (sink_of O.Sink out.old) steps.old)
+        (world (store_of S.Store store.new) input (sink_of O.Sink out.new) steps.new) }
+{
+    let read = match read_rules_text(alloc, rules, store) {
+        Ok(read) => read,
+        Err(stop) => return stop.end(out),
+    };
+    match build_atlas(alloc, store, &read.text, behind, table, steps) {
+        Ok(size) => tell(Ok(Reply::Built(size)), out),
+        Err(fault) => end_at(fault, out),
+    }
+}
+
+/// Runs `build` with these words behind it.
+pub fn run_build<S: Store, O: Sink, L: Ledger>(
+    alloc: Global,
+    words: &[String],
+    store: &mut S,
+    out: &mut O,
+    steps: &mut Steps<L>,
+) -> End
+    ensures ran { (input : SourceTold) → Ran (build_words (map string_bytes words.now)) result
+        (world (store_of S.Store store.old) input (sink_of O.Sink out.old) steps.old)
+        (world (store_of S.Store store.new) input (sink_of O.Sink out.new) steps.new) }
+    ensures store_unused { (build_words (map string_bytes words.now)).needs.store ≡ false
+        → store.new ≡ store.old }
+{
+    match build_names(words) {
+        Some((rules, table, behind)) => {
+            if has_twice(words) {
+                return refuse(Refusal::SameName, out);
+            }
+            build_named(alloc, rules, table, behind, store, out, steps)
+        }
+        None => refuse(Refusal::Count, out),
+    }
+}

@@ -1,0 +1,70 @@
+//! The command `check TABLE BACK ..`: whether a table is exact over those of the names behind it, and
+//! each of those over the ones before it.
+ghost use Rattle.std.specs.Prelude.{◌≡◌, ◌≤◌, ◌∷◌, length, map, false};
+ghost use Rattle.std.specs.String.{string_bytes};
+ghost use Rattle.frz_store.specs.Told.{SourceTold, store_of, sink_of};
+ghost use Rattle.frz_answer.specs.World.{world};
+ghost use Rattle.frz_answer.specs.Ends.{Ran};
+ghost use Rattle.frz_commands_atlas.specs.CheckMeans.{checking_at, check_words};
+ghost use Rattle.frz_commands_atlas.specs.Names.{has_twice as is_twice};
+ghost use Rattle.frz_commands_atlas.specs.declared.names.TheConstants.{MOST_BACKS};
+
+use crate::ending::end_at;
+use crate::names::{has_twice, table_names};
+use crate::verdict_lines::{status_of, write_verdict};
+use frz_answer::{End, Refusal, refuse, said};
+use frz_atlas::check_atlas;
+use frz_steps::Steps;
+use frz_store::{Sink, Store};
+use std::alloc::Global;
+use std::sync::ledger::Ledger;
+
+/// Checks the table of the first name over those of the others, of which no two are one.
+fn check_named<S: Store, O: Sink, L: Ledger>(
+    alloc: Global,
+    table: &str,
+    behind: &[String],
+    store: &mut S,
+    out: &mut O,
+    steps: &mut Steps<L>,
+) -> End
+    requires apart { is_twice (table.now ∷ map string_bytes behind.now) ≡ false }
+    requires few { length (map string_bytes behind.now) ≤ MOST_BACKS }
+    ensures { (input : SourceTold)
+        → Ran (checking_at table.now (map string_bytes behind.now)) result
+        (world (store_of S.Store store.old) input (sink_of O.Sink out.old) steps.old)
+        (world (store_of S.Store store.new) input (sink_of O.Sink out.new) steps.new) }
+{
+    match check_atlas(alloc, store, table, behind, steps) {
+        Ok(checked) => said(
+            status_of(checked.verdict),
+            write_verdict(checked.verdict, checked.size, &checked.behind, out),
+        ),
+        Err(fault) => end_at(fault, out),
+    }
+}
+
+/// Runs `check` with these words behind it.
+pub fn run_check<S: Store, O: Sink, L: Ledger>(
+    alloc: Global,
+    words: &[String],
+    store: &mut S,
+    out: &mut O,
+    steps: &mut Steps<L>,
+) -> End
+    ensures ran { (input : SourceTold) → Ran (check_words (map string_bytes words.now)) result
+        (world (store_of S.Store store.old) input (sink_of O.Sink out.old) steps.old)
+        (world (store_of S.Store store.new) input (sink_of O.Sink out.new) steps.new) }
+    ensures store_unused { (check_words (map string_bytes words.now)).needs.store ≡ false
+        → store.new ≡ store.old }
+{
+    match table_names(words) {
+        Some((table, behind)) => {
+            if has_twice(words) {
+                return refuse(Refusal::SameName, out);
+            }
+            check_named(alloc, table, behind, store, out, steps)
+        }
+        None => refuse(Refusal::Count, out),
+    }
+}

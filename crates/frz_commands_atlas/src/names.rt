@@ -1,0 +1,58 @@
+//! The names that the words of `build` and `check` give.
+ghost use Rattle.std.specs.Prelude.{◌≡◌, map};
+ghost use Rattle.std.specs.List.{list_any};
+ghost use Rattle.std.specs.Option.{option_map};
+ghost use Rattle.std.specs.Str.{bytes_eq};
+ghost use Rattle.std.specs.String.{string_bytes};
+ghost use Rattle.frz_commands_atlas.specs.Names as names;
+ghost use Rattle.frz_commands_atlas.specs.Names.{table_names_of, build_names_of};
+
+/// The most tables that a table is built or checked over.
+pub const MOST_BACKS: usize = 16;
+
+/// A table's name, and the names of the tables behind it: at least one.
+pub fn table_names(words: &[String]) -> Option<(&str, &[String])>
+    ensures { option_map (λ all. (all.0.now, map string_bytes all.1.now)) result
+        ≡ table_names_of (map string_bytes words.now) }
+{
+    match words {
+        [table, behind @ ..] if !behind.is_empty() && behind.len() <= MOST_BACKS => {
+            Some((table.as_str(), behind))
+        }
+        _ => None,
+    }
+}
+
+/// The name of a rules file before them.
+pub fn build_names(words: &[String]) -> Option<(&str, &str, &[String])>
+    ensures { option_map (λ all. (all.0.now, (all.1.now, map string_bytes all.2.now))) result
+        ≡ build_names_of (map string_bytes words.now) }
+{
+    match words {
+        [rules, rest @ ..] => match table_names(rest) {
+            Some((table, behind)) => Some((rules.as_str(), table, behind)),
+            None => None,
+        },
+        [] => None,
+    }
+}
+
+/// Is the name among these?
+fn is_among(name: &str, names: &[String]) -> bool
+    ensures { result ≡ list_any (λ other. bytes_eq other name.now) (map string_bytes names.now) }
+{
+    match names {
+        [] => false,
+        [other, rest @ ..] => other.as_str() == name || is_among(name, rest),
+    }
+}
+
+/// Does a name stand twice among these?
+pub fn has_twice(words: &[String]) -> bool
+    ensures { result ≡ names.has_twice (map string_bytes words.now) }
+{
+    match words {
+        [] => false,
+        [first, rest @ ..] => is_among(first.as_str(), rest) || has_twice(rest),
+    }
+}
