@@ -1,0 +1,21 @@
+-- That each call has one answer, which means what it is to mean: a line for each command.
+use Rattle.std.proofs.Common.{ℕ, List, Option, Some, None}
+use Rattle.frz_answer.specs.declared.words.Refusal.TheVariants.{NoCommand}
+use Rattle.frz_answer.specs.Lawful.{IsLawful}
+use Rattle.frz_answer.proofs.Lemmas.{refused_lawful}
+use Rattle.frz_commands_atlas.proofs.Lemmas.{build_lawful, check_lawful, size_lawful}
+use Rattle.atlas.specs.declared.verb.Verb.{Verb}
+use Rattle.atlas.specs.declared.verb.Verb.TheVariants.{Build, Check, Query, Size}
+use Rattle.atlas.specs.Verbs.{command_of}
+use Rattle.atlas.specs.Commands.{job_by, job_of}
+use Rattle.atlas.proofs.Queried.{query_lawful}
+
+by_command : (command : Option (Verb × List (List ℕ))) → IsLawful (job_by command)
+by_command (Some (Build, words)) = build_lawful words
+by_command (Some (Check, words)) = check_lawful words
+by_command (Some (Query, words)) = query_lawful words
+by_command (Some (Size, words)) = size_lawful words
+by_command None = refused_lawful NoCommand
+
+pub lawful_of : (words : List (List ℕ)) → IsLawful (job_of words)
+lawful_of words = by_command (command_of words)

@@ -1,0 +1,14 @@
+use Rattle.std.proofs.Common.{ap, ◌∙◌}
+use Rattle.std.proofs.lemmas.Iterator.{items_from_collect}
+use Rattle.std.proofs.lemmas.Iterator.Adapters.{YieldsList-from_skip, YieldsList-from_vec}
+use Rattle.std.specs.Vec.Iter.{into_iter_items, into_iter_len}
+use Rattle.atlas.proofs.behind_name.Goals as goal
+
+pub returns : goal.returns
+returns c =
+    let same = c.skip.ensures.source in
+    items_from_collect c.collect.result c.collect.ensures.ran
+    (YieldsList-from_skip _
+    (YieldsList-from_vec _ (ap into_iter_items same)
+    (ap into_iter_len same ∙ c.args.args.rest.ok.0))
+    c.skip.ensures.count)

@@ -1,0 +1,5 @@
+use Rattle.atlas.proofs.Answering.{lawful_of}
+use Rattle.atlas.proofs.laws.one_answer.Goals as goal
+
+pub returns : goal.returns
+returns c = λ words. lawful_of words

@@ -1,0 +1,12 @@
+use Rattle.std.proofs.Common.{map}
+use Rattle.std.specs.String.{string_bytes}
+use Rattle.frz_answer.specs.World.{world}
+use Rattle.frz_answer.proofs.Lemmas.{outcome}
+use Rattle.atlas.proofs.Answering.{lawful_of}
+use Rattle.atlas.proofs.top.atlas.Goals as goal
+
+pub returns-clause-outcome : goal.returns-clause-outcome
+returns-clause-outcome g c =
+    outcome _ _ _ (world _ _ _ _) _ _ (g.met.S.Store.holds_bytes c.args.store.now)
+    (λ files input a are h. let law = lawful_of (map string_bytes c.args.words.now) in
+    law.means files input a are h) c.run-end.ensures.ran c.finish.ensures

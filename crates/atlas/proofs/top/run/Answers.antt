@@ -1,0 +1,40 @@
+use Rattle.frz_store.specs.Told.{source_of, store_of}
+use Rattle.atlas.proofs.Calling.{as_command}
+use Rattle.atlas.proofs.top.run.Goals as goal
+
+pub returns-in-Some-Build-default-clause-ran :
+    goal.returns-in-Some-Build-default-clause-ran
+returns-in-Some-Build-default-clause-ran g c =
+    as_command _ _ _ _ _ (rw c.in-Some-Build-default.field-0-0-is at
+    c.in-Some-Build-default.ensures)
+    (c.run_build.ensures.ran (source_of g.I.Source c.args.input.now))
+
+pub returns-in-Some-Check-default-clause-ran :
+    goal.returns-in-Some-Check-default-clause-ran
+returns-in-Some-Check-default-clause-ran g c =
+    as_command _ _ _ _ _ (rw c.in-Some-Check-default.field-0-0-is at
+    c.in-Some-Check-default.ensures)
+    (c.run_check.ensures.ran (source_of g.I.Source c.args.input.now))
+
+pub returns-in-Some-Query-default-clause-ran :
+    goal.returns-in-Some-Query-default-clause-ran
+returns-in-Some-Query-default-clause-ran g c =
+    as_command _ _ _ _ _ (rw c.in-Some-Query-default.field-0-0-is at
+    c.in-Some-Query-default.ensures)
+    ((c.query_kind.ensures.replies c.args.steps.now).ran
+    (source_of g.I.Source c.args.input.now) _ _ _ c.tell.ensures)
+
+pub returns-in-Some-Size-default-clause-ran :
+    goal.returns-in-Some-Size-default-clause-ran
+returns-in-Some-Size-default-clause-ran g c =
+    as_command _ _ _ _ _ (rw c.in-Some-Size-default.field-0-0-is at
+    c.in-Some-Size-default.ensures)
+    (c.run_size.ensures.ran (source_of g.I.Source c.args.input.now) c.args.steps.now)
+
+pub returns-in-None-clause-ran :
+    goal.returns-in-None-clause-ran
+returns-in-None-clause-ran g c =
+    as_command _ _ _ _ _ c.in-None.ensures
+    (c.refuse.ensures (store_of g.S.Store c.args.store.now)
+    (source_of g.I.Source c.args.input.now)
+    c.args.steps.now)

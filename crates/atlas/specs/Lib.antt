@@ -1,0 +1,4 @@
+pub mod Verbs
+pub mod Commands
+pub mod NoWords
+pub mod Calls

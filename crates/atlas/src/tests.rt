@@ -1,0 +1,81 @@
+//! The program over objects in memory.
+mod corner;
+mod rook;
+mod words;
+
+use crate::run_once;
+use frz_store::{Fail, FailOn, MemSink, MemSource, MemStore, Store};
+use std::alloc::Global;
+use std::process::Abort;
+use std::test::Fail as TestFail;
+
+fn no_fails(alloc: Global) -> Vec<Fail> {
+    Vec::new(alloc)
+}
+
+/// The nth call fails.
+fn call_fails(alloc: Global, nth: u64) -> Result<Vec<Fail>, TestFail> {
+    let fail = Fail {
+        on: FailOn::Call,
+        nth,
+        keep: 0,
+    };
+    Ok(vec![in alloc; fail]?)
+}
+
+/// A sink that takes so many bytes.
+fn sink(alloc: Global, room: usize) -> Result<MemSink, TestFail> {
+    Ok(MemSink::new(alloc, room, no_fails(alloc)).or(Err("sink"))?)
+}
+
+/// The words of a call.
+fn words_of(alloc: Global, line: &[&str]) -> Result<Vec<String>, TestFail> {
+    let mut words = Vec::new(alloc);
+    for word in line {
+        words.push(String::from_str(alloc, word)?)?;
+    }
+    Ok(words)
+}
+
+/// Calls the program over a store, a sink and an empty input.
+fn call(
+    alloc: Global,
+    line: &[&str],
+    store: &mut impl Store,
+    out: &mut MemSink,
+) -> Result<u8, TestFail> {
+    let words = words_of(alloc, line)?;
+    let mut input = MemSource::new(Vec::new(alloc), no_fails(alloc));
+    Ok(run_once(alloc, &words, store, &mut input, out))
+}
+
+/// The words of a call, its status and its text.
+#[derive(Drop)]
+struct Said<'a>(&'a [&'a str], u8, &'a str);
+
+/// Calls the program over the store, which is to end so with this text.
+fn expect_said(
+    rt: &impl Abort,
+    alloc: Global,
+    store: &mut MemStore,
+    row: &Said<'_>,
+) -> Result<(), TestFail> {
+    let Said(line, status, text) = row;
+    let mut out = sink(alloc, 200)?;
+    let answer = call(alloc, line, store, &mut out)?;
+    assert_eq!(rt; (answer, out.taken()), (*status, text.as_bytes()));
+    Ok(())
+}
+
+/// Calls the program over the store, once for each row.
+fn expect_all(
+    rt: &impl Abort,
+    alloc: Global,
+    store: &mut MemStore,
+    rows: &[Said<'_>],
+) -> Result<(), TestFail> {
+    for row in rows {
+        expect_said(rt, alloc, store, row)?;
+    }
+    Ok(())
+}

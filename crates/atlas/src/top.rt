@@ -1,0 +1,70 @@
+//! The top call: all that the program does.
+ghost use Rattle.std.specs.Prelude.{◌≡◌, map, false};
+ghost use Rattle.std.specs.String.{string_bytes};
+ghost use Rattle.frz_answer.specs.World.{world_of};
+ghost use Rattle.frz_answer.specs.Ends.{Ran};
+ghost use Rattle.frz_answer.specs.Outcomes.{Outcome};
+ghost use Rattle.atlas.specs.Commands.{job_of};
+
+use crate::verb::{Verb, read_command};
+use frz_answer::{End, Refusal, finish, refuse};
+use frz_commands_ask::query_kind;
+use frz_commands_atlas::{run_build, run_check, run_size};
+use frz_prelude::tell;
+use frz_steps::Steps;
+use frz_store::{Sink, Source, Store};
+use frz_table::FileKind;
+use std::alloc::Global;
+use std::sync::ledger::Ledger;
+
+/// Runs the command that the words name.
+fn run<S: Store, I: Source, O: Sink, L: Ledger>(
+    alloc: Global,
+    words: &[String],
+    store: &mut S,
+    input: &mut I,
+    out: &mut O,
+    steps: &mut Steps<L>,
+) -> End
+    ensures ran { Ran (job_of (map string_bytes words.now)) result
+        (world_of S.Store I.Source O.Sink store.old input.old out.old steps.old)
+        (world_of S.Store I.Source O.Sink store.new input.new out.new steps.new) }
+    ensures store_unused { (job_of (map string_bytes words.now)).needs.store ≡ false
+        → store.new ≡ store.old }
+    ensures input_unused { (job_of (map string_bytes words.now)).needs.input ≡ false
+        → input.new ≡ input.old }
+{
+    match read_command(words) {
+        Some((Verb::Build, rest)) => run_build(alloc, rest, store, out, steps),
+        Some((Verb::Check, rest)) => run_check(alloc, rest, store, out, steps),
+        Some((Verb::Query, rest)) => tell(query_kind(alloc, FileKind::Atlas, rest, store), out),
+        Some((Verb::Size, rest)) => run_size(alloc, rest, store, out),
+        None => refuse(Refusal::NoCommand, out),
+    }
+}
+
+/// Does all that the program does, and gives its status. `words` are the words after the program's
+/// name; all text goes to `out`.
+pub fn atlas<S: Store, I: Source, O: Sink, L: Ledger>(
+    alloc: Global,
+    words: &[String],
+    store: &mut S,
+    input: &mut I,
+    out: &mut O,
+    steps: &mut Steps<L>,
+) -> u8
+    // The status, the text, the files, the input taken, what they mean and what they cost, with
+    // each status and over every object, told or not: the fields of `Outcome` say it one by one.
+    ensures outcome { Outcome (job_of (map string_bytes words.now)) result
+        (world_of S.Store I.Source O.Sink store.old input.old out.old steps.old)
+        (world_of S.Store I.Source O.Sink store.new input.new out.new steps.new) }
+
+    // An object that the call does not use stays as it was.
+    ensures store_unused { (job_of (map string_bytes words.now)).needs.store ≡ false
+        → store.new ≡ store.old }
+    ensures input_unused { (job_of (map string_bytes words.now)).needs.input ≡ false
+        → input.new ≡ input.old }
+{
+    let end = run(alloc, words, store, input, out, steps);
+    finish(end, out)
+}
