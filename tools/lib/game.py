@@ -65,6 +65,19 @@ class Back:
         return pair_value(*(self.codes[side][number] for side in SIDES))
 
 
+class Several:
+    """Tables of which the first answers whose set has the position."""
+
+    def __init__(self, backs):
+        self.backs = backs
+
+    def value(self, position):
+        for back in self.backs:
+            if back.game.set.number(position) is not None:
+                return back.value(position)
+        return "unknown"
+
+
 class Game:
     """The positions of a set by number, and the moves of each; perhaps with a table behind it."""
 

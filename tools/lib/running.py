@@ -34,11 +34,11 @@ class Program:
         return self.run(*words) != (2, "words: command\n")
 
 
-def arguments(about, **numbers):
+def arguments(about, program="freezer", **numbers):
     """The options that each tool takes, and whole numbers of its own with their defaults."""
     parser = argparse.ArgumentParser(description=about)
     parser.add_argument(
-        "--program", default=os.path.join(REPOSITORY, "freezer"), help="the program under test"
+        "--program", default=os.path.join(REPOSITORY, program), help="the program under test"
     )
     parser.add_argument("--seed", type=int, default=1, help="one seed gives the same questions")
     for name, default in numbers.items():
