@@ -83,7 +83,7 @@ module _ (rules table : List ℕ) (behind : List (List ℕ)) (files : Files) (a 
   abbrev names : List (List ℕ)
   names = table ∷ behind
 
-  -- of the words no two are one, and they make the table
+  -- no two of the words are the same, and the call makes the table
   made : (has_twice (rules ∷ names) ≡ false)
       × (table_names_of names ≡ Some (table, behind))
       × MakesAtlas rules table behind files a

@@ -1,5 +1,5 @@
 -- One call after another: what calls that end with status 0 say together, over the same files or
--- over those that the one before left.
+-- over those that the call before left.
 use Rattle.std.specs.Prelude.{◌≡◌, ℕ, List, [], ◌∷◌, Ok, codes}
 use Rattle.frz_board.specs.Boards.{Board}
 use Rattle.frz_fen.specs.Reading.{fen_of}
@@ -14,7 +14,7 @@ use Rattle.frz_commands_ask.specs.Meaning.{TellsBounds}
 use Rattle.frz_commands_atlas.specs.AtlasHeadline.{AtlasHeadline}
 use Rattle.atlas.specs.Commands.{job_of}
 
--- the words of a call
+-- the words of each call
 abbrev pub build : (rules table : List ℕ) (behind : List (List ℕ)) → List (List ℕ)
 build rules table behind = codes "build" ∷ rules ∷ table ∷ behind
 
@@ -24,17 +24,17 @@ check table behind = codes "check" ∷ table ∷ behind
 abbrev pub query : (table fen : List ℕ) → List (List ℕ)
 query table fen = codes "query" ∷ table ∷ fen ∷ []
 
--- the call with these words, over these files of bytes and some input, gives this answer, and its
--- status is 0
+-- the call with these words, over these files of bytes and some input, gives this answer with
+-- status 0
 pub record Succeeds (words : List (List ℕ)) (files : Files) (a : Answer) : Type 0 where
   pub bytes : HoldsBytes files
   pub input : List ℕ
   pub answer : (job_of words).answers files input a
   pub done : a.status ≡ Success
 
--- the tables behind are exact, each over those before it, and the table over all of them; FEN is a
--- position of its set, and the text tells the bounds of both sides there, by its exit lines and by
--- the tables behind where these say nothing, which hold in chess
+-- the tables behind are exact, each over those before it, and TABLE is exact over all of them. FEN
+-- is a position of its set, and the text tells the bounds of both sides there, which hold in chess.
+-- Exits have the values of TABLE's exit lines, and of the tables behind where these say nothing
 pub record TellsBoundsOver (table : List ℕ) (behind : List (List ℕ)) (fen : List ℕ)
     (files : Files) (text : List ℕ) : Type 0 where
   pub exact : AtlasHeadline table behind files

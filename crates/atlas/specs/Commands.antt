@@ -1,5 +1,4 @@
--- What is to be done for each verb: a line for each command, whose job stands in a module of its
--- own.
+-- What each command is to do: one line for each, whose job is defined in a module of its own.
 use Rattle.std.specs.Prelude.{ℕ, List, Option, Some, None}
 use Rattle.frz_table.specs.declared.kind.FileKind.TheVariants.{Atlas}
 use Rattle.frz_answer.specs.declared.words.Refusal.TheVariants.{NoCommand}
@@ -13,7 +12,7 @@ use Rattle.atlas.specs.declared.verb.Verb.{Verb}
 use Rattle.atlas.specs.declared.verb.Verb.TheVariants.{Build, Check, Query, Size}
 use Rattle.atlas.specs.Verbs.{command_of}
 
--- what is to be done for a command with these words behind it
+-- the job of a command and the words behind it
 abbrev pub job_by : Option (Verb × List (List ℕ)) → Job
 job_by (Some (Build, words)) = build_words words
 job_by (Some (Check, words)) = check_words words
@@ -21,6 +20,6 @@ job_by (Some (Query, words)) = querying_words Atlas words
 job_by (Some (Size, words)) = size_words words
 job_by None = refusing NoCommand
 
--- what is to be done where these are the words
+-- the job of the program's words; without a command they are refused
 abbrev pub job_of : List (List ℕ) → Job
 job_of words = job_by (command_of words)

@@ -12,7 +12,7 @@ abbrev pub no_words_code : NoWords → ℕ
 no_words_code NotText = code_of Words
 no_words_code NoMemory = fault_code faults.NoMemory
 
--- what an error of std says of the words: where there was memory, one of them is no text
+-- what an error of std says of the words: memory ran out, or else one of them is not text
 abbrev pub reason_of : ErrorKind → NoWords
 reason_of OutOfMemory = NoMemory
 reason_of kind = NotText

@@ -13,8 +13,9 @@ use frz_store::{Sink, Source, Store, SureSink, SureSource, SureStore};
 use std::alloc::Global;
 use std::sync::ledger::Ledger;
 
-/// Calls the program over a store, an input and an output that never fail: all that the program
-/// promises holds, and its status names no fault of theirs.
+/// Calls the program over a store, an input and an output in memory that never fail. All that the
+/// program promises holds, and its status never names a fault of the store, the input or the
+/// output.
 pub fn atlas_surely<L: Ledger>(
     alloc: Global,
     words: &[String],

@@ -17,7 +17,7 @@ use frz_table::FileKind;
 use std::alloc::Global;
 use std::sync::ledger::Ledger;
 
-/// Runs the command that the words name.
+/// Runs the command that the first word names, and refuses where it names none.
 fn run<S: Store, I: Source, O: Sink, L: Ledger>(
     alloc: Global,
     words: &[String],
@@ -43,8 +43,8 @@ fn run<S: Store, I: Source, O: Sink, L: Ledger>(
     }
 }
 
-/// Does all that the program does, and gives its status. `words` are the words after the program's
-/// name; all text goes to `out`.
+/// Does all that the program does, and returns its exit status. `words` are the words after the
+/// program's name; all text goes to `out`.
 pub fn atlas<S: Store, I: Source, O: Sink, L: Ledger>(
     alloc: Global,
     words: &[String],
@@ -53,13 +53,14 @@ pub fn atlas<S: Store, I: Source, O: Sink, L: Ledger>(
     out: &mut O,
     steps: &mut Steps<L>,
 ) -> u8
-    // The status, the text, the files, the input taken, what they mean and what they cost, with
-    // each status and over every object, told or not: the fields of `Outcome` say it one by one.
+    // The fields of `Outcome` say one by one what the status, the text, the files and the input
+    // taken are, what they mean and what they cost. They do so for each status, and over every
+    // store, input and output, whether its contract says what it holds (it is "told") or not.
     ensures outcome { Outcome (job_of (map string_bytes words.now)) result
         (world_of S.Store I.Source O.Sink store.old input.old out.old steps.old)
         (world_of S.Store I.Source O.Sink store.new input.new out.new steps.new) }
 
-    // An object that the call does not use stays as it was.
+    // A store or an input that the command does not use stays as it was.
     ensures store_unused { (job_of (map string_bytes words.now)).needs.store ≡ false
         → store.new ≡ store.old }
     ensures input_unused { (job_of (map string_bytes words.now)).needs.input ≡ false

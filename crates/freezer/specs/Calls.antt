@@ -1,5 +1,5 @@
 -- One call after another: what calls that end with status 0 say together, over the same files or
--- over those that the one before left.
+-- over those that the call before left.
 use Rattle.std.specs.Prelude.{◌≡◌, ℕ, List, [], ◌∷◌, Ok, Some, codes}
 use Rattle.frz_board.specs.declared.man.Colour.{Colour}
 use Rattle.frz_board.specs.declared.man.Colour.TheVariants.{White, Black}
@@ -30,7 +30,7 @@ use Rattle.frz_commands_line.specs.Sides.{side_of}
 use Rattle.frz_commands_table.specs.Headline.{Headline}
 use Rattle.freezer.specs.Commands.{job_of}
 
--- the words of a call
+-- the words of each call
 abbrev pub check : (table : List ℕ) → List (List ℕ)
 check table = codes "check" ∷ table ∷ []
 
@@ -58,8 +58,8 @@ chaincheck table back = codes "chaincheck" ∷ table ∷ back ∷ []
 abbrev pub chainquery : (table fen : List ℕ) → List (List ℕ)
 chainquery table fen = codes "chainquery" ∷ table ∷ fen ∷ []
 
--- the call with these words, over these files of bytes and some input, gives this answer, and its
--- status is 0; where it reads a place again, it finds there what the store holds later
+-- the call with these words, over these files of bytes and some input, gives this answer with
+-- status 0. Where it reads a file again after some plies, it finds there what the store holds later
 pub record Succeeds (later : ℕ → Files) (words : List (List ℕ)) (files : Files)
     (a : Answer) : Type 0 where
   pub bytes : HoldsBytes files
@@ -67,12 +67,12 @@ pub record Succeeds (later : ℕ → Files) (words : List (List ℕ)) (files : F
   pub answer : (job_of later words).answers files input a
   pub done : a.status ≡ Success
 
--- the name holds later what it holds in these files
+-- whenever it is read again, the name holds what it holds in these files
 abbrev pub Stays : (table : List ℕ) → Files → (later : ℕ → Files) → Type 0
 Stays table files later = (k : ℕ) → later k table ≡ files table
 
--- the table is exact, FEN is a position of its set, and the text tells the bounds of both sides
--- there, which hold in chess
+-- TABLE is exact, FEN is a position of its set, and the text tells the bounds of both sides there,
+-- which hold in chess
 pub record TellsTrueBounds (table fen : List ℕ) (files : Files) (text : List ℕ) : Type 0 where
   pub exact : Headline table files
   pub p : Board
@@ -80,8 +80,9 @@ pub record TellsTrueBounds (table fen : List ℕ) (files : Files) (text : List �
   pub inside : Member exact.rules.groups p
   pub tells : TellsBounds exact.rules (value_by exact.rules) p text
 
--- the same of a table over a back table: by its exit lines, and by the back table where these say
--- nothing
+-- TABLE is exact over the back table, FEN is a position of its set, and the text tells the bounds
+-- of both sides there. Exits have the values of TABLE's exit lines, and of the back table where
+-- these say nothing
 pub record TellsChainedBounds (table back fen : List ℕ) (files : Files)
     (text : List ℕ) : Type 0 where
   pub exact : ChainHeadline table back files
@@ -96,9 +97,9 @@ pub record TellsSolvedBounds (rules fen : List ℕ) (files : Files) (text : List
   pub read : fen_of fen ≡ Ok p
   pub solved : TellsSolved rules p files text
 
--- the text is the report of the file, and each code by which it tells, of either side at any
+-- the text is the report of the file. Each code that the report uses, of either side at any
 -- position of the set, is that of the bound there, which holds in chess. Where the exits are true,
--- a squeeze that shows a win is a mutual zugzwang of chess
+-- each listed pair (a squeeze) that shows a win is a mutual zugzwang of chess
 pub record TellsTrueReport (table : List ℕ) (files : Files) (text : List ℕ) : Type 0 where
   pub tells : TellsReport table files text
   pub bounds : (side : Colour) (p : Board) → Member tells.contents.rules.groups p →
@@ -115,8 +116,8 @@ pub record TellsTrueReport (table : List ℕ) (files : Files) (text : List ℕ) 
       rank_at (kept_codes tells.contents tells.bytes) Black s.white_to_move ≡ 2 →
       IsZugzwang Black s.position squeeze.other
 
--- the text is the line of the side from the position, and the bound that it begins with is that of
--- the position, and holds in chess
+-- the text is the line of the side from the position. The bound that it begins with is that of the
+-- position, and holds in chess
 pub record TellsTrueLine (later : ℕ → Files) (table fen word : List ℕ) (files : Files)
     (text : List ℕ) : Type 0 where
   pub p : Board
@@ -127,7 +128,9 @@ pub record TellsTrueLine (later : ℕ → Files) (table fen word : List ℕ) (fi
   pub bound : KeepsBound tells.has.contents.rules (value_by tells.has.contents.rules) side p
       (lines.start_code tells.has)
 
--- the same of a session; and where the exits are true, the opponent forces no mate after any ply
+-- the text is the session of the side from the position. The bound that it begins with is that of
+-- the position, and holds in chess. Where the exits are true, the opponent cannot force mate after
+-- any ply
 pub record TellsTrueSession (later : ℕ → Files) (table fen word : List ℕ) (files : Files)
     (input text : List ℕ) : Type 0 where
   pub p : Board

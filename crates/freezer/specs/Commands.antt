@@ -1,5 +1,4 @@
--- What is to be done for each verb: a line for each command, whose job stands in a module of its
--- own.
+-- What each command is to do: one line for each, whose job is defined in a module of its own.
 use Rattle.std.specs.Prelude.{ℕ, List, Option, Some, None}
 use Rattle.frz_store.specs.Files.{Files}
 use Rattle.frz_answer.specs.declared.words.Refusal.TheVariants.{NoCommand}
@@ -22,7 +21,8 @@ use Rattle.freezer.specs.declared.verb.Verb.{Verb}
 use Rattle.freezer.specs.declared.verb.Verb.TheVariants.{Solve, Moves, Sans, Move, Query, Line, Play, Check, Build, Migrate, Chain, ChainCheck, ChainQuery, Sample, Report}
 use Rattle.freezer.specs.Verbs.{command_of}
 
--- by what the store holds each time that a place is read again after some plies
+-- the job of a command and the words behind it. `later k` is what the store holds when a file is
+-- read again after k plies
 abbrev pub job_by : (later : ℕ → Files) → Option (Verb × List (List ℕ)) → Job
 job_by later (Some (Solve, words)) = solve_words words
 job_by later (Some (Moves, words)) = moves_words words
@@ -41,6 +41,6 @@ job_by later (Some (Sample, words)) = sample_words words
 job_by later (Some (Report, words)) = report_words words
 job_by later None = refusing NoCommand
 
--- what is to be done where these are the words
+-- the job of the program's words; without a command they are refused
 abbrev pub job_of : (later : ℕ → Files) → List (List ℕ) → Job
 job_of later words = job_by later (command_of words)

@@ -1,5 +1,5 @@
-//! The law on the answers of the commands, and those on one call after another. The functions do
-//! nothing: their clauses are the laws.
+//! The law on the answers of all commands, and the laws on one call after another. Each function
+//! does nothing: its clauses are the laws.
 ghost use Rattle.std.specs.Prelude.{ℕ, List};
 ghost use Rattle.frz_store.specs.Files.{Files};
 ghost use Rattle.freezer.specs.Commands.{job_of};
@@ -9,8 +9,9 @@ pub mod calls;
 
 use frz_commands_line::laws::{one_line_answer, one_play_answer};
 
-/// Whatever the words are, and whatever the store holds later, there is one answer over any files
-/// and any input, and over files of bytes it means what it is to mean.
+/// For all words, and whatever the store holds when it is read again later, the call has exactly
+/// one answer over any files and any input. Over files of bytes, that answer means what its command
+/// promises.
 pub fn one_answer()
     ensures { (later : ℕ → Files) (words : List (List ℕ)) → IsLawful (job_of later words) }
 {

@@ -1,4 +1,5 @@
-//! The program `freezer`: it makes the real objects and calls the top call over them.
+//! The program `freezer`: it makes the real store, input and output, and calls the program over
+//! them.
 #![tactic(auto)]
 
 ghost use Rattle.std.specs.Prelude.{◌≡◌, ◌<◌, ℕ, map, drop, false, IfOk, IfErr, MatchResult};
@@ -31,7 +32,7 @@ use std::process::ExitCode;
 use std::sync::ledger::{Blank, Ledger};
 use std::{env, io};
 
-/// Why the words of the command line are not there.
+/// Why the program has no words of the command line: one of them is not text, or memory ran out.
 #[derive(Drop)]
 enum NoWords {
     NotText,
@@ -49,7 +50,7 @@ impl NoWords {
     }
 }
 
-/// Why the runtime gave no words: where it had memory, one of them is no text.
+/// Reads the runtime's error: memory ran out, or else a word of the command line is not text.
 fn why_none(fault: &io::Error) -> NoWords
     ensures { result ≡ reason_of (error_kind fault.now) }
 {
@@ -66,7 +67,7 @@ fn behind_name(alloc: Global, args: Args) -> Result<Vec<String>, AllocError>
     args.skip(1).collect(alloc)
 }
 
-/// The words after the program's name, of what the runtime gave.
+/// The words after the program's name, from what the runtime gave, or why there are none.
 fn collect(alloc: Global, given: io::Result<Args>) -> Result<Vec<String>, NoWords>
     ensures words { IfOk given (λ args. MatchResult result
         (λ words. words.items ≡ drop 1 (into_iter_items args))
@@ -91,7 +92,7 @@ fn main(rt: HostRuntime) -> ExitCode {
     ExitCode::from(run_once(alloc, &words, &mut store, &mut input, &mut out))
 }
 
-/// Calls the program once.
+/// Calls the program once, over any store, input and output.
 fn run_once<S: Store, I: Source, O: Sink>(
     alloc: Global,
     words: &[String],
@@ -114,7 +115,7 @@ fn run_once<S: Store, I: Source, O: Sink>(
     run_uncounted::<S, I, O, Brand>(alloc, words, store, input, out, blank)
 }
 
-/// Calls the program with a count of steps that nobody reads.
+/// Calls the program with a counter of steps that nobody reads.
 fn run_uncounted<S: Store, I: Source, O: Sink, L: Ledger>(
     alloc: Global,
     words: &[String],

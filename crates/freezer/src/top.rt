@@ -22,7 +22,7 @@ use frz_store::{Sink, Source, Store};
 use std::alloc::Global;
 use std::sync::ledger::Ledger;
 
-/// Runs the command that the words name.
+/// Runs the command that the first word names, and refuses where it names none.
 fn run<S: Store, I: Source, O: Sink, L: Ledger>(
     alloc: Global,
     words: &[String],
@@ -62,8 +62,8 @@ fn run<S: Store, I: Source, O: Sink, L: Ledger>(
     }
 }
 
-/// Does all that the program does, and gives its status. `words` are the words after the program's
-/// name; all text goes to `out`.
+/// Does all that the program does, and returns its exit status. `words` are the words after the
+/// program's name; all text goes to `out`.
 pub fn freezer<S: Store, I: Source, O: Sink, L: Ledger>(
     alloc: Global,
     words: &[String],
@@ -72,16 +72,17 @@ pub fn freezer<S: Store, I: Source, O: Sink, L: Ledger>(
     out: &mut O,
     steps: &mut Steps<L>,
 ) -> u8
-    // The status, the text, the files, the input taken, what they mean and what they cost, with
-    // each status and over every object, told or not: the fields of `Outcome` say it one by one.
-    // `later` is what the store held each time that a place was read again, after so many plies of
-    // a line or a session: where it tells, what it tells.
+    // The fields of `Outcome` say one by one what the status, the text, the files and the input
+    // taken are, what they mean and what they cost. They do so for each status, and over every
+    // store, input and output, whether its contract says what it holds (it is "told") or not.
+    // `later k` is what the store holds when a file is read again after k plies of a line or a
+    // session: a told store holds what it tells.
     ensures outcome { (later : ℕ → Files) × MayBeLater (S.files store.old) later
         × (Outcome (job_of later (map string_bytes words.now)) result
         (world_of S.Store I.Source O.Sink store.old input.old out.old steps.old)
         (world_of S.Store I.Source O.Sink store.new input.new out.new steps.new)) }
 
-    // An object that the call does not use stays as it was.
+    // A store or an input that the command does not use stays as it was.
     ensures store_unused { (later : ℕ → Files)
         → (job_of later (map string_bytes words.now)).needs.store ≡ false
         → store.new ≡ store.old }

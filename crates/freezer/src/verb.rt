@@ -4,7 +4,7 @@ ghost use Rattle.std.specs.Option.{option_map};
 ghost use Rattle.std.specs.String.{string_bytes};
 ghost use Rattle.freezer.specs.Verbs.{verb_of, command_of};
 
-/// The commands.
+/// The commands, each named by its first word on the command line.
 #[derive(Clone, Copy, Debug, PartialEq, Eq, Drop)]
 pub enum Verb {
     Solve,
@@ -24,7 +24,7 @@ pub enum Verb {
     Report,
 }
 
-/// The command that the word names.
+/// The command that the word names, if it names one.
 fn read_verb(word: &str) -> Option<Verb>
     ensures { result ≡ verb_of word.now }
 {
@@ -48,7 +48,8 @@ fn read_verb(word: &str) -> Option<Verb>
     }
 }
 
-/// The command that the first word names, and the words behind it.
+/// The command that the first word names, and the words behind it. `None` without words, or where
+/// the first word names no command.
 pub fn read_command(words: &[String]) -> Option<(Verb, &[String])>
     ensures { option_map (λ both. (both.0, map string_bytes both.1.now)) result
         ≡ command_of (map string_bytes words.now) }

@@ -31,7 +31,7 @@ pub record Found (job : Job) (free_files : Files) (free_input : List ℕ) (old :
   pub free : job.needs.reads ≡ Never → files ≡ free_files
   pub untaken : job.needs.input ≡ false → input ≡ free_input
 
--- those that were given
+-- the files and the input that were given
 abbrev pub as_given : (job : Job) (files : Files) (input : List ℕ) (old : World)
     → Agrees old files input → Found job files input old
 as_given job files input old agrees =
@@ -54,7 +54,7 @@ answered_over found a answer leaves costs = record {
   costs = costs;
 }
 
--- an answer over them with some text, of which no more was done than it says
+-- there is an answer over what was found, with some text, and no more was done than it says
 pub record Doing (job : Job) (files : Files) (input : List ℕ) (old new : World) : Type 0 where
   pub found : Found job files input old
   pub some : SomeAnswer (job.answers found.files found.input)

@@ -1,4 +1,4 @@
--- That a job over its words is lawful where the job is.
+-- A job over its words is lawful where the job itself is.
 use Rattle.std.proofs.Common.{◌≡◌, refl, ℕ, List, Bool, true, false, Option, Some, None}
 use Rattle.frz_store.specs.Files.{Files}
 use Rattle.frz_answer.specs.declared.status.Status.TheVariants.{Words}

@@ -64,7 +64,7 @@ pub gave_up : {T E : Type 0} {text : List ℕ} {result : Result T E} {old new : 
 gave_up {result = Ok x} none failed = cc
 gave_up {result = Err e} none failed = record { ok = tt; failed = failed }
 
--- and of the text that the two are: the sink failed within the first, or within the second
+-- of two texts as one: the sink failed within the first, or within the second
 pub failed_first : {first : List ℕ} {old new : SinkTold} (rest : List ℕ)
     → FailedWithin first old new → FailedWithin (first ++ rest) old new
 failed_first rest failed = failed_before _ rest _ _ _ failed refl
@@ -73,7 +73,7 @@ pub failed_next : {first next : List ℕ} {old mid new : SinkTold} → TookText 
     → FailedWithin next mid new → FailedWithin (first ++ next) old new
 failed_next took failed = failed_behind _ _ _ _ _ _ took refl failed
 
--- it took both, or the second was written
+-- the sink took both texts, or the second was written behind the first
 pub took_next : {first next : List ℕ} {old mid new : SinkTold} → TookText first old mid
     → TookText next mid new → TookText (first ++ next) old new
 took_next took more = took_behind _ _ _ _ _ _ took refl more

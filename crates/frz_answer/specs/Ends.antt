@@ -1,4 +1,4 @@
--- How a command ends, beside what it is to do.
+-- How a command may end, and what it then has done of its job.
 use Rattle.std.specs.Prelude.{◌≡◌, ◌≢◌, ◌⊎◌, ℕ, List, [], IsTrue, Bool, false, Option, Some, None, ⊤}
 use Rattle.frz_store.specs.Files.{Files}
 use Rattle.frz_store.specs.Outside.{Rose}
@@ -15,13 +15,14 @@ use Rattle.frz_answer.specs.World.{World, Agrees, Later, Fine, spent}
 use Rattle.frz_answer.specs.Answers.{Answer, Gives, Begins, Cuts, TookLines, held}
 use Rattle.frz_answer.specs.Jobs.{Job, Never}
 
--- the job may meet this fault, and has met its cause
+-- the job is one that can meet this fault; at a fault of the store or the input, the count of such
+-- faults has risen
 abbrev pub MayMeet : Job → Fault → World → World → Type 0
 MayMeet job Store old new = IsTrue job.needs.store × Rose old.store.faults new.store.faults
 MayMeet job Input old new = IsTrue job.needs.input × Rose old.input.faults new.input.faults
 MayMeet job NoMemory old new = IsTrue job.needs.memory
 
--- the job may end so; with a status of its own, no object has failed
+-- the job can end so. Where it ends with a status of its own, neither store, input nor sink failed
 abbrev pub MayEnd : Job → End → World → World → Type 0
 MayEnd job (Done status) old new = OneOf status job.statuses × Fine old new
 MayEnd job SinkFault old new = Rose old.out.faults new.out.faults
@@ -35,30 +36,33 @@ MayHaveWritten SinkFault = ⊤
 MayHaveWritten (Stopped Store) = ⊤
 MayHaveWritten (Stopped fault) = ⊥
 
--- where a fault stopped the command, whole lines were written, or nothing
+-- where a fault stopped the command, it wrote whole lines or nothing, and nothing if its job does
+-- not speak before its end
 abbrev pub EndsInLines : Bool → End → SinkTold → SinkTold → Type 0
 EndsInLines speaks (Stopped fault) old new =
     TookLines [] old new × (speaks ≡ false → new.taken ≡ old.taken)
 EndsInLines speaks end old new = ⊤
 
--- no other name was written
+-- nothing was written to the store but under this name
 abbrev pub WritesOnly : Option (List ℕ) → StoreTold → StoreTold → Type 0
 WritesOnly None old new = Unwritten old new
 WritesOnly (Some name) old new = (q : List ℕ) → q ≢ name → held new.files q ≡ held old.files q
 
--- with a status of its own, where there was no room to append there is none afterwards
+-- where the command ends with a status of its own and the store had no room to append before, it
+-- has none afterwards
 abbrev pub LeavesNoRoom : End → StoreTold → StoreTold → Type 0
 LeavesNoRoom (Done status) old new = old.room ≡ 0 → new.room ≡ 0
 LeavesNoRoom end old new = ⊤
 
--- how much of an answer is given where a command ends so
+-- how much of an answer was given where a command ends so
 abbrev pub Leaves : End → Answer → World → World → Type 0
 Leaves (Done status) a old new = (a.status ≡ status) × Gives a old new
 Leaves SinkFault a old new = Cuts a old new
 Leaves (Stopped fault) a old new = Begins a [] old new
 
--- an answer of the job over some files and some input that agree with what is told, and so much of
--- it was given, within its costs. What the job does not look at is free
+-- the job has an answer over some files and some input that agree with what is known of them, and
+-- the command gave as much of it as its end says, within its costs. Where the job looks at no files
+-- or no input, these are free_files or free_input
 pub record Answered
     (job : Job) (free_files : Files) (free_input : List ℕ) (end : End)
     (old new : World) : Type 0 where
@@ -72,7 +76,7 @@ pub record Answered
   pub leaves : Leaves end a old new
   pub costs : job.costs files input a (spent old) (spent new)
 
--- the job was done rightly, and ends so
+-- the command did its job as its contract says, and ends so
 pub record Ran (job : Job) (end : End) (old new : World) : Type 0 where
   pub later : Later old new
   pub may : MayEnd job end old new

@@ -5,12 +5,12 @@ use Rattle.frz_store.specs.Files.{Files}
 use Rattle.frz_answer.specs.Answers.{Answer}
 use Rattle.frz_answer.specs.Jobs.{Job}
 
--- there is an answer, and only one
+-- there is exactly one such answer
 abbrev pub HasOneAnswer : (Answer → Type 0) → Type 0
 HasOneAnswer R = (a : Answer) × R a × ((b : Answer) → R b → b ≡ a)
 
--- over any files and any input there is one answer, and over files of bytes, which all files are,
--- it means what it is to mean
+-- over any files and any input the job has exactly one answer, and over files of bytes, as all real
+-- files are, the answer means what the job says that it means
 pub record IsLawful (job : Job) : Type 0 where
   pub one : (files : Files) (input : List ℕ) → HasOneAnswer (job.answers files input)
   pub means : (files : Files) (input : List ℕ) (a : Answer) → HoldsBytes files →

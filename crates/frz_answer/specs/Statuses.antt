@@ -41,16 +41,16 @@ abbrev pub end_of_fault : StoreFault → End
 end_of_fault refusal.Failed = Stopped Store
 end_of_fault refusal.NoMemory = Stopped NoMemory
 
--- it is the code of one of these
+-- whether the number is the code of one of these statuses
 abbrev pub has_code : List Status → ℕ → Bool
 has_code [] n = false
 has_code (s ∷ ss) n = (n == code_of s) || has_code ss n
 
--- it is one of these
+-- the status is one of these
 abbrev pub OneOf : Status → List Status → Type 0
 OneOf s ss = has_code ss (code_of s) ≡ true
 
--- each of the first is one of the second
+-- whether each status of the first list is in the second
 abbrev pub subset : List Status → List Status → Bool
 subset [] ts = true
 subset (s ∷ ss) ts = has_code ts (code_of s) && subset ss ts

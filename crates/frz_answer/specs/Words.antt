@@ -1,4 +1,4 @@
--- The words behind a command's name: how many there are, and words that are no command.
+-- The words behind a command's name: how many there are, and the refusal of those that do not fit.
 use Rattle.std.specs.Prelude.{◌≡◌, ℕ, List, [], ◌∷◌, Bool, true, false, Option, Some, None}
 use lib.Chars.{codes}
 use Rattle.frz_answer.specs.declared.status.Status.TheVariants.{Words}
@@ -12,11 +12,11 @@ words_line NoCommand = codes "words: command\n"
 words_line Count = codes "words: count\n"
 words_line SameName = codes "words: same name\n"
 
--- to refuse the words
+-- the job of refusing the words
 abbrev pub refusing : Refusal → Job
 refusing why = plain (Words ∷ []) (λ files input a. a ≡ says Words (words_line why) files)
 
--- the words, where there are so many
+-- the elements of a list, where there are one, two or three as the name says
 abbrev pub one_word_of : {A : Type 0} → List A → Option A
 one_word_of (x ∷ []) = Some x
 one_word_of _ = None
@@ -29,12 +29,12 @@ abbrev pub three_words_of : {A : Type 0} → List A → Option (A × A × A)
 three_words_of (x ∷ y ∷ z ∷ []) = Some (x, y, z)
 three_words_of _ = None
 
--- the job over these words, where there are as many as it takes
+-- the job with these words, where there are as many as it takes; else their number is refused
 abbrev pub taking : {A : Type 0} → (A → Job) → Option A → Job
 taking job None = refusing Count
 taking job (Some words) = job words
 
--- the job, where two names differ
+-- the job, where two names differ; else they are refused
 abbrev pub unless : Bool → Job → Job
 unless true job = refusing SameName
 unless false job = job

@@ -1,4 +1,4 @@
--- What the objects outside and the counter of steps tell, all in one record.
+-- What is known of the store, the input, the sink and the counter of steps, all in one record.
 use Rattle.std.specs.Prelude.{◌≡◌, ℕ, ◌≤◌, List, length, take, drop, IfSome}
 use Rattle.std.specs.Option.{option_map}
 use Rattle.std.specs.Io.KnownBytes.{append_known}
@@ -23,8 +23,8 @@ abbrev pub world_of : {A B C : Type 0} → StoreGhosts A → SourceGhosts B → 
 world_of s i o store input out steps =
     world (store_of s store) (source_of i input) (sink_of o out) steps
 
--- what was spent until now: the steps that were made, the calls
--- of the store and the bytes asked of it
+-- what was spent until now: the steps made, the calls of the
+-- store and the bytes asked of it
 pub record Spent : Type 0 where
   pub steps : ℕ
   pub calls : ℕ
@@ -36,8 +36,8 @@ spent_by store steps = record { steps = steps; calls = store.calls; asked = stor
 abbrev pub spent : World → Spent
 spent w = spent_by w.store w.steps
 
--- these may be what the store holds and what the input has left: where the objects tell, it is what
--- they tell; where the store does not, any files of bytes
+-- these may be the files in the store and the bytes that the input has left. Where it is known what
+-- they are, it is these; where the store's files are not known, any files of bytes agree
 pub record Agrees (w : World) (files : Files) (input : List ℕ) : Type 0 where
   pub store : MayBeHeld w.store.files files
   pub source : IfSome w.input.left (λ told. told ≡ input)
@@ -49,21 +49,21 @@ pub record Later (old new : World) : Type 0 where
   pub out : old.out.faults ≤ new.out.faults
   pub steps : old.steps ≤ new.steps
 
--- no object has failed
+-- neither store, input nor sink has failed
 pub record Fine (old new : World) : Type 0 where
   pub store : StoreFine old.store new.store
   pub input : new.input.faults ≡ old.input.faults
   pub out : new.out.faults ≡ old.out.faults
 
--- nothing was written or taken: only counts may have risen
+-- nothing was written, and nothing taken of the input: only counts may have risen
 pub record Quiet (old new : World) : Type 0 where
   pub later : Later old new
   pub store : Unwritten old.store new.store
   pub left : new.input.left ≡ old.input.left
   pub taken : new.out.taken ≡ old.out.taken
 
--- nothing was written to the store; the sink took this text, and these bytes were taken from the
--- input
+-- the sink took this text, these bytes were taken from the input, and nothing was written to the
+-- store
 pub record Came (text bytes : List ℕ) (old new : World) : Type 0 where
   pub later : Later old new
   pub fine : Fine old new

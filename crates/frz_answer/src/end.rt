@@ -6,10 +6,10 @@ use crate::fault::Fault;
 use crate::status::Status;
 use frz_store::StoreFault;
 
-/// The status where the sink failed: no line can name it.
+/// The program's status where the sink failed. No line can name this fault.
 pub const SINK_FAULT: u8 = 9;
 
-/// How a command ends: with a status of its own and all of its text, or at its first fault.
+/// How a command ends: with a status of its own and its whole text written, or at its first fault.
 #[derive(Clone, Copy, Debug, PartialEq, Eq, Drop)]
 pub enum End {
     Done(Status),

@@ -1,8 +1,9 @@
-//! What stops a command.
+//! The faults that stop a command.
 ghost use Rattle.std.specs.Prelude.{◌≡◌};
 ghost use Rattle.frz_answer.specs.Statuses.{fault_code, fault_line};
 
-/// What stops a command before its end, but for a fault of the sink: a line names it.
+/// A fault that stops a command before its end and that a line names. A fault of the sink is none
+/// of these, since no line can be written then.
 #[derive(Clone, Copy, Debug, PartialEq, Eq, Drop)]
 pub enum Fault {
     Store,

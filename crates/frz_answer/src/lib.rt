@@ -1,5 +1,5 @@
-//! What the commands of the program have in common: how they end, the line that names a fault, and
-//! the contract that each of them keeps beside its answers.
+//! What all commands of the program share: how they end, the line that names a fault, and the
+//! contract that each command keeps beside its own answers.
 #![tactic(auto)]
 
 mod end;

@@ -1,4 +1,4 @@
-//! Texts that are written piece by piece. The first write that fails ends the text.
+//! Texts that are written piece by piece: the first write that fails ends the text.
 ghost use Rattle.std.specs.Prelude.{◌++◌, codes, decimal};
 ghost use Rattle.frz_store.specs.Told.{sink_of};
 ghost use Rattle.frz_answer.specs.Texts.{WroteText};
@@ -20,7 +20,7 @@ pub fn write_number<O: Sink>(number: u64, out: &mut O) -> Result<(), Failed>
     write_piece(Buffer::new().format(number).as_bytes(), out)
 }
 
-/// Writes a text as a line of its own.
+/// Writes a text and a line feed behind it.
 pub fn write_line<O: Sink>(text: &[u8], out: &mut O) -> Result<(), Failed>
     ensures { WroteText (text.now ++ codes "\n") result
         (sink_of O.Sink out.old) (sink_of O.Sink out.new) }
@@ -29,7 +29,7 @@ pub fn write_line<O: Sink>(text: &[u8], out: &mut O) -> Result<(), Failed>
     write_piece(b"\n", out)
 }
 
-/// Writes a word, and a number behind it.
+/// Writes a word, and a number in decimal digits behind it. No blank is put between them.
 pub fn write_numbered<O: Sink>(word: &[u8], number: u64, out: &mut O) -> Result<(), Failed>
     ensures { WroteText (word.now ++ decimal number) result
         (sink_of O.Sink out.old) (sink_of O.Sink out.new) }
@@ -38,7 +38,7 @@ pub fn write_numbered<O: Sink>(word: &[u8], number: u64, out: &mut O) -> Result<
     write_number(number, out)
 }
 
-/// Writes a word, a number behind it, and the end of the line.
+/// Writes a word, a number as [`write_numbered`] does, and a line feed.
 pub fn write_numbered_line<O: Sink>(word: &[u8], number: u64, out: &mut O) -> Result<(), Failed>
     ensures { WroteText (word.now ++ decimal number ++ codes "\n") result
         (sink_of O.Sink out.old) (sink_of O.Sink out.new) }

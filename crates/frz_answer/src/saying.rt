@@ -1,4 +1,4 @@
-//! The last piece of a text, and the line that names a fault.
+//! How a command ends once its text was written, and the line that names a fault.
 ghost use Rattle.std.specs.Prelude.{ℕ, List};
 ghost use Rattle.frz_store.specs.Told.{SinkTold, sink_of};
 ghost use Rattle.frz_answer.specs.Ends.{Said};
@@ -10,7 +10,8 @@ use crate::printing::write_piece;
 use crate::status::Status;
 use frz_store::{Failed, Sink};
 
-/// Ends a command: with this status where its text was written, as a printer tells.
+/// The end of a command by what the writing of its text answered: this status where the text was
+/// written, and a fault of the sink where it was not.
 pub fn said(status: Status, written: Result<(), Failed>) -> End
     ensures { (text : List ℕ) (old new : SinkTold) → WroteText text written old new
         → Said status text result old new }
@@ -21,14 +22,15 @@ pub fn said(status: Status, written: Result<(), Failed>) -> End
     }
 }
 
-/// Writes all of a command's text, and ends with this status.
+/// Writes a command's whole text, and ends it with this status, or with a fault of the sink.
 pub fn say<O: Sink>(status: Status, text: &[u8], out: &mut O) -> End
     ensures { Said status text.now result (sink_of O.Sink out.old) (sink_of O.Sink out.new) }
 {
     said(status, write_piece(text, out))
 }
 
-/// Writes the line that names a fault, where there is one, and gives the status.
+/// Gives the status with which the program ends. Where a fault stopped the command, it writes the
+/// line that names the fault first. A failed write gives the status of the sink's fault.
 pub fn finish<O: Sink>(end: End, out: &mut O) -> u8
     ensures { Finished end result (sink_of O.Sink out.old) (sink_of O.Sink out.new) }
 {

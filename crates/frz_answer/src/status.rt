@@ -1,8 +1,9 @@
-//! The statuses of a command's own.
+//! The statuses that a command itself can end with.
 ghost use Rattle.std.specs.Prelude.{◌≡◌};
 ghost use Rattle.frz_answer.specs.Statuses.{code_of};
 
-/// A status of a command's own: it tells of no fault of the outside.
+/// A status that a command itself ends with. It means that neither the store, the input, the sink
+/// nor the memory failed: these faults have statuses of their own.
 #[derive(Clone, Copy, Debug, PartialEq, Eq, Drop)]
 pub enum Status {
     Success,

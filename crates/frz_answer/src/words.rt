@@ -7,16 +7,16 @@ ghost use Rattle.frz_answer.specs.Words.{words_line, one_word_of, two_words_of, 
 /// Why the words of the command line are no command.
 #[derive(Clone, Copy, Debug, PartialEq, Eq, Drop)]
 pub enum Refusal {
-    /// There is no first word, or it names no command.
+    /// The first word is missing or names no command.
     NoCommand,
-    /// The command takes another number of words.
+    /// The command does not take this number of words.
     Count,
     /// Two names that have to differ are equal.
     SameName,
 }
 
 impl Refusal {
-    /// The line that refuses the words.
+    /// The line that refuses the words, with its line feed.
     pub fn line(self) -> &'static [u8]
         ensures { result.now ≡ words_line self }
     {

@@ -8,7 +8,8 @@ use Rattle.frz_arena.specs.Arena.{Arena}
 use Rattle.frz_arena.specs.Codes.{code_of}
 use Rattle.frz_arena.specs.Plies.{WinsWithin, FailsWithin}
 
--- the least plies of a win, else the least plies of a failure, else a hold
+-- the bound of the side at p: a win or a failure with its least plies, or a hold, where the side
+-- neither wins nor fails within any number of plies
 abbrev pub IsBound : {M N V : Type 0} → Arena M N V → Colour → N → Bound → Type 0
 IsBound arena side p (Wins n) =
     WinsWithin arena side n p × ((k : ℕ) → k < n → WinsWithin arena side k p → ⊥)
@@ -17,7 +18,7 @@ IsBound arena side p Holds =
 IsBound arena side p (Fails m) =
     FailsWithin arena side m p × ((k : ℕ) → k < m → FailsWithin arena side k p → ⊥)
 
--- 0 where the position is broken, else the code of the bound
+-- c is 0 where the position is broken, else the code of its bound
 abbrev pub IsCodeAt : {M N V : Type 0} → Arena M N V → Colour → N → ℕ → Type 0
 IsCodeAt arena side p c =
     ((arena.node p ≡ Broken) × (c ≡ 0))

@@ -4,7 +4,7 @@ use Rattle.std.specs.List.{Contains}
 use Rattle.frz_board.specs.declared.man.Colour.{Colour}
 use Rattle.frz_board.specs.Men.{other_of}
 
--- who is to move, whether his king is attacked, his legal moves, and the position after one
+-- chess: who is to move, whether his king is attacked, his legal moves, and the position after one
 pub record Chess (P M : Type 0) : Type 0 where
   pub turn : P → Colour
   pub in_check : P → Bool
@@ -29,13 +29,13 @@ EachMove {P} {M} chess F p = (m : M) → Contains (chess.moves p) m → F (chess
 abbrev pub OwnMoveTo : {P M : Type 0} → Chess P M → Colour → (P → Type 0) → P → Type 0
 OwnMoveTo chess side F p = (chess.turn p ≡ side) × SomeMove chess F p
 
--- its opponent is to move and has a legal move, and each of them leads to a position with F
+-- the side's opponent is to move and has a legal move, and each of them leads to a position with F
 abbrev pub EveryReplyTo : {P M : Type 0} → Chess P M → Colour → (P → Type 0) → P → Type 0
 EveryReplyTo chess side F p =
     (chess.turn p ≡ other_of side) × (chess.moves p ≢ []) × EachMove chess F p
 
 -- within n plies the side forces mate, or a goal with its lag counted, against every legal reply;
--- goal gives the lag of each goal
+-- goal gives the lag of a position that is a goal
 abbrev pub Forces : {P M : Type 0} → Chess P M → (P → Option ℕ) → Colour → ℕ → P → Type 0
 Forces chess goal side zero p = (goal p ≡ Some 0) ⊎ IsMated chess (other_of side) p
 Forces chess goal side (suc n) p =
@@ -44,7 +44,7 @@ Forces chess goal side (suc n) p =
     ⊎ (OwnMoveTo chess side (Forces chess goal side n) p
     ⊎ EveryReplyTo chess side (Forces chess goal side n) p))
 
--- no goal but mate
+-- no position is a goal: only mate counts
 abbrev pub mate_alone : {P : Type 0} → P → Option ℕ
 mate_alone p = None
 

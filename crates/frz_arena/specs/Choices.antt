@@ -7,11 +7,11 @@ use Rattle.frz_arena.specs.Arena.{Arena}
 use Rattle.frz_arena.specs.LocalCodes.{arm_code}
 use Rattle.frz_arena.specs.declared.choice.Choice.{Choice}
 
--- it may be taken, and has the code
+-- the choice is allowed, and has this code
 abbrev pub has_code : ℕ → Choice → Bool
 has_code code x = x.allowed && (x.code == code)
 
--- an arm as its mover sees it
+-- an arm as its mover sees it: the side itself may play its free moves only, its opponent all
 abbrev pub choice_of : {M N V : Type 0} → Arena M N V → Colour → (N → ℕ) → Colour → Arm M N V →
     Choice
 choice_of arena side entry mover a =

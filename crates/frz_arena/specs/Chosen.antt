@@ -1,4 +1,4 @@
--- The move that a kept code asks for.
+-- The move that the code kept for a position asks for.
 use Rattle.std.specs.Prelude.{◌≡◌, ◌<◌, ◌-◌, ◌==◌, ◌&&◌, ◌||◌, not, ℕ, Bool, true, false, List, Some, slice_get, ◌⊎◌}
 use Rattle.std.specs.List.{Contains}
 use Rattle.frz_board.specs.declared.man.Colour.{Colour}
@@ -8,14 +8,14 @@ use Rattle.frz_arena.specs.Arena.{Arena}
 use Rattle.frz_arena.specs.Codes.{is_win}
 use Rattle.frz_arena.specs.LocalCodes.{arm_code}
 
--- the element at place i passes the test, and none before it does
+-- x, the element with index i, passes the test, and none before it does
 pub record IsFirst {A : Type 0} (test : A → Bool) (xs : List A) (i : ℕ) (x : A) : Type 0 where
   pub here : slice_get xs i ≡ Some x
   pub passes : test x ≡ true
   pub before : (j : ℕ) (y : A) → j < i → slice_get xs j ≡ Some y → test y ≡ false
 
--- from a win the first with one ply less; else the first that
--- holds, and where none holds, the first with code 0
+-- the element that the kept code asks for: from a win the first whose code is one ply (2) less;
+-- else the first with code 1, a hold, and where there is none, the first with code 0
 abbrev pub IsFound : {A : Type 0} → (with_code : ℕ → A → Bool) → (won : Bool) → ℕ → List A → ℕ → A →
     Type 0
 IsFound with_code true c xs i x = IsFirst (with_code (c - 2)) xs i x
@@ -29,7 +29,7 @@ abbrev pub is_candidate : {M N V : Type 0} → Arena M N V → Colour → (N →
 is_candidate arena side entry mover code a =
     (not (same_colour mover side) || a.free) && (arm_code arena side entry a == code)
 
--- the mover's arm that the code of the position asks for
+-- a, the arm with index i, is the one that the code kept for p asks the mover for
 abbrev pub IsChosen : {M N V : Type 0} → Arena M N V → Colour → (N → ℕ) → Colour → N → ℕ →
     Arm M N V → Type 0
 IsChosen arena side entry mover p i a =

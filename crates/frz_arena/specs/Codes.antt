@@ -12,17 +12,17 @@ code_of (Wins n) = 2 + 2 * n
 code_of Holds = 1
 code_of (Fails m) = 3 + 2 * m
 
--- the plies of a win or a failure
+-- the plies of a win or a failure, and 0 for a hold
 abbrev pub plies_of : Bound → ℕ
 plies_of (Wins n) = n
 plies_of Holds = 0
 plies_of (Fails m) = m
 
--- 2, 4, 6 ..
+-- the codes of wins: 2, 4, 6 ..
 abbrev pub is_win : ℕ → Bool
 is_win c = (c % 2 == 0) && nat_lt 0 c
 
--- 3, 5, 7 ..
+-- the codes of failures: 3, 5, 7 ..
 abbrev pub is_failure : ℕ → Bool
 is_failure c = (c % 2 == 1) && nat_lt 1 c
 

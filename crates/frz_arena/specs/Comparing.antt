@@ -8,11 +8,12 @@ use Rattle.frz_arena.specs.declared.bound.Bound.TheVariants.{Wins, Holds, Fails}
 use Rattle.frz_arena.specs.Exits.{IsExit}
 use Rattle.frz_arena.specs.Games.{Game}
 
--- the second game is no worse for the side than the first: its set has each position of the first
--- one's, each move of the side that is free in the first is free in it, and just outside the first
--- set it is no worse: a position that only the second set has is bad for the side in the first
--- game, and elsewhere a value by which the side wins does so in the second game in no more plies,
--- and what is bad for the side in the second game is bad for it in the first
+-- the second game is no worse for the side than the first. Its set has each position of the first
+-- set. Each move of the side that is free in the first game is free in it. A position just outside
+-- the first set that only the second set has is bad for the side in the first game. At the other
+-- positions just outside the first set, a value by which the side wins in the first game wins for
+-- it in the second, in no more plies, and a value that is bad for it in the second game is bad in
+-- the first
 pub record IsNoWorse {P M V W : Type 0} (first : Game P M V) (second : Game P M W)
     (side : Colour) : Type 0 where
   pub member : (p : P) → first.member p ≡ true → second.member p ≡ true

@@ -11,8 +11,9 @@ use Rattle.frz_arena.specs.declared.arm.Next.TheVariants.{Inside, Outside}
 use Rattle.frz_arena.specs.Arena.{Arena}
 use Rattle.frz_arena.specs.Chess.{Chess}
 
--- the set, the free moves, and the value of each position
--- outside, which may have a number for its lag
+-- a restricted game: chess, the set (member), the free moves, and the value of each position
+-- outside. What a value is worth to a side is its class; lag is its number of plies to mate, where
+-- numbered says that it gives one
 pub record Game (P M V : Type 0) : Type 0 where
   pub chess : Chess P M
   pub member : P → Bool
@@ -29,7 +30,7 @@ node_by true (m ∷ ms) check turn = Going turn
 node_by true [] true turn = Mate turn
 node_by true [] false turn = Stalemate turn
 
--- to a position of the set, or out of it
+-- where a move to q leads: inside, to a position of the set, or outside, to its value
 abbrev pub next_by : {P V : Type 0} → (member : Bool) → P → V → Next P V
 next_by true q v = Inside q
 next_by false q v = Outside v
@@ -40,7 +41,7 @@ arm_of game p m =
     let q = game.chess.play p m in
     record { mv = m; free = game.free p m; next = next_by (game.member q) q (game.value q) }
 
--- the restricted game as an arena: one arm a legal move, in the order of the moves
+-- the restricted game as an arena: one arm for each legal move, in the order of the moves
 abbrev pub arena_of : {P M V : Type 0} → Game P M V → Arena M P V
 arena_of game = record {
   node =
@@ -50,7 +51,7 @@ arena_of game = record {
   lag = game.lag;
 }
 
--- a position outside the set is a goal where its value is good
+-- a position outside the set is a goal where its value is good, with the lag of the value
 abbrev pub goal_by : (member : Bool) → Class → (lag : ℕ) → Option ℕ
 goal_by true class lag = None
 goal_by false Good lag = Some lag

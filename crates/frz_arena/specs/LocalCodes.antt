@@ -11,30 +11,32 @@ use Rattle.frz_arena.specs.declared.arm.Next.TheVariants.{Inside, Outside}
 use Rattle.frz_arena.specs.Arena.{Arena}
 use Rattle.frz_arena.specs.Codes.{is_win, is_failure, exit_code}
 
--- the least of some codes, and 0 of none
+-- the least of some codes, and 0 where there is none
 abbrev pub least : List ℕ → ℕ
 least [] = 0
 least (c ∷ []) = c
 least (c ∷ d ∷ cs) = min c (least (d ∷ cs))
 
--- the greatest of some codes, and 0 of none
+-- the greatest of some codes, and 0 where there is none
 abbrev pub greatest : List ℕ → ℕ
 greatest [] = 0
 greatest (c ∷ cs) = max c (greatest cs)
 
--- the mover seeks one kind of code and shuns the other: the least sought one with a ply more,
--- else 1 where some code is not shunned, else the greatest with a ply more
+-- the code that the choice of a mover gives, who seeks one kind of code and shuns the other: the
+-- least sought code with a ply (2) more; else 1 where some code is not shunned; else the greatest
+-- code with a ply more
 abbrev pub chosen_code : (sought shunned : ℕ → Bool) → List ℕ → ℕ
 chosen_code sought shunned cs =
     if list_any sought cs then least (filter sought cs) + 2
     else (if list_all shunned cs then greatest cs + 2 else 1)
 
--- the side is to move, with the codes of its free moves
+-- the code where the side is to move, by the codes of its free moves: 3, a failure at once, with
+-- none
 abbrev pub own_code : List ℕ → ℕ
 own_code [] = 3
 own_code (c ∷ cs) = chosen_code is_win is_failure (c ∷ cs)
 
--- the opponent is to move, with the codes of all his moves
+-- the code where the opponent is to move, by the codes of all his moves
 abbrev pub other_code : List ℕ → ℕ
 other_code cs = chosen_code is_failure is_win cs
 
@@ -43,7 +45,8 @@ abbrev pub turn_code : (own : Bool) → List ℕ → ℕ
 turn_code true = own_code
 turn_code false = other_code
 
--- the local code at each kind of position
+-- the local code at each kind of position: free are the codes of the free moves, all those of all
+-- moves
 abbrev pub node_code : Colour → Node → (free all : List ℕ) → ℕ
 node_code side Broken free all = 0
 node_code side (Mate mover) free all = if same_colour mover side then 3 else 2
@@ -56,11 +59,11 @@ abbrev pub code_by : {N V : Type 0} → (N → ℕ) → (V → ℕ) → Next N V
 code_by entry code (Inside q) = entry q
 code_by entry code (Outside v) = code v
 
--- the same with the entries of the side at the positions of the arena
+-- the code of where a move leads, for the side: the entry of a position, or the code of an exit
 abbrev pub next_code : {M N V : Type 0} → Arena M N V → Colour → (N → ℕ) → Next N V → ℕ
 next_code arena side entry = code_by entry (λ v. exit_code (arena.class v side) (arena.lag v))
 
--- the code of a move
+-- the code of an arm: that of where it leads
 abbrev pub arm_code : {M N V : Type 0} → Arena M N V → Colour → (N → ℕ) → Arm M N V → ℕ
 arm_code arena side entry a = next_code arena side entry a.next
 
@@ -74,11 +77,11 @@ free_codes arena side entry p = codes_of arena side entry (filter (λ a. a.free)
 abbrev pub all_codes : {M N V : Type 0} → Arena M N V → Colour → (N → ℕ) → N → List ℕ
 all_codes arena side entry p = codes_of arena side entry (arena.arms p)
 
--- the code that the entries give the position
+-- the local code of p, which the entries one ply on give it
 abbrev pub local_code : {M N V : Type 0} → Arena M N V → Colour → (N → ℕ) → N → ℕ
 local_code arena side entry p =
     node_code side (arena.node p) (free_codes arena side entry p) (all_codes arena side entry p)
 
--- each entry is its local code
+-- the entry of each position is its local code
 abbrev pub MeetsEquations : {M N V : Type 0} → Arena M N V → Colour → (N → ℕ) → Type 0
 MeetsEquations {M} {N} arena side entry = (p : N) → entry p ≡ local_code arena side entry p

@@ -1,4 +1,4 @@
--- The same arena with other names for its positions: their numbers.
+-- An arena with other names for its positions, such as their numbers.
 use Rattle.std.specs.Prelude.{◌≡◌, ◌≢◌, ◌≤◌, ◌<◌, ℕ, List, [], map, Option, Some, None}
 use Rattle.frz_board.specs.declared.man.Colour.{Colour}
 use Rattle.frz_arena.specs.declared.node.Node.{Node}
@@ -32,8 +32,8 @@ pub record Numbering (N : Type 0) : Type 0 where
   pub number : N → Option ℕ
   pub at : ℕ → Option N
 
--- both ways are inverse, each number is below the size, and
--- exactly the positions that are not broken have one
+-- number and at are inverse to each other, each number is below the size, and exactly the positions
+-- that are not broken have one
 pub record IsNumbering {M N V : Type 0} (numbers : Numbering N) (arena : Arena M N V) : Type 0 where
   pub at_number : (p : N) (i : ℕ) → numbers.number p ≡ Some i → numbers.at i ≡ Some p
   pub number_at : (p : N) (i : ℕ) → numbers.at i ≡ Some p → numbers.number p ≡ Some i

@@ -9,7 +9,7 @@ use Rattle.frz_arena.specs.declared.arm.Next.{Next}
 use Rattle.frz_arena.specs.declared.arm.Next.TheVariants.{Inside, Outside}
 use Rattle.frz_arena.specs.Arena.{Arena, IsArm}
 
--- the move leads to a position with P, or out of the graph to a value with Q
+-- the move leads to a position that satisfies P, or out of the graph to a value that satisfies Q
 abbrev pub LeadsTo : {N V : Type 0} → (N → Type 0) → (V → Type 0) → Next N V → Type 0
 LeadsTo P Q (Inside q) = P q
 LeadsTo P Q (Outside v) = Q v
@@ -22,19 +22,19 @@ IsGoodExit arena side n v = (arena.class v side ≡ Good) × (arena.lag v ≤ n)
 abbrev pub IsBadExit : {M N V : Type 0} → Arena M N V → Colour → V → Type 0
 IsBadExit arena side v = arena.class v side ≡ Bad
 
--- some free move of the position has P
+-- some free move of the position leads to where P holds
 abbrev pub SomeFree : {M N V : Type 0} → Arena M N V → N → (Next N V → Type 0) → Type 0
 SomeFree {M} {N} {V} arena p P = (a : Arm M N V) × IsArm arena p a × (a.free ≡ true) × P a.next
 
--- each free move of the position has P
+-- each free move of the position leads to where P holds
 abbrev pub EachFree : {M N V : Type 0} → Arena M N V → N → (Next N V → Type 0) → Type 0
 EachFree {M} {N} {V} arena p P = (a : Arm M N V) → IsArm arena p a → a.free ≡ true → P a.next
 
--- some move of the position has P, free or not
+-- some move of the position, free or not, leads to where P holds
 abbrev pub SomeArm : {M N V : Type 0} → Arena M N V → N → (Next N V → Type 0) → Type 0
 SomeArm {M} {N} {V} arena p P = (a : Arm M N V) × IsArm arena p a × P a.next
 
--- each move of the position has P, free or not
+-- each move of the position, free or not, leads to where P holds
 abbrev pub EachArm : {M N V : Type 0} → Arena M N V → N → (Next N V → Type 0) → Type 0
 EachArm {M} {N} {V} arena p P = (a : Arm M N V) → IsArm arena p a → P a.next
 
@@ -60,7 +60,7 @@ WinsWithin arena side (suc n) p =
     WinsWithin arena side n p
     ⊎ MovesToGood arena side (LeadsTo (WinsWithin arena side n) (IsGoodExit arena side n)) p
 
--- the side is mated, or it is to move and no move of its is free
+-- the side is mated, or it is to move and none of its moves is free
 abbrev pub IsLost : {M N V : Type 0} → Arena M N V → Colour → N → Type 0
 IsLost {M} {N} {V} arena side p =
     (arena.node p ≡ Mate side)
@@ -74,7 +74,7 @@ FailsWithin arena side (suc n) p =
     FailsWithin arena side n p
     ⊎ MovesToBad arena side (LeadsTo (FailsWithin arena side n) (IsBadExit arena side)) p
 
--- the lags of the exits that win for the side are at most this
+-- the lags of the exits that win for the side are at most this many plies
 abbrev pub LagsWithin : {M N V : Type 0} → Arena M N V → Colour → ℕ → Type 0
 LagsWithin {M} {N} {V} arena side most =
     (p : N) (a : Arm M N V) (v : V) → IsArm arena p a → a.next ≡ Outside v →

@@ -8,7 +8,8 @@ use Rattle.frz_arena.specs.Codes.{code_of}
 use Rattle.frz_arena.specs.LocalCodes.{local_code}
 use Rattle.frz_arena.specs.Names.{Numbering}
 
--- as many codes as numbers, and each is its local code over the table
+-- the table is exact: it has as many codes as numbers, and each is the local code that the table
+-- gives
 pub record IsExact {M V : Type 0}
     (arena : Arena M ℕ V) (side : Colour) (size : ℕ) (codes : List ℕ) : Type 0 where
   pub many : length codes ≡ size

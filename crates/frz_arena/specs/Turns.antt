@@ -14,7 +14,8 @@ pub record IsClosed {M N V : Type 0} (arena : Arena M N V) : Type 0 where
   pub unbroken : (p : N) (a : Arm M N V) → Contains (arena.arms p) a →
       LeadsTo (λ q. arena.node q ≡ Broken → ⊥) (λ v. ⊤) a.next
 
--- the sides move in turn
+-- the sides move in turn: where an arm leads to a position that goes on, the other side is to move
+-- there
 pub record Alternates {M N V : Type 0} (arena : Arena M N V) : Type 0 where
   pub turns : (p : N) (a : Arm M N V) (mover turn : Colour) (q : N) →
       Contains (arena.arms p) a → a.next ≡ Inside q → arena.node p ≡ Going mover →

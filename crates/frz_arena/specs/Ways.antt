@@ -15,8 +15,8 @@ use Rattle.frz_arena.specs.Names.{Numbering, numbers_of}
 use Rattle.frz_arena.specs.Plies.{LeadsTo}
 use Rattle.frz_arena.specs.WayEnds.{End, Wrong, NoBound, Mated, Stalemated, Exit, Cut, Stopped}
 
--- a ply: the position before it, the place of its arm among the arms there, the arm, who moved, and
--- how many lines of the input were refused before it
+-- a ply: the position before it, the index (place) of its arm among the arms there, the arm, who
+-- moved, and how many lines of the input were refused before it
 pub record Ply (M N V : Type 0) : Type 0 where
   pub from : N
   pub place : ℕ
@@ -24,13 +24,13 @@ pub record Ply (M N V : Type 0) : Type 0 where
   pub mover : Colour
   pub refused : ℕ
 
--- who finds the opponent's plies: the codes, in a line, which a
--- hold cuts after so many plies; or an input, in a session
+-- who finds the opponent's plies: in a line the codes, and the line is cut at a hold after so many
+-- plies (most); in a session an input
 pub data Opponent (N S R : Type 0) : Type 0 where
   ByCodes : (most : ℕ) → Opponent N S R
   ByInput : (read : N → S → Answer S R) → Opponent N S R
 
--- a side with its kept codes, and its opponent
+-- a side, with the code that it keeps for each position (entry), and its opponent
 pub record Player (M N V S R : Type 0) : Type 0 where
   pub arena : Arena M N V
   pub side : Colour
@@ -42,11 +42,13 @@ pub data Stage (N V R : Type 0) : Type 0 where
   Over : (end : End N V R) → Stage N V R
   Moves : (mover : Colour) → Stage N V R
 
+-- after so many plies a line is cut where the code is a hold
 abbrev pub is_cut : {N S R : Type 0} → Opponent N S R → (plies code : ℕ) → Bool
 is_cut (ByCodes most) plies code = (code == 1) && nat_le most plies
 is_cut (ByInput read) plies code = false
 
--- by what the position is. No way from a position that is not broken comes to a broken one
+-- what is due at p by its node. In a closed arena no way from a position that is not broken comes
+-- to a broken one
 abbrev pub stage_of : {M N V S R : Type 0} → Player M N V S R → (plies : ℕ) → N → Node → Stage N V R
 stage_of player plies p Broken = Over (Wrong p (player.entry p) 0)
 stage_of player plies p (Mate mover) = Over (Mated mover)
@@ -54,8 +56,8 @@ stage_of player plies p (Stalemate mover) = Over (Stalemated mover)
 stage_of player plies p (Going mover) =
     if is_cut player.opponent plies (player.entry p) then Over Cut else Moves mover
 
--- after so many plies: first the kept code is compared with the
--- local one, then the start must not fail
+-- what is due at p after so many plies: first the kept code is compared with the local one, then
+-- the start must not fail
 abbrev pub stage : {M N V S R : Type 0} → Player M N V S R → (plies : ℕ) → N → Stage N V R
 stage player plies p =
     let given = local_code player.arena player.side player.entry p in
@@ -64,8 +66,7 @@ stage player plies p =
     else stage_of player plies p (player.arena.node p))
     else Over (Wrong p (player.entry p) given)
 
--- the ply is the one that the codes or the input ask for, and
--- the input goes from one state to another
+-- x is the ply that the codes or the input ask for, and it takes the input from s to t
 abbrev pub IsTakenBy : {M N V S R : Type 0} → Player M N V S R → (own : Bool) → Opponent N S R → S →
     Ply M N V → S → Type 0
 IsTakenBy player true opponent s x t =
@@ -107,18 +108,19 @@ IsWay {S = S} player plies s p (x ∷ xs) end t =
     × LeadsTo (λ q. IsWay player (suc plies) u q xs end t)
     (λ v. (xs ≡ []) × (end ≡ Exit v) × (t ≡ u)) x.arm.next)
 
--- the codes find the ply: the side's own in every way, and each in a line
+-- the opponent's plies are found by the codes, as in a line
 abbrev pub is_line : {N S R : Type 0} → Opponent N S R → Bool
 is_line (ByCodes most) = true
 is_line (ByInput read) = false
 
+-- the codes find the mover's ply: the side's own in every way, each in a line
 abbrev pub is_by_codes : {M N V S R : Type 0} → Player M N V S R → Colour → Bool
 is_by_codes player mover = same_colour mover player.side || is_line player.opponent
 
--- what holds of each ply of a way: the kept code is the local one, a win or a hold; the arm is
--- there, and free where the side moves; a win stays a win of at least one ply less, of just one ply
--- less where the codes find the ply; a hold does not become a
--- failure, and stays a hold where the codes find the ply
+-- what holds of each ply of a way. The kept code is the local one, a win or a hold. The arm is
+-- there, and free where the side moves. A win stays a win of at least one ply less, and of just one
+-- ply less where the codes find the ply. A hold does not become a failure, and where the codes find
+-- the ply its arm has code 1 or 0
 pub record IsPlyOf {M N V S R : Type 0} (player : Player M N V S R) (x : Ply M N V) : Type 0 where
   pub agrees : player.entry x.from ≡ local_code player.arena player.side player.entry x.from
   pub stands : (is_win (player.entry x.from) ≡ true) ⊎ (player.entry x.from ≡ 1)

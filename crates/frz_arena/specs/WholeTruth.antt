@@ -36,8 +36,8 @@ abbrev pub TrueWins : {P M V : Type 0} → Game P M V → Colour → Type 0
 TrueWins {P} game side =
     (q : P) → IsExit game q → game.class (game.value q) side ≡ Good → CanForceMate game.chess side q
 
--- where the opponent forces mate just outside the set, the value is bad for the side: by none is it
--- said to win or to hold
+-- where the opponent forces mate just outside the set, the value is bad for the side, so that no
+-- value says there that it wins or holds
 abbrev pub TrueHolds : {P M V : Type 0} → Game P M V → Colour → Type 0
 TrueHolds {P} game side =
     (q : P) → IsExit game q → CanForceMate game.chess (other_of side) q
@@ -68,7 +68,8 @@ TrueLosses {P} game side =
     (q : P) → IsExit game q → game.class (game.value q) side ≡ Bad
     → CanForceMate game.chess (other_of side) q
 
--- within at most so many plies
+-- each value that is bad for the side just outside the set is a win of its opponent within at most
+-- so many plies
 abbrev pub LossesWithin : {P M V : Type 0} → Game P M V → Colour → ℕ → Type 0
 LossesWithin {P} game side most =
     (q : P) → IsExit game q → game.class (game.value q) side ≡ Bad
@@ -86,10 +87,11 @@ pub record IsDecided {P M V : Type 0} (game : Game P M V) : Type 0 where
   pub bad : (q : P) → IsExit game q → (side : Colour) →
       game.class (game.value q) side ≡ Bad → game.class (game.value q) (other_of side) ≡ Good
 
--- the bound is a win; it is a failure
+-- the bound is a win
 abbrev pub IsWin : Bound → Type 0
 IsWin b = (n : ℕ) × (b ≡ Wins n)
 
+-- the bound is a failure
 abbrev pub IsFailure : Bound → Type 0
 IsFailure b = (m : ℕ) × (b ≡ Fails m)
 

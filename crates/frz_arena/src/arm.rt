@@ -1,22 +1,23 @@
-//! A move of a graph of positions.
+//! Legal moves as the edges of a graph of positions.
 
 /// Where a move leads.
 #[derive(Clone, Copy, Debug, PartialEq, Eq)]
 pub enum Next<N, V> {
     /// To this position of the graph.
     Inside(N),
-    /// Out of the graph, to a position of this value.
+    /// Out of the graph (an exit), to a position with this value.
     Outside(V),
 }
 
-/// What an unused place of a list holds.
+/// The default fills the places of a list that are not in use.
 impl<N: Default, V> Default for Next<N, V> {
     fn default() -> Next<N, V> {
         Next::Inside(N::default())
     }
 }
 
-/// A legal move, whether it is allowed to the mover, and where it leads.
+/// A legal move `mv`, whether the mover may play it in the restricted game (`free`), and where it
+/// leads.
 #[derive(Clone, Copy, Debug, PartialEq, Eq)]
 pub struct Arm<M, N, V> {
     pub mv: M,
@@ -24,7 +25,7 @@ pub struct Arm<M, N, V> {
     pub next: Next<N, V>,
 }
 
-/// What an unused place of a list holds.
+/// The default fills the places of a list that are not in use.
 impl<M: Default, N: Default, V> Default for Arm<M, N, V> {
     fn default() -> Arm<M, N, V> {
         Arm {

@@ -1,4 +1,4 @@
-//! The code that a mover chooses, by one walk over the codes of his moves.
+//! The code that the mover chooses, found in one walk over the codes of his moves.
 
 ghost use Rattle.std.specs.Prelude.{◌≡◌, [], ◌∷◌, ◌++◌, ℕ, Bool, List};
 ghost use Rattle.frz_arena.specs.LocalCodes.{turn_code};
@@ -6,17 +6,18 @@ ghost use Rattle.frz_arena.specs.Ranks.{rank_of as rank_of_code};
 
 use super::codes::is_win;
 
-/// The best code for the mover among those of his moves so far, by its rank.
+/// The best code for the mover among those of his moves so far, kept as its rank.
 #[derive(Clone, Copy)]
 pub struct Best {
-    /// Is it the side itself that moves, and not its opponent?
+    /// True where the side that the codes are for is to move, false where its opponent is.
     own: bool,
     rank: u64,
 }
 
 ghost use Rattle.frz_arena.specs.Best.{IsBest};
 
-/// The rank of the codes that are neither sought nor shunned.
+/// The rank of the codes 0 and 1, which the mover neither seeks nor shuns: behind all codes that he
+/// seeks, and before all that he shuns.
 const HELD: u64 = 4_294_967_296;
 
 /// The rank of a code for the mover: the lower, the better.
@@ -33,7 +34,8 @@ fn rank_of(own: bool, code: u32) -> u64
 }
 
 impl Best {
-    /// Of no move yet, where the side itself moves or its opponent does.
+    /// A walk that has met no code yet. `own` says that the side itself is to move, not its
+    /// opponent.
     pub fn new(own: bool) -> Best
         ensures { IsBest own [] result }
     {
@@ -43,7 +45,7 @@ impl Best {
         }
     }
 
-    /// With the code of one move more.
+    /// The walk after one code more.
     pub fn with(self, code: u32) -> Best
         ensures { (own : Bool) (cs : List ℕ) → IsBest own cs self →
             IsBest own (cs ++ code ∷ []) result }
@@ -54,7 +56,9 @@ impl Best {
         }
     }
 
-    /// The code that the mover chooses.
+    /// The code that the mover's choice gives the position: the best code met with one ply (2)
+    /// more, or 1 where the best is 0 or 1. Where no code was met it is that of a mate: 3 if the
+    /// side itself is to move, else 2.
     pub fn code(self) -> u64
         ensures { (own : Bool) (cs : List ℕ) → IsBest own cs self → result ≡ turn_code own cs }
     {

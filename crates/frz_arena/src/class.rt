@@ -10,11 +10,12 @@ pub enum Class {
     Good,
     /// The side holds: a draw, or better.
     Safe,
-    /// Neither is known.
+    /// Neither a win nor a hold of the side is known, so its code is that of a failure.
     Bad,
 }
 
-/// The code of an exit for a side. The lag is in plies, and counts only where the side wins.
+/// The code of an exit for a side. The lag, the plies from the exit to the mate, counts only where
+/// the side wins.
 pub fn exit_code(class: Class, lag: u32) -> u32
     requires { lag ≤ 1000 }
     ensures { result ≡ codes.exit_code class lag }

@@ -1,4 +1,4 @@
-//! The laws, by idea.
+//! The laws, one module for each subject.
 
 pub mod bounds;
 pub mod codes;

@@ -1,7 +1,13 @@
-//! The laws of the restricted game over any graph of positions: within how many plies a side wins
-//! or fails, its bound, the codes of bounds, and what a win or a hold says of chess.
+//! Laws of the restricted game over any graph of positions: within how many plies a side wins or
+//! fails, its bound, the codes of bounds, and what a win or a hold says of chess.
 //!
-//! Each law is an empty public function: a call of it gives the caller what its contract says.
+//! The restricted game is chess from a position of a set, where a side may renounce moves, and a
+//! move that leaves the set ends the game by a value. Moves, positions and values are the type
+//! parameters `M`, `N` (or `P`, for those of chess) and `V`. The graph is called an arena, and a
+//! legal move in it an arm.
+//!
+//! Each law is a public function that does nothing: whoever calls it may use what its contract
+//! says.
 #![tactic(auto)]
 
 mod arm;

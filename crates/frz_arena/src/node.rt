@@ -1,8 +1,8 @@
-//! What a position of a graph is.
+//! The kinds of positions in a graph.
 
 use frz_board::Colour;
 
-/// What a position of the set is, with the side to move.
+/// What a position or a number stands for, with the side to move.
 #[derive(Clone, Copy, Debug, PartialEq, Eq)]
 pub enum Node {
     /// No position of the set.

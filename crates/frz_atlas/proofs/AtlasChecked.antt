@@ -123,7 +123,7 @@ outside_refused held behind (Extra length due) h = absurd h
 outside_refused held behind (Rules fault) h = absurd h
 outside_refused held behind (Size kept due) h = absurd h
 
--- so many numbers has each of the tables that were loaded
+-- the sizes of the loaded tables are those of the tables in their files
 sizes_behind : (sizes : List ℕ) (loaded : List Back) (tables : List TableBytes)
     → sizes ≡ map (λ back. size_of back.groups) loaded → loaded ≡ backs_in tables
     → sizes ≡ sizes_in tables

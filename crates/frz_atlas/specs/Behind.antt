@@ -1,4 +1,4 @@
--- Files of tables that stand behind others, from the left: each may lean on those before it.
+-- Files of tables that stand behind another, from the left: each may lean on those before it.
 use Rattle.std.specs.Prelude.{◌≡◌, ℕ, zero, suc, List, [], ◌∷◌, ◌++◌, map, take, Bool, true, false, Option, None, Some, Ok, Err, ⊤}
 use Rattle.std.specs.Str.{bytes_eq}
 use Rattle.frz_game.specs.declared.wrong.Wrong.{Wrong as WrongEntry}
@@ -21,7 +21,7 @@ use Rattle.frz_atlas.specs.declared.fault.BackFault.TheVariants.{Refused, Wrong}
 abbrev pub leans : List ℕ → Bool
 leans bytes = bytes_eq (take 8 bytes) (magic_of Atlas)
 
--- as which kind the bytes are opened: as one that leans where they begin so, and else as a plain one
+-- the kind as which bytes are opened: Atlas where they begin as a table that leans, and else Plain
 abbrev pub kind_by : Bool → FileKind
 kind_by true = Atlas
 kind_by false = Plain
@@ -33,12 +33,12 @@ abbrev pub kind_held : Option (List ℕ) → FileKind
 kind_held None = Plain
 kind_held (Some bytes) = kind_of bytes
 
--- bytes with the text and the rules that they keep
+-- the bytes of a table file, with the text and the rules in them
 pub record TableBytes : Type 0 where
   pub bytes : List ℕ
   pub contents : Contents
 
--- the table in them, with its rules, and whether it leans on those before it
+-- the table in the bytes, with its rules, and whether it leans on those before it
 abbrev pub link_of : TableBytes → Link
 link_of t = record {
   rules = t.contents.rules;
@@ -49,9 +49,10 @@ link_of t = record {
 abbrev pub backs_in : List TableBytes → List Back
 backs_in tables = map (λ t. back_of t.contents t.bytes) tables
 
--- the bytes open as a table of their kind, and this is the verdict on its codes, with its exit lines
--- outside and, where it leans, the tables before it behind them; of bytes it says too whether they
--- are the one file of their text
+-- the file opens as a table of its own kind, and this is the verdict on its codes. Its exits have
+-- the values of its exit lines and, where it leans, of the tables before it where these say
+-- nothing. Where the file holds only bytes (numbers below 256), the verdict also says whether it is
+-- the one file of its text
 pub record IsJudgedOver (before : List Back) (table : TableBytes) (verdict : Verdict) : Type 0 where
   pub opens : opened (table_format (kind_of table.bytes)) (Some table.bytes) ≡ Ok table.contents
   pub codes : IsVerdict table.contents.rules
@@ -60,30 +61,30 @@ pub record IsJudgedOver (before : List Back) (table : TableBytes) (verdict : Ver
   pub told : AreBytes table.bytes → IsVerdictOn (kind_of table.bytes)
       (value_over (leans table.bytes) table.contents.rules before) table.contents table.bytes verdict
 
--- each table is exact over those before it
+-- each table is exact over those before it, and its file holds bytes (numbers below 256)
 unfoldable pub AreJudgedOver : List Back → List TableBytes → Type 0
 AreJudgedOver before [] = ⊤
 AreJudgedOver before (table ∷ more) =
     AreBytes table.bytes × IsJudgedOver before table verdicts.Exact
     × AreJudgedOver (before ++ (back_of table.contents table.bytes ∷ [])) more
 
--- and the first leans on none
+-- the tables are exact from the left; the first has none before it
 abbrev pub AreJudged : List TableBytes → Type 0
 AreJudged tables = AreJudgedOver [] tables
 
--- the first entry of these bytes that is not its local code
+-- what is held opens as a table, and this is its first entry that is not its local code
 pub record HasWrongOver (before : List Back) (held : Option (List ℕ)) (wrong : WrongEntry) : Type 0 where
   pub table : TableBytes
   pub there : held ≡ Some table.bytes
   pub judged : IsJudgedOver before table (verdicts.Wrong wrong)
 
--- what a name holds is refused so as a table over these
+-- what a name holds is refused for this reason, as a table over those before it
 abbrev pub IsRefusedOver : List Back → Option (List ℕ) → BackFault → Type 0
 IsRefusedOver before held (Refused fault) = opened (table_format (kind_held held)) held ≡ Err fault
 IsRefusedOver before held (Wrong wrong) = HasWrongOver before held wrong
 
--- of what the names hold, from the left, the one at this place is refused so, and all before it are
--- exact, each over those before it
+-- of what the names hold, from the left, the one at this place is refused for this reason, and all
+-- before it are exact, each over those before it
 unfoldable pub IsRefusedAt : List Back → List (Option (List ℕ)) → ℕ → BackFault → Type 0
 IsRefusedAt before [] place fault = ⊥
 IsRefusedAt before (held ∷ more) zero fault = IsRefusedOver before held fault

@@ -1,4 +1,4 @@
--- How the table of a text over several others is built, by what their names may hold.
+-- How the table of a text over several others is built, by what the names may hold.
 use Rattle.std.specs.Prelude.{◌≡◌, ◌⊎◌, ◌≤◌, ◌+◌, ◌*◌, ℕ, true, List, [], sum_by, Option, Result, Ok, Err}
 use Rattle.frz_rules.specs.Text.{may_want_memory, rules_of}
 use Rattle.frz_rules.specs.declared.fault.RulesFault.{RulesFault}
@@ -15,18 +15,18 @@ use Rattle.frz_atlas.specs.Held.{MayHoldAll, all_held}
 use Rattle.frz_atlas.specs.declared.fault.AtlasFault.{AtlasFault}
 use Rattle.frz_atlas.specs.declared.fault.AtlasFault.TheVariants.{Rules, Table, Back, Failed, NoMemory}
 
--- the size of rules that were read, and of none
+-- the size of the set of rules that were read, and 0 where the text is refused
 abbrev pub size_by : Result RuleLines RulesFault → ℕ
 size_by (Ok rules) = size_of rules.groups
 size_by (Err fault) = 0
 
--- so many where the text is accepted, and else none
+-- `count` where the text is accepted, and else 0
 abbrev pub if_read : Result RuleLines RulesFault → ℕ → ℕ
 if_read (Ok rules) count = count
 if_read (Err fault) count = 0
 
--- no more than checking the tables behind, finding the codes and writing the file costs; nothing
--- where the text is refused
+-- no more is spent than checking the tables behind, finding the codes and writing the file costs,
+-- and nothing where the text is refused
 pub record WithinBuilding (text : List ℕ) (behind : List (Option (List ℕ))) (old new : StoreTold)
     (steps_before steps_now : ℕ) : Type 0 where
   pub steps : steps_now ≤ steps_before + if_read (rules_of text)
@@ -35,8 +35,8 @@ pub record WithinBuilding (text : List ℕ) (behind : List (Option (List ℕ))) 
   pub calls : new.calls ≤ old.calls + if_read (rules_of text)
       (sum_by calls_of behind + writing_calls (size_by (rules_of text)))
 
--- the text is accepted, the names behind may hold tables that are exact, each over those before it,
--- before and afterwards, and the one file of the text over them was written
+-- the text is accepted. The names behind may hold tables that are exact, each over those before it,
+-- before the call and afterwards, and the one file of the text over them was written
 pub record BuildsAtlas (text : List ℕ) (behind : List (List ℕ)) (name : List ℕ)
     (old new : StoreTold) (steps_before steps_now : ℕ) (size : ℕ) : Type 0 where
   pub rules : RuleLines
@@ -52,12 +52,12 @@ pub record BuildsAtlas (text : List ℕ) (behind : List (List ℕ)) (name : List
   pub sized : size ≡ size_of rules.groups
   pub within : WithinBuilding text (all_held tables) old new steps_before steps_now
 
--- the text gives rules
+-- the text is accepted
 abbrev pub IsAccepted : List ℕ → Type 0
 IsAccepted text = (rules : RuleLines) × (rules_of text ≡ Ok rules)
 
--- the text is accepted and the tables behind are exact, and under the name is what was there or a
--- beginning of the one file of the text over them
+-- the text is accepted and the tables behind are exact. The name holds what it held, or a beginning
+-- of the one file of the text over them
 pub record FailsWriting (text name : List ℕ) (behind : List (Option (List ℕ)))
     (old new : StoreTold) : Type 0 where
   pub rules : RuleLines
@@ -69,9 +69,9 @@ pub record FailsWriting (text name : List ℕ) (behind : List (Option (List ℕ)
   pub one_file : IsFileOver text rules (backs_in tables) bytes
   pub part : WrotePart name bytes old new
 
--- the first of these by which no table was built: the text is refused, and nothing was called; a
--- table behind is refused; the store failed, in reading or in writing; or memory was wanted, and
--- nothing was written
+-- why no table was built. The text is refused, and the store was not called; or a table behind is
+-- refused; or the store failed, in reading or in writing; or memory ran out, and nothing was
+-- written
 abbrev pub IsNotBuilt : (text name : List ℕ) → List (Option (List ℕ)) → StoreTold → StoreTold
     → AtlasFault → Type 0
 IsNotBuilt text name behind old new (Rules fault) =
@@ -85,7 +85,7 @@ IsNotBuilt text name behind old new NoMemory =
     ((may_want_memory text ≡ true) ⊎ IsAccepted text) × StoreQuiet old new
 IsNotBuilt text name behind old new (Table fault) = ⊥
 
--- the names behind may hold what is refused so, or over which no table was built so
+-- the names behind may hold what leads to this fault
 pub record RefusesToBuild (text : List ℕ) (behind : List (List ℕ)) (name : List ℕ)
     (old new : StoreTold) (steps_before steps_now : ℕ) (fault : AtlasFault) : Type 0 where
   pub helds : List (Option (List ℕ))

@@ -22,20 +22,20 @@ abbrev pub rules_fault : RulesError → AtlasFault
 rules_fault (reading.Bad fault) = Rules fault
 rules_fault reading.NoMemory = NoMemory
 
--- a fault of the table's file
+-- the fault for a fault of the table's own file
 abbrev pub table_fault : TableFault → AtlasFault
 table_fault table.Failed = Failed
 table_fault table.NoMemory = NoMemory
 table_fault fault = Table fault
 
--- a fault of the file at this place behind it
+-- the fault for a fault of the file behind it at this place
 abbrev pub back_fault : ℕ → BackFault → AtlasFault
 back_fault place (one.Refused table.Failed) = Failed
 back_fault place (one.Refused table.NoMemory) = NoMemory
 back_fault place fault = Back place fault
 
--- a failure has raised the count of faults, want of memory is free, and with any other answer no
--- call of the store was refused
+-- after a failure of the store, its count of faults is higher. Nothing is said where memory ran
+-- out. With any other answer no call of the store was refused
 abbrev pub HasFileCause : {T : Type 0} → Result T TableFault → StoreTold → StoreTold → Type 0
 HasFileCause (Err table.Failed) old new = Rose old.faults new.faults
 HasFileCause (Err table.NoMemory) old new = ⊤

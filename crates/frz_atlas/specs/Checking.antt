@@ -15,15 +15,15 @@ use Rattle.frz_atlas.specs.declared.checking.Checked.{Checked}
 use Rattle.frz_atlas.specs.declared.fault.AtlasFault.{AtlasFault}
 use Rattle.frz_atlas.specs.declared.fault.AtlasFault.TheVariants.{Rules, Table, Back, Failed, NoMemory}
 
--- how many numbers each table has
+-- the size of each table: how many numbers it has
 abbrev pub sizes_in : List TableBytes → List ℕ
 sizes_in tables = map (λ t. size_of t.contents.rules.groups) tables
 
--- what the table that leans costs itself: to be opened, and its codes to be loaded and checked
+-- the size of the checked table itself, and 0 where it does not open
 abbrev pub own_size : Option (List ℕ) → ℕ
 own_size held = opened_size (opened (table_format Atlas) held)
 
--- no more than checking the table and all that it leans on costs
+-- no more is spent than checking the table and all tables behind it costs
 pub record WithinChecking (held : Option (List ℕ)) (behind : List (Option (List ℕ)))
     (old new : StoreTold) (steps_before steps_now : ℕ) : Type 0 where
   pub steps : steps_now ≤ steps_before + (own_size held + sum_by steps_of behind)
@@ -34,7 +34,7 @@ pub record WithinChecking (held : Option (List ℕ)) (behind : List (Option (Lis
       + sum_by calls_of behind)
 
 -- what the names may hold: the tables behind are exact, each over those before it, and this is the
--- verdict on the table over them
+-- verdict on the table over all of them
 pub record ChecksAtlas (table : List ℕ) (behind : List (List ℕ)) (old new : StoreTold)
     (steps_before steps_now : ℕ) (checked : Checked) : Type 0 where
   pub bytes : List ℕ
@@ -54,7 +54,7 @@ pub record ChecksAtlas (table : List ℕ) (behind : List (List ℕ)) (old new : 
 abbrev pub OpensAtlas : Option (List ℕ) → Type 0
 OpensAtlas held = (contents : Contents) × (opened (table_format Atlas) held ≡ Ok contents)
 
--- the first file is refused so, or it opens and one of the others is refused so
+-- the table's file is refused for this reason, or it opens and one of those behind it is refused
 abbrev pub IsRefusedAtlas : Option (List ℕ) → List (Option (List ℕ)) → AtlasFault → Type 0
 IsRefusedAtlas held behind (Table fault) = opened (table_format Atlas) held ≡ Err fault
 IsRefusedAtlas held behind (Back place fault) =
@@ -63,7 +63,7 @@ IsRefusedAtlas held behind Failed = ⊤
 IsRefusedAtlas held behind NoMemory = ⊤
 IsRefusedAtlas held behind (Rules fault) = ⊥
 
--- the names may hold what is refused so
+-- the names may hold what is refused for this reason
 pub record RefusesAtlas (table : List ℕ) (behind : List (List ℕ)) (old new : StoreTold)
     (steps_before steps_now : ℕ) (fault : AtlasFault) : Type 0 where
   pub held : Option (List ℕ)

@@ -11,8 +11,9 @@ use Rattle.frz_atlas.specs.Behind.{kind_held}
 abbrev pub size_held : Option (List ℕ) → ℕ
 size_held held = opened_size (opened (table_format (kind_held held)) held)
 
--- a step for each number; the text, two codes a number and at most 24 bytes; the calls that load the
--- codes, and at most seven that open the file, as a plain table first and then as one that leans
+-- the costs of one file. Steps: one for each number. Bytes: the text, two codes a number, and at
+-- most 24 more. Calls: those that load the codes, and at most seven that look at how the file
+-- begins and open it
 abbrev pub steps_of : Option (List ℕ) → ℕ
 steps_of held = size_held held
 
@@ -22,14 +23,14 @@ bytes_of held = 24 + length (held_text held) + 8 * size_held held
 abbrev pub calls_of : Option (List ℕ) → ℕ
 calls_of held = 7 + 2 * pieces_of (size_held held)
 
--- no more than opening and checking one file costs
+-- no more is spent than opening and checking one file costs
 pub record WithinOne (held : Option (List ℕ)) (old new : StoreTold)
     (steps_before steps_now : ℕ) : Type 0 where
   pub steps : steps_now ≤ steps_before + steps_of held
   pub asked : new.asked ≤ old.asked + bytes_of held
   pub calls : new.calls ≤ old.calls + calls_of held
 
--- or all of them
+-- no more is spent than opening and checking all of the files costs
 pub record WithinAll (helds : List (Option (List ℕ))) (old new : StoreTold)
     (steps_before steps_now : ℕ) : Type 0 where
   pub steps : steps_now ≤ steps_before + sum_by steps_of helds

@@ -4,7 +4,7 @@ use Rattle.frz_store.specs.Files.{Files}
 use Rattle.frz_table.specs.Possible.{MayHold}
 use Rattle.frz_atlas.specs.Behind.{TableBytes}
 
--- the names may hold these, one by one
+-- the names may hold these, one by one and in this order
 unfoldable pub MayHoldAll : Option Files → List (List ℕ) → List (Option (List ℕ)) → Type 0
 MayHoldAll files [] [] = ⊤
 MayHoldAll files (name ∷ names) (held ∷ more) = MayHold files name held × MayHoldAll files names more

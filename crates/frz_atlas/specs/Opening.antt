@@ -1,4 +1,4 @@
--- What is found of tables that stand behind others, under their names.
+-- What is found under the names of tables that stand behind another.
 use Rattle.std.specs.Prelude.{◌≡◌, ◌≤◌, ◌+◌, ℕ, Bool, true, false, List, [], length, Option, Some, Result, Ok, Err, ⊤}
 use Rattle.frz_store.specs.Files.{Files}
 use Rattle.frz_store.specs.Told.{StoreTold}
@@ -28,30 +28,31 @@ leans_as Atlas = true
 leans_as Plain = false
 leans_as Chained = false
 
--- the kind is one of those as which files are opened here
+-- the kind is one of the two as which files are opened here, Atlas and Plain
 abbrev pub IsOwnKind : FileKind → Type 0
 IsOwnKind kind = kind ≡ kind_by (leans_as kind)
 
--- the name may hold bytes that open so as their kind
+-- the name may hold bytes that open, as their own kind, with these contents
 pub record MayOpenOwn (files : Option Files) (name : List ℕ) (contents : Contents) : Type 0 where
   pub bytes : List ℕ
   pub may : MayHold files name (Some bytes)
   pub opens : opened (table_format (kind_of bytes)) (Some bytes) ≡ Ok contents
 
--- the name may hold what is refused so as its kind, and no more bytes were asked for than open it
+-- the name may hold what is refused for this reason as its own kind, and no more bytes were asked
+-- for than it takes to open it
 pub record MayRefuseOwn (name : List ℕ) (old new : StoreTold) (fault : TableFault) : Type 0 where
   pub held : Option (List ℕ)
   pub may : MayHold old.files name held
   pub refuses : Refuses (opened (table_format (kind_held held)) held) fault
   pub asked : new.asked ≤ old.asked + (24 + length (held_text held))
 
--- the table is given where the verdict on its codes is exact
+-- the table is given if the verdict on its codes is exact, and else its first wrong entry
 abbrev pub GivesBack : Back → Verdict → Result BackTable BackFault → Type 0
 GivesBack back verdict (Ok given) = (verdict ≡ Exact) × (loaded_back given ≡ back)
 GivesBack back verdict (Err (one.Wrong wrong)) = verdict ≡ WrongCodes wrong
 GivesBack back verdict (Err (one.Refused fault)) = ⊥
 
--- the name may hold a table that is exact over those before it, and this is the table that it keeps
+-- the name may hold a table that is exact over those before it, and this is that table
 pub record OpensOver (before : List Back) (name : List ℕ) (back : Back) (old new : StoreTold)
     (steps_before steps_now : ℕ) : Type 0 where
   pub table : TableBytes
@@ -61,7 +62,8 @@ pub record OpensOver (before : List Back) (name : List ℕ) (back : Back) (old n
   pub keeps : back ≡ back_of table.contents table.bytes
   pub within : WithinOne (Some table.bytes) old new steps_before steps_now
 
--- the name may hold what is refused so, unless the store failed or memory was wanted
+-- what the name holds is refused for this reason; nothing is said where the store failed or memory
+-- ran out
 abbrev pub MayBeRefused : List Back → Option (List ℕ) → BackFault → Type 0
 MayBeRefused before held (one.Refused Failed) = ⊤
 MayBeRefused before held (one.Refused NoMemory) = ⊤
@@ -74,7 +76,7 @@ pub record RefusesOver (before : List Back) (name : List ℕ) (old new : StoreTo
   pub refuses : MayBeRefused before held fault
   pub within : WithinOne held old new steps_before steps_now
 
--- the names may hold tables that are exact, each over those before it, and these are the tables
+-- the names may hold tables that are exact, each over those before it, and these are those tables
 pub record OpensAll (names : List (List ℕ)) (backs : List Back) (old new : StoreTold)
     (steps_before steps_now : ℕ) : Type 0 where
   pub tables : List TableBytes
@@ -83,7 +85,8 @@ pub record OpensAll (names : List (List ℕ)) (backs : List Back) (old new : Sto
   pub keeps : backs ≡ backs_in tables
   pub within : WithinAll (all_held tables) old new steps_before steps_now
 
--- one of the names may hold what is refused so, and those before it exact tables
+-- what one of the names holds is refused for this reason, and those before it hold exact tables;
+-- nothing is said where the store failed or memory ran out
 abbrev pub IsOneRefused : List (Option (List ℕ)) → AtlasFault → Type 0
 IsOneRefused helds (atlas.Back place fault) = IsRefusedAt [] helds place fault
 IsOneRefused helds atlas.Failed = ⊤

@@ -1,4 +1,4 @@
-//! A table over several others is built.
+//! Builds a table over several others.
 ghost use Rattle.std.specs.Prelude.{◌≡◌, ◌≤◌, ◌<◌, ◌+◌, ◌*◌, ◌^◌, length, map, Contains, IfOk, IfErr, OnOk};
 ghost use Rattle.std.specs.String.{string_bytes};
 ghost use Rattle.frz_sets.specs.Sets.{size_of};
@@ -26,8 +26,9 @@ use frz_table::FileKind;
 use std::alloc::Global;
 use std::sync::ledger::Ledger;
 
-/// Builds the table of the rules over the tables under the name, and gives its size. All memory is
-/// taken before the file is created, and a file of that name is replaced.
+/// Solves the rules over the tables `backs`, writes the table file under the name, and returns its
+/// size (how many numbers it has). All memory is taken before the file is created. A file that has
+/// the name already is replaced.
 pub fn build_over<S: Store, L: Ledger>(
     alloc: Global,
     read: &ReadRules<'_>,
@@ -66,9 +67,10 @@ pub fn build_over<S: Store, L: Ledger>(
     build_table(alloc, &game, &file, store, steps)
 }
 
-/// Reads the rules of the text, opens and checks the tables behind it from the left, and writes the
-/// one file of the text over them under the name, which is none of theirs. Gives the size. The text
-/// is read before a table is opened, and all memory is taken before the file is created.
+/// Reads the rules of the text, then opens and checks the tables behind from the left, and writes
+/// the one file of the text over them under the name. Returns the size. The name must be none of
+/// theirs. The text is read before a table is opened, and all memory is taken before the file is
+/// created.
 pub fn build_atlas<S: Store, L: Ledger>(
     alloc: Global,
     store: &mut S,

@@ -1,4 +1,4 @@
-//! A table over several others is checked.
+//! Checks a table over several others.
 ghost use Rattle.std.specs.Prelude.{◌≡◌, ◌≤◌, map, IfOk, IfErr};
 ghost use Rattle.std.specs.String.{string_bytes};
 ghost use Rattle.frz_sets.specs.Sets.{size_of};
@@ -16,8 +16,8 @@ use frz_table::{FileKind, open_kind};
 use std::alloc::{AllocError, Global};
 use std::sync::ledger::Ledger;
 
-/// What a check says of a table over several others: the verdict on it, and how many numbers it and
-/// each of those behind it has.
+/// What a check says of a table over several others: the verdict on it, its size (how many numbers
+/// it has), and the size of each table behind it.
 #[derive(Drop)]
 pub struct Checked {
     pub verdict: Verdict,
@@ -25,7 +25,7 @@ pub struct Checked {
     pub behind: Vec<u32>,
 }
 
-/// How many numbers each of the tables has.
+/// The size of each of the tables: how many numbers it has.
 fn sizes_of(alloc: Global, backs: &[BackTable]) -> Result<Vec<u32>, AllocError>
     ensures { IfOk result (λ sizes. sizes.items
         ≡ map (λ back. size_of back.table.rules.groups) backs.now) }
@@ -37,8 +37,8 @@ fn sizes_of(alloc: Global, backs: &[BackTable]) -> Result<Vec<u32>, AllocError>
     Ok(sizes)
 }
 
-/// Opens the table of the one name, then those of the others from the left, each of which is checked
-/// over those before it, and checks the table over all of them. Two names may be one.
+/// Opens the table, then the tables behind it from the left, each of which is checked over those
+/// before it. At last checks the table over all of them. Names may be equal.
 pub fn check_atlas<S: Store, L: Ledger>(
     alloc: Global,
     store: &mut S,

@@ -11,23 +11,23 @@ use frz_store::StoreFault;
 use frz_table::TableFault;
 use std::alloc::{AllocError, AllocFailed};
 
-/// Why a file is no table behind others.
+/// Why a file cannot stand behind another as an exact table.
 #[derive(Clone, Copy, Debug, PartialEq, Eq)]
 pub enum BackFault {
-    /// It is refused, or could not be read.
+    /// The file is refused, or could not be read.
     Refused(TableFault),
-    /// Its first entry that is not its local code.
+    /// The table's first entry that is not its local code.
     Wrong(Wrong),
 }
 
 /// The first thing that is wrong with the rules, with the table or with one of those behind it, or
 /// why they could not be read. A fault of the store and want of memory have variants of their own,
-/// whichever file they met.
+/// whichever file they concern.
 #[derive(Clone, Copy, Debug, PartialEq, Eq)]
 pub enum AtlasFault {
     /// The rules text is refused.
     Rules(RulesFault),
-    /// The table is refused.
+    /// The table's own file is refused.
     Table(TableFault),
     /// The table behind it at this place is refused or wrong; the first has place 0.
     Back(usize, BackFault),
@@ -36,7 +36,7 @@ pub enum AtlasFault {
 }
 
 impl AtlasFault {
-    /// What a fault of the table is.
+    /// The variant for a fault of the table's own file.
     pub fn of_table(fault: TableFault) -> AtlasFault
         ensures { result ≡ table_fault fault }
     {
@@ -47,7 +47,7 @@ impl AtlasFault {
         }
     }
 
-    /// What a fault of the table at this place behind it is.
+    /// The variant for a fault of the table behind it at this place.
     pub fn of_back(place: usize, fault: BackFault) -> AtlasFault
         ensures { result ≡ back_fault place fault }
     {

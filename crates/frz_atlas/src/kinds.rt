@@ -1,4 +1,5 @@
-//! A table file opened as the kind that it begins as: as one that leans on others or as a plain one.
+//! Opens a table file as the kind that its first bytes tell: one that leans on others, or a plain
+//! one.
 ghost use Rattle.std.specs.Prelude.{◌≡◌, ◌+◌, ◌≤◌, length, IfOk, IfErr, IfSome};
 ghost use Rattle.frz_store.specs.Files.{Covers};
 ghost use Rattle.frz_store.specs.Outside.{StoreCauses};
@@ -13,10 +14,11 @@ use frz_store::{Store, StoreFault};
 use frz_table::{FileKind, TableFault, TableFile, open_kind};
 use std::alloc::Global;
 
-/// The first eight bytes of a table that leans on others.
+/// The first eight bytes of a table that leans on others: where its exit lines say nothing of an
+/// exit, these other tables tell its value.
 const LEANING: &[u8; 8] = b"FREEZERA";
 
-/// As which kind a table is opened that leans on others, or that does not.
+/// The kind as which a table is opened.
 fn kind_for(leaning: bool) -> FileKind
     ensures { result ≡ kind_by leaning }
 {
@@ -27,7 +29,7 @@ fn kind_for(leaning: bool) -> FileKind
     }
 }
 
-/// Whether a file of eight bytes or more begins as a table that leans on others.
+/// Does a file of at least eight bytes begin as a table that leans on others?
 fn front_leans<S: Store>(store: &mut S, name: &str) -> Result<bool, StoreFault>
     requires { IfSome (S.files store.old) (Covers 0 8 name.now) }
     ensures front { IfOk result (λ yes. IfSome (S.files store.old) (λ m. IfSome (m name.now)
@@ -43,8 +45,8 @@ fn front_leans<S: Store>(store: &mut S, name: &str) -> Result<bool, StoreFault>
     Ok(front.as_slice() == LEANING.as_slice())
 }
 
-/// Whether the file of this name begins as a table that leans on others. One that is not there or
-/// that has fewer bytes does not.
+/// Does the file of this name begin as a table that leans on others? A missing file, or one of
+/// fewer than eight bytes, does not.
 fn does_lean<S: Store>(store: &mut S, name: &str) -> Result<bool, StoreFault>
     ensures kind { IfOk result (λ yes. IfSome (S.files store.old)
         (λ m. kind_held (m name.now) ≡ kind_by yes)) }
@@ -63,8 +65,8 @@ fn does_lean<S: Store>(store: &mut S, name: &str) -> Result<bool, StoreFault>
     front_leans(store, name)
 }
 
-/// Opens the file of this name as the kind that it begins as. At most 24 bytes and the text are
-/// asked for, in seven calls.
+/// Opens the file of this name as the kind that its first bytes tell. It asks for at most 24 bytes
+/// and the text, in at most seven calls.
 pub(crate) fn open_own<S: Store>(
     alloc: Global,
     store: &mut S,

@@ -1,11 +1,11 @@
-//! What it says of chess that files of tables stand exactly over each other. Each law is the
-//! contract of a function that does nothing.
+//! A law on files of tables that are exact over each other. The law is the contract of a function
+//! that does nothing.
 ghost use Rattle.std.specs.Prelude.{◌≡◌, ℕ, List, map};
 ghost use Rattle.frz_backs.specs.Links.{AreExact, backs_of};
 ghost use Rattle.frz_atlas.specs.Behind.{AreJudged, TableBytes, backs_in, link_of};
 
-/// Files that were judged exact from the left hold tables that are exact, each over those before it
-/// where it leans on them.
+/// Files that were judged exact, from the left, hold exact tables, each over those before it where
+/// it leans on them.
 pub fn judged_tables_are_exact()
     ensures exact { (tables : List TableBytes) → AreJudged tables → AreExact (map link_of tables) }
     ensures backs { (tables : List TableBytes) → backs_of (map link_of tables) ≡ backs_in tables }

@@ -1,6 +1,6 @@
 //! Table files over several others: where the exit lines of a text say nothing of a position, the
-//! first of these tables tells its value whose set holds it. Each was checked before, over those
-//! that stand before it.
+//! first of these tables whose set holds it tells its value. Each of them was checked first, over
+//! those that stand before it.
 #![tactic(auto)]
 
 mod building;

@@ -1,4 +1,4 @@
-//! The tables behind another: opened, loaded and checked from the left, each over those before it.
+//! Opens, loads and checks the tables behind another from the left, each over those before it.
 ghost use Rattle.std.specs.Prelude.{◌≡◌, ◌≤◌, ◌+◌, ◌*◌, length, map, IfOk, IfErr};
 ghost use Rattle.std.specs.String.{string_bytes};
 ghost use Rattle.frz_graph.specs.EntryCodes.{of_side};
@@ -35,7 +35,7 @@ struct Loaded {
     verdict: Verdict,
 }
 
-/// The verdict on these codes of the table, with the values of a book outside its set.
+/// The verdict on these codes of the table, where the exits have the values of the book.
 fn verdict_by<B: ExitBook, L: Ledger>(
     table: &TableFile,
     book: &B,
@@ -59,8 +59,8 @@ fn verdict_by<B: ExitBook, L: Ledger>(
     check_entries(&game, &entries, steps)
 }
 
-/// The verdict on these codes of the table by its exit lines and, where it leans on others, by the
-/// tables before it.
+/// The verdict on these codes of the table, by its exit lines and, where it leans on others, by the
+/// tables before it where the lines say nothing.
 fn verdict_over<L: Ledger>(
     table: &TableFile,
     before: &[BackTable],
@@ -119,7 +119,7 @@ fn load_checked<S: Store, L: Ledger>(
     })
 }
 
-/// The table with its codes, where these are exact.
+/// The table with its codes if these are exact, or its first wrong entry.
 fn exact_back(table: TableFile, loaded: Loaded) -> Result<BackTable, BackFault>
     requires white { length loaded.white.items ≡ table_size table }
     requires black { length loaded.black.items ≡ table_size table }
@@ -136,8 +136,8 @@ fn exact_back(table: TableFile, loaded: Loaded) -> Result<BackTable, BackFault>
     }
 }
 
-/// Opens the table of this name, loads its codes and checks them, over the tables before it where it
-/// leans on them.
+/// Opens the table of this name, loads its codes and checks them, over the tables `before` where it
+/// leans on them. A table that is refused or has a wrong entry is not given.
 pub fn open_over<S: Store, L: Ledger>(
     alloc: Global,
     store: &mut S,
@@ -164,8 +164,8 @@ pub fn open_over<S: Store, L: Ledger>(
     }
 }
 
-/// Opens the tables of these names from the left, loads their codes and checks them, each over those
-/// before it.
+/// Opens the tables of these names from the left, loads their codes and checks them, each over
+/// those before it. Stops at the first that is refused or wrong, and names its place, from 0.
 pub fn open_behind<S: Store, L: Ledger>(
     alloc: Global,
     store: &mut S,

@@ -1,4 +1,4 @@
--- What the first of several tables tells whose set holds the position.
+-- What the first table whose set holds the position tells of it.
 use Rattle.std.proofs.Common.{◌≡◌, ◌<◌, ◌≤◌, ◌+◌, ℕ, List, [], ◌∷◌, All, Option, Some, None, length, get_or, drop, map, refl, ap, sym, ◌∙◌}
 use Rattle.std.proofs.lemmas.List.{at_drop_more, at_drop_all}
 use Rattle.std.proofs.lemmas.List.Elements.{All-head, All-tail}
@@ -27,7 +27,7 @@ first_of P (back ∷ backs) q unknown told =
     (All-head (λ (b : Back). P (back_value b q)) back backs told)
     (first_of P backs q unknown (All-tail (λ (b : Back). P (back_value b q)) back backs told))
 
--- no table tells nothing
+-- where there is no table, nothing is told
 pub none_tell : (q : Board) → first_value [] q ≡ Unknown
 unfolding first_value
 none_tell q = refl
@@ -38,7 +38,7 @@ pub front_tells : (back : Back) (backs : List Back) (q : Board) →
 unfolding first_value
 front_tells back backs q = refl
 
--- one table tells what it tells
+-- where there is one table, the value is what it tells
 alone : (back : Back) (o : Option ℕ) → told_or back Unknown o ≡ told_at back o
 alone back None = refl
 alone back (Some i) = refl
@@ -62,7 +62,7 @@ table_there backs i q back l e =
     ∙ (ap (λ b. first_value (map loaded_back (b ∷ drop (i + 1) backs)) q) (sym e)
     ∙ front_tells (loaded_back back) (map loaded_back (drop (i + 1) backs)) q)
 
--- one that has the position tells its value
+-- a table whose set holds the position tells its value
 pub table_has : (backs : List BackTable) (i : ℕ) (q : Board) (back : BackTable) →
     i < length backs → back ≡ get_or backs i back → (n : ℕ) →
     Some n ≡ number_of back.table.rules.groups q →
@@ -71,7 +71,7 @@ table_has backs i q back l e n has =
     table_there backs i q back l e
     ∙ ap (told_or (loaded_back back) (told_from (i + 1) backs q)) (sym has)
 
--- one that has not is passed over
+-- a table whose set does not hold the position is passed over
 pub table_lacks : (backs : List BackTable) (i : ℕ) (q : Board) (back : BackTable) →
     i < length backs → back ≡ get_or backs i back →
     None ≡ number_of back.table.rules.groups q →

@@ -19,7 +19,7 @@ use Rattle.frz_backs.specs.Links.{AreExact, AreExactOver, AreTrueLines, Link, ba
 use Rattle.frz_backs.specs.Values.{atlas_value}
 use Rattle.frz_backs.proofs.TablePlies.{TellsWithin, forced_later, over_forced, table_forced, win_forced}
 
--- of more plies too
+-- what is told within some plies is also told within more
 table_later : (side : Colour) (few many : ℕ) → few ≤ many → (back : Back) →
     TellsWithin side few back → TellsWithin side many back
 table_later side few many le back told q =
@@ -44,7 +44,7 @@ link_forced true rules before back exact side more told own numbered most short 
 link_forced false rules before back exact side more told own numbered most short q =
     back_forced rules (value_by rules) back exact own side numbered most short q
 
--- those of the tables before are among them
+-- the longest over all tables is no shorter than over those before
 at_least : (before : ℕ) (links : List Link) (most : Link → ℕ) →
     before ≤ longest_over before links most
 unfolding longest_over

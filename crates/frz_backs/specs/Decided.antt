@@ -18,12 +18,12 @@ HasBothOutcomes link =
     HasExactOutcomes link.rules White link.back.white
     × HasExactOutcomes link.rules Black link.back.black
 
--- one of the tables has the position in the set of its rules
+-- the position is in the set of one of the tables
 abbrev pub IsBehind : List Link → Board → Type 0
 IsBehind links q = Any (λ link. Member link.rules.groups q) links
 
--- at each position one legal move outside the set an exit line says who wins or that the game is
--- drawn, or none says anything and one of the tables has it
+-- at each position one legal move outside the set, an exit line says who wins or that the game is
+-- drawn; or no exit line says anything, and the position is in the set of one of the tables
 abbrev pub AreLinesOrTables : RuleLines → List Link → Type 0
 AreLinesOrTables rules links =
     (q : Board) → IsExit (game_of rules (atlas_value rules (backs_of links))) q →

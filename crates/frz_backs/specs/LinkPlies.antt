@@ -1,4 +1,4 @@
--- The plies in which a win over several tables mates.
+-- The plies within which a win over several tables mates.
 use Rattle.std.specs.Prelude.{◌≡◌, ◌+◌, max, ℕ, List, [], ◌∷◌, ◌++◌, Bool, true, false, ⊤}
 use Rattle.frz_board.specs.declared.man.Colour.{Colour}
 use Rattle.frz_board.specs.Boards.{Board}
@@ -13,26 +13,27 @@ use Rattle.frz_chain.specs.Books.{Back}
 use Rattle.frz_chain.specs.ChainPlies.{WinsWithinPlies}
 use Rattle.frz_backs.specs.Links.{Link, value_over}
 
--- each value by which the side wins just outside the set by the rules' own exit lines has a number
+-- each value just outside the set by which the side wins by the rules' own exit lines gives a
+-- number of plies
 abbrev pub OwnWinsNumbered : RuleLines → (Board → Value) → Colour → Type 0
 OwnWinsNumbered rules value side =
     (q : Board) → IsExit (game_of rules value) q →
     class_of (value_by rules q) side ≡ Good → is_numbered (value_by rules q) ≡ true
 
--- the plies to the mate from a table whose longest win is so many: behind a table that leans there
--- are those of the tables before it
+-- the plies to mate from a table whose longest win has `most` plies: where the table leans on
+-- others, those of the tables before it are added
 abbrev pub plies_through : Bool → (before most : ℕ) → ℕ
 plies_through true before most = before + most
 plies_through false before most = most
 
--- the most of them, over tables with these longest wins
+-- the most plies to mate over all tables, where `most` is the longest win of each
 unfoldable pub longest_over : ℕ → List Link → (Link → ℕ) → ℕ
 longest_over before [] most = before
 longest_over before (link ∷ links) most =
     longest_over (max before (plies_through link.leans before (most link))) links most
 
--- each table's wins of the side are within its plies, and its own exit lines by which the side
--- wins tell theirs
+-- in each table the wins of the side are within `most` plies, and the exit lines of its own by
+-- which the side wins give a number of plies
 unfoldable pub AreWithinPlies : List Back → List Link → Colour → (Link → ℕ) → Type 0
 AreWithinPlies before [] side most = ⊤
 AreWithinPlies before (link ∷ links) side most =

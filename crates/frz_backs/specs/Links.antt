@@ -1,4 +1,4 @@
--- Tables of which each may lean on those before it.
+-- Tables each of which may lean on those before it.
 use Rattle.std.specs.Prelude.{◌++◌, List, [], ◌∷◌, Bool, true, false, map, All, ⊤}
 use Rattle.frz_board.specs.Boards.{Board}
 use Rattle.frz_sets.specs.declared.exit.Value.{Value}
@@ -9,7 +9,8 @@ use Rattle.frz_chain.specs.Books.{Back}
 use Rattle.frz_chain.specs.FileOn.{IsExactBack}
 use Rattle.frz_backs.specs.Values.{atlas_value}
 
--- a table with the rules of its text, and whether it leans on the tables before it
+-- a table with the rules of its text, and whether it leans on the tables before it, which then tell
+-- the values of exits of which its exit lines say nothing
 pub record Link : Type 0 where
   pub rules : RuleLines
   pub leans : Bool
@@ -18,19 +19,19 @@ pub record Link : Type 0 where
 abbrev pub backs_of : List Link → List Back
 backs_of links = map (λ link. link.back) links
 
--- the values outside the set of rules: by the exit lines alone, or with tables behind them
+-- the values of positions outside the set: by the exit lines alone, or with the tables behind them
 abbrev pub value_over : Bool → RuleLines → List Back → Board → Value
 value_over true rules before = atlas_value rules before
 value_over false rules before = value_by rules
 
--- each table is exact, with its exit lines outside and, where it leans, those before it behind them
+-- each table is exact; where it leans, the tables before it stand behind its exit lines
 unfoldable pub AreExactOver : List Back → List Link → Type 0
 AreExactOver before [] = ⊤
 AreExactOver before (link ∷ links) =
     IsExactBack link.rules (value_over link.leans link.rules before) link.back
     × AreExactOver (before ++ (link.back ∷ [])) links
 
--- and the first leans on none
+-- the tables are exact from the left; the first has none before it
 abbrev pub AreExact : List Link → Type 0
 AreExact links = AreExactOver [] links
 

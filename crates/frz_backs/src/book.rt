@@ -1,4 +1,4 @@
-//! The book of exit lines with several tables behind them.
+//! The values of exits by exit lines, with several tables behind them.
 
 ghost use Rattle.std.specs.Prelude.{◌≡◌, map};
 ghost use Rattle.frz_fide.specs.Valid.{IsValid};
@@ -13,9 +13,9 @@ use frz_chain::{BackTable, pair_value};
 use frz_exits::{ExitBook, RuleBook};
 use frz_sets::{Rules, Value};
 
-/// The value by the exit lines of the rules and, where these say nothing, what the first of the
-/// tables tells whose set holds the position. Its type keeps that no value has a number above
-/// 1,000.
+/// A book, the rule that gives each exit its value: by the exit lines of the rules and, where these
+/// say nothing, by the first table whose set holds the position. The ghost field keeps that no
+/// value gives more than 1,000 plies to mate.
 #[derive(Clone, Copy)]
 pub struct AtlasBook<'a> {
     pub rules: &'a Rules,
@@ -24,7 +24,7 @@ pub struct AtlasBook<'a> {
 }
 
 impl<'a> AtlasBook<'a> {
-    /// The book of sound rules with these tables behind them, the first to be asked first.
+    /// The book of sound rules with these tables behind them, which are asked in their order.
     pub fn new(rules: &'a Rules, backs: &'a [BackTable]) -> AtlasBook<'a>
         requires { IsSound rules.now }
         ensures rules { result.rules.now ≡ rules.now }
@@ -34,7 +34,7 @@ impl<'a> AtlasBook<'a> {
     }
 }
 
-/// What the first of the tables tells whose set holds the position, and nothing where none does.
+/// What the first table whose set holds the position tells of it, and `Unknown` where no set does.
 fn first_told(backs: &[BackTable], q: &Bitboards) -> Value
     requires { IsValid q.now }
     ensures { result ≡ first_value (map loaded_back backs.now) q.now }

@@ -1,5 +1,5 @@
-//! What values told by several tables say of chess. Each law is the contract of a function that
-//! does nothing.
+//! What values from several tables say of chess. Each law is the contract of a function that does
+//! nothing.
 ghost use Rattle.std.specs.Prelude.{◌≡◌, ◌+◌, ℕ, List, [], ◌∷◌, All};
 ghost use Rattle.frz_board.specs.Boards.{Board};
 ghost use Rattle.frz_board.specs.declared.man.Colour.{Colour};
@@ -18,29 +18,30 @@ ghost use Rattle.frz_backs.specs.LinkPlies.{AreWithinPlies, OwnWinsNumbered, lon
 ghost use Rattle.frz_backs.specs.Links.{AreExact, AreTrueLines, Link, backs_of};
 ghost use Rattle.frz_backs.specs.Values.{atlas_value};
 
-/// With no table behind them the exit lines alone tell the value, and with one it is the value of a
-/// chain.
+/// With no table behind them the exit lines alone give the value. With one table behind them, the
+/// value is that of a chain.
 pub fn few_tables()
     ensures none { (rules : RuleLines) (q : Board) → atlas_value rules [] q ≡ value_by rules q }
     ensures one { (rules : RuleLines) (back : Back) (q : Board) →
         atlas_value rules (back ∷ []) q ≡ chain_value rules back q }
 {}
 
-/// Where each table is exact, over those before it if it leans on them, and the exit lines of each
-/// are true, all that the tables tell is true.
+/// If each table is exact, over those before it where it leans on them, and the exit lines of each
+/// are true, then all that the tables tell is true.
 pub fn tables_tell_true()
     ensures { (links : List Link) → AreExact links → AreTrueLines links → (q : Board) →
         All (λ back. IsTrueValue (back_value back q) q) (backs_of links) }
 {}
 
-/// And so are the values of the exits of rules over them whose own lines are true.
+/// Over such tables, the values of the exits of rules are true, where the exit lines of these rules
+/// are true.
 pub fn exits_over_tables_true()
     ensures { (rules : RuleLines) (links : List Link) → AreExact links → AreTrueLines links →
         AreTrueExits rules (value_by rules) →
         AreTrueExits rules (atlas_value rules (backs_of links)) }
 {}
 
-/// The codes of a table over them say of chess what they say of the restricted game.
+/// The codes of a table over such tables say of chess what they say of the restricted game.
 pub fn codes_over_tables_tell()
     ensures { (rules : RuleLines) (links : List Link) → AreExact links → AreTrueLines links →
         AreTrueExits rules (value_by rules) → (side : Colour) (codes : List ℕ) →
@@ -48,7 +49,8 @@ pub fn codes_over_tables_tell()
         TellsChess rules (atlas_value rules (backs_of links)) side codes }
 {}
 
-/// A win of a table over them forces mate within its own plies and the longest win behind it.
+/// A win within n by a table over such tables forces mate within n plies and those of the longest
+/// win behind it.
 pub fn plies_over_tables()
     ensures { (rules : RuleLines) (links : List Link) → AreExact links → AreTrueLines links →
         AreTrueExits rules (value_by rules) → (side : Colour) →
@@ -59,8 +61,8 @@ pub fn plies_over_tables()
         ForcesMate chess side (n + longest_over 0 links most) p }
 {}
 
-/// Where the outcomes of the tables are those of chess, and each way out of the set is decided by
-/// an exit line or lies in the set of one of them, each value outside decides the game.
+/// If the outcomes in the tables are those of chess, and each way out of the set is decided by an
+/// exit line or lies in the set of one of the tables, then each value outside decides the game.
 pub fn tables_decide()
     ensures { (rules : RuleLines) (links : List Link) → AreExact links →
         All HasBothOutcomes links → AreLinesOrTables rules links →

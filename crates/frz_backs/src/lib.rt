@@ -1,5 +1,5 @@
 //! Several tables behind the exit lines of another: where the lines say nothing of a position, the
-//! first table tells its value whose set holds it.
+//! first table whose set holds it tells its value.
 #![tactic(auto)]
 
 mod book;

@@ -1,4 +1,4 @@
--- The bits of a word of squares, counted, are the squares that pass its test: so many men stand there.
+-- The bits set in a word are as many as the squares that pass its test, and so count the men there.
 use Rattle.std.proofs.Common.{◌≡◌, ℕ, zero, suc, ◌+◌, ◌*◌, ◌^◌, Bool, true, false, cond, List, [], ◌∷◌, inl, inr, length, map, count_ones, slice_index, ap, sym, ◌∙◌, arith, refl}
 use Rattle.std.specs.Prelude.{count_by, sum_by, ◌==◌}
 use Rattle.std.specs.List.{range_with_len}
@@ -93,14 +93,14 @@ pub men_by_squares : (p : Board) (c : Colour) → length p.cells ≡ 64 →
 unfolding men_of
 men_by_squares p c size = count_by_squares (λ x. is_man_of c (man_of_cell x)) p.cells size
 
--- so the word of a man tells how many such men stand on the board
+-- the word of a man tells how many such men stand on the board
 pub men_counted : (p : Board) (c : Colour) (k : Kind) → length p.cells ≡ 64 →
     count_ones (set_of (λ s. has p c k s)) ≡ count_of p c k
 men_counted p c k size =
     ones_of (λ s. has p c k s)
     ∙ count_by_squares (λ x. x == cell_of_man (record { colour = c; kind = k })) p.cells size
 
--- and that of a side how many men it has
+-- the word of a side tells how many men it has
 pub side_counted : (p : Board) (c : Colour) → length p.cells ≡ 64 →
     count_ones (set_of (λ s. holds p c s)) ≡ men_of p c
 side_counted p c size = ones_of (λ s. holds p c s) ∙ men_by_squares p c size

@@ -1,4 +1,4 @@
--- What the contracts of words speak of.
+-- What the contracts on words, sets of squares in 64 bits, speak of.
 pub mod Words
 pub mod Rays
 pub mod Sides

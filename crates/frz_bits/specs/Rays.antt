@@ -5,14 +5,14 @@ use Rattle.frz_board.specs.Squares.{squares}
 use Rattle.frz_board.specs.Lines.{is_rook_line, is_bishop_line, is_between}
 use Rattle.frz_squares.specs.SquareSets.{has_square}
 
--- no square strictly between is in the word
+-- no square strictly between a and b is occupied
 abbrev pub is_open : ℕ → ℕ → ℕ → Bool
 is_open occupied a b = list_all (λ s. not (is_between a s b) || not (has_square occupied s)) squares
 
--- along a rank or a file, up to the first occupied square and with it
+-- b is on a rank or file of a, no further than the first occupied square
 abbrev pub is_rook_ray : ℕ → ℕ → ℕ → Bool
 is_rook_ray occupied a b = is_rook_line a b && is_open occupied a b
 
--- along a diagonal, up to the first occupied square and with it
+-- b is on a diagonal of a, no further than the first occupied square
 abbrev pub is_bishop_ray : ℕ → ℕ → ℕ → Bool
 is_bishop_ray occupied a b = is_bishop_line a b && is_open occupied a b

@@ -1,10 +1,10 @@
--- Which men may attack a square, told by where they stand.
+-- Which men may attack a square, judged only by where they stand.
 use Rattle.std.specs.Prelude.{ℕ, Bool, ◌&&◌, ◌||◌}
 use Rattle.frz_board.specs.declared.man.Colour.{Colour}
 use Rattle.frz_board.specs.Lines.{is_knight_jump, is_rook_line, is_bishop_line}
 use Rattle.frz_board.specs.Boards.{Board, holds}
 
--- on one line with the square, or a knight's jump away
+-- a is on one line with the square s, or a knight's jump away
 abbrev pub is_in_reach : ℕ → ℕ → Bool
 is_in_reach s a = (is_rook_line s a || is_bishop_line s a) || is_knight_jump s a
 

@@ -6,7 +6,8 @@ use Rattle.frz_board.specs.declared.man.Kind.TheVariants.{King, Queen, Rook, Bis
 use Rattle.frz_board.specs.Squares.{files_apart, is_forward}
 use Rattle.frz_board.specs.Lines.{is_knight_jump, is_king_step, is_rook_line, is_bishop_line}
 
--- one rank forward on the same or an adjoining file, or two ranks forward on the same file
+-- b is one rank forward of a on the same or an adjoining file, or two ranks forward on the same
+-- file
 abbrev pub is_pawn_way : Colour → ℕ → ℕ → Bool
 is_pawn_way c a b =
     (nat_le (files_apart a b) 1 && is_forward c 1 a b)

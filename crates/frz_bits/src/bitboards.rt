@@ -1,4 +1,4 @@
-//! A position with words of its men, and what attacks what in it.
+//! A position with the sets of its men as words of 64 bits, and what attacks what in it.
 
 ghost use Rattle.std.specs.Prelude.{◌≡◌, ◌≤◌, ◌==◌, ◌&&◌, not, replicate, slice_index, slice_set};
 ghost use Rattle.frz_board.specs.Men.{is_man_of, man_of_cell, other_of};
@@ -28,7 +28,8 @@ fn is_black(cell: u8) -> bool
     7 <= cell && cell <= 12
 }
 
-/// A position with the words of the squares where the men of each side stand.
+/// A position with two words: the squares where White's men stand, and those where Black's do.
+/// Contracts see the position alone.
 #[derive(Drop)]
 pub struct Bitboards {
     position: Position,
@@ -48,7 +49,7 @@ impl Model for Bitboards {
 }
 
 impl Bitboards {
-    /// The position's men, gathered from its cells.
+    /// The position with its words, gathered from its cells.
     pub fn of(p: &Position) -> Bitboards
         ensures { result ≡ p.now }
     {
@@ -60,7 +61,7 @@ impl Bitboards {
         }
     }
 
-    /// A board with no man.
+    /// A board without men.
     pub fn empty(turn: Colour, ep: Option<Square>) -> Bitboards
         ensures { result ≡ record { cells = replicate 64 0; turn = turn; ep = ep } }
     {
@@ -71,7 +72,7 @@ impl Bitboards {
         }
     }
 
-    /// Puts another cell on the square.
+    /// Writes `c` into the cell of the square: a man's number, or 0 to empty it.
     pub fn set(&mut self, s: Square, c: u8)
         requires { c ≤ 12 }
         ensures { self.new ≡ record self.old { cells = slice_set self.old.cells s c } }
@@ -91,14 +92,14 @@ impl Bitboards {
         }
     }
 
-    /// The squares where this very man stands.
+    /// The squares where a man of this colour and kind stands.
     pub fn men(&self, man: Man) -> u64
         ensures { result ≡ set_of (λ s. has self.now man.colour man.kind s) }
     {
         cells_equal(u8x64::from_array(self.position.cells()), cell_of(man))
     }
 
-    /// The squares where a man stands.
+    /// The squares where a man of either side stands.
     pub fn occupied(&self) -> u64
         ensures { result ≡ set_of (λ s. not (is_empty self.now s)) }
     {
@@ -112,28 +113,29 @@ impl Bitboards {
         self.position.turn()
     }
 
-    /// The man on the square.
+    /// The man on the square, and `None` if it is empty.
     pub fn man(&self, s: Square) -> Option<Man>
         ensures { result ≡ man_on self.now s }
     {
         self.position.man(s)
     }
 
-    /// The target.
+    /// The target: the square that a pawn has just passed over, where it may be captured en
+    /// passant.
     pub fn ep(&self) -> Option<Square>
         ensures { result ≡ self.now.ep }
     {
         self.position.ep()
     }
 
-    /// The position.
+    /// The position without its words, as a reference.
     pub fn as_position(&self) -> &Position
         ensures { result.now ≡ self.now }
     {
         &self.position
     }
 
-    /// The position with the other side to move, and this target.
+    /// The position with the other side to move, and this target or none.
     pub fn hand_over(&self, ep: Option<Square>) -> Bitboards
         ensures { result ≡ record self.now { turn = other_of self.now.turn; ep = ep } }
     {
@@ -144,7 +146,7 @@ impl Bitboards {
         }
     }
 
-    /// The position without its words.
+    /// The position without its words, as a copy.
     pub fn position(&self) -> Position
         ensures { result ≡ self.now }
     {
@@ -172,14 +174,14 @@ impl Bitboards {
         self.position.has_pawn_beside(c, s)
     }
 
-    /// Is each square strictly between empty?
+    /// Is each square strictly between `a` and `b` empty? So it is where they share no line.
     pub fn is_clear(&self, a: Square, b: Square) -> bool
         ensures { result ≡ is_clear self.now a b }
     {
         between(a, b) & self.occupied() == 0
     }
 
-    /// The position with another cell on the square.
+    /// The position with `c` in the cell of the square: a man's number, or 0 to empty it.
     pub fn put(&self, s: Square, c: u8) -> Bitboards
         requires { c ≤ 12 }
         ensures { result ≡ record self.now { cells = slice_set self.now.cells s c } }
@@ -191,7 +193,7 @@ impl Bitboards {
         }
     }
 
-    /// Would this man on `a` attack `b`?
+    /// Would this man, standing on `a`, attack `b`?
     #[tactic(auto, using(frz_squares::proofs::Lemmas::set_reading))]
     pub fn reaches(&self, man: Man, a: Square, b: Square) -> bool
         ensures { result ≡ reaches self.now man.colour man.kind a b }
@@ -218,14 +220,15 @@ impl Bitboards {
         }
     }
 
-    /// The men of the side that may attack the square: those on a line with it or a jump away.
+    /// The squares of the side's men that may attack `s`: those on a line with it or a knight's
+    /// jump away.
     fn men_in_reach(&self, s: Square, by: Colour) -> u64
         ensures { result ≡ set_of (λ a. may_attack self.now s by a) }
     {
         both(self.side(by), reaching_set(s))
     }
 
-    /// The squares from which a man of the side attacks the square.
+    /// The squares from which a man of the side `by` attacks `s`.
     pub fn attackers(&self, s: Square, by: Colour) -> u64
         ensures { result ≡ set_of (λ a. holds self.now by a && attacks self.now a s) }
     {
@@ -239,7 +242,7 @@ impl Bitboards {
         word
     }
 
-    /// Does a man of the side attack the square?
+    /// Does a man of the side `by` attack `s`?
     pub fn is_attacked(&self, s: Square, by: Colour) -> bool
         ensures { result ≡ is_attacked self.now s by }
     {
@@ -254,7 +257,7 @@ impl Bitboards {
         false
     }
 
-    /// Does this very man stand on the square?
+    /// Does a man of this colour and kind stand on the square?
     pub fn has(&self, c: Colour, k: Kind, s: Square) -> bool
         ensures { result ≡ has self.now c k s }
     {
@@ -279,7 +282,7 @@ impl Bitboards {
     }
 }
 
-/// The squares from which a man of the side attacks the square.
+/// The squares from which a man of the side `by` attacks `s`. It gathers the position's words anew.
 pub fn attackers(p: &Position, s: Square, by: Colour) -> u64
     ensures { result ≡ set_of (λ a. holds p.now by a && attacks p.now a s) }
 {

@@ -1,4 +1,5 @@
-//! Words of 64 bits, one for each set of squares.
+//! Sets of squares as words of 64 bits: bit s of a word stands for square s, from 0 for a1 to 63
+//! for h8.
 #![tactic(auto)]
 
 mod bitboards;

@@ -1,7 +1,7 @@
-//! The squares strictly between two squares of one line: 64 numbers from each square, one for each
-//! other square. A word is kept in two halves.
+//! The squares strictly between two squares of one line, a word for each pair of squares. The word
+//! of squares a and b is at index 64 * a + b, kept in two halves of 32 bits.
 
-/// The squares of ranks 1 to 4.
+/// The low halves: the squares of ranks 1 to 4.
 pub const BETWEEN_LOW: [u32; 4096] = [
     0, 0, 2, 6, 14, 30, 62, 126, 0, 0, 0, 0, 0, 0, 0, 0, 256, 0, 512, 0, 0, 0, 0, 0, 65792, 0, 0,
     262656, 0, 0, 0, 0, 16843008, 0, 0, 0, 134480384, 0, 0, 0, 16843008, 0, 0, 0, 0, 134480384, 0,
@@ -181,7 +181,7 @@ pub const BETWEEN_LOW: [u32; 4096] = [
     0, 0, 0, 0, 0, 0, 0, 0,
 ];
 
-/// The squares of ranks 5 to 8.
+/// The high halves: the squares of ranks 5 to 8.
 pub const BETWEEN_HIGH: [u32; 4096] = [
     0, 0, 0, 0, 0, 0, 0, 0, 0, 0, 0, 0, 0, 0, 0, 0, 0, 0, 0, 0, 0, 0, 0, 0, 0, 0, 0, 0, 0, 0, 0, 0,
     0, 0, 0, 0, 0, 0, 0, 0, 1, 0, 0, 0, 0, 16, 0, 0, 257, 0, 0, 0, 0, 0, 8208, 0, 65793, 0, 0, 0,

@@ -1,7 +1,8 @@
 //! The squares that a pawn attacks, and those that it may go to, from each square.
 
-/// Of each square in order, the squares beside it on its rank, with eight zeros before and behind
-/// them: a white pawn on s attacks the squares beside s + 8, and a black pawn those beside s - 8.
+/// Entry i holds the squares beside square i - 8 on its rank; the first and the last eight entries
+/// are 0. A white pawn on s attacks the squares beside s + 8 (entry s + 16), and a black pawn those
+/// beside s - 8 (entry s).
 pub const PAWN: [u64; 80] = [
     0,
     0,
@@ -85,7 +86,8 @@ pub const PAWN: [u64; 80] = [
     0,
 ];
 
-/// Where a white pawn may go.
+/// Where a white pawn may go on some board: one rank ahead on its own or an adjoining file, or two
+/// ranks straight ahead.
 pub const WHITE_PAWN_WAYS: [u64; 64] = [
     66304,
     132864,
@@ -153,7 +155,7 @@ pub const WHITE_PAWN_WAYS: [u64; 64] = [
     0,
 ];
 
-/// Where a black pawn may go.
+/// Where a black pawn may go on some board, likewise.
 pub const BLACK_PAWN_WAYS: [u64; 64] = [
     0,
     0,

@@ -1,4 +1,4 @@
-//! The words of what a rook or a bishop attacks among men.
+//! The squares that a rook or a bishop attacks where some squares are occupied.
 
 ghost use Rattle.std.specs.Prelude.{◌≡◌, ◌&&◌};
 ghost use Rattle.frz_squares.specs.SquareSets.{set_of, has_square};
@@ -8,7 +8,7 @@ use super::sets::{between, bishop_lines, rook_lines};
 use super::word::{next_square, with_square};
 use frz_board::Square;
 
-/// The squares of some lines through `s` that no occupied square hides from it.
+/// Those squares of `lines`, lines through `s`, that no occupied square hides from `s`.
 fn seen(s: Square, lines: u64, occupied: u64) -> u64
     ensures { result ≡ set_of (λ b. has_square lines b && is_open occupied s b) }
 {
@@ -21,16 +21,16 @@ fn seen(s: Square, lines: u64, occupied: u64) -> u64
     word
 }
 
-/// The squares that a rook attacks where these squares are occupied: along each rank and file up to
-/// the first occupied square, and that square too.
+/// The squares that a rook on `s` attacks where the squares of `occupied` are occupied: along its
+/// rank and file each way up to the first occupied square, and that square too.
 pub fn rook_rays(s: Square, occupied: u64) -> u64
     ensures { result ≡ set_of (λ b. is_rook_ray occupied s b) }
 {
     seen(s, rook_lines(s), occupied)
 }
 
-/// The squares that a bishop attacks where these squares are occupied: along each diagonal up to
-/// the first occupied square, and that square too.
+/// The squares that a bishop on `s` attacks where the squares of `occupied` are occupied: along its
+/// diagonals each way up to the first occupied square, and that square too.
 pub fn bishop_rays(s: Square, occupied: u64) -> u64
     ensures { result ≡ set_of (λ b. is_bishop_ray occupied s b) }
 {

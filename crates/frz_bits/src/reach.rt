@@ -1,6 +1,6 @@
 //! The squares that each piece attacks on an empty board, from each square.
 
-/// A knight's squares.
+/// The squares a knight's jump away.
 pub const KNIGHT: [u64; 64] = [
     132096,
     329728,
@@ -68,7 +68,7 @@ pub const KNIGHT: [u64; 64] = [
     9077567998918656,
 ];
 
-/// A king's squares.
+/// The adjoining squares, which a king attacks.
 pub const KING: [u64; 64] = [
     770,
     1797,
@@ -136,7 +136,7 @@ pub const KING: [u64; 64] = [
     4665729213955833856,
 ];
 
-/// The squares of the same rank or file.
+/// The other squares of the same rank or file.
 pub const ROOK: [u64; 64] = [
     72340172838076926,
     144680345676153597,
@@ -204,7 +204,7 @@ pub const ROOK: [u64; 64] = [
     9187484529235886208,
 ];
 
-/// The squares of the same diagonals.
+/// The other squares of the same diagonals.
 pub const BISHOP: [u64; 64] = [
     9241421688590303744,
     36099303471056128,

@@ -1,4 +1,4 @@
-//! The words of what men attack on an empty board, and of the squares between two.
+//! The squares that men attack on an empty board, and the squares between two squares.
 
 ghost use Rattle.std.specs.Prelude.{◌≡◌, ◌*◌, ◌+◌, ◌^◌};
 ghost use Rattle.frz_board.specs.Lines.{is_knight_jump, is_king_step, is_rook_line, is_bishop_line, is_between};
@@ -10,7 +10,7 @@ use super::pawns::PAWN;
 use super::reach::{BISHOP, KING, KNIGHT, ROOK};
 use frz_board::{Colour, Square};
 
-/// The squares that a knight attacks.
+/// The squares that a knight on `s` attacks.
 #[tactic(auto, using(crate::proofs::Tables::knight_at))]
 pub fn knight_set(s: Square) -> u64
     ensures { result ≡ set_of (λ b. is_knight_jump s b) }
@@ -18,7 +18,7 @@ pub fn knight_set(s: Square) -> u64
     KNIGHT[s.number() as usize]
 }
 
-/// The squares that a king attacks.
+/// The squares that a king on `s` attacks.
 #[tactic(auto, using(crate::proofs::Tables::king_at))]
 pub fn king_set(s: Square) -> u64
     ensures { result ≡ set_of (λ b. is_king_step s b) }
@@ -26,7 +26,7 @@ pub fn king_set(s: Square) -> u64
     KING[s.number() as usize]
 }
 
-/// The squares that a pawn of the side attacks.
+/// The squares that a pawn of the side on `s` attacks.
 #[tactic(auto, using(crate::proofs::Tables::white_pawn_at, crate::proofs::Tables::black_pawn_at))]
 pub fn pawn_set(c: Colour, s: Square) -> u64
     ensures { result ≡ set_of (λ b. pawn_reaches c s b) }
@@ -37,7 +37,7 @@ pub fn pawn_set(c: Colour, s: Square) -> u64
     }
 }
 
-/// The squares of the same rank or file.
+/// The other squares of the same rank or file.
 #[tactic(auto, using(crate::proofs::Tables::rook_at))]
 pub(crate) fn rook_lines(s: Square) -> u64
     ensures { result ≡ set_of (λ b. is_rook_line s b) }
@@ -45,7 +45,7 @@ pub(crate) fn rook_lines(s: Square) -> u64
     ROOK[s.number() as usize]
 }
 
-/// The squares of the same diagonals.
+/// The other squares of the same diagonals.
 #[tactic(auto, using(crate::proofs::Tables::bishop_at))]
 pub(crate) fn bishop_lines(s: Square) -> u64
     ensures { result ≡ set_of (λ b. is_bishop_line s b) }
@@ -59,7 +59,7 @@ fn joined(high: u32, low: u32) -> u64
     u64::from(high) * 0x1_0000_0000 + u64::from(low)
 }
 
-/// The squares strictly between two squares of one line, and none for others.
+/// The squares strictly between two squares of one line, and none where the two share no line.
 #[tactic(auto, using(crate::proofs::Tables::between_at))]
 pub fn between(a: Square, b: Square) -> u64
     ensures { result ≡ set_of (λ s. is_between a s b) }

@@ -1,4 +1,4 @@
-//! The conditions on a position in which no attack takes part, by the words of its men.
+//! The conditions on a position that need no look at attacks, tested by the words of its men.
 
 ghost use Rattle.std.specs.Prelude.{◌≡◌};
 ghost use Rattle.frz_board.specs.Shapes.{count_of, men_of, has_kings, has_pawns_inside, has_few_men, shape_of};
@@ -10,8 +10,8 @@ use frz_board::{Colour, Kind, Man, Shape, target_in_place};
 const END_RANKS: u64 = 0xff00_0000_0000_00ff;
 
 impl Bitboards {
-    /// The first of the conditions on a position, before any attack, that fails: each side has one
-    /// king, no pawn stands on rank 1 or 8, each side has at most 16 men, a target is in place.
+    /// The first of these conditions that fails: each side has exactly one king, no pawn stands on
+    /// rank 1 or 8, each side has at most 16 men, a target is in place. Attacks are not looked at.
     pub fn shape(&self) -> Result<(), Shape>
         ensures { result ≡ shape_of self.now }
     {
@@ -33,7 +33,7 @@ impl Bitboards {
 fn count(p: &Bitboards, colour: Colour, kind: Kind) -> u32
     ensures { result ≡ count_of p.now colour kind }
 {
-    // with the turn comes the fact that there are 64 cells
+    // the contract of `turn` tells the proof that there are 64 cells
     let _turn = p.as_position().turn();
     p.men(Man { colour, kind }).count_ones()
 }

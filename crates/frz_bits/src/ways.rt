@@ -1,4 +1,4 @@
-//! The words of where men go on some board.
+//! The squares to which a man may go on some board.
 
 ghost use Rattle.std.specs.Prelude.{◌≡◌, ◌||◌};
 ghost use Rattle.frz_board.specs.Lines.{is_rook_line, is_bishop_line};
@@ -33,8 +33,8 @@ pub(crate) fn reaching_set(s: Square) -> u64
     queen_lines(s) | knight_set(s)
 }
 
-/// The squares that the man goes to on some board: those of its lines, steps or jumps, and the
-/// squares that a pawn advances to or captures on.
+/// The squares to which the man may go from `s` on some board: those of its lines, steps or jumps,
+/// and for a pawn those that it advances to or captures on.
 pub fn move_set(man: Man, s: Square) -> u64
     ensures { result ≡ set_of (λ b. may_go man.colour man.kind s b) }
 {

@@ -1,4 +1,4 @@
-//! Words of 64 bits, read and written square by square.
+//! Words of 64 bits as sets of squares, read and written square by square.
 
 ghost use Rattle.std.specs.Prelude.{ℕ, ◌≡◌, ◌&&◌, not, ◌==◌, ◌+◌, ◌≤◌, ◌<◌, ◌^◌, MatchOption, if◌then◌else◌};
 ghost use Rattle.frz_squares.specs.SquareSets.{has_square};
@@ -6,7 +6,7 @@ ghost use Rattle.frz_bits.specs.Words.{HasNoneFrom, IsNext};
 
 use frz_board::Square;
 
-/// Is the square in the word?
+/// Is the square in the set?
 #[tactic(auto, using(std::proofs::lemmas::Nat::Bits::shr_and_one))]
 pub fn contains(word: u64, s: Square) -> bool
     ensures there { result ≡ has_square word s }
@@ -15,7 +15,7 @@ pub fn contains(word: u64, s: Square) -> bool
     (word >> s.number()) & 1 == 1
 }
 
-/// The word with a square above all its own put in, or left out.
+/// The word with square `s` put in, or left out. `s` must be above all squares of the word.
 pub fn with_square(word: u64, s: Square, put_in: bool) -> u64
     requires { word < 2 ^ s }
     ensures { result ≡ word + (if put_in then 2 ^ s else 0) }
@@ -27,7 +27,7 @@ pub fn with_square(word: u64, s: Square, put_in: bool) -> u64
     }
 }
 
-/// The word with this square put in or taken out, whatever it was.
+/// The word with square `s` put in or taken out, whether or not it was in the word before.
 pub fn replaced(word: u64, s: Square, put_in: bool) -> u64
     ensures { (k : ℕ) → k < 64 →
         has_square result k ≡ (if k == s then put_in else has_square word k) }
@@ -51,7 +51,7 @@ pub fn both(word: u64, other: u64) -> u64
     word & other
 }
 
-/// The first square of the word whose number is `n` or above.
+/// The first square of the word whose number is `n` or above, and `None` where there is none.
 pub fn next_square(word: u64, n: u8) -> Option<Square>
     requires { n ≤ 64 }
     ensures { MatchOption result (HasNoneFrom word n) (IsNext word n) }

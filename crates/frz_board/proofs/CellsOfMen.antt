@@ -43,7 +43,7 @@ pub other_other : (c : Colour) → other_of (other_of c) ≡ c
 other_other White = refl
 other_other Black = refl
 
--- and it is another side
+-- the opponent is another side
 pub other_differs : (c : Colour) → other_of c ≡ c → ⊥
 other_differs White e = cc
 other_differs Black e = cc

@@ -30,7 +30,7 @@ module _ (p : Board) (c : Colour) (b v : ℕ) (own : is_man_of c (man_of_cell v)
   abbrev filled : Board
   filled = record p { cells = slice_set p.cells b v }
 
-  -- a cell that passes a test which the new one false_from_ne_true is as it was
+  -- a cell that passes a test which the new one fails is as it was
   was : (t : ℕ → Bool) → t v ≡ false → (s : ℕ) → t (slice_index filled.cells s) ≡ true →
       slice_index filled.cells s ≡ slice_index p.cells s
   was t out s h =

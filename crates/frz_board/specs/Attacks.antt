@@ -10,11 +10,11 @@ use Rattle.frz_board.specs.Lines.{is_knight_jump, is_king_step, is_rook_line, is
 use Rattle.frz_board.specs.Men.{other_of}
 use Rattle.frz_board.specs.Boards.{Board, man_on, is_empty, holds, has}
 
--- each square strictly between is empty (FIDE 3.5)
+-- each square strictly between a and b is empty (FIDE 3.5)
 abbrev pub is_clear : Board → ℕ → ℕ → Bool
 is_clear p a b = list_all (λ s. not (is_between a s b) || is_empty p s) squares
 
--- one square diagonally forward (FIDE 3.7)
+-- b is one square diagonally forward of a, as the side sees it (FIDE 3.7)
 abbrev pub pawn_reaches : Colour → ℕ → ℕ → Bool
 pawn_reaches c a b = files_apart a b == 1 && is_forward c 1 a b
 

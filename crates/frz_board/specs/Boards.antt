@@ -12,12 +12,12 @@ pub record Board : Type 0 where
   pub turn : Colour
   pub ep : Option ℕ
 
--- 64 cells, each with a man's number or 0
+-- 64 cells, each with a man's number, 1 to 12, or 0
 pub record CellsFit (cells : List ℕ) : Type 0 where
   pub size : length cells ≡ 64
   pub men : All (λ c. c < 13) cells
 
--- the man on a square
+-- the man on a square, if any
 abbrev pub man_on : Board → ℕ → Option Man
 man_on p s = man_of_cell (slice_index p.cells s)
 
@@ -28,6 +28,6 @@ is_empty p s = slice_index p.cells s == 0
 abbrev pub holds : Board → Colour → ℕ → Bool
 holds p c s = is_man_of c (man_on p s)
 
--- this very man stands on the square
+-- a man of this colour and kind stands on the square
 abbrev pub has : Board → Colour → Kind → ℕ → Bool
 has p c k s = slice_index p.cells s == cell_of_man (record { colour = c; kind = k })

@@ -18,7 +18,8 @@ abbrev pub is_target : Option ℕ → ℕ → Bool
 is_target None b = false
 is_target (Some t) b = t == b
 
--- a pawn of this side has passed over the square: where it came from is empty, and so is the square
+-- a pawn of this side has passed over the square: it stands one rank ahead of the square, which is
+-- empty, and so is the square that it came from
 abbrev pub has_passed : Board → Colour → ℕ → Bool
 has_passed p c t =
     (is_passing_rank c t && (is_empty p t && is_empty p (ahead (other_of c) t)))

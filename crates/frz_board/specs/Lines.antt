@@ -11,11 +11,11 @@ is_knight_jump a b =
 abbrev pub is_king_step : ℕ → ℕ → Bool
 is_king_step a b = distance a b == 1
 
--- two squares of one file or one rank (FIDE 3.3)
+-- two different squares of one file or one rank (FIDE 3.3)
 abbrev pub is_rook_line : ℕ → ℕ → Bool
 is_rook_line a b = not (a == b) && (files_apart a b == 0 || ranks_apart a b == 0)
 
--- two squares of one diagonal (FIDE 3.2)
+-- two different squares of one diagonal (FIDE 3.2)
 abbrev pub is_bishop_line : ℕ → ℕ → Bool
 is_bishop_line a b = not (a == b) && files_apart a b == ranks_apart a b
 

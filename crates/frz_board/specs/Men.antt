@@ -11,7 +11,7 @@ abbrev pub other_of : Colour → Colour
 other_of White = Black
 other_of Black = White
 
--- the kinds in order, from 1
+-- the numbers of the kinds in order, from 1
 abbrev pub number_of_kind : Kind → ℕ
 number_of_kind King = 1
 number_of_kind Queen = 2
@@ -20,7 +20,7 @@ number_of_kind Bishop = 4
 number_of_kind Knight = 5
 number_of_kind Pawn = 6
 
--- White's kinds are 1 to 6, and Black's 7 to 12
+-- the number of a man in a cell: White's kinds are 1 to 6, and Black's 7 to 12
 abbrev pub cell_of_man : Man → ℕ
 cell_of_man m = elim m.colour [ White ↦ number_of_kind m.kind | Black ↦ number_of_kind m.kind + 6 ]
 
@@ -39,7 +39,7 @@ letter_of_kind Bishop = 66
 letter_of_kind Knight = 78
 letter_of_kind Pawn = 80
 
--- the kind of a letter, where it is one of these
+-- the kind of one of these letters, and none of any other byte
 abbrev pub kind_of_letter : ℕ → Option Kind
 kind_of_letter b =
     if b == 75 then Some King else (if b == 81 then Some Queen else
@@ -56,7 +56,7 @@ man_of_kinds (Some k) small = Some (record { colour = White; kind = k })
 man_of_kinds None (Some k) = Some (record { colour = Black; kind = k })
 man_of_kinds None None = None
 
--- the man of a letter, where it is a man's
+-- the man of a letter, and none of a byte that is no man's letter
 abbrev pub man_of_letter : ℕ → Option Man
 man_of_letter b = man_of_kinds (kind_of_letter b) (kind_of_letter (b - 32))
 

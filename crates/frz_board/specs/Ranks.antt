@@ -4,12 +4,12 @@ use Rattle.frz_squares.specs.Squares.{rank_of}
 use Rattle.frz_board.specs.declared.man.Colour.{Colour}
 use Rattle.frz_board.specs.declared.man.Colour.TheVariants.{White, Black}
 
--- b is n ranks forward of a
+-- b is n ranks forward of a, as the side sees it
 abbrev pub is_forward : Colour → ℕ → ℕ → ℕ → Bool
 is_forward White n a b = rank_of b == rank_of a + n
 is_forward Black n a b = rank_of a == rank_of b + n
 
--- the square one rank ahead
+-- the square one rank ahead, as the side sees it
 abbrev pub ahead : Colour → ℕ → ℕ
 ahead White s = s + 8
 ahead Black s = s - 8

@@ -1,4 +1,4 @@
--- The conditions on a position in which no attack takes part, in order.
+-- The conditions on a position that need no look at attacks, in order.
 use Rattle.std.specs.Prelude.{not, ℕ, Bool, ◌==◌, ◌&&◌, ◌||◌, nat_le, count_by, Result, Ok, Err, if◌then◌else◌}
 use Rattle.std.specs.List.{list_all}
 use Rattle.frz_board.specs.declared.man.Colour.{Colour}
@@ -40,7 +40,7 @@ has_pawns_inside p = list_all (λ s. not (is_end s && has_pawn p s)) squares
 unfoldable pub has_few_men : Board → Bool
 has_few_men p = nat_le (men_of p White) 16 && nat_le (men_of p Black) 16
 
--- the first of the conditions that fails
+-- the first of the conditions that fails, or Ok where all hold
 abbrev pub shape_of : Board → Result (Unit {0}) Shape
 shape_of p =
     if not (has_kings p) then Err Kings else

@@ -13,7 +13,7 @@ file_letter s = 97 + file_of s
 abbrev pub rank_digit : ℕ → ℕ
 rank_digit s = 49 + rank_of s
 
--- the small letter of the kind, or nothing
+-- the small letter of what a pawn becomes, or nothing
 abbrev pub promotion_text : Option Kind → List ℕ
 promotion_text None = []
 promotion_text (Some k) = (letter_of_kind k + 32) ∷ []

@@ -1,4 +1,4 @@
-//! How many men of each sort stand on a board.
+//! How many men of a kind, or of a side, stand on a board.
 
 ghost use Rattle.std.specs.Prelude.{◌≡◌, ◌≤◌, ◌&&◌, count_by, nat_le};
 ghost use Rattle.frz_board.specs.Shapes.{count_of, men_of};
@@ -28,7 +28,7 @@ impl Position {
     }
 }
 
-/// How many cells lie between two numbers, themselves among them.
+/// How many cells hold a number from `least` to `most`, both included.
 fn count_between(cells: &[u8; 64], least: u8, most: u8) -> u8
     ensures count { result ≡ count_by (λ x. nat_le least x && nat_le x most) cells.now }
     ensures few { result ≤ 64 }

@@ -1,4 +1,4 @@
-//! Laws of the board, each the contract of a function that does nothing.
+//! Laws of the board: each is a function that does nothing, and its contract states the law.
 
 ghost use Rattle.std.specs.Prelude.{◌≡◌, ℕ, ◌<◌, ◌↔◌, true};
 ghost use Rattle.std.specs.Ordering.{nat_cmp};
@@ -14,8 +14,8 @@ use super::man::Man;
 use super::square::Square;
 use super::step::Move;
 
-/// The test of attack holds exactly where the man on the one square attacks the other (FIDE 3.1 to
-/// 3.8).
+/// The test of attack holds exactly where the man on `a` attacks `b` as the laws of chess say it
+/// (FIDE 3.1 to 3.8).
 pub fn attack_in_words()
     ensures { (p : Board) (a b : ℕ) → (attacks p a b ≡ true) ↔ Attack p a b }
 {}

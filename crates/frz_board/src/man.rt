@@ -9,7 +9,7 @@ pub enum Colour {
     Black,
 }
 
-/// What a man is (FIDE 2.2). The order is that of the variants.
+/// What a man is (FIDE 2.2). Kinds are ordered as the variants, the king first.
 #[derive(Clone, Copy, Debug, PartialEq, Eq, PartialOrd, Ord)]
 pub enum Kind {
     King,
@@ -20,7 +20,7 @@ pub enum Kind {
     Pawn,
 }
 
-/// A piece or a pawn of one side. Men are ordered as the numbers of their cells.
+/// A piece or a pawn of one side. Men are ordered as the numbers that `cell_of` gives them.
 #[derive(Clone, Copy, Debug, PartialEq, Eq, PartialOrd, Ord)]
 pub struct Man {
     pub colour: Colour,
@@ -41,7 +41,7 @@ impl Colour {
         }
     }
 
-    /// Whether both are one side.
+    /// Whether both are the same side.
     pub fn is_same(self, other: Colour) -> bool
         ensures { result ≡ same_colour self other }
     {
@@ -118,7 +118,7 @@ impl Kind {
     }
 }
 
-/// From a capital letter to the small one.
+/// The number that added to a capital letter gives the small one.
 pub(crate) const TO_SMALL: u8 = b'a' - b'A';
 
 impl Man {
@@ -135,7 +135,8 @@ impl Man {
         }
     }
 
-    /// The man of a letter, and `None` of any byte that is no man's.
+    /// The man of a letter, a capital for White and a small one for Black, and `None` of any other
+    /// byte.
     pub fn of_letter(b: u8) -> Option<Man>
         ensures man { result ≡ man_of_letter b }
         ensures back { IfSome result (λ m. letter_of_man m ≡ b) }
@@ -154,8 +155,8 @@ impl Man {
     }
 }
 
-/// The number that stands for the man in a cell: 1 to 6 for White's kinds in order, 7 to 12 for
-/// Black's.
+/// The number that stands for the man in a cell of a board: 1 to 6 for White's kinds in order, 7 to
+/// 12 for Black's.
 pub fn cell_of(m: Man) -> u8
     ensures cell { result ≡ cell_of_man m }
     ensures back { man_of_cell result ≡ Some m }

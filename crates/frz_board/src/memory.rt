@@ -1,5 +1,5 @@
-//! Want of memory.
+//! The fault of a call that runs out of memory.
 
-/// A call wanted more memory than there was.
+/// A call needed more memory than there was.
 #[derive(Clone, Copy, Debug, PartialEq, Eq)]
 pub struct NoMemory;

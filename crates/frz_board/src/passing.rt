@@ -1,4 +1,5 @@
-//! Pawns that have just passed over a square, and the target of a position.
+//! Pawns that have just passed over a square, and the target: the square where such a pawn may be
+//! captured en passant.
 
 ghost use Rattle.std.specs.Prelude.{◌≡◌, ◌<◌, ◌≤◌, ◌+◌, ◌-◌, ◌&&◌, nat_lt};
 ghost use Rattle.frz_board.specs.Boards.{has};
@@ -18,7 +19,7 @@ impl Position {
         has_pawn_before(self, c, s) || has_pawn_after(self, c, s)
     }
 
-    /// Is the square the target?
+    /// Is the square the target of the position?
     pub fn is_target(&self, s: Square) -> bool
         ensures { result ≡ is_target self.now.ep s }
     {
@@ -28,8 +29,9 @@ impl Position {
         }
     }
 
-    /// Has a pawn of this side passed over the square, so that it stands one rank ahead of it, and
-    /// the square and the one behind it are empty?
+    /// Does the board look as if a pawn of this side has just advanced two squares and passed over
+    /// `t`? So it does where `t` is on the rank that such pawns pass over, the pawn stands one rank
+    /// ahead of `t`, and `t` and the square behind it are empty.
     pub fn has_passed(&self, c: Colour, t: Square) -> bool
         ensures { result ≡ has_passed self.now c t }
     {
@@ -41,8 +43,8 @@ impl Position {
     }
 }
 
-/// Is there no target, or has the opponent's pawn passed over it and stands beside a pawn of the
-/// side to move?
+/// Is the target in place? The opponent's pawn must have passed over it, as `has_passed` tells, and
+/// a pawn of the side to move must stand beside that pawn. A position without a target passes.
 #[tactic(auto, unfolding(crate::specs::EnPassant::has_target_in_place))]
 pub fn target_in_place(p: &Position) -> bool
     ensures { result ≡ has_target_in_place p.now }
@@ -56,14 +58,14 @@ pub fn target_in_place(p: &Position) -> bool
     }
 }
 
-/// Does a pawn of this side stand on the next file towards the a-file?
+/// Does a pawn of this side stand on the next square towards the a-file?
 fn has_pawn_before(p: &Position, c: Colour, s: Square) -> bool
     ensures { result ≡ (nat_lt 0 (file_of s) && has p.now c Pawn (s - 1)) }
 {
     s.file() > 0 && p.has(c, Kind::Pawn, Square::at(s.number() - 1))
 }
 
-/// Does a pawn of this side stand on the next file towards the h-file?
+/// Does a pawn of this side stand on the next square towards the h-file?
 fn has_pawn_after(p: &Position, c: Colour, s: Square) -> bool
     ensures { result ≡ (nat_lt (file_of s) 7 && has p.now c Pawn (s + 1)) }
 {

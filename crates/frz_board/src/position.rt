@@ -1,4 +1,4 @@
-//! Positions: what stands on the squares, who is to move, and the target. Counts of men stand in
+//! Positions: what stands on the squares, who is to move, and the target. Counts of men are in
 //! `counts`, pawns that have just passed in `passing`, the conditions on a position in `shape`.
 
 ghost use Rattle.std.specs.Prelude.{All, ◌≡◌, ◌<◌, ◌≤◌, ◌↔◌, IsSome, IfSome, replicate, slice_index, slice_set};
@@ -9,8 +9,9 @@ use super::man::{Colour, Kind, Man, cell_of, man_of};
 use super::square::Square;
 use std::marker::Model;
 
-/// A position: 64 cells, the side to move and the square that a pawn has just passed over. Each
-/// cell is the number of a man, as `cell_of` gives it, or 0 where the square is empty.
+/// A position: 64 cells, a1 first and h8 last, the side to move and the target, the square that a
+/// pawn has just passed over. Each cell is the number of a man, as `cell_of` gives it, or 0 where
+/// the square is empty.
 #[derive(Clone, Copy, Debug)]
 pub struct Position {
     cells: [u8; 64],
@@ -31,7 +32,7 @@ impl Model for Position {
 }
 
 impl Position {
-    /// The position, and `None` exactly where a cell is above 12.
+    /// The position, and `None` exactly where a cell is above 12. Nothing else is tested.
     pub fn new(cells: [u8; 64], turn: Colour, ep: Option<Square>) -> Option<Position>
         ensures there { IsSome result ↔ All (λ c. c < 13) cells }
         ensures same { IfSome result (λ p. p ≡ record { cells = cells; turn = turn; ep = ep }) }
@@ -43,7 +44,7 @@ impl Position {
         }
     }
 
-    /// The position of cells that are known to fit.
+    /// The position of cells that are known to be at most 12 each.
     pub fn with_cells(cells: [u8; 64], turn: Colour, ep: Option<Square>) -> Position
         requires { All (λ c. c < 13) cells }
         ensures { result ≡ record { cells = cells; turn = turn; ep = ep } }
@@ -51,7 +52,7 @@ impl Position {
         Position { cells, turn, ep }
     }
 
-    /// A board with no man.
+    /// A board without men.
     pub fn empty(turn: Colour, ep: Option<Square>) -> Position
         ensures { result ≡ record { cells = replicate 64 0; turn = turn; ep = ep } }
     {
@@ -62,7 +63,7 @@ impl Position {
         }
     }
 
-    /// The number of the man on the square, or 0.
+    /// The number of the man on the square, or 0 if it is empty.
     pub fn cell(&self, s: Square) -> u8
         ensures cell { result ≡ slice_index self.now.cells s }
         ensures fits { result ≤ 12 }
@@ -86,14 +87,15 @@ impl Position {
         self.turn
     }
 
-    /// The target: the square that a pawn has just passed over, where it may be captured.
+    /// The target: the square that a pawn has just passed over, where it may be captured en
+    /// passant.
     pub fn ep(&self) -> Option<Square>
         ensures { result ≡ self.now.ep }
     {
         self.ep
     }
 
-    /// The man on the square.
+    /// The man on the square, and `None` if it is empty.
     pub fn man(&self, s: Square) -> Option<Man>
         ensures { result ≡ man_on self.now s }
     {
@@ -110,14 +112,14 @@ impl Position {
         }
     }
 
-    /// Does this very man stand on the square?
+    /// Does a man of this colour and kind stand on the square?
     pub fn has(&self, c: Colour, k: Kind, s: Square) -> bool
         ensures { result ≡ has self.now c k s }
     {
         self.cell(s) == cell_of(Man { colour: c, kind: k })
     }
 
-    /// The position with another cell on the square.
+    /// The position with `c` in the cell of the square: a man's number, or 0 to empty it.
     pub fn put(&self, s: Square, c: u8) -> Position
         requires { c ≤ 12 }
         ensures on_board { s < 64 }
@@ -132,7 +134,7 @@ impl Position {
         }
     }
 
-    /// Puts another cell on the square.
+    /// Writes `c` into the cell of the square: a man's number, or 0 to empty it.
     pub fn set(&mut self, s: Square, c: u8)
         requires { c ≤ 12 }
         ensures on_board { s < 64 }
@@ -141,14 +143,14 @@ impl Position {
         self.cells[s.number() as usize] = c;
     }
 
-    /// The position with this target.
+    /// The position with this target, or with none.
     pub fn with_target(&self, ep: Option<Square>) -> Position
         ensures { result ≡ record self.now { ep = ep } }
     {
         Position { ep, ..*self }
     }
 
-    /// The position with the other side to move, and this target.
+    /// The position with the other side to move, and this target or none.
     pub fn hand_over(&self, ep: Option<Square>) -> Position
         ensures { result ≡ record self.now { turn = other_of self.now.turn; ep = ep } }
     {

@@ -1,4 +1,4 @@
-//! The ranks as a side sees them: ahead, home, passing and last rank, and a pawn's attack.
+//! The ranks as a side sees them: ahead, home, passing and last rank, and the attack of a pawn.
 
 ghost use Rattle.std.specs.Prelude.{◌≡◌, ◌<◌, ◌≤◌, true, IsTrue};
 ghost use Rattle.frz_board.specs.Ranks.{is_forward, ahead, is_home, is_passing_rank, is_last};
@@ -20,7 +20,8 @@ impl Square {
         }
     }
 
-    /// Is the other square that many ranks forward, as the side sees it?
+    /// Is the other square `ranks` ranks forward of this one, as the side sees it? Files do not
+    /// matter.
     pub fn is_forward(self, c: Colour, ranks: u8, other: Square) -> bool
         requires { ranks < 8 }
         ensures { result ≡ is_forward c ranks self other }

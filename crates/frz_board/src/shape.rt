@@ -1,4 +1,4 @@
-//! The conditions on a position in which no attack takes part.
+//! The conditions on a position that can be tested without looking for attacks.
 
 ghost use Rattle.std.specs.Prelude.{◌≡◌};
 ghost use Rattle.frz_board.specs.Shapes.{has_kings, has_pawn, has_pawns_inside, has_few_men, shape_of};
@@ -8,7 +8,7 @@ use super::passing::target_in_place;
 use super::position::Position;
 use super::square::Square;
 
-/// The conditions on a position in which no attack takes part, each named for what fails.
+/// The conditions on a position that need no look at attacks, each named for what fails.
 #[derive(Clone, Copy, Debug, PartialEq, Eq)]
 pub enum Shape {
     /// A side has no king, or several.
@@ -17,13 +17,14 @@ pub enum Shape {
     PawnRank,
     /// A side has more than 16 men.
     TooMany,
-    /// The target is out of place.
+    /// There is a target, and no pawn has just passed it, or none stands beside to capture that
+    /// pawn.
     EpPlace,
 }
 
 impl Position {
-    /// The first of the conditions on a position, before any attack, that fails: each side has one
-    /// king, no pawn stands on rank 1 or 8, each side has at most 16 men, a target is in place.
+    /// The first of these conditions that fails: each side has exactly one king, no pawn stands on
+    /// rank 1 or 8, each side has at most 16 men, a target is in place. Attacks are not looked at.
     pub fn shape(&self) -> Result<(), Shape>
         ensures { result ≡ shape_of self.now }
     {
@@ -55,7 +56,7 @@ fn few_men(p: &Position) -> bool
     p.men(Colour::White) <= 16 && p.men(Colour::Black) <= 16
 }
 
-/// Looks at the two ends of each file.
+/// Does no pawn stand on rank 1 or 8? It looks at the two ends of each file.
 fn pawns_inside(p: &Position) -> bool
     ensures { result ≡ has_pawns_inside p.now }
 {

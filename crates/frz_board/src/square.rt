@@ -5,8 +5,8 @@ ghost use Rattle.frz_board.specs.Squares.{file_of, rank_of, files_apart, ranks_a
 
 use std::marker::Model;
 
-/// A square, seen as its number: 0 is a1, 1 is b1, 7 is h1, 63 is h8. Squares are ordered as their
-/// numbers.
+/// A square, which contracts see as its number: 0 is a1, 1 is b1, 7 is h1, 63 is h8. Squares are
+/// ordered as their numbers.
 #[derive(Clone, Copy, Debug, PartialEq, Eq, PartialOrd, Ord)]
 pub struct Square(u8);
 
@@ -21,7 +21,7 @@ impl Model for Square {
 }
 
 impl Square {
-    /// The square of a number, and `None` exactly above 63.
+    /// The square of a number, and `None` exactly for a number above 63.
     pub fn new(n: u8) -> Option<Square>
         ensures there { IsSome result ↔ (n < 64) }
         ensures same { IfSome result (λ s. s ≡ n) }
@@ -53,7 +53,7 @@ impl Square {
         frz_squares::file(self.0)
     }
 
-    /// The rank less 1, from 0 to 7.
+    /// The rank, from 0 for rank 1 to 7 for rank 8.
     pub fn rank(self) -> u8
         ensures rank { result ≡ rank_of self }
         ensures below { result < 8 }
@@ -61,7 +61,7 @@ impl Square {
         frz_squares::rank(self.0)
     }
 
-    /// How many files lie from one square to the other.
+    /// How many files the squares are apart: 0 on the same file, 7 from the a-file to the h-file.
     pub fn files_apart(self, other: Square) -> u8
         ensures apart { result ≡ files_apart self other }
         ensures below { result < 8 }
@@ -69,7 +69,7 @@ impl Square {
         self.file().abs_diff(other.file())
     }
 
-    /// How many ranks lie from one square to the other.
+    /// How many ranks the squares are apart: 0 on the same rank, 7 from rank 1 to rank 8.
     pub fn ranks_apart(self, other: Square) -> u8
         ensures apart { result ≡ ranks_apart self other }
         ensures below { result < 8 }
@@ -77,8 +77,8 @@ impl Square {
         self.rank().abs_diff(other.rank())
     }
 
-    /// The greater of the files and the ranks between the squares: the moves of a king on an empty
-    /// board.
+    /// How many moves a king needs from one square to the other on an empty board: the greater of
+    /// the files and the ranks that they are apart.
     pub fn distance(self, other: Square) -> u8
         ensures distance { result ≡ distance self other }
         ensures below { result < 8 }

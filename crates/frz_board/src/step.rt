@@ -1,4 +1,4 @@
-//! Moves.
+//! Moves, each from one square to another.
 
 ghost use Rattle.std.specs.Prelude.{◌≡◌, ◌↔◌, IsSome, IfSome, IsTrue};
 ghost use Rattle.frz_board.specs.Moving.{Step, is_promotion};
@@ -7,8 +7,8 @@ use super::man::Kind;
 use super::square::Square;
 use std::marker::Model;
 
-/// A move: from one square to another, and what a pawn becomes. Moves are ordered by origin, then
-/// destination, then promotion: none, queen, rook, bishop, knight.
+/// A move: from one square to another, and what a pawn becomes by it, if anything. Moves are
+/// ordered by origin, then destination, then promotion: none, queen, rook, bishop, knight.
 #[derive(Clone, Copy, Debug, PartialEq, Eq, PartialOrd, Ord)]
 pub struct Move {
     pub from: Square,
@@ -42,7 +42,7 @@ impl Move {
     }
 }
 
-/// What an unused place of a list holds: from a1 to a1.
+/// The default, from a1 to a1, fills the places of a list that are not in use.
 impl Default for Move {
     ghost use Rattle.std.specs.Prelude.{◌≡◌, None};
 

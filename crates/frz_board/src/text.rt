@@ -69,7 +69,8 @@ fn read_promotion(byte: u8) -> Option<Kind>
     }
 }
 
-/// The move of a text, where it is the text of one.
+/// The move whose text this is, exactly as `move_text` writes it, and `None` for any other text. No
+/// position is asked, so the move need not be legal in any.
 pub fn read_move(text: &[u8]) -> Option<Move>
     ensures { (m : Step) → (result ≡ Some m) ↔ (IsStep m × (text.now ≡ text_of m)) }
 {

@@ -1,4 +1,4 @@
-//! A table file is built.
+//! Building a table file.
 ghost use Rattle.std.specs.Prelude.{◌≡◌, ◌+◌, ◌*◌, ◌^◌, ◌≤◌, ◌<◌, length, IfOk, OnOk};
 ghost use Rattle.frz_board.specs.declared.man.Colour.TheVariants.{Black, White};
 ghost use Rattle.frz_sets.specs.Sets.{size_of};
@@ -24,7 +24,7 @@ use frz_table::FileKind;
 use std::alloc::Global;
 use std::sync::ledger::Ledger;
 
-/// What a table file is to be: its name, its kind, and the rules text in it.
+/// What a new table file is to have: its name, its kind, and its rules text.
 #[derive(Clone, Copy)]
 pub struct NewTable<'a> {
     pub name: &'a str,
@@ -32,7 +32,8 @@ pub struct NewTable<'a> {
     pub text: &'a [u8],
 }
 
-/// Solves the game for White and appends the codes. What Black's numbers begin with is kept.
+/// Solves the game for White and appends White's codes. Keeps, for `write_black`, what each number
+/// begins with for Black.
 fn write_white<S: Store, B: ExitBook, L: Ledger>(
     game: &Game<'_, B>,
     sides: &mut BothSides,
@@ -61,7 +62,7 @@ fn write_white<S: Store, B: ExitBook, L: Ledger>(
     append_codes(sides.entries(), store)
 }
 
-/// Solves the game for Black, whose numbers begin as it is kept, and appends the codes.
+/// Solves the game for Black, from what `write_white` kept, and appends Black's codes.
 fn write_black<S: Store, B: ExitBook, L: Ledger>(
     game: &Game<'_, B>,
     sides: &mut BothSides,
@@ -90,7 +91,7 @@ fn write_black<S: Store, B: ExitBook, L: Ledger>(
     append_codes(sides.entries(), store)
 }
 
-/// Creates the file and writes it: the header, White's codes, then Black's. Gives the size.
+/// Creates the file and writes the header, White's codes and Black's codes. Answers the size.
 fn write_table<S: Store, B: ExitBook, L: Ledger>(
     game: &Game<'_, B>,
     file: &NewTable<'_>,
@@ -120,8 +121,8 @@ fn write_table<S: Store, B: ExitBook, L: Ledger>(
     Ok(size)
 }
 
-/// Builds the table file of a game and gives its size. All memory is taken before the file is
-/// created, and a file of that name is replaced.
+/// Solves the game for both sides, writes the table file and answers the size of its set. All
+/// memory is taken before the file is created, and a file of that name is replaced.
 pub fn build_table<S: Store, B: ExitBook, L: Ledger>(
     alloc: Global,
     game: &Game<'_, B>,

@@ -1,5 +1,5 @@
-//! Table files are built: both sides of a game are solved after one walk, and each is written as
-//! soon as it is solved.
+//! Building table files: both sides of a game are solved after one walk, and the codes of each are
+//! written as soon as it is solved.
 #![tactic(auto)]
 
 mod building;

@@ -1,4 +1,4 @@
-//! The parts of a new table file, which are written one behind the other.
+//! The parts of a new table file, which are written one after the other.
 ghost use Rattle.std.specs.Prelude.{◌≡◌, ◌+◌, ◌*◌, ◌^◌, ◌≤◌, ◌<◌, [], length, OnOk};
 ghost use Rattle.frz_store.specs.Told.{store_of};
 ghost use Rattle.frz_store.specs.Writes.{Appended, Written};
@@ -9,7 +9,7 @@ use crate::NewTable;
 use frz_store::{Failed, Store, StoreFault};
 use frz_table::{write_entries, write_header_kind};
 
-/// Creates the file, with room for so many bytes.
+/// Creates the file, with room for `due` bytes.
 fn create_file<S: Store>(name: &str, due: u64, store: &mut S) -> Result<(), StoreFault>
     ensures created { Written name.now [] result
         (store_of S.Store store.old) (store_of S.Store store.new) }
@@ -34,7 +34,8 @@ fn append_header<S: Store>(file: &NewTable<'_>, size: u32, store: &mut S) -> Res
     write_header_kind(store, file.kind, file.text, size)
 }
 
-/// Creates the file of a table of this size and writes its header. A file of that name is replaced.
+/// Creates the file of a table of this size and writes its header, so that room for the codes of
+/// both sides is left. A file of that name is replaced.
 pub fn begin_table<S: Store>(
     file: &NewTable<'_>,
     size: u32,
@@ -54,7 +55,7 @@ pub fn begin_table<S: Store>(
     Ok(())
 }
 
-/// Appends the codes of one side.
+/// Appends the codes of one side, of which there is at least one, four bytes each.
 pub fn append_codes<S: Store>(codes: &[u32], store: &mut S) -> Result<(), Failed>
     requires some { 1 ≤ length codes.now }
     requires room { 4 * length codes.now ≤ S.room store.old }

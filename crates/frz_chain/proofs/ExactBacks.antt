@@ -104,6 +104,6 @@ unfolding is_exact
 not_open None fault e = refl
 not_open (Some bytes) fault e = ap (λ (x : Result Contents TableFault). is_exact_by x bytes) e
 
--- where the back table is exact, all is spent that is spent there
+-- if the back table is exact, `if_exact` is the whole count
 pub all_if_exact : (held : Option (List ℕ)) → is_exact held ≡ true → (n : ℕ) → if_exact held n ≡ n
 all_if_exact held exact n = ap (λ (b : Bool). if b then n else 0) exact

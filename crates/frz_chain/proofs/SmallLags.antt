@@ -32,7 +32,7 @@ either_small Unknown second h k = k
 either_small (WhiteWinsIn n) second h k = h
 either_small (BlackWinsIn n) second h k = h
 
--- and the first value has none that the chain has not
+-- if the lag of the chain is small, so is that of its first value
 pub first_small : (first second : Value) → lag_of (or_else first second) ≤ 1000
     → lag_of first ≤ 1000
 first_small WhiteWins second h = h

@@ -18,20 +18,20 @@ use Rattle.frz_chain.specs.declared.back.BackTable.{BackTable}
 use Rattle.frz_chain.specs.declared.fault.ChainFault.{ChainFault}
 use Rattle.frz_chain.specs.declared.fault.ChainFault.TheVariants.{Rules, Table, Back as BackFault, BackWrong, Failed, NoMemory}
 
--- the list opens as a plain table, and this is the verdict on its codes by its own exit lines; of
--- bytes it says too whether they are the one file of their text
+-- the list opens as a plain table, with this verdict on its codes by its own exit lines; if it is a
+-- list of bytes, the verdict also says whether they are the one file of their text
 pub record IsBackJudged (bytes : List ℕ) (contents : Contents) (verdict : Verdict) : Type 0 where
   pub opens : opened (table_format Plain) (Some bytes) ≡ Ok contents
   pub codes : IsVerdict contents.rules (value_by contents.rules) (kept_codes contents bytes) verdict
   pub told : AreBytes bytes → IsVerdictOn Plain (value_by contents.rules) contents bytes verdict
 
--- the back table is given where the verdict on its codes is exact
+-- the answer for a verdict: the back table if its codes are exact, else the first wrong entry
 abbrev pub GivesBack : Back → Verdict → Result BackTable ChainFault → Type 0
 GivesBack back verdict (Ok given) = (verdict ≡ Exact) × (loaded_back given ≡ back)
 GivesBack back verdict (Err (BackWrong wrong)) = verdict ≡ Wrong wrong
 GivesBack back verdict (Err fault) = ⊥
 
--- the name may hold a plain table that is exact, and this is the back table that it keeps
+-- the name may hold a plain table that is exact, and this is the back table in it
 pub record OpensBack (name : List ℕ) (back : Back) (old new : StoreTold)
     (steps_before steps_now : ℕ) : Type 0 where
   pub bytes : List ℕ
@@ -42,8 +42,8 @@ pub record OpensBack (name : List ℕ) (back : Back) (old new : StoreTold)
   pub keeps : back ≡ back_of contents bytes
   pub within : WithinFile (Some bytes) old new steps_before steps_now
 
--- the table that is kept is the one of bytes that the name may hold and that are exact: its name,
--- its text and its rules whole, and the codes are those behind it
+-- the loaded table is that of exact bytes that the name may hold: its name, text and rules are
+-- theirs, and so are the codes
 pub record KeepsTable (files : Option Files) (name : List ℕ) (back : BackTable) : Type 0 where
   pub named : back.table.name ≡ name
   pub kind : back.table.kind ≡ Plain
@@ -53,14 +53,14 @@ pub record KeepsTable (files : Option Files) (name : List ℕ) (back : BackTable
   pub judged : IsBackJudged bytes (contents_of back.table) Exact
   pub keeps : loaded_back back ≡ back_of (contents_of back.table) bytes
 
--- the first entry of these bytes that is not its local code
+-- `wrong` is the first entry of the table in these bytes that is not its local code
 pub record HasWrong (held : Option (List ℕ)) (wrong : WrongEntry) : Type 0 where
   pub bytes : List ℕ
   pub there : held ≡ Some bytes
   pub contents : Contents
   pub judged : IsBackJudged bytes contents (Wrong wrong)
 
--- what a name holds is refused so as a back table
+-- what a name holds is refused as a back table with this fault
 abbrev pub IsRefusedBack : Option (List ℕ) → ChainFault → Type 0
 IsRefusedBack held (BackFault fault) = opened (table_format Plain) held ≡ Err fault
 IsRefusedBack held (BackWrong wrong) = HasWrong held wrong
@@ -69,7 +69,7 @@ IsRefusedBack held NoMemory = ⊤
 IsRefusedBack held (Rules fault) = ⊥
 IsRefusedBack held (Table fault) = ⊥
 
--- the name may hold what is refused so
+-- the name may hold what is refused as a back table with this fault
 pub record RefusesBack (name : List ℕ) (old new : StoreTold) (steps_before steps_now : ℕ)
     (fault : ChainFault) : Type 0 where
   pub held : Option (List ℕ)

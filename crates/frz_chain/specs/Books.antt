@@ -17,12 +17,12 @@ pub record Back : Type 0 where
 abbrev pub back_with : List GroupLine → (white black : List ℕ) → Back
 back_with groups white black = record { groups = groups; white = white; black = black }
 
--- what the codes at a number tell, and nothing where there is no number
+-- the value by the codes at a number, unknown if there is no number
 abbrev pub told_at : Back → Option ℕ → Value
 told_at back None = Unknown
 told_at back (Some i) = pair_value (slice_index back.white i) (slice_index back.black i)
 
--- what the table tells of a position, and nothing where the position is not in its set
+-- the value of a position by the table, unknown if the position is not in its set
 abbrev pub back_value : Back → Board → Value
 back_value back q = told_at back (number_of back.groups q)
 

@@ -20,26 +20,26 @@ abbrev pub rules_fault : RulesError → ChainFault
 rules_fault (reading.Bad fault) = Rules fault
 rules_fault reading.NoMemory = NoMemory
 
--- a fault of the table's file
+-- the fault of a chain for a fault of the table's file
 abbrev pub table_fault : TableFault → ChainFault
 table_fault table.Failed = Failed
 table_fault table.NoMemory = NoMemory
 table_fault fault = Table fault
 
--- a fault of the back table's file
+-- the fault of a chain for a fault of the back table's file
 abbrev pub back_fault : TableFault → ChainFault
 back_fault table.Failed = Failed
 back_fault table.NoMemory = NoMemory
 back_fault fault = Back fault
 
--- a failure has raised the count of faults, want of memory is free, and with any other answer no
--- call of the store was refused
+-- `Failed` has raised the count of faults, `NoMemory` need not have raised any, and with any other
+-- answer no call of the store was refused
 abbrev pub HasChainCause : {T : Type 0} → Result T ChainFault → StoreTold → StoreTold → Type 0
 HasChainCause (Err Failed) old new = Rose old.faults new.faults
 HasChainCause (Err NoMemory) old new = ⊤
 HasChainCause result old new = StoreFine old new
 
--- the store failed or memory was wanted
+-- the store failed, or there was no memory
 abbrev pub IsOutsideFault : ChainFault → Type 0
 IsOutsideFault Failed = ⊤
 IsOutsideFault NoMemory = ⊤

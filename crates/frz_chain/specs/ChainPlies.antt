@@ -1,4 +1,4 @@
--- The plies of a chain.
+-- How many plies the wins of a table over a back table take.
 use Rattle.std.specs.Prelude.{◌≡◌, ◌≤◌, ◌+◌, ◌*◌, ℕ, true, List, slice_index}
 use Rattle.frz_board.specs.declared.man.Colour.{Colour}
 use Rattle.frz_board.specs.declared.man.Colour.TheVariants.{White, Black}
@@ -23,7 +23,7 @@ WinsWithinPlies back side most =
     (i : ℕ) → is_win (slice_index (back_codes back side) i) ≡ true
     → slice_index (back_codes back side) i ≤ 2 + 2 * most
 
--- each value by which the side wins just outside by the rules' own exit lines has a number
+-- each exit that the side wins by the exit lines of the rules has a value with a number of plies
 abbrev pub OwnWinsNumbered : RuleLines → Back → Colour → Type 0
 OwnWinsNumbered rules back side =
     (q : Board) → IsExit (game_of rules (chain_value rules back)) q →

@@ -50,8 +50,8 @@ calls_of_back held =
     opening_calls (table_format Plain) held + 2 * pieces_of
     (opened_size (opened (table_format Plain) held))
 
--- what comes behind opening the table. Where it is refused that is nothing; else the back table is
--- checked, and where that one is exact, the codes of the table are loaded and checked
+-- the cost that follows opening the table: nothing if it is refused; else that of checking the back
+-- table and, if that one is exact, of loading and checking the codes of the table
 abbrev pub steps_behind : Result Contents TableFault → Option (List ℕ) → ℕ
 steps_behind (Ok contents) back_held =
     steps_of_back back_held + if_exact back_held (size_of contents.rules.groups)
@@ -112,7 +112,7 @@ pub record ChecksChain (table back : List ℕ) (old new : StoreTold) (steps_befo
 abbrev pub OpensChained : Option (List ℕ) → Type 0
 OpensChained held = (contents : Contents) × (opened (table_format Chained) held ≡ Ok contents)
 
--- the first file is refused so, or it opens and the second is refused so
+-- the table is refused with this fault, or it opens and the back table is refused with it
 abbrev pub IsRefusedChain : (held back_held : Option (List ℕ)) → ChainFault → Type 0
 IsRefusedChain held back_held (Table fault) = opened (table_format Chained) held ≡ Err fault
 IsRefusedChain held back_held (BackFault fault) =
@@ -123,7 +123,7 @@ IsRefusedChain held back_held Failed = ⊤
 IsRefusedChain held back_held NoMemory = ⊤
 IsRefusedChain held back_held (Rules fault) = ⊥
 
--- the two names may hold what is refused so
+-- the two names may hold what is refused with this fault
 pub record RefusesChain (table back : List ℕ) (old new : StoreTold) (steps_before steps_now : ℕ)
     (fault : ChainFault) : Type 0 where
   pub held : Option (List ℕ)
@@ -133,8 +133,8 @@ pub record RefusesChain (table back : List ℕ) (old new : StoreTold) (steps_bef
   pub refuses : IsRefusedChain held back_held fault
   pub within : WithinBoth held back_held old new steps_before steps_now
 
--- what building over the back table costs. Where the text is refused that is nothing; else the
--- back table is checked, and where that one is exact, the codes are found and the file is written
+-- the cost of building over the back table: nothing if the text is refused; else that of checking
+-- the back table and, if that one is exact, of finding the codes and writing the file
 abbrev pub steps_to_chain : Result RuleLines RulesFault → Option (List ℕ) → ℕ
 steps_to_chain (Ok rules) back_held =
     steps_of_back back_held + if_exact back_held (4 * size_of rules.groups)
@@ -156,8 +156,8 @@ pub record WithinChaining (text : List ℕ) (back_held : Option (List ℕ)) (old
   pub asked : new.asked ≤ old.asked + bytes_to_chain (rules_of text) back_held
   pub calls : new.calls ≤ old.calls + calls_to_chain (rules_of text) back_held
 
--- the text is accepted, the name of the back table may hold one that is exact, before and
--- afterwards, and the one file of the text over it was written
+-- the text is accepted, the name of the back table may hold an exact one before and afterwards, and
+-- the one file of the text over that table was written
 pub record Chains (text back name : List ℕ) (old new : StoreTold) (steps_before steps_now : ℕ)
     (size : ℕ) : Type 0 where
   pub rules : RuleLines
@@ -179,8 +179,8 @@ pub record Chains (text back name : List ℕ) (old new : StoreTold) (steps_befor
 abbrev pub IsAccepted : List ℕ → Type 0
 IsAccepted text = (rules : RuleLines) × (rules_of text ≡ Ok rules)
 
--- the text is accepted and the back table exact, and under the name is what was there or a
--- beginning of the one file of the text over it
+-- the text is accepted and the back table exact, and the name holds what it held, or a front part
+-- of the one file of the text over the back table
 pub record FailsWriting (text name : List ℕ) (back_held : Option (List ℕ))
     (old new : StoreTold) : Type 0 where
   pub rules : RuleLines
@@ -193,9 +193,9 @@ pub record FailsWriting (text name : List ℕ) (back_held : Option (List ℕ))
   pub one_file : IsFileOn text rules (back_of back_contents back_bytes) bytes
   pub part : WrotePart name bytes old new
 
--- the first of these by which no table was built: the text is refused, and nothing was called; the
--- back table is refused; the store failed, in reading the back table or in writing; or memory was
--- wanted, and nothing was written
+-- why no table was built: the text is refused, and nothing was called; the back table is refused;
+-- the store failed, in reading the back table or in writing; or there was no memory, and nothing
+-- was written
 abbrev pub IsNotChained : (text name : List ℕ) → Option (List ℕ) → StoreTold → StoreTold
     → ChainFault → Type 0
 IsNotChained text name back_held old new (Rules fault) =
@@ -211,7 +211,7 @@ IsNotChained text name back_held old new NoMemory =
     ((may_want_memory text ≡ true) ⊎ IsAccepted text) × StoreQuiet old new
 IsNotChained text name back_held old new (Table fault) = ⊥
 
--- the name of the back table may hold what is refused so, or over which no table was built so
+-- the name of the back table may hold something over which no table is built, for this fault
 pub record RefusesToChain (text back name : List ℕ) (old new : StoreTold)
     (steps_before steps_now : ℕ) (fault : ChainFault) : Type 0 where
   pub back_held : Option (List ℕ)

@@ -10,8 +10,8 @@ use Rattle.frz_game.specs.ExactTables.{is_decided}
 use Rattle.frz_game.specs.Games.{game_of}
 use Rattle.frz_chain.specs.Books.{Back, chain_value}
 
--- at each position one legal move outside the set an exit line says who wins or that the game is
--- drawn, or none says anything and the position is in the set of the back table's rules
+-- for each exit, an exit line says who wins or that the game is drawn, or no exit line says
+-- anything and the position is in the set of the back table
 abbrev pub AreLinesOrBehind : RuleLines → RuleLines → Back → Type 0
 AreLinesOrBehind rules backs back =
     (q : Board) → IsExit (game_of rules (chain_value rules back)) q →

@@ -18,12 +18,13 @@ agree_at arena codes i =
     (kept_code codes White i == given_code arena codes White i)
     && (kept_code codes Black i == given_code arena codes Black i)
 
--- and so at each of so many numbers
+-- the codes agree with their local codes at each number below this one
 unfoldable pub all_agree : {M V : Type 0} → Arena M ℕ V → (Colour → List ℕ) → ℕ → Bool
 all_agree arena codes zero = true
 all_agree arena codes (suc n) = all_agree arena codes n && agree_at arena codes n
 
--- by how the bytes open: over the game of their rules and of their own exit lines
+-- the bytes opened, and each code is its local code in the game of their rules and their own exit
+-- lines
 abbrev pub is_exact_by : Result Contents TableFault → List ℕ → Bool
 is_exact_by (Ok contents) bytes =
     all_agree (graph_by contents.rules (value_by contents.rules)) (kept_codes contents bytes)
@@ -35,6 +36,6 @@ unfoldable pub is_exact : Option (List ℕ) → Bool
 is_exact None = false
 is_exact (Some bytes) = is_exact_by (opened (table_format Plain) (Some bytes)) bytes
 
--- so many where it is, and else none
+-- the count if what is held is exact, else 0
 abbrev pub if_exact : Option (List ℕ) → ℕ → ℕ
 if_exact held count = if is_exact held then count else 0

@@ -13,7 +13,7 @@ use Rattle.frz_check.specs.OneFile.{IsOneFile}
 use Rattle.frz_chain.specs.Books.{Back, chain_value}
 use Rattle.frz_chain.specs.declared.back.BackTable.{BackTable}
 
--- the back table that these bytes keep
+-- the back table in these bytes
 abbrev pub back_of : Contents → List ℕ → Back
 back_of contents bytes = record {
   groups = contents.rules.groups;

@@ -4,7 +4,7 @@ use Rattle.frz_arena.specs.Codes.{is_win, is_failure}
 use Rattle.frz_sets.specs.declared.exit.Value.{Value}
 use Rattle.frz_sets.specs.declared.exit.Value.TheVariants.{WhiteWins, BlackWins, Draw, WhiteHolds, BlackHolds, Unknown}
 
--- White's code and Black's, a line for each pair that tells something
+-- the value by White's code and Black's, one line for each pair that tells something
 abbrev pub pair_value : ℕ → ℕ → Value
 pair_value white black =
     if is_win white && is_failure black then WhiteWins else

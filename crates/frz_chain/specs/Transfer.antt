@@ -12,8 +12,8 @@ use Rattle.frz_arena.specs.Codes.{code_of}
 use Rattle.frz_arena.specs.Exits.{AllNumbered}
 use Rattle.frz_game.specs.Games.{chess, game_of}
 
--- a stored win forces mate, within its plies where each value by which the side wins has a number;
--- and with a stored win or hold the opponent forces none
+-- a stored win forces mate, and does so within its plies if each value by which the side wins has a
+-- number of plies; where a win or a hold is stored, the opponent cannot force mate
 pub record TellsChess (rules : RuleLines) (value : Board → Value) (side : Colour)
     (codes : List ℕ) : Type 0 where
   pub win_mates : (p : Board) (n : ℕ) → Member rules.groups p

@@ -29,7 +29,7 @@ impl BackTable {
         self.table.set().size()
     }
 
-    /// The book of sound rules with this table behind their exit lines.
+    /// The book, which values exits, of these sound rules with this table behind their exit lines.
     pub fn behind<'a>(&'a self, rules: &'a Rules) -> ChainBook<'a>
         requires { IsSound rules.now }
         ensures rules { result.rules.now ≡ rules.now }

@@ -1,4 +1,4 @@
-//! The book of exit lines with a table behind them.
+//! The book that values an exit by the exit lines, and by a second table where these say nothing.
 
 ghost use Rattle.std.specs.Prelude.{◌≡◌, length};
 ghost use Rattle.frz_fide.specs.Valid.{IsValid};
@@ -14,9 +14,10 @@ use frz_exits::{ExitBook, RuleBook};
 use frz_index::Set;
 use frz_sets::{Rules, Value};
 
-/// The value by the exit lines of the rules and, where these say nothing, what the codes of a
-/// second table tell, the back table. Its type keeps that both lists have a code for each number of
-/// the back table's set, and that no value has a number above 1,000.
+/// The book of a chained table. It values an exit by the exit lines of the rules and, where these
+/// say nothing, by the codes of a second table, the back table. Its type keeps that both lists have
+/// a code for each number of the set of the back table, and that no value gives more than 1,000
+/// plies to mate.
 #[derive(Clone, Copy)]
 pub struct ChainBook<'a> {
     pub rules: &'a Rules,
@@ -30,7 +31,7 @@ pub struct ChainBook<'a> {
 }
 
 impl<'a> ChainBook<'a> {
-    /// The book of sound rules with these codes behind them.
+    /// The book of sound rules with these codes behind their exit lines.
     pub fn new(rules: &'a Rules, back: &'a Set, white: &'a [u32], black: &'a [u32]) -> ChainBook<'a>
         requires sound { IsSound rules.now }
         requires white { length white.now ≡ size_of back.now }
@@ -47,7 +48,8 @@ impl<'a> ChainBook<'a> {
         }
     }
 
-    /// What the back table tells of the position.
+    /// The value of the position by the back table: `Unknown` if its set does not hold the
+    /// position.
     fn told(&self, q: &Bitboards) -> Value
         requires { IsValid q.now }
         ensures { result ≡ back_value

@@ -1,4 +1,4 @@
-//! A table over a back table is built.
+//! Building a table over a back table.
 ghost use Rattle.std.specs.Prelude.{◌≡◌, ◌≢◌, ◌≤◌, ◌<◌, ◌+◌, ◌*◌, ◌^◌, length, IfOk, IfErr, OnOk};
 ghost use Rattle.frz_sets.specs.Sets.{size_of};
 ghost use Rattle.frz_sets.specs.Sound.{IsSound};
@@ -24,15 +24,15 @@ use frz_table::FileKind;
 use std::alloc::Global;
 use std::sync::ledger::Ledger;
 
-/// A rules text with its rules.
+/// A rules text with the rules that it gives.
 #[derive(Clone, Copy)]
 pub struct ReadRules<'a> {
     pub text: &'a [u8],
     pub rules: &'a Rules,
 }
 
-/// Builds the table of the rules over the back table under the name, and gives its size. All memory
-/// is taken before the file is created, and a file of that name is replaced.
+/// Builds the table of the rules over the back table, writes it under the name and answers its
+/// size. All memory is taken before the file is created, and a file of that name is replaced.
 pub fn build_over<S: Store, L: Ledger>(
     alloc: Global,
     read: &ReadRules<'_>,
@@ -71,9 +71,9 @@ pub fn build_over<S: Store, L: Ledger>(
     build_table(alloc, &game, &file, store, steps)
 }
 
-/// Reads the rules of the text, opens and checks the back table, and writes the one file of the
-/// text over it under the name, which is not that of the back table. Gives the size. The text is
-/// read before the back table is opened, and all memory is taken before the file is created.
+/// Reads the rules text, opens and checks the back table, and writes the table of the text over it
+/// under `name`, which must not be `back`. Answers the size of the table. The text is read before
+/// the back table is opened, and all memory is taken before the file is created.
 pub fn build_chain<S: Store, L: Ledger>(
     alloc: Global,
     store: &mut S,

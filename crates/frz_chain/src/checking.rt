@@ -1,4 +1,4 @@
-//! A table over a back table is checked.
+//! Checking a table over a back table.
 ghost use Rattle.std.specs.Prelude.{◌≡◌, ◌≤◌, ◌+◌, ◌*◌, IfOk, IfErr};
 ghost use Rattle.frz_sets.specs.Sets.{size_of};
 ghost use Rattle.frz_store.specs.Told.{store_of, StoreQuiet};
@@ -21,16 +21,17 @@ use std::sync::ledger::Ledger;
 /// What a check says of a table over a back table.
 #[derive(Clone, Copy, Debug, PartialEq, Eq)]
 pub enum ChainVerdict {
-    /// It is the one file of its text over the back table: the sizes of both.
+    /// The table is the one right file of its text over the back table. Given are the sizes of the
+    /// table and of the back table.
     Exact(u32, u32),
-    /// The first entry that is not its local code: by number, and White's before Black's at one
-    /// number.
+    /// An entry is not its local code, the code that the codes one ply on give. Given is the first
+    /// such entry, by number, and White's before Black's at one number.
     Wrong(Wrong),
 }
 
 ghost use Rattle.frz_chain.specs.Chains.{CarriesSizes, ChecksChain, RefusesChain, judgement};
 
-/// Loads the codes of an open table and checks them over the back table.
+/// Loads the codes of an open table and checks them, with exits valued by the back table too.
 fn check_over<S: Store, L: Ledger>(
     alloc: Global,
     table: &TableFile,
@@ -59,8 +60,8 @@ fn check_over<S: Store, L: Ledger>(
     }
 }
 
-/// Opens the table of the one name, then the back table of the other, which is checked by its own
-/// exit lines, and checks the table over it. The two names may be one.
+/// Opens the table named `table`, then the plain table named `back`, which is checked by its own
+/// exit lines, and checks the first table over the second. Both names may be the same.
 pub fn check_chain<S: Store, L: Ledger>(
     alloc: Global,
     store: &mut S,

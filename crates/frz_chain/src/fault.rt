@@ -11,8 +11,7 @@ use frz_store::StoreFault;
 use frz_table::TableFault;
 
 /// The first thing that is wrong with the rules or with one of the two tables, or why they could
-/// not be read. A fault of the store and want of memory have
-/// variants of their own, whichever file they met.
+/// not be read. `Failed` and `NoMemory` do not say which of the files was being read or written.
 #[derive(Clone, Copy, Debug, PartialEq, Eq)]
 pub enum ChainFault {
     /// The rules text is refused.
@@ -21,14 +20,14 @@ pub enum ChainFault {
     Table(TableFault),
     /// The back table is refused.
     Back(TableFault),
-    /// The back table has this as its first entry that is not its local code.
+    /// An entry of the back table is wrong: this is the first one that is not its local code.
     BackWrong(Wrong),
     Failed,
     NoMemory,
 }
 
 impl ChainFault {
-    /// What a fault of the table is.
+    /// The fault of a chain for a fault of the table.
     pub fn of_table(fault: TableFault) -> ChainFault
         ensures { result ≡ table_fault fault }
     {
@@ -39,7 +38,7 @@ impl ChainFault {
         }
     }
 
-    /// What a fault of the back table is.
+    /// The fault of a chain for a fault of the back table.
     pub fn of_back(fault: TableFault) -> ChainFault
         ensures { result ≡ back_fault fault }
     {

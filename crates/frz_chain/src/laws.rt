@@ -27,16 +27,15 @@ ghost use Rattle.frz_chain.specs.ExactBacks.{is_exact};
 ghost use Rattle.frz_chain.specs.FileOn.{IsExactBack};
 ghost use Rattle.frz_chain.specs.Transfer.{TellsChess};
 
-/// What an exact table tells of a position is true there, where the values of its own exits are
-/// true.
+/// What an exact table tells of a position is true, if the values of its own exits are true.
 pub fn pair_value_true()
     ensures { (rules : RuleLines) (value : Board → Value) (back : Back) →
         IsExactBack rules value back →
         AreTrueExits rules value → (q : Board) → IsTrueValue (back_value back q) q }
 {}
 
-/// Where the values of the rules' own exit lines are true, and those of the back table's exits too,
-/// the values of the exits are true with the back table behind the exit lines.
+/// If the values of the rules' own exit lines are true, and those of the back table's exits too,
+/// then the values of the exits by the exit lines and the back table behind them are true.
 pub fn chained_exits_true()
     ensures { (rules backs : RuleLines) (value : Board → Value) (back : Back) →
         IsExactBack backs value back →
@@ -44,7 +43,7 @@ pub fn chained_exits_true()
         AreTrueExits rules (chain_value rules back) }
 {}
 
-/// Where the exit lines of the rules and those of the back table's text are true, the codes of a
+/// If the exit lines of the rules and those of the text of the back table are true, the codes of a
 /// table over the back table say of chess what they say of the restricted game.
 pub fn chained_tables_tell()
     ensures { (rules backs : RuleLines) (back : Back) → IsExactBack backs (value_by backs) back →
@@ -53,8 +52,8 @@ pub fn chained_tables_tell()
         TellsChess rules (chain_value rules back) side codes }
 {}
 
-/// What a name holds is an exact back table where the verdict on it is that, and none where an
-/// entry is wrong or the file is refused: so it is decided what checking a table over it may cost.
+/// A file is an exact back table if the verdict on it is exact, and it is none if an entry is wrong
+/// or the file is refused. What checking a table over it may cost depends on this.
 pub fn exact_by_verdict()
     ensures exact { (bytes : List ℕ) (contents : Contents) → IsBackJudged bytes contents Exact →
         is_exact (Some bytes) ≡ true }
@@ -64,8 +63,9 @@ pub fn exact_by_verdict()
         opened (table_format Plain) held ≡ Err fault → is_exact held ≡ false }
 {}
 
-/// Where every win of the back table is within some number of plies, a win of a table over it
-/// forces mate within its own plies and that number.
+/// If every win of the back table is within `most` plies, a win within `n` plies of a table over it
+/// forces mate within `n + most` plies. The exits of both must have true values, and those that the
+/// side wins by exit lines must have a number of plies.
 pub fn plies_over_a_chain()
     ensures { (rules backs : RuleLines) (value : Board → Value) (back : Back) →
         IsExactBack backs value back → AreTrueExits rules (value_by rules) →
@@ -75,8 +75,8 @@ pub fn plies_over_a_chain()
         ForcesMate chess side (n + most) p }
 {}
 
-/// Where the outcomes of the back table are those of chess, and each way out of the set is decided
-/// by an exit line or lies in the back table's set, each value outside decides the game.
+/// If the outcomes of the back table are those of chess, and each exit is decided by an exit line
+/// or lies in the set of the back table, then the value of each exit decides the game.
 pub fn exact_backs()
     ensures { (rules backs : RuleLines) (value : Board → Value) (back : Back) →
         IsExactBack backs value back → HasExactOutcomes backs White back.white →

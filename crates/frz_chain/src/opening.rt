@@ -23,7 +23,7 @@ use frz_table::{TableFault, TableFile, open_table};
 use std::alloc::Global;
 use std::sync::ledger::Ledger;
 
-/// The codes of a table with the verdict on them.
+/// The codes of a table and the verdict on them.
 #[derive(Drop)]
 struct Loaded {
     white: Vec<u32>,
@@ -31,7 +31,7 @@ struct Loaded {
     verdict: Verdict,
 }
 
-/// Loads the codes of an open table and checks them, with the values of its own exit lines outside.
+/// Loads the codes of an open table and checks them, with exits valued by its own exit lines.
 fn load_checked<S: Store, L: Ledger>(
     alloc: Global,
     table: &TableFile,
@@ -72,8 +72,8 @@ fn load_checked<S: Store, L: Ledger>(
     })
 }
 
-/// Opens the plain table of this name, loads its codes and checks them. The calls of the store are
-/// those of opening and of loading, and the steps at most the size.
+/// Opens the plain table of this name, loads its codes and checks them; a wrong code is a fault.
+/// The calls of the store are those of opening and of loading, and the steps are at most the size.
 pub fn open_back<S: Store, L: Ledger>(
     alloc: Global,
     store: &mut S,
@@ -99,7 +99,7 @@ pub fn open_back<S: Store, L: Ledger>(
     }
 }
 
-/// The back table, where its codes are exact.
+/// The back table if its codes are exact, else the fault with the first wrong entry.
 fn exact_back(table: TableFile, loaded: Loaded) -> Result<BackTable, ChainFault>
     requires white { length loaded.white.items ≡ table_size table }
     requires black { length loaded.black.items ≡ table_size table }

@@ -1,4 +1,4 @@
-//! What two codes of one position tell.
+//! What White's code and Black's at one position say of its value.
 
 ghost use Rattle.std.specs.Prelude.{◌≡◌};
 ghost use Rattle.frz_chain.specs.PairValues as words;
@@ -9,7 +9,8 @@ use frz_sets::Value;
 /// The code of a position where a side holds.
 const HOLD: u32 = 1;
 
-/// The value that White's code and Black's at one position tell.
+/// The value of a position by White's code and Black's there. Two codes that tell nothing together
+/// give `Unknown`.
 pub fn pair_value(white: u32, black: u32) -> Value
     ensures { result ≡ words.pair_value white black }
 {

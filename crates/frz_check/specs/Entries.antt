@@ -1,4 +1,4 @@
--- One entry against its local code, and both sides' entries at one number.
+-- One entry compared with its local code, and the entries of both sides at one number.
 use Rattle.std.specs.Prelude.{◌≡◌, ◌≢◌, ℕ, List, map, Option, None, Some}
 use Rattle.frz_board.specs.declared.man.Colour.{Colour}
 use Rattle.frz_board.specs.declared.man.Colour.TheVariants.{White, Black}
@@ -13,13 +13,13 @@ use Rattle.frz_graph.specs.FreeCodes.{free_among}
 use Rattle.frz_game.specs.declared.wrong.Wrong.{Wrong}
 use Rattle.frz_check.specs.Verdicts.{AgreeAt, kept_code, given_code}
 
--- the local code by what the number is, by its moves and by the entries of the side
+-- the local code, by what the number is, by its moves and by the entries of the side
 abbrev pub code_by_moves : Colour → Node → List (Arm Step ℕ Value) → List ℕ → ℕ
 code_by_moves side node arms entries =
     let codes = map (arm_code side entries) arms in
     node_code side node (free_among arms codes) codes
 
--- nothing where the kept code is the given one, else both with their place
+-- none if the kept code is the given one, else both codes with their side and number
 abbrev pub IsCompared : Colour → ℕ → (kept given : ℕ) → Option Wrong → Type 0
 IsCompared side number kept given None = kept ≡ given
 IsCompared side number kept given (Some wrong) =

@@ -23,8 +23,8 @@ use Rattle.frz_check.specs.Verdicts.{IsVerdict}
 abbrev pub kept_codes : Contents → List ℕ → Colour → List ℕ
 kept_codes contents bytes side = codes_at side contents.text (size_of contents.rules.groups) bytes
 
--- the verdict on bytes that open so, by the values of a book; it is exact just where byte by byte
--- they are the one file of their text
+-- the verdict on bytes that open with these contents, by the values of a book; it is exact just if
+-- they are, byte by byte, the one file of their text
 pub record IsVerdictOn (kind : FileKind) (value : Board → Value) (contents : Contents)
     (bytes : List ℕ) (verdict : Verdict) : Type 0 where
   pub codes : IsVerdict contents.rules value (kept_codes contents bytes) verdict
@@ -39,12 +39,12 @@ pub record ChecksTable (files : Option Files) (table : Table) (value : Board →
   pub file : IsFileOf table bytes
   pub told : IsVerdictOn table.kind value (contents_of table) bytes verdict
 
--- how many numbers the table has that opens, and 0 where none does
+-- the size of the set of a table that opens, and 0 if it is refused
 abbrev pub opened_size : Result Contents TableFault → ℕ
 opened_size (Ok contents) = size_of contents.rules.groups
 opened_size (Err fault) = 0
 
--- no more steps, bytes and calls than the file that is held asks for
+-- no more steps, bytes and calls than checking the held file takes
 pub record WithinFile (held : Option (List ℕ)) (old new : StoreTold)
     (steps_before steps_now : ℕ) : Type 0 where
   pub steps : steps_now ≤ steps_before + opened_size (opened (table_format Plain) held)
@@ -65,7 +65,7 @@ pub record ChecksFile (name : List ℕ) (old new : StoreTold) (steps_before step
   pub told : IsVerdictOn Plain (value_by contents.rules) contents bytes verdict
   pub within : WithinFile (Some bytes) old new steps_before steps_now
 
--- the name may hold what is refused so
+-- the name may hold what is refused with this fault
 pub record RefusesFile (name : List ℕ) (old new : StoreTold) (steps_before steps_now : ℕ)
     (fault : TableFault) : Type 0 where
   pub held : Option (List ℕ)

@@ -16,7 +16,7 @@ abbrev pub KeepsTables : (Board → Value) → Contents → List ℕ → Type 0
 KeepsTables value contents bytes =
     (side : Colour) → IsTableOf contents.rules value side (kept_codes contents bytes side)
 
--- the code stands for the bound of the side at the position, and it holds in chess
+-- the code stands for the bound of the side at the position, and the bound holds in chess
 pub record KeepsBound (rules : RuleLines) (value : Board → Value) (side : Colour) (p : Board)
     (code : ℕ) : Type 0 where
   pub bound : Bound

@@ -1,5 +1,4 @@
--- What a check says of two lists of codes: they are the tables,
--- or which entry is the first that is wrong.
+-- What a check says of two lists of codes: they are the tables, or which is the first wrong entry.
 use Rattle.std.specs.Prelude.{◌≡◌, ◌≢◌, ◌<◌, ℕ, List, slice_index}
 use Rattle.frz_board.specs.Boards.{Board}
 use Rattle.frz_board.specs.declared.man.Colour.{Colour}
@@ -20,7 +19,7 @@ use Rattle.frz_check.specs.declared.verdict.Verdict.TheVariants as verdict
 abbrev pub kept_code : (Colour → List ℕ) → Colour → ℕ → ℕ
 kept_code codes side i = slice_index (codes side) i
 
--- its local code there: what the codes one move on give
+-- the local code of the side at the number: what the codes one ply on give
 abbrev pub given_code : {M V : Type 0} → Arena M ℕ V → (Colour → List ℕ) → Colour → ℕ → ℕ
 given_code arena codes side i = local_code arena side (λ k. kept_code codes side k) i
 

@@ -1,4 +1,4 @@
-//! Each entry against its local code.
+//! The comparison of each entry of a table with its local code.
 ghost use Rattle.std.specs.Prelude.{◌≡◌, ◌↔◌, ◌≤◌, ◌<◌, ◌+◌, All, length, slice_index};
 ghost use Rattle.frz_board.specs.declared.man.Colour.{Colour};
 ghost use Rattle.frz_board.specs.declared.man.Colour.TheVariants.{White};
@@ -20,8 +20,8 @@ use frz_graph::laws::{filled, within};
 use frz_steps::Steps;
 use std::sync::ledger::Ledger;
 
-/// Compares the entry of the side at the number with its local code. The list has the moves of the
-/// number, which is this node.
+/// Compares the entry of the side at the number with its local code. The node says what the number
+/// is, and the list has its moves. Answers both codes if they differ, else `None`.
 fn compare<E: Entries>(
     side: Colour,
     number: u32,
@@ -48,7 +48,8 @@ fn compare<E: Entries>(
     })
 }
 
-/// The first entry at the number that is not its local code.
+/// The first entry at the number that is not its local code, White's before Black's; `None` if
+/// there is none.
 fn wrong_at<G: NumberedGame<L>, E: Entries, L: Ledger>(
     game: &G,
     number: u32,
@@ -72,7 +73,7 @@ fn wrong_at<G: NumberedGame<L>, E: Entries, L: Ledger>(
     compare(Colour::Black, number, node, entries, &lists.nexts)
 }
 
-/// Checks the entries over any game of numbers.
+/// Checks the entries of both sides in any game of numbers, up to the first wrong one.
 fn check_numbers<G: NumberedGame<L>, E: Entries, L: Ledger>(
     game: &G,
     entries: &E,
@@ -94,9 +95,9 @@ fn check_numbers<G: NumberedGame<L>, E: Entries, L: Ledger>(
     Verdict::Exact
 }
 
-/// Checks the codes of both sides, which are as many as the size. The moves of each number are
-/// asked for once, up to the first wrong entry, so the steps are at most the size; no memory is
-/// taken.
+/// Checks the codes of both sides, one a side for each number of the set: the verdict is `Exact`
+/// just if they are the tables of the game. The moves of each number are listed once, up to the
+/// first wrong entry, so the steps are at most the size. No memory is taken.
 pub fn check_entries<B: ExitBook, E: Entries, L: Ledger>(
     game: &Game<'_, B>,
     entries: &E,

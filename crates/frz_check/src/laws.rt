@@ -21,7 +21,7 @@ ghost use Rattle.frz_check.specs.Verdicts.{IsVerdict};
 
 use frz_game::laws::tables::tables;
 
-/// There is one verdict on any codes that are as many as the numbers.
+/// Any codes, one a side for each number, have exactly one verdict.
 pub fn one_verdict()
     ensures there { (rules : RuleLines) (value : Board → Value) (codes : Colour → List ℕ) →
         ((side : Colour) → length (codes side) ≡ size_of rules.groups) →
@@ -33,7 +33,8 @@ pub fn one_verdict()
     tables();
 }
 
-/// There is one file with any magic and any text that holds the tables of rules and a book.
+/// There is exactly one file with a given magic and text that holds the tables of given rules and a
+/// book.
 pub fn one_file()
     ensures there { (rules : RuleLines) (value : Board → Value) → HasSmallLags value →
         (magic text : List ℕ) →
@@ -45,9 +46,9 @@ pub fn one_file()
     tables();
 }
 
-/// The one file opens with its text and its rules, and its codes are the tables of both sides. Byte
-/// strings of which this holds are the one file of their text,
-/// so of all with one text there is one.
+/// The one file opens with its text and its rules, and its codes are the tables of both sides.
+/// Bytes of which this holds are the one file of their text, so there is one such file for each
+/// text.
 pub fn what_is_exact()
     ensures opens { (kind : FileKind) (value : Board → Value)
         (contents : Contents) (bytes : List ℕ) → rules_of contents.text ≡ Ok contents.rules →
@@ -76,7 +77,8 @@ pub fn what_is_exact()
     tables();
 }
 
-/// What the one file of rules says of chess, both ways, for each side that no line forbids a move.
+/// What the one file of rules says of chess, in both directions, for each side that no line forbids
+/// a move.
 pub fn exact_files()
     ensures white { (rules : RuleLines) (value : Board → Value) (magic text bytes : List ℕ)
         (file : IsOneFile magic text rules value bytes) →

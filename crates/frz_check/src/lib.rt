@@ -1,5 +1,5 @@
-//! The checker of tables: each code is compared with its local code, the one that the codes one
-//! move on give. A file passes exactly where it is the one file of its text.
+//! The checker of tables: each code is compared with its local code, the one that the codes one ply
+//! on give. A file passes exactly if it is the one file of its text.
 #![tactic(auto)]
 
 mod entries;

@@ -1,4 +1,4 @@
-//! Table files against the game of their rules.
+//! The check of table files by the game of their rules.
 ghost use Rattle.std.specs.Prelude.{◌≡◌, ◌≤◌, ◌+◌, ◌*◌, IfOk, IfErr, OnErr};
 ghost use Rattle.frz_store.specs.Told.{store_of, StoreQuiet};
 ghost use Rattle.frz_table.specs.Faults.{IsOutside, TableCauses};
@@ -16,8 +16,8 @@ use frz_table::{TableFault, TableFile, open_table};
 use std::alloc::Global;
 use std::sync::ledger::Ledger;
 
-/// Loads the codes of an open table and checks them, with the values of a book outside. The calls
-/// of the store are those of `load`, and the steps at most the size.
+/// Loads the codes of an open table and checks them, with exits valued by the book. The calls of
+/// the store are those of `load`, and the steps are at most the size.
 pub fn check_kept<B: ExitBook, S: Store, L: Ledger>(
     alloc: Global,
     table: &TableFile,
@@ -52,8 +52,8 @@ pub fn check_kept<B: ExitBook, S: Store, L: Ledger>(
     Ok(check_entries(&game, &entries, steps))
 }
 
-/// Opens a plain table and checks its codes, with the values of its own exit lines outside. The
-/// calls of the store are those of opening and of `load`, and the steps at most the size.
+/// Opens a plain table and checks its codes, with exits valued by its own exit lines. The calls of
+/// the store are those of opening and of `load`, and the steps are at most the size.
 pub fn check_table<S: Store, L: Ledger>(
     alloc: Global,
     store: &mut S,

@@ -1,13 +1,13 @@
-//! What a check says.
+//! The verdict of a check.
 
 use frz_game::Wrong;
 
 /// What a check says of the codes of both sides.
 #[derive(Clone, Copy, Debug, PartialEq, Eq)]
 pub enum Verdict {
-    /// They are the tables of both sides.
+    /// The codes are the tables of both sides.
     Exact,
-    /// The first entry that is not its local code: by number, and White's before Black's at one
-    /// number.
+    /// An entry is not its local code, the code that the codes one ply on give. Given is the first
+    /// such entry, by number, and White's before Black's at one number.
     Wrong(Wrong),
 }

@@ -29,7 +29,7 @@ digits-value (b ∷ bs) (d ∷ ds) h =
     ∙ ap (λ x. d ∷ digits bs x) (mod-mul-add d (product bs) (value bs ds) below)
     ∙ ap (λ xs. d ∷ xs) (digits-value bs ds h.1)
 
--- the digits of a number below the product are digits, and say it
+-- the digits of a number below the product are digits, and their number is that number
 pub digits_fit : (bs : List ℕ) (n : ℕ) → n < product bs → AreDigits bs (digits bs n)
 digits_fit [] n h = refl
 digits_fit (b ∷ bs) n h =
@@ -47,7 +47,7 @@ value-digits (b ∷ bs) n h =
     (value-digits bs (n % product bs) (mod_below n (product bs) some))
     ∙ div-add-mod' n (product bs)
 
--- from the first digit on
+-- the number computed from the first digit on
 pub value_onto-value : (n : ℕ) (bs ds : List ℕ) → AreDigits bs ds →
     value_onto n bs ds ≡ n * product bs + value bs ds
 value_onto-value n [] ds h = omega arith
@@ -55,7 +55,7 @@ value_onto-value n (b ∷ bs) [] h = absurd h
 value_onto-value n (b ∷ bs) (d ∷ ds) h =
     value_onto-value (n * b + d) bs ds h.1 ∙ spread n b d (product bs) (value bs ds)
 
--- digits behind digits: the number of the first ones goes on
+-- digits behind digits: the number of the first ones is where the others begin
 pub value_onto-append : (n : ℕ) (rs bs xs ys : List ℕ) → length rs ≡ length xs →
     value_onto n (rs ++ bs) (xs ++ ys) ≡ value_onto (value_onto n rs xs) bs ys
 value_onto-append n [] bs [] ys h = refl

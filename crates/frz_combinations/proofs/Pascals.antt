@@ -14,12 +14,12 @@ pub choose-none : (k : ℕ) → choose 0 (suc k) ≡ 0
 unfolding choose
 choose-none k = refl
 
--- there are as many ways to choose one as there are
+-- there are n ways to choose one of n
 pub choose-one : (n : ℕ) → choose n 1 ≡ n
 choose-one zero = choose-none 0
 choose-one (suc n) = omega (arith, choose-suc n 0, choose-one n, choose-zero n)
 
--- there are no ways to choose more than there are
+-- there is no way to choose more than n of n
 pub choose-past : (n k : ℕ) → n < k → choose n k ≡ 0
 choose-past n zero h = absurd (omega arith)
 choose-past zero (suc k) h = choose-none k

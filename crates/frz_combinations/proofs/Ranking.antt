@@ -7,7 +7,7 @@ use Rattle.frz_combinations.specs.Binomials.{choose}
 use Rattle.frz_combinations.specs.Combinations.{AreDescending, IsBefore, IsRanked, places_below, rank, unrank}
 use Rattle.frz_combinations.proofs.Pascals.{choose-zero, choose-suc, choose-none, choose_wider}
 
--- descending below n, and so below more
+-- places that descend below n descend below every greater bound
 pub descend_wider : (n m : ℕ) (cs : List ℕ) → n ≤ m → AreDescending n cs → AreDescending m cs
 descend_wider n m [] h d = tt
 descend_wider n m (c ∷ cs) h d = (omega (arith, d.0), d.1)
@@ -97,7 +97,7 @@ rank-unrank (suc s) (suc j) r h =
           (rank-unrank s j (r - choose s (suc j)) (omega (arith, choose-suc s j))))
     ]
 
--- with its own last place as the bound
+-- the rank of a combination, with its own last place as the bound
 pub rank_last : (c : ℕ) (cs : List ℕ) → AreDescending c cs →
     rank (c ∷ cs) < choose (c + 1) (length (c ∷ cs))
 rank_last c cs h = rank_below (c + 1) (c ∷ cs) (omega arith, h)

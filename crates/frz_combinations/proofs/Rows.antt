@@ -70,7 +70,7 @@ pub row_at : (rows : List (List ℕ)) (n : ℕ) → AreRows rows → n < length 
 unfolding AreRows
 row_at rows n h k = h n k
 
--- so far as the first number
+-- the row of ones is right at its first number
 pub numbers_first : (row : List ℕ) (i : ℕ) → i < 1 →
     get_or (replicate 17 1) i 0 ≡ number_below row i
 numbers_first row zero h = refl

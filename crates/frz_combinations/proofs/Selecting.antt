@@ -31,7 +31,7 @@ men_found s l (suc n) (suc d) x h k =
     ∙ ap (count_and_rank s (suc l) n) r ∙ men_found s (suc l) n d x (omega arith) k'
     ∙ ap (λ j. (j, x)) (sym e)
 
--- and the sum stays below that of one more
+-- the number of a selection with l + d places is below the sum for n more, where d is at most n
 pub choices_below : (s l n d x : ℕ) → d ≤ n → x < choose s (l + d) →
     choices s l d + x < choices s l (suc n)
 choices_below s l n zero x h k =

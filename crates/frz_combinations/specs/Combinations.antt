@@ -12,7 +12,7 @@ abbrev pub rank : List ℕ → ℕ
 rank [] = 0
 rank (c ∷ cs) = choose c (length (c ∷ cs)) + rank cs
 
--- colexicographic order: the last places in which two combinations differ decide
+-- colexicographic order: the last place in which two combinations differ decides
 abbrev pub IsBefore : List ℕ → List ℕ → Type 0
 IsBefore [] ds = ⊥
 IsBefore (c ∷ cs) [] = ⊥
@@ -27,7 +27,7 @@ unrank (suc s) (suc j) r =
     if nat_le (choose s (suc j)) r then s ∷ unrank s j (r - choose s (suc j))
     else unrank s (suc j) r
 
--- j places below s whose rank is r
+-- a combination of j places below s whose rank is r
 pub record IsRanked (s j r : ℕ) (cs : List ℕ) : Type 0 where
   pub count : length cs ≡ j
   pub places : AreDescending s cs

@@ -5,7 +5,7 @@ abbrev pub product : List ℕ → ℕ
 product [] = 1
 product (b ∷ bs) = b * product bs
 
--- one digit for each radix, and below it
+-- there is one digit for each radix, and each is below its radix
 abbrev pub AreDigits : List ℕ → List ℕ → Type 0
 AreDigits [] ds = ds ≡ []
 AreDigits (b ∷ bs) [] = ⊥
@@ -22,7 +22,8 @@ abbrev pub digits : List ℕ → ℕ → List ℕ
 digits [] r = []
 digits (b ∷ bs) r = (r / product bs) ∷ digits bs (r % product bs)
 
--- the same number from the first digit on: the number so far times the radix, plus the digit
+-- the number of these digits appended to n, from the first on: the number so far times the radix,
+-- plus the digit
 abbrev pub value_onto : ℕ → List ℕ → List ℕ → ℕ
 value_onto n [] ds = n
 value_onto n (b ∷ bs) [] = n

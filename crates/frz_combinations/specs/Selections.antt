@@ -4,7 +4,7 @@ use Rattle.std.specs.Prelude.{ℕ, zero, suc, ◌+◌, ◌-◌, List, length, if
 use Rattle.frz_combinations.specs.Binomials.{choose}
 use Rattle.frz_combinations.specs.Combinations.{rank, unrank}
 
--- C(s, l) + C(s, l + 1) + .., of which there are n
+-- C(s, l) + C(s, l + 1) + .., a sum of n numbers
 abbrev pub choices : ℕ → ℕ → ℕ → ℕ
 choices s l zero = 0
 choices s l (suc n) = choose s l + choices s (suc l) n
@@ -17,8 +17,8 @@ radix s l m = choices s l (suc (m - l))
 abbrev pub digit : ℕ → ℕ → List ℕ → ℕ
 digit s l cs = choices s l (length cs - l) + rank cs
 
--- the number of places of the selection with number r, from l
--- on and at most n more, and its rank among those of as many
+-- how many places the selection with number r has, from l to l + n, and its rank among those of as
+-- many places
 abbrev pub count_and_rank : ℕ → ℕ → ℕ → ℕ → ℕ × ℕ
 count_and_rank s l zero r = (l, r)
 count_and_rank s l (suc n) r =

@@ -5,7 +5,7 @@ ghost use Rattle.frz_combinations.specs.Combinations.{AreDescending, IsBefore, I
 ghost use Rattle.frz_combinations.specs.Selections.{digit, radix, selection_at};
 ghost use Rattle.frz_combinations.specs.MixedRadix.{AreDigits, digits, product, value, value_onto};
 
-/// Pascal's rule.
+/// Pascal's rule, and where it begins: C(n, 0) is 1, and C(n, k) is 0 for k above n.
 pub fn binomials()
     ensures none { (n k : ℕ) → n < k → choose n k ≡ 0 }
     ensures one { (n : ℕ) → choose n 0 ≡ 1 }
@@ -17,8 +17,8 @@ pub fn binomials()
 pub fn combinations()
     ensures below { (s : ℕ) (cs : List ℕ) → AreDescending s cs → rank cs < choose s (length cs) }
 
-    // The last place is the greatest whose binomial is not
-    // above the rank, and so it is found again.
+    // The last place is the greatest whose binomial number is not above the rank, and so it is
+    // found again from the rank.
     ensures last { (c : ℕ) (cs : List ℕ) → AreDescending c cs →
         rank (c ∷ cs) < choose (c + 1) (length (c ∷ cs)) }
     ensures greatest { (s j r c : ℕ) → c < s → choose c (j + 1) ≤ r →
@@ -33,7 +33,7 @@ pub fn combinations()
         length cs ≡ length ds → IsBefore cs ds → rank cs < rank ds }
 {}
 
-/// The numbers of the selections of l to m among s are below the radix, and each is of one alone.
+/// Each selection of l to m places among s has a number of its own, below the radix.
 pub fn selections()
     ensures below { (s l m : ℕ) (cs : List ℕ) → AreDescending s cs → l ≤ length cs → length cs ≤ m →
         digit s l cs < radix s l m }
@@ -41,7 +41,7 @@ pub fn selections()
         length cs ≤ m → selection_at s l m (digit s l cs) ≡ cs }
 {}
 
-/// Digits and their number, both ways.
+/// The digits of a number in mixed radix give the number, and the number gives the digits.
 pub fn mixed_radix()
     ensures below { (bs ds : List ℕ) → AreDigits bs ds → value bs ds < product bs }
     ensures found_again { (bs ds : List ℕ) → AreDigits bs ds → digits bs (value bs ds) ≡ ds }

@@ -5,7 +5,7 @@ ghost use Rattle.frz_combinations.specs.Binomials.{choose, capped, IsRow};
 use std::alloc::{AllocError, Global};
 use std::marker::Model;
 
-/// A row has the numbers C(n, 0) to C(n, 16).
+/// The length of a row, which has the numbers C(n, 0) to C(n, 16).
 const WIDTH: usize = 17;
 
 fn first_row() -> [u64; WIDTH]
@@ -26,7 +26,8 @@ fn next_row(row: &[u64; WIDTH]) -> [u64; WIDTH]
     next
 }
 
-/// C(n, k), or the greatest number of 64 bits where that is greater.
+/// C(n, k), or the greatest number of 64 bits where C(n, k) is greater. It takes n up to 384 and k
+/// up to 16, and computes all rows up to n.
 pub fn binomial(n: u32, k: u32) -> u64
     requires n { n ≤ 384 }
     requires k { k ≤ 16 }
@@ -39,7 +40,7 @@ pub fn binomial(n: u32, k: u32) -> u64
     row[k as usize]
 }
 
-/// The first rows of Pascal's triangle, seen as the number of rows.
+/// The first rows of Pascal's triangle. Contracts see it as the number of rows.
 ///
 /// It gives the numbers of `binomial` without computing them again.
 #[derive(Drop)]
@@ -59,7 +60,7 @@ impl Model for Triangle {
 }
 
 impl Triangle {
-    /// The rows from 0 to `last`.
+    /// The rows from 0 to `last`. The only error is want of memory.
     pub fn new(alloc: Global, last: u32) -> Result<Triangle, AllocError>
         ensures { IfOk result (λ t. t ≡ last + 1) }
     {
@@ -73,7 +74,8 @@ impl Triangle {
         Ok(Triangle { rows })
     }
 
-    /// C(n, k), or the greatest number of 64 bits where that is greater.
+    /// C(n, k), or the greatest number of 64 bits where C(n, k) is greater. The row n must be one
+    /// of those that are kept, and k at most 16.
     pub fn binomial(&self, n: u32, k: u32) -> u64
         requires n { n < self.now }
         requires k { k ≤ 16 }

@@ -1,5 +1,5 @@
--- The codes that a table file keeps at a position of its set,
--- and what `query TABLE FEN` answers by them.
+-- The codes that a table file holds at a position of its set, and what `query TABLE FEN` answers by
+-- them.
 use Rattle.std.specs.Prelude.{◌≡◌, ℕ, ◌+◌, ◌*◌, ◌≤◌, ◌<◌, ◌^◌, List, [], length, slice_index, Option, IfSome, Result, Ok, Err, if◌then◌else◌, ⊤}
 use Rattle.std.specs.Option.{unwrap_or}
 use Rattle.frz_board.specs.declared.man.Colour.{Colour}
@@ -27,7 +27,7 @@ use Rattle.frz_prelude.specs.declared.stop.Stop.{Stop}
 use Rattle.frz_prelude.specs.declared.stop.Stop.TheVariants as stops
 use Rattle.frz_commands_ask.specs.declared.kept.KeptCodes.{KeptCodes}
 
--- the code that the bytes of a file keep for the side at the number of a position
+-- the code of the side at the number of a position, by the bytes of a file
 abbrev pub kept_at : Colour → Contents → List ℕ → Board → ℕ
 kept_at side contents bytes p =
     slice_index (kept_codes contents bytes side) (Num contents.rules.groups p)
@@ -46,22 +46,22 @@ abbrev pub kept_by : Result Contents TableFault → List ℕ → Board → Resul
 kept_by (Ok contents) bytes p = kept_in contents bytes p
 kept_by (Err fault) bytes p = Err (refusals.Table fault)
 
--- the codes that what a name holds, as a table of this kind, keeps at the position, or why it has
--- none
+-- the codes of both sides at the position, where the held bytes are a table of this kind; or why
+-- there are none
 abbrev pub kept_of : FileKind → Board → Option (List ℕ) → Result KeptCodes Refused
 kept_of kind p held = kept_by (opened (table_format kind) held) (unwrap_or held []) p
 
--- how often a file is read for the codes: once for each, and never where there are none
+-- how often a file is read for the codes: once for each side, and never where there are none
 abbrev pub code_reads : Result KeptCodes Refused → ℕ
 code_reads (Ok codes) = 2
 code_reads (Err why) = 0
 
--- how many calls of the store that takes which finds the codes in what a name holds
+-- how many calls of the store find the codes in what a name holds
 abbrev pub keeping_calls : FileKind → Board → Option (List ℕ) → ℕ
 keeping_calls kind p held =
     opening_calls (table_format kind) held + code_reads (kept_of kind p held)
 
--- and how many bytes are asked of it: those that open what the name holds, and four for each code
+-- how many bytes are asked for: those that open what the name holds, and four for each code
 abbrev pub keeping_bytes : FileKind → Board → Option (List ℕ) → ℕ
 keeping_bytes kind p held = 16 + length (held_text held) + 4 * code_reads (kept_of kind p held)
 
@@ -70,8 +70,8 @@ abbrev pub answer_by : Result KeptCodes Refused → Files → Answer
 answer_by (Ok codes) files = says Success (kept_text codes.white codes.black) files
 answer_by (Err why) files = says (status_of why) (refusal_line why) files
 
--- where the store tells, these are the codes that the table's
--- file keeps at the position; they have 32 bits
+-- where the store tells, these are the codes that the table's file holds at the position; each has
+-- 32 bits
 pub record AreKept (table : Table) (p : Board) (told : Option Files)
     (codes : KeptCodes) : Type 0 where
   pub inside : Member table.rules.groups p
@@ -82,15 +82,16 @@ pub record AreKept (table : Table) (p : Board) (told : Option Files)
   pub black : IfSome told (λ m. IfSome (m table.name)
       (λ bytes. kept_at Black (contents_of table) bytes p ≡ codes.black))
 
--- the codes of an open table, or the position is outside its set, or a fault stopped the call
+-- the result is the codes of an open table, or the refusal of a position outside its set; nothing
+-- is said of a fault
 abbrev pub IsKeptIn : Table → Board → Option Files → Result KeptCodes Stop → Type 0
 IsKeptIn table p told (Ok codes) = AreKept table p told codes
 IsKeptIn table p told (Err (stops.Refused why)) =
     (Member table.rules.groups p → ⊥) × (why ≡ refusals.Outside)
 IsKeptIn table p told (Err (stops.Fault fault)) = ⊤
 
--- the answer is that of the name in some files of bytes, which are those that the store tells where
--- it does, and no more was asked of the store, in no more calls, than these files take
+-- the result is that of the name in some files of bytes: those that the store tells, if it tells.
+-- No more bytes and calls were spent than these files take
 pub record IsKept (kind : FileKind) (p : Board) (name : List ℕ) (result : Result KeptCodes Stop)
     (old new : StoreTold) : Type 0 where
   pub files : Files

@@ -1,4 +1,4 @@
--- What the lines of `solve` mean in chess.
+-- What the lines of `solve` mean in chess, and what the command is to do.
 use Rattle.std.specs.Prelude.{◌≡◌, ℕ, ◌+◌, List, [], ◌∷◌, true, false, Some, None, Ok, Err}
 use Rattle.frz_store.specs.Files.{Files}
 use Rattle.frz_answer.specs.declared.status.Status.TheVariants.{Success, Rules, Outside, Missing}
@@ -27,7 +27,7 @@ use Rattle.frz_prelude.specs.BoundLines.{bounds_text}
 use Rattle.frz_commands_ask.specs.Solving.{Solves, IsSolvedAt}
 
 -- the text tells the bounds of both sides at a position of the rules' set, in the game of the rules
--- and a book, and they hold in chess
+-- with these values of exits, and the bounds hold in chess
 pub record TellsBounds (lines : RuleLines) (value : Board → Value) (p : Board)
     (text : List ℕ) : Type 0 where
   pub white : Bound
@@ -38,9 +38,9 @@ pub record TellsBounds (lines : RuleLines) (value : Board → Value) (p : Board)
   pub black_means : Means lines value Black p black
   pub white_alone : WinsAlone white black
   pub black_alone : WinsAlone black white
-  -- where no line forbids a side a move, its bound says of chess both ways what MeansExactly
-  -- says: so where each way out of the set is drawn by the men, `wins within N` is a mate in just
-  -- N plies, `none` a forced loss, and with `holds` neither side can force mate
+  -- where no line forbids a side a move, its bound is exact in chess as MeansExactly says. For
+  -- instance, where each way out of the set is drawn by the men, `wins within N` is a mate in
+  -- exactly N plies, `none` is a forced loss, and with `holds` neither side can force mate
   pub white_exact : IsExactWhereFree lines value White p white
   pub black_exact : IsExactWhereFree lines value Black p black
 
@@ -52,7 +52,8 @@ pub record TellsSolved (rules : List ℕ) (p : Board) (files : Files) (text : Li
   pub accepted : rules_of source ≡ Ok lines
   pub inside : Member lines.groups p
   pub tells : TellsBounds lines (value_by lines) p text
-  -- where the exit lines are true by the men, the exits are true
+  -- where the exit lines are true by the men (the men that their conditions leave show it), the
+  -- exits are true
   pub true_by_men : are_true_by_men lines ≡ true → AreTrueExits lines (value_by lines)
 
 -- the rules file is there and accepted, and the position is not in its set
@@ -63,7 +64,7 @@ pub record IsOutside (rules : List ℕ) (p : Board) (files : Files) : Type 0 whe
   pub accepted : rules_of source ≡ Ok lines
   pub outside : Member lines.groups p → ⊥
 
--- the rules file is there, and the text names the first fault of its text
+-- the rules file is there, and the text names the first fault in it
 pub record TellsFault (rules : List ℕ) (files : Files) (text : List ℕ) : Type 0 where
   pub source : List ℕ
   pub there : files rules ≡ Some source
@@ -79,15 +80,15 @@ MeansStatus rules p files Outside text = IsOutside rules p files
 MeansStatus rules p files Missing text = files rules ≡ None
 MeansStatus rules p files status text = ⊥
 
--- what an answer of `solve` means: it changes no file and takes
--- no input, and each status has its cause
+-- what an answer of `solve` means: it changes no file and takes no input, and each status has its
+-- cause
 pub record MeansSolve (rules : List ℕ) (p : Board) (files : Files) (a : Answer) : Type 0 where
   pub same : a.files ≡ files
   pub untaken : a.taken ≡ 0
   pub says : MeansStatus rules p files a.status a.text
 
 -- `solve` at a position: one `size` and one `read` of the rules file, which is not read where it is
--- missing or too long
+-- missing or too long; the steps have no bound here
 abbrev pub solving_at : List ℕ → Board → Job
 solving_at rules p = record (plain (Success ∷ Rules ∷ Outside ∷ Missing ∷ [])
     (λ files input a. IsSolvedAt p rules files a)) {

@@ -22,14 +22,15 @@ use Rattle.frz_prelude.specs.TableFiles.{OpensAsKind, TellsFaultOfKind}
 use Rattle.frz_commands_ask.specs.Kept.{keeping_bytes, keeping_calls, kept_at, kept_of, answer_by}
 use Rattle.frz_commands_ask.specs.Meaning.{TellsBounds}
 
--- where the codes in the file are the tables of both sides, the text tells the bounds of both
--- sides, and they hold in chess: by the values of the book by which these are the tables, which is
--- that of the exit lines, or, for a table over a second one, these with that one behind them
+-- where the codes in the file are the tables of both sides by the values of some book, the text
+-- tells the bounds of both sides by these values, and they hold in chess. The book is that of the
+-- exit lines or, for a table over a second one, that of the exit lines with the second table behind
+-- them
 abbrev pub TellsWhereExact : Contents → List ℕ → Board → List ℕ → Type 0
 TellsWhereExact contents bytes p text = (value : Board → Value)
     → KeepsTables value contents bytes → TellsBounds contents.rules value p text
 
--- the text tells the codes that the file keeps at the position of its set
+-- the text tells the codes that the file holds at a position of its set
 pub record TellsKept (kind : FileKind) (table : List ℕ) (p : Board) (files : Files)
     (text : List ℕ) : Type 0 where
   pub bytes : List ℕ
@@ -61,9 +62,9 @@ pub record MeansQuery (kind : FileKind) (table : List ℕ) (p : Board) (files : 
   pub untaken : a.taken ≡ 0
   pub says : MeansStatus kind table p files a.status a.text
 
--- to query a table of this kind at a position: no step, and the calls of the store and the bytes
--- that open what is there; where the position is in its set,
--- one call and four bytes more for each of the two codes
+-- to query a table of this kind at a position. It costs no step, and the calls of the store and the
+-- bytes that open what is there; where the position is in its set, one call and four bytes more for
+-- each of the two codes
 abbrev pub querying_at : FileKind → List ℕ → Board → Job
 querying_at kind table p = record (plain (Success ∷ Table ∷ Outside ∷ Missing ∷ [])
     (λ files input a. a ≡ answer_by (kept_of kind p (files table)) files)) {
@@ -76,7 +77,7 @@ querying_at kind table p = record (plain (Success ∷ Table ∷ Outside ∷ Miss
       });
     }
 
--- TABLE FEN
+-- the words TABLE FEN, for a table of this kind
 abbrev pub querying_words : FileKind → List (List ℕ) → Job
 querying_words kind words =
     taking (λ names. on_position (querying_at kind names.0) (fen_of names.1)) (two_words_of words)

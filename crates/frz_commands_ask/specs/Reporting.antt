@@ -29,7 +29,7 @@ use Rattle.frz_prelude.specs.TableCauses.{table_line}
 use Rattle.frz_prelude.specs.TableFiles.{OpensAs, TellsTableFault}
 use Rattle.frz_commands_ask.specs.Kept.{kept_at}
 
--- the report of a file that opens, by the codes that it keeps and the values of its own exit lines
+-- the report of a file that opens, by the codes in it and the values of its own exit lines
 abbrev pub report_of : Contents → List ℕ → List ℕ
 report_of contents bytes =
     report_text contents.rules (value_by contents.rules) (kept_codes contents bytes)
@@ -50,8 +50,8 @@ end_by (Err faults.Store) = Stopped stops.Store
 end_by (Err faults.Output) = SinkFault
 end_by (Err faults.NoMemory) = Stopped stops.NoMemory
 
--- the text is the report of the file; where the codes in it are the tables of both sides, each code
--- by which it tells is that of the bound at its position, and holds in chess
+-- the text is the report of the file. Where the codes in it are the tables of both sides, each code
+-- that the report uses is that of the bound at its position, and holds in chess
 pub record TellsReport (table : List ℕ) (files : Files) (text : List ℕ) : Type 0 where
   pub bytes : List ℕ
   pub contents : Contents
@@ -68,15 +68,15 @@ MeansStatus table files Table text = TellsTableFault table files text
 MeansStatus table files Missing text = files table ≡ None
 MeansStatus table files status text = ⊥
 
--- what an answer of `report` means: it changes no file and
--- takes no input, and each status has its cause
+-- what an answer of `report` means: it changes no file and takes no input, and each status has its
+-- cause
 pub record MeansReport (table : List ℕ) (files : Files) (a : Answer) : Type 0 where
   pub same : a.files ≡ files
   pub untaken : a.taken ≡ 0
   pub says : MeansStatus table files a.status a.text
 
--- at most a step a number; the calls of the store that open the file and two for each piece of a
--- side's codes; and no more bytes asked than the file has
+-- the costs of `report`: at most one step a number; the calls of the store that open the file, and
+-- two for each piece of a side's codes; and no more bytes asked for than the file has
 abbrev pub reporting_costs : Option (List ℕ) → Costs
 reporting_costs held =
     let size = opened_size (opened (table_format Plain) held) in
@@ -86,7 +86,7 @@ reporting_costs held =
       asked = Some (16 + length (held_text held) + 8 * size);
     }
 
--- `report` of the table of this name: its lines are written as they are made
+-- `report` of the table of this name; its lines are written one by one as they are found
 abbrev pub reporting_at : List ℕ → Job
 reporting_at table =
     record (plain (Success ∷ Table ∷ Missing ∷ []) (λ files input a. a ≡ report_at table files)) {

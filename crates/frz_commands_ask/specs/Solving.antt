@@ -21,37 +21,39 @@ use Rattle.frz_prelude.specs.declared.stop.Stop.{Stop}
 use Rattle.frz_prelude.specs.declared.stop.Stop.TheVariants.{Refused, Fault}
 use Rattle.frz_commands_ask.specs.declared.bounds.Bounds.{Bounds}
 
--- the bounds of both sides at the position, in the game of the rules and a book
+-- these are the bounds of both sides at the position, in the game of the rules with these values of
+-- exits
 pub record Solves (r : RuleLines) (value : Board → Value) (p : Board)
     (white black : Bound) : Type 0 where
   pub white_is : IsBoundAt r value White p white
   pub black_is : IsBoundAt r value Black p black
 
--- the bounds at a position of the set, or it is outside, or there was no memory
+-- the result is the bounds at a position of the set, or the refusal of one outside, or memory ran
+-- out
 abbrev pub AreFound : RuleLines → Board → Result Bounds Stop → Type 0
 AreFound r p (Ok bounds) = Member r.groups p × Solves r (value_by r) p bounds.white bounds.black
 AreFound r p (Err (Refused why)) = (Member r.groups p → ⊥) × (why ≡ refusals.Outside)
 AreFound r p (Err (Fault fault)) = fault ≡ NoMemory
 
--- the lines of the bounds of both sides
+-- the answer is the lines of the bounds of both sides
 abbrev pub AreBounds : RuleLines → Board → Files → Answer → Type 0
 AreBounds r p files a =
     (white : Bound) × (black : Bound) × Solves r (value_by r) p white black
     × (a ≡ says Success (bounds_text white black) files)
 
--- at rules that were read: the position is outside their set, or it has its bounds
+-- the answer for rules that were read: the bounds of the position, or that it is outside their set
 abbrev pub IsSolvedBy : RuleLines → Board → Files → Answer → Type 0
 IsSolvedBy r p files a = MatchBool (is_member r.groups p)
     (AreBounds r p files a)
     (a ≡ says Outside (codes "outside\n") files)
 
--- at the text of the rules file: its first fault, or the rules
+-- the answer for the text of the rules file: its first fault, or the answer by its rules
 abbrev pub IsSolvedIn : List ℕ → Board → Files → Answer → Type 0
 IsSolvedIn text p files a = MatchResult (rules_of text)
     (λ r. IsSolvedBy r p files a)
     (λ fault. a ≡ says Rules (rules_line fault) files)
 
--- at a position: the rules file is missing, or it has a text
+-- the answer at a position: the rules file is missing, or it has a text
 abbrev pub IsSolvedAt : Board → List ℕ → Files → Answer → Type 0
 IsSolvedAt p rules files a = MatchOption (files rules)
     (a ≡ says Missing (codes "missing rules\n") files)

@@ -1,4 +1,4 @@
-//! The bounds of both sides at a position, by the solver that goes forwards.
+//! The bounds of both sides at a position, by the solver that goes forward.
 ghost use Rattle.std.specs.Prelude.{◌≡◌, ◌≤◌, IfOk};
 ghost use Rattle.frz_sets.specs.Sound.{IsSound};
 ghost use Rattle.frz_fide.specs.Valid.{IsValid};
@@ -78,7 +78,7 @@ fn bounds_at<L: Ledger>(
     Ok(Bounds { white, black })
 }
 
-/// The bounds of both sides at a position of the rules' set.
+/// The bounds of both sides at a position of the rules' set. A position outside the set is refused.
 pub fn bounds_by<L: Ledger>(
     alloc: Global,
     rules: &Rules,

@@ -1,4 +1,4 @@
-//! The codes that a table keeps at a position, read in place.
+//! The codes that a table file holds at a position, read without loading the table.
 ghost use Rattle.std.specs.Prelude.{◌≡◌, ◌+◌, ◌≤◌};
 ghost use Rattle.frz_fide.specs.Valid.{IsValid};
 ghost use Rattle.frz_index.specs.Members.{Member};
@@ -20,7 +20,8 @@ pub struct KeptCodes {
     pub black: u32,
 }
 
-/// The codes of an open table at the number of the position: two reads.
+/// The codes of an open table at the number of the position, in two reads. A position outside the
+/// set is refused without a read.
 fn codes_in<S: Store>(table: &TableFile, p: &Position, store: &mut S) -> Result<KeptCodes, Stop>
     requires valid { IsValid p.now }
     requires carried { Carries (S.files store.old) table.now }
@@ -40,7 +41,8 @@ fn codes_in<S: Store>(table: &TableFile, p: &Position, store: &mut S) -> Result<
     Ok(KeptCodes { white, black })
 }
 
-/// The codes that the table of this name and this kind keeps at the number of the position.
+/// Opens the table file of this name and kind, and reads the codes of both sides at the position. A
+/// position outside its set is refused.
 pub fn kept_codes_at<S: Store>(
     alloc: Global,
     name: &str,

@@ -1,5 +1,4 @@
-//! The commands that ask the store and leave it as it is: `solve`, `query`, `chainquery`
-//! and `report`.
+//! The commands that read files and change none: `solve`, `query`, `chainquery` and `report`.
 #![tactic(auto)]
 
 mod bounds;

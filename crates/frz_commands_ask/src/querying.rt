@@ -1,5 +1,5 @@
-//! The commands `query TABLE FEN` and `chainquery TABLE FEN`: the bounds that a table keeps for
-//! both sides at a position.
+//! The commands `query TABLE FEN` and `chainquery TABLE FEN`: the bounds of both sides at a
+//! position, by the codes in a table file.
 ghost use Rattle.std.specs.Prelude.{◌≡◌, ℕ, map, false};
 ghost use Rattle.std.specs.String.{string_bytes};
 ghost use Rattle.frz_store.specs.Told.{store_of};
@@ -12,7 +12,8 @@ use frz_store::Store;
 use frz_table::FileKind;
 use std::alloc::Global;
 
-/// Queries a table of this kind, with these words behind the command's name.
+/// Queries a table file of this kind; `words` are the two words behind the command's name, TABLE
+/// FEN.
 pub fn query_kind<S: Store>(
     alloc: Global,
     kind: FileKind,
@@ -30,7 +31,7 @@ pub fn query_kind<S: Store>(
     Ok(Reply::Kept(codes.white, codes.black))
 }
 
-/// Does `query` with these words behind it.
+/// The command `query`, on a plain table; `words` are the two words behind its name, TABLE FEN.
 pub fn query<S: Store>(alloc: Global, words: &[String], store: &mut S) -> Result<Reply, Stop>
     ensures replies { (steps : ℕ) → Replies (query_words (map string_bytes words.now)) result
         (store_of S.Store store.old) (store_of S.Store store.new) steps steps }
@@ -40,7 +41,8 @@ pub fn query<S: Store>(alloc: Global, words: &[String], store: &mut S) -> Result
     query_kind(alloc, FileKind::Plain, words, store)
 }
 
-/// Does `chainquery` with these words behind it.
+/// The command `chainquery`, on a table over a back table; `words` are the two words behind its
+/// name, TABLE FEN. The back table is not read.
 pub fn chainquery<S: Store>(alloc: Global, words: &[String], store: &mut S) -> Result<Reply, Stop>
     ensures replies { (steps : ℕ) → Replies (chainquery_words (map string_bytes words.now)) result
         (store_of S.Store store.old) (store_of S.Store store.new) steps steps }

@@ -1,5 +1,5 @@
-//! The command `report TABLE`: where neither side would like to move, and which exits no line of
-//! the table's rules assigns.
+//! The command `report TABLE`: the mutual zugzwangs of a table, and the exits that no exit line of
+//! its rules values.
 ghost use Rattle.std.specs.Prelude.{◌≡◌, map, false};
 ghost use Rattle.std.specs.String.{string_bytes};
 ghost use Rattle.frz_store.specs.Told.{SourceTold, store_of, sink_of};
@@ -16,7 +16,7 @@ use frz_table::open_table;
 use std::alloc::Global;
 use std::sync::ledger::Ledger;
 
-/// How a report ends the command.
+/// How the command ends after a report.
 fn end_of(written: Result<Totals, ReportFault>) -> End
     ensures { result ≡ end_by written }
 {
@@ -28,7 +28,7 @@ fn end_of(written: Result<Totals, ReportFault>) -> End
     }
 }
 
-/// Reports on the table of this name.
+/// Reports on the table file of this name, or refuses it.
 fn report_named<S: Store, O: Sink, L: Ledger>(
     alloc: Global,
     name: &str,
@@ -46,7 +46,7 @@ fn report_named<S: Store, O: Sink, L: Ledger>(
     }
 }
 
-/// Runs `report` with these words behind it.
+/// Runs the command `report`; `words` is the one word behind its name, TABLE.
 pub fn run_report<S: Store, O: Sink, L: Ledger>(
     alloc: Global,
     words: &[String],

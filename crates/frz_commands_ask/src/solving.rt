@@ -12,7 +12,8 @@ use frz_store::Store;
 use std::alloc::Global;
 use std::sync::ledger::Ledger;
 
-/// Does `solve` with these words behind it.
+/// The command `solve`; `words` are the two words behind its name, RULES FEN. The FEN is read
+/// before the rules file.
 pub fn solve<S: Store, L: Ledger>(
     alloc: Global,
     words: &[String],

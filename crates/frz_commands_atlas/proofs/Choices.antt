@@ -55,7 +55,7 @@ few_choices (first ∷ groups) most (suc i) g h few here is =
           (some_choice first h.0),
     )) (omega arith) is
 
--- nor all of them together
+-- nor do all groups together have more choices than the set has numbers
 pub few_products : (groups : List GroupLine) (most : ℕ) → size_of groups ≤ most
     → product (map radix_of groups) ≤ most
 few_products groups most few =

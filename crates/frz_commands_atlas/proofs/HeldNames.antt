@@ -22,12 +22,13 @@ neither false b h = (refl, h)
 abbrev is_among : List ℕ → List (List ℕ) → Bool
 is_among name names = list_any (λ other. bytes_eq other name) names
 
--- names of which no two are one: the first is not among the others, of which no two are one
+-- where no two names are the same, the first is not among the others, and no two of these are the
+-- same
 pub first_alone : (name : List ℕ) (names : List (List ℕ)) → has_twice (name ∷ names) ≡ false
     → (is_among name names ≡ false) × (has_twice names ≡ false)
 first_alone name names h = neither (is_among name names) (has_twice names) h
 
--- so are the first and those behind the second
+-- where no two names are the same, this stays so without the second name
 pub without_second : (first second : List ℕ) (names : List (List ℕ))
     → has_twice (first ∷ second ∷ names) ≡ false → has_twice (first ∷ names) ≡ false
 without_second first second names h =

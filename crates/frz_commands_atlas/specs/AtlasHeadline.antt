@@ -1,4 +1,4 @@
--- What it says that `check` has ended with status 0.
+-- What it means that `check` has ended with status 0.
 use Rattle.std.specs.Prelude.{◌≡◌, ℕ, List, map, All, Some, Ok}
 use Rattle.frz_board.specs.declared.man.Colour.TheVariants.{White, Black}
 use Rattle.frz_exits.specs.Books.{value_by}
@@ -21,18 +21,18 @@ use Rattle.frz_atlas.specs.Behind.{AreJudged, TableBytes, link_of}
 use Rattle.frz_atlas.specs.FileOver.{IsFileOver}
 use Rattle.frz_atlas.specs.Held.{all_held}
 
--- the BACKs are exact tables, each over those before it where it leans on them, and TABLE one over
--- all of them
+-- the BACKs are exact tables, each over those before it where it leans on them, and TABLE is an
+-- exact table over all of them
 pub record AtlasHeadline (table : List ℕ) (behind : List (List ℕ)) (files : Files) : Type 0 where
-  -- each BACK holds the one file of a text that is accepted, with the tables of both sides
+  -- each BACK holds the one file of an accepted text, with the tables of both sides
   pub tables : List TableBytes
   pub behind_there : map files behind ≡ all_held tables
   pub behind_judged : AreJudged tables
   pub links : List Link
   pub links_are : map link_of tables ≡ links
   pub behind_exact : AreExact links
-  -- TABLE holds a text that is accepted, and behind it the tables of both sides, with the values of
-  -- its exit lines and of the BACKs behind them
+  -- TABLE holds a text that is accepted, and behind the text the tables of both sides. Its exits
+  -- have the values of its exit lines, and of the BACKs where these say nothing
   pub bytes : List ℕ
   pub there : files table ≡ Some bytes
   pub text : List ℕ
@@ -46,14 +46,14 @@ pub record AtlasHeadline (table : List ℕ) (behind : List (List ℕ)) (files : 
   pub white_table : IsTableOf rules (atlas_value rules (backs_of links)) White white
   pub black_table : IsTableOf rules (atlas_value rules (backs_of links)) Black black
   pub one_file : IsFileOver text rules (backs_of links) bytes
-  -- a win forces mate or an assigned win within its plies; where the exits are true it forces mate,
-  -- and with a win or a hold the opponent forces none
+  -- a win forces mate or an exit that is won, within its plies. Where the exits are true it forces
+  -- mate, and with a win or a hold the opponent cannot force mate
   pub white_means : TableMeans rules (atlas_value rules (backs_of links)) White white
   pub black_means : TableMeans rules (atlas_value rules (backs_of links)) Black black
-  -- and the exits are true where the exit lines of all texts are
+  -- the exits of TABLE are true where the exit lines of all texts are true
   pub true_exits : AreTrueExits rules (value_by rules) → AreTrueLines links
       → AreTrueExits rules (atlas_value rules (backs_of links))
-  -- where no line of TABLE forbids a side a move, its codes there say of chess both ways what
+  -- where no line of TABLE forbids a side a move, its codes there are exact in chess as
   -- TableMeansExactly says
   pub white_exact :
       TableIsExactWhereFree rules (atlas_value rules (backs_of links)) White white

@@ -8,7 +8,7 @@ use Rattle.frz_prelude.specs.Refusals.{table_status}
 use Rattle.frz_prelude.specs.TableCauses.{file_line}
 use Rattle.frz_prelude.specs.WrongLines.{wrong_line}
 
--- the place is told from 1
+-- the word for a place; the text counts places from 1, and `place` from 0
 abbrev pub back_word : ℕ → List ℕ
 back_word place = codes "back " ++ decimal (place + 1)
 

@@ -1,5 +1,5 @@
--- What `build RULES TABLE BACK ..` is to do: the table file of the rules over the tables behind it is
--- written under the name TABLE.
+-- What `build RULES TABLE BACK ..` is to do: the table file of the rules over the tables behind it
+-- is written under the name TABLE.
 use Rattle.std.specs.Prelude.{◌≡◌, ℕ, ◌+◌, ◌*◌, List, [], ◌∷◌, map, sum_by, true, false, Option, Some, Result, Ok, Err}
 use Rattle.frz_store.specs.Files.{Files, put}
 use Rattle.frz_answer.specs.declared.status.Status.{Status}
@@ -23,8 +23,9 @@ use Rattle.frz_commands_atlas.specs.BackLines.{back_line, back_status}
 use Rattle.frz_commands_atlas.specs.Names.{build_names_of, has_twice}
 use Rattle.frz_commands_atlas.specs.Tables.{AreTablesIn}
 
--- RULES holds a text that is accepted, the BACKs tables that are exact, each over those before it,
--- and TABLE the one file of the text over them afterwards, and every other name what it held
+-- RULES holds a text that is accepted, and the BACKs hold tables that are exact, each over those
+-- before it. Afterwards TABLE holds the one file of the text over them, and every other name what
+-- it held
 pub record MakesAtlas (rules table : List ℕ) (behind : List (List ℕ)) (files : Files)
     (a : Answer) : Type 0 where
   pub text : List ℕ
@@ -37,14 +38,14 @@ pub record MakesAtlas (rules table : List ℕ) (behind : List (List ℕ)) (files
   pub one_file : IsFileOver text lines (backs_in tables) bytes
   pub told : a ≡ says statuses.Success (built_line (size_of lines.groups)) (put files table bytes)
 
--- RULES names no rules, and the line says why
+-- the file named RULES holds no accepted rules, and the line says why
 pub record RefusesRules (rules : List ℕ) (files : Files) (a : Answer) : Type 0 where
   pub why : Refused
   pub refused : rules_held (files rules) ≡ Err why
   pub told : a ≡ says (status_of why) (refusal_line why) files
 
--- RULES holds a text that is accepted. The BACK at this place, which the line tells from 1, is
--- refused, and all before it are exact
+-- RULES holds a text that is accepted. The BACK at this place is refused, and all before it are
+-- exact; the line counts places from 1
 pub record RefusesBack (rules : List ℕ) (behind : List (List ℕ)) (files : Files)
     (a : Answer) : Type 0 where
   pub lines : RuleLines
@@ -54,14 +55,14 @@ pub record RefusesBack (rules : List ℕ) (behind : List (List ℕ)) (files : Fi
   pub refused : IsRefusedAt [] (map files behind) place fault
   pub told : a ≡ says (back_status fault) (back_line place fault) files
 
--- RULES or one of the BACKs is refused, in this order, or the table is made
+-- RULES or one of the BACKs is refused, the first in this order, or the table is made
 pub data IsBuiltAt (rules table : List ℕ) (behind : List (List ℕ)) (files : Files)
     (a : Answer) : Type 0 where
   no_rules : RefusesRules rules files a → IsBuiltAt rules table behind files a
   no_back : RefusesBack rules behind files a → IsBuiltAt rules table behind files a
   made : MakesAtlas rules table behind files a → IsBuiltAt rules table behind files a
 
--- what is refused, by its status
+-- the file named RULES is refused, or one of the BACKs
 pub data Refuses (rules : List ℕ) (behind : List (List ℕ)) (files : Files) (a : Answer) : Type 0 where
   of_rules : RefusesRules rules files a → Refuses rules behind files a
   of_back : RefusesBack rules behind files a → Refuses rules behind files a
@@ -77,7 +78,7 @@ pub record MeansBuild (rules table : List ℕ) (behind : List (List ℕ)) (files
   pub untaken : a.taken ≡ 0
   pub says : MeansByStatus rules table behind files a a.status
 
--- so many where there are rules, and else none
+-- `count` where the rules are accepted, and else 0
 abbrev pub if_rules : Result RuleLines Refused → ℕ → ℕ
 if_rules (Ok lines) count = count
 if_rules (Err why) count = 0
@@ -86,8 +87,8 @@ abbrev pub size_by : Result RuleLines Refused → ℕ
 size_by (Ok lines) = size_of lines.groups
 size_by (Err why) = 0
 
--- what reading the rules file costs and, where it is accepted, what checking each of the tables
--- behind costs, four steps a number, and the calls that write the table
+-- the costs of `build`: reading the rules file and, where it is accepted, checking each of the
+-- tables behind, four steps a number, and the calls that write the table
 abbrev pub build_costs : (held : Option (List ℕ)) → List (Option (List ℕ)) → Costs
 build_costs held behind =
     let read = rules_held held in
@@ -98,7 +99,7 @@ build_costs held behind =
       asked = Some (asked_of held + if_rules read (sum_by bytes_of behind));
     }
 
--- `build` by names of which no two are one
+-- `build` with names no two of which are the same
 abbrev pub building_at : List ℕ → List ℕ → List (List ℕ) → Job
 building_at rules table behind = record (plain
     (statuses.Success ∷ statuses.Rules ∷ statuses.Table ∷ statuses.Wrong ∷ statuses.Missing ∷ [])

@@ -34,7 +34,7 @@ pub record TellsWrongOver (table : List ℕ) (behind : List (List ℕ)) (files :
   pub first : IsJudgedAtlas (files table) (map files behind) (WrongVerdict wrong)
   pub told : text ≡ wrong_line wrong
 
--- an entry of TABLE is wrong, or TABLE or a BACK is refused
+-- TABLE is refused, or one of the BACKs
 pub data TellsFault (table : List ℕ) (behind : List (List ℕ)) (files : Files)
     (a : Answer) : Type 0 where
   of_table : RefusesTable table files a → TellsFault table behind files a
@@ -53,8 +53,8 @@ MeansStatus table behind files a statuses.Table = TellsFault table behind files 
 MeansStatus table behind files a statuses.Missing = TellsFault table behind files a
 MeansStatus table behind files a status = ⊥
 
--- the BACKs hold tables that are exact, each over those before it, and TABLE the one file of a text
--- that is accepted over all of them
+-- the BACKs hold tables that are exact, each over those before it, and TABLE holds the one file of
+-- an accepted text over all of them
 pub record HoldsAtlas (table : List ℕ) (behind : List (List ℕ)) (files : Files) : Type 0 where
   pub tables : List TableBytes
   pub behind_it : AreTablesIn (map files behind) tables
@@ -65,8 +65,8 @@ pub record HoldsAtlas (table : List ℕ) (behind : List (List ℕ)) (files : Fil
   pub accepted : rules_of text ≡ Ok rules
   pub one_file : IsFileOver text rules (backs_in tables) bytes
 
--- what an answer of `check` means: it changes no file and takes no input, each status has its cause,
--- and the one file of a text over exact tables is found exact
+-- what an answer of `check` means: it changes no file and takes no input, each status has its
+-- cause, and the one file of a text over exact tables is found exact
 pub record MeansCheck (table : List ℕ) (behind : List (List ℕ)) (files : Files)
     (a : Answer) : Type 0 where
   pub same : a.files ≡ files
@@ -74,7 +74,7 @@ pub record MeansCheck (table : List ℕ) (behind : List (List ℕ)) (files : Fil
   pub says : MeansStatus table behind files a a.status
   pub accepts : HoldsAtlas table behind files → a.status ≡ statuses.Success
 
--- `check` of names of which no two are one
+-- `check` with names no two of which are the same
 abbrev pub checking_at : List ℕ → List (List ℕ) → Job
 checking_at table behind = record (plain
     (statuses.Success ∷ statuses.Wrong ∷ statuses.Table ∷ statuses.Missing ∷ [])

@@ -1,5 +1,5 @@
--- What `check TABLE BACK ..` answers: the sizes of tables that are exact over each other, or the first
--- entry that is wrong. No file changes.
+-- What `check TABLE BACK ..` answers: the sizes of tables that are exact over each other, or the
+-- first entry that is wrong. No file changes.
 use Rattle.std.specs.Prelude.{◌≡◌, ℕ, ◌+◌, ◌*◌, List, [], ◌∷◌, ◌++◌, length, map, sum_by, Option, Some, Ok, Err, codes, decimal}
 use Rattle.frz_sets.specs.Sets.{size_of}
 use Rattle.frz_store.specs.Files.{Files}
@@ -27,16 +27,17 @@ use Rattle.frz_prelude.specs.WrongLines.{wrong_line}
 use Rattle.frz_commands_atlas.specs.BackLines.{back_line, back_status}
 use Rattle.frz_commands_atlas.specs.Tables.{AreTablesIn}
 
--- sizes behind one another, and the end of the line
+-- the sizes one after another, and the end of the line
 abbrev pub sizes_text : List ℕ → List ℕ
 sizes_text [] = codes "\n"
 sizes_text (size ∷ sizes) = (codes " " ++ decimal size) ++ sizes_text sizes
 
--- a table of so many numbers is exact over tables of so many
+-- the line for a table of `size` numbers that is exact over tables of `sizes` numbers
 abbrev pub exact_over_line : ℕ → List ℕ → List ℕ
 exact_over_line size sizes = (codes "exact " ++ decimal size) ++ codes " over" ++ sizes_text sizes
 
--- how the verdict on a table of so many numbers over tables of so many is told
+-- the status and the line that tell the verdict on a table of `size` numbers over tables of `sizes`
+-- numbers
 abbrev pub verdict_status : Verdict → Status
 verdict_status verdict.Exact = statuses.Success
 verdict_status (verdict.Wrong wrong) = statuses.Wrong
@@ -64,8 +65,8 @@ pub record RefusesTable (table : List ℕ) (files : Files) (a : Answer) : Type 0
   pub refused : opened (table_format Atlas) (files table) ≡ Err fault
   pub told : a ≡ says (table_status fault) (table_line fault) files
 
--- TABLE opens. The BACK at this place, which the line tells from 1, is refused, and all before it are
--- exact
+-- TABLE opens. The BACK at this place is refused, and all before it are exact; the line counts
+-- places from 1
 pub record RefusesBehind (table : List ℕ) (behind : List (List ℕ)) (files : Files)
     (a : Answer) : Type 0 where
   pub opens : OpensAtlas (files table)
@@ -74,7 +75,7 @@ pub record RefusesBehind (table : List ℕ) (behind : List (List ℕ)) (files : 
   pub refused : IsRefusedAt [] (map files behind) place fault
   pub told : a ≡ says (back_status fault) (back_line place fault) files
 
--- TABLE or one of the BACKs is refused, in this order, or the verdict is told
+-- TABLE or one of the BACKs is refused, the first in this order, or the verdict is told
 pub data IsCheckedAt (table : List ℕ) (behind : List (List ℕ)) (files : Files)
     (a : Answer) : Type 0 where
   no_table : RefusesTable table files a → IsCheckedAt table behind files a
@@ -84,8 +85,8 @@ pub data IsCheckedAt (table : List ℕ) (behind : List (List ℕ)) (files : File
       (verdict_line (size_of h.contents.rules.groups) (sizes_in h.tables) v) files
       → IsCheckedAt table behind files a
 
--- no more than checking the table and each of those behind it costs: what a refusal shuts off is
--- not spent
+-- the costs of `check`: no more than checking the table and each of those behind it; what a refusal
+-- makes needless is not spent
 abbrev pub check_costs : Option (List ℕ) → List (Option (List ℕ)) → Costs
 check_costs held behind = record {
   steps = Some (own_size held + sum_by steps_of behind);

@@ -1,4 +1,4 @@
--- How a command ends at what is wrong with a table over several others.
+-- How a command ends at a fault of the rules, of a table or of one of the tables behind it.
 use Rattle.std.specs.Prelude.{◌≡◌, ◌<◌, ⊤}
 use Rattle.frz_store.specs.Told.{SinkTold}
 use Rattle.frz_answer.specs.declared.end.End.{End}
@@ -12,12 +12,12 @@ use Rattle.frz_prelude.specs.declared.refused.Refused.TheVariants as refusals
 use Rattle.frz_commands_atlas.specs.declared.names.TheConstants.{MOST_BACKS}
 use Rattle.frz_commands_atlas.specs.BackLines.{back_line, back_status}
 
--- no more tables stand behind than a command takes
+-- the place of a refused table is below the most tables that a command takes
 abbrev pub HasSmallPlace : AtlasFault → Type 0
 HasSmallPlace (Back place fault) = place < MOST_BACKS
 HasSmallPlace fault = ⊤
 
--- a refusal is said in its line
+-- a refusal is told in its line; at a fault of the store or of memory nothing is written here
 abbrev pub EndsAt : AtlasFault → End → SinkTold → SinkTold → Type 0
 EndsAt (Rules fault) end old new =
     Said (status_of (refusals.Rules fault)) (refusal_line (refusals.Rules fault)) end old new

@@ -5,18 +5,18 @@ use Rattle.std.specs.Option.{option_map}
 use Rattle.std.specs.Str.{bytes_eq}
 use Rattle.frz_commands_atlas.specs.declared.names.TheConstants.{MOST_BACKS}
 
--- TABLE and the BACKs, of which there are 1 to 16
+-- TABLE and the BACKs, of which there are 1 to 16; any other number of words is refused
 abbrev pub table_names_of : List (List ℕ) → Option (List ℕ × List (List ℕ))
 table_names_of (table ∷ back ∷ backs) =
     if nat_lt MOST_BACKS (length (back ∷ backs)) then None else Some (table, back ∷ backs)
 table_names_of _ = None
 
--- RULES before them
+-- RULES, and then TABLE and the BACKs
 abbrev pub build_names_of : List (List ℕ) → Option (List ℕ × (List ℕ × List (List ℕ)))
 build_names_of [] = None
 build_names_of (rules ∷ words) = option_map (λ names. (rules, names)) (table_names_of words)
 
--- a name stands twice among these
+-- some name stands twice among these
 abbrev pub has_twice : List (List ℕ) → Bool
 has_twice [] = false
 has_twice (name ∷ names) = list_any (λ other. bytes_eq other name) names || has_twice names

@@ -21,43 +21,44 @@ use Rattle.frz_prelude.specs.Refusals.{refusal_line, status_of}
 use Rattle.frz_prelude.specs.RulesFiles.{asked_of, reads_of, rules_held}
 use Rattle.frz_prelude.specs.declared.refused.Refused.{Refused}
 
--- a number behind its word, on a line of its own
+-- a word and a number, on a line of their own
 abbrev pub counted_line : List ℕ → ℕ → List ℕ
 counted_line word count = word ++ decimal count ++ codes "\n"
 
--- the turn states: White, Black, and one for each possible target of a capture en passant
+-- how many turn states there are: White to move, Black to move, and one for each possible target
+-- square of a capture en passant
 abbrev pub turns_line : List GroupLine → List ℕ
 turns_line groups = counted_line (codes "turns ") (2 + length (targets groups))
 
--- how many choices of men and squares the group with this number has
+-- how many choices of men and squares the group with this number allows
 abbrev pub group_line : ℕ → ℕ → List ℕ
 group_line number choices =
     (codes "group " ++ decimal number) ++ counted_line (codes " ") choices
 
--- a line for each group, of which the first has this number
+-- a line for each group; `number` is that of the first
 abbrev pub group_lines_from : ℕ → List GroupLine → List ℕ
 group_lines_from number [] = []
 group_lines_from number (g ∷ groups) =
     group_line number (radix_of g) ++ group_lines_from (number + 1) groups
 
--- how many bytes the lists take that a build makes for both sides of a set of so many numbers
+-- how many bytes the lists take that a build makes for both sides, for a set of this many numbers
 abbrev pub most_memory : ℕ → ℕ
 most_memory numbers = 16 * numbers
 
--- how many numbers there are, and how many bytes they take on the disk, in a table of this text, and
--- of memory
+-- how many numbers there are, how many bytes the table file of this text takes, and how many bytes
+-- of memory a build takes for them
 abbrev pub totals_text : List ℕ → ℕ → List ℕ
 totals_text text numbers =
     counted_line (codes "numbers ") numbers
     ++ (counted_line (codes "disk ") (due_length text numbers)
     ++ counted_line (codes "memory ") (most_memory numbers))
 
--- what the set of these groups costs, with this text
+-- all lines of `size`, for these groups and this text
 abbrev pub size_text : List ℕ → List GroupLine → List ℕ
 size_text text groups =
     turns_line groups ++ (group_lines_from 1 groups ++ totals_text text (size_of groups))
 
--- by the rules that a name gives with its text, or why it gives none
+-- the answer by the rules and the text that a name gives, or the line that says why it gives none
 abbrev pub size_by : Result RuleLines Refused → List ℕ → Files → Answer
 size_by (Ok rules) text files = says statuses.Success (size_text text rules.groups) files
 size_by (Err why) text files = says (status_of why) (refusal_line why) files
@@ -65,8 +66,9 @@ size_by (Err why) text files = says (status_of why) (refusal_line why) files
 abbrev pub size_at : List ℕ → Files → Answer
 size_at rules files = size_by (rules_held (files rules)) (bytes_at files rules) files
 
--- the rules file is there and accepted, and the text tells what its set costs, which is not larger
--- than is allowed; of the text each table has so many bytes, by whatever values its exits have
+-- the rules file is there and accepted, and the text tells what its set takes, which is not larger
+-- than is allowed. Each table of this text has the told number of bytes, whatever values its exits
+-- have
 pub record TellsSize (rules : List ℕ) (files : Files) (text : List ℕ) : Type 0 where
   pub source : List ℕ
   pub there : files rules ≡ Some source
@@ -78,7 +80,7 @@ pub record TellsSize (rules : List ℕ) (files : Files) (text : List ℕ) : Type
       → IsOneFile (magic_of kind) source lines value bytes
       → length bytes ≡ due_length source (size_of lines.groups)
 
--- the rules file is there, and the text names the first fault of its text
+-- the rules file is there, and the text names the first fault in it
 pub record TellsFault (rules : List ℕ) (files : Files) (text : List ℕ) : Type 0 where
   pub source : List ℕ
   pub there : files rules ≡ Some source
@@ -100,8 +102,8 @@ pub record MeansSize (rules : List ℕ) (files : Files) (a : Answer) : Type 0 wh
   pub untaken : a.taken ≡ 0
   pub says : MeansStatus rules files a.status a.text
 
--- `size` of the rules file of this name: one `size` and one `read` of it, which is not read where it
--- is missing or too long
+-- `size` of the rules file of this name. It costs one `size` and one `read` of it, which is not
+-- read where it is missing or too long
 abbrev pub sizing_at : List ℕ → Job
 sizing_at rules =
     record (plain (statuses.Success ∷ statuses.Rules ∷ statuses.Missing ∷ [])

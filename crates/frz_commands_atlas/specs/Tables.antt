@@ -6,14 +6,15 @@ use Rattle.frz_chain.specs.FileOn.{back_of}
 use Rattle.frz_atlas.specs.Behind.{IsJudgedOver, TableBytes}
 use Rattle.frz_atlas.specs.Held.{all_held}
 
--- each table is exact over those before it, whatever its file holds beside bytes
+-- each table is exact over those before it; that its file holds only bytes (numbers below 256) is
+-- not asked here
 unfoldable pub AreExactOver : List Back → List TableBytes → Type 0
 AreExactOver before [] = ⊤
 AreExactOver before (table ∷ more) =
     IsJudgedOver before table Exact
     × AreExactOver (before ++ (back_of table.contents table.bytes ∷ [])) more
 
--- these are what is held, and the first leans on none
+-- these tables are what is held, each exact over those before it; the first has none before it
 pub record AreTablesIn (helds : List (Option (List ℕ))) (tables : List TableBytes) : Type 0 where
   pub there : helds ≡ all_held tables
   pub exact : AreExactOver [] tables

@@ -1,4 +1,4 @@
-//! The line that refuses a table behind another, which is named by its place.
+//! The line that refuses one of the tables behind another; it names the table by its place.
 ghost use Rattle.std.specs.Prelude.{◌≡◌, ◌<◌, ◌++◌, codes, decimal};
 ghost use Rattle.frz_store.specs.Told.{sink_of};
 ghost use Rattle.frz_table.specs.declared.fault.TableFault.TheVariants.{Magic, Missing, Rules};
@@ -17,7 +17,7 @@ use frz_rules::RulesFault;
 use frz_store::{Failed, Sink};
 use frz_table::TableFault;
 
-/// Writes which table it is, counted from 1.
+/// Writes which table it is: `back` and its place, counted from 1.
 fn write_word<O: Sink>(place: usize, out: &mut O) -> Result<(), Failed>
     requires { place < MOST_BACKS }
     ensures { WroteText (back_word place) result (sink_of O.Sink out.old) (sink_of O.Sink out.new) }
@@ -44,7 +44,7 @@ fn write_magic<O: Sink>(place: usize, out: &mut O) -> Result<(), Failed>
     write_piece(b": magic\n", out)
 }
 
-/// Writes what is wrong with the file, the number that is there, and the one that is due.
+/// Writes what is wrong with the file, the number that is there, and the number that is due.
 fn write_numbers<O: Sink>(
     place: usize,
     what: &[u8],
@@ -104,7 +104,7 @@ fn write_file_fault<O: Sink>(place: usize, fault: TableFault, out: &mut O) -> Re
     }
 }
 
-/// Writes the line of an entry of the table at this place that is wrong.
+/// Writes the line that tells a wrong entry of the table at this place.
 fn write_wrong_entry<O: Sink>(place: usize, wrong: Wrong, out: &mut O) -> Result<(), Failed>
     requires { place < MOST_BACKS }
     ensures { WroteText (back_line place (WrongEntry wrong)) result
@@ -115,7 +115,7 @@ fn write_wrong_entry<O: Sink>(place: usize, wrong: Wrong, out: &mut O) -> Result
     write_wrong(wrong, out)
 }
 
-/// Writes the line that names the table at this place, and what is wrong with it.
+/// Writes the line that refuses the table at this place; places are counted from 0.
 pub fn write_back<O: Sink>(place: usize, fault: BackFault, out: &mut O) -> Result<(), Failed>
     requires { place < MOST_BACKS }
     ensures { WroteText (back_line place fault) result

@@ -1,5 +1,5 @@
-//! The command `build RULES TABLE BACK ..`: writes the table file of a rules text over the tables of
-//! the names behind it.
+//! The command `build RULES TABLE BACK ..`: writes the table file of a rules text over the tables
+//! of the names BACK.
 ghost use Rattle.std.specs.Prelude.{◌≡◌, ◌≤◌, ◌∷◌, length, map, false};
 ghost use Rattle.std.specs.String.{string_bytes};
 ghost use Rattle.frz_store.specs.Told.{SourceTold, store_of, sink_of};
@@ -19,7 +19,7 @@ use frz_store::{Sink, Store};
 use std::alloc::Global;
 use std::sync::ledger::Ledger;
 
-/// Builds by these names, of which no two are one.
+/// Reads, checks and builds by these names, no two of which are the same.
 fn build_named<S: Store, O: Sink, L: Ledger>(
     alloc: Global,
     rules: &str,
@@ -46,7 +46,8 @@ fn build_named<S: Store, O: Sink, L: Ledger>(
     }
 }
 
-/// Runs `build` with these words behind it.
+/// Runs the command `build`; `words` are the words behind its name, RULES TABLE and 1 to 16 BACKs.
+/// Refuses a name that stands twice, before it reads a file.
 pub fn run_build<S: Store, O: Sink, L: Ledger>(
     alloc: Global,
     words: &[String],

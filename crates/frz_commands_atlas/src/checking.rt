@@ -1,5 +1,5 @@
-//! The command `check TABLE BACK ..`: whether a table is exact over those of the names behind it, and
-//! each of those over the ones before it.
+//! The command `check TABLE BACK ..`: whether a table is exact over the tables of the names BACK,
+//! and each of those over the ones before it.
 ghost use Rattle.std.specs.Prelude.{◌≡◌, ◌≤◌, ◌∷◌, length, map, false};
 ghost use Rattle.std.specs.String.{string_bytes};
 ghost use Rattle.frz_store.specs.Told.{SourceTold, store_of, sink_of};
@@ -19,7 +19,7 @@ use frz_store::{Sink, Store};
 use std::alloc::Global;
 use std::sync::ledger::Ledger;
 
-/// Checks the table of the first name over those of the others, of which no two are one.
+/// Checks the table over the tables behind it, by names no two of which are the same.
 fn check_named<S: Store, O: Sink, L: Ledger>(
     alloc: Global,
     table: &str,
@@ -44,7 +44,8 @@ fn check_named<S: Store, O: Sink, L: Ledger>(
     }
 }
 
-/// Runs `check` with these words behind it.
+/// Runs the command `check`; `words` are the words behind its name, TABLE and 1 to 16 BACKs.
+/// Refuses a name that stands twice, before it reads a file.
 pub fn run_check<S: Store, O: Sink, L: Ledger>(
     alloc: Global,
     words: &[String],

@@ -1,4 +1,4 @@
-//! How a command ends at what is wrong with a table over several others.
+//! How a command ends at a fault of the rules, of a table or of one of the tables behind it.
 ghost use Rattle.std.specs.Prelude.{◌≡◌};
 ghost use Rattle.frz_store.specs.Told.{sink_of};
 ghost use Rattle.frz_commands_atlas.specs.BackLines.{back_status as status_of_back};
@@ -21,7 +21,7 @@ fn back_status(fault: BackFault) -> Status
     }
 }
 
-/// Ends the command: a refusal is said in its line.
+/// Ends the command: writes the line of a refusal; a fault of the store or of memory stops it.
 pub fn end_at<O: Sink>(fault: AtlasFault, out: &mut O) -> End
     requires { HasSmallPlace fault }
     ensures { EndsAt fault result (sink_of O.Sink out.old) (sink_of O.Sink out.new) }

@@ -7,10 +7,10 @@ ghost use Rattle.std.specs.String.{string_bytes};
 ghost use Rattle.frz_commands_atlas.specs.Names as names;
 ghost use Rattle.frz_commands_atlas.specs.Names.{table_names_of, build_names_of};
 
-/// The most tables that a table is built or checked over.
+/// The most tables that may stand behind a table.
 pub const MOST_BACKS: usize = 16;
 
-/// A table's name, and the names of the tables behind it: at least one.
+/// The table's name, and the 1 to 16 names of the tables behind it; `None` for any other number.
 pub fn table_names(words: &[String]) -> Option<(&str, &[String])>
     ensures { option_map (λ all. (all.0.now, map string_bytes all.1.now)) result
         ≡ table_names_of (map string_bytes words.now) }
@@ -23,7 +23,8 @@ pub fn table_names(words: &[String]) -> Option<(&str, &[String])>
     }
 }
 
-/// The name of a rules file before them.
+/// The rules file's name, the table's name, and the 1 to 16 names of the tables behind it; `None`
+/// for any other number.
 pub fn build_names(words: &[String]) -> Option<(&str, &str, &[String])>
     ensures { option_map (λ all. (all.0.now, (all.1.now, map string_bytes all.2.now))) result
         ≡ build_names_of (map string_bytes words.now) }

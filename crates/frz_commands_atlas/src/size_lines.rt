@@ -1,4 +1,4 @@
-//! The lines that tell what the set of a rules text costs.
+//! The lines that tell how large the set of a rules text is, and what its table takes.
 ghost use Rattle.std.specs.Prelude.{◌≡◌, ◌≤◌, length, map};
 ghost use Rattle.frz_combinations.specs.MixedRadix.{product};
 ghost use Rattle.frz_sets.specs.Sets.{radix_of};
@@ -13,7 +13,8 @@ use frz_answer::{write_numbered, write_numbered_line};
 use frz_sets::{Group, Rules, radix, set_size, target_count};
 use frz_store::{Failed, Sink};
 
-/// Writes how many turn states there are: White, Black, and each target of a capture en passant.
+/// Writes how many turn states there are: White to move, Black to move, and one for each target
+/// square of a capture en passant.
 fn write_turns<O: Sink>(groups: &[Group], out: &mut O) -> Result<(), Failed>
     ensures { WroteText (turns_line groups.now) result
         (sink_of O.Sink out.old) (sink_of O.Sink out.new) }
@@ -21,7 +22,7 @@ fn write_turns<O: Sink>(groups: &[Group], out: &mut O) -> Result<(), Failed>
     write_numbered_line(b"turns ", 2 + target_count(groups) as u64, out)
 }
 
-/// Writes how many choices of men and squares the group with this number has.
+/// Writes how many choices of men and squares the group with this number allows.
 fn write_group<O: Sink>(number: u64, choices: u64, out: &mut O) -> Result<(), Failed>
     ensures { WroteText (group_line number choices) result
         (sink_of O.Sink out.old) (sink_of O.Sink out.new) }
@@ -30,7 +31,7 @@ fn write_group<O: Sink>(number: u64, choices: u64, out: &mut O) -> Result<(), Fa
     write_numbered_line(b" ", choices, out)
 }
 
-/// Writes a line for each group, numbered from 1.
+/// Writes a line for each group; groups are numbered from 1.
 fn write_groups<O: Sink>(groups: &[Group], out: &mut O) -> Result<(), Failed>
     requires counted { AreCounted groups.now }
     requires few { product (map radix_of groups.now) ≤ MOST_NUMBERS }
@@ -43,8 +44,8 @@ fn write_groups<O: Sink>(groups: &[Group], out: &mut O) -> Result<(), Failed>
     Ok(())
 }
 
-/// Writes how many numbers there are, and how many bytes of disk and of memory they take with this
-/// text.
+/// Writes how many numbers the set has, how many bytes its table file takes with this text, and how
+/// many bytes of memory the lists of a build take.
 fn write_totals<O: Sink>(text: &[u8], numbers: u64, out: &mut O) -> Result<(), Failed>
     requires short { length text.now ≤ LONGEST_TEXT }
     requires few { numbers ≤ MOST_NUMBERS }
@@ -56,7 +57,7 @@ fn write_totals<O: Sink>(text: &[u8], numbers: u64, out: &mut O) -> Result<(), F
     write_numbered_line(b"memory ", 16 * numbers, out)
 }
 
-/// Writes what the set of the rules of this text costs.
+/// Writes how large the set of the rules of this text is, and what its table takes.
 pub fn write_size<O: Sink>(text: &[u8], rules: &Rules, out: &mut O) -> Result<(), Failed>
     requires sound { IsSound rules.now }
     requires short { length text.now ≤ LONGEST_TEXT }

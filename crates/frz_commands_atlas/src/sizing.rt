@@ -1,4 +1,4 @@
-//! The command `size RULES`: what the set of a rules text costs, and which group makes it large.
+//! The command `size RULES`: how large the set of a rules text is, and which group makes it large.
 ghost use Rattle.std.specs.Prelude.{◌≡◌, ℕ, map, false};
 ghost use Rattle.std.specs.String.{string_bytes};
 ghost use Rattle.frz_store.specs.Told.{SourceTold, store_of, sink_of};
@@ -12,7 +12,7 @@ use frz_prelude::read_rules_text;
 use frz_store::{Sink, Store};
 use std::alloc::Global;
 
-/// Says what the set of the rules file of this name costs.
+/// Tells the size of the set of the rules file of this name, or refuses the file.
 fn size_named<S: Store, O: Sink>(alloc: Global, name: &str, store: &mut S, out: &mut O) -> End
     ensures { (input : SourceTold) (steps : ℕ) → Ran (sizing_at name.now) result
         (world (store_of S.Store store.old) input (sink_of O.Sink out.old) steps)
@@ -24,7 +24,7 @@ fn size_named<S: Store, O: Sink>(alloc: Global, name: &str, store: &mut S, out: 
     }
 }
 
-/// Runs `size` with these words behind it.
+/// Runs the command `size`; `words` is the one word behind its name, RULES.
 pub fn run_size<S: Store, O: Sink>(
     alloc: Global,
     words: &[String],

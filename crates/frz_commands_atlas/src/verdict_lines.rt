@@ -1,4 +1,4 @@
-//! How the verdict on a table over several others is told.
+//! The line and the status of the verdict on a table over several others.
 ghost use Rattle.std.specs.Prelude.{◌≡◌};
 ghost use Rattle.frz_store.specs.Told.{sink_of};
 ghost use Rattle.frz_answer.specs.Texts.{WroteText};
@@ -9,7 +9,7 @@ use frz_check::Verdict;
 use frz_prelude::write_wrong;
 use frz_store::{Failed, Sink};
 
-/// Writes the sizes behind one another, and ends the line.
+/// Writes the sizes one after another, and ends the line.
 fn write_sizes<O: Sink>(sizes: &[u32], out: &mut O) -> Result<(), Failed>
     ensures { WroteText (sizes_text sizes.now) result
         (sink_of O.Sink out.old) (sink_of O.Sink out.new) }
@@ -23,7 +23,7 @@ fn write_sizes<O: Sink>(sizes: &[u32], out: &mut O) -> Result<(), Failed>
     }
 }
 
-/// Writes that a table of so many numbers is exact over tables of so many.
+/// Writes that a table of `size` numbers is exact over tables of `sizes` numbers.
 fn write_exact_over<O: Sink>(size: u32, sizes: &[u32], out: &mut O) -> Result<(), Failed>
     ensures { WroteText (exact_over_line size sizes.now) result
         (sink_of O.Sink out.old) (sink_of O.Sink out.new) }
@@ -33,7 +33,7 @@ fn write_exact_over<O: Sink>(size: u32, sizes: &[u32], out: &mut O) -> Result<()
     write_sizes(sizes, out)
 }
 
-/// Writes the verdict on a table of so many numbers over tables of so many.
+/// Writes the verdict on a table of `size` numbers over tables of `sizes` numbers.
 pub fn write_verdict<O: Sink>(
     verdict: Verdict,
     size: u32,

@@ -1,4 +1,4 @@
--- What `chain` answers where it was read by what.
+-- What `chain` answers, by what was read under the names RULES and BACK.
 use Rattle.std.proofs.Common.{◌≡◌, refl, sym, ap, subst, ◌∙◌, ℕ, ◌+◌, ◌*◌, ◌≤◌, true, List, Result, Ok, arith}
 use Rattle.frz_store.specs.Files.{Files}
 use Rattle.frz_sets.specs.Sets.{size_of}

@@ -1,4 +1,4 @@
--- That a rules text that is accepted is no table file.
+-- That an accepted rules text is not a table file.
 use Rattle.std.proofs.Common.{◌≡◌, refl, sym, ap, ◌∙◌, ℕ, List, [], ◌∷◌, Bool, true, false, Some, Result, Ok, Err, length, take, ◌<◌, ◌≤◌, lt-ltb, le-ltb, cond, if◌then◌else◌}
 use Rattle.std.proofs.lemmas.Slice.Eq.{bytes_eq-Decides}
 use Rattle.std.specs.Prelude.{codes, nat_lt}
@@ -17,13 +17,13 @@ use Rattle.frz_table.specs.declared.fault.TableFault.TheVariants.{Magic, Truncat
 use Rattle.frz_table.specs.declared.kind.FileKind.TheVariants.{Plain}
 use Rattle.frz_table.specs.Opening.{Contents, opened, table_format, with_length, with_magic}
 
--- the first part of a text that begins with an F, which is no separator, begins with it
+-- where a text begins with an F (byte 70), which is no separator, its first part begins with that F
 first_part : (parts : List (List ℕ)) → (part : List ℕ) × (others : List (List ℕ))
     × (with_first 70 parts ≡ (70 ∷ part) ∷ others)
 first_part [] = ([], [], refl)
 first_part (part ∷ others) = (part, others, refl)
 
--- and so does its first line
+-- where a text begins with an F, its first line begins with that F
 first_line : (text : List ℕ) → (line : List ℕ) × (others : List (List ℕ))
     × (lines (70 ∷ text) ≡ (70 ∷ line) ∷ others)
 first_line text =
@@ -36,7 +36,7 @@ first_line text =
     kept line [] = ([], refl)
     kept line (next ∷ others) = (without_empty_end (next ∷ others), refl)
 
--- and the first word of that
+-- where a line begins with an F, its first word begins with that F
 first_word : (line : List ℕ) → (word : List ℕ) × (others : List (List ℕ))
     × (words (70 ∷ line) ≡ (70 ∷ word) ∷ others)
 unfolding words
@@ -44,13 +44,13 @@ first_word line =
     let first = first_part (split is_blank line) in
     (first.0, filter has_bytes first.1, ap (filter has_bytes) first.2)
 
--- which no header begins with
+-- a line whose first word begins with an F is no header
 no_header : (word : List ℕ) (others : List (List ℕ)) → is_header ((70 ∷ word) ∷ others) ≡ false
 no_header word [] = refl
 no_header word (next ∷ []) = refl
 no_header word (next ∷ after ∷ others) = refl
 
--- so it is refused
+-- so a text with such a first line is refused
 by_word : (line word : List ℕ) (others : List (List ℕ)) (after : List (ℕ × List ℕ))
     → words (70 ∷ line) ≡ (70 ∷ word) ∷ others
     → (fault : RulesFault) × (after_header (significant ((1, 70 ∷ line) ∷ after)) ≡ Err fault)

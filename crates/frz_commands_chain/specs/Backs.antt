@@ -6,7 +6,7 @@ use Rattle.frz_chain.specs.Backs.{IsBackJudged}
 use Rattle.frz_chain.specs.Books.{Back}
 use Rattle.frz_chain.specs.FileOn.{back_of}
 
--- the file is a plain table that is exact, and this is the back table in it
+-- what is held is a plain table that is exact, and this is the back table in it
 pub record IsBackIn (held : Option (List ℕ)) (back : Back) : Type 0 where
   pub bytes : List ℕ
   pub there : held ≡ Some bytes

@@ -1,4 +1,4 @@
--- What it says that `chaincheck` has ended with status 0.
+-- What it means that `chaincheck` has ended with status 0.
 use Rattle.std.specs.Prelude.{◌≡◌, ℕ, List, Some, Ok}
 use Rattle.frz_board.specs.declared.man.Colour.TheVariants.{White, Black}
 use Rattle.frz_exits.specs.Books.{value_by}
@@ -19,9 +19,9 @@ use Rattle.frz_chain.specs.Books.{Back, back_with, chain_value}
 use Rattle.frz_chain.specs.DecidedBacks.{AreLinesOrBehind}
 use Rattle.frz_chain.specs.FileOn.{IsExactBack, IsFileOn}
 
--- BACK is an exact table by its own exit lines, and TABLE one over it
+-- BACK is an exact table by its own exit lines, and TABLE is an exact table over BACK
 pub record ChainHeadline (table back : List ℕ) (files : Files) : Type 0 where
-  -- BACK holds a text that is accepted, and behind it the tables of both sides
+  -- BACK holds a text that is accepted, and behind the text the tables of both sides
   pub back_bytes : List ℕ
   pub back_there : files back ≡ Some back_bytes
   pub back_text : List ℕ
@@ -35,8 +35,8 @@ pub record ChainHeadline (table back : List ℕ) (files : Files) : Type 0 where
   pub back_exact : IsExactBack back_rules (value_by back_rules) behind
   pub back_one_file :
       IsOneFile (magic_of Plain) back_text back_rules (value_by back_rules) back_bytes
-  -- TABLE holds a text that is accepted, and behind it the tables of both sides, with the values of
-  -- its exit lines and of BACK behind them
+  -- TABLE holds a text that is accepted, and behind the text the tables of both sides. Its exits
+  -- have the values of its exit lines, and of BACK where these say nothing
   pub bytes : List ℕ
   pub there : files table ≡ Some bytes
   pub text : List ℕ
@@ -50,16 +50,16 @@ pub record ChainHeadline (table back : List ℕ) (files : Files) : Type 0 where
   pub white_table : IsTableOf rules (chain_value rules behind) White white
   pub black_table : IsTableOf rules (chain_value rules behind) Black black
   pub one_file : IsFileOn text rules behind bytes
-  -- a win forces mate or an assigned win within its plies; where the exits are true it forces mate,
-  -- and with a win or a hold the opponent forces none
+  -- a win forces mate or an exit that is won, within its plies. Where the exits are true it forces
+  -- mate, and with a win or a hold the opponent cannot force mate
   pub white_means : TableMeans rules (chain_value rules behind) White white
   pub black_means : TableMeans rules (chain_value rules behind) Black black
-  -- and the exits are true where the exit lines of both texts are
+  -- the exits of TABLE are true where the exit lines of both texts are true
   pub true_exits : AreTrueExits rules (value_by rules)
       → AreTrueExits back_rules (value_by back_rules)
       → AreTrueExits rules (chain_value rules behind)
-  -- where no line of BACK forbids a side a move, its codes there say of chess both ways what
-  -- TableMeansExactly says; and so do those of TABLE, by its exit lines and BACK behind them
+  -- where no line of BACK forbids a side a move, its codes in BACK are exact in chess as
+  -- TableMeansExactly says; and so are those in TABLE, with BACK behind its exit lines
   pub back_white_exact : TableIsExactWhereFree back_rules (value_by back_rules) White behind.white
   pub back_black_exact : TableIsExactWhereFree back_rules (value_by back_rules) Black behind.black
   pub white_exact : TableIsExactWhereFree rules (chain_value rules behind) White white

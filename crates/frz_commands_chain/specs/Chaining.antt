@@ -22,15 +22,15 @@ use Rattle.frz_chain.specs.FileOn.{IsFileOn}
 use Rattle.frz_commands_chain.specs.Backs.{IsBackIn}
 use Rattle.frz_commands_chain.specs.Reading.{IsRefusedBoth, reading_bytes, reading_calls, reading_steps}
 
--- by what was read: TABLE holds the one file of the text over
--- the back table, and every other name what it held
+-- the answer by what was read: TABLE holds the one file of the text over the back table, and every
+-- other name holds what it held
 abbrev pub IsChainedBy : List ℕ → RuleLines → Back → List ℕ → Files → Answer → Type 0
 IsChainedBy text r back table files a =
     (bytes : List ℕ) × IsFileOn text r back bytes
     × (a ≡ says statuses.Success (chained_line (size_of r.groups)) (put files table bytes))
 
--- RULES holds a text that is accepted, BACK a back table that is exact, and TABLE the one file of
--- the text over it afterwards
+-- RULES holds a text that is accepted, and BACK a back table that is exact. Afterwards TABLE holds
+-- the one file of the text over that back table
 pub record MakesChain (rules back table : List ℕ) (files : Files) (a : Answer) : Type 0 where
   pub text : List ℕ
   pub there : files rules ≡ Some text
@@ -40,7 +40,7 @@ pub record MakesChain (rules back table : List ℕ) (files : Files) (a : Answer)
   pub back_there : IsBackIn (files back) behind
   pub made : IsChainedBy text lines behind table files a
 
--- what RULES or BACK names is refused, in this order, or the table is made
+-- the file named RULES or the file named BACK is refused, RULES first, or the table is made
 pub data IsChainedAt (rules back table : List ℕ) (files : Files) (a : Answer) : Type 0 where
   refused : (why : Refused) → IsRefusedBoth (files rules) (files back) why
       → a ≡ says (status_of why) (refusal_line why) files
@@ -59,7 +59,7 @@ pub record MeansChain (rules back table : List ℕ) (files : Files) (a : Answer)
   pub untaken : a.taken ≡ 0
   pub says : MeansByStatus rules back table files a a.status
 
--- `chain` by what was read: four steps a number, and the calls that write the file
+-- `chain` by what was read: at most four steps a number, and the calls that write the file
 abbrev pub chaining_by : List ℕ → RuleLines → Back → List ℕ → Job
 chaining_by text r back table = record (plain (statuses.Success ∷ [])
     (λ files input a. IsChainedBy text r back table files a)) {
@@ -72,7 +72,7 @@ chaining_by text r back table = record (plain (statuses.Success ∷ [])
       });
     }
 
--- the calls that write the table of rules that were read, and the size of these; 0 where none were
+-- the calls that write the table of the rules, and their size; 0 where the rules are refused
 abbrev pub writing_by : Result RuleLines Refused → ℕ
 writing_by (Ok r) = writing_calls (size_of r.groups)
 writing_by (Err why) = 0
@@ -81,8 +81,8 @@ abbrev pub size_by : Result RuleLines Refused → ℕ
 size_by (Ok r) = size_of r.groups
 size_by (Err why) = 0
 
--- what reading the rules file and checking the back table costs. Where both are accepted, four
--- steps a number and the calls that write the table come behind
+-- the costs of `chain`: what reading the rules file and checking the back table costs. Where both
+-- are accepted, add four steps a number and the calls that write the table
 abbrev pub chain_costs : (held back_held : Option (List ℕ)) → Costs
 chain_costs held back_held = record {
   steps = Some (reading_steps held back_held + if_exact back_held (4 * size_by (rules_held held)));

@@ -29,7 +29,7 @@ pub record TellsExactOn (table back : List ℕ) (files : Files) (text : List ℕ
   pub exact : ChainHeadline table back files
   pub told : text ≡ exact_on_line (size_of exact.rules.groups) (size_of exact.behind.groups)
 
--- what one of the names holds is refused with this status, and the text says why
+-- the file of one of the names is refused with this status, and the text says why
 pub record TellsRefusal (table back : List ℕ) (files : Files) (status : Status)
     (text : List ℕ) : Type 0 where
   pub why : Refused
@@ -37,13 +37,13 @@ pub record TellsRefusal (table back : List ℕ) (files : Files) (status : Status
   pub status_is : status ≡ status_of why
   pub told : text ≡ refusal_line why
 
--- BACK is exact, and the text tells the first entry of TABLE that is not its local code over it
+-- BACK is exact, and the text tells the first entry of TABLE that is not its local code over BACK
 pub record TellsWrongOn (table back : List ℕ) (files : Files) (text : List ℕ) : Type 0 where
   pub wrong : Wrong
   pub first : IsJudgedPair (files table) (files back) (WrongVerdict wrong)
   pub told : text ≡ wrong_line wrong
 
--- an entry of TABLE is wrong, or one of BACK
+-- an entry of TABLE is wrong, or an entry of BACK
 pub data TellsWrong (table back : List ℕ) (files : Files) (text : List ℕ) : Type 0 where
   of_table : TellsWrongOn table back files text → TellsWrong table back files text
   of_back : TellsRefusal table back files statuses.Wrong text → TellsWrong table back files text
@@ -57,7 +57,7 @@ MeansStatus table back files statuses.Missing text =
     TellsRefusal table back files statuses.Missing text
 MeansStatus table back files status text = ⊥
 
--- BACK holds the one file of a text that is accepted, and TABLE the one file of another over it
+-- BACK holds the one file of an accepted text, and TABLE the one file of another text over BACK
 pub record HoldsPair (table back : List ℕ) (files : Files) : Type 0 where
   pub back_bytes : List ℕ
   pub back_there : files back ≡ Some back_bytes

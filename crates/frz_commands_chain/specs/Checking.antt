@@ -23,7 +23,7 @@ use Rattle.frz_prelude.specs.declared.refused.Refused.{Refused}
 use Rattle.frz_prelude.specs.declared.refused.Refused.TheVariants as refusals
 use Rattle.frz_commands_chain.specs.Backs.{IsBackIn}
 
--- how the verdict on a table of so many numbers over one of so many is told
+-- the status and the line that tell a verdict on a table, by its size and that of the back table
 abbrev pub chain_status : Verdict → Status
 chain_status verdict.Exact = statuses.Success
 chain_status (verdict.Wrong wrong) = statuses.Wrong
@@ -32,7 +32,7 @@ abbrev pub chain_verdict_line : ℕ → ℕ → Verdict → List ℕ
 chain_verdict_line size back verdict.Exact = exact_on_line size back
 chain_verdict_line size back (verdict.Wrong wrong) = wrong_line wrong
 
--- what TABLE holds is refused so, or it opens and what BACK holds is refused so
+-- what TABLE holds is refused for this reason; or it opens, and what BACK holds is refused for it
 abbrev pub IsRefusedPair : (held back_held : Option (List ℕ)) → Refused → Type 0
 IsRefusedPair held back_held (refusals.Table fault) = opened (table_format Chained) held ≡ Err fault
 IsRefusedPair held back_held (refusals.Back fault) =
@@ -41,8 +41,8 @@ IsRefusedPair held back_held (refusals.BackWrong wrong) =
     OpensChained held × HasWrong back_held wrong
 IsRefusedPair held back_held why = ⊥
 
--- TABLE opens, BACK holds a back table that is exact, and this
--- is the verdict on the codes of TABLE over it
+-- TABLE opens, BACK holds a back table that is exact, and this is the verdict on the codes of TABLE
+-- over BACK
 pub record IsJudgedPair (held back_held : Option (List ℕ)) (judgement : Verdict) : Type 0 where
   pub bytes : List ℕ
   pub there : held ≡ Some bytes
@@ -53,7 +53,7 @@ pub record IsJudgedPair (held back_held : Option (List ℕ)) (judgement : Verdic
   pub judged : IsVerdict contents.rules (chain_value contents.rules behind)
       (kept_codes contents bytes) judgement
 
--- what one of the names holds is refused, or the verdict is told
+-- the answer refuses what one of the names holds, or tells the verdict
 pub data IsCheckedPair (table back : List ℕ) (files : Files) (a : Answer) : Type 0 where
   refused : (why : Refused) → IsRefusedPair (files table) (files back) why
       → a ≡ says (status_of why) (refusal_line why) files
@@ -63,7 +63,8 @@ pub data IsCheckedPair (table back : List ℕ) (files : Files) (a : Answer) : Ty
       (chain_verdict_line (size_of h.contents.rules.groups) (size_of h.behind.groups) v) files
       → IsCheckedPair table back files a
 
--- no more than checking the table over the back table costs: what a refusal shuts off is not spent
+-- the costs of `chaincheck`: no more than checking the table over the back table; what a refusal
+-- makes needless is not spent
 abbrev pub pair_costs : (held back_held : Option (List ℕ)) → Costs
 pair_costs held back_held = record {
   steps = Some (steps_for_both held back_held);

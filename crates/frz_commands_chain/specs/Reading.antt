@@ -21,7 +21,8 @@ use Rattle.frz_commands_chain.specs.declared.reading.BothRead.{BothRead}
 abbrev pub HasRules : Option (List ℕ) → Type 0
 HasRules held = (r : RuleLines) × (rules_held held ≡ Ok r)
 
--- the rules file is refused so, or it is accepted and the back table is refused so
+-- the rules file is refused for this reason; or it is accepted, and the back table is refused for
+-- it
 abbrev pub IsRefusedBoth : (held back_held : Option (List ℕ)) → Refusal → Type 0
 IsRefusedBoth held back_held refusals.MissingRules = rules_held held ≡ Err refusals.MissingRules
 IsRefusedBoth held back_held (refusals.Rules fault) = rules_held held ≡ Err (refusals.Rules fault)
@@ -30,7 +31,7 @@ IsRefusedBoth held back_held (refusals.Back fault) =
 IsRefusedBoth held back_held (refusals.BackWrong wrong) = HasRules held × HasWrong back_held wrong
 IsRefusedBoth held back_held why = ⊥
 
--- what is refused while both are read: RULES or BACK
+-- the reasons for which reading stops: a refusal of RULES or of BACK, or a fault
 abbrev pub StopsReading : Stop → Type 0
 StopsReading (Refused refusals.MissingRules) = ⊤
 StopsReading (Refused (refusals.Rules fault)) = ⊤
@@ -39,19 +40,19 @@ StopsReading (Refused (refusals.BackWrong wrong)) = ⊤
 StopsReading (Refused why) = ⊥
 StopsReading (Fault fault) = ⊤
 
--- both were read, or one is refused. Nothing is said where a fault stopped the call
+-- both were read, or one is refused for this reason; nothing is said where a fault stopped the call
 abbrev pub GivesBoth : (held back_held : Option (List ℕ)) → Result BothRead Stop → Type 0
 GivesBoth held back_held (Ok both) =
     GivesText held (Ok both.read) × IsBackIn back_held (loaded_back both.back)
 GivesBoth held back_held (Err (Refused why)) = IsRefusedBoth held back_held why
 GivesBoth held back_held (Err (Fault fault)) = ⊤
 
--- so many where the rules are accepted, and else none
+-- `count` where the rules are accepted, and else 0
 abbrev pub if_accepted : Result RuleLines Refusal → ℕ → ℕ
 if_accepted (Ok r) count = count
 if_accepted (Err why) count = 0
 
--- what reading both costs, of which the back table is not looked at where the rules are refused
+-- the costs of reading both; where the rules are refused, the back table is not looked at
 abbrev pub reading_steps : (held back_held : Option (List ℕ)) → ℕ
 reading_steps held back_held = if_accepted (rules_held held) (steps_of_back back_held)
 
@@ -63,8 +64,8 @@ abbrev pub reading_calls : (held back_held : Option (List ℕ)) → ℕ
 reading_calls held back_held =
     1 + reads_of held + if_accepted (rules_held held) (calls_of_back back_held)
 
--- both are those of the two names in some files, which are those that the store tells where it
--- does, and no more was spent than they cost
+-- the result is that of the two names in some files: those that the store tells, if it tells. No
+-- more was spent than reading them costs
 pub record AreBothRead (rules back : List ℕ) (result : Result BothRead Stop) (old new : StoreTold)
     (steps_before steps_now : ℕ) : Type 0 where
   pub files : Files

@@ -17,7 +17,8 @@ use frz_store::Store;
 use std::alloc::Global;
 use std::sync::ledger::Ledger;
 
-/// Builds the table of rules that were read over the back table.
+/// Solves the game of rules that were read, with the back table behind their exit lines, and writes
+/// its table file under the name TABLE.
 fn chain_by<S: Store, L: Ledger>(
     alloc: Global,
     both: &BothRead,
@@ -46,7 +47,8 @@ fn is_repeated(rules: &str, back: &str, table: &str) -> bool
     table == rules || table == back
 }
 
-/// Does `chain` with these words behind it.
+/// The command `chain`; `words` are the three words behind its name, RULES BACK TABLE. Refuses a
+/// TABLE that is one of the other two names, before it reads a file.
 pub fn chain<S: Store, L: Ledger>(
     alloc: Global,
     words: &[String],

@@ -1,5 +1,5 @@
-//! The command `chaincheck TABLE BACK`: whether a table is
-//! exact over a back table, and that one too.
+//! The command `chaincheck TABLE BACK`: whether a table is exact over a back table, and the back
+//! table exact by itself.
 ghost use Rattle.std.specs.Prelude.{◌≡◌, map, false, ℕ};
 ghost use Rattle.std.specs.String.{string_bytes};
 ghost use Rattle.frz_store.specs.Told.{store_of};
@@ -17,7 +17,7 @@ use frz_table::{FileKind, TableFault, open_kind};
 use std::alloc::Global;
 use std::sync::ledger::Ledger;
 
-/// What is said of a table over a back table.
+/// The reply on a table over a back table: both sizes if it is exact, or its first wrong entry.
 fn reply_on(verdict: ChainVerdict) -> Reply
     ensures status { reply_status result ≡ chain_status (judgement verdict) }
     ensures text { (size back : ℕ) → CarriesSizes verdict size back
@@ -29,8 +29,8 @@ fn reply_on(verdict: ChainVerdict) -> Reply
     }
 }
 
-/// Checks the table of a name that names the back table too. Where the file opens it is no plain
-/// table, and it is not read again.
+/// Checks a table where TABLE and BACK are the same name. If the file opens as a table over a back
+/// table, it is not a plain one, so BACK is refused without reading it again.
 fn check_on_itself<S: Store>(alloc: Global, table: &str, store: &mut S) -> Result<Reply, Stop>
     ensures { (steps : ℕ) → Replies (checking_pair table.now table.now) result
         (store_of S.Store store.old) (store_of S.Store store.new) steps steps }
@@ -41,7 +41,7 @@ fn check_on_itself<S: Store>(alloc: Global, table: &str, store: &mut S) -> Resul
     }
 }
 
-/// Does `chaincheck` with these words behind it.
+/// The command `chaincheck`; `words` are the two words behind its name, TABLE BACK.
 pub fn chaincheck<S: Store, L: Ledger>(
     alloc: Global,
     words: &[String],

@@ -1,4 +1,4 @@
-//! The commands on tables that lean on a second table, the back table: `chain` and `chaincheck`.
+//! The commands on tables over a second table, the back table: `chain` and `chaincheck`.
 #![tactic(auto)]
 
 mod chaining;

@@ -18,7 +18,7 @@ use frz_table::TableFault;
 use std::alloc::Global;
 use std::sync::ledger::Ledger;
 
-/// A rules text with its rules, and the back table.
+/// A rules text with its rules, and the back table, checked and in memory.
 #[derive(Drop)]
 pub struct BothRead {
     pub read: RulesText,
@@ -27,8 +27,8 @@ pub struct BothRead {
 
 ghost use Rattle.frz_commands_chain.specs.Reading.{AreBothRead, StopsReading};
 
-/// Why a file that holds a rules text is no table: it is too short for one, or does not begin as
-/// one.
+/// Why a file that holds an accepted rules text is not a table: it is too short, or does not begin
+/// as one.
 fn why_no_table(text: &[u8]) -> TableFault
     ensures { (rules : RuleLines) → rules_of text.now ≡ Ok rules
         → opened (table_format Plain) (Some text.now) ≡ Err result }
@@ -40,8 +40,8 @@ fn why_no_table(text: &[u8]) -> TableFault
     }
 }
 
-/// Reads the rules file of the one name, then opens and checks the back table of the other. Where
-/// the two names are one, it is not read again: a rules text is no table.
+/// Reads the rules file, then opens and checks the back table. Where both names are the same, the
+/// file is not read again: a rules text is not a table, so BACK is refused.
 pub fn read_both<S: Store, L: Ledger>(
     alloc: Global,
     rules: &str,

@@ -1,4 +1,4 @@
-//! What a fault of a chain stops.
+//! How a command stops at a fault of a table over a back table.
 ghost use Rattle.std.specs.Prelude.{◌≡◌};
 ghost use Rattle.frz_commands_chain.specs.Stops.{stop_of_chain};
 

@@ -21,17 +21,18 @@ abbrev pub text_by : Notation → Board → Step → List ℕ
 text_by Coordinates p m = text_of m
 text_by Algebraic p m = san_of p m
 
--- the steps that so many texts may take: where a move gives check, the moves afterwards are listed
+-- the steps that this many texts may take: in algebraic notation, a move that gives check has the
+-- moves afterwards listed once
 abbrev pub steps_by : Notation → ℕ → ℕ
 steps_by Coordinates count = 0
 steps_by Algebraic count = count
 
--- the moves on one line, with one space between
+-- the moves on one line, with one space between each two
 abbrev pub joined : (Step → List ℕ) → List Step → List ℕ
 joined text moves = join_with_byte 32 (map text moves)
 
--- the line of the mover's legal moves, where his king is attacked or not;
--- without a move it is mate or stalemate
+-- the line of the mover's legal moves; the flag says whether his king is attacked. Without a move
+-- it is mate or stalemate
 abbrev pub line_of_moves : (Step → List ℕ) → List Step → Bool → List ℕ
 line_of_moves text [] true = codes "mate\n"
 line_of_moves text [] false = codes "stalemate\n"
@@ -40,7 +41,8 @@ line_of_moves text (m ∷ ms) check = joined text (m ∷ ms) ++ codes "\n"
 abbrev pub moves_line : (Step → List ℕ) → Board → List ℕ
 moves_line text p = line_of_moves text (legal_moves_of p) (is_in_check p p.turn)
 
--- the legal moves of the position, in one step and those that their texts take. No file changes
+-- lists the legal moves of the position, in one step and those that their texts take. No file
+-- changes
 abbrev pub listing : Notation → Board → Job
 listing notation p = record (plain (Success ∷ [])
     (λ files input a. a ≡ says Success (moves_line (text_by notation p) p) files)) {

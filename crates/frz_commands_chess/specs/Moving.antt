@@ -14,14 +14,15 @@ use Rattle.frz_san.specs.Notation.{IsSan}
 use Rattle.frz_prelude.specs.Positions.{on_position}
 use Rattle.frz_prelude.specs.Replies.{moved_lines}
 
--- a legal move has this text, and its lines are told; or none has it. No file changes
+-- a legal move has this text, and the answer tells the move and the position afterwards; or no
+-- legal move has it. No file changes
 pub data IsMoved (text : List ℕ) (p : Board) (files : Files) (a : Answer) : Type 0 where
   moved : (m : Step) → IsStep m → is_legal p m ≡ true → IsSan p m text
       → a ≡ says Success (moved_lines m (fen_text (after p m))) files → IsMoved text p files a
   no_move : ((m : Step) → IsStep m → is_legal p m ≡ true → IsSan p m text → ⊥)
       → a ≡ says NoMove (codes "no move\n") files → IsMoved text p files a
 
--- the move of this text, in two steps at most
+-- makes the move with this text, in two steps at most
 abbrev pub moving : List ℕ → Board → Job
 moving text p = record (plain (Success ∷ NoMove ∷ []) (λ files input a. IsMoved text p files a)) {
   costs = λ files input a. WithinCosts (steps_alone (Some 2));

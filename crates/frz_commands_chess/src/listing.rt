@@ -1,5 +1,5 @@
-//! The commands `moves FEN` and `sans FEN`: the legal moves of a position on one line. They take no
-//! memory.
+//! The commands `moves FEN` and `sans FEN`: the legal moves of a position on one line. They need no
+//! memory from the allocator.
 ghost use Rattle.std.specs.Prelude.{◌≡◌, ◌≤◌, ◌+◌, ◌++◌, length, map, codes};
 ghost use Rattle.std.specs.String.{string_bytes};
 ghost use Rattle.frz_fen.specs.Reading.{fen_of};
@@ -22,7 +22,7 @@ use frz_steps::Steps;
 use frz_store::{Failed, Sink};
 use std::sync::ledger::Ledger;
 
-/// Writes the moves on one line, a move at a time.
+/// Writes the moves on one line, one move at a time.
 fn write_line<O: Sink, L: Ledger>(
     notation: Notation,
     p: &Position,
@@ -43,7 +43,7 @@ fn write_line<O: Sink, L: Ledger>(
     write_piece(b"\n", out)
 }
 
-/// Writes the legal moves of the position, or how the game has ended there.
+/// Writes the legal moves of the position, or `mate` or `stalemate` where there is none.
 fn write_moves<O: Sink, L: Ledger>(
     notation: Notation,
     p: &Position,
@@ -64,7 +64,7 @@ fn write_moves<O: Sink, L: Ledger>(
     }
 }
 
-/// Lists the moves at a position.
+/// Lists the legal moves at a position.
 fn list_at<O: Sink, L: Ledger>(
     notation: Notation,
     p: &Position,
@@ -96,7 +96,7 @@ fn list_moves<O: Sink, L: Ledger>(
     }
 }
 
-/// Runs `moves` with these words behind it.
+/// Runs the command `moves`; `words` is the one word behind its name, FEN.
 pub fn run_moves<O: Sink, L: Ledger>(words: &[String], out: &mut O, steps: &mut Steps<L>) -> End
     ensures { (store : StoreTold) (input : SourceTold)
         → Ran (moves_words (map string_bytes words.now)) result
@@ -109,7 +109,7 @@ pub fn run_moves<O: Sink, L: Ledger>(words: &[String], out: &mut O, steps: &mut 
     }
 }
 
-/// Runs `sans` with these words behind it.
+/// Runs the command `sans`; `words` is the one word behind its name, FEN.
 pub fn run_sans<O: Sink, L: Ledger>(words: &[String], out: &mut O, steps: &mut Steps<L>) -> End
     ensures { (store : StoreTold) (input : SourceTold)
         → Ran (sans_words (map string_bytes words.now)) result

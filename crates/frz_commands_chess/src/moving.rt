@@ -1,5 +1,5 @@
-//! The command `move FEN SAN`: a move by its notation, and the position afterwards. It takes no
-//! memory.
+//! The command `move FEN SAN`: makes a move given in algebraic notation, and tells the position
+//! afterwards. It needs no memory from the allocator.
 ghost use Rattle.std.specs.Prelude.{◌≤◌, ◌+◌, map};
 ghost use Rattle.std.specs.String.{string_bytes};
 ghost use Rattle.frz_fide.specs.Valid.{IsValid};
@@ -18,7 +18,8 @@ use frz_san::read_san;
 use frz_steps::Steps;
 use std::sync::ledger::Ledger;
 
-/// Makes the move of this text at a position, if a legal one has it.
+/// Makes the legal move with this text at a position; without one the reply is that there is no
+/// such move.
 fn move_at<L: Ledger>(san: &str, p: &Position, steps: &mut Steps<L>) -> Reply
     requires { IsValid p.now }
     ensures moved { (files : Files) → IsMoved san.now p.now files
@@ -32,7 +33,7 @@ fn move_at<L: Ledger>(san: &str, p: &Position, steps: &mut Steps<L>) -> Reply
     }
 }
 
-/// Does `move` with these words behind it.
+/// The command `move`; `words` are the two words behind its name, FEN SAN.
 pub fn make_move<L: Ledger>(words: &[String], steps: &mut Steps<L>) -> Result<Reply, Stop>
     ensures { (store : StoreTold) → Replies (move_words (map string_bytes words.now)) result
         store store steps.old steps.new }

@@ -1,4 +1,4 @@
-//! How a move is written.
+//! The two notations in which a move is written.
 ghost use Rattle.std.specs.Prelude.{◌≡◌, ◌≤◌, ◌+◌, ◌++◌, [], true, if◌then◌else◌, codes};
 ghost use Rattle.frz_fide.specs.Legal.{is_legal};
 ghost use Rattle.frz_fide.specs.Listing.{legal_moves_of};
@@ -14,14 +14,14 @@ use frz_steps::Steps;
 use frz_store::{Failed, Sink};
 use std::sync::ledger::Ledger;
 
-/// How a move is written: by its two squares, or as FIDE appendix C has it.
+/// How a move is written: by its two squares, or in algebraic notation as FIDE appendix C has it.
 #[derive(Clone, Copy, Debug, PartialEq, Eq, Drop)]
 pub enum Notation {
     Coordinates,
     Algebraic,
 }
 
-/// Writes the text of a move.
+/// Writes the text of a legal move; `moves` are all legal moves of the position.
 fn write_text<O: Sink, L: Ledger>(
     notation: Notation,
     p: &Position,
@@ -44,7 +44,7 @@ fn write_text<O: Sink, L: Ledger>(
     }
 }
 
-/// Writes a space where something follows.
+/// Writes a space if `more` follows.
 fn write_space<O: Sink>(more: bool, out: &mut O) -> Result<(), Failed>
     ensures { WroteText (if more then codes " " else []) result
         (sink_of O.Sink out.old) (sink_of O.Sink out.new) }
@@ -55,7 +55,8 @@ fn write_space<O: Sink>(more: bool, out: &mut O) -> Result<(), Failed>
     }
 }
 
-/// Writes a move's text, and a space where another move follows.
+/// Writes the text of a legal move, and a space if `more` moves follow. `moves` are all legal moves
+/// of the position.
 pub fn write_move<O: Sink, L: Ledger>(
     notation: Notation,
     p: &Position,

@@ -58,7 +58,7 @@ not_nil : (xs : List ℕ) → 1 ≤ lines_in xs → xs ≡ [] → ⊥
 not_nil [] one e = omega (arith, one)
 not_nil (x ∷ xs) one e = cc
 
--- what is empty with something behind it is empty, and so is that
+-- where two texts together are empty, each of them is empty
 pub no_left : (xs ys : List ℕ) → xs ++ ys ≡ [] → xs ≡ []
 no_left [] ys e = refl
 no_left (x ∷ xs) ys e = cc

@@ -8,7 +8,7 @@ use Rattle.frz_answer.specs.Answers.{Answer}
 use Rattle.frz_answer.specs.Jobs.{Job, Never}
 use Rattle.frz_answer.proofs.Lemmas.{IsStage}
 
--- with other answers, which mean and cost something else, and none but its statuses
+-- a stage with other answers, meanings and costs, and no statuses but those of the job
 pub is_part : (job : Job) (statuses : List Status)
     {answers means : Files → List ℕ → Answer → Type 0}
     {costs : Files → List ℕ → Answer → Spent → Spent → Type 0}
@@ -25,7 +25,7 @@ is_part job statuses all = record {
   writes = refl;
 }
 
--- and which looks at nothing that the store holds
+-- such a stage whose need of reading the store is `Never`
 pub is_later_part : (job : Job) (statuses : List Status)
     {answers means : Files → List ℕ → Answer → Type 0}
     {costs : Files → List ℕ → Answer → Spent → Spent → Type 0}

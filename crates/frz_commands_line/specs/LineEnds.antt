@@ -1,4 +1,4 @@
--- How the command ends where a line was played.
+-- How the command ends after a line was played.
 use Rattle.std.specs.Prelude.{◌≡◌, ℕ, List, [], Result, Ok, Err, codes}
 use Rattle.frz_store.specs.Told.{SinkTold}
 use Rattle.frz_answer.specs.declared.status.Status.{Status}
@@ -14,20 +14,21 @@ use Rattle.frz_ways.specs.declared.end.LineEnd.{LineEnd}
 use Rattle.frz_ways.specs.declared.end.LineFault.{LineFault}
 use Rattle.frz_ways.specs.declared.end.LineFault.TheVariants as faults
 
--- by what the line answers
+-- the status, by what the line answers
 abbrev pub end_status : Result LineEnd LineFault → Status
 end_status (Ok end) = Success
 end_status (Err (faults.Wrong wrong)) = Wrong
 end_status (Err fault) = Outside
 
--- the line that names an end which has no line of its own
+-- the line of text for an end for which the line itself writes nothing
 abbrev pub naming_line : Result LineEnd LineFault → List ℕ
 naming_line (Err faults.Outside) = refusal_line refusals.Outside
 naming_line (Err faults.NoBound) = codes "no bound\n"
 naming_line (Err (faults.Wrong wrong)) = wrong_line wrong
 naming_line answer = []
 
--- the end is named, where it has no line of its own; a fault is named behind the command
+-- an end for which the line itself writes nothing is named. A fault of the store, the memory or the
+-- output is not named here, but behind the command
 abbrev pub EndsLine : Result LineEnd LineFault → End → SinkTold → SinkTold → Type 0
 EndsLine (Err faults.Store) end old new = (end ≡ Stopped Store) × (new ≡ old)
 EndsLine (Err faults.NoMemory) end old new = (end ≡ Stopped NoMemory) × (new ≡ old)

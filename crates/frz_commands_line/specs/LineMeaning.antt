@@ -28,8 +28,9 @@ use Rattle.frz_ways.specs.Lines.{LinePly, EndOfLine}
 use Rattle.frz_commands_line.specs.Later.{held_later}
 use Rattle.frz_commands_line.specs.LineOf.{code_at, IsLineBy, told_text}
 
--- from a win within n plies: at most n plies are played; the opponent is mated after n plies, or an
--- exit wins for the side, after n plies with its lag counted
+-- what a line from a win within n plies does: it has at most n plies. The opponent is mated after n
+-- plies, or an exit wins for the side after n plies with its lag (the plies to mate that its value
+-- gives) counted
 pub record KeepsWin (rules : RuleLines) (side : Colour) (n : ℕ) (plies : List LinePly)
     (end : EndOfLine) : Type 0 where
   pub few : length plies ≤ n
@@ -37,16 +38,16 @@ pub record KeepsWin (rules : RuleLines) (side : Colour) (n : ℕ) (plies : List 
   pub mate : (mover : Colour) → end ≡ ways.Mated mover → length plies ≡ n
   pub exit : (v : Value) → end ≡ ways.Exit v → length plies + lag_of v ≡ n
 
--- from a hold: nobody is mated, and an exit holds for the side and no more; it has at most the most
--- plies, and so many where it is cut
+-- what a line from a hold does: nobody is mated, and an exit holds for the side and does not win.
+-- The line has at most MOST_PLIES plies, and exactly that many where it is cut
 pub record KeepsHold (rules : RuleLines) (side : Colour) (plies : List LinePly)
     (end : EndOfLine) : Type 0 where
   pub ends : EndsDrawn (counted (graph_by rules (value_by rules))) side end
   pub few : length plies ≤ MOST_PLIES
   pub cut : end ≡ ways.Cut → length plies ≡ MOST_PLIES
 
--- the file opens, the position is in its set, and this is the
--- line of the side by the codes in the file, as they are read after so many plies; it is a game of
+-- the file opens, the position is in its set, and these are the plies and the end of the side's
+-- line by the codes in the file, as they are read after each number of plies. The line is a game of
 -- chess from the position
 pub record HasLine (later : ℕ → Files) (table : List ℕ) (side : Colour) (p : Board)
     (files : Files) : Type 0 where
@@ -59,14 +60,14 @@ pub record HasLine (later : ℕ → Files) (table : List ℕ) (side : Colour) (p
   pub line : IsLineBy contents (held_later later table) side p plies end
   pub game : IsGame contents.rules side p plies
 
--- the code of its start
+-- the code of the line's start, for the side
 abbrev pub start_code : {later : ℕ → Files} {table : List ℕ} {side : Colour} {p : Board}
     {files : Files}
     → HasLine later table side p files → ℕ
 start_code {later = later} {table = table} {side = side} {p = p} has =
     code_at has.contents (held_later later table) side p
 
--- whenever they are read the codes in the file are the tables of both sides
+-- whenever they are read, the codes in the file are the exact tables of both sides
 abbrev pub IsExactFile : {later : ℕ → Files} {table : List ℕ} {side : Colour} {p : Board}
     {files : Files} →
     HasLine later table side p files →
@@ -74,7 +75,7 @@ abbrev pub IsExactFile : {later : ℕ → Files} {table : List ℕ} {side : Colo
 IsExactFile {later = later} {table = table} has = (k : ℕ) →
     KeepsTables (value_by has.contents.rules) has.contents (held_later later table k)
 
--- the text is that of the line
+-- the text is that of the line and its end
 abbrev pub TellsText : {later : ℕ → Files} {table : List ℕ} {side : Colour} {p : Board}
     {files : Files} →
     HasLine later table side p files →
@@ -82,8 +83,8 @@ abbrev pub TellsText : {later : ℕ → Files} {table : List ℕ} {side : Colour
 TellsText {side = side} has text =
     text ≡ told_text side (start_code has) has.plies (line_ends.told side has.end)
 
--- the whole line is told, with its end; a win is brought home in its plies, and a hold stays one;
--- by the tables of both sides the code of the start is that of the bound
+-- the whole line is told, with its end. From a win it wins in the promised plies, and from a hold
+-- it holds. Where the codes are the exact tables, the code of the start is that of the bound
 pub record TellsLine (later : ℕ → Files) (table : List ℕ) (side : Colour) (p : Board)
     (files : Files)
     (text : List ℕ) : Type 0 where
@@ -97,8 +98,8 @@ pub record TellsLine (later : ℕ → Files) (table : List ℕ) (side : Colour) 
   pub where_exact : IsExactFile has →
       KeepsBound has.contents.rules (value_by has.contents.rules) side p (start_code has)
 
--- a code on its way is not the local one, which does not happen by the tables of both sides; up
--- to there a win and a hold are kept
+-- a code on the line's way is not the local one, which does not happen by the exact tables. Up to
+-- there a win and a hold are kept
 pub record TellsWrong (later : ℕ → Files) (table : List ℕ) (side : Colour) (p : Board)
     (files : Files)
     (text : List ℕ) : Type 0 where
@@ -113,7 +114,7 @@ pub record TellsWrong (later : ℕ → Files) (table : List ℕ) (side : Colour)
   pub hold : start_code has ≡ code_of Holds → KeepsHold has.contents.rules side has.plies has.end
   pub not_exact : IsExactFile has → ⊥
 
--- the start fails
+-- the start fails: the side has neither a win nor a hold there
 pub record TellsNoBound (later : ℕ → Files) (table : List ℕ) (side : Colour) (p : Board)
     (files : Files)
     (text : List ℕ) : Type 0 where

@@ -1,5 +1,5 @@
--- What `line TABLE FEN SIDE` answers: the best line of the side
--- by the codes in the file. No file changes.
+-- What `line TABLE FEN SIDE` answers: the best line of the side by the codes in the file. No file
+-- changes.
 use Rattle.std.specs.Prelude.{◌≡◌, ℕ, List, ◌++◌, slice_index, MatchBool, Result, Ok, Err}
 use Rattle.frz_board.specs.declared.man.Colour.{Colour}
 use Rattle.frz_board.specs.Boards.{Board}
@@ -24,23 +24,22 @@ use Rattle.frz_ways.specs.Texts.{line_text}
 use Rattle.frz_commands_line.specs.Later.{held_later}
 use Rattle.frz_commands_line.specs.LineEnds.{end_status, naming_line}
 
--- the codes that the bytes keep for the side after so many plies, as they are read then
+-- the codes of the side in the bytes that the file holds after k plies
 abbrev pub codes_later : Contents → (bytes : ℕ → List ℕ) → Colour → ℕ → List ℕ
 codes_later contents bytes side k = kept_codes contents (bytes k) side
 
--- the code that the bytes keep for the side at the number of the position, at the start
+-- the code of the side at the number of the position, as it is read at the start
 abbrev pub code_at : Contents → (ℕ → List ℕ) → Colour → Board → ℕ
 code_at contents bytes side p =
     slice_index (codes_later contents bytes side 0) (Num contents.rules.groups p)
 
--- the line of the side from the position, by the codes that the
--- bytes keep, in the game of their rules
+-- the line of the side from the position, by the codes in the bytes, in the game of their rules
 abbrev pub IsLineBy : Contents → (ℕ → List ℕ) → Colour → Board → List LinePly → EndOfLine → Type 0
 IsLineBy contents bytes side p plies end =
     IsLine contents.rules (value_by contents.rules) side (codes_later contents bytes side)
     (Num contents.rules.groups p) plies end
 
--- these are the numbers that it comes to
+-- these are the numbers that the line comes to
 pub record LineComes (bytes : ℕ → List ℕ) (side : Colour) (p : Board) (contents : Contents)
     (numbers : List ℕ) : Type 0 where
   pub plies : List LinePly
@@ -48,7 +47,7 @@ pub record LineComes (bytes : ℕ → List ℕ) (side : Colour) (p : Board) (con
   pub line : IsLineBy contents bytes side p plies end
   pub are : numbers ≡ way_numbers (Inside (0, Num contents.rules.groups p)) plies
 
--- its text, and the line that names an end which has none of its own
+-- the text of the line, and the naming line of an end for which the line itself writes nothing
 abbrev pub told_text : Colour → ℕ → List LinePly → Result LineEnd LineFault → List ℕ
 told_text side code plies answer = line_text side code plies answer ++ naming_line answer
 
@@ -56,7 +55,7 @@ abbrev pub line_answer : Colour → ℕ → List LinePly → Result LineEnd Line
 line_answer side code plies answer files =
     says (end_status answer) (told_text side code plies answer) files
 
--- at a position of the set: its line is told
+-- the answer at a position of the set: its line is told
 pub record IsLined
     (contents : Contents) (bytes : ℕ → List ℕ) (side : Colour) (p : Board) (files : Files)
     (a : Answer) : Type 0 where
@@ -65,20 +64,20 @@ pub record IsLined
   pub line : IsLineBy contents bytes side p plies end
   pub told : a ≡ line_answer side (code_at contents bytes side p) plies (ends.told side end) files
 
--- by a file that opens: the position has a line, or is outside the set
+-- the answer by a file that opens: the position has a line, or is outside the set
 abbrev pub IsLinedIn : Contents → (ℕ → List ℕ) → Colour → Board → Files → Answer → Type 0
 IsLinedIn contents bytes side p files a = MatchBool (is_member contents.rules.groups p)
     (IsLined contents bytes side p files a)
     (a ≡ says (status_of refusals.Outside) (refusal_line refusals.Outside) files)
 
--- by how the file opens
+-- the answer, by how the file opens
 abbrev pub IsLinedBy : Result Contents TableFault → (ℕ → List ℕ) → Colour → Board → Files → Answer
     → Type 0
 IsLinedBy (Ok contents) bytes side p files a = IsLinedIn contents bytes side p files a
 IsLinedBy (Err fault) bytes side p files a =
     a ≡ says (status_of (refusals.Table fault)) (refusal_line (refusals.Table fault)) files
 
--- by the file that has the name, and by what it holds after so many plies
+-- the answer by the file that has the name, and by what the name holds after each number of plies
 abbrev pub IsLinedAt : (later : ℕ → Files) → List ℕ → Colour → Board → Files → Answer → Type 0
 IsLinedAt later table side p files a =
     IsLinedBy (opened (table_format Plain) (files table)) (held_later later table) side p files a

@@ -16,11 +16,12 @@ use Rattle.frz_commands_line.specs.LineMeaning.{MeansLine}
 use Rattle.frz_commands_line.specs.LineOf.{LineComes, IsLinedIn, IsLinedAt}
 use Rattle.frz_commands_line.specs.Sides.{on_side, side_of}
 
--- what opening reads is read once; what is read after so many plies stands for itself
+-- what the command needs. `Once` counts what opening reads; what is read after some plies is
+-- described by `later`
 abbrev pub playing_needs : Needs
 playing_needs = record { store = true; reads = Once; input = false; memory = true }
 
--- by an open table, over what the store holds after so many plies
+-- the line by an open table, over what the store holds after each number of plies
 abbrev pub lining_in : (later : ℕ → Files) → OpenTable → Colour → Board → Job
 lining_in later table side p =
     record (plain (Success ∷ Wrong ∷ Outside ∷ [])
@@ -32,7 +33,7 @@ lining_in later table side p =
           (LineComes (held_later later table.name) side p (contents_of table)) 0 0;
     }
 
--- by the table of this name: what is read at ply 0 is read in the files that it opens in
+-- the line by the table of this name: at ply 0 it reads the files in which the table opens
 abbrev pub lining_at : (later : ℕ → Files) → List ℕ → Colour → Board → Job
 lining_at later table side p =
     record (plain (Success ∷ Wrong ∷ Table ∷ Outside ∷ Missing ∷ [])

@@ -20,7 +20,7 @@ use Rattle.frz_commands_line.specs.Sides.{on_side, side_of}
 abbrev pub session_needs : Needs
 session_needs = record playing_needs { input = true }
 
--- by an open table, over what the store holds after so many plies
+-- the session by an open table, over what the store holds after each number of plies
 abbrev pub playing_in : (later : ℕ → Files) → OpenTable → Colour → Board → Job
 playing_in later table side p =
     record (plain (Success ∷ Wrong ∷ Outside ∷ Limit ∷ [])
@@ -33,7 +33,7 @@ playing_in later table side p =
           (SessionComes (held_later later table.name) side p input (contents_of table)) 0 0;
     }
 
--- by the table of this name: what is read at ply 0 is read in the files that it opens in
+-- the session by the table of this name: at ply 0 it reads the files in which the table opens
 abbrev pub playing_at : (later : ℕ → Files) → List ℕ → Colour → Board → Job
 playing_at later table side p =
     record (plain (Success ∷ Wrong ∷ Table ∷ Outside ∷ Missing ∷ Limit ∷ [])

@@ -1,4 +1,4 @@
--- How the command ends where a session was played.
+-- How the command ends after a session was played.
 use Rattle.std.specs.Prelude.{◌≡◌, ℕ, List, [], Result, Ok, Err, codes}
 use Rattle.frz_store.specs.Told.{SinkTold}
 use Rattle.frz_answer.specs.declared.status.Status.{Status}
@@ -14,7 +14,7 @@ use Rattle.frz_ways.specs.declared.session_end.PlayLimit.TheVariants.{Lines, Lin
 use Rattle.frz_ways.specs.declared.session_end.SessionEnd.{SessionEnd}
 use Rattle.frz_commands_line.specs.LineEnds.{end_status, naming_line, EndsLine}
 
--- by what the session answers
+-- the status, by what the session answers
 abbrev pub session_status : Result SessionEnd PlayFault → Status
 session_status (Ok end) = Success
 session_status (Err (plays.Line fault)) = end_status (Err fault)
@@ -24,13 +24,14 @@ abbrev pub limit_line : PlayLimit → List ℕ
 limit_line Lines = codes "limit lines\n"
 limit_line LineLength = codes "limit line length\n"
 
--- the line that names an end which has no line of its own
+-- the line of text for an end for which the session itself writes nothing
 abbrev pub session_naming : Result SessionEnd PlayFault → List ℕ
 session_naming (Err (plays.Line fault)) = naming_line (Err fault)
 session_naming (Err (plays.Limit limit)) = limit_line limit
 session_naming answer = []
 
--- the end is named, where it has no line of its own; a fault is named behind the command
+-- an end for which the session itself writes nothing is named. A fault of the store, the memory,
+-- the input or the output is not named here, but behind the command
 abbrev pub EndsSession : Result SessionEnd PlayFault → End → SinkTold → SinkTold → Type 0
 EndsSession (Err (plays.Line fault)) end old new = EndsLine (Err fault) end old new
 EndsSession (Err plays.Input) end old new = (end ≡ Stopped stops.Input) × (new ≡ old)

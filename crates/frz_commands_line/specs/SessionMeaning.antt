@@ -41,8 +41,9 @@ use Rattle.frz_commands_line.specs.Later.{held_later}
 use Rattle.frz_commands_line.specs.LineOf.{code_at}
 use Rattle.frz_commands_line.specs.SessionOf.{IsSessionBy, played_text}
 
--- from a win within n plies: at most n plies are played, with the lag of an exit counted; the
--- opponent is mated, or the exit wins for the side, unless the input ends it
+-- what a session from a win within n plies does: it has at most n plies, with the lag of an exit
+-- (the plies to mate that its value gives) counted. The opponent is mated, or the exit wins for the
+-- side, unless the input ends the session
 pub record PlaysWin
     (rules : RuleLines) (side : Colour) (n : ℕ) (plies : List SessionPly)
     (end : EndOfSession) : Type 0 where
@@ -50,11 +51,11 @@ pub record PlaysWin
   pub ends : EndsWon (counted (graph_by rules (value_by rules))) side end
   pub exit : (v : Value) → end ≡ ways.Exit v → length plies + lag_of v ≤ n
 
--- from a hold: the side is not mated, and no exit is bad for it
+-- what a session from a hold does: the side is not mated, and no exit is bad for it
 abbrev pub PlaysHold : RuleLines → Colour → EndOfSession → Type 0
 PlaysHold rules side end = EndsHeld (counted (graph_by rules (value_by rules))) side end
 
--- after each ply the opponent forces no mate
+-- the opponent cannot force mate after any of the plies
 abbrev pub IsSafe : RuleLines → Colour → List SessionPly → Type 0
 IsSafe rules side plies =
     (x : SessionPly) → Contains plies x →
@@ -62,9 +63,9 @@ IsSafe rules side plies =
     slice_get (legal_moves_of p) x.place ≡ Some m
     → NeverForcesMate chess (other_of side) (after p m)
 
--- the file opens, the position is in its set, and this is the
--- session of the side by the codes in the file, as they are read after so many plies; it is a game
--- of chess from the position
+-- the file opens, the position is in its set, and this is the session of the side against the input
+-- by the codes in the file, as they are read after each number of plies. The session is a game of
+-- chess from the position
 pub record HasSession (later : ℕ → Files) (table : List ℕ) (side : Colour) (p : Board)
     (files : Files)
     (input : List ℕ) : Type 0 where
@@ -78,7 +79,7 @@ pub record HasSession (later : ℕ → Files) (table : List ℕ) (side : Colour)
   pub session : IsSessionBy contents (held_later later table) side p input plies end left
   pub game : IsGame contents.rules side p plies
 
--- the code of its start
+-- the code of the session's start, for the side
 abbrev pub start_code : {later : ℕ → Files} {table : List ℕ} {side : Colour} {p : Board}
     {files : Files}
     {input : List ℕ} →
@@ -86,7 +87,7 @@ abbrev pub start_code : {later : ℕ → Files} {table : List ℕ} {side : Colou
 start_code {later = later} {table = table} {side = side} {p = p} has =
     code_at has.contents (held_later later table) side p
 
--- whenever they are read the codes in the file are the tables of both sides
+-- whenever they are read, the codes in the file are the exact tables of both sides
 abbrev pub IsExactFile : {later : ℕ → Files} {table : List ℕ} {side : Colour} {p : Board}
     {files : Files}
     {input : List ℕ} →
@@ -94,7 +95,7 @@ abbrev pub IsExactFile : {later : ℕ → Files} {table : List ℕ} {side : Colo
 IsExactFile {later = later} {table = table} has = (k : ℕ) →
     KeepsTables (value_by has.contents.rules) has.contents (held_later later table k)
 
--- the session answers this, and the text is its own
+-- the session answers this, and the text is that of the session with this answer
 pub record Ends
     {later : ℕ → Files} {table : List ℕ} {side : Colour} {p : Board} {files : Files}
     {input : List ℕ}
@@ -103,9 +104,9 @@ pub record Ends
   pub tells : Tells side has.end answer
   pub told : text ≡ played_text side (start_code has) has.plies has.end answer
 
--- the whole session is told, with its end; a win and a hold are kept. By the tables of both sides
--- the code of the start is that of the bound, and where the exits are true each position after a ply
--- is safe
+-- the whole session is told, with its end; a win and a hold are kept. Where the codes are the exact
+-- tables, the code of the start is that of the bound; where also the exits are true, the opponent
+-- cannot force mate after any ply
 pub record TellsSession
     (later : ℕ → Files) (table : List ℕ) (side : Colour) (p : Board) (files : Files)
     (input text : List ℕ) : Type 0 where
@@ -120,7 +121,7 @@ pub record TellsSession
   pub safe : IsExactFile has → AreTrueExits has.contents.rules (value_by has.contents.rules) →
       IsSafe has.contents.rules side has.plies
 
--- a code on its way is not the local one, which does not happen by the tables of both sides; up
+-- a code on the session's way is not the local one, which does not happen by the exact tables. Up
 -- to there a win and a hold are kept
 pub record TellsWrong (later : ℕ → Files) (table : List ℕ) (side : Colour) (p : Board)
     (files : Files)
@@ -134,7 +135,7 @@ pub record TellsWrong (later : ℕ → Files) (table : List ℕ) (side : Colour)
   pub hold : start_code has ≡ code_of Holds → PlaysHold has.contents.rules side has.end
   pub not_exact : IsExactFile has → ⊥
 
--- the start fails
+-- the start fails: the side has neither a win nor a hold there
 pub record TellsNoBound
     (later : ℕ → Files) (table : List ℕ) (side : Colour) (p : Board) (files : Files)
     (input text : List ℕ) : Type 0 where
@@ -143,8 +144,8 @@ pub record TellsNoBound
   pub ends : Ends has text (Err fault)
   pub no_bound : has.end ≡ ways.NoBound
 
--- the input has come to a limit; up to there a win and a hold are kept, and each position after a
--- ply is safe, as in a session to its end
+-- the input has come to a limit. Up to there a win and a hold are kept, and the opponent cannot
+-- force mate after any ply, as in a session to its end
 pub record TellsLimit (later : ℕ → Files) (table : List ℕ) (side : Colour) (p : Board)
     (files : Files)
     (input text : List ℕ) : Type 0 where
@@ -172,7 +173,8 @@ MeansStatus later table side p files input Outside text =
 MeansStatus later table side p files input Missing text = files table ≡ None
 MeansStatus later table side p files input status text = ⊥
 
--- what an answer of `play` means: it changes no file, and each status has its cause
+-- what an answer of `play` means: it changes no file, it takes no more input than there is, and
+-- each status has its cause
 pub record MeansPlay
     (later : ℕ → Files) (table : List ℕ) (side : Colour) (p : Board) (files : Files)
     (input : List ℕ)

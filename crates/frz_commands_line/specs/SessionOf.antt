@@ -1,5 +1,5 @@
--- What `play TABLE FEN SIDE` answers: the session of the side
--- by the codes in the file against the input. No file changes.
+-- What `play TABLE FEN SIDE` answers: the session of the side by the codes in the file, against the
+-- input. No file changes.
 use Rattle.std.specs.Prelude.{◌≡◌, ℕ, ◌-◌, List, ◌++◌, length, MatchBool, Result, Ok, Err}
 use Rattle.frz_board.specs.declared.man.Colour.{Colour}
 use Rattle.frz_board.specs.Boards.{Board}
@@ -25,8 +25,8 @@ use Rattle.frz_commands_line.specs.Later.{held_later}
 use Rattle.frz_commands_line.specs.LineOf.{code_at, codes_later}
 use Rattle.frz_commands_line.specs.SessionEnds.{session_status, session_naming}
 
--- the session of the side from the position against the input, by the codes that the bytes keep, in
--- the game of their rules; and what it leaves of the input
+-- the session of the side from the position against the input, by the codes in the bytes, in the
+-- game of their rules; `left` is the input that the session leaves
 abbrev pub IsSessionBy : Contents → (ℕ → List ℕ) → Colour → Board → (input : List ℕ)
     → List SessionPly →
     EndOfSession →
@@ -35,7 +35,7 @@ IsSessionBy contents bytes side p input plies end left =
     IsSession contents.rules (value_by contents.rules) side (codes_later contents bytes side)
     (Num contents.rules.groups p) input plies end left
 
--- these are the numbers that it comes to
+-- these are the numbers that the session comes to
 pub record SessionComes
     (bytes : ℕ → List ℕ) (side : Colour) (p : Board) (input : List ℕ) (contents : Contents)
     (numbers : List ℕ)
@@ -46,12 +46,13 @@ pub record SessionComes
   pub session : IsSessionBy contents bytes side p input plies end left
   pub are : numbers ≡ way_numbers (Inside (0, Num contents.rules.groups p)) plies
 
--- its text, and the line that names an end which has none of its own
+-- the text of the session, and the naming line of an end for which the session itself writes
+-- nothing
 abbrev pub played_text : Colour → ℕ → List SessionPly → EndOfSession → Result SessionEnd PlayFault
     → List ℕ
 played_text side code plies end answer = session_text side code plies end ++ session_naming answer
 
--- and all that the session does not leave of the input is taken
+-- the answer of a session: it takes all of the input that the session does not leave
 abbrev pub session_answer : Colour → ℕ → (input : List ℕ) → List SessionPly → EndOfSession → Input →
     Result SessionEnd PlayFault → Files → Answer
 session_answer side code input plies end left answer files = record {
@@ -61,7 +62,7 @@ session_answer side code input plies end left answer files = record {
   taken = length input - length left.left;
 }
 
--- at a position of the set: its session is told
+-- the answer at a position of the set: its session is told
 pub record IsPlayed
     (contents : Contents) (bytes : ℕ → List ℕ) (side : Colour) (p : Board) (files : Files)
     (input : List ℕ) (a : Answer)
@@ -75,20 +76,20 @@ pub record IsPlayed
   pub told : a ≡ session_answer side (code_at contents bytes side p) input plies end left answer
       files
 
--- by a file that opens: the position has a session, or is outside the set
+-- the answer by a file that opens: the position has a session, or is outside the set
 abbrev pub IsPlayedIn : Contents → (ℕ → List ℕ) → Colour → Board → Files → List ℕ → Answer → Type 0
 IsPlayedIn contents bytes side p files input a = MatchBool (is_member contents.rules.groups p)
     (IsPlayed contents bytes side p files input a)
     (a ≡ says (status_of refusals.Outside) (refusal_line refusals.Outside) files)
 
--- by how the file opens
+-- the answer, by how the file opens
 abbrev pub IsPlayedBy : Result Contents TableFault → (ℕ → List ℕ) → Colour → Board → Files → List ℕ
     → Answer → Type 0
 IsPlayedBy (Ok contents) bytes side p files input a = IsPlayedIn contents bytes side p files input a
 IsPlayedBy (Err fault) bytes side p files input a =
     a ≡ says (status_of (refusals.Table fault)) (refusal_line (refusals.Table fault)) files
 
--- by the file that has the name, and by what it holds after so many plies
+-- the answer by the file that has the name, and by what the name holds after each number of plies
 abbrev pub IsPlayedAt : (later : ℕ → Files) → List ℕ → Colour → Board → Files → List ℕ → Answer
     → Type 0
 IsPlayedAt later table side p files input a =

@@ -16,7 +16,7 @@ side_of word =
 abbrev pub side_line : List ℕ
 side_line = codes "words: side\n"
 
--- what is to be done for the side that the word names
+-- the job for the side that the word names; a word that names no side is refused
 abbrev pub on_side : (Colour → Job) → Option Colour → Job
 on_side job None = plain (Words ∷ []) (λ files input a. a ≡ says Words side_line files)
 on_side job (Some side) = job side

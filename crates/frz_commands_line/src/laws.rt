@@ -1,5 +1,4 @@
-//! The law on the answers of the commands that play. Each function does nothing: its clause is
-//! the law.
+//! The laws on the answers of `line` and `play`. Each function does nothing: its clause is the law.
 ghost use Rattle.std.specs.Prelude.{ℕ, List};
 ghost use Rattle.frz_store.specs.Files.{Files};
 ghost use Rattle.frz_answer.specs.Lawful.{IsLawful};
@@ -11,8 +10,9 @@ use frz_ways::laws::lines::{
 };
 use frz_ways::laws::sessions;
 
-/// Whatever the words behind `line` are, and whatever the store holds later, there is one answer
-/// over any files and any input, and over files of bytes it means what it is to mean.
+/// For all words behind `line`, and whatever the store holds when it is read again later, there is
+/// exactly one answer over any files and any input. Over files of bytes, that answer means what
+/// `line` promises.
 pub fn one_line_answer()
     ensures { (later : ℕ → Files) (words : List (List ℕ)) → IsLawful (line_words later words) }
 {
@@ -23,7 +23,8 @@ pub fn one_line_answer()
     tables_are_never_wrong();
 }
 
-/// The same of the words behind `play`.
+/// For all words behind `play`, there is exactly one answer in the same way. Over files of bytes,
+/// that answer means what `play` promises.
 pub fn one_play_answer()
     ensures { (later : ℕ → Files) (words : List (List ℕ)) → IsLawful (play_words later words) }
 {

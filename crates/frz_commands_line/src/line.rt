@@ -30,7 +30,7 @@ use frz_ways::{LineEnd, LineFault, best_line};
 use std::alloc::Global;
 use std::sync::ledger::Ledger;
 
-/// Ends the command where a line was played: an end that has no line of its own is named.
+/// Ends the command after a line. An end for which the line itself writes nothing is named here.
 pub fn end_of_line<O: Sink>(line: Result<LineEnd, LineFault>, out: &mut O) -> End
     ensures { EndsLine line result (sink_of O.Sink out.old) (sink_of O.Sink out.new) }
 {
@@ -45,7 +45,7 @@ pub fn end_of_line<O: Sink>(line: Result<LineEnd, LineFault>, out: &mut O) -> En
     }
 }
 
-/// Plays the line by an open table.
+/// Plays and writes the line of the side by an open table.
 fn line_in<S: Store, O: Sink, L: Ledger>(
     table: &TableFile,
     side: Colour,
@@ -69,7 +69,7 @@ fn line_in<S: Store, O: Sink, L: Ledger>(
     end_of_line(line, out)
 }
 
-/// Plays the line by the table of this name.
+/// Opens the table of this name and plays the line of the side by it.
 fn line_at<S: Store, O: Sink, L: Ledger>(
     alloc: Global,
     table: &str,
@@ -92,7 +92,7 @@ fn line_at<S: Store, O: Sink, L: Ledger>(
     }
 }
 
-/// Plays the line from the position of the FEN.
+/// Plays the line from the position of the FEN, or refuses the FEN.
 fn line_from<S: Store, O: Sink, L: Ledger>(
     alloc: Global,
     table: &str,
@@ -118,7 +118,7 @@ fn line_from<S: Store, O: Sink, L: Ledger>(
     }
 }
 
-/// Plays the line of the side that the word names.
+/// Plays the line of the side that the word names, or refuses the word.
 fn line_for<S: Store, O: Sink, L: Ledger>(
     alloc: Global,
     table: &str,
@@ -144,7 +144,7 @@ fn line_for<S: Store, O: Sink, L: Ledger>(
     }
 }
 
-/// Runs `line` with these words behind it.
+/// Runs the command `line`; `words` are the three words behind its name: TABLE FEN SIDE.
 pub fn run_line<S: Store, O: Sink, L: Ledger>(
     alloc: Global,
     words: &[String],
@@ -152,7 +152,7 @@ pub fn run_line<S: Store, O: Sink, L: Ledger>(
     out: &mut O,
     steps: &mut Steps<L>,
 ) -> End
-    // What the store held after each number of plies: where it tells, what it tells.
+    // `later k` is what the store held when it was read after k plies: what it tells, if it tells.
     ensures ran { (later : ℕ → Files) × MayBeLater (S.files store.old) later
         × ((input : SourceTold) → Ran (line_words later (map string_bytes words.now)) result
         (world (store_of S.Store store.old) input (sink_of O.Sink out.old) steps.old)

@@ -1,4 +1,4 @@
-//! The command `play TABLE FEN SIDE`: a side that plays by a table against the input.
+//! The command `play TABLE FEN SIDE`: one side plays by a table, against the moves of the input.
 ghost use Rattle.std.specs.Prelude.{◌≡◌, ℕ, map, false};
 ghost use Rattle.std.specs.String.{string_bytes};
 ghost use Rattle.frz_fide.specs.Valid.{IsValid};
@@ -31,7 +31,8 @@ use frz_ways::{PlayFault, PlayLimit, SessionEnd, play_session};
 use std::alloc::Global;
 use std::sync::ledger::Ledger;
 
-/// Ends the command where a session was played: an end that has no line of its own is named.
+/// Ends the command after a session. An end for which the session itself writes nothing is named
+/// here.
 fn end_of_session<O: Sink>(session: Result<SessionEnd, PlayFault>, out: &mut O) -> End
     ensures { EndsSession session result (sink_of O.Sink out.old) (sink_of O.Sink out.new) }
 {
@@ -46,7 +47,7 @@ fn end_of_session<O: Sink>(session: Result<SessionEnd, PlayFault>, out: &mut O) 
     }
 }
 
-/// Plays the session by an open table.
+/// Plays the session of the side by an open table; a position outside its set is refused.
 fn play_in<S: Store, I: Source, O: Sink, L: Ledger>(
     table: &TableFile,
     side: Colour,
@@ -75,7 +76,7 @@ fn play_in<S: Store, I: Source, O: Sink, L: Ledger>(
     }
 }
 
-/// Plays the session by the table of this name.
+/// Opens the table of this name and plays the session of the side by it.
 fn play_at<S: Store, I: Source, O: Sink, L: Ledger>(
     alloc: Global,
     table: &str,
@@ -99,7 +100,7 @@ fn play_at<S: Store, I: Source, O: Sink, L: Ledger>(
     }
 }
 
-/// Plays the session from the position of the FEN.
+/// Plays the session from the position of the FEN, or refuses the FEN.
 fn play_from<S: Store, I: Source, O: Sink, L: Ledger>(
     alloc: Global,
     table: &str,
@@ -129,7 +130,7 @@ fn play_from<S: Store, I: Source, O: Sink, L: Ledger>(
     }
 }
 
-/// Plays the session of the side that the word names.
+/// Plays the session of the side that the word names, or refuses the word.
 fn play_for<S: Store, I: Source, O: Sink, L: Ledger>(
     alloc: Global,
     table: &str,
@@ -158,7 +159,7 @@ fn play_for<S: Store, I: Source, O: Sink, L: Ledger>(
     }
 }
 
-/// Runs `play` with these words behind it.
+/// Runs the command `play`; `words` are the three words behind its name: TABLE FEN SIDE.
 pub fn run_play<S: Store, I: Source, O: Sink, L: Ledger>(
     alloc: Global,
     words: &[String],
@@ -167,7 +168,7 @@ pub fn run_play<S: Store, I: Source, O: Sink, L: Ledger>(
     out: &mut O,
     steps: &mut Steps<L>,
 ) -> End
-    // What the store held after each number of plies: where it tells, what it tells.
+    // `later k` is what the store held when it was read after k plies: what it tells, if it tells.
     ensures ran { (later : ℕ → Files) × MayBeLater (S.files store.old) later
         × (Ran (play_words later (map string_bytes words.now)) result
         (world_of S.Store I.Source O.Sink store.old input.old out.old steps.old)

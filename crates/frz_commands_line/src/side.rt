@@ -9,7 +9,7 @@ use frz_answer::{End, Status, say};
 use frz_board::Colour;
 use frz_store::Sink;
 
-/// The side that the word names.
+/// The side that the word names: `white` or `black`, and nothing else.
 pub fn read_side(word: &str) -> Option<Colour>
     ensures { result ≡ side_of word.now }
 {

@@ -26,7 +26,7 @@ use Rattle.frz_commands_table.proofs.Built.{some_built_at}
 use Rattle.frz_commands_table.proofs.BuildMeaning.{build_means}
 
 module _ (table : List ℕ) (m : Files) (a b : Answer) where
-  -- the one file is one
+  -- there is only one file of a text, so two answers are equal
   one_by : (text : List ℕ) (r : RuleLines) → IsBuiltBy text r table m a → IsBuiltBy text r table m b
       → b ≡ a
   one_by text r (bytes, one, e) (others, other, e') =

@@ -20,8 +20,8 @@ use Rattle.frz_table.specs.Layout.{magic_of}
 use Rattle.frz_check.specs.OneFile.{IsOneFile}
 use Rattle.frz_commands_table.specs.Building.{IsBuiltAt, steps_by, calls_by}
 
--- the rules file is there and accepted, TABLE holds the one
--- file of its text afterwards, and no other name changes
+-- the rules file is there and accepted. Afterwards TABLE holds the one file of its text, and no
+-- other name changes
 pub record MakesTable (rules table : List ℕ) (files : Files) (a : Answer) : Type 0 where
   pub source : List ℕ
   pub there : files rules ≡ Some source
@@ -32,7 +32,7 @@ pub record MakesTable (rules table : List ℕ) (files : Files) (a : Answer) : Ty
   pub written : a.files ≡ put files table bytes
   pub told : a.text ≡ built_line (size_of lines.groups)
 
--- the rules file is there, the text names the first fault of its text, and no file changes
+-- the rules file is there, the text names the first fault in it, and no file changes
 pub record RefusesRules (rules : List ℕ) (files : Files) (a : Answer) : Type 0 where
   pub source : List ℕ
   pub there : files rules ≡ Some source
@@ -58,8 +58,8 @@ pub record MeansBuild (rules table : List ℕ) (files : Files) (a : Answer) : Ty
   pub untaken : a.taken ≡ 0
   pub says : MeansByStatus rules table files a a.status
 
--- `build` at two names that differ: one `size` and one `read` of the rules file, which is not read
--- where it is missing or too long, and the calls that write the table
+-- `build` with two names that differ. It costs one `size` and one `read` of the rules file, which
+-- is not read where it is missing or too long, and the calls that write the table
 abbrev pub building_at : List ℕ → List ℕ → Job
 building_at rules table = record (plain (Success ∷ Rules ∷ Missing ∷ [])
     (λ files input a. IsBuiltAt rules table files a)) {

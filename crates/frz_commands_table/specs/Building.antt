@@ -16,26 +16,26 @@ use Rattle.frz_table.specs.Layout.{magic_of}
 use Rattle.frz_check.specs.OneFile.{IsOneFile}
 use Rattle.frz_build.specs.Building.{writing_calls}
 
--- by rules that were read: TABLE holds the one file of their
--- text, and every other name what it held
+-- the answer for rules that were read: TABLE holds the one file of their text, and every other name
+-- holds what it held
 abbrev pub IsBuiltBy : List ℕ → RuleLines → List ℕ → Files → Answer → Type 0
 IsBuiltBy text r table files a =
     (bytes : List ℕ) × IsOneFile (magic_of Plain) text r (value_by r) bytes
     × (a ≡ says Success (built_line (size_of r.groups)) (put files table bytes))
 
--- at the text of the rules file: its first fault, or the rules
+-- the answer for the text of the rules file: its first fault, or the table of its rules
 abbrev pub IsBuiltIn : List ℕ → List ℕ → Files → Answer → Type 0
 IsBuiltIn text table files a = MatchResult (rules_of text)
     (λ r. IsBuiltBy text r table files a)
     (λ fault. a ≡ says Rules (rules_line fault) files)
 
--- the rules file is missing, or it has a text
+-- the answer for the file named RULES: it is missing, or it has a text
 abbrev pub IsBuiltAt : List ℕ → List ℕ → Files → Answer → Type 0
 IsBuiltAt rules table files a = MatchOption (files rules)
     (a ≡ says Missing (codes "missing rules\n") files)
     (λ text. IsBuiltIn text table files a)
 
--- `build` by rules that were read: four steps a number, and the calls that write the file
+-- `build` for rules that were read: at most four steps a number, and the calls that write the file
 abbrev pub building_by : List ℕ → RuleLines → List ℕ → Job
 building_by text r table =
     record (plain (Success ∷ []) (λ files input a. IsBuiltBy text r table files a)) {
@@ -48,7 +48,8 @@ building_by text r table =
       });
     }
 
--- what the rules of a name cost, and nothing where it has none
+-- the steps and the calls that building costs where rules were read, and none where they are
+-- refused
 abbrev pub steps_by : Result RuleLines Refused → ℕ
 steps_by (Ok r) = 4 * size_of r.groups
 steps_by (Err why) = 0

@@ -29,8 +29,8 @@ pub record TellsExact (table : List ℕ) (files : Files) (text : List ℕ) : Typ
   pub exact : Headline table files
   pub told : text ≡ exact_line (size_of exact.rules.groups)
 
--- the file opens, and the text tells its first entry that is
--- not its local code, by number, White's before Black's
+-- the file opens, and the text tells its first entry that is not its local code. Entries go by
+-- number, White's before Black's
 pub record TellsWrong (table : List ℕ) (files : Files) (text : List ℕ) : Type 0 where
   pub bytes : List ℕ
   pub contents : Contents
@@ -59,7 +59,7 @@ pub record HoldsOneFile (table : List ℕ) (files : Files) : Type 0 where
   pub one_file : IsOneFile (magic_of Plain) text rules (value_by rules) bytes
 
 -- what an answer of `check` means: it changes no file and takes no input, each status has its
--- cause, and the one file of a text is found exact
+-- cause, and the one file of an accepted text is found exact
 pub record MeansCheck (table : List ℕ) (files : Files) (a : Answer) : Type 0 where
   pub same : a.files ≡ files
   pub untaken : a.taken ≡ 0

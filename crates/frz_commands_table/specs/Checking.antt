@@ -1,5 +1,5 @@
--- What `check TABLE` answers: the size of a table that is
--- exact, or its first entry that is wrong. No file changes.
+-- What `check TABLE` answers: the size of a table that is exact, or its first entry that is wrong.
+-- No file changes.
 use Rattle.std.specs.Prelude.{◌≡◌, ℕ, ◌+◌, ◌*◌, List, length, Option, Some, Result, Ok, Err}
 use Rattle.frz_exits.specs.Books.{value_by}
 use Rattle.frz_sets.specs.Sets.{size_of}
@@ -22,7 +22,7 @@ use Rattle.frz_prelude.specs.Replies.{exact_line}
 use Rattle.frz_prelude.specs.TableCauses.{table_line}
 use Rattle.frz_prelude.specs.WrongLines.{wrong_line}
 
--- how the verdict on a table of so many numbers is told
+-- the status and the line that tell a verdict on a table with this many numbers
 abbrev pub verdict_status : Verdict → Status
 verdict_status verdict.Exact = statuses.Success
 verdict_status (verdict.Wrong wrong) = statuses.Wrong
@@ -31,7 +31,7 @@ abbrev pub verdict_line : ℕ → Verdict → List ℕ
 verdict_line size verdict.Exact = exact_line size
 verdict_line size (verdict.Wrong wrong) = wrong_line wrong
 
--- on a file that opens: the verdict on its codes
+-- the answer for a file that opens: the verdict on its codes
 pub record IsJudged (contents : Contents) (bytes : List ℕ) (files : Files)
     (a : Answer) : Type 0 where
   pub verdict : Verdict
@@ -40,18 +40,18 @@ pub record IsJudged (contents : Contents) (bytes : List ℕ) (files : Files)
   pub told : a ≡ says (verdict_status verdict)
       (verdict_line (size_of contents.rules.groups) verdict) files
 
--- by how the file opens
+-- the answer, by how the file opens
 abbrev pub IsCheckedBy : Result Contents TableFault → List ℕ → Files → Answer → Type 0
 IsCheckedBy (Ok contents) bytes files a = IsJudged contents bytes files a
 IsCheckedBy (Err fault) bytes files a = a ≡ says (table_status fault) (table_line fault) files
 
--- by the file that has the name
+-- the answer for the file that has the name
 abbrev pub IsCheckedAt : List ℕ → Files → Answer → Type 0
 IsCheckedAt table files a =
     IsCheckedBy (opened (table_format Plain) (files table)) (bytes_at files table) files a
 
--- at most a step a number; the calls of the store that open the file and two for each piece of a
--- side's codes; and no more bytes asked than the file has
+-- the costs of `check`: at most one step a number; the calls of the store that open the file, and
+-- two for each piece of a side's codes; and no more bytes asked for than the file has
 abbrev pub checking_costs : Option (List ℕ) → Costs
 checking_costs held =
     let size = opened_size (opened (table_format Plain) held) in

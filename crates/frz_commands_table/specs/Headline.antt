@@ -1,4 +1,4 @@
--- The headline: what it says that `check` has ended with status 0.
+-- The headline: what it means that `check` has ended with status 0.
 use Rattle.std.specs.Prelude.{◌≡◌, ℕ, true, List, Some, Ok}
 use Rattle.frz_board.specs.declared.man.Colour.TheVariants.{White, Black}
 use Rattle.frz_exits.specs.Books.{value_by}
@@ -25,27 +25,28 @@ pub record Headline (table : List ℕ) (files : Files) : Type 0 where
   pub text : List ℕ
   pub rules : RuleLines
   pub accepted : rules_of text ≡ Ok rules
-  -- behind the text and the size of its set stand White's codes
-  -- and then Black's, one for each number
+  -- behind the text and the size of its set come White's codes and then Black's, one for each
+  -- number
   pub layout : IsTableFile (magic_of Plain) text (size_of rules.groups) bytes
   pub white : List ℕ
   pub black : List ℕ
   pub white_is : codes_at White text (size_of rules.groups) bytes ≡ white
   pub black_is : codes_at Black text (size_of rules.groups) bytes ≡ black
-  -- they are the codes of the values of the restricted game,
-  -- with least plies; broken numbers have 0
+  -- the codes stand for the values of the restricted game, with least plies; broken numbers have 0
   pub white_table : IsTableOf rules (value_by rules) White white
   pub black_table : IsTableOf rules (value_by rules) Black black
   -- so the file is the one file of its text
   pub one_file : IsOneFile (magic_of Plain) text rules (value_by rules) bytes
-  -- a win forces, within its plies and against every legal reply, mate or an assigned win; where
-  -- the exits are true it forces mate, and with a win or a hold the opponent forces none
+  -- a win forces mate or an exit that is won, within its plies and against every legal reply. Where
+  -- the exits are true it forces mate, and with a win or a hold the opponent cannot force mate
   pub white_means : TableMeans rules (value_by rules) White white
   pub black_means : TableMeans rules (value_by rules) Black black
-  -- where the exit lines are true by the men, the exits are true
+  -- where the exit lines are true by the men (the men that their conditions leave show it), the
+  -- exits are true
   pub true_by_men : are_true_by_men rules ≡ true → AreTrueExits rules (value_by rules)
-  -- where no line forbids a side a move, its codes say of chess both ways what TableMeansExactly
-  -- says: so where each way out of the set is drawn by the men, a win within n is a mate in just n
-  -- plies, with a failure the opponent mates in just so many, and with a hold neither side can
+  -- where no line forbids a side a move, its codes are exact in chess as TableMeansExactly says.
+  -- For instance, where each way out of the set is drawn by the men, a win within n is a mate in
+  -- exactly n plies, a failure is a mate by the opponent in exactly its plies, and with a hold
+  -- neither side can force mate
   pub white_exact : TableIsExactWhereFree rules (value_by rules) White white
   pub black_exact : TableIsExactWhereFree rules (value_by rules) Black black

@@ -32,8 +32,8 @@ use Rattle.frz_commands_table.specs.Migrated.{IsMigrated}
 use Rattle.frz_prelude.specs.Replies.{migrated_line}
 use Rattle.frz_commands_table.specs.Migrating.{IsMigratedAt, migrating_costs}
 
--- OLD holds a table of the former format, NEW holds it
--- rewritten afterwards, and no other name changes
+-- OLD holds a table of the former format. Afterwards NEW holds it rewritten, and no other name
+-- changes
 pub record Rewrites (old new : List ℕ) (files : Files) (a : Answer) : Type 0 where
   pub bytes : List ℕ
   pub there : files old ≡ Some bytes
@@ -65,9 +65,9 @@ MeansByStatus old new files a Table = RefusesOld old files a
 MeansByStatus old new files a Missing = MissesOld old files a
 MeansByStatus old new files a status = ⊥
 
--- a former file of a text: its header with the former magic and the former size, and for each side,
--- at the former number of each position of the set, the code of
--- its bound. What stands at the other numbers is free
+-- a former file of a text: its header has the former magic and the former size. For each side, the
+-- code at the former number of each position of the set is that of its bound. The codes at the
+-- other numbers are free
 pub record IsFormerFile (text : List ℕ) (rules : RuleLines) (value : Board → Value)
     (bytes : List ℕ) : Type 0 where
   pub layout : IsTableFile old_magic text (old_size_of rules.groups) bytes
@@ -77,8 +77,8 @@ pub record IsFormerFile (text : List ℕ) (rules : RuleLines) (value : Board →
       ≡ code_of b)
       × IsBoundAt rules value side p b
 
--- the name holds a former file of a text that is accepted,
--- whose set has few numbers by the former format
+-- the name holds a former file of an accepted text, whose set has few enough numbers in the former
+-- format
 pub record HoldsFormerFile (old : List ℕ) (files : Files) : Type 0 where
   pub bytes : List ℕ
   pub there : files old ≡ Some bytes
@@ -88,7 +88,7 @@ pub record HoldsFormerFile (old : List ℕ) (files : Files) : Type 0 where
   pub few : old_size_of rules.groups ≤ MOST_OLD_NUMBERS
   pub former : IsFormerFile text rules (value_by rules) bytes
 
--- it is rewritten, and NEW holds the one file of this text afterwards
+-- OLD is rewritten with status 0, and afterwards NEW holds the one file of this text
 pub record BecomesOneFile (text : List ℕ) (rules : RuleLines) (new : List ℕ) (files : Files)
     (a : Answer) : Type 0 where
   pub done : a.status ≡ Success
@@ -103,7 +103,7 @@ pub record MeansMigrate (old new : List ℕ) (files : Files) (a : Answer) : Type
   pub says : MeansByStatus old new files a a.status
   pub exact : (h : HoldsFormerFile old files) → BecomesOneFile h.text h.rules new files a
 
--- `migrate` at two names that differ
+-- `migrate` with two names that differ
 abbrev pub migrating_at : (old new : List ℕ) → Job
 migrating_at old new =
     record (plain (Success ∷ Table ∷ Missing ∷ [])

@@ -19,7 +19,7 @@ use Rattle.frz_prelude.specs.TableCauses.{table_line}
 use Rattle.frz_commands_table.specs.Migrated.{IsMigrated}
 use Rattle.frz_commands_table.specs.Rewriting.{former_size}
 
--- of a file that opens: NEW holds it rewritten, and every other name what it held
+-- the answer for a file that opens: NEW holds it rewritten, and every other name what it held
 pub record IsRewritten (contents : Contents) (bytes new : List ℕ) (files : Files)
     (a : Answer) : Type 0 where
   pub new_bytes : List ℕ
@@ -27,17 +27,17 @@ pub record IsRewritten (contents : Contents) (bytes new : List ℕ) (files : Fil
   pub told : a ≡ says Success (migrated_line (size_of contents.rules.groups))
       (put files new new_bytes)
 
--- by how the file opens
+-- the answer, by how the file opens
 abbrev pub IsMigratedBy : Result Contents TableFault → List ℕ → List ℕ → Files → Answer → Type 0
 IsMigratedBy (Ok contents) bytes new files a = IsRewritten contents bytes new files a
 IsMigratedBy (Err fault) bytes new files a = a ≡ says (table_status fault) (table_line fault) files
 
--- by the file that has the name OLD
+-- the answer for the file that has the name OLD
 abbrev pub IsMigratedAt : (old new : List ℕ) → Files → Answer → Type 0
 IsMigratedAt old new files a =
     IsMigratedBy (opened old_format (files old)) (bytes_at files old) new files a
 
--- to write a table of this text and size with these codes under the name, and to say its size
+-- the job to write a table of this text and size with these codes under the name, and tell its size
 abbrev pub writing_new : (text : List ℕ) (size : ℕ) (white black name : List ℕ) → Job
 writing_new text size white black name =
     record (plain (Success ∷ []) (λ files input a.
@@ -52,14 +52,15 @@ writing_new text size white black name =
       });
     }
 
--- where the file opens, each side's codes are read in pieces, and the new file is written
+-- the calls after opening: each side's codes are read in pieces, and the new file is written
 abbrev pub moving_calls : Result Contents TableFault → ℕ
 moving_calls (Ok contents) =
     2 * pieces_of (old_size_of contents.rules.groups) + writing_calls
     (size_of contents.rules.groups)
 moving_calls (Err fault) = 0
 
--- no step, these calls of the store, and no more bytes asked than the file has
+-- the costs of `migrate`: no step, these calls of the store, and no more bytes asked for than the
+-- file has
 abbrev pub migrating_costs : Option (List ℕ) → Costs
 migrating_costs held = record {
   steps = Some 0;

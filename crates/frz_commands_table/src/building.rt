@@ -1,4 +1,4 @@
-//! The command `build RULES TABLE`: writes the table file of a rules text.
+//! The command `build RULES TABLE`: solves the set of a rules text and writes its table file.
 ghost use Rattle.std.specs.Prelude.{◌≡◌, ◌≤◌, map, false, length};
 ghost use Rattle.std.specs.String.{string_bytes};
 ghost use Rattle.frz_sets.specs.Sound.{IsSound};
@@ -20,7 +20,7 @@ use frz_table::FileKind;
 use std::alloc::Global;
 use std::sync::ledger::Ledger;
 
-/// Builds the table of rules that were read.
+/// Solves the game of rules that were read, and writes its table file under the name TABLE.
 fn build_by<S: Store, L: Ledger>(
     alloc: Global,
     read: &RulesText,
@@ -49,7 +49,8 @@ fn build_by<S: Store, L: Ledger>(
     Ok(Reply::Built(size))
 }
 
-/// Does `build` with these words behind it.
+/// The command `build`; `words` are the two words behind its name, RULES TABLE. Refuses two equal
+/// names, before it reads a file.
 pub fn build<S: Store, L: Ledger>(
     alloc: Global,
     words: &[String],

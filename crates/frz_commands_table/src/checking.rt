@@ -14,7 +14,7 @@ use frz_store::Store;
 use std::alloc::Global;
 use std::sync::ledger::Ledger;
 
-/// What is said of a table that was judged.
+/// The reply on a table that was judged: its size if it is exact, or its first wrong entry.
 fn reply_on(judged: Judged) -> Reply
     ensures status { reply_status result ≡ verdict_status judged.verdict }
     ensures text { text_of result ≡ verdict_line judged.size judged.verdict }
@@ -25,7 +25,7 @@ fn reply_on(judged: Judged) -> Reply
     }
 }
 
-/// Does `check` with these words behind it.
+/// The command `check`; `words` is the one word behind its name, TABLE.
 pub fn check<S: Store, L: Ledger>(
     alloc: Global,
     words: &[String],

@@ -1,4 +1,4 @@
-//! The verdict on the table of a name, with its size.
+//! The verdict on the table file of a name, with its size.
 ghost use Rattle.std.specs.Prelude.{◌≤◌, IfOk, IfErr};
 ghost use Rattle.frz_store.specs.Told.{store_of, StoreQuiet};
 ghost use Rattle.frz_table.specs.Faults.{TableCauses};
@@ -13,15 +13,15 @@ use frz_table::{TableFault, open_table};
 use std::alloc::Global;
 use std::sync::ledger::Ledger;
 
-/// How many numbers a table has, and the verdict on it.
+/// The verdict on a table, and its size: how many numbers it has.
 #[derive(Clone, Copy, Debug)]
 pub struct Judged {
     pub size: u32,
     pub verdict: Verdict,
 }
 
-/// Opens the table of this name and checks its codes: the calls of the store are those of opening
-/// and of loading, and the steps at most the size.
+/// Opens the table of this name, loads its codes and checks each. The calls of the store are those
+/// of opening and of loading; the steps are at most the size.
 pub fn judge_file<S: Store, L: Ledger>(
     alloc: Global,
     name: &str,

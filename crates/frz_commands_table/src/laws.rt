@@ -1,5 +1,4 @@
-//! What holds of the answers of these commands, each law the
-//! contract of a function that does nothing.
+//! Laws on the answers of these commands. Each law is the contract of a function that does nothing.
 ghost use Rattle.std.specs.Prelude.{◌≡◌, ℕ, List};
 ghost use Rattle.frz_answer.specs.Answers.{Answer};
 ghost use Rattle.frz_answer.specs.declared.status.Status.TheVariants.{Success};
@@ -11,8 +10,8 @@ ghost use Rattle.frz_commands_table.specs.CheckMeans.{checking_at};
 
 use frz_check::laws::one_file;
 
-/// Of two files with one text `check` accepts at most one: where it answers with status 0 over
-/// both, they are the same bytes.
+/// `check` accepts at most one file for each rules text: if it ends with status 0 for two files
+/// with the same text, they hold the same bytes.
 pub fn one_is_accepted()
     ensures { (table other : List ℕ) (files others : Files) (input more : List ℕ) (a b : Answer) →
         (checking_at table).answers files input a → a.status ≡ Success →
@@ -24,7 +23,7 @@ pub fn one_is_accepted()
     one_file();
 }
 
-/// What `build` writes with status 0, `check` finds exact.
+/// `check` ends with status 0 for the table that `build` wrote with status 0.
 pub fn built_is_accepted()
     ensures { (rules table : List ℕ) (files : Files) (input more : List ℕ) (a b : Answer) →
         (building_at rules table).answers files input a → a.status ≡ Success →

@@ -1,4 +1,4 @@
-//! The command `migrate OLD NEW`: rewrites a table of the former format.
+//! The command `migrate OLD NEW`: rewrites a table of the former file format in today's.
 ghost use Rattle.std.specs.Prelude.{◌≡◌, ℕ, ◌+◌, ◌≤◌, length, map, false, OnOk};
 ghost use Rattle.std.specs.String.{string_bytes};
 ghost use Rattle.frz_rules.specs.declared.fault.TheConstants.{LONGEST_TEXT};
@@ -20,7 +20,7 @@ use frz_store::{Store, StoreFault};
 use frz_table::FileKind;
 use std::alloc::Global;
 
-/// Creates the file and writes it: the header, White's codes, then Black's.
+/// Creates the file and writes it: the header, then White's codes, then Black's.
 fn write_file<S: Store>(
     name: &str,
     text: &[u8],
@@ -47,7 +47,7 @@ fn write_file<S: Store>(
     Ok(())
 }
 
-/// Writes the table of this text with these codes.
+/// Writes a new table file of the same text with the moved codes.
 fn write_new<S: Store>(moved: &Moved, name: &str, store: &mut S) -> Result<Reply, Stop>
     requires short { length moved.now.file.text ≤ LONGEST_TEXT }
     requires some { 1 ≤ length moved.now.white.items }
@@ -63,7 +63,7 @@ fn write_new<S: Store>(moved: &Moved, name: &str, store: &mut S) -> Result<Reply
     Ok(Reply::Migrated(size))
 }
 
-/// Rewrites the table of the name OLD under the name NEW.
+/// Reads the table named OLD and writes it, rewritten, under the name NEW.
 fn migrate_at<S: Store>(alloc: Global, old: &str, new: &str, store: &mut S) -> Result<Reply, Stop>
     ensures { (steps : ℕ) → Replies (migrating_at old.now new.now) result
         (store_of S.Store store.old) (store_of S.Store store.new) steps steps }
@@ -72,7 +72,8 @@ fn migrate_at<S: Store>(alloc: Global, old: &str, new: &str, store: &mut S) -> R
     write_new(&moved, new, store)
 }
 
-/// Does `migrate` with these words behind it.
+/// The command `migrate`; `words` are the two words behind its name, OLD NEW. Refuses two equal
+/// names, before it reads a file.
 pub fn migrate<S: Store>(alloc: Global, words: &[String], store: &mut S) -> Result<Reply, Stop>
     ensures replies { (steps : ℕ) → Replies (migrate_words (map string_bytes words.now)) result
         (store_of S.Store store.old) (store_of S.Store store.new) steps steps }

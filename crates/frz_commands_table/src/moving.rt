@@ -1,4 +1,4 @@
-//! The codes of a table of the former format, read and put at the numbers of today.
+//! The codes of a table of the former format, read and put in the order of today's numbers.
 ghost use Rattle.std.specs.Prelude.{◌≡◌, ◌<◌, ◌≤◌, ◌+◌, ◌*◌, length, IfOk, IfErr};
 ghost use Rattle.frz_fide.specs.Valid.{IsValid};
 ghost use Rattle.frz_index.specs.Members.{Member};
@@ -32,7 +32,7 @@ pub struct Codes {
     pub black: u32,
 }
 
-/// A table of the former format, and its codes in order of the numbers of today.
+/// A table of the former format, with its codes in the order of today's numbers.
 #[derive(Drop)]
 pub struct Moved {
     pub file: OldFile,
@@ -40,7 +40,7 @@ pub struct Moved {
     pub black: Vec<u32>,
 }
 
-/// The former number of a position of the set.
+/// The number that a position of the set has in the former format.
 fn former_number(rules: &Rules, p: &Position) -> u32
     requires sound { IsSound rules.now }
     requires few { old_size_of rules.now.groups ≤ MOST_OLD_NUMBERS }
@@ -56,8 +56,8 @@ fn former_number(rules: &Rules, p: &Position) -> u32
     }
 }
 
-/// The codes at a number: those that its position has at its former number, and 0 where it has no
-/// position.
+/// The codes at today's number `i`: those that its position has at its former number, and 0 where
+/// `i` is broken (belongs to no position).
 fn moved_at(set: &Set, rules: &Rules, old: &Pair<'_>, i: u32) -> Codes
     requires sound { IsSound rules.now }
     requires fits { set.now ≡ rules.now.groups }
@@ -83,7 +83,7 @@ fn moved_at(set: &Set, rules: &Rules, old: &Pair<'_>, i: u32) -> Codes
     }
 }
 
-/// White's codes and Black's in order of the numbers of today, in one pass over these.
+/// White's codes and Black's in the order of today's numbers, in one pass over these.
 fn moved_lists(
     alloc: Global,
     set: &Set,
@@ -112,7 +112,7 @@ fn moved_lists(
     Ok((white, black))
 }
 
-/// Loads the codes of an open table and moves them.
+/// Loads the codes of an open table of the former format and puts them in today's order.
 fn load_moved<S: Store>(
     alloc: Global,
     file: &OldFile,
@@ -141,8 +141,8 @@ fn load_moved<S: Store>(
     Ok(lists)
 }
 
-/// Opens the table of the former format that has this name, and moves its codes. The calls of the
-/// store are those of opening and those of loading.
+/// Opens the table of the former format that has this name, loads its codes and puts them in
+/// today's order. The calls of the store are those of opening and those of loading.
 pub fn move_file<S: Store>(alloc: Global, name: &str, store: &mut S) -> Result<Moved, TableFault>
     ensures moved { IfOk result (MovesFile name.now
         (store_of S.Store store.old) (store_of S.Store store.new)) }

@@ -1,5 +1,5 @@
-//! The command `sample K`: the tables of two kings and a rook anywhere, where the rook leaves the
-//! square K alone, solved, checked and counted in memory.
+//! The command `sample K`: the tables of two kings and a rook anywhere, where the rook never moves
+//! to the square K, solved, checked and counted in memory.
 ghost use Rattle.std.specs.Prelude.{◌≡◌, ◌+◌, ◌*◌, ◌≤◌, IfOk, Ok, map};
 ghost use Rattle.std.specs.String.{string_bytes};
 ghost use Rattle.frz_board.specs.declared.man.Colour.TheVariants.{White, Black};
@@ -31,10 +31,10 @@ use frz_words::read_number;
 use std::alloc::{AllocError, Global};
 use std::sync::ledger::Ledger;
 
-/// The number of the last square, the greatest K.
+/// The greatest K: K is the number of a square, 0 for a1 to 63 for h8.
 pub const LAST_SQUARE: u32 = 63;
 
-/// The rules text, which names the square.
+/// The rules text of the sample, which names the square `k`.
 fn sample_text(alloc: Global, k: Square) -> Result<Vec<u8>, AllocError>
     ensures { IfOk result (λ text. text.items ≡ words.sample_text k) }
 {
@@ -49,7 +49,7 @@ fn sample_text(alloc: Global, k: Square) -> Result<Vec<u8>, AllocError>
     Ok(text)
 }
 
-/// The tables of both sides, solved in one workshop, which keeps Black's, and checked.
+/// White's table, and a workshop that holds Black's: both are solved in it in turn, and checked.
 fn checked_tables<B: ExitBook, L: Ledger>(
     alloc: Global,
     game: &Game<'_, B>,
@@ -80,7 +80,7 @@ fn checked_tables<B: ExitBook, L: Ledger>(
     }
 }
 
-/// Solves, checks and counts by the rules of the text.
+/// Solves and checks the tables of these rules, and writes how many codes of each kind they have.
 fn sample_by<O: Sink, L: Ledger>(
     alloc: Global,
     k: Square,
@@ -112,7 +112,7 @@ fn sample_by<O: Sink, L: Ledger>(
     }
 }
 
-/// Samples at the square: its text is always accepted.
+/// Does the sample at the square `k`; its rules text is always accepted.
 fn sample_at<O: Sink, L: Ledger>(alloc: Global, k: Square, out: &mut O, steps: &mut Steps<L>) -> End
     requires { k ≤ LAST_SQUARE }
     ensures { (store : StoreTold) (input : SourceTold) → Ran (sampling k) result
@@ -129,7 +129,7 @@ fn sample_at<O: Sink, L: Ledger>(alloc: Global, k: Square, out: &mut O, steps: &
     }
 }
 
-/// Samples at the square of the number that the word writes.
+/// Does the sample at the square whose number the word writes, or refuses the word.
 fn sample_named<O: Sink, L: Ledger>(
     alloc: Global,
     word: &str,
@@ -147,7 +147,7 @@ fn sample_named<O: Sink, L: Ledger>(
     }
 }
 
-/// Runs `sample` with these words behind it.
+/// Runs the command `sample`; `words` is the one word behind its name, K. It uses no file.
 pub fn run_sample<O: Sink, L: Ledger>(
     alloc: Global,
     words: &[String],

@@ -1,4 +1,4 @@
-//! How many codes of each kind the tables of a sample have, and the lines that tell it.
+//! Counts the codes of each kind in the tables of a sample, and writes the lines that tell it.
 ghost use Rattle.std.specs.Prelude.{◌≡◌};
 ghost use Rattle.std.specs.List.{count_by};
 ghost use Rattle.frz_arena.specs.Codes as kinds;
@@ -13,10 +13,10 @@ use frz_board::{Colour, Square};
 use frz_prelude::write_side_name;
 use frz_store::{Failed, Sink};
 
-/// The entry of a broken number.
+/// The code of a broken number, which belongs to no position of the set.
 pub const BROKEN: u32 = 0;
 
-/// How many of the codes are this one.
+/// How many of the codes are `wanted`.
 fn count_code(table: &[u32], wanted: u32) -> usize
     ensures { result ≡ count_by (is_code wanted) table.now }
 {
@@ -35,14 +35,14 @@ fn count_failures(table: &[u32]) -> usize
     table.iter().filter(|code| is_failure(**code)).count()
 }
 
-/// The plies of a win, and 0 where the code is none.
+/// The plies of a win, and 0 where the code is not that of a win.
 fn win_plies(code: u32) -> u32
     ensures { result ≡ words.win_plies code }
 {
     if is_win(code) { (code - 2) / 2 } else { 0 }
 }
 
-/// The most plies of a win.
+/// The most plies of a win in the table, and 0 where it has none.
 fn longest(table: &[u32]) -> u32
     ensures { result ≡ words.longest table.now }
 {
@@ -67,7 +67,7 @@ fn write_tally<O: Sink>(
     write_numbered(b" longest ", plies, out)
 }
 
-/// Says how many codes of each kind the table has.
+/// Writes how many wins, holds and failures the table has, and the most plies of a win.
 fn write_counts<O: Sink>(table: &[u32], out: &mut O) -> Result<(), Failed>
     ensures { WroteText (counts_text table.now) result
         (sink_of O.Sink out.old) (sink_of O.Sink out.new) }
@@ -100,7 +100,8 @@ fn write_head<O: Sink>(k: u64, size: u64, broken: u64, out: &mut O) -> Result<()
     write_piece(b"\n", out)
 }
 
-/// Says all that is said of the tables.
+/// Writes all lines of a sample: the square, the size, the broken numbers, a line for each side,
+/// and that the tables are exact.
 pub fn write_sample<O: Sink>(
     k: Square,
     size: u32,

@@ -6,7 +6,7 @@ use Rattle.frz_sets.specs.declared.exit.Value.TheVariants.{Unknown}
 use Rattle.frz_sets.specs.Views.{ExitLine, RuleLines}
 use Rattle.frz_exits.specs.Conditions.{conditions_hold}
 
--- that of the first line all of whose conditions hold, else unknown
+-- the value of the first line all of whose conditions hold, else unknown
 abbrev pub first_value : List ExitLine → Board → Value
 first_value [] q = Unknown
 first_value (line ∷ lines) q =

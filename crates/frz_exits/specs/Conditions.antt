@@ -29,6 +29,6 @@ test_holds Always p = true
 abbrev pub condition_holds : Board → Condition → Bool
 condition_holds p c = if c.negated then not (test_holds c.test p) else test_holds c.test p
 
--- all of them hold
+-- all the conditions hold
 abbrev pub conditions_hold : Board → List Condition → Bool
 conditions_hold p conds = list_all (condition_holds p) conds

@@ -18,17 +18,18 @@ abbrev pub is_en_passant : Board → Step → Bool
 is_en_passant p m =
     has p p.turn Pawn m.from && takes_in_passing p p.turn m.from m.to
 
--- a man is captured, en passant too
+-- the move captures a man, en passant too
 abbrev pub is_capture : Board → Step → Bool
 is_capture p m = not (is_empty p m.to) || is_en_passant p m
 
--- the move is of the kind that the line names
+-- the move is of the sort that the line names: any move, a capture or a promotion
 abbrev pub is_such : Only → Board → Step → Bool
 is_such Any p m = true
 is_such Capture p m = is_capture p m
 is_such Promotion p m = is_some m.promo
 
--- the move is of such a man, from the first squares to the second
+-- the line covers the move: a man of its colour and kind moves from one of its first squares to one
+-- of its second, and the move is of the sort that it names
 unfoldable pub covers : Forbid → Board → Step → Bool
 covers line p m =
     has p line.colour line.kind m.from

@@ -24,13 +24,13 @@ class_of BlackHolds White = Bad
 class_of BlackHolds Black = Safe
 class_of Unknown side = Bad
 
--- the number of a win that has one, and 0 of all other values
+-- the lag of a value: the plies of a win that names them, and 0 for all other values
 abbrev pub lag_of : Value → ℕ
 lag_of (WhiteWinsIn n) = n
 lag_of (BlackWinsIn n) = n
 lag_of _ = 0
 
--- the value says in how many plies
+-- the value says in how many plies a side wins
 abbrev pub is_numbered : Value → Bool
 is_numbered (WhiteWinsIn n) = true
 is_numbered (BlackWinsIn n) = true

@@ -1,4 +1,4 @@
-//! The values of positions outside the set: a book of them, and the book of a rules text.
+//! The values of positions outside the set: what a book is, and the book of a rules text.
 
 ghost use Rattle.std.specs.Prelude.{◌≡◌, ◌≤◌};
 ghost use Rattle.frz_board.specs.Boards.{Board};
@@ -13,7 +13,7 @@ use frz_bits::Bitboards;
 use frz_board::Position;
 use frz_sets::{Exit, Rules, Value};
 
-/// What gives a value to each position outside the set.
+/// A book: a rule that gives each position outside the set its value.
 pub trait ExitBook {
     /// The value of a valid position.
     ghost value_at: { Self → Board → Value };
@@ -23,7 +23,7 @@ pub trait ExitBook {
         requires { IsValid q.now }
         ensures { result ≡ value_at self.now q.now };
 
-    /// The value of a position whose words are at hand.
+    /// The value of a position whose bitboards are at hand.
     fn value_on(&self, q: &Bitboards) -> Value
         requires { IsValid q.now }
         ensures { result ≡ value_at self.now q.now }
@@ -31,11 +31,12 @@ pub trait ExitBook {
         self.value(q.as_position())
     }
 
-    /// No number is above 1,000.
+    /// No value names more than 1,000 plies.
     ghost small: { (book : Self) (q : Board) → IsValid q → lag_of (value_at book q) ≤ 1000 };
 }
 
-/// The book of a rules text: the value of the first exit line that holds, else unknown.
+/// The book of a rules text: it gives the value of the first exit line whose conditions all hold,
+/// and unknown where there is none.
 #[derive(Clone, Copy)]
 pub struct RuleBook<'a> {
     pub rules: &'a Rules,
@@ -68,7 +69,7 @@ impl ExitBook for RuleBook<'_> {
     }
 }
 
-/// The value of the first line that holds, else unknown.
+/// The value of the first line whose conditions all hold, or unknown.
 fn value_of(lines: &[Exit], q: &Bitboards) -> Value
     requires { IsValid q.now }
     ensures { result ≡ first_value lines.now q.now }

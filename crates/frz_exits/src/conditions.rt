@@ -22,7 +22,7 @@ fn is_in_range(least: u8, most: u8, n: u8) -> bool
     least <= n && n <= most
 }
 
-/// How many such men stand on the board.
+/// How many men of this colour and kind stand on the board.
 fn count(q: &Bitboards, colour: Colour, kind: Kind) -> u8
     requires { IsValid q.now }
     ensures { result ≡ count_of q.now colour kind }
@@ -30,14 +30,14 @@ fn count(q: &Bitboards, colour: Colour, kind: Kind) -> u8
     q.men(Man { colour, kind }).count_ones() as u8
 }
 
-/// Does such a man stand on one of the squares?
+/// Does a man of this colour and kind stand on one of the squares?
 fn stands_on(q: &Bitboards, colour: Colour, kind: Kind, set: SquareSet) -> bool
     ensures { result ≡ list_any (λ s. has q.now colour kind s && has_square set s) squares }
 {
     both(q.men(Man { colour, kind }), set.0) != 0
 }
 
-/// Is the side's king so far from the square? A side has one king.
+/// Is the distance of the side's king from the square from `least` to `most`? A side has one king.
 fn is_king_within(q: &Bitboards, colour: Colour, square: Square, least: u8, most: u8) -> bool
     requires { IsValid q.now }
     ensures { result ≡ list_any (λ s. has q.now colour King s

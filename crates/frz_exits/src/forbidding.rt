@@ -15,7 +15,7 @@ fn captures(p: &Position, m: Move) -> bool
             && (m.from.is_pawn_attack(p.turn(), m.to) && p.is_target(m.to))
 }
 
-/// Is the move one of those that the line names?
+/// Is the move of the sort that the line names: any move, a capture or a promotion?
 fn is_one_of(only: Only, p: &Position, m: Move) -> bool
     ensures { result ≡ is_such only p.now m }
 {
@@ -26,7 +26,7 @@ fn is_one_of(only: Only, p: &Position, m: Move) -> bool
     }
 }
 
-/// Does the line cover the move?
+/// Does the line cover the move: a man of its colour and kind, its squares and its sort of move?
 #[tactic(auto, unfolding(crate::specs::Forbidding::covers))]
 fn line_covers(line: &Forbid, p: &Position, m: Move) -> bool
     ensures { result ≡ covers line.now p.now m }
@@ -45,8 +45,8 @@ fn forbids(lines: &[Forbid], side: Colour, p: &Position, m: Move) -> bool
         .any(|line| line.colour == side && line_covers(line, p, m))
 }
 
-/// Is the move free: covered by no forbid line of the side? The move is a legal one of the side to
-/// move.
+/// Is the move free: covered by no forbid line of `side`? It is meant for a legal move of the side
+/// to move.
 pub fn allowed(r: &Rules, side: Colour, p: &Position, m: Move) -> bool
     ensures { result ≡ is_free r.now side p.now m }
 {

@@ -7,7 +7,7 @@ ghost use Rattle.frz_sets.specs.declared.exit.Value.{Value};
 ghost use Rattle.frz_arena.specs.declared.class.Class.TheVariants.{Good, Bad};
 ghost use Rattle.frz_exits.specs.Values.{class_of};
 
-/// What is good for a side is bad for its opponent.
+/// A value that is good for a side is bad for its opponent.
 pub fn opposed()
     ensures { (v : Value) (side : Colour) →
         class_of v side ≡ Good → class_of v (other_of side) ≡ Bad }

@@ -7,7 +7,8 @@ use frz_arena::Class;
 use frz_board::Colour;
 use frz_sets::Value;
 
-/// What the value is worth to the side.
+/// What the value is worth to the side: good where the side wins, safe where it holds or the game
+/// is drawn, and bad otherwise, unknown values too.
 pub fn class(v: Value, side: Colour) -> Class
     ensures { result ≡ class_of v side }
 {
@@ -21,7 +22,7 @@ pub fn class(v: Value, side: Colour) -> Class
     }
 }
 
-/// In how many plies the value wins, where it says so, and 0 otherwise.
+/// The lag of the value: in how many plies it wins, where it says so, and 0 otherwise.
 pub fn lag(v: Value) -> u32
     ensures { result ≡ lag_of v }
 {

@@ -7,7 +7,7 @@ use Rattle.frz_words.specs.Words.{has_bytes}
 unfoldable pub fields : List ℕ → List (List ℕ)
 fields text = filter has_bytes (split (λ b. b == 32) text)
 
--- what each field is for; the two numbers may be left out together
+-- what each field is for; the two numbers may only be left out together
 pub record FieldTexts : Type 0 where
   pub placement : List ℕ
   pub turn : List ℕ
@@ -16,7 +16,7 @@ pub record FieldTexts : Type 0 where
   pub halfmove : Option (List ℕ)
   pub fullmove : Option (List ℕ)
 
--- four fields or six
+-- the fields by their purpose, where there are four or six
 unfoldable pub named : List (List ℕ) → Option FieldTexts
 named (a ∷ b ∷ c ∷ d ∷ []) =
     Some (record {

@@ -17,13 +17,13 @@ use Rattle.frz_fen.specs.declared.fault.FenFault.TheVariants.{Fields as WrongFie
 use Rattle.frz_fen.specs.Fields.{FieldTexts, named_fields}
 use Rattle.frz_fen.specs.Placement.{ranks, wrong_rank, board_cells}
 
--- the value, where there is no fault before it, and what it leads to
+-- the first fault, or what the value leads to
 abbrev pub and_then : {A B : Type 0} →
     Result A FenFault → (A → Result B FenFault) → Result B FenFault
 and_then (Err fault) next = Err fault
 and_then (Ok value) next = next value
 
--- the one word that a field has to be
+-- the field is a dash
 abbrev pub is_dash : List ℕ → Bool
 is_dash field = bytes_eq field (codes "-")
 
@@ -34,13 +34,13 @@ placed parts (Some rank) = Err (WrongPlacement rank)
 abbrev pub placement_of : List ℕ → Result (List ℕ) FenFault
 placement_of field = placed (ranks field) (wrong_rank 8 (ranks field))
 
--- w or b
+-- the side to move: w or b
 abbrev pub turn_of : List ℕ → Result Colour FenFault
 turn_of field =
     if bytes_eq field (codes "w") then Ok White else
     (if bytes_eq field (codes "b") then Ok Black else Err WrongTurn)
 
--- no castling right is taken
+-- no castling right is accepted
 abbrev pub castling_of : List ℕ → Result (Unit {0}) FenFault
 castling_of field = if is_dash field then Ok tt else Err WrongCastling
 
@@ -56,7 +56,7 @@ target_of turn field = if is_dash field then Ok None else target_on turn (square
 abbrev pub is_clock : List ℕ → Bool
 is_clock field = (nat_le 1 (length field) && nat_le (length field) 4) && list_all is_digit field
 
--- the two numbers, where they stand
+-- the text is a clock, or is left out
 abbrev pub has_clock : Option (List ℕ) → Bool
 has_clock field = option_map_or is_clock field true
 
@@ -64,7 +64,8 @@ abbrev pub clocks_of : Option (List ℕ) → Option (List ℕ) → Result (Unit 
 clocks_of halfmove fullmove =
     if has_clock halfmove && has_clock fullmove then Ok tt else Err WrongClock
 
--- a pawn has passed over the target, and no pawn of the side to move stands beside it
+-- a pawn has passed over the target, and no pawn of the side to move stands beside that pawn, so
+-- none could capture it
 abbrev pub is_idle : Board → ℕ → Bool
 is_idle p t =
     has_passed p (other_of p.turn) t
@@ -82,11 +83,11 @@ abbrev pub accepted : Board → Result (Unit {0}) Cause → Result Board FenFaul
 accepted p (Ok _) = Ok p
 accepted p (Err cause) = Err (NotValid cause)
 
--- the position, where it is valid
+-- the position, if it is valid
 abbrev pub checked : Board → Result Board FenFault
 checked p = accepted p (validity_of p)
 
--- what the fields stand for, and the first of them that is wrong
+-- the position that the fields stand for, or the fault of the first that is wrong
 abbrev pub position_of : FieldTexts → Result Board FenFault
 position_of f =
     and_then (placement_of f.placement) (λ cells.

@@ -1,4 +1,4 @@
--- The text of a position with the fewest digits.
+-- The FEN text of a position, with the fewest digits.
 use Rattle.std.specs.Prelude.{ℕ, zero, suc, ◌+◌, ◌-◌, ◌*◌, ◌==◌, List, [], ◌∷◌, ◌++◌, take, drop, Option, None, Some, codes, if◌then◌else◌}
 use Rattle.std.specs.List.{join_with_byte}
 use Rattle.std.specs.Option.{option_map_or}
@@ -13,11 +13,12 @@ use Rattle.frz_fen.specs.Placement.{is_gap}
 abbrev pub letter_of : ℕ → ℕ
 letter_of cell = option_map_or letter_of_man (man_of_cell cell) 0
 
--- the digit of a gap, and nothing where there is none
+-- the digit of a run of empty squares, and nothing for an empty run
 abbrev pub gap_text : ℕ → List ℕ
 gap_text n = if n == 0 then [] else (48 + n) ∷ []
 
--- an empty square in front: one more on the digit that the text begins with, or a digit of its own
+-- the text with an empty square put in front: one more on the digit that it begins with, or a new
+-- digit 1
 abbrev pub with_gap : List ℕ → List ℕ
 with_gap [] = 49 ∷ []
 with_gap (b ∷ bs) = if is_gap b then (b + 1) ∷ bs else 49 ∷ b ∷ bs
@@ -27,7 +28,7 @@ rank_text [] = []
 rank_text (cell ∷ cells) =
     if cell == 0 then with_gap (rank_text cells) else letter_of cell ∷ rank_text cells
 
--- the cells of a rank, counted from 0
+-- the cells of a rank; ranks are counted from 0
 abbrev pub row : List ℕ → ℕ → List ℕ
 row cells rank = take 8 (drop (8 * rank) cells)
 

@@ -2,7 +2,7 @@
 
 use frz_fide::Invalid;
 
-/// Why a text is no FEN. A text with several faults has the first of this order.
+/// Why a text is not an accepted FEN. For a text with several faults it is the first in this order.
 #[derive(Clone, Copy, Debug, PartialEq, Eq)]
 pub enum FenFault {
     /// There are neither four nor six fields.

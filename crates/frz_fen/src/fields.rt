@@ -5,7 +5,8 @@ ghost use Rattle.frz_fen.specs.Fields.{fields, named_fields as names_of};
 
 use frz_words::cut;
 
-/// The fields of a FEN text, slices of it. The two numbers are there or missing together.
+/// The fields of a FEN text, as slices of it. The halfmove clock and the fullmove number are both
+/// there or both missing.
 #[derive(Clone, Copy)]
 pub struct Fields<'a> {
     pub placement: &'a [u8],
@@ -16,7 +17,8 @@ pub struct Fields<'a> {
     pub fullmove: Option<&'a [u8]>,
 }
 
-/// The four or six fields of a text, and `None` where there are fewer, five or more.
+/// The four or six fields of a text, separated by one or more spaces; `None` where there are fewer
+/// than four, five, or more than six.
 #[tactic(auto, using(crate::proofs::Fielding::naming))]
 pub fn named_fields(text: &[u8]) -> Option<Fields<'_>>
     ensures { MatchOption result (names_of text.now ≡ None) (λ f. names_of text.now ≡ Some (record {
@@ -54,7 +56,7 @@ pub fn named_fields(text: &[u8]) -> Option<Fields<'_>>
     }
 }
 
-/// The first field, and what follows it.
+/// The first field of the text, and what follows it; `None` where there is no field.
 #[tactic(auto, using(crate::proofs::Fielding::fielding))]
 fn next_field(text: &[u8]) -> Option<(&[u8], &[u8])>
     ensures { MatchOption result (fields text.now ≡ [])

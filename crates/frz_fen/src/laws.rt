@@ -4,8 +4,8 @@ ghost use Rattle.std.specs.Prelude.{◌≡◌, ◌≤◌, ℕ, List, true, lengt
 ghost use Rattle.frz_fen.specs.Placement.{is_rank, rank_cells};
 ghost use Rattle.frz_fen.specs.Writing.{rank_text};
 
-/// No text of a rank is shorter than the one that is written: the letters are those of the men, so
-/// the digits are the fewest.
+/// The text that is written for a rank is the shortest: no text for the same squares has fewer
+/// bytes. The letters are those of the men, so it has the fewest digits.
 pub fn fewest_digits()
     ensures { (part : List ℕ) → is_rank part ≡ true
         → length (rank_text (rank_cells part)) ≤ length part }

@@ -1,4 +1,4 @@
-//! The placement of a FEN text is read rank by rank.
+//! Reads the placement of a FEN text, rank by rank.
 
 ghost use Rattle.std.specs.Prelude.{◌≡◌, ◌≤◌, ◌<◌, ◌+◌, ◌*◌, ◌++◌, ◌∷◌, true, false, replicate, drop, length, MatchOption, IfSome, IfOk, option_map};
 ghost use Rattle.arrayvec.specs.ArrayVec.{array_vec_len};
@@ -11,7 +11,8 @@ use arrayvec::ArrayVec;
 use frz_board::{Man, cell_of};
 use frz_words::cut;
 
-/// The cells that a placement stands for, a1 first.
+/// The cells of the 64 squares that a placement stands for, a1 first, then b1; or the fault of the
+/// first rank from 8 down that is wrong or missing.
 #[tactic(auto, using(crate::proofs::Placing::placing))]
 pub fn read_placement(field: &[u8]) -> Result<[u8; 64], FenFault>
     ensures read { result ≡ placement_of field.now }
@@ -38,7 +39,7 @@ pub fn read_placement(field: &[u8]) -> Result<[u8; 64], FenFault>
     }
 }
 
-/// The text of the first rank, and what follows its slash.
+/// The text of the first rank, and the text behind its slash, if there is one.
 fn first_rank(text: &[u8]) -> (&[u8], Option<&[u8]>)
     ensures { ranks text.now ≡ result.0.now ∷ ranks_left (option_map (λ t. t.now) result.1) }
 {
@@ -48,7 +49,7 @@ fn first_rank(text: &[u8]) -> (&[u8], Option<&[u8]>)
     }
 }
 
-/// Puts the cells of a rank in their place, of which `at` is the first.
+/// Puts the eight cells of a rank in their places, of which `at` is the first.
 fn put_row(cells: &mut [u8; 64], at: usize, row: &[u8])
     requires inside { at + 8 ≤ 64 }
     requires whole { length row.now ≡ 8 }
@@ -57,7 +58,8 @@ fn put_row(cells: &mut [u8; 64], at: usize, row: &[u8])
     cells[at..at + 8].copy_from_slice(row);
 }
 
-/// The cells of a rank, from file a to file h.
+/// The eight cells of a rank, from file a to file h; `None` where the text does not fill the rank
+/// exactly.
 #[tactic(auto, using(crate::proofs::RankCells::reading_rank))]
 fn read_rank(part: &[u8]) -> Option<ArrayVec<u8, 8>>
     ensures right { MatchOption result (is_rank part.now ≡ false)
@@ -75,7 +77,7 @@ fn read_rank(part: &[u8]) -> Option<ArrayVec<u8, 8>>
     if row.len() == 8 { Some(row) } else { None }
 }
 
-/// Pushes as many squares with this cell.
+/// Pushes `count` squares with this cell.
 fn push_run(row: &mut ArrayVec<u8, 8>, cell: u8, count: usize)
     requires { array_vec_len row.old + count ≤ 8 }
     ensures { row.new.items ≡ row.old.items ++ replicate count cell }
@@ -85,8 +87,8 @@ fn push_run(row: &mut ArrayVec<u8, 8>, cell: u8, count: usize)
     }
 }
 
-/// The cell that a byte stands for and how many squares have it: a digit stands for empty squares,
-/// a letter for a man.
+/// The cell that a byte stands for, and how many squares have it: a digit 1 to 8 stands for empty
+/// squares, a letter for one man; `None` for any other byte.
 fn run_of(byte: u8) -> Option<(u8, usize)>
     ensures run { MatchOption result (is_gap_or_man byte ≡ false)
         (λ r. (is_gap_or_man byte ≡ true) × (cells_of byte ≡ replicate r.1 r.0)) }

@@ -1,4 +1,4 @@
-//! A FEN text is read field by field, up to its first fault.
+//! Reads a FEN text field by field, up to its first fault.
 
 ghost use Rattle.std.specs.Prelude.{◌≡◌, IfOk, option_map};
 ghost use Rattle.std.specs.List.{list_all};
@@ -13,8 +13,9 @@ use frz_board::{Colour, Position, Square};
 use frz_fide::valid;
 use frz_words::{is_word, read_square};
 
-/// The position that a FEN text stands for, which is valid, or the first fault of the text. The
-/// clocks are read and not kept. A target that no pawn could capture is dropped.
+/// The position that a FEN text stands for, which is valid, or the first fault of the text. The two
+/// clocks are checked and then forgotten. A target square where no pawn could capture en passant is
+/// dropped.
 #[tactic(auto, using(crate::proofs::Meaning::meaning))]
 pub fn read_fen(text: &[u8]) -> Result<Position, FenFault>
     ensures read { result ≡ fen_of text.now }
@@ -31,7 +32,7 @@ pub fn read_fen(text: &[u8]) -> Result<Position, FenFault>
     checked(Position::with_cells(cells, turn, target))
 }
 
-/// `w` or `b`.
+/// The side to move: `w` or `b`.
 fn read_turn(field: &[u8]) -> Result<Colour, FenFault>
     ensures { result ≡ turn_of field.now }
 {
@@ -44,7 +45,7 @@ fn read_turn(field: &[u8]) -> Result<Colour, FenFault>
     }
 }
 
-/// No castling right is taken.
+/// Accepts no castling right: the field has to be `-`.
 fn read_castling(field: &[u8]) -> Result<(), FenFault>
     ensures { result ≡ castling_of field.now }
 {
@@ -62,7 +63,7 @@ fn dash(field: &[u8]) -> bool
     is_word(field, b"-")
 }
 
-/// The square over which the opponent's pawn passed, if there is one.
+/// The target square, which a pawn of the opponent has just passed over, if the field names one.
 fn read_target(field: &[u8], turn: Colour) -> Result<Option<Square>, FenFault>
     ensures { result ≡ target_of turn field.now }
 {
@@ -105,7 +106,7 @@ fn clock_or_none(field: Option<&[u8]>) -> bool
     }
 }
 
-/// One to four digits.
+/// Is the text one to four digits?
 fn is_clock(text: &[u8]) -> bool
     ensures { result ≡ is_clock_text text.now }
 {
@@ -118,7 +119,7 @@ fn digits(text: &[u8]) -> bool
     text.iter().all(|b| b'0' <= *b && *b <= b'9')
 }
 
-/// The position without an idle target, where it is valid.
+/// The position without an idle target, if it is valid.
 fn checked(p: Position) -> Result<Position, FenFault>
     ensures read { result ≡ checked_board (with_kept p) }
     ensures valid { IfOk result IsValid }
@@ -130,7 +131,7 @@ fn checked(p: Position) -> Result<Position, FenFault>
     }
 }
 
-/// The target, unless no pawn could capture the pawn that has passed over it.
+/// The target, or none where no pawn could capture the pawn that has passed over it.
 fn kept_target(p: &Position) -> Option<Square>
     ensures { result ≡ kept p.now p.now.ep }
 {

@@ -1,4 +1,4 @@
-//! A position is written as a FEN text.
+//! Writes a position as a FEN text.
 
 ghost use Rattle.std.specs.Prelude.{All, ◌≡◌, ◌≤◌, ◌<◌, ◌+◌, ◌++◌, ◌∷◌, ℕ, List, [], replicate, length};
 ghost use Rattle.arrayvec.specs.ArrayString.{array_string_len};
@@ -9,8 +9,8 @@ ghost use Rattle.frz_fen.specs.Writing.{fen_text, gap_text, letter_of, placement
 use arrayvec::ArrayString;
 use frz_board::{Colour, Position, Square, man_of};
 
-/// The FEN of a valid position with the fewest digits, with no castling right and the clocks 0 and
-/// 1.
+/// The FEN of a valid position, with the fewest digits, no castling right, and the clocks 0 and 1.
+/// Reading it gives the position back.
 #[tactic(auto, using(crate::proofs::Roundtrip::reads_back))]
 pub fn write_fen(p: &Position) -> ArrayString<100>
     requires { IsValid p.now }
@@ -32,7 +32,7 @@ pub fn write_fen(p: &Position) -> ArrayString<100>
     text
 }
 
-/// Writes the ranks from 8 down.
+/// Writes the ranks from 8 down to 1, with slashes between them.
 fn write_placement(p: &Position, text: &mut ArrayString<100>)
     requires { text.old.bytes ≡ [] }
     ensures text { text.new.bytes ≡ placement_text p.now.cells }
@@ -48,7 +48,7 @@ fn write_placement(p: &Position, text: &mut ArrayString<100>)
     write_rank(&cells[..8], text);
 }
 
-/// Writes a rank from its cells, the a-file first.
+/// Writes a rank from its eight cells, file a first.
 fn write_rank(row: &[u8], text: &mut ArrayString<100>)
     requires fits { All (λ cell. cell < 13) row.now }
     requires whole { length row.now ≡ 8 }
@@ -63,7 +63,8 @@ fn write_rank(row: &[u8], text: &mut ArrayString<100>)
     write_gap(gap, text);
 }
 
-/// Writes a square after a gap that is not written yet, and gives the gap after it.
+/// Writes a square after `gap` empty squares that are not written yet, and returns how many empty
+/// squares are still to be written.
 fn write_square(cell: u8, gap: u8, text: &mut ArrayString<100>) -> u8
     requires cell { cell < 13 }
     requires gap { gap < 8 }
@@ -81,7 +82,7 @@ fn write_square(cell: u8, gap: u8, text: &mut ArrayString<100>) -> u8
     0
 }
 
-/// Writes the digit of a gap, and nothing where there is none.
+/// Writes the digit of a run of empty squares, and nothing for an empty run.
 fn write_gap(gap: u8, text: &mut ArrayString<100>)
     requires gap { gap ≤ 8 }
     requires room { array_string_len text.old + gap ≤ 100 }

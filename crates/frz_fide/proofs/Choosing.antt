@@ -9,7 +9,7 @@ use Rattle.frz_board.specs.declared.man.Kind.TheVariants.{Queen, Rook, Bishop, K
 use Rattle.frz_fide.specs.Legal.{is_legal}
 use Rattle.frz_fide.specs.SquareBySquare.{chosen}
 
--- the pawn becomes this man
+-- the move from a to b by which a pawn becomes this man
 abbrev becomes : ℕ → ℕ → Kind → Step
 becomes a b kind = record { from = a; to = b; promo = Some kind }
 

@@ -71,7 +71,7 @@ same_number n = sym (nat_cmp_is n n Equal refl)
 less_number : (m n : ℕ) → m < n → nat_cmp m n ≡ Less
 less_number m n h = sym (nat_cmp_is m n Less h)
 
--- from one square to one
+-- the steps from one square to another are in move order
 between_sorted : (a b : ℕ) → IsStrictlySortedBy step_cmp (steps_between a b)
 unfolding IsStrictlySortedBy
 between_sorted a b =

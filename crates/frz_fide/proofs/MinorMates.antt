@@ -371,7 +371,7 @@ no_minor_mate p v minor bare check =
     let c = check_means p p.turn check in
     goes_on p v minor bare c.square c.on_board c.king check
 
--- what counts say
+-- what the counts of men say: where a man of a kind stands, there is one at least
 pub man_counted : (p : Board) (c : Colour) (k : Kind) (s : ℕ) → IsValid p → s < 64 →
     Stands p c k s → 1 ≤ count_of p c k
 man_counted p c k s v ls e =

@@ -46,7 +46,7 @@ grown-jump start f n s l m h =
     let e : n + (s - n) ≡ s = omega arith in ap (grown start f) (sym e) ∙ grown-skip start f n
     (s - n) (omega arith) (λ k i j. h k i (omega arith))
 
--- those from a to a square below n, after start
+-- the legal moves from a to a square below n, after start
 unfoldable pub from_below : List Step → Board → ℕ → ℕ → List Step
 from_below start p a n = grown start (λ b. legal_between p a b) n
 
@@ -76,7 +76,7 @@ pub from_below-jump : (start : List Step) (p : Board) (a n s : ℕ) → n ≤ s 
 unfolding from_below
 from_below-jump start p a n s l m h = grown-jump start (λ b. legal_between p a b) n s l m h
 
--- those from a square below n
+-- the legal moves from the squares below n
 unfoldable pub all_below : Board → ℕ → List Step
 all_below p n = grown [] (λ a. legal_from p a) n
 

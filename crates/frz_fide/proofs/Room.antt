@@ -30,7 +30,7 @@ pawn_room c a b = cond (is_forward c 1 a b || is_forward c 2 a b) 4 0
 le_from_test : (m n : ℕ) → nat_le m n ≡ true → m ≤ n
 le_from_test m n h = grind (arith, nat_tests)
 
--- the table
+-- from the square a, the pawn moves counted by pawn_room are at most 64, for White and for Black
 abbrev pub fits_rank : ℕ → Bool
 fits_rank a =
     nat_le (sum_by (pawn_room White a) squares) 64 && nat_le (sum_by (pawn_room Black a) squares) 64
@@ -57,7 +57,7 @@ one_way true true false = omega arith
 one_way true false r = omega arith
 one_way false n r = omega arith
 
--- a pawn has one, or four on its last rank
+-- a pawn has one move to a square, or four to a square of its last rank
 pawn_ways : (s n g last w : Bool) → (g ≡ true → w ≡ true) →
     count_by (λ (k : Option Kind). (s && n)
     && (g && (is_promotion k && (if last then is_some k else is_none k))))

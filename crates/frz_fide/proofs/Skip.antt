@@ -160,7 +160,7 @@ module _ (p : Board) (a b : ℕ) (man : Man) (on : man_on p a ≡ Some man) wher
   may_stay own free way last =
       may_go None own free way (stay man.colour b man.kind last)
 
--- where no man of the mover stands
+-- no legal move begins where no man of the mover stands
 no_man : (o : Option Man) (t : Colour) (n g s : Bool) → is_man_of t o ≡ false →
     (((is_man_of t o && n) && g) && s) ≡ false
 no_man o t n g s h = ap (λ x. ((x && n) && g) && s) h

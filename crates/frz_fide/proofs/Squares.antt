@@ -14,7 +14,7 @@ flat_map_next f n h =
     let in_list : n < length squares = omega (arith, length-squares) in
     rw ((take_at_read squares n 0 in_list).1, flat_map-append, get_or-squares n h, append-nil)
 
--- there is room for it
+-- the items of one more square are no more than those of all squares leave room for
 pub room_next : {X : Type 0} (f : ℕ → List X) (n : ℕ) → n < 64 →
     length (flat_map f (take n squares)) + length (f n) ≤ length (flat_map f squares)
 room_next f n h =

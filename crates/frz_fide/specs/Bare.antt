@@ -10,7 +10,7 @@ use Rattle.frz_board.specs.Attacking.{Stands}
 abbrev pub IsBare : Board → Colour → Type 0
 IsBare p c = (s : ℕ) (k : Kind) → s < 64 → Stands p c k s → k ≡ King
 
--- beside its king the side has one man at most, a bishop or a knight
+-- besides its king the side has one man at most, a bishop or a knight
 pub record HasOneMinor (p : Board) (c : Colour) : Type 0 where
   pub minor : (s : ℕ) (k : Kind) → s < 64 → Stands p c k s → k ≢ King →
       (k ≡ Bishop) ⊎ (k ≡ Knight)

@@ -19,7 +19,7 @@ moves_apart p man = is_king man.kind || (is_pawn man.kind && is_some p.ep)
 abbrev pub without : Board → ℕ → Board
 without p a = record p { cells = slice_set p.cells a 0 }
 
--- the mover's king is attacked where its man has left the board
+-- the king of the side to move is attacked once the man on the square has left the board
 abbrev pub is_bared : Board → ℕ → Bool
 is_bared p a = is_in_check (without p a) p.turn
 

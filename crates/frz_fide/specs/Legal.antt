@@ -57,12 +57,12 @@ man_goes p None m = false
 man_goes p (Some man) m =
     goes p man.colour man.kind m.from m.to && promotes man.colour man.kind m.to m.promo
 
--- a move of the mover's man to a square that holds none of the mover's, whatever becomes of the
+-- a man of the mover may go to a square that holds none of the mover's men, whatever becomes of the
 -- king (FIDE 3.1)
 abbrev pub can_go : Board → Step → Bool
 can_go p m = (holds p p.turn m.from && not (holds p p.turn m.to)) && man_goes p (man_on p m.from) m
 
--- the man that arrives
+-- the man that arrives: the one that it promotes to, or itself
 abbrev pub arrives : Man → Option Kind → Man
 arrives man None = man
 arrives man (Some k) = record { colour = man.colour; kind = k }

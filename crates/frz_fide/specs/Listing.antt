@@ -8,7 +8,7 @@ use Rattle.frz_board.specs.Boards.{Board}
 use Rattle.frz_board.specs.Moving.{Step}
 use Rattle.frz_fide.specs.Legal.{is_legal}
 
--- what a move may say of promotion, in order
+-- the promotions that a move may have, in order
 abbrev pub promotions : List (Option Kind)
 promotions = None ∷ Some Queen ∷ Some Rook ∷ Some Bishop ∷ Some Knight ∷ []
 

@@ -8,19 +8,19 @@ use Rattle.frz_board.specs.Moving.{Step}
 use Rattle.frz_fide.specs.Legal.{is_legal}
 use Rattle.frz_fide.specs.Listing.{steps_between}
 
--- from one square to another
+-- the legal moves from one square to another
 unfoldable pub legal_between : Board → ℕ → ℕ → List Step
 legal_between p a b = filter (is_legal p) (steps_between a b)
 
--- from a square
+-- the legal moves from a square
 unfoldable pub legal_from : Board → ℕ → List Step
 legal_from p a = flat_map (λ b. legal_between p a b) squares
 
--- from each square in turn
+-- the legal moves from each square in turn
 unfoldable pub legal_by_squares : Board → List Step
 legal_by_squares p = flat_map (λ a. legal_from p a) squares
 
--- those of a pawn that becomes another man
+-- the legal moves from one square to another that promote a pawn
 unfoldable pub chosen : Board → ℕ → ℕ → List Step
 chosen p a b =
     filter (is_legal p)

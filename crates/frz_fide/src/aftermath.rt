@@ -10,7 +10,8 @@ use super::ways::{advances_two, midway, takes_passing};
 use frz_bits::Bitboards;
 use frz_board::{Kind, Man, Move, Position, Square, cell_of};
 
-/// The square beside `a` on the file of `b`.
+/// The square on the rank of `a` and the file of `b`. By a capture en passant from `a` to `b`, the
+/// captured pawn stands there.
 pub fn beside(a: Square, b: Square) -> Square
     ensures { result ≡ beside_on_file a b }
 {
@@ -29,7 +30,7 @@ fn arriving(man: Man, promo: Option<Kind>) -> Man
     }
 }
 
-/// The position after the move of this man, which leaves this target.
+/// The position after the move of this man, legal or not, with `ep` as the target after it.
 fn moved(p: &Bitboards, man: Man, m: Move, ep: Option<Square>) -> Bitboards
     ensures { result ≡
         record { cells = cells_after p.now man m; turn = other_of p.now.turn; ep = ep } }
@@ -55,7 +56,8 @@ fn new_target(p: &Bitboards, man: Man, m: Move) -> Option<Square>
     }
 }
 
-/// The position after the move: of the man on its origin, if there is one.
+/// The position after the move, legal or not. If nobody stands on the move's origin, the position
+/// stays as it is.
 pub fn boards_after(p: &Bitboards, m: Move) -> Bitboards
     ensures { result ≡ board_after p.now m }
 {

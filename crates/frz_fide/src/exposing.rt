@@ -17,16 +17,15 @@ fn is_king(man: Man) -> bool
     man.kind == Kind::King
 }
 
-/// Does a move of the man change more than its own square and the one that it goes to, or is it the
-/// king's?
+/// Is the man the king, or may its move change a third square, as a capture en passant does?
 fn moves_apart(p: &Bitboards, man: Man) -> bool
     ensures { result ≡ man_moves_apart p.now man }
 {
     is_king(man) || (man.kind == Kind::Pawn && p.ep().is_some())
 }
 
-/// May a move of the man expose its king? If not, no move of the man has to be tried. The other
-/// board is that without the man.
+/// May a move of the man leave its king attacked? If not, its moves need no test for that. `bare`
+/// is the board without the man.
 pub fn may_expose(p: &Bitboards, man: Man, from: Square, bare: &Bitboards) -> bool
     requires { bare.now ≡ board_without p.now from }
     ensures { result ≡ man_may_expose p.now man from }
@@ -34,8 +33,9 @@ pub fn may_expose(p: &Bitboards, man: Man, from: Square, bare: &Bitboards) -> bo
     moves_apart(p, man) || bare.is_in_check(p.turn())
 }
 
-/// Is the mover's king not attacked after the move of this man? The move is tried only if the man
-/// may expose the king, and a king's only on the square that it goes to.
+/// Is the mover's king not attacked after the move of this man? Only if the man may expose the king
+/// (`exposing`) is the move made on a board. Of a king's move, only the attacks on its new square
+/// are looked for, on `bare`, the board without the man.
 pub fn keeps_safe(p: &Bitboards, man: Man, m: Move, bare: &Bitboards, exposing: bool) -> bool
     requires valid { IsValid p.now }
     requires man { man_on p.now m.from ≡ Some man }

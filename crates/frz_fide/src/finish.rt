@@ -1,5 +1,5 @@
-//! Whether a game has ended, told from its legal moves. The language allows no function `ending`
-//! and type `Ending` in one module: the type stands in `outcome`.
+//! Whether a game has ended, told from its legal moves.
+//! The type `Ending` is in `outcome`: Rattle allows it in no module that has a function `ending`.
 
 ghost use Rattle.std.specs.Prelude.{◌≡◌, ◌↔◌};
 ghost use Rattle.frz_fide.specs.Valid.{IsValid};
@@ -11,7 +11,8 @@ use super::outcome::Ending;
 use frz_bits::Bitboards;
 use frz_board::Position;
 
-/// Is the side to move mated or stalemated, or does it have a move? The moves are its legal moves.
+/// Is the side to move mated or stalemated, or has it a legal move? `moves` must be its legal
+/// moves.
 pub fn ending(p: &Position, moves: &MoveList) -> Ending
     requires valid { IsValid p.now }
     requires moves { moves.now.items ≡ legal_moves_of p.now }

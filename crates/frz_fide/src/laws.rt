@@ -54,20 +54,21 @@ pub fn all_listed()
         → Contains (legal_moves_of p) m ↔ (IsStep m × (is_legal p m ≡ true)) }
 {}
 
-/// The test of legal moves holds exactly where the laws of chess allow the move, and then the
-/// position after it is the one that they give (FIDE 3.1 to 3.9).
+/// The test `is_legal` holds exactly where the laws of chess allow the move, and then `after` is
+/// the position that they give (FIDE 3.1 to 3.9).
 pub fn moves_in_words()
     ensures { (p : Board) (m : Step) (q : Board) → IsValid p
         → Legal p m q ↔ (IsStep m × (is_legal p m ≡ true) × (q ≡ after p m)) }
 {}
 
-/// A valid position has at most 1,024 legal moves: a side has at most 16 men, and each of them at
-/// most 64.
+/// A valid position has at most 1,024 legal moves: a side has at most 16 men, and each of them has
+/// at most 64 moves.
 pub fn few_moves()
     ensures { (p : Board) → IsValid p → length (legal_moves_of p) ≤ 1024 }
 {}
 
-/// A bare king never gives check in a valid position, and a side with a bare king keeps it so.
+/// A side that has only its king never gives check in a valid position, and it has only its king
+/// after each legal move.
 pub fn bare_kings()
     ensures no_check { (p : Board) → IsValid p → IsBare p (other_of p.turn) →
         is_in_check p p.turn ≡ false }
@@ -76,7 +77,7 @@ pub fn bare_kings()
 {}
 
 /// A king with one bishop or knight at most never mates a bare king: where the bare king is in
-/// check it has a legal move. And a side that has no more keeps it so.
+/// check, it has a legal move. A side that has no more than that has no more after each legal move.
 pub fn one_minor()
     ensures no_mate { (p : Board) → IsValid p → HasOneMinor p (other_of p.turn) → IsBare p p.turn →
         is_in_check p p.turn ≡ true → legal_moves_of p ≢ [] }
@@ -84,8 +85,8 @@ pub fn one_minor()
         is_legal p m ≡ true → HasOneMinor p c → HasOneMinor (after p m) c }
 {}
 
-/// What counts say of a side's men; and a legal move in which no pawn becomes another man gives no
-/// side more men of any kind.
+/// The counts of a side's men tell that it has only its king, or one bishop or knight at most
+/// besides. A legal move that does not promote gives no side more men of any kind.
 pub fn counted_men()
     ensures bare { (p : Board) (c : Colour) → IsValid p →
         ((k : Kind) → k ≢ King → count_of p c k ≡ 0) → IsBare p c }

@@ -21,10 +21,10 @@ use frz_board::{Kind, Man, Move, Position, Square};
 use frz_steps::Steps;
 use std::sync::ledger::Ledger;
 
-/// The moves of a position: at most 16 men of a side, each with at most 64 moves.
+/// A list with room for all legal moves of a position: at most 16 men, each with at most 64 moves.
 pub type MoveList = ArrayVec<Move, 1024>;
 
-/// Adds a move that can go, if the king is safe afterwards.
+/// Adds a move that is legal apart from the king's safety, if the king is safe after it.
 #[tactic(auto, unfolding(crate::specs::Legal::is_legal))]
 fn add_if_safe(
     p: &Bitboards,
@@ -47,7 +47,7 @@ fn add_if_safe(
     }
 }
 
-/// The move of a pawn that becomes this man.
+/// The move of a pawn that promotes to this kind.
 fn promotion(from: Square, to: Square, kind: Kind) -> Move
     requires { is_promotion (Some kind) ≡ true }
     ensures { result ≡ record { from = from; to = to; promo = Some kind } }
@@ -59,7 +59,8 @@ fn promotion(from: Square, to: Square, kind: Kind) -> Move
     }
 }
 
-/// Adds the legal moves of a pawn that reaches its last rank.
+/// Adds the legal moves of a pawn to `to` on its last rank: to a queen, rook, bishop and knight, in
+/// this order.
 fn add_choices(
     p: &Bitboards,
     man: Man,
@@ -117,7 +118,7 @@ fn add_choices(
     );
 }
 
-/// Must the man become another one on `to`?
+/// Is the man a pawn that promotes on `to`?
 fn must_choose(man: Man, to: Square) -> bool
     ensures { result ≡ (is_pawn man.kind && is_last man.colour to) }
 {
@@ -163,8 +164,8 @@ fn is_stuck(p: &Bitboards, man: Man, from: Square, squares: u64) -> bool
     man.kind == Kind::Pawn && open_ways(p, man, from, squares) == 0
 }
 
-/// Adds the legal moves of the man on `from`: it goes over the squares where the man may go on some
-/// board, but for those of its own side. A pawn that is stuck costs no other board.
+/// Adds the legal moves of the man on `from`. It tries the squares where such a man may go on some
+/// board, except those that its own side holds. For a pawn that is stuck, no other board is made.
 #[tactic(auto, using(crate::proofs::Order::loops))]
 fn add_from(p: &Bitboards, man: Man, from: Square, list: &mut MoveList)
     requires valid { IsValid p.now }
@@ -186,7 +187,7 @@ fn add_from(p: &Bitboards, man: Man, from: Square, list: &mut MoveList)
     }
 }
 
-/// Adds the legal moves from a square of the side to move.
+/// Adds the legal moves from a square that the side to move holds.
 fn add_square(p: &Bitboards, from: Square, list: &mut MoveList)
     requires valid { IsValid p.now }
     requires own { holds p.now p.now.turn from ≡ true }
@@ -214,7 +215,8 @@ fn put_all(p: &Bitboards, list: &mut MoveList)
     }
 }
 
-/// Puts all legal moves into the list, in move order, and drops what was there. It is one step.
+/// Puts all legal moves into the list, in place of what was there. They are in move order: by
+/// origin, then destination, then promotion. The call counts as one step.
 #[tactic(auto, using(crate::proofs::BySquares::by_squares, crate::proofs::Room::legal_room))]
 pub fn put_legal_moves<L: Ledger>(p: &Bitboards, list: &mut MoveList, steps: &mut Steps<L>)
     requires { IsValid p.now }
@@ -225,7 +227,8 @@ pub fn put_legal_moves<L: Ledger>(p: &Bitboards, list: &mut MoveList, steps: &mu
     put_all(p, list);
 }
 
-/// All legal moves, in move order. It is one step.
+/// All legal moves, in move order: by origin, then destination, then promotion. The call counts as
+/// one step.
 #[tactic(auto, using(crate::proofs::BySquares::by_squares, crate::proofs::Room::legal_room))]
 pub fn legal_moves<L: Ledger>(p: &Position, steps: &mut Steps<L>) -> MoveList
     requires { IsValid p.now }

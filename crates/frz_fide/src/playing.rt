@@ -11,7 +11,7 @@ use super::ways::{is_right_promotion, is_way};
 use frz_bits::Bitboards;
 use frz_board::{Man, Move, Position};
 
-/// May this man make the move, whatever becomes of its king?
+/// Is the move legal for this man, apart from the safety of its king?
 fn may_make(p: &Bitboards, man: Man, m: Move) -> bool
     requires { man_on p.now m.from ≡ Some man }
     ensures { result ≡ can_go p.now m }
@@ -30,7 +30,7 @@ fn is_legal_move(p: &Bitboards, m: Move) -> bool
     }
 }
 
-/// The position after the move, which is valid, and `None` exactly where the move is not legal.
+/// The position after the move, which is valid. `None` exactly where the move is not legal.
 pub fn play(p: &Position, m: Move) -> Option<Position>
     requires { IsValid p.now }
     ensures position { result ≡ played p.now m }

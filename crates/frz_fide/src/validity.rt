@@ -9,7 +9,7 @@ use frz_board::{Position, Shape};
 /// Why a position is not valid: the first of the conditions that fails.
 #[derive(Clone, Copy, Debug, PartialEq, Eq)]
 pub enum Invalid {
-    /// One of the conditions in which no attack takes part.
+    /// A condition fails that does not depend on attacks.
     Shape(Shape),
     /// The king of the side not to move is attacked.
     OpponentInCheck,

@@ -1,4 +1,4 @@
-//! The ways of men from square to square, as far as the king is left out.
+//! The ways in which men go from square to square, whatever becomes of their king.
 
 ghost use Rattle.std.specs.Prelude.{◌≡◌, ◌&&◌};
 ghost use Rattle.frz_squares.specs.SquareSets.{has_square, set_of};
@@ -41,7 +41,8 @@ pub fn advances_two(p: &Bitboards, c: Colour, a: Square, b: Square) -> bool
         && (p.is_empty(b) && p.is_empty(midway(a, b)))
 }
 
-/// May the man go from `a` to `b`, as far as the way there goes?
+/// Has the man a way from `a` to `b`? A pawn has four ways, any other man goes to what it attacks.
+/// Whether its king is safe afterwards is not asked.
 pub fn is_way(p: &Bitboards, man: Man, a: Square, b: Square) -> bool
     ensures { result ≡ goes p.now man.colour man.kind a b }
 {
@@ -54,7 +55,7 @@ pub fn is_way(p: &Bitboards, man: Man, a: Square, b: Square) -> bool
     }
 }
 
-/// Those of the squares to which the man has a way.
+/// The bitboard of those of `squares` to which the man on `a` has a way.
 pub fn open_ways(p: &Bitboards, man: Man, a: Square, squares: u64) -> u64
     ensures { result ≡
         set_of (λ b. has_square squares b && goes p.now man.colour man.kind a b) }
@@ -68,7 +69,8 @@ pub fn open_ways(p: &Bitboards, man: Man, a: Square, squares: u64) -> u64
     word
 }
 
-/// Does the move say of promotion what a man of this kind asks that arrives on `b`?
+/// Is `promo` right for a man of this kind that arrives on `b`? A pawn on its last rank promotes to
+/// a queen, rook, bishop or knight; any other move has no promotion.
 pub fn is_right_promotion(c: Colour, k: Kind, b: Square, promo: Option<Kind>) -> bool
     ensures { result ≡ promotes c k b promo }
 {

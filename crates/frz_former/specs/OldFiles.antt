@@ -1,5 +1,4 @@
--- Table files of the former format: opened as others are, but
--- with another magic and another size, which is limited.
+-- Table files of the former format: opened as others are, with another magic and a limited size.
 use Rattle.std.specs.Prelude.{ℕ, ◌≤◌, nat_lt, List, Option, Result, Ok, Err, codes, if◌then◌else◌}
 use Rattle.frz_combinations.specs.Binomials.{capped}
 use Rattle.frz_sets.specs.Views.{RuleLines}
@@ -17,7 +16,7 @@ use Rattle.frz_table.specs.Tables.{Holds, IsRead, IsTableFile}
 abbrev pub old_magic : List ℕ
 old_magic = codes "FREEZER1"
 
--- rules whose set has too many numbers by the former format are refused
+-- rules whose set has too many numbers in the former format are refused
 abbrev pub limited : RuleLines → Result RuleLines RulesFault
 limited rules =
     if nat_lt MOST_OLD_NUMBERS (old_size_of rules.groups)
@@ -49,7 +48,8 @@ old_table_size table = old_size_of table.rules.groups
 abbrev pub old_contents_of : OldTable → Contents
 old_contents_of table = record { text = table.text; rules = table.rules }
 
--- the rules are those of the text, and their set has few numbers by the former format
+-- the rules are those of the text, and their set has at most MOST_OLD_NUMBERS numbers in the former
+-- format
 pub record IsOldRead (text : List ℕ) (rules : RuleLines) : Type 0 where
   pub is_read : IsRead text rules
   pub few : old_size_of rules.groups ≤ MOST_OLD_NUMBERS
@@ -57,7 +57,7 @@ pub record IsOldRead (text : List ℕ) (rules : RuleLines) : Type 0 where
 abbrev pub IsOldFileOf : OldTable → List ℕ → Type 0
 IsOldFileOf table bytes = IsTableFile old_magic table.text (old_table_size table) bytes
 
--- where the store tells, the file's name holds a file of its text in the former format
+-- if the store tells, the file's name holds a file of its text in the former format
 abbrev pub CarriesOld : Option Files → OldTable → Type 0
 CarriesOld files table = Holds files table.name (IsOldFileOf table)
 

@@ -1,4 +1,4 @@
-//! Table files of the former format: opened, and read whole.
+//! Table files of the former format: opened, and all codes loaded.
 ghost use Rattle.std.specs.Prelude.{◌≡◌, ◌+◌, ◌*◌, ◌≤◌, length, IfOk, IfErr, IfSome, Ok, Err};
 ghost use Rattle.std.specs.Result.{IsErrOf};
 ghost use Rattle.frz_board.specs.declared.man.Colour.TheVariants.{White, Black};
@@ -50,7 +50,8 @@ fn magic() -> &'static [u8; 8]
     b"FREEZER1"
 }
 
-/// How many numbers the set of the rules has in the former format, unless they are too many.
+/// How many numbers the set of the rules has in the former format, or the fault that they are too
+/// many.
 fn limited_size(rules: &Rules) -> Result<u32, RulesFault>
     requires { IsSound rules.now }
     ensures size { IfOk result (λ size. size ≡ old_size_of rules.now.groups) }
@@ -65,9 +66,9 @@ fn limited_size(rules: &Rules) -> Result<u32, RulesFault>
     Ok(size as u32)
 }
 
-/// Opens a table file of the former format. The file is not changed, and the first thing that is
-/// wrong with it is the answer. A set that has more than 2^24 numbers in that format is refused as
-/// too big, behind all that the reader of rules refuses.
+/// Opens a table file of the former format. The file is not changed. An error of the file is the
+/// first thing that is wrong with it. A set that has more than 2^24 numbers in that format is
+/// refused as too big, after all that the reader of rules refuses.
 pub fn open_old<S: Store>(alloc: Global, store: &mut S, name: &str) -> Result<OldFile, TableFault>
     ensures opened { IfOk result (λ t. IfSome (S.files store.old)
         (λ m. opened old_format (m name.now) ≡ Ok (old_contents_of t))) }
@@ -80,7 +81,7 @@ pub fn open_old<S: Store>(alloc: Global, store: &mut S, name: &str) -> Result<Ol
     ensures name { IfOk result (λ t. t.name ≡ name.now) }
     ensures carries { IfOk result (CarriesOld (S.files store.new)) }
 
-    // Nothing is written; at most 16 bytes and the text are asked for, in five calls.
+    // Nothing is written; at most 16 bytes and the text are asked for, in at most five calls.
     ensures quiet { StoreQuiet (store_of S.Store store.old) (store_of S.Store store.new) }
     ensures asked { IfOk result
         (λ t. S.asked store.new ≤ S.asked store.old + (16 + length t.text)) }
@@ -122,7 +123,7 @@ impl OldFile {
         self.text.as_slice()
     }
 
-    /// The rules of the text.
+    /// The rules that the text gives.
     pub fn rules(&self) -> &Rules
         ensures rules { result.now ≡ self.now.rules }
         ensures read { rules_of self.now.text ≡ Ok self.now.rules }
@@ -140,7 +141,7 @@ impl OldFile {
         old_size(&self.rules) as u32
     }
 
-    /// White's codes and Black's, in order of number.
+    /// Reads all codes: White's and Black's, each in order of number.
     pub fn load<S: Store>(
         &self,
         alloc: Global,

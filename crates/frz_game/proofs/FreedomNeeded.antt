@@ -1,4 +1,5 @@
--- What the rules say of the game in which White renounces all moves but two of the rook's.
+-- What the rules say of the game in which White renounces all moves but those of the rook to g1 and
+-- g8.
 use Rattle.std.proofs.Common.{◌≡◌, ◌≤◌, ℕ, Bool, true, false, List, [], ◌∷◌, refl, ap, ◌∙◌, arith}
 use Rattle.std.specs.Prelude.{slice_index, if◌then◌else◌}
 use Rattle.frz_board.specs.declared.man.Colour.{Colour}

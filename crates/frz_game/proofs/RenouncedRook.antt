@@ -1,4 +1,5 @@
--- White mates in one, and what the bounds say where he renounces all moves but two of the rook's.
+-- White mates in one, and what the bounds say where he renounces all moves but the rook's to g1 and
+-- g8.
 use Rattle.std.proofs.Common.{◌≡◌, ◌≢◌, ◌<◌, ℕ, zero, suc, inl, inr, Bool, true, false, not, ◌&&◌, ◌||◌, List, [], ◌∷◌, map, None, refl, sym, subst, ap, ◌∙◌, arith}
 use Rattle.std.specs.Prelude.{◌==◌, if◌then◌else◌}
 use Rattle.std.specs.List.{Contains}

@@ -22,7 +22,7 @@ IsExactBound side p (Wins n) = MatesIn chess side n p
 IsExactBound side p Holds = IsDead chess side p
 IsExactBound side p (Fails m) = MatesIn chess (other_of side) m p
 
--- its outcome is that of chess, whatever its plies
+-- the outcome of the bound is that of chess, whatever its plies
 abbrev pub HasExactOutcome : Colour → Board → Bound → Type 0
 HasExactOutcome side p (Wins n) = CanForceMate chess side p
 HasExactOutcome side p Holds = IsDead chess side p
@@ -41,27 +41,27 @@ pub record MeansExactly (rules : RuleLines) (value : Board → Value) (side : Co
   -- where each value outside that is bad for the side is a win of its opponent, a failure is lost
   pub lost : AreTrueExits rules value → IsLostOutside rules value side →
       (m : ℕ) → b ≡ Fails m → CanForceMate chess (other_of side) p
-  -- and where none is bad for the side, in just the plies of the failure
+  -- where no value outside is bad for the side, a failure is lost in just its plies
   pub lost_in : AreTrueExits rules value → NoneIsBad (game_of rules value) side →
       (m : ℕ) → b ≡ Fails m → MatesIn chess (other_of side) m p
 
--- what the table of the side says then
+-- what the table of the side says, where no line forbids the side a move
 pub record TableMeansExactly (rules : RuleLines) (value : Board → Value) (side : Colour)
     (codes : List ℕ) : Type 0 where
   -- where each way out of the set is drawn by the men, it is exact in chess
   pub drawn : IsDrawnOutside rules value → IsExactInChess rules side codes
-  -- where each value outside truly says who wins or that the game is drawn, its outcomes are
+  -- where each value outside truly says who wins or that the game is drawn, its outcomes are exact
   pub decided : AreTrueExits rules value → AreDecidedOutside rules value →
       HasExactOutcomes rules side codes
-  -- and the code at each position of the set says what the bound says that it stands for
+  -- the code at each position of the set says what the bound that it stands for says
   pub bound : (p : Board) (b : Bound) → Member rules.groups p →
       slice_index codes (Num rules.groups p) ≡ code_of b → MeansExactly rules value side p b
 
--- where no line forbids the side a move, its bound says so much
+-- the bound says what MeansExactly states, where no line forbids the side a move
 abbrev pub IsExactWhereFree : RuleLines → (Board → Value) → Colour → Board → Bound → Type 0
 IsExactWhereFree rules value side p b = HasNoForbid rules side → MeansExactly rules value side p b
 
--- and its table
+-- the table says what TableMeansExactly states, where no line forbids the side a move
 abbrev pub TableIsExactWhereFree : RuleLines → (Board → Value) → Colour → List ℕ → Type 0
 TableIsExactWhereFree rules value side codes =
     HasNoForbid rules side → TableMeansExactly rules value side codes

@@ -32,7 +32,8 @@ is_decided WhiteHolds = false
 is_decided BlackHolds = false
 is_decided Unknown = false
 
--- and so says the value of each position one legal move outside the set
+-- the value of each position one legal move outside the set says who wins, or that the game is
+-- drawn
 abbrev pub AreDecidedOutside : RuleLines → (Board → Value) → Type 0
 AreDecidedOutside rules value =
     (q : Board) → IsExit (game_of rules value) q → is_decided (value q) ≡ true
@@ -54,7 +55,8 @@ pub record HasExactOutcomes (rules : RuleLines) (side : Colour) (codes : List �
   pub hold : (p : Board) → Member rules.groups p →
       (slice_index codes (Num rules.groups p) ≡ code_of Holds) ↔ IsDead chess side p
 
--- and its plies are least in chess, on both sides
+-- the table is exact in chess: a win or a failure of n plies stands exactly where the winner forces
+-- mate in n plies and no fewer, and a hold exactly where neither side forces mate
 pub record IsExactInChess (rules : RuleLines) (side : Colour) (codes : List ℕ) : Type 0 where
   pub win : (p : Board) (n : ℕ) → Member rules.groups p →
       (slice_index codes (Num rules.groups p) ≡ code_of (Wins n)) ↔ MatesIn chess side n p

@@ -37,11 +37,11 @@ game_of rules value = record {
   numbered = is_numbered;
 }
 
--- its arena of positions
+-- the game of the rules as an arena of positions
 abbrev pub arena_by : RuleLines → (Board → Value) → Arena Step Board Value
 arena_by rules value = arena_of (game_of rules value)
 
--- and that of their numbers
+-- the game of the rules as an arena of numbers
 abbrev pub graph_by : RuleLines → (Board → Value) → Arena Step ℕ Value
 graph_by rules value = numbers_of (numbers_by rules.groups) (arena_by rules value)
 

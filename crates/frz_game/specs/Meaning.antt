@@ -23,7 +23,7 @@ pub record MeansWin (rules : RuleLines) (value : Board → Value) (side : Colour
   pub forced : ForcesWin rules value side n p
   -- it forces mate, where the exits are true
   pub mate : AreTrueExits rules value → (k : ℕ) × ForcesMate chess side k p
-  -- and within n plies, where each value by which it wins has a number
+  -- it forces mate within n plies, where besides each value by which it wins names its plies
   pub within : AreTrueExits rules value → AllNumbered (game_of rules value) side
       → ForcesMate chess side n p
   -- the opponent forces no mate, where the exits are true
@@ -45,7 +45,7 @@ WinsAlone (Wins n) other = (m : ℕ) × (m ≤ n) × (other ≡ Fails m)
 WinsAlone bound other = ⊤
 
 -- what a table of the side says of chess: at the number of each position of the set what the code
--- there stands for, and 0 at each number of none
+-- there stands for, and 0 at each broken number
 pub record TableMeans (rules : RuleLines) (value : Board → Value) (side : Colour)
     (codes : List ℕ) : Type 0 where
   pub win : (p : Board) (n : ℕ) → Member rules.groups p →

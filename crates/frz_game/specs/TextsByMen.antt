@@ -29,7 +29,7 @@ has_kind groups c k =
 abbrev pub may_have : List GroupLine → Colour → Kind → Bool
 may_have groups c k = has_kind groups c k || has_kind groups c Pawn
 
--- the test asks that the side have at most so many such men
+-- the test asks that the side have at most n men of this kind
 abbrev pub asks_at_most : Test → Colour → Kind → ℕ → Bool
 asks_at_most (Count side man least most) c k n =
     same_colour side c && (same_kind man k && nat_le most n)
@@ -39,7 +39,7 @@ asks_at_most (Distance side square least most) c k n = false
 asks_at_most Check c k n = false
 asks_at_most Always c k n = false
 
--- some condition asks it
+-- some condition asks that the side have at most n men of this kind
 abbrev pub say_at_most : List Condition → Colour → Kind → ℕ → Bool
 say_at_most conds c k n = list_any (λ cond. not cond.negated && asks_at_most cond.test c k n) conds
 
@@ -50,24 +50,24 @@ most_of (g ∷ groups) c k =
     (if same_colour g.colour c && list_any (λ state. same_kind state.0 k) g.states
     then g.most else 0) + most_of groups c k
 
--- the set has no pawns, and its groups no more such men
+-- the set has no pawns, and its groups have together at most n men of this kind
 abbrev pub groups_leave_at_most : List GroupLine → Colour → Kind → ℕ → Bool
 groups_leave_at_most groups c k n =
     not (has_kind groups White Pawn || has_kind groups Black Pawn) && nat_le (most_of groups c k) n
 
--- where the conditions hold one move outside the set, the side has at most so many such men
+-- where the conditions hold one move outside the set, the side has at most n men of this kind
 abbrev pub leave_at_most : List GroupLine → List Condition → Colour → Kind → ℕ → Bool
 leave_at_most groups conds c k n =
     not (may_have groups c k) || (groups_leave_at_most groups c k n || say_at_most conds c k n)
 
--- there the side has its king alone
+-- where the conditions hold one move outside the set, the side has its king alone
 unfoldable pub leave_bare : List GroupLine → List Condition → Colour → Bool
 leave_bare groups conds c =
     leave_at_most groups conds c Queen 0 && (leave_at_most groups conds c Rook 0
     && (leave_at_most groups conds c Bishop 0 && (leave_at_most groups conds c Knight 0
     && leave_at_most groups conds c Pawn 0)))
 
--- there it has one man at most beside its king, a bishop or a knight
+-- where they hold there, the side has one man at most beside its king, a bishop or a knight
 unfoldable pub leave_minor : List GroupLine → List Condition → Colour → Bool
 leave_minor groups conds c =
     (leave_at_most groups conds c Queen 0 && (leave_at_most groups conds c Rook 0
@@ -75,13 +75,13 @@ leave_minor groups conds c =
     && ((leave_at_most groups conds c Bishop 1 && leave_at_most groups conds c Knight 0)
     || (leave_at_most groups conds c Bishop 0 && leave_at_most groups conds c Knight 1))
 
--- there neither side has the men to mate
+-- where they hold there, neither side has the men to mate
 unfoldable pub leave_dead : List GroupLine → List Condition → Bool
 leave_dead groups conds =
     (leave_bare groups conds White && leave_minor groups conds Black)
     || (leave_bare groups conds Black && leave_minor groups conds White)
 
--- so the value is true by the men
+-- where they hold there, the value is true by the men
 abbrev pub is_true_by : List GroupLine → List Condition → Value → Bool
 is_true_by groups conds Draw = leave_dead groups conds
 is_true_by groups conds WhiteHolds = leave_bare groups conds Black

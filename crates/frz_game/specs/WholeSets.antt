@@ -29,8 +29,8 @@ AsksAtMost c kinds most cond =
     (k : Kind) × Contains kinds k
     × (cond ≡ record { negated = false; test = Count c k 0 most })
 
--- it is the king's group, or may have no men, or an exit line asks for nothing but that fewer of
--- its men stand
+-- the group is a king's, or may have no men, or an exit line asks for nothing but that fewer of its
+-- men stand
 pub data IsClosed (exits : List ExitLine) (g : GroupLine) (kinds : List Kind) : Type 0 where
   by_king : kinds ≡ King ∷ [] → g.least ≤ 1 → IsClosed exits g kinds
   by_none : g.least ≡ 0 → IsClosed exits g kinds
@@ -38,7 +38,7 @@ pub data IsClosed (exits : List ExitLine) (g : GroupLine) (kinds : List Kind) : 
       AllByRecursion (AsksAtMost g.colour kinds most) line.conds → g.least ≤ most + 1 →
       IsClosed exits g kinds
 
--- so it is with each group
+-- each group has its men on every square, no pawns, and is closed in this sense
 pub record IsWholeSet (rules : RuleLines) : Type 0 where
   pub groups : AllByRecursion (λ g. (w : IsWholeGroup g) × IsClosed rules.exits g w.kinds)
       rules.groups

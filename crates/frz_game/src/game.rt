@@ -1,4 +1,4 @@
-//! The restricted game over numbers.
+//! The restricted game of a rules text over the numbers of its set.
 
 ghost use Rattle.std.specs.Prelude.{◌≡◌, ◌≢◌, ◌≤◌, ◌+◌, IfSome, map, true, ⊤};
 ghost use Rattle.frz_arena.specs.declared.node.Node.TheVariants.{Broken};
@@ -24,8 +24,8 @@ use frz_steps::Steps;
 use std::alloc::AllocError;
 use std::sync::ledger::Ledger;
 
-/// The restricted game of rules, over the numbers of their set, with the values of a book outside.
-/// Its type keeps that the groups of the set are those of the rules.
+/// The restricted game of rules, over the numbers of their set. The book gives the values of
+/// positions outside the set, and the type keeps that the groups of the set are those of the rules.
 pub struct Game<'a, B: ExitBook> {
     pub set: &'a Set,
     pub rules: &'a Rules,
@@ -47,7 +47,8 @@ impl<B: ExitBook> Clone for Game<'_, B> {
     }
 }
 
-/// The number of a position, as the set gives it by that of another one.
+/// The number of position `q`, or `None` outside the set, found from number `i` of another
+/// position.
 fn number(set: &Set, i: u32, p: &Bitboards, q: &Bitboards) -> Option<u32>
     requires number { HasNumber set.now i p.now }
     requires valid { IsValid q.now }
@@ -56,7 +57,7 @@ fn number(set: &Set, i: u32, p: &Bitboards, q: &Bitboards) -> Option<u32>
     set.number_beside(i, p, q)
 }
 
-/// The position of a number, as the set gives it.
+/// The position of number `i`, or `None` where the number is that of no valid position.
 fn position(set: &Set, i: u32) -> Option<Bitboards>
     ensures position { result ≡ position_at set.now i }
     ensures number { IfSome result (λ p. HasNumber set.now i p) }
@@ -79,7 +80,8 @@ fn node(p: &Position, moves: &MoveList) -> Node
 }
 
 impl<B: ExitBook> Game<'_, B> {
-    /// What a position is to the move that leads to it from another one.
+    /// Where a move from `p` to `q` leads: to the number of `q` in the set, or outside to its
+    /// value.
     fn next_of(&self, i: u32, p: &Bitboards, q: &Bitboards) -> Next
         requires number { HasNumber self.now.set.now i p.now }
         requires valid { IsValid q.now }
@@ -93,7 +95,7 @@ impl<B: ExitBook> Game<'_, B> {
         }
     }
 
-    /// Where a legal move leads, by the position after it.
+    /// Where a legal move leads, found from the position after it.
     fn next_after(&self, i: u32, p: &Bitboards, m: Move) -> Next
         requires number { HasNumber self.now.set.now i p.now }
         requires legal { is_legal p.now m ≡ true }
@@ -111,7 +113,8 @@ impl<B: ExitBook> Game<'_, B> {
         }
     }
 
-    /// Where a legal move leads, by the men that change squares where it takes one.
+    /// Where a legal move leads. The set is asked first for the number after a capture, and the
+    /// position after the move is looked at only where that gives none.
     fn next_by_taking(&self, i: u32, p: &Bitboards, m: Move) -> Next
         requires number { HasNumber self.now.set.now i p.now }
         requires legal { is_legal p.now m ≡ true }
@@ -153,7 +156,8 @@ impl<B: ExitBook> Game<'_, B> {
         }
     }
 
-    /// Puts the arms of the legal moves into the list.
+    /// Fills the list with the arms of the legal moves: each move, whether it is free, where it
+    /// leads.
     fn put_arms(&self, i: u32, p: &Bitboards, moves: &MoveList, list: &mut NextList)
         requires number { HasNumber self.now.set.now i p.now }
         requires moves { moves.now.items ≡ legal_moves_of p.now }
@@ -166,7 +170,7 @@ impl<B: ExitBook> Game<'_, B> {
         }
     }
 
-    /// `nexts` by a list of moves that is kept from call to call.
+    /// As `nexts`, with a list of moves that the caller keeps from call to call.
     pub fn nexts_by<L: Ledger>(
         &self,
         i: u32,
@@ -196,8 +200,9 @@ impl<B: ExitBook> Game<'_, B> {
         }
     }
 
-    /// What the number is. The list then has one arm for each of its legal moves, in move order,
-    /// and none where the number is broken.
+    /// What number `i` is: broken, mate, stalemate, or going on. The list then has one arm for each
+    /// legal move of its position, in move order, and none where the number is broken. This takes
+    /// one step, and none where the number is broken.
     pub fn nexts<L: Ledger>(&self, i: u32, list: &mut NextList, steps: &mut Steps<L>) -> Node
         ensures node { result
             ≡ (graph_by self.now.rules.now (B.value_at self.now.book.now)).node i }

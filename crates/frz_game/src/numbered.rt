@@ -1,4 +1,4 @@
-//! The game as solvers see it. That it is finite is a law, `laws::numbers::numbered`.
+//! The game as solvers see it; that it is finite is the law `laws::numbers::numbered`.
 
 ghost use Rattle.frz_sets.specs.Sets.{size_of};
 ghost use Rattle.frz_graph.specs.Finite.{IsFinite};

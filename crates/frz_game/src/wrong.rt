@@ -2,8 +2,8 @@
 
 use frz_board::Colour;
 
-/// An entry that is not its local code: the side and the number, the code that is kept there and
-/// the local code.
+/// An entry of a table that is not its local code: the side, the number, the code that the table
+/// keeps there (`kept`), and the local code (`given`).
 #[derive(Clone, Copy, Debug, PartialEq, Eq)]
 pub struct Wrong {
     pub side: Colour,

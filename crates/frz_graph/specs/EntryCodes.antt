@@ -15,14 +15,14 @@ use Rattle.frz_exits.specs.Values.{class_of, lag_of}
 abbrev pub value_code : Colour → Value → ℕ
 value_code side v = exit_code (class_of v side) (lag_of v)
 
--- the entry of a number inside, the code of an exit
+-- the code of where a move leads: the entry of a number inside, the code of a value outside
 abbrev pub next_code : Colour → List ℕ → Next ℕ Value → ℕ
 next_code side entries = code_by (λ k. slice_index entries k) (value_code side)
 
 abbrev pub arm_code : Colour → List ℕ → Arm Step ℕ Value → ℕ
 arm_code side entries a = next_code side entries a.next
 
--- a number inside is one of so many, an exit has a lag of at most 1,000
+-- a number inside is below the size, and an exit has a lag of at most 1,000 plies
 abbrev pub IsWithin : ℕ → Next ℕ Value → Type 0
 IsWithin size = LeadsTo (λ q. q < size) (λ v. lag_of v ≤ 1000)
 

@@ -1,4 +1,4 @@
--- An arena over so many numbers, as a solver wants it.
+-- An arena over finitely many numbers, as a solver asks for it.
 use Rattle.std.specs.Prelude.{◌≡◌, ◌≢◌, ◌≤◌, ◌<◌, ◌^◌, ℕ}
 use Rattle.frz_board.specs.declared.man.Colour.{Colour}
 use Rattle.frz_sets.specs.declared.exit.Value.{Value}

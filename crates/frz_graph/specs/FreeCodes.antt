@@ -10,7 +10,8 @@ free_among [] cs = []
 free_among (a ∷ arms) [] = []
 free_among (a ∷ arms) (c ∷ cs) = if a.free then c ∷ free_among arms cs else free_among arms cs
 
--- the codes that count at a turn: where the side itself moves those of its free moves, else all
+-- the codes of the moves that count: where the side itself moves (true) those of its free moves,
+-- else all
 abbrev pub counted_codes : (own : Bool) → List (Arm Step ℕ Value) → List ℕ → List ℕ
 counted_codes true arms cs = free_among arms cs
 counted_codes false arms cs = cs

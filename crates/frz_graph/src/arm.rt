@@ -7,8 +7,8 @@ use frz_sets::Value;
 /// Where a move leads: to the number of a position of the set, or out of the set to a value.
 pub type Next = frz_arena::Next<u32, Value>;
 
-/// A legal move of a number: whether it is allowed to the mover, and where it leads.
+/// A legal move at a number: whether it is free to the mover, and where it leads.
 pub type Arm = frz_arena::Arm<Move, u32, Value>;
 
-/// The moves of one number, in move order.
+/// The moves of one number, in move order, at most 1,024.
 pub type NextList = ArrayVec<Arm, 1024>;

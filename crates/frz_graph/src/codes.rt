@@ -8,7 +8,7 @@ use frz_board::Colour;
 use frz_exits::{class, lag};
 use frz_sets::Value;
 
-/// The code of an exit of this value for the side.
+/// The code for `side` of an exit of this value, from its class and its lag.
 pub fn exit_code(v: Value, side: Colour) -> u32
     requires { lag_of v ≤ 1000 }
     ensures { result ≡ value_code side v }

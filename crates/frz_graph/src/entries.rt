@@ -1,4 +1,4 @@
-//! The codes of both sides at the numbers, and those of the moves of a number.
+//! The entries of both sides, and the codes that they give the moves of a number.
 
 ghost use Rattle.std.specs.Prelude.{◌≡◌, ◌<◌, ℕ, List, All, length, map, slice_index};
 ghost use Rattle.frz_board.specs.declared.man.Colour.{Colour};
@@ -10,17 +10,17 @@ use crate::codes::exit_code;
 use arrayvec::ArrayVec;
 use frz_board::Colour;
 
-/// The codes of both sides, one for each number.
+/// The entries of both sides: one code for each number and side.
 pub trait Entries {
     /// The codes of a side, in order of number.
     ghost codes: { Self → Colour → List ℕ };
 
-    /// The code of the side at the number.
+    /// The code of `side` at number `i`.
     fn entry(&self, side: Colour, i: u32) -> u32
         requires { i < length (codes self.now side) }
         ensures { result ≡ slice_index (codes self.now side) i };
 
-    /// Both sides have as many.
+    /// Both sides have equally many codes.
     ghost equal: { (entries : Self) → length (codes entries White) ≡ length (codes entries Black) };
 }
 
@@ -47,10 +47,11 @@ impl Entries for Pair<'_> {
     }
 }
 
-/// One code for each move of a number.
+/// One code for each move of a number, at most 1,024.
 pub type CodeList = ArrayVec<u32, 1024>;
 
-/// The code of where a move leads.
+/// The code for `side` of where a move leads: the entry of a number inside, or the code of a value
+/// outside.
 pub(crate) fn next_code_of<E: Entries>(side: Colour, next: Next, entries: &E) -> u32
     requires { IsWithin (length (E.codes entries.now side)) next }
     ensures { result ≡ next_code side (E.codes entries.now side) next }
@@ -61,7 +62,7 @@ pub(crate) fn next_code_of<E: Entries>(side: Colour, next: Next, entries: &E) ->
     }
 }
 
-/// Puts the code of each move of the list for the side into `codes`, and drops what was there.
+/// Fills `codes` with the code for `side` of each move of the list, in place of what was there.
 pub fn fill<E: Entries>(side: Colour, list: &NextList, entries: &E, codes: &mut CodeList)
     requires { All (λ a. IsWithin (length (E.codes entries.now side)) a.next) list.now.items }
     ensures { codes.new.items ≡ map (arm_code side (E.codes entries.now side)) list.now.items }

@@ -1,4 +1,4 @@
-//! The lists that a solver keeps.
+//! The working lists that a solver keeps.
 
 ghost use Rattle.std.specs.Prelude.{◌≡◌, []};
 

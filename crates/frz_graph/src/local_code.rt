@@ -1,4 +1,4 @@
-//! The local code of a number.
+//! The local code of a number: the code that the codes one ply on give it.
 
 ghost use Rattle.std.specs.Prelude.{◌≡◌, ◌||◌, not, All, length, map};
 ghost use Rattle.frz_arena.specs.LocalCodes.{node_code, turn_code as code_at_turn};
@@ -10,14 +10,15 @@ use crate::entries::{CodeList, Entries, next_code_of};
 use frz_arena::{Best, Node, local_code};
 use frz_board::Colour;
 
-/// Does the move count at a turn? Where the side itself moves, its free moves alone do.
+/// Does the move count? Where the side itself moves (`own`) its free moves alone do, else all
+/// moves.
 fn counts(own: bool, arm: &Arm) -> bool
     ensures { result ≡ (not own || arm.now.free) }
 {
     !own || arm.free
 }
 
-/// The code at a turn, by the codes of the moves.
+/// The local code of a number where the game goes on, by the codes of its moves.
 fn turn_code(own: bool, list: &NextList, codes: &CodeList) -> u64
     requires { length list.now.items ≡ length codes.now.items }
     ensures { result ≡ code_at_turn own (counted_codes own list.now.items codes.now.items) }
@@ -31,7 +32,8 @@ fn turn_code(own: bool, list: &NextList, codes: &CodeList) -> u64
     best.code()
 }
 
-/// The local code of the side at a number of this kind, whose moves have these codes for the side.
+/// The local code for `side` of a number, by what the number is (`node`) and the codes of its
+/// moves.
 pub fn local(side: Colour, node: Node, list: &NextList, codes: &CodeList) -> u64
     requires { length list.now.items ≡ length codes.now.items }
     ensures { result ≡
@@ -43,7 +45,8 @@ pub fn local(side: Colour, node: Node, list: &NextList, codes: &CodeList) -> u64
     }
 }
 
-/// The code at a turn, by the entries of the side. No code is written down.
+/// The local code of a number where the game goes on, by the entries of the side. The codes of the
+/// moves are used one by one, and no list of them is made.
 fn turn_code_by<E: Entries>(own: bool, side: Colour, list: &NextList, entries: &E) -> u64
     requires { All (λ a. IsWithin (length (E.codes entries.now side)) a.next) list.now.items }
     ensures { result ≡ code_at_turn own (counted_codes own list.now.items
@@ -58,8 +61,8 @@ fn turn_code_by<E: Entries>(own: bool, side: Colour, list: &NextList, entries: &
     best.code()
 }
 
-/// The local code of the side at a number of this kind, by its moves and the entries of the side:
-/// one walk over the moves where there are any.
+/// The local code for `side` of a number, by what the number is (`node`), its moves and the entries
+/// of the side. It goes over the moves once, and only where the game goes on.
 pub fn local_by<E: Entries>(side: Colour, node: Node, list: &NextList, entries: &E) -> u64
     requires { All (λ a. IsWithin (length (E.codes entries.now side)) a.next) list.now.items }
     ensures { let codes = map (arm_code side (E.codes entries.now side)) list.now.items in

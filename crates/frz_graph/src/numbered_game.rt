@@ -1,4 +1,4 @@
-//! A restricted game over numbers: all that a solver asks of it.
+//! What a solver asks of a restricted game over numbers.
 
 ghost use Rattle.std.specs.Prelude.{◌≡◌, ◌≤◌, ◌<◌, ◌+◌, ℕ, length, slice_index};
 ghost use Rattle.frz_board.specs.Moving.{Step};
@@ -23,7 +23,7 @@ pub trait NumberedGame<L: Ledger> {
     /// How many numbers there are.
     ghost count: { Self → ℕ };
 
-    /// What the answers rest on.
+    /// What the answers of the game rest on.
     ghost sound: { Self → Type 0 };
 
     /// How many numbers there are.
@@ -31,7 +31,8 @@ pub trait NumberedGame<L: Ledger> {
         requires { sound self.now }
         ensures { result ≡ count self.now };
 
-    /// What the number is. `nexts` of the lists then has its moves, in move order.
+    /// What number `i` is: broken, mate, stalemate, or going on. `lists.nexts` then has its moves,
+    /// in move order. This takes one step at most.
     fn nexts_by(&self, i: u32, lists: &mut Lists, steps: &mut Steps<L>) -> Node
         requires sound { sound self.now }
         requires inside { i < count self.now }
@@ -43,8 +44,8 @@ pub trait NumberedGame<L: Ledger> {
     ghost finite: { (game : Self) → sound game → IsFinite (arena game) (count game) };
 }
 
-/// The local code of the side at the number, with these entries. The lists are room to work in, kept
-/// from call to call.
+/// The local code for `side` of number `i`, with these entries. The lists are room to work in, kept
+/// from call to call. This takes one step at most.
 pub fn local_at<G: NumberedGame<L>, E: Entries, L: Ledger>(
     game: &G,
     side: Colour,

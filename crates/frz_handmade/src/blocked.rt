@@ -1,6 +1,6 @@
 //! An ending of blocked pawns that several crates test with.
 
-/// Four pawns a side that block each other: 278 bytes, 6,400 numbers.
+/// The rules text of four blocked pawns a side: 278 bytes, for a set of 6,400 numbers.
 pub const TEXT: &str = "freezer 1
 group white 1 K:a1-h5
 group black 1 K:a4-h8

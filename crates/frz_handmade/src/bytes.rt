@@ -8,7 +8,7 @@ use byteorder::{ByteOrder, LittleEndian};
 use std::alloc::Global;
 use std::test::Fail;
 
-/// Puts the number behind the bytes, in four bytes, the lowest first.
+/// Appends the number to the bytes, in four bytes, the lowest first.
 fn push_number(bytes: &mut Vec<u8>, number: u32) -> Result<(), Fail>
     ensures { OnOk result (bytes.new.items ≡ bytes.old.items ++ little_bytes 4 number) }
 {
@@ -18,7 +18,7 @@ fn push_number(bytes: &mut Vec<u8>, number: u32) -> Result<(), Fail>
     Ok(())
 }
 
-/// Puts the numbers behind the bytes.
+/// Appends the numbers to the bytes, four bytes each.
 fn push_numbers(bytes: &mut Vec<u8>, numbers: &[u32]) -> Result<(), Fail>
     ensures { OnOk result (bytes.new.items
         ≡ bytes.old.items ++ flat_map (little_bytes 4) numbers.now) }
@@ -29,7 +29,8 @@ fn push_numbers(bytes: &mut Vec<u8>, numbers: &[u32]) -> Result<(), Fail>
     Ok(())
 }
 
-/// The file with this magic, this text, this size and these entries, White's first.
+/// The bytes of a table file with this magic, text, size and entries, White's entries first. The
+/// size need not fit the entries.
 pub fn table_file(
     alloc: Global,
     magic: &[u8],
@@ -49,7 +50,8 @@ pub fn table_file(
     Ok(file)
 }
 
-/// The plain file of a text with these entries, White's and then as many of Black.
+/// The bytes of a plain table file of a text: the first half of the entries is White's, the second
+/// half Black's.
 pub fn plain_file(alloc: Global, text: &[u8], entries: &[u32]) -> Result<Vec<u8>, Fail>
     ensures { IfOk result (λ file. file.items
         ≡ table_bytes (codes "FREEZER2") text.now (length entries.now / 2) entries.now) }

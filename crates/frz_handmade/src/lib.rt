@@ -1,5 +1,5 @@
-//! Table files made by hand, for the tests of other crates: put together byte by byte, apart from
-//! the code that writes tables and the code that reads them.
+//! Table files made by hand, for the tests of other crates: put together byte by byte, without the
+//! code that writes and reads tables.
 #![tactic(auto)]
 
 pub mod blocked;

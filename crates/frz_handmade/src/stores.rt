@@ -6,7 +6,8 @@ use frz_store::{Fail as Failing, MemStore, Store};
 use std::alloc::Global;
 use std::test::Fail;
 
-/// A store whose calls fail so and that holds these files, each a name and its bytes.
+/// A store in memory that holds these files, each a name and its bytes, and in which the calls that
+/// `fails` names will fail.
 pub fn store_with(
     alloc: Global,
     fails: Vec<Failing>,

@@ -63,7 +63,7 @@ place_of_state g man s t =
     let parts = at_parts g.colour man s found.1 found.3 in
     (found.0, (parts.0, found.2 ∙ ap Some (pair_is found.1 man.kind s parts.1 parts.2)))
 
--- and he is one where he has a place
+-- a man that has a place in the group is a state of the group
 pub state_of_place : (g : GroupLine) (man : Man) (s k : ℕ) → IsPlace g man s k →
     is_state (cell_of_man man) s g ≡ true
 state_of_place g man s k h =
@@ -211,7 +211,7 @@ apart_later (x ∷ gs) cell s (suc i) zero g l h less ei ej t = absurd (omega (a
 apart_later (x ∷ gs) cell s (suc i) (suc j) g l h less ei ej t =
     apart_later gs cell s i j g l h.1 (omega (arith, less)) ei ej t
 
--- so each state is of one group alone
+-- a state of a group is of that group alone, where no two groups have a state in common
 pub counter_of : (gs : List GroupLine) (man : Man) (s i : ℕ) (g : GroupLine) → AreApart gs →
     slice_get gs i ≡ Some g → is_state (cell_of_man man) s g ≡ true → IsCounter gs man s i
 counter_of gs man s i g h e t =

@@ -76,7 +76,7 @@ cut_first states =
       from = λ j s l e. omega arith;
     }
 
--- the state at the place has the number
+-- the state at the place k has the number x: k + 1 states have a number below x + 1
 pub cut_here : (states : List (Kind × ℕ)) (x k : ℕ) (s : Kind × ℕ) → AreStates states →
     IsCut states x k → slice_get states k ≡ Some s → state_number s ≡ x →
     IsCut states (x + 1) (k + 1)
@@ -93,7 +93,7 @@ cut_here states x k s a h e is = record {
   from = λ j t l f. omega (arith, is, state_order 0 states k j s t a.increasing (omega arith) e f);
 }
 
--- it has another number, or there is none
+-- the state at the place k has another number, or there is none: k states have one below x + 1
 pub cut_past : (states : List (Kind × ℕ)) (x k : ℕ) → AreStates states → IsCut states x k →
     ((s : Kind × ℕ) → slice_get states k ≡ Some s → state_number s ≢ x) → IsCut states (x + 1) k
 cut_past states x k a h other = record {
@@ -130,7 +130,7 @@ cut_order states x y k m l h g =
       | inr more ↦ more
     ]
 
--- there is one such place
+-- IsCut holds of one k alone
 pub cut_once : (states : List (Kind × ℕ)) (x k m : ℕ) → IsCut states x k → IsCut states x m → k ≡ m
 cut_once states x k m h g =
     omega (

@@ -210,7 +210,7 @@ group_digits p g start count number next h e =
     ∙ sym (ap (λ rs. capped (value_onto start rs (old_digits p g))) split
     ∙ ap (λ xs. capped (value_onto start (first ++ radices_from s g.least count rest) xs)) ds)
 
--- the same of a group whose fields were read
+-- the digits of a group whose fields were read
 pub group_done : (p : Board) (v g : GroupLine) (slice : List (Kind × ℕ))
     (start count number next : ℕ) →
     v ≡ g → slice ≡ v.states → v.least ≤ count →

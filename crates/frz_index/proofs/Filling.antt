@@ -33,7 +33,7 @@ fill_trans p a b c f g q = elim (g q) [
   | inr e ↦ elim (f q) [ inl d ↦ inl (e ∙ d) | inr d ↦ inr (e ∙ d) ]
 ]
 
--- what is right stays right
+-- a cell that is already that of the position stays
 pub fill_keeps : (p : Board) (a b : List ℕ) → Fill p a b → (q : ℕ) →
     slice_index a q ≡ slice_index p.cells q → slice_index b q ≡ slice_index p.cells q
 fill_keeps p a b f q e = elim (f q) [ inl d ↦ d | inr d ↦ d ∙ e ]

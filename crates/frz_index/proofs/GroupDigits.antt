@@ -124,7 +124,7 @@ digit_at p g n a b size h lo e =
     (e ∙ ap (λ k. capped (choices (length g.states) g.least (k - g.least))) h.0) h.2 in
     record { counted = record { least = least; most = most }; sum_is = f.0; small = f.1 }
 
--- the same of a group whose fields were read
+-- the digit of a group whose fields were read
 pub digit_read : (p : Board) (v g : GroupLine) (slice : List (Kind × ℕ)) (n a b : ℕ) → v ≡ g →
     slice ≡ v.states → radix_of g ≤ 134217728 → IsCount p v.colour slice v.most (n, b) →
     v.least ≤ n → a ≡ capped (choices (length v.states) v.least (n - v.least)) → IsDigit p g (a + b)

@@ -166,7 +166,7 @@ pub put_end : (gs : List GroupLine) (i rest : ℕ) (cells : List ℕ) → length
 put_end gs i rest cells h =
     sym (ap (λ xs. put_groups xs (digits (map radix_of xs) rest) cells) (drop_end gs i h))
 
--- and so whether they find their squares free
+-- where the men of the group at i find their squares free, the later groups decide
 pub free_step : (gs : List GroupLine) (i : ℕ) (g : GroupLine) (w rest : ℕ) (cells : List ℕ) →
     At gs i g w → is_group_free g (rest / w) cells ≡ true →
     are_groups_free (drop (i + 1) gs) (digits (map radix_of (drop (i + 1) gs)) (rest % w))
@@ -227,7 +227,7 @@ turn_le ts c (Some t) = omega (arith, place_le t ts)
 turn_le ts White None = omega arith
 turn_le ts Black None = omega arith
 
--- the same, before the weights are known
+-- what the group at i is, before the weights are known
 pub at_plain : (gs : List GroupLine) (i : ℕ) (g : GroupLine) → AreNumberable gs → i < length gs →
     g ≡ get_or gs i g → At gs i g (product_from gs (i + 1))
 at_plain gs i g s h e =

@@ -45,7 +45,7 @@ fit_cells cells h =
     and_from (length cells == 64) (list_all (λ c. nat_lt c 13) cells)
     (eq-eqb (length cells) 64 h.size) (small_all cells h.men)
 
--- a position is valid where no condition false_from_ne_true
+-- a position is valid where no condition fails
 abbrev no_fault : Bool → Bool → Bool → Bool → Bool → Bool
 no_fault k w m t c = k && (w && (m && (t && not c)))
 
@@ -163,7 +163,7 @@ of_member gs p m =
     (and_from (are_men_covered gs p) (list_all (is_counted p) gs) (of_men gs p m.men)
     (of_counts p gs m.counts))
 
--- numbers
+-- a position has a number exactly where it passes the test of membership
 pub number_there : (gs : List GroupLine) (p : Board) → is_member gs p ≡ true →
     number_of gs p ≡ Some (Num gs p)
 unfolding number_of
@@ -233,7 +233,7 @@ position_of gs i p h =
     let n : Num gs (candidate gs i) ≡ i = ap (Num gs) same ∙ h.number in
     position_there gs i m n ∙ ap Some same
 
--- what a set answers
+-- an answer that agrees with the relations is that of the functions
 pub number_answer : (gs : List GroupLine) (q : Board) (o : Option ℕ) → IsSome o ↔ Member gs q →
     IfSome o (λ n. n ≡ Num gs q) → o ≡ number_of gs q
 number_answer gs q None h n =

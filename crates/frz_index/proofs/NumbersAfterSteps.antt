@@ -226,7 +226,7 @@ after_step gs p man a b target i k left comes number h valid from in_order to =
     after_shift gs p man a b target i left comes number h valid
     (all_shifted gs p man a b target k left comes number.member.counts h from in_order to)
 
--- none is told where there is nothing to tell
+-- no answer, where what an answer would say is false
 pub none_told : (o : Option ℕ) (T : Type 0) → o ≡ None → (T → ⊥) → IsSome o ↔ T
 none_told o T e never = (
   λ s. let w : false ≡ true = subst IsSome e s in absurd cc,

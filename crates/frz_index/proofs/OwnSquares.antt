@@ -112,7 +112,7 @@ same_place c states j k s t h ej ek square man =
     let one : s ≡ t = pair_is s t.0 t.1 kinds square in
     state_once states j k s t h ej ek (ap state_number one)
 
--- and each that stands at a place was put there
+-- a man of the group that stands at a place was put there
 stands_put : (p : Board) (g : GroupLine) (gs : List GroupLine) (d : ℕ) (ds cells : List ℕ) →
     Given p g gs d ds cells → (k : ℕ) → k < length g.states →
     stands p g.colour (slice_get g.states k) ≡ true →

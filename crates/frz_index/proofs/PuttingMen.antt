@@ -26,7 +26,7 @@ pub record IsPut (c : Colour) (states : List (Kind × ℕ)) (ks : List ℕ) (s x
   pub here : state.1 ≡ s
   pub man : x ≡ cell_of_man (record { colour = c; kind = state.0 })
 
--- of one man
+-- the man of this cell on the square was put there, as this one state says
 record IsPutOne (c : Colour) (o : Option (Kind × ℕ)) (s x : ℕ) : Type 0 where
   state : Kind × ℕ
   state_is : o ≡ Some state

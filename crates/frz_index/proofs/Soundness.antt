@@ -26,7 +26,7 @@ states_after : (earlier groups : List GroupLine) → AreSoundAfter earlier group
 states_after earlier [] h = tt
 states_after earlier (g ∷ groups) h = ((h.0).states, states_after (earlier ++ g ∷ []) groups h.1)
 
--- their states are in order
+-- the states of the groups of sound rules are in order
 pub in_order : (r : RuleLines) → IsSound r →
     AllByRecursion (λ (g : GroupLine). AreStates g.states) r.groups
 in_order r h = states_after [] r.groups h.lines.groups
@@ -87,6 +87,6 @@ apart_after earlier (g ∷ groups) h = (
   apart_after (earlier ++ g ∷ []) groups h.1,
 )
 
--- no two have a state in common
+-- no two groups of sound rules have a state in common
 pub apart : (r : RuleLines) → IsSound r → AreApart r.groups
 apart r h = apart_after [] r.groups h.lines.groups

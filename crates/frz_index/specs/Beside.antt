@@ -11,11 +11,11 @@ use Rattle.frz_index.specs.Places.{IsWithinCount, digit_of}
 use Rattle.frz_index.specs.declared.beside.Change.{Change}
 use Rattle.frz_index.specs.declared.beside.Changes.{Changes}
 
--- the cells of the square differ
+-- the two positions differ on the square
 abbrev pub DiffersOn : Board → Board → ℕ → Type 0
 DiffersOn p q s = slice_index p.cells s ≢ slice_index q.cells s
 
--- a word for each cell, with the squares that changed to it or from it
+-- for each cell a bitboard, which has the squares that changed to it or from it
 pub record AreMoved (p q : Board) (moved : List ℕ) : Type 0 where
   pub size : length moved ≡ 13
   pub before : (s : ℕ) → s < 64 → DiffersOn p q s →
@@ -23,14 +23,14 @@ pub record AreMoved (p q : Board) (moved : List ℕ) : Type 0 where
   pub after : (s : ℕ) → s < 64 → DiffersOn p q s →
       has_square (slice_index moved (slice_index q.cells s)) s ≡ true
 
--- no cell of the words is a state of the group on one of its squares
+-- no cell is a state of the group on a square that its bitboard has
 abbrev pub HasNoneOf : GroupLine → List ℕ → Type 0
 HasNoneOf g moved =
     (cell s : ℕ) → s < 64 → is_state cell s g ≡ true →
     has_square (slice_index moved cell) s ≡ false
 
--- the group's digits after and before, or none of both where they are the same; and of the squares
--- that changed those on which its men stand after
+-- the group's digit in q is its digit in p, less x.before, plus x.after; and among the squares that
+-- changed, x.squares has those on which the group's men stand in q
 pub record IsChange (p q : Board) (g : GroupLine) (x : Change) : Type 0 where
   pub counted : IsWithinCount q g
   pub digit : digit_of q g + x.before ≡ digit_of p g + x.after
@@ -39,7 +39,8 @@ pub record IsChange (p q : Board) (g : GroupLine) (x : Change) : Type 0 where
   pub squares : (s : ℕ) → s < 64 → DiffersOn p q s →
       has_square x.squares s ≡ is_state (slice_index q.cells s) s g
 
--- what the digits of all groups add after and before
+-- the number of all groups' digits in q is that in p, less x.before, plus x.after; and among the
+-- squares that changed, x.squares has those on which men of the groups stand in q
 pub record AreChanges (p q : Board) (gs : List GroupLine) (x : Changes) : Type 0 where
   pub counted : AllByRecursion (IsWithinCount q) gs
   pub sum : value (map radix_of gs) (map (digit_of q) gs) + x.before

@@ -17,17 +17,17 @@ put_man c None cells = cells
 put_man c (Some state) cells =
     slice_set cells state.1 (cell_of_man (record { colour = c; kind = state.0 }))
 
--- the men of these places
+-- the men of the states at these places are put on their squares
 abbrev pub put_men : Colour → List (Kind × ℕ) → List ℕ → List ℕ → List ℕ
 put_men c states [] cells = cells
 put_men c states (k ∷ ks) cells = put_men c states ks (put_man c (slice_get states k) cells)
 
--- the men of a group's digit
+-- the men that a group's digit stands for are put on their squares
 abbrev pub put_group : GroupLine → ℕ → List ℕ → List ℕ
 put_group g d cells =
     put_men g.colour g.states (selection_at (length g.states) g.least g.most d) cells
 
--- the men of the digits of all groups
+-- the men that the digits of all groups stand for are put on their squares
 abbrev pub put_groups : List GroupLine → List ℕ → List ℕ → List ℕ
 put_groups [] ds cells = cells
 put_groups (g ∷ gs) [] cells = cells

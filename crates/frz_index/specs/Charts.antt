@@ -25,12 +25,12 @@ pub record IsCut (states : List (Kind × ℕ)) (x k : ℕ) : Type 0 where
 abbrev pub IsAt : List (Kind × ℕ) → ℕ → ℕ → Type 0
 IsAt states k x = (s : Kind × ℕ) × (slice_get states k ≡ Some s) × (state_number s ≡ x)
 
--- how many states have a number below each
+-- for each number from 0 to 384, how many states have a lower one
 pub record AreCuts (states : List (Kind × ℕ)) (cuts : List ℕ) : Type 0 where
   pub size : length cuts ≡ 385
   pub cut : (x : ℕ) → x ≤ 384 → IsCut states x (slice_index cuts x)
 
--- a word for each kind, with the squares of its states
+-- for each kind, the bitboard of the squares of its states
 pub record AreWords (states : List (Kind × ℕ)) (words : List ℕ) : Type 0 where
   pub size : length words ≡ 6
   pub only : (i s : ℕ) → i < 6 → s < 64 → has_square (slice_index words i) s ≡ true →

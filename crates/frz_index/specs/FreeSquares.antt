@@ -21,12 +21,12 @@ are_free c states (k ∷ ks) cells =
     is_free (slice_get states k) cells
     && are_free c states ks (put_man c (slice_get states k) cells)
 
--- the men of a group's digit do
+-- the men of a group's digit find their squares empty
 abbrev pub is_group_free : GroupLine → ℕ → List ℕ → Bool
 is_group_free g d cells =
     are_free g.colour g.states (selection_at (length g.states) g.least g.most d) cells
 
--- the men of the digits of all groups do
+-- the men of the digits of all groups find their squares empty
 abbrev pub are_groups_free : List GroupLine → List ℕ → List ℕ → Bool
 are_groups_free [] ds cells = true
 are_groups_free (g ∷ gs) [] cells = true

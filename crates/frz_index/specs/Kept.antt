@@ -10,26 +10,26 @@ use Rattle.frz_index.specs.Charts.{AreCharts}
 use Rattle.frz_index.specs.Shares.{AreShares}
 use Rattle.frz_sets.specs.Sets.{has_state, is_state, radix_of, size_of, targets}
 
--- what numbers need of the groups
+-- what the numbers of a set need of its groups
 pub record AreNumberable (gs : List GroupLine) : Type 0 where
   pub groups : AreCounted gs
   pub few : length gs ≤ MOST_GROUPS
   pub size : size_of gs ≤ MOST_NUMBERS
 
--- how many numbers the groups from the one at i on have
+-- how many numbers the groups from index i on have: the product of their radices
 abbrev pub product_from : List GroupLine → ℕ → ℕ
 product_from gs i = product (map radix_of (drop i gs))
 
--- what each group's digit counts for: the numbers of the groups after it
+-- what one unit of each group's digit adds to a number: how many numbers the later groups have
 pub record AreWeights (gs : List GroupLine) (ws : List ℕ) : Type 0 where
   pub size : length ws ≡ length gs
   pub known : (i : ℕ) → i < length gs → slice_index ws i ≡ product_from gs (suc i)
 
--- no man, or a man that has a state
+-- the cell is empty, or its man on this square is a state of some group
 abbrev pub is_known : List GroupLine → ℕ → ℕ → Bool
 is_known gs cell s = cell == 0 || has_state gs cell s
 
--- of each cell, the squares on which it is known
+-- for each cell, the bitboard of the squares on which it is known
 pub record AreKnown (gs : List GroupLine) (words : List ℕ) : Type 0 where
   pub size : length words ≡ 13
   pub known : (cell : ℕ) → cell < 13 → slice_index words cell ≡ set_of (is_known gs cell)

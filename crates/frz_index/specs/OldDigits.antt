@@ -16,7 +16,8 @@ use Rattle.frz_index.specs.OldNumbers.{old_radix}
 abbrev pub radices_from : ℕ → ℕ → ℕ → ℕ → List ℕ
 radices_from states least k n = map (old_radix states least) (range_with_len k n)
 
--- so many men stand at the first n states, and their places are digits behind the start
+-- `count` men stand as the first n states say, and `number` is the start with their places appended
+-- as digits
 pub record ArePlaced (p : Board) (c : Colour) (states : List (Kind × ℕ))
     (least most start n count number : ℕ) : Type 0 where
   pub count_is : count ≡ length (places_among p c states n)
@@ -25,7 +26,8 @@ pub record ArePlaced (p : Board) (c : Colour) (states : List (Kind × ℕ))
       ≡ capped (value_onto start (radices_from (length states) least 0 count)
       (reverse (places_among p c states n)))
 
--- the turn state: a target's is that of the possible targets before it, behind White and Black
+-- the number of the turn state: 0 for White to move, 1 for Black to move, and for a target 2 plus
+-- how many possible targets are before it
 abbrev pub turn_before : List GroupLine → Colour → Option ℕ → ℕ
 turn_before gs c (Some t) = suc (suc (length (filter (is_possible gs) (range_with_len 0 t))))
 turn_before gs White None = 0

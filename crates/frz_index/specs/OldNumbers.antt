@@ -8,8 +8,8 @@ use Rattle.frz_sets.specs.Sets.{targets}
 use Rattle.frz_index.specs.Places.{places}
 use Rattle.frz_index.specs.TurnStates.{turn_number}
 
--- the radix of digit k, from 0: the states; and for a man above
--- the least one value more, which means absent
+-- the radix of digit k, counted from 0: the number of states, and from digit `least` on one value
+-- more, which means an absent man
 abbrev pub old_radix : ℕ → ℕ → ℕ → ℕ
 old_radix states least k = if nat_lt k least then states else states + 1
 

@@ -8,14 +8,14 @@ use Rattle.frz_index.specs.declared.plan.TheConstants.{CELLS}
 use Rattle.frz_index.specs.declared.shares.Share.{Share}
 use Rattle.frz_index.specs.Stepping.{IsShare}
 
--- what the man adds on the square, and none exactly where no group alone tells it
+-- what the man on the square adds to a number, and None exactly where no single group tells it
 abbrev pub IsShareOf : List GroupLine → Man → ℕ → Option Share → Type 0
 IsShareOf gs man s share =
     MatchOption share
     ((k adds : ℕ) → IsShare gs man s k adds → ⊥)
     (λ x. IsShare gs man s x.group x.adds)
 
--- of each cell on each square, what its man adds there
+-- at 64 * cell + square, what the cell's man adds to a number there
 pub record AreShares (gs : List GroupLine) (shares : List (Option Share)) : Type 0 where
   pub size : length shares ≡ CELLS
   pub each : (i : ℕ) (man : Man) (share : Option Share) → slice_get shares i ≡ Some share →

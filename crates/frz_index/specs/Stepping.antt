@@ -33,8 +33,8 @@ pub record IsStep (p : Board) (man : Man) (a b : ℕ) : Type 0 where
 abbrev pub IsPlace : GroupLine → Man → ℕ → ℕ → Type 0
 IsPlace g man s k = (g.colour ≡ man.colour) × (slice_get g.states k ≡ Some (man.kind, s))
 
--- The man on the square is a state of the group at i alone, which has one man at most: there he
--- adds this much to a number, his place as the group's digit.
+-- Only the group at index i has the man on this square as a state, and it has one man at most.
+-- There his place is the group's digit, and `adds` is what that digit adds to a number.
 pub record IsShare (gs : List GroupLine) (man : Man) (s i adds : ℕ) : Type 0 where
   pub group : GroupLine
   pub there : slice_get gs i ≡ Some group
@@ -45,7 +45,7 @@ pub record IsShare (gs : List GroupLine) (man : Man) (s i adds : ℕ) : Type 0 w
   pub alone : (j : ℕ) (g : GroupLine) → j ≢ i → slice_get gs j ≡ Some g →
       is_state (cell_of_man man) s g ≡ false
 
--- the man on the square is a state of the group at i alone
+-- only the group at index i has the man on this square as a state
 pub record IsCounter (gs : List GroupLine) (man : Man) (s i : ℕ) : Type 0 where
   pub group : GroupLine
   pub there : slice_get gs i ≡ Some group
@@ -54,7 +54,7 @@ pub record IsCounter (gs : List GroupLine) (man : Man) (s i : ℕ) : Type 0 wher
   pub alone : (j : ℕ) (g : GroupLine) → j ≢ i → slice_get gs j ≡ Some g →
       is_state (cell_of_man man) s g ≡ false
 
--- the group at i has the man on both squares as states
+-- the group at index i has the man on both squares as states
 abbrev pub HasOnBoth : List GroupLine → Man → ℕ → ℕ → ℕ → Type 0
 HasOnBoth gs man a b i =
     (g : GroupLine) × (slice_get gs i ≡ Some g) × (is_state (cell_of_man man) a g ≡ true)
@@ -66,7 +66,8 @@ pub record IsCountedOnBoth (gs : List GroupLine) (man : Man) (a b : ℕ) : Type 
   pub there : IsCounter gs man a group
   pub then : IsCounter gs man b group
 
--- and it has one man at most, who adds a fixed amount on each square
+-- one group alone, of one man at most, counts the man on both squares: he adds `left` on the first
+-- and `comes` on the second
 pub record IsSharedOnBoth (gs : List GroupLine) (man : Man) (a b : ℕ) : Type 0 where
   pub group : ℕ
   pub left : ℕ
@@ -74,7 +75,7 @@ pub record IsSharedOnBoth (gs : List GroupLine) (man : Man) (a b : ℕ) : Type 0
   pub there : IsShare gs man a group left
   pub then : IsShare gs man b group comes
 
--- what the digit of the group at k adds to a number, and none where it has too few men or too many
+-- what the digit of the group at index k adds, and None where it has too few men or too many
 abbrev pub DigitAdds : List GroupLine → Board → ℕ → GroupLine → Option ℕ → Type 0
 DigitAdds gs p k g adds =
     MatchOption adds (IsWithinCount p g → ⊥)
@@ -84,8 +85,9 @@ DigitAdds gs p k g adds =
 abbrev pub turn_adds : List GroupLine → Colour → Option ℕ → ℕ
 turn_adds gs turn target = turn_number gs turn target * product (map radix_of gs)
 
--- The number after a step, with the targets before and after it: what the man or his group adds
--- before goes, what they add after it comes, and so for the turn states.
+-- The number after a step, where `before` and `after` are the targets before and after it: i, less
+-- what the man's group (`left`) and the turn state added before, plus what the group (`comes`) and
+-- the turn state add after.
 abbrev pub number_after : List GroupLine → Colour → Option ℕ → Option ℕ → ℕ → ℕ → ℕ → ℕ
 number_after gs turn before after i left comes =
     i + comes + turn_adds gs (other_of turn) after - left - turn_adds gs turn before

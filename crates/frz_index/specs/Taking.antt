@@ -13,8 +13,8 @@ pub record IsTaking (p : Board) (m : Step) (man taken : Man) : Type 0 where
   pub taken_is : man_on p m.to ≡ Some taken
   pub promo : m.promo ≡ None
 
--- the man's group may be empty: without him a number is less by what he adds, and by one of the
--- group's digits
+-- the man's group may be empty: without him a number is lower by what he adds, and by one unit of
+-- the group's digit
 pub record IsSpare (gs : List GroupLine) (man : Man) (s loss : ℕ) : Type 0 where
   pub group : ℕ
   pub adds : ℕ
@@ -22,8 +22,8 @@ pub record IsSpare (gs : List GroupLine) (man : Man) (s loss : ℕ) : Type 0 whe
   pub none : share.group.least ≡ 0
   pub loss_is : loss ≡ adds + product_from gs (suc group)
 
--- one group alone of one man at most counts the man on both squares, and another that may be empty
--- the taken man
+-- one group alone, of one man at most, counts the moving man on both squares; and one such group,
+-- which may be empty, counts the taken man
 pub record IsCountedTaking (gs : List GroupLine) (man taken : Man) (a b : ℕ) : Type 0 where
   pub moves : IsSharedOnBoth gs man a b
   pub loss : ℕ

@@ -7,7 +7,7 @@ use Rattle.frz_board.specs.Ranks.{is_passing_rank}
 use Rattle.frz_sets.specs.Views.{GroupLine}
 use Rattle.frz_sets.specs.Sets.{targets}
 
--- the place of the first x among these
+-- the index of the first x in the list, or the list's length if it has none
 abbrev pub place_of : ℕ → List ℕ → ℕ
 place_of x [] = 0
 place_of x (y ∷ ys) = if x == y then 0 else suc (place_of x ys)

@@ -1,4 +1,4 @@
-//! The number of a position after a man has gone to another square, by what that changes.
+//! The number of a position after a move, computed from the number before it.
 ghost use Rattle.std.specs.Prelude.{ℕ, ◌≡◌, ◌≢◌, ◌<◌, ◌≤◌, ◌+◌, ◌*◌, ◌↔◌, IfSome, IsSome, MatchOption, None, Some, true};
 ghost use Rattle.frz_board.specs.Boards.{is_empty, man_on};
 ghost use Rattle.frz_board.specs.Men.{other_of};
@@ -17,7 +17,8 @@ use crate::turn::turn_number;
 use frz_bits::Bitboards;
 use frz_board::{Colour, Kind, Man, Move, Square, cell_of};
 
-/// What the man adds to a number on the square, where one group alone tells it.
+/// What the man on the square adds to a number. `None` unless only one group has him there as a
+/// state, and that group has one man at most.
 pub(crate) fn share(plan: &Plan, man: Man, s: Square) -> Option<Share>
     requires { IsPlan plan.now }
     ensures { IsShareOf plan.now.groups.items man s result }
@@ -35,8 +36,8 @@ pub(crate) fn turn_adds(plan: &Plan, turn: Colour, target: Option<Square>) -> u6
     u64::from(turn_number(&plan.targets, turn, target)) * u64::from(plan.whole)
 }
 
-/// The number after a step: what is added before it goes, what is added after it comes, and so for
-/// the turn states.
+/// The number after a step: `i`, less `left` and what the turn state added before, plus `comes` and
+/// what the turn state adds after.
 pub(crate) fn number_by(
     plan: &Plan,
     i: u32,
@@ -60,8 +61,8 @@ pub(crate) fn number_by(
     (u64::from(i) + comes + after - left - before) as u32
 }
 
-/// The number of the position after the man has gone from one square to another, which is empty,
-/// with this target after it, where that can be told by what he adds on each.
+/// The number of the position after the man has gone to the empty square `to`, with this target
+/// after it. `None` unless `share` tells what he adds on both squares, by the same group.
 pub(crate) fn number_after_in(
     plan: &Plan,
     i: u32,
@@ -97,8 +98,8 @@ fn is_plain(man: Man, a: Square, b: Square) -> bool
     man.kind != Kind::Pawn || (a.files_apart(b) == 0 && a.is_forward(man.colour, 1, b))
 }
 
-/// The man that makes the move, if it takes nothing and stays what it is, and if it is a pawn goes
-/// one square forward.
+/// The man that makes the move, if the move is quiet: its last square is empty, it promotes
+/// nothing, and a pawn goes one square forward.
 pub(crate) fn stepping_man(p: &Bitboards, m: Move) -> Option<Man>
     ensures { MatchOption result ((man : Man) → IsQuiet p.now m man → ⊥) (IsQuiet p.now m) }
 {
@@ -117,7 +118,7 @@ pub(crate) fn stepping_man(p: &Bitboards, m: Move) -> Option<Man>
     }
 }
 
-/// What arrives by the move of this man.
+/// The man that stands on the last square after this man's move: what it promotes to, or itself.
 pub(crate) fn arriving(man: Man, promo: Option<Kind>) -> Man
     ensures { result ≡ arrives man promo }
 {
@@ -127,7 +128,8 @@ pub(crate) fn arriving(man: Man, promo: Option<Kind>) -> Man
     }
 }
 
-/// What a number is less without the man, where one group alone counts him, and may be empty.
+/// How much lower a number is without the man. `None` unless one group alone, of one man at most,
+/// counts him and may be empty.
 fn loss(plan: &Plan, man: Man, s: Square) -> Option<u64>
     requires { IsPlan plan.now }
     ensures { let gs = plan.now.groups.items in
@@ -141,8 +143,9 @@ fn loss(plan: &Plan, man: Man, s: Square) -> Option<u64>
     }
 }
 
-/// The number of the position after the man has taken another one and stays what he is, where that
-/// can be told by what it changes.
+/// The number of the position after the man has taken another one without promotion. `None` unless
+/// `share` tells what he adds on both squares, by the same group, and `loss` what goes with the
+/// taken man.
 pub(crate) fn number_after_taking_in(
     plan: &Plan,
     i: u32,
@@ -173,7 +176,8 @@ pub(crate) fn number_after_taking_in(
     Some(number_by(plan, i, p, &None, left.adds + less, comes.adds))
 }
 
-/// The man that makes the move and the man that it takes on its last square, unless it promotes.
+/// The man that makes the move, and the man that it takes on its last square. `None` if one of them
+/// is missing, or the move promotes.
 pub(crate) fn taking_men(p: &Bitboards, m: Move) -> Option<(Man, Man)>
     ensures { MatchOption result ((man taken : Man) → IsTaking p.now m man taken → ⊥)
         (λ (man, taken). IsTaking p.now m man taken) }

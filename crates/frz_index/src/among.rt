@@ -1,4 +1,4 @@
-//! The number of a position after a man of a group of several has gone to an empty square.
+//! The number of a position after a man, of a group of any size, has gone to an empty square.
 ghost use Rattle.std.specs.Prelude.{ℕ, ◌≡◌, ◌<◌, ◌≤◌, ◌&&◌, ◌↔◌, IfSome, IsSome, MatchOption, Some, length, true};
 ghost use Rattle.std.specs.List.{slice_get};
 ghost use Rattle.frz_board.specs.Boards.{is_empty, man_on};
@@ -20,7 +20,7 @@ use frz_bits::Bitboards;
 use frz_board::{Man, Square, cell_of};
 use frz_sets::Group;
 
-/// Has the group the man as a state on both squares?
+/// Is the man on both squares a state of the group?
 fn has_both(group: &Group, chart: &Chart, man: Man, a: Square, b: Square) -> bool
     requires { IsChart group.now.states chart.now }
     ensures { result ≡ (is_state (cell_of_man man) a group.now
@@ -29,7 +29,7 @@ fn has_both(group: &Group, chart: &Chart, man: Man, a: Square, b: Square) -> boo
     has_state(group, chart, man, a) && has_state(group, chart, man, b)
 }
 
-/// The group that has the man as a state on both squares.
+/// The index of a group that has the man on both squares as states.
 fn group_of(groups: &[Group], charts: &[Chart], man: Man, a: Square, b: Square) -> Option<usize>
     requires { AreCharts groups.now charts.now }
     ensures { MatchOption result
@@ -53,7 +53,8 @@ fn gone(p: &Bitboards, man: Man, from: Square, to: Square, target: &Option<Squar
     q
 }
 
-/// What the digit of the group at this place adds, unless it has too few men or too many.
+/// What the digit of the group at index `k` adds to a number. `None` if the group has too few men
+/// or too many.
 fn digit_adds(plan: &Plan, p: &Bitboards, k: usize) -> Option<u64>
     requires plan { IsPlan plan.now }
     requires within { k < length plan.now.groups.items }
@@ -65,7 +66,8 @@ fn digit_adds(plan: &Plan, p: &Bitboards, k: usize) -> Option<u64>
     Some(u64::from(digit) * u64::from(plan.weights[k]))
 }
 
-/// The number after the step, by the digit of the group that counts the man on both squares.
+/// The number after the step, computed from the digit of the group that counts the man on both
+/// squares. `None` unless one group alone does.
 fn number_among(
     plan: &Plan,
     i: u32,
@@ -93,8 +95,8 @@ fn number_among(
     Some(number_by(plan, i, p, target, left, comes))
 }
 
-/// The number of the position after the man has gone from one square to another, which is empty,
-/// with this target after it, where one group alone counts him on both.
+/// The number of the position after the man has gone to the empty square `to`, with this target
+/// after it. `None` unless one group alone counts him on both squares.
 pub(crate) fn number_after_step_in(
     plan: &Plan,
     i: u32,

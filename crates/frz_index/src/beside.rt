@@ -1,4 +1,4 @@
-//! The number of a position beside one whose number is known, by the men that changed squares.
+//! The number of a position, computed from that of another one by the men that changed squares.
 ghost use Rattle.std.specs.Prelude.{◌≡◌, ◌<◌, ◌≤◌, ◌+◌, ◌==◌, MatchOption, false, length, not, slice_index};
 ghost use Rattle.std.specs.List.{AllByRecursion};
 ghost use Rattle.frz_squares.specs.SquareSets.{set_of};
@@ -21,7 +21,8 @@ use frz_board::{Man, cell_of};
 use frz_combinations::Triangle;
 use frz_sets::Group;
 
-/// Of each cell, the squares that changed to it or from it.
+/// For each cell (0 for empty, 1 to 12 for a man), the bitboard of the squares that changed to it
+/// or from it.
 fn moved_men(p: &Bitboards, q: &Bitboards, squares: u64) -> [u64; 13]
     requires { squares
         ≡ set_of (λ s. not (slice_index p.now.cells s == slice_index q.now.cells s)) }
@@ -39,7 +40,7 @@ fn moved_men(p: &Bitboards, q: &Bitboards, squares: u64) -> [u64; 13]
     moved
 }
 
-/// Has a man of the group come to a square or left it?
+/// Has a man of the group come to a square or left one? The words are those of `moved_men`.
 fn is_touched(group: &Group, chart: &Chart, moved: &[u64; 13]) -> bool
     requires { IsChart group.now.states chart.now }
     ensures { result ≡ false → HasNoneOf group.now moved.now }
@@ -56,16 +57,16 @@ fn is_touched(group: &Group, chart: &Chart, moved: &[u64; 13]) -> bool
     false
 }
 
-/// The digits of a group of which a man has come or gone.
+/// A group's digit in both positions, or 0 twice where none of its men has come or gone.
 #[derive(Clone, Copy)]
 pub(crate) struct Change {
     pub before: u32,
     pub after: u32,
-    /// The squares of its men after.
+    /// The bitboard of its men afterwards, or 0 where none of them has come or gone.
     pub squares: u64,
 }
 
-/// What becomes of a group's digit, unless it then has too few men or too many.
+/// How a group's digit changes from `p` to `q`. `None` if it has too few men or too many in `q`.
 fn change_of(
     triangle: &Triangle,
     p: &Bitboards,
@@ -99,16 +100,17 @@ fn change_of(
     })
 }
 
-/// What the digits that change add to a number.
+/// What the digits of the groups whose men have come or gone add to a number in both positions.
 #[derive(Clone, Copy)]
 pub(crate) struct Changes {
     pub before: u64,
     pub after: u64,
-    /// The squares of the groups' men after.
+    /// The bitboard of these groups' men afterwards.
     pub squares: u64,
 }
 
-/// What becomes of the groups' digits, unless a group then has too few men or too many.
+/// How the groups' digits change from `p` to `q`. `None` if a group has too few men or too many in
+/// `q`.
 fn changes_of(
     triangle: &Triangle,
     p: &Bitboards,
@@ -144,7 +146,7 @@ fn changes_of(
     })
 }
 
-/// The number of a position, if it is in the set, by that of another one.
+/// The number of `q`, computed from the number `i` of `p`. `None` if `q` is outside the set.
 pub(crate) fn number_beside_in(plan: &Plan, i: u32, p: &Bitboards, q: &Bitboards) -> Option<u32>
     requires plan { IsPlan plan.now }
     requires number { HasNumber plan.now.groups.items i p.now }

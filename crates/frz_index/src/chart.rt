@@ -8,20 +8,21 @@ ghost use Rattle.frz_index.specs.Charts.{AreCuts, AreWords, IsAt, IsChart};
 use frz_bits::replaced;
 use frz_board::{Kind, Square};
 
-/// Where the states of a group stand among all 384 states, which are in order by kind, then square.
+/// Where the states of a group stand among all 384 states, six kinds on 64 squares. All states are
+/// numbered from 0, by kind, then by square.
 #[derive(Clone, Copy)]
 pub struct Chart {
-    /// Of each kind, the squares of its states.
+    /// For each kind, the bitboard of the squares of its states.
     pub words: [u64; 6],
-    /// How many states have a number below each.
+    /// For each number from 0 to 384, how many of the group's states have a lower one.
     pub cuts: [u16; 385],
     /// The first kind that has states.
     pub first: u8,
-    /// The kind behind the last that has states.
+    /// One more than the last kind that has states.
     pub end: u8,
 }
 
-/// The kinds in order, from 0.
+/// The number of a kind here, from 0 to 5.
 pub(crate) fn kind_number(kind: Kind) -> u8
     ensures number { result ≡ number_of_kind kind - 1 }
     ensures small { result < 6 }
@@ -29,7 +30,7 @@ pub(crate) fn kind_number(kind: Kind) -> u8
     kind.number() - 1
 }
 
-/// The kind of a number.
+/// The kind with this number, from 0 to 5.
 pub(crate) fn kind_at(i: u8) -> Kind
     requires { i < 6 }
     ensures { result ≡ kind_of_number (i + 1) }
@@ -43,7 +44,7 @@ fn state_number(kind: Kind, square: Square) -> u16
     64 * u16::from(kind_number(kind)) + u16::from(square.number())
 }
 
-/// Is there a state at the place, and has it this number?
+/// Is there a state at index `k`, and is its number `x`?
 fn is_at(states: &[(Kind, Square)], k: u16, x: u16) -> bool
     ensures { IsTrue result ↔ IsAt states.now k x }
 {
@@ -54,7 +55,7 @@ fn is_at(states: &[(Kind, Square)], k: u16, x: u16) -> bool
     state_number(kind, square) == x
 }
 
-/// How many of the states have a number below each.
+/// For each number from 0 to 384, how many of the states have a lower one.
 fn cuts_of(states: &[(Kind, Square)]) -> [u16; 385]
     requires { AreStates states.now }
     ensures { AreCuts states.now result }
@@ -71,7 +72,7 @@ fn cuts_of(states: &[(Kind, Square)]) -> [u16; 385]
     cuts
 }
 
-/// The squares of the states of each kind.
+/// For each kind, the bitboard of the squares of its states.
 fn words_of(states: &[(Kind, Square)]) -> [u64; 6]
     requires { AreStates states.now }
     ensures { AreWords states.now result }
@@ -98,7 +99,7 @@ fn first_kind(cuts: &[u16; 385]) -> u8
     first
 }
 
-/// The kind behind the last that has states, from `first` on.
+/// One more than the last kind that has states, from `first` on.
 fn end_kind(cuts: &[u16; 385], first: u8) -> u8
     requires { first < 6 }
     ensures none_after { slice_index cuts.now (64 * result) ≡ slice_index cuts.now 384 }

@@ -1,4 +1,4 @@
-//! The digit of a group: which of the combinations of its men's places stands on the board.
+//! The digit of a group: the number of the combination in which its men stand on the board.
 ghost use Rattle.std.specs.Prelude.{◌≡◌, ◌<◌, ◌≤◌, ◌+◌, ◌-◌, ◌*◌, MatchOption, length, slice_index};
 ghost use Rattle.frz_combinations.specs.Binomials.{capped};
 ghost use Rattle.frz_combinations.specs.Selections.{choices};
@@ -14,18 +14,19 @@ use frz_board::Man;
 use frz_combinations::Triangle;
 use frz_sets::Group;
 
-/// Men of a group that were counted.
+/// The men of a group that have been counted so far.
 #[derive(Clone, Copy)]
 pub(crate) struct Counted {
     /// How many they are.
     pub count: u32,
-    /// The rank of their places.
+    /// The rank of the combination of their places, or the greatest number of 64 bits where that is
+    /// greater.
     pub rank: u64,
-    /// Their squares.
+    /// The bitboard of their squares.
     pub squares: u64,
 }
 
-/// Goes on counting over the men of one kind.
+/// Goes on counting with the men of kind `i`. `None` if there are then more than the group's most.
 fn count_kind(
     triangle: &Triangle,
     p: &Bitboards,
@@ -68,7 +69,7 @@ fn count_kind(
     })
 }
 
-/// The men of the group, unless there are too many.
+/// Counts the men of the group on the board. `None` if there are more than the group's most.
 pub(crate) fn count_men(
     triangle: &Triangle,
     p: &Bitboards,
@@ -106,7 +107,8 @@ fn smaller(triangle: &Triangle, states: u32, least: u32, count: u32) -> u64
     sum
 }
 
-/// The group's digit and the squares of its men, unless it has too few men or too many.
+/// The group's digit, and the bitboard of its men's squares. `None` if the group has too few men or
+/// too many.
 pub(crate) fn digit(
     triangle: &Triangle,
     p: &Bitboards,

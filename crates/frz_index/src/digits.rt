@@ -18,8 +18,8 @@ use frz_bits::Bitboards;
 use frz_combinations::Triangle;
 use frz_sets::Group;
 
-/// The groups' digits as one number and the squares of their men, unless a group has too few men or
-/// too many.
+/// The groups' digits as one number, and the bitboard of their men's squares. `None` if a group has
+/// too few men or too many.
 pub(crate) fn number_of_digits(
     triangle: &Triangle,
     p: &Bitboards,
@@ -48,8 +48,8 @@ pub(crate) fn number_of_digits(
     Some((total, covered))
 }
 
-/// Puts the men of the groups' digits on the board, as long as each finds its square empty, and
-/// tells whether all did.
+/// Puts on the board the men that the digits of this number stand for. It stops at the first man
+/// whose square is not empty, and answers `false`; it answers `true` if all could be put.
 pub(crate) fn put_all(
     p: &mut Bitboards,
     triangle: &Triangle,

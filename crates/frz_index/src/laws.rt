@@ -18,9 +18,9 @@ ghost use Rattle.frz_index.specs.Stepping.{IsShare, IsStep, number_after, steppe
 ghost use Rattle.frz_index.specs.Leaving.{leaves};
 ghost use Rattle.frz_index.specs.OldNumbers.{OldNum, old_size_of};
 
-/// The number of a position of a set is below the size, and no other position has it. It starts
-/// with the turn state, is multiplied by each group's radix in
-/// order, and the group's digit is added.
+/// The number of a position of a set is below the size, and no other position has it. The number
+/// begins as that of the turn state; for each group in order, it is multiplied by the group's
+/// radix, and the group's digit is added.
 pub fn numbers()
     ensures below { (gs : List GroupLine) (p : Board) → Member gs p → Num gs p < size_of gs }
     ensures found_again { (gs : List GroupLine) (p : Board) → Member gs p →
@@ -31,8 +31,8 @@ pub fn numbers()
         Num gs p ≡ value_onto (turn_number gs p.turn p.ep) (map radix_of gs) (map (digit_of p) gs) }
 {}
 
-/// The test of membership is membership, and the functions between positions and numbers are what
-/// the relations say.
+/// The test `is_member` agrees with the definition `Member`, and the functions from positions to
+/// numbers and back agree with the relation `HasNumber`.
 pub fn membership()
     ensures member { (gs : List GroupLine) (p : Board) → (is_member gs p ≡ true) ↔ Member gs p }
     ensures number { (gs : List GroupLine) (p : Board) (i : ℕ) →
@@ -49,8 +49,8 @@ pub fn old_numbers()
         OldNum gs p ≡ OldNum gs q → p ≡ q }
 {}
 
-/// The number after a step is the number of the position after it, where on both squares the
-/// same group counts the man, and no other one.
+/// Where one group, of one man at most, is the only one that counts the man on both squares of a
+/// step, `number_after` is the number of the position after the step.
 pub fn numbers_after_steps()
     ensures { (r : RuleLines) (p : Board) (man : Man) (a b i k left comes : ℕ)
         (target : Option ℕ) → IsSound r →
@@ -60,8 +60,8 @@ pub fn numbers_after_steps()
         (stepped p man a b target) }
 {}
 
-/// Where the man of a legal move arrives where the set has no such man, the position after the move
-/// is outside.
+/// If a legal move brings a man to a square where the set has no such man, the position after the
+/// move is outside the set.
 pub fn leaving_moves()
     ensures { (gs : List GroupLine) (p : Board) (m : Step) → IsValid p → m.to < 64 →
         is_legal p m ≡ true → leaves gs p m ≡ true → Member gs (after p m) → ⊥ }

@@ -1,5 +1,7 @@
 //! Dense numbers of a set: each position of the set has a number below the set's size, and no two
 //! have the same.
+//! A state is a kind on a square, and its place is its index among the states of its group. A
+//! group's digit is the number of the combination of places at which its men stand.
 #![tactic(auto)]
 
 mod across;

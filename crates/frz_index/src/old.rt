@@ -17,10 +17,11 @@ ghost use Rattle.frz_index.specs.declared.old.TheConstants.{MOST_OLD_NUMBERS};
 use frz_board::{Colour, Kind, Position, Square};
 use frz_sets::{Group, Rules, has_state, is_target, target_count};
 
-/// What a set of the former format has at most: 2^24 numbers.
+/// The most numbers that a set of the former format may have: 2^24.
 pub const MOST_OLD_NUMBERS: u32 = 16_777_216;
 
-/// The radix of a digit of a group that has so many states, and at least so many men.
+/// The radix of digit `k` of a group: the number of its states, and from digit `least` on one value
+/// more, which means an absent man.
 fn radix(states: u64, least: u8, k: u8) -> u64
     requires { states ≤ MOST_STATES }
     ensures { result ≡ old_radix states least k }
@@ -28,7 +29,8 @@ fn radix(states: u64, least: u8, k: u8) -> u64
     if k < least { states } else { states + 1 }
 }
 
-/// The radices of the group's digits multiplied, or the greatest number of 64 bits.
+/// The product of the radices of the group's digits, or the greatest number of 64 bits where that
+/// product is greater.
 fn radix_product(g: &Group) -> u64
     requires { IsCounted g.now }
     ensures { result ≡ capped (product (old_radices g.now)) }
@@ -61,15 +63,16 @@ pub fn old_size(r: &Rules) -> u64
     size(&r.groups)
 }
 
-/// The number with one more digit behind it.
+/// The number with one more digit appended, or the greatest number of 64 bits where that is
+/// greater.
 fn with_digit(number: u64, radix: u64, digit: u64) -> u64
     ensures { result ≡ capped (number * radix + digit) }
 {
     number.saturating_mul(radix).saturating_add(digit)
 }
 
-/// How many men of the colour stand at the states, and the number with their places behind it,
-/// unless there are more than the most.
+/// How many men of the colour stand as the states say, and the number with their places appended as
+/// digits. `None` if there are more than `most`.
 fn with_places(
     p: &Position,
     colour: Colour,
@@ -98,7 +101,7 @@ fn with_places(
     Some((count, number))
 }
 
-/// The number with the digits of absent men behind it, from the digit at `count` on.
+/// The number with the digits `count` to `most` - 1 appended, each that of an absent man.
 fn with_absent(states: u64, least: u8, count: u8, most: u8, start: u64) -> u64
     requires order { count ≤ most }
     requires few { states ≤ MOST_STATES }
@@ -112,7 +115,7 @@ fn with_absent(states: u64, least: u8, count: u8, most: u8, start: u64) -> u64
     number
 }
 
-/// The number with the group's digits behind it, unless the group has too few men or too many.
+/// The number with the group's digits appended. `None` if the group has too few men or too many.
 fn with_group(p: &Position, g: &Group, start: u64) -> Option<u64>
     requires { IsCounted g.now }
     ensures { let counted = IsWithinCount p.now g.now in
@@ -128,7 +131,8 @@ fn with_group(p: &Position, g: &Group, start: u64) -> Option<u64>
     Some(absent)
 }
 
-/// The number with the digits of all groups behind it, unless a group has too few men or too many.
+/// The number with the digits of all groups appended. `None` if a group has too few men or too
+/// many.
 fn with_groups(p: &Position, groups: &[Group], start: u64) -> Option<u64>
     requires { AreCounted groups.now }
     ensures { let counted = AllByRecursion (IsWithinCount p.now) groups.now in
@@ -143,7 +147,7 @@ fn with_groups(p: &Position, groups: &[Group], start: u64) -> Option<u64>
     Some(number)
 }
 
-/// How many possible targets are before the square.
+/// How many squares with a lower number are possible targets.
 fn targets_before(groups: &[Group], t: Square) -> usize
     ensures count { result ≡ length (filter (is_possible groups.now) (range_with_len 0 t)) }
     ensures few { result ≤ 64 }
@@ -153,7 +157,8 @@ fn targets_before(groups: &[Group], t: Square) -> usize
         .count()
 }
 
-/// The turn state of the position, which has a possible target or none.
+/// The number of the position's turn state: 0 for White to move, 1 for Black to move, and for a
+/// target 2 plus the number of possible targets before it.
 fn turn_state(groups: &[Group], p: &Position) -> u64
     ensures { result ≡ turn_before groups.now p.now.turn p.now.ep }
 {
@@ -166,7 +171,7 @@ fn turn_state(groups: &[Group], p: &Position) -> u64
     }
 }
 
-/// Has each man of the position a state of some group?
+/// Is each man of the position, on its square, a state of some group?
 #[tactic(auto, unfolding(crate::specs::Membership::are_men_covered, frz_board::specs::Squares::squares))]
 fn are_covered(groups: &[Group], p: &Position) -> bool
     ensures { result ≡ are_men_covered groups.now p.now }
@@ -177,8 +182,8 @@ fn are_covered(groups: &[Group], p: &Position) -> bool
     })
 }
 
-/// The number of a position in the former format, and `None` exactly where the position is outside
-/// the set.
+/// The number of a position in the former format. `None` exactly where the position is outside the
+/// set.
 pub fn old_number(r: &Rules, p: &Position) -> Option<u32>
     requires sound { IsSound r.now }
     requires valid { IsValid p.now }

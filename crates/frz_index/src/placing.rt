@@ -13,7 +13,7 @@ use frz_board::{Colour, Kind, Man, Square, cell_of};
 use frz_combinations::Triangle;
 use frz_sets::Group;
 
-/// How many men a digit stands for, and the rank of their places.
+/// How many men a digit stands for, and the rank of their combination among those of as many men.
 fn men_of(triangle: &Triangle, states: u32, least: u32, most: u32, digit: u32) -> (u32, u64)
     requires order { least ≤ most }
     requires few { most ≤ 16 }
@@ -36,7 +36,8 @@ fn men_of(triangle: &Triangle, states: u32, least: u32, most: u32, digit: u32) -
     (count, rest)
 }
 
-/// The last place, below `end`, of the combination of `count` places with this rank.
+/// The last place of the combination of `count` places below `end` that has this rank: the greatest
+/// whose binomial number C(place, count) is not above the rank.
 fn last_place(triangle: &Triangle, end: u32, count: u32, rank: u64) -> u32
     requires end { 0 < end }
     requires some { 0 < count }
@@ -63,8 +64,8 @@ fn last_place(triangle: &Triangle, end: u32, count: u32, rank: u64) -> u32
     low
 }
 
-/// Puts so many men on the board, at the places of this rank, as long as each finds its square
-/// empty, and tells whether all did.
+/// Puts on the board the `count` men whose combination of states has this rank. It stops at the
+/// first man whose square is not empty, and answers `false`; it answers `true` if all could be put.
 fn put_ranked(
     p: &mut Bitboards,
     triangle: &Triangle,
@@ -101,8 +102,8 @@ fn put_ranked(
     true
 }
 
-/// Puts one man on the board, at the place of this rank, if he finds his square empty, and tells
-/// whether he did. The rank of one place is the place.
+/// Puts one man on the board, at the state of this rank, if the square is empty, and answers
+/// whether it was. The rank of a single place is the place itself.
 fn put_one(p: &mut Bitboards, colour: Colour, states: &[(Kind, Square)], rank: u64) -> bool
     requires some { 0 < length states.now }
     ensures free { result
@@ -121,8 +122,8 @@ fn put_one(p: &mut Bitboards, colour: Colour, states: &[(Kind, Square)], rank: u
     true
 }
 
-/// Puts the men of a group's digit on the board, as long as each finds its square empty, and tells
-/// whether all did.
+/// Puts on the board the men that a group's digit stands for. It stops at the first man whose
+/// square is not empty, and answers `false`; it answers `true` if all could be put.
 pub(crate) fn put(p: &mut Bitboards, triangle: &Triangle, group: &Group, digit: u32) -> bool
     requires numberable { IsCounted group.now }
     requires rows { length group.now.states < triangle.now }

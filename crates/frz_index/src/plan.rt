@@ -1,4 +1,4 @@
-//! What a set keeps: its groups, and what is computed of them once.
+//! What a set keeps: its groups, and what is computed from them once.
 ghost use Rattle.std.specs.Prelude.{◌≡◌, ◌<◌, ◌≤◌, IfOk, length};
 ghost use Rattle.std.specs.List.{AllByRecursion};
 ghost use Rattle.frz_sets.specs.Sound.{AreStates, IsSound};
@@ -15,25 +15,26 @@ use frz_combinations::Triangle;
 use frz_sets::{Group, MOST_STATES, Rules, has_state, is_target, radix};
 use std::alloc::{AllocError, Global};
 
-/// The groups of a set, and what is computed of them once.
+/// The groups of a set, and what is computed from them once.
 #[derive(Drop)]
 pub(crate) struct Plan {
     pub groups: Vec<Group>,
-    /// What each group's digit counts for.
+    /// What one unit of each group's digit adds to a number: the product of the later radices.
     pub weights: Vec<u32>,
-    /// How many numbers the groups have together.
+    /// How many numbers one turn state has: the product of all groups' radices.
     pub whole: u32,
-    /// The possible targets in order.
+    /// The squares (0 to 63) that may be an en passant target, in increasing order.
     pub targets: Vec<u8>,
-    /// Of each cell, the squares on which a position of the set may have it.
+    /// For each cell, the bitboard of the squares on which some group allows it; all, if it is
+    /// empty.
     pub known_squares: [u64; 13],
     pub charts: Vec<Chart>,
-    /// Of each cell on each square, what its man adds to a number there, where that is known.
+    /// At 64 * cell + square, what this man adds to a number there, where one group alone tells it.
     pub shares: Vec<Option<Share>>,
     pub triangle: Triangle,
 }
 
-/// A place for each cell, empty or one of twelve men, on each of 64 squares.
+/// The length of a list over the 13 cells, empty or one of twelve men, on each of 64 squares.
 pub(crate) const CELLS: u16 = 832;
 
 fn copy_of(alloc: Global, group: &Group) -> Result<Group, AllocError>
@@ -64,7 +65,7 @@ fn known(groups: &[Group], cell: u8, square: u8) -> bool
     cell == 0 || has_state(groups, cell, Square::at(square))
 }
 
-/// The squares on which a position of the set may have the cell.
+/// The bitboard of the squares on which some group allows the cell; all squares, if it is empty.
 fn known_on(groups: &[Group], cell: u8) -> u64
     ensures { result ≡ set_of (is_known groups.now cell) }
 {
@@ -75,7 +76,7 @@ fn known_on(groups: &[Group], cell: u8) -> u64
     word
 }
 
-/// Of each cell, the squares on which a position of the set may have it.
+/// For each cell, the bitboard of the squares on which some group allows it.
 fn known_squares_of(groups: &[Group]) -> [u64; 13]
     ensures { AreKnown groups.now result }
 {
@@ -86,7 +87,7 @@ fn known_squares_of(groups: &[Group]) -> [u64; 13]
     words
 }
 
-/// How many numbers the groups from the one at `from` on have.
+/// The product of the radices of the groups from index `from` on.
 fn product_from(groups: &[Group], from: usize) -> u32
     requires numberable { AreNumberable groups.now }
     requires within { from ≤ length groups.now }
@@ -100,7 +101,7 @@ fn product_from(groups: &[Group], from: usize) -> u32
     product
 }
 
-/// What each group's digit counts for.
+/// What one unit of each group's digit adds to a number.
 fn weights_of(alloc: Global, groups: &[Group]) -> Result<Vec<u32>, AllocError>
     requires { AreNumberable groups.now }
     ensures { IfOk result (λ v. AreWeights groups.now v.items) }
@@ -112,7 +113,7 @@ fn weights_of(alloc: Global, groups: &[Group]) -> Result<Vec<u32>, AllocError>
     Ok(weights)
 }
 
-/// The possible targets in order.
+/// The squares (0 to 63) that may be an en passant target, in increasing order.
 #[tactic(auto, unfolding(frz_board::specs::Squares::squares))]
 fn targets_of(alloc: Global, groups: &[Group]) -> Result<Vec<u8>, AllocError>
     ensures { IfOk result (λ v. v.items ≡ targets groups.now) }

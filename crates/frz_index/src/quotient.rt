@@ -1,7 +1,8 @@
-//! Quotients and what is left over, without a division where the divisor is a power of two.
+//! Quotients and remainders, without a division where the divisor is a power of two.
 ghost use Rattle.std.specs.Prelude.{◌≡◌, ◌<◌, ◌/◌, ◌%◌};
 
-/// The quotient. What a shift gives is looked at by a multiplication.
+/// The quotient. A shift gives a guess, which a multiplication checks; only a wrong one costs a
+/// division.
 pub(crate) fn quotient(n: u32, d: u32) -> u32
     requires { 0 < d }
     ensures { result ≡ n / d }
@@ -15,7 +16,7 @@ pub(crate) fn quotient(n: u32, d: u32) -> u32
     n / d
 }
 
-/// What is left over.
+/// The remainder.
 pub(crate) fn left_over(n: u32, d: u32) -> u32
     requires { 0 < d }
     ensures { result ≡ n % d }

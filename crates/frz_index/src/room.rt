@@ -15,7 +15,7 @@ use frz_board::{Man, Square};
 use frz_combinations::Triangle;
 use frz_sets::Group;
 
-/// Has the group the man on the square as a state?
+/// Is this man on this square a state of the group?
 pub(crate) fn has_state(group: &Group, chart: &Chart, man: Man, s: Square) -> bool
     requires { IsChart group.now.states chart.now }
     ensures { result ≡ is_state (cell_of_man man) s group.now }
@@ -23,7 +23,8 @@ pub(crate) fn has_state(group: &Group, chart: &Chart, man: Man, s: Square) -> bo
     group.colour == man.colour && contains(chart.words[kind_number(man.kind) as usize], s)
 }
 
-/// Has the group the man on the square as a state, and fewer than its most men on the board?
+/// Is this man on this square a state of the group, and has it fewer men on the board than its
+/// most?
 fn takes_one_more(
     triangle: &Triangle,
     p: &Bitboards,
@@ -46,7 +47,7 @@ fn takes_one_more(
     }
 }
 
-/// Does some group take the man on the square?
+/// Does some group allow this man on this square, and have fewer men on the board than its most?
 pub(crate) fn any_takes_one_more(
     triangle: &Triangle,
     p: &Bitboards,

@@ -38,10 +38,11 @@ use frz_sets::Rules;
 use std::alloc::Global;
 use std::marker::Model;
 
-/// The positions that the groups of some rules describe, seen as the list of these groups.
+/// The positions that the groups of some rules describe. Contracts see a set as the list of these
+/// groups.
 ///
-/// Each position of the set has a number below the size, and no other has it. A number that no
-/// position has is called broken: two men would stand on one square, or the position is not valid.
+/// Each position of the set has a number of its own, below the size. A number that no position has
+/// is called broken: two men would stand on one square, or the position would not be valid.
 #[derive(Drop)]
 pub struct Set {
     plan: Plan,
@@ -87,7 +88,7 @@ fn empty_board(turn: Colour, ep: Option<Square>) -> Bitboards
     Bitboards::empty(turn, ep)
 }
 
-/// The turn state of a number.
+/// The side to move and the en passant target that a number stands for.
 fn turn_state_in(plan: &Plan, i: u32) -> (Colour, Option<Square>)
     requires { IsPlan plan.now }
     ensures { let gs = plan.now.groups.items in
@@ -96,7 +97,8 @@ fn turn_state_in(plan: &Plan, i: u32) -> (Colour, Option<Square>)
     turn_at(&plan.targets, quotient(i, plan.whole))
 }
 
-/// The only position that may have this number, unless two men would stand on one square.
+/// The only position that may have this number, valid or not. `None` if two men would stand on one
+/// square.
 fn candidate_in(plan: &Plan, i: u32) -> Option<Bitboards>
     requires { IsPlan plan.now }
     ensures { let gs = plan.now.groups.items in
@@ -123,7 +125,7 @@ fn mover_in(plan: &Plan, i: u32) -> Colour
 }
 
 impl Set {
-    /// The set of the rules' groups.
+    /// The set that the rules' groups describe. The only error is want of memory.
     pub fn new(alloc: Global, r: &Rules) -> Result<Set, NoMemory>
         requires { IsSound r.now }
         ensures { IfOk result (λ s. s ≡ r.now.groups) }
@@ -134,7 +136,7 @@ impl Set {
         }
     }
 
-    /// How many numbers there are, from 1 to 2^27.
+    /// How many numbers there are, broken ones included: from 1 to 2^27.
     pub fn size(&self) -> u32
         ensures size { result ≡ size_of self.now }
         ensures some { 1 ≤ result }
@@ -143,7 +145,7 @@ impl Set {
         (self.plan.targets.len() as u32 + 2) * self.plan.whole
     }
 
-    /// Is the cell empty, or a man that may stand on the square in a position of the set?
+    /// Is the cell empty (0), or a man (1 to 12) that some group allows on the square?
     pub fn knows(&self, cell: u8, s: Square) -> bool
         requires { cell ≤ 12 }
         ensures { result ≡ is_known self.now cell s }
@@ -151,14 +153,14 @@ impl Set {
         contains(self.plan.known_squares[cell as usize], s)
     }
 
-    /// The squares on which the man may stand in a position of the set.
+    /// The bitboard of the squares on which some group allows the man.
     pub fn known_squares(&self, man: Man) -> u64
         ensures { result ≡ set_of (is_known self.now (cell_of_man man)) }
     {
         self.plan.known_squares[cell_of(man) as usize]
     }
 
-    /// Has a group that has this man on the square as a state fewer than its most men on the board?
+    /// Does some group allow this man on the square, and have fewer men on the board than its most?
     pub fn has_room(&self, p: &Bitboards, man: Man, s: Square) -> bool
         ensures { result ≡ has_room self.now p.now man s }
     {
@@ -173,14 +175,14 @@ impl Set {
             )
     }
 
-    /// The possible targets in order.
+    /// The squares (0 to 63) that may be an en passant target in the set, in increasing order.
     pub fn targets(&self) -> &[u8]
         ensures { result.now ≡ targets self.now }
     {
         &self.plan.targets
     }
 
-    /// The number of a position, and `None` exactly where the position is outside the set.
+    /// The number of a position. `None` exactly where the position is outside the set.
     pub fn number(&self, p: &Position) -> Option<u32>
         requires { IsValid p.now }
         ensures member { IsSome result ↔ Member self.now p.now }
@@ -190,7 +192,8 @@ impl Set {
         self.number_on(&Bitboards::of(p))
     }
 
-    /// The number of a position, and `None` exactly where the position is outside the set.
+    /// The number of a position that is given as bitboards. `None` exactly where the position is
+    /// outside the set.
     pub fn number_on(&self, p: &Bitboards) -> Option<u32>
         requires { IsValid p.now }
         ensures member { IsSome result ↔ Member self.now p.now }
@@ -200,8 +203,8 @@ impl Set {
         number_in(&self.plan, p)
     }
 
-    /// The number of a position beside one whose number is known, and `None` exactly where the
-    /// position is outside the set: only the digits of groups whose men have moved are made.
+    /// The number of `q`, computed from the number `i` of `p`. `None` exactly where `q` is outside
+    /// the set. Only the digits of groups whose men differ are computed.
     pub fn number_beside(&self, i: u32, p: &Bitboards, q: &Bitboards) -> Option<u32>
         requires number { HasNumber self.now i p.now }
         requires valid { IsValid q.now }
@@ -212,8 +215,9 @@ impl Set {
         number_beside_in(&self.plan, i, p, q)
     }
 
-    /// The number of the position after this man has gone to an empty square, with the other side
-    /// to move and this target, exactly where one group alone counts the man on both squares.
+    /// The number of the position after this man has gone to the empty square `to`, where the other
+    /// side is to move and `target` is the en passant target. The answer is `Some` exactly where
+    /// one group, the same for both squares, is the only one that has the man there as a state.
     pub fn number_after_step(
         &self,
         i: u32,
@@ -234,8 +238,9 @@ impl Set {
         number_after_step_in(&self.plan, i, p, man, from, to, target)
     }
 
-    /// The number of the position after a legal move, exactly where the move is quiet, and one
-    /// group alone counts its man on both squares.
+    /// The number of the position after a legal move. The answer is `Some` exactly where the move
+    /// is quiet (it takes nothing and promotes nothing, and a pawn goes one square), and one group
+    /// alone counts its man on both squares.
     pub fn number_after_move(&self, i: u32, p: &Bitboards, m: Move) -> Option<u32>
         requires number { HasNumber self.now i p.now }
         requires legal { is_legal p.now m ≡ true }
@@ -250,9 +255,10 @@ impl Set {
         }
     }
 
-    /// The number of the position after a legal move that takes a man on its last square and does
-    /// not promote, exactly where one group alone, of one man at most, counts the mover's man on
-    /// both squares, and one such group that may be empty counts the taken man.
+    /// The number of the position after a legal move. The answer is `Some` exactly where the move
+    /// takes a man on its last square and does not promote, one group alone, of one man at most,
+    /// counts the moving man on both squares, and one such group, which may be empty, counts the
+    /// taken man.
     pub fn number_after_taking(&self, i: u32, p: &Bitboards, m: Move) -> Option<u32>
         requires number { HasNumber self.now i p.now }
         requires legal { is_legal p.now m ≡ true }
@@ -269,7 +275,8 @@ impl Set {
         }
     }
 
-    /// Does the move's man arrive where the set has no such man? Then a legal move leads out of it.
+    /// Does the move's man arrive on a square where the set has no such man? A legal move that does
+    /// leads out of the set. `false` leaves open whether the move stays in it.
     pub fn leaves(&self, p: &Bitboards, m: Move) -> bool
         ensures { result ≡ leaves self.now p.now m }
     {
@@ -279,7 +286,7 @@ impl Set {
         }
     }
 
-    /// The side to move of the number's position. Nothing is said where the number is broken.
+    /// The side to move in the number's position. For a broken number the answer means nothing.
     pub fn mover(&self, i: u32) -> Colour
         requires { i < size_of self.now }
         ensures turn { (p : Board) → HasNumber self.now i p → p.turn ≡ result }
@@ -287,8 +294,8 @@ impl Set {
         mover_in(&self.plan, i)
     }
 
-    /// The number of the same men with Black to move, for the number of a position with White to
-    /// move and no target.
+    /// The number of the same men with Black to move, given the number of a position with White to
+    /// move and no target. The position with Black to move is in the set if it is valid.
     pub fn with_black_to_move(&self, i: u32) -> u32
         requires first { (p : Board) × HasNumber self.now i p × (p.turn ≡ White) × (p.ep ≡ None) }
         ensures number { (p : Board) → HasNumber self.now i p
@@ -300,8 +307,8 @@ impl Set {
         i + self.plan.whole
     }
 
-    /// The only position that may have the number, if it is below the size and each man stands on a
-    /// square of his own: then it has the number exactly if it is valid.
+    /// The only position that may have the number: it has the number exactly if it is valid. `None`
+    /// if the number is not below the size, or two men would stand on one square: it is broken.
     fn candidate(&self, i: u32) -> Option<Bitboards>
         ensures { MatchOption result (Broken self.now i)
             (λ p. (p ≡ candidate self.now i) × (IsValid p ↔ HasNumber self.now i p)) }
@@ -313,7 +320,8 @@ impl Set {
         }
     }
 
-    /// The position of the set with this number, and `None` exactly where the number is broken.
+    /// The position of the set with this number, as bitboards. `None` exactly where the number is
+    /// broken, as each number from the size on is.
     pub fn boards_at(&self, i: u32) -> Option<Bitboards>
         ensures exact { (p : Board) → (result ≡ Some p) ↔ HasNumber self.now i p }
         ensures broken { IsNone result ↔ Broken self.now i }
@@ -329,7 +337,8 @@ impl Set {
         }
     }
 
-    /// The position of the set with this number, and `None` exactly where the number is broken.
+    /// The position of the set with this number. `None` exactly where the number is broken, as each
+    /// number from the size on is.
     pub fn at(&self, i: u32) -> Option<Position>
         ensures exact { (p : Board) → (result ≡ Some p) ↔ HasNumber self.now i p }
         ensures broken { IsNone result ↔ Broken self.now i }

@@ -1,4 +1,4 @@
-//! What a man on a square adds to a number, where one group alone counts him and has one at most.
+//! What a man on a square adds to a number, where only one group counts him, of one man at most.
 ghost use Rattle.std.specs.Prelude.{◌≡◌, ◌≢◌, ◌≤◌, ◌<◌, ◌+◌, ◌*◌, ◌↔◌, ℕ, IfOk, IsTrue, MatchOption, Some, false, length};
 ghost use Rattle.std.specs.List.{slice_get};
 ghost use Rattle.frz_board.specs.Men.{cell_of_man, man_of_cell};
@@ -16,14 +16,14 @@ use frz_board::{Man, Square, man_of};
 use frz_sets::Group;
 use std::alloc::{AllocError, Global};
 
-/// What a man on a square adds to a number, and the group that counts him there.
+/// What a man on a square adds to a number, and the index of the group that counts him there.
 #[derive(Clone, Copy)]
 pub(crate) struct Share {
     pub group: u16,
     pub adds: u64,
 }
 
-/// The place of the cell on the square in a list of all cells.
+/// The index of the cell on the square, in a list over all cells on all squares.
 pub(crate) fn cell_on(cell: u8, s: Square) -> usize
     requires { cell ≤ 12 }
     ensures { result ≡ 64 * cell + s }
@@ -31,7 +31,7 @@ pub(crate) fn cell_on(cell: u8, s: Square) -> usize
     64 * cell as usize + s.number() as usize
 }
 
-/// The place of the man on the square among the group's states, if it is one of them.
+/// The index of the man on the square among the group's states. `None` if it is not one of them.
 fn place_in(group: &Group, chart: &Chart, man: Man, s: Square) -> Option<u16>
     requires { IsChart group.now.states chart.now }
     ensures { MatchOption result (is_state (cell_of_man man) s group.now ≡ false)
@@ -44,7 +44,7 @@ fn place_in(group: &Group, chart: &Chart, man: Man, s: Square) -> Option<u16>
     }
 }
 
-/// Has the group at this place alone the man on the square as a state, if it has it?
+/// Does no group other than the one at index `own` have this man on this square as a state?
 fn is_alone(groups: &[Group], charts: &[Chart], own: usize, man: Man, s: Square) -> bool
     requires { AreCharts groups.now charts.now }
     ensures { IsTrue result ↔ ((j : ℕ) (g : GroupLine) → j ≢ own →
@@ -58,7 +58,8 @@ fn is_alone(groups: &[Group], charts: &[Chart], own: usize, man: Man, s: Square)
     true
 }
 
-/// What the man adds on the square by the digit of the group at this place.
+/// What the man on the square adds to a number by the digit of the group at index `i`. `None`
+/// unless only this group has him there as a state, and it has one man at most.
 fn share_at(
     groups: &[Group],
     charts: &[Chart],
@@ -87,7 +88,8 @@ fn share_at(
     }
 }
 
-/// What the man adds on the square.
+/// What the man on the square adds to a number. `None` unless only one group has him there as a
+/// state, and that group has one man at most.
 fn share_of(
     groups: &[Group],
     charts: &[Chart],
@@ -108,7 +110,7 @@ fn share_of(
     None
 }
 
-/// What the man of this cell adds on the square.
+/// `share_of` for the man of this cell; `None` for a cell without a man.
 fn share_of_cell(
     groups: &[Group],
     charts: &[Chart],
@@ -129,7 +131,7 @@ fn share_of_cell(
     }
 }
 
-/// What each man adds on each square.
+/// `share_of` for each cell on each square, at the index that `cell_on` gives.
 pub(crate) fn shares_of(
     alloc: Global,
     groups: &[Group],

@@ -1,4 +1,4 @@
-//! Turn states and their numbers.
+//! Turn states, which are the side to move and the en passant target, and their numbers.
 ghost use Rattle.std.specs.Prelude.{◌≡◌, ◌<◌, ◌≤◌, IfSome, length};
 ghost use Rattle.std.specs.List.{All};
 ghost use Rattle.frz_index.specs.TurnStates.{mover_at_target, place_of, target_state, turn_among, turn_in};
@@ -19,7 +19,8 @@ fn place(targets: &[u8], t: u8) -> u32
     at
 }
 
-/// The number of a turn state.
+/// The number of a turn state: 0 for White to move, 1 for Black to move, and for a target 2 plus
+/// its index among the targets.
 pub(crate) fn turn_number(targets: &[u8], turn: Colour, target: Option<Square>) -> u32
     requires { length targets.now ≤ 64 }
     ensures { result ≡ turn_among targets.now turn target }
@@ -33,7 +34,8 @@ pub(crate) fn turn_number(targets: &[u8], turn: Colour, target: Option<Square>) 
     }
 }
 
-/// Who is to move where this is the target: the side whose pawns do not pass over it.
+/// The side to move where this square is the target: Black if it is one that White's pawns pass
+/// over, else White.
 fn mover_at(t: Square) -> Colour
     ensures { result ≡ mover_at_target t }
 {
@@ -57,7 +59,8 @@ fn turn_of_target(target: Option<u8>) -> (Colour, Option<Square>)
     }
 }
 
-/// The turn state of a number.
+/// The side to move and the target of a turn state's number. A number above all turn states gives
+/// White to move and no target.
 pub(crate) fn turn_at(targets: &[u8], n: u32) -> (Colour, Option<Square>)
     requires { All (λ t. t < 64) targets.now }
     ensures { result ≡ turn_in targets.now n }

@@ -127,7 +127,7 @@ sees_rules None name (Ok (Text text)) before now calls_before calls_now held are
       calls = omega (arith, calls_by, reads_short text.items short);
     }
 
--- the same, over files that agree with what is told
+-- what was found under the name, over files that agree with what is known of the store
 pub record RulesSeen (told : Option Files) (name : List ℕ) (answer : Result RulesFile StoreFault)
     (before now calls_before calls_now : ℕ) : Type 0 where
   pub files : Files
@@ -149,7 +149,7 @@ rules_seen told name answer before now calls_before calls_now seen =
       calls = subst (λ x. calls_now ≤ calls_before + (1 + reads_of x)) (sym at.holds) seen.calls;
     }
 
--- of an answer that is known
+-- what was found under the name, where the answer is known
 pub file_seen : (told : Option Files) (name : List ℕ) (answer : Result RulesFile StoreFault)
     (before now calls_before calls_now : ℕ) (file : RulesFile)
     → (seen : RulesSeen told name answer before now calls_before calls_now) → answer ≡ Ok file

@@ -1,4 +1,4 @@
--- With what a file may be refused as a table.
+-- Why a file may be refused as a table.
 use Rattle.std.proofs.Common.{◌≡◌, subst, ℕ, ◌+◌, ◌==◌, List, length, take, Bool, true, false, Some, Result, Ok, Err, if◌then◌else◌, refl}
 use Rattle.std.specs.Prelude.{nat_lt, ⊤}
 use Rattle.std.specs.Str.{bytes_eq}
@@ -17,7 +17,7 @@ use Rattle.frz_table.specs.Faults.{TableCauses}
 use Rattle.frz_prelude.specs.Refusals.{table_status}
 use Rattle.frz_prelude.specs.Stops.{HasItsCause, stop_of_table}
 
--- the bytes of a file are refused so
+-- the fault is one of a file's bytes
 abbrev pub IsOfBytes : TableFault → Type 0
 IsOfBytes Missing = ⊥
 IsOfBytes Failed = ⊥

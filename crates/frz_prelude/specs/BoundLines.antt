@@ -1,4 +1,4 @@
--- The lines that tell a side's bound, and those that tell the code that a table keeps for it.
+-- The lines of a side's bound, and those of the code that a table keeps for the side.
 use Rattle.std.specs.Prelude.{ℕ, ◌-◌, ◌/◌, ◌==◌, List, ◌++◌, if◌then◌else◌, codes, decimal}
 use Rattle.frz_board.specs.declared.man.Colour.{Colour}
 use Rattle.frz_board.specs.declared.man.Colour.TheVariants.{White, Black}
@@ -10,7 +10,7 @@ abbrev pub side_name : Colour → List ℕ
 side_name White = codes "white"
 side_name Black = codes "black"
 
--- the plies of a win, a hold, or none of both
+-- the words of a bound: a win with its plies, a hold, or neither
 abbrev pub bound_text : Bound → List ℕ
 bound_text (Wins n) = codes " wins within " ++ decimal n
 bound_text Holds = codes " holds"
@@ -23,7 +23,7 @@ bound_line side bound = side_name side ++ bound_text bound ++ codes "\n"
 abbrev pub bounds_text : Bound → Bound → List ℕ
 bounds_text white black = bound_line White white ++ bound_line Black black
 
--- 1 is a hold, an even code above 0 a win, and every other code neither
+-- the words of a code: 1 is a hold, an even code above 0 a win, and every other code neither
 abbrev pub kept_words : ℕ → List ℕ
 kept_words code =
     if code == 1 then codes " holds" else

@@ -1,4 +1,4 @@
--- How a command refuses what its words name: the status, and the line.
+-- How a command refuses its words, or what they name: the status and the line of each refusal.
 use Rattle.std.specs.Prelude.{◌≡◌, ℕ, List, [], ◌∷◌, codes}
 use Rattle.frz_answer.specs.declared.status.Status.{Status}
 use Rattle.frz_answer.specs.declared.status.Status.TheVariants as statuses
@@ -13,7 +13,7 @@ use Rattle.frz_prelude.specs.WrongLines.{back_wrong_line}
 use Rattle.frz_prelude.specs.declared.refused.Refused.{Refused}
 use Rattle.frz_prelude.specs.declared.refused.Refused.TheVariants.{Words, Fen, MissingRules, Rules, Table, Back, BackWrong, Outside}
 
--- a table that is missing, or whose bytes are refused
+-- the status where a table file is missing, or its bytes are refused
 abbrev pub table_status : TableFault → Status
 table_status table.Missing = statuses.Missing
 table_status fault = statuses.Table
@@ -38,7 +38,7 @@ refusal_line (Back fault) = back_line fault
 refusal_line (BackWrong wrong) = back_wrong_line wrong
 refusal_line Outside = codes "outside\n"
 
--- to refuse what the words name
+-- the job of refusing what the words name
 abbrev pub refusing_named : Refused → Job
 refusing_named why =
     plain (status_of why ∷ []) (λ files input a. a ≡ says (status_of why) (refusal_line why) files)

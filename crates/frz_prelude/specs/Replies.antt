@@ -1,4 +1,4 @@
--- A command that says all at its end: its reply, and what it did before it was said.
+-- A command that says everything at its end: its reply, and the rest of its job.
 use Rattle.std.specs.Prelude.{ℕ, List, ◌++◌, Result, Ok, Err, codes, decimal}
 use Rattle.frz_board.specs.Moving.{Step}
 use Rattle.frz_board.specs.Texts.{text_of as move_text}
@@ -16,22 +16,22 @@ use Rattle.frz_prelude.specs.declared.reply.Reply.{Reply}
 use Rattle.frz_prelude.specs.declared.reply.Reply.TheVariants.{Moved, NoMove, Bounds, Kept, Built, Chained, Migrated, Exact, ExactOn, Wrong}
 use Rattle.frz_prelude.specs.declared.stop.Stop.{Stop}
 
--- a move, and the FEN of the position after it on a line of its own
+-- a move on one line, and the FEN of the position after it on the next
 abbrev pub moved_lines : Step → List ℕ → List ℕ
 moved_lines m fen = move_text m ++ codes "\n" ++ fen ++ codes "\n"
 
--- a table of so many numbers was built, alone or over a back table
+-- a table of so many numbers was built: by itself here, over a back table in the line below
 abbrev pub built_line : ℕ → List ℕ
 built_line size = codes "built " ++ decimal size ++ codes "\n"
 
 abbrev pub chained_line : ℕ → List ℕ
 chained_line size = codes "chained " ++ decimal size ++ codes "\n"
 
--- the size of a table that was rewritten
+-- a table of so many numbers was rewritten
 abbrev pub migrated_line : ℕ → List ℕ
 migrated_line size = codes "migrated " ++ decimal size ++ codes "\n"
 
--- a table of so many numbers is exact, alone or over a back table of so many
+-- a table of so many numbers is exact: by itself here, over a back table in the line below
 abbrev pub exact_line : ℕ → List ℕ
 exact_line size = codes "exact " ++ decimal size ++ codes "\n"
 
@@ -61,7 +61,7 @@ abbrev pub Tells : Result Reply Stop → End → SinkTold → SinkTold → Type 
 Tells (Ok reply) end old new = Said (reply_status reply) (text_of reply) end old new
 Tells (Err stop) end old new = EndsBy stop end old new
 
--- the job is done rightly once the reply is told, whatever the input and the sink are
+-- once the reply is told, the job has been done as its contract says, whatever input and sink hold
 pub record Replies (job : Job) (reply : Result Reply Stop) (old new : StoreTold)
     (before now : ℕ) : Type 0 where
   pub ran : (input : SourceTold) (out after : SinkTold) (end : End) → Tells reply end out after

@@ -1,5 +1,5 @@
--- What a store's name holds as a rules file, how many bytes are
--- asked of it in how many calls, and the rules that it gives.
+-- What a store has under the name of a rules file, how many bytes are
+-- asked of the store in how many calls, and the rules that the file gives.
 use Rattle.std.specs.Prelude.{◌≡◌, ℕ, ◌<◌, ◌≤◌, ◌+◌, List, length, Option, Some, None, IsSomeAnd, Result, Ok, Err, nat_lt, ⊤, if◌then◌else◌}
 use Rattle.frz_rules.specs.declared.fault.TheConstants.{LONGEST_TEXT}
 use Rattle.frz_rules.specs.declared.fault.RulesFault.{RulesFault}
@@ -22,17 +22,17 @@ IsHeld held Missing = held ≡ None
 IsHeld held TooLong = IsSomeAnd held (λ bytes. LONGEST_TEXT < length bytes)
 IsHeld held (Text text) = held ≡ Some text.items
 
--- what was read of a file are bytes
+-- what was read of a file is a list of bytes
 abbrev pub AreBytesOf : RulesFile → Type 0
 AreBytesOf (Text text) = AreBytes text.items
 AreBytesOf file = ⊤
 
--- the bytes that are asked of a file: all of it, but none where it is missing or too long
+-- how many bytes of a file are asked for: all of them, but none where it is missing or too long
 abbrev pub asked_of : Option (List ℕ) → ℕ
 asked_of None = 0
 asked_of (Some bytes) = if nat_lt LONGEST_TEXT (length bytes) then 0 else length bytes
 
--- so many bytes were read
+-- how many bytes were asked for, by what was read
 abbrev pub asked_by : RulesFile → ℕ
 asked_by (Text text) = length text.items
 asked_by file = 0
@@ -42,7 +42,7 @@ abbrev pub reads_of : Option (List ℕ) → ℕ
 reads_of None = 0
 reads_of (Some bytes) = if nat_lt LONGEST_TEXT (length bytes) then 0 else 1
 
--- so often it was read
+-- how often the file was read, by what was read
 abbrev pub reads_by : RulesFile → ℕ
 reads_by (Text text) = 1
 reads_by file = 0
@@ -52,21 +52,22 @@ abbrev pub or_fault : Result RuleLines RulesFault → Result RuleLines Refusal
 or_fault (Ok r) = Ok r
 or_fault (Err fault) = Err (Rules fault)
 
--- the rules of what a name holds, or why it has none
+-- the rules in what a name holds, or why it holds none
 abbrev pub rules_held : Option (List ℕ) → Result RuleLines Refusal
 rules_held None = Err MissingRules
 rules_held (Some text) = or_fault (rules_of text)
 
--- the text is what the name holds, with its rules; or it holds none, for this reason. Nothing is
--- said where a fault stopped the call
+-- the text is what the name holds, with the rules of the text; or the name holds no rules, for this
+-- reason. Nothing is said where a fault stopped the call
 abbrev pub GivesText : Option (List ℕ) → Result RulesText Stop → Type 0
 GivesText held (Ok read) =
     (held ≡ Some read.text.items) × (rules_of read.text.items ≡ Ok read.rules)
 GivesText held (Err (Refused why)) = rules_held held ≡ Err why
 GivesText held (Err (Fault fault)) = ⊤
 
--- the text and the rules are those of the name in some files of bytes, which are those that the
--- store tells where it does, and no more was asked of the store than they need
+-- the text and the rules are those under the name in some files of bytes. Where the store's
+-- contract says which files it holds, they are these. No more was asked of the store than the
+-- reading needs
 pub record IsTextRead (name : List ℕ) (result : Result RulesText Stop)
     (old new : StoreTold) : Type 0 where
   pub files : Files
@@ -75,8 +76,8 @@ pub record IsTextRead (name : List ℕ) (result : Result RulesText Stop)
   pub asked : new.asked ≤ old.asked + asked_of (files name)
   pub calls : new.calls ≤ old.calls + (1 + reads_of (files name))
 
--- the answer is that of the name in some files of bytes, which are those that the store tells where
--- it does, and no more was asked of the store than they need
+-- the rules are those under the name in some files of bytes. Where the store's contract says which
+-- files it holds, they are these. No more was asked of the store than the reading needs
 pub record IsRead (name : List ℕ) (result : Result RuleLines Stop)
     (old new : StoreTold) : Type 0 where
   pub files : Files

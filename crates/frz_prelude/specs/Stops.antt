@@ -1,4 +1,4 @@
--- What stops a command before it comes to its own work, with what cause, and how it ends then.
+-- What stops a command before it can reply, with what cause, and how the command ends then.
 use Rattle.std.specs.Prelude.{◌≡◌, ⊤, Result, Ok, Err}
 use Rattle.frz_store.specs.Outside.{Rose}
 use Rattle.frz_store.specs.Told.{StoreTold, SinkTold, StoreFine}
@@ -17,40 +17,41 @@ use Rattle.frz_prelude.specs.declared.refused.Refused.TheVariants as refusals
 use Rattle.frz_prelude.specs.declared.stop.Stop.{Stop}
 use Rattle.frz_prelude.specs.declared.stop.Stop.TheVariants.{Refused, Fault}
 
--- what a fault of the store stops
+-- how a fault of the store ends the command
 abbrev pub stop_of_fault : StoreFault → Stop
 stop_of_fault refusal.Failed = Fault faults.Store
 stop_of_fault refusal.NoMemory = Fault faults.NoMemory
 
--- what a table stops that was not opened
+-- how a table that was not opened ends the command
 abbrev pub stop_of_table : TableFault → Stop
 stop_of_table table.Failed = Fault faults.Store
 stop_of_table table.NoMemory = Fault faults.NoMemory
 stop_of_table fault = Refused (refusals.Table fault)
 
--- the answer is the one that is due, unless a fault stopped the call
+-- the result is the one that is due, unless a fault stopped the call
 abbrev pub Answers : {A : Type 0} → Result A Stop → Result A Refusal → Type 0
 Answers (Ok x) due = due ≡ Ok x
 Answers (Err (Refused why)) due = due ≡ Err why
 Answers (Err (Fault fault)) due = ⊤
 
--- only want of memory stopped the call, where a fault did
+-- if a fault stopped the call, it was want of memory
 abbrev pub WantsMemoryAlone : {A : Type 0} → Result A Stop → Type 0
 WantsMemoryAlone (Err (Fault fault)) = fault ≡ faults.NoMemory
 WantsMemoryAlone result = ⊤
 
--- a fault of the store has raised its count, the input is not used, and want of memory is free
+-- the cause of a fault: at a fault of the store its count has risen, a fault of the input cannot
+-- come, and of want of memory nothing is said
 abbrev pub IsMet : Faults → StoreTold → StoreTold → Type 0
 IsMet faults.Store old new = Rose old.faults new.faults
 IsMet faults.Input old new = ⊥
 IsMet faults.NoMemory old new = ⊤
 
--- a fault that stopped the call has its cause, and otherwise the store has not failed
+-- a fault that stopped the call has its cause; without one the store has not failed
 abbrev pub HasItsCause : {A : Type 0} → Result A Stop → StoreTold → StoreTold → Type 0
 HasItsCause (Err (Fault fault)) old new = IsMet fault old new
 HasItsCause result old new = StoreFine old new
 
--- how the command ends: a refusal is said in its line
+-- how the command ends: a refusal writes its line, and a fault nothing
 abbrev pub EndsBy : Stop → End → SinkTold → SinkTold → Type 0
 EndsBy (Refused why) end old new = Said (status_of why) (refusal_line why) end old new
 EndsBy (Fault fault) end old new = (end ≡ Stopped fault) × (new ≡ old)

@@ -6,12 +6,12 @@ use Rattle.frz_answer.specs.declared.fault.Fault.TheVariants as faults
 use Rattle.frz_answer.specs.Statuses.{fault_line}
 use Rattle.frz_prelude.specs.Causes.{rules_line}
 
--- the number that is due, behind the one that is there
+-- the number that is due, written behind the one that is there
 abbrev pub due_text : ℕ → List ℕ
 due_text due = codes " due " ++ decimal due ++ codes "\n"
 
--- the word names the file: `table`, or `back` for a table that another leans on. A fault of the
--- store and want of memory refuse no file: they have their own lines
+-- the line that refuses a table file. The word stands for the file: `table`, or `back` for a back
+-- table. A fault of the store and want of memory refuse no file and have lines of their own
 abbrev pub file_line : List ℕ → TableFault → List ℕ
 file_line word Missing = codes "missing " ++ word ++ codes "\n"
 file_line word Magic = word ++ codes ": magic\n"

@@ -7,7 +7,7 @@ use Rattle.frz_table.specs.declared.kind.FileKind.TheVariants.{Plain}
 use Rattle.frz_table.specs.Opening.{Contents, opened, table_format}
 use Rattle.frz_prelude.specs.TableCauses.{table_line}
 
--- the name holds these bytes, and they open as a table of this kind
+-- the name holds these bytes, and they open as a table file of this kind with these contents
 pub record OpensAsKind
     (kind : FileKind) (table : List ℕ) (files : Files) (bytes : List ℕ)
     (contents : Contents) : Type 0 where
@@ -17,7 +17,7 @@ pub record OpensAsKind
 abbrev pub OpensAs : List ℕ → Files → List ℕ → Contents → Type 0
 OpensAs table files bytes contents = OpensAsKind Plain table files bytes contents
 
--- the file is there, and the text names the first thing that is wrong with its bytes
+-- the file is there, and the text names the first fault of its bytes
 pub record TellsFaultOfKind (kind : FileKind) (table : List ℕ) (files : Files)
     (text : List ℕ) : Type 0 where
   pub bytes : List ℕ

@@ -7,7 +7,7 @@ use Rattle.frz_prelude.specs.BoundLines.{side_name}
 abbrev pub place_text : Wrong → List ℕ
 place_text wrong = codes "wrong " ++ side_name wrong.side ++ (codes " " ++ decimal wrong.number)
 
--- the code that is kept there, and the local code
+-- the code that the table keeps there, and the local code
 abbrev pub codes_text : Wrong → List ℕ
 codes_text wrong =
     codes " kept " ++ decimal wrong.kept ++ (codes " given " ++ decimal wrong.given) ++ codes "\n"

@@ -1,4 +1,4 @@
-//! The lines that tell the bounds of both sides, and those that tell the codes that a table keeps.
+//! The lines of the bounds of both sides, and those of the codes that a table keeps for them.
 ghost use Rattle.frz_store.specs.Told.{sink_of};
 ghost use Rattle.frz_answer.specs.Texts.{WroteText};
 ghost use Rattle.frz_prelude.specs.BoundLines.{side_name, bound_text, bound_line, bounds_text, kept_words, kept_line, kept_text};
@@ -8,7 +8,7 @@ use frz_arena::{Bound, bound_of};
 use frz_board::Colour;
 use frz_store::{Failed, Sink};
 
-/// Writes the name of a side.
+/// Writes `white` or `black`.
 pub fn write_side_name<O: Sink>(side: Colour, out: &mut O) -> Result<(), Failed>
     ensures { WroteText (side_name side) result (sink_of O.Sink out.old) (sink_of O.Sink out.new) }
 {
@@ -29,7 +29,8 @@ fn write_bound_text<O: Sink>(bound: Bound, out: &mut O) -> Result<(), Failed>
     }
 }
 
-/// Writes the line of a side's bound.
+/// Writes the line of a side's bound, as `white wins within 5` (in plies), `white holds` or
+/// `white none`.
 pub fn write_bound_line<O: Sink>(side: Colour, bound: Bound, out: &mut O) -> Result<(), Failed>
     ensures { WroteText (bound_line side bound) result
         (sink_of O.Sink out.old) (sink_of O.Sink out.new) }
@@ -57,7 +58,8 @@ fn write_kept_words<O: Sink>(code: u32, out: &mut O) -> Result<(), Failed>
     }
 }
 
-/// Writes the line of the code that a table keeps for a side.
+/// Writes the line of the bound that a table's code stands for. The codes of failures, and 0, the
+/// code of a broken number, give `none`.
 pub fn write_kept_line<O: Sink>(side: Colour, code: u32, out: &mut O) -> Result<(), Failed>
     ensures { WroteText (kept_line side code) result
         (sink_of O.Sink out.old) (sink_of O.Sink out.new) }
@@ -67,7 +69,7 @@ pub fn write_kept_line<O: Sink>(side: Colour, code: u32, out: &mut O) -> Result<
     write_piece(b"\n", out)
 }
 
-/// Writes the lines of the codes that a table keeps for both sides, White's first.
+/// Writes the lines of the codes that a table keeps for White and for Black, White's first.
 pub fn write_kept<O: Sink>(white: u32, black: u32, out: &mut O) -> Result<(), Failed>
     ensures { WroteText (kept_text white black) result
         (sink_of O.Sink out.old) (sink_of O.Sink out.new) }

@@ -1,4 +1,4 @@
-//! The lines that refuse a FEN, a rules text and what else the words of a command name.
+//! The lines that refuse a FEN, a rules text, or another thing that the words of a command name.
 ghost use Rattle.std.specs.Prelude.{◌≡◌};
 ghost use Rattle.frz_store.specs.Told.{sink_of};
 ghost use Rattle.frz_answer.specs.Texts.{WroteText};

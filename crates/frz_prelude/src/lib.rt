@@ -1,6 +1,6 @@
-//! What the words RULES, TABLE and FEN of a command need: the rules file is read, a position has
-//! its number in a set, a line refuses what serves for none,
-//! and lines tell bounds, kept codes and wrong entries. One call tells a command's reply.
+//! What commands do with their words RULES, TABLE and FEN: they read the rules file and the FEN,
+//! find the number of a position in a set, and refuse in one line what a word names wrongly.
+//! The crate also writes the lines of bounds, kept codes, wrong entries and other replies.
 #![tactic(auto)]
 
 mod bound_lines;

@@ -1,4 +1,4 @@
-//! Why what the words of a command name is refused.
+//! Why a command refuses its words, or what they name.
 ghost use Rattle.std.specs.Prelude.{◌≡◌};
 ghost use Rattle.frz_prelude.specs.Refusals.{status_of, table_status as status_of_table};
 
@@ -8,22 +8,22 @@ use frz_game::Wrong;
 use frz_rules::RulesFault;
 use frz_table::TableFault;
 
-/// Why what the words of a command name is refused.
+/// Why a command refuses its words, or what they name.
 #[derive(Clone, Copy, Debug, PartialEq, Eq, Drop)]
 pub enum Refused {
     /// The words are not those that the command takes.
     Words(Refusal),
     /// The FEN gives no position.
     Fen(FenFault),
-    /// No file has the name.
+    /// No file has the name of the rules file.
     MissingRules,
-    /// The file holds no rules text.
+    /// The rules file holds no valid rules text.
     Rules(RulesFault),
     /// No file has the name of the table, or its bytes are refused.
     Table(TableFault),
-    /// The same of the table that another leans on.
+    /// No file has the name of the back table, or its bytes are refused.
     Back(TableFault),
-    /// That table has this as its first entry that is not its local code.
+    /// The back table has entries that are not their local codes. This is the first.
     BackWrong(Wrong),
     /// The position is outside the set of the rules.
     Outside,

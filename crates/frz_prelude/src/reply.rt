@@ -1,4 +1,4 @@
-//! What a command says that says it all at its end.
+//! The reply of a command that says everything at its end.
 ghost use Rattle.std.specs.Prelude.{◌≡◌};
 ghost use Rattle.frz_store.specs.Told.{sink_of};
 ghost use Rattle.frz_answer.specs.Texts.{WroteText};
@@ -14,12 +14,12 @@ use frz_board::{Move, move_text};
 use frz_game::Wrong;
 use frz_store::{Failed, Sink};
 
-/// What a command says that says it all at its end.
+/// The reply of a command that says everything at its end.
 #[derive(Clone, Copy, Debug)]
 pub enum Reply {
-    /// A move was made: its coordinates, and the FEN of the position after it.
+    /// A move was made: the move, and the FEN of the position after it.
     Moved(Move, ArrayString<100>),
-    /// No legal move has the text.
+    /// The given text is that of no legal move.
     NoMove,
     /// The bounds of White and of Black.
     Bounds(Bound, Bound),
@@ -33,13 +33,13 @@ pub enum Reply {
     Migrated(u32),
     /// A table of so many numbers is exact.
     Exact(u32),
-    /// A table of so many numbers is exact over a back table of so many.
+    /// A table with the first count of numbers is exact over a back table with the second.
     ExactOn(u32, u32),
     /// The first entry of a table that is not its local code.
     Wrong(Wrong),
 }
 
-/// Writes the coordinates of a move, and a FEN on a line of its own.
+/// Writes a move as its coordinates on one line, and a FEN on the next.
 fn write_moved<O: Sink>(m: Move, fen: &ArrayString<100>, out: &mut O) -> Result<(), Failed>
     ensures { WroteText (moved_lines m fen.now.bytes) result
         (sink_of O.Sink out.old) (sink_of O.Sink out.new) }
@@ -48,7 +48,7 @@ fn write_moved<O: Sink>(m: Move, fen: &ArrayString<100>, out: &mut O) -> Result<
     write_line(fen.as_bytes(), out)
 }
 
-/// Writes that a table of so many numbers is exact over one of so many.
+/// Writes that a table of `size` numbers is exact over one of `back` numbers.
 fn write_exact_on<O: Sink>(size: u32, back: u32, out: &mut O) -> Result<(), Failed>
     ensures { WroteText (exact_on_line size back) result
         (sink_of O.Sink out.old) (sink_of O.Sink out.new) }
@@ -88,7 +88,8 @@ impl Reply {
     }
 }
 
-/// Ends a command: its reply is said, or what stopped it.
+/// Ends a command: writes its reply, or the line of the refusal that stopped it. A fault writes
+/// nothing here.
 pub fn tell<O: Sink>(reply: Result<Reply, Stop>, out: &mut O) -> End
     ensures { Tells reply result (sink_of O.Sink out.old) (sink_of O.Sink out.new) }
 {

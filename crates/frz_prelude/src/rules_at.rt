@@ -1,4 +1,4 @@
-//! The rules of the file that the word RULES names, with their text.
+//! The rules in the file that the word RULES names, with their text.
 ghost use Rattle.std.specs.Prelude.{◌+◌, ◌≤◌, length, IfOk, Some};
 ghost use Rattle.frz_sets.specs.Sound.{IsSound};
 ghost use Rattle.frz_rules.specs.declared.fault.TheConstants.{LONGEST_TEXT};
@@ -14,14 +14,14 @@ use frz_rules::{Rules, RulesError, read_rules};
 use frz_store::Store;
 use std::alloc::Global;
 
-/// The text of a rules file, and the rules of the text.
+/// The text of a rules file, and the rules that it describes.
 #[derive(Drop)]
 pub struct RulesText {
     pub text: Vec<u8>,
     pub rules: Rules,
 }
 
-/// The text with its rules.
+/// Reads the rules of the text, and keeps the text with them.
 fn with_rules(alloc: Global, text: Vec<u8>) -> Result<RulesText, Stop>
     requires { length text.items ≤ LONGEST_TEXT }
     ensures due { GivesText (Some text.items) result }
@@ -36,8 +36,9 @@ fn with_rules(alloc: Global, text: Vec<u8>) -> Result<RulesText, Stop>
     }
 }
 
-/// Reads the file of this name and its rules: one `size`, and one `read` where it is there and not
-/// too long.
+/// Reads the file of this name, and the rules in it. The store is asked for the file's `size` once,
+/// and for one `read` where the file is there and not too long. A missing file, a file that is too
+/// long and a text that is no rules text are refused.
 pub fn read_rules_text<S: Store>(
     alloc: Global,
     name: &str,

@@ -9,13 +9,14 @@ use frz_store::{Store, StoreFault};
 use frz_table::laws::bytes_fit;
 use std::alloc::Global;
 
-/// What is wrong with a rules text that is too long.
+/// The fault of a rules text that is too long. It is in no line, so its line number is 0.
 pub const TOO_LONG: RulesFault = RulesFault {
     line: 0,
     cause: RulesCause::TooLong,
 };
 
-/// What stands under the name of a rules file. A file longer than a rules text may be is not read.
+/// What the store has under the name of a rules file. A file that is longer than a rules text may
+/// be, `LONGEST_TEXT` bytes, is not read.
 #[derive(Drop)]
 pub enum RulesFile {
     Missing,
@@ -23,8 +24,8 @@ pub enum RulesFile {
     Text(Vec<u8>),
 }
 
-/// Reads the rules file of this name: one `size`, and one
-/// `read` of the whole file where it is there and not too long.
+/// Reads the rules file of this name. The store is asked for its `size` once, and for one `read` of
+/// the whole file where it is there and not too long.
 pub fn read_rules_file<S: Store>(
     alloc: Global,
     name: &str,
@@ -42,7 +43,7 @@ pub fn read_rules_file<S: Store>(
     ensures calls_by { IfOk result
         (λ file. S.calls store.new ≤ S.calls store.old + (1 + reads_by file)) }
 
-    // What is asked of it.
+    // How many bytes are asked of the store.
     ensures asked { IfSome (S.files store.old)
         (λ m. S.asked store.new ≤ S.asked store.old + asked_of (m name.now)) }
     ensures asked_by { IfOk result (λ file. S.asked store.new ≤ S.asked store.old + asked_by file) }

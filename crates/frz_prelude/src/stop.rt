@@ -1,4 +1,4 @@
-//! What stops a command before it comes to its own work.
+//! What stops a command: a refusal or a fault.
 ghost use Rattle.std.specs.Prelude.{◌≡◌};
 ghost use Rattle.frz_store.specs.Told.{sink_of};
 ghost use Rattle.frz_answer.specs.Ends.{Said};
@@ -12,7 +12,7 @@ use frz_board::NoMemory;
 use frz_store::{Sink, StoreFault};
 use frz_table::TableFault;
 
-/// What stops a command before it comes to its own work.
+/// What stops a command before it can reply: what its words name is refused, or a fault came.
 #[derive(Clone, Copy, Debug, PartialEq, Eq, Drop)]
 pub enum Stop {
     Refused(Refused),
@@ -63,7 +63,7 @@ impl From<TableFault> for Stop {
     }
 }
 
-/// Says why it is refused, in one line.
+/// Writes the line that says why something is refused, and ends the command with its status.
 fn say_refusal<O: Sink>(why: Refused, out: &mut O) -> End
     ensures { Said (status_of why) (line_of why) result
         (sink_of O.Sink out.old) (sink_of O.Sink out.new) }
@@ -72,7 +72,7 @@ fn say_refusal<O: Sink>(why: Refused, out: &mut O) -> End
 }
 
 impl Stop {
-    /// Ends the command: a refusal is said in its line.
+    /// Ends the command. A refusal writes its line; a fault writes nothing here.
     pub fn end<O: Sink>(self, out: &mut O) -> End
         ensures { EndsBy self result (sink_of O.Sink out.old) (sink_of O.Sink out.new) }
     {

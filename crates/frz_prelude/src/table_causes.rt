@@ -17,7 +17,7 @@ fn write_due<O: Sink>(due: u64, out: &mut O) -> Result<(), Failed>
     write_numbered_line(b" due ", due, out)
 }
 
-/// Writes that the file of this word is not there.
+/// Writes that the file which this word stands for is missing.
 fn write_missing<O: Sink>(word: &[u8], out: &mut O) -> Result<(), Failed>
     ensures { WroteText (codes "missing " ++ word.now ++ codes "\n") result
         (sink_of O.Sink out.old) (sink_of O.Sink out.new) }
@@ -35,8 +35,8 @@ fn write_magic<O: Sink>(word: &[u8], out: &mut O) -> Result<(), Failed>
     write_piece(b": magic\n", out)
 }
 
-/// Writes the word of the file, what is wrong with it, the
-/// number that is there, and the one that is due.
+/// Writes the word that stands for the file, what is wrong with the file, the number that is there,
+/// and the number that is due.
 fn write_numbers<O: Sink>(
     word: &[u8],
     what: &[u8],
@@ -61,7 +61,7 @@ fn write_text_fault<O: Sink>(word: &[u8], fault: RulesFault, out: &mut O) -> Res
     write_rules_fault(fault, out)
 }
 
-/// Writes the line that refuses the table file of this word.
+/// Writes the line that refuses a table file. `word` stands for the file: `table` or `back`.
 pub(crate) fn write_file_fault<O: Sink>(
     word: &[u8],
     fault: TableFault,

@@ -1,4 +1,4 @@
-//! The line that names an entry of a table which is not its local code.
+//! The line that names an entry of a table which is not its local code, called a wrong entry.
 ghost use Rattle.frz_store.specs.Told.{sink_of};
 ghost use Rattle.frz_answer.specs.Texts.{WroteText};
 ghost use Rattle.frz_prelude.specs.WrongLines.{place_text, codes_text, wrong_line, back_wrong_line};
@@ -8,7 +8,7 @@ use frz_answer::{write_numbered, write_piece};
 use frz_game::Wrong;
 use frz_store::{Failed, Sink};
 
-/// Writes which entry is wrong.
+/// Writes which entry is wrong: its side and its number.
 fn write_place<O: Sink>(wrong: Wrong, out: &mut O) -> Result<(), Failed>
     ensures { WroteText (place_text wrong) result (sink_of O.Sink out.old)
         (sink_of O.Sink out.new) }
@@ -18,7 +18,7 @@ fn write_place<O: Sink>(wrong: Wrong, out: &mut O) -> Result<(), Failed>
     write_numbered(b" ", wrong.number as u64, out)
 }
 
-/// Writes the code that is kept and the one that is given.
+/// Writes the code that the table keeps, and the local code.
 fn write_codes<O: Sink>(wrong: Wrong, out: &mut O) -> Result<(), Failed>
     ensures { WroteText (codes_text wrong) result (sink_of O.Sink out.old)
         (sink_of O.Sink out.new) }
@@ -28,7 +28,7 @@ fn write_codes<O: Sink>(wrong: Wrong, out: &mut O) -> Result<(), Failed>
     write_piece(b"\n", out)
 }
 
-/// Writes the line of an entry that is wrong.
+/// Writes the line of a wrong entry.
 pub fn write_wrong<O: Sink>(wrong: Wrong, out: &mut O) -> Result<(), Failed>
     ensures { WroteText (wrong_line wrong) result (sink_of O.Sink out.old)
         (sink_of O.Sink out.new) }
@@ -37,7 +37,7 @@ pub fn write_wrong<O: Sink>(wrong: Wrong, out: &mut O) -> Result<(), Failed>
     write_codes(wrong, out)
 }
 
-/// Writes the line of an entry of the back table that is wrong.
+/// Writes the line of a wrong entry of the back table.
 pub(crate) fn write_back_wrong<O: Sink>(wrong: Wrong, out: &mut O) -> Result<(), Failed>
     ensures { WroteText (back_wrong_line wrong) result (sink_of O.Sink out.old)
         (sink_of O.Sink out.new) }

@@ -15,20 +15,20 @@ use Rattle.frz_arena.specs.declared.arm.Next.TheVariants.{Outside}
 use Rattle.frz_index.specs.Membership.{position_at}
 use Rattle.frz_game.specs.Games.{graph_by}
 
--- out of the set, to a position of no known value
+-- the move leads out of the set, to a position of no known value
 abbrev pub is_open : Next ℕ Value → Bool
 is_open (Outside Unknown) = true
 is_open next = false
 
--- the letter of a man, as often as the man stands
+-- the letter of a man, as often as such men stand
 abbrev pub letters_in : List ℕ → (cell : ℕ) → List ℕ
 letters_in cells cell = replicate (count_by (λ c. c == cell) cells) (letter_of cell)
 
--- the letters KQRBNPkqrbnp in this order, each as often as such men stand
+-- the class of a position: the letters KQRBNPkqrbnp in this order, each as often as such men stand
 abbrev pub class_of : Board → List ℕ
 class_of p = flat_map (letters_in p.cells) (range_with_len 1 12)
 
--- of moves of a position: the classes after those that are open exits, free or not, in their order
+-- the classes after those moves of a position that are open exits, free or not, in their order
 abbrev pub classes_after : Board → List (Arm Step ℕ Value) → List (List ℕ)
 classes_after p arms = map (λ a. class_of (after p a.mv)) (filter (λ a. is_open a.next) arms)
 
@@ -40,7 +40,7 @@ classes_on arms (Some p) = classes_after p arms
 abbrev pub exits_at : RuleLines → (Board → Value) → ℕ → List (List ℕ)
 exits_at rules value i = classes_on ((graph_by rules value).arms i) (position_at rules.groups i)
 
--- those of the numbers below n, by number
+-- the classes of the open exits at the numbers below n, by number
 abbrev pub exits_below : RuleLines → (Board → Value) → ℕ → List (List ℕ)
 exits_below rules value n = flat_map (exits_at rules value) (range_with_len 0 n)
 

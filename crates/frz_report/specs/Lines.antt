@@ -4,7 +4,7 @@ use Rattle.frz_board.specs.Boards.{Board}
 use Rattle.frz_fen.specs.Writing.{fen_text}
 use Rattle.frz_report.specs.Squeezes.{Squeeze}
 
--- two numbers and the position at the first
+-- the line of a squeeze: two numbers and the position at the first
 abbrev pub pair_line : ℕ → ℕ → Board → List ℕ
 pair_line w b p = codes "squeeze " ++ decimal w
     ++ (codes " " ++ decimal b ++ (codes " " ++ (fen_text p ++ codes "\n")))
@@ -12,11 +12,11 @@ pair_line w b p = codes "squeeze " ++ decimal w
 abbrev pub squeeze_line : Squeeze → List ℕ
 squeeze_line s = pair_line s.white_to_move s.black_to_move s.position
 
--- a class and how many open exits have it
+-- the line of a class, and how many open exits have it
 abbrev pub class_line : List ℕ × ℕ → List ℕ
 class_line e = codes "exits " ++ decimal e.1 ++ (codes " " ++ (e.0 ++ codes "\n"))
 
--- how many squeezes and how many open exits there are
+-- the last line: how many squeezes and how many open exits there are
 abbrev pub last_line : (squeezes unassigned : ℕ) → List ℕ
 last_line squeezes unassigned =
     codes "squeezes " ++ decimal squeezes

@@ -24,7 +24,8 @@ use Rattle.frz_report.specs.Exits.{exits_of}
 use Rattle.frz_report.specs.Census.{census}
 use Rattle.frz_report.specs.Lines.{squeeze_line, class_line, last_line}
 
--- the squeezes by their numbers, the classes of open exits as they are first met, and the totals
+-- the text of a report: the squeezes by their numbers, the classes of open exits as they are first
+-- met, and the totals
 abbrev pub report_text : RuleLines → (Board → Value) → (Colour → List ℕ) → List ℕ
 report_text rules value codes =
     flat_map squeeze_line (squeezes rules.groups codes)
@@ -38,7 +39,7 @@ totals_of rules value codes = record {
   unassigned = length (exits_of rules value);
 }
 
--- what stops a report where the codes are not read
+-- the fault of a report whose codes could not be loaded
 abbrev pub unloaded : TableFault → ReportFault
 unloaded table.Failed = Store
 unloaded fault = NoMemory
@@ -48,8 +49,8 @@ abbrev pub WroteBy : {T : Type 0} → Result T ReportFault → List ℕ → Sink
 WroteBy (Err Output) text old new = FailedWithin text old new
 WroteBy result text old new = TookText text old new
 
--- nothing is left to be written and the totals are answered, or
--- a fault of the outside left something
+-- with the totals as the answer nothing is left to be written; with a fault of the store or of
+-- memory something is left
 abbrev pub Finishes : Result Totals ReportFault → Totals → (rest : List ℕ) → Type 0
 Finishes (Ok totals) answer rest = (totals ≡ answer) × (rest ≡ [])
 Finishes (Err Output) answer rest = ⊤
@@ -67,7 +68,7 @@ pub record WritesReport
   pub begins : text ++ rest ≡ report_text rules value codes
   pub finishes : Finishes result (totals_of rules value codes) rest
 
--- so much was written of the report of a file that the table's name may hold
+-- the report of a file that the table's name may hold was written, as far as the result says
 pub record WritesOfFile
     (files : Option Files) (table : Table) (result : Result Totals ReportFault)
     (old new : SinkTold) : Type 0 where
@@ -77,7 +78,8 @@ pub record WritesOfFile
   pub wrote : WritesReport table.rules (value_by table.rules) (kept_codes (contents_of table) bytes)
       result old new
 
--- where a fault came before the codes were read, nothing was written
+-- with a fault before the codes were read nothing was written; else the report of the file was
+-- written, as far as the result says
 abbrev pub WritesOfTable : Option Files → Table → Result Totals ReportFault → SinkTold → SinkTold
     → Type 0
 WritesOfTable files table (Err Store) old new = new ≡ old
@@ -85,8 +87,8 @@ WritesOfTable files table (Err NoMemory) old new =
     (new ≡ old) ⊎ WritesOfFile files table (Err NoMemory) old new
 WritesOfTable files table result old new = WritesOfFile files table result old new
 
--- a fault of the store has raised its count, want of memory is
--- free, and otherwise the store has not failed
+-- `Store` has raised the count of faults of the store, `NoMemory` need not have raised any, and
+-- with any other result the store has not failed
 abbrev pub StoreCause : Result Totals ReportFault → StoreTold → StoreTold → Type 0
 StoreCause (Err Store) old new = Rose old.faults new.faults
 StoreCause (Err NoMemory) old new = ⊤

@@ -1,5 +1,4 @@
--- Squeezes, the mutual zugzwangs of the field: the same men,
--- and each side is worse off where it is to move.
+-- Squeezes, which are mutual zugzwangs by the codes: each side is worse off where it is to move.
 use Rattle.std.specs.Prelude.{◌≡◌, ◌<◌, ◌==◌, ◌&&◌, ℕ, Bool, nat_lt, List, slice_index, Option, Some, None, filter_map, is_none, if◌then◌else◌}
 use Rattle.std.specs.List.{range_with_len}
 use Rattle.std.specs.Option.{option_and_then, option_map}
@@ -14,7 +13,7 @@ use Rattle.frz_index.specs.Members.{HasNumber}
 use Rattle.frz_index.specs.Membership.{number_of, position_at}
 use Rattle.frz_index.specs.Partners.{with_black}
 
--- what a code is worth: a win 2, a hold 1, and every other code 0
+-- what a code is worth to its side: a win 2, a hold 1, and every other code 0
 abbrev pub rank_of : ℕ → ℕ
 rank_of code = if is_win code then 2 else (if code == 1 then 1 else 0)
 
@@ -28,9 +27,8 @@ pub record Squeeze : Type 0 where
   pub black_to_move : ℕ
   pub position : Board
 
--- the same men with the other side to move: two positions of the set without a target, White to
--- move at the first and Black at the second, where White's rank
--- is lower at the first, and Black's at the second
+-- two positions of the set with the same men and no en passant target, White to move at the first
+-- and Black at the second: White's rank is lower at the first, and Black's at the second
 pub record IsSqueeze (groups : List GroupLine) (codes : Colour → List ℕ)
     (s : Squeeze) : Type 0 where
   pub other : Board
@@ -44,11 +42,11 @@ pub record IsSqueeze (groups : List GroupLine) (codes : Colour → List ℕ)
   pub white_worse : rank_at codes White s.white_to_move < rank_at codes White s.black_to_move
   pub black_worse : rank_at codes Black s.black_to_move < rank_at codes Black s.white_to_move
 
--- White is to move, and there is no target
+-- White is to move, and there is no en passant target
 abbrev pub is_first : Board → Bool
 is_first p = same_colour p.turn White && is_none p.ep
 
--- the number of the second position, where there is one
+-- the number of the same men with Black to move, if this position may be the first of a squeeze
 abbrev pub partner_of : List GroupLine → Board → Option ℕ
 partner_of groups p = if is_first p then number_of groups (with_black p) else None
 
@@ -65,19 +63,19 @@ squeeze_with codes w p (Some b) =
     then Some (record { white_to_move = w; black_to_move = b; position = p })
     else None
 
--- the squeeze at a position with this number, where it is one
+-- the squeeze whose first position is this one with this number, if there is one
 abbrev pub squeeze_on : List GroupLine → (Colour → List ℕ) → ℕ → Board → Option Squeeze
 squeeze_on groups codes w p = squeeze_with codes w p (partner_of groups p)
 
 abbrev pub squeeze_at : List GroupLine → (Colour → List ℕ) → ℕ → Option Squeeze
 squeeze_at groups codes w = option_and_then (squeeze_on groups codes w) (position_at groups w)
 
--- the squeeze of a position with this number and a second number, where there is one
+-- the squeeze of a first position with its number and a second number, if there is one
 abbrev pub squeezed_by : ℕ → Board → Option ℕ → Option Squeeze
 squeezed_by w p second =
     option_map (λ b. record { white_to_move = w; black_to_move = b; position = p }) second
 
--- those of the numbers below n, by increasing number with White to move
+-- the squeezes whose first number is below n, by increasing first number
 abbrev pub squeezes_below : List GroupLine → (Colour → List ℕ) → ℕ → List Squeeze
 squeezes_below groups codes n = filter_map (squeeze_at groups codes) (range_with_len 0 n)
 

@@ -12,16 +12,16 @@ use Rattle.frz_report.specs.Census.{census}
 use Rattle.frz_report.specs.Lines.{squeeze_line}
 use Rattle.frz_report.specs.Squeezes.{Squeeze, squeezes_below}
 
--- 1 where it holds, else 0
+-- 1 if it is true, else 0
 abbrev pub one_if : Bool → ℕ
 one_if true = 1
 one_if false = 0
 
--- the entries of a map with the letters of its keys
+-- the entries of a map, with each key as its letters
 abbrev pub lettered : List (ArrayString × ℕ) → List (List ℕ × ℕ)
 lettered entries = map (λ e. (e.0.bytes, e.1)) entries
 
--- the entries count these exits
+-- the entries are the census of these exits
 abbrev pub Counts : List (ArrayString × ℕ) → List (List ℕ) → Type 0
 Counts entries exits = lettered entries ≡ census exits
 
@@ -30,16 +30,16 @@ abbrev pub line_of : Option Squeeze → List ℕ
 line_of None = []
 line_of (Some s) = squeeze_line s
 
--- one more, where there is a squeeze
+-- 1 if there is a squeeze, else 0
 abbrev pub one_of : Option Squeeze → ℕ
 one_of None = 0
 one_of (Some s) = 1
 
--- the lines of the squeezes below n
+-- the lines of the squeezes whose first number is below n
 abbrev pub lines_below : RuleLines → (Colour → List ℕ) → ℕ → List ℕ
 lines_below rules codes n = flat_map squeeze_line (squeezes_below rules.groups codes n)
 
--- whole lines that begin this text were taken
+-- the sink took whole lines, with which this text begins
 pub record TookFront (whole : List ℕ) (old new : SinkTold) : Type 0 where
   pub text : List ℕ
   pub rest : List ℕ
@@ -47,8 +47,8 @@ pub record TookFront (whole : List ℕ) (old new : SinkTold) : Type 0 where
   pub took : TookText text old new
   pub begins : text ++ rest ≡ whole
 
--- the text with so many squeezes was written, or the sink
--- failed within it, or there was no memory behind a line of it
+-- the whole text was written, with so many squeezes; or the sink failed within it; or, with another
+-- fault, whole lines with which it begins were written
 abbrev pub WritesSome : Result ℕ ReportFault → (whole : List ℕ) → (many : ℕ) → SinkTold → SinkTold
     → Type 0
 WritesSome (Ok n) whole many old new = (n ≡ many) × TookText whole old new

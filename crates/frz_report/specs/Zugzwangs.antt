@@ -7,8 +7,7 @@ use Rattle.frz_arena.specs.Chess.{NeverForcesMate}
 use Rattle.frz_arena.specs.WholeTruth.{CanForceMate}
 use Rattle.frz_game.specs.Games.{chess}
 
--- the same men: the side forces mate where its opponent is to move, and not where it is to move
--- itself
+-- the same men: the side forces mate if its opponent is to move, and cannot if it is to move itself
 pub record IsZugzwang (side : Colour) (theirs mine : Board) : Type 0 where
   pub same_men : theirs.cells ≡ mine.cells
   pub their_turn : theirs.turn ≡ other_of side

@@ -1,4 +1,4 @@
-//! The open exits of a set, counted by their classes.
+//! The open exits of a set, which no exit line values, counted by their classes.
 ghost use Rattle.std.specs.Prelude.{◌≡◌, ◌≤◌, ◌<◌, ◌+◌, ◌^◌, ◌++◌, ◌∷◌, [], ℕ, List, All, length, true, OnOk};
 ghost use Rattle.frz_fide.specs.Legal.{is_legal};
 ghost use Rattle.frz_fide.specs.Valid.{IsValid};
@@ -14,10 +14,11 @@ use frz_sets::Value;
 use indexmap::IndexMap;
 use std::alloc::Global;
 
-/// How many exits may be counted: fewer than numbers of 64 bits.
+/// The limit of a census: it counts fewer exits than this, so that its counts fit in 64 bits.
 pub const MOST_EXITS: u64 = 1 << 62;
 
-/// How many open exits have each class, in the order in which the classes are first met.
+/// How many open exits have each class, in the order in which the classes are first met, and how
+/// many there are in all.
 #[derive(Drop)]
 pub struct Census {
     pub classes: IndexMap<Class, u64>,
@@ -32,7 +33,7 @@ fn is_open(next: Next) -> bool
 }
 
 impl Census {
-    /// No exit was met.
+    /// A census in which no exit is counted yet.
     pub fn new(alloc: Global) -> Census
         ensures total { result.total ≡ 0 }
         ensures none { Counts result.classes.entries [] }
@@ -43,7 +44,7 @@ impl Census {
         }
     }
 
-    /// Counts one more exit.
+    /// Counts one more open exit, of this class.
     fn note(&mut self, class: Class) -> Result<(), NoMemory>
         requires { (exits : List (List ℕ)) × Counts self.old.classes.entries exits
             × (self.old.total ≡ length exits) × (length exits < MOST_EXITS) }

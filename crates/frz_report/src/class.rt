@@ -9,10 +9,10 @@ use arrayvec::ArrayString;
 use frz_board::Position;
 use frz_fen::cell_letter;
 
-/// How many cells a board has: no class has more letters.
+/// The greatest number of letters of a class: a board has 64 squares.
 pub const MOST_LETTERS: usize = 64;
 
-/// The letters `KQRBNPkqrbnp` in this order, each as often as such men stand.
+/// The class of an exit: the letters `KQRBNPkqrbnp` in this order, each as often as such men stand.
 pub type Class = ArrayString<MOST_LETTERS>;
 
 /// The number of the last man, Black's pawn.
@@ -30,7 +30,7 @@ fn push_if(is_there: bool, letter: u8, class: &mut Class)
     }
 }
 
-/// Writes the letter of a man's number as often as the man stands.
+/// Appends the letter of a man's number as often as such men stand.
 fn push_letters(cells: &[u8; 64], cell: u8, class: &mut Class)
     requires man { 0 < cell }
     requires fits { cell < 13 }

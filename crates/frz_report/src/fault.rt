@@ -1,11 +1,12 @@
-//! What a report answers.
+//! What a report answers: its totals, or what stops it.
 ghost use Rattle.std.specs.Prelude.{◌≡◌};
 ghost use Rattle.frz_report.specs.declared.fault.ReportFault.TheVariants as faults;
 
 use frz_board::NoMemory;
 use frz_store::Failed;
 
-/// The totals of a report's last line.
+/// The totals of a report's last line: the mutual zugzwangs (`squeezes`) and the open exits
+/// (`unassigned`).
 #[derive(Clone, Copy, Debug, PartialEq, Eq, Drop)]
 pub struct Totals {
     pub squeezes: u64,

@@ -17,8 +17,8 @@ ghost use Rattle.frz_report.specs.Reports.{totals_of};
 ghost use Rattle.frz_report.specs.Zugzwangs.{IsZugzwang};
 ghost use Rattle.frz_report.specs.Census.{census, firsts};
 
-/// The squeezes of a report are exactly the pairs that are squeezes, each once and by increasing
-/// number.
+/// The squeezes (mutual zugzwangs) of a report are exactly those of the set, each once, by
+/// increasing number with White to move.
 pub fn squeezes_in_words()
     ensures exact { (groups : List GroupLine) (codes : Colour → List ℕ) (s : Squeeze) →
         Contains (squeezes groups codes) s ↔ IsSqueeze groups codes s }
@@ -26,8 +26,8 @@ pub fn squeezes_in_words()
         AllPairs (λ s t. s.white_to_move < t.white_to_move) (squeezes groups codes) }
 {}
 
-/// A class stands in a census exactly where an exit has it, and stands there once; and the numbers
-/// of the classes add up to that of the exits.
+/// A census lists a class exactly if an exit has it, and lists it once; its counts add up to the
+/// number of exits.
 pub fn classes_in_words()
     ensures exact { (exits : List (List ℕ)) (class : List ℕ) →
         list_any (bytes_eq class) (firsts exits) ≡ list_any (bytes_eq class) exits }
@@ -35,9 +35,9 @@ pub fn classes_in_words()
     ensures sum { (exits : List (List ℕ)) → sum_by (λ e. e.1) (census exits) ≡ length exits }
 {}
 
-/// A squeeze of the tables of both sides that shows a win is a mutual zugzwang of chess, where the
-/// exits are true: the side that wins forces mate where its opponent is to move, and not where it
-/// is to move itself.
+/// If the values of the exits are true, a squeeze of the tables of both sides that shows a win is a
+/// mutual zugzwang of chess: the side that wins forces mate if its opponent is to move, and does
+/// not if it is to move itself.
 pub fn squeezes_are_zugzwangs()
     ensures white { (rules : RuleLines) (value : Board → Value) → AreTrueExits rules value →
         (codes : Colour → List ℕ) →
@@ -53,8 +53,8 @@ pub fn squeezes_are_zugzwangs()
         IsZugzwang Black s.position squeeze.other }
 {}
 
-/// Where a report counts no open exit, no move out of the set leads to a position of unknown value.
-/// So where each exit line is a draw by the men too, the tables of the sides that no line forbids a
+/// If a report counts no open exit, no move out of the set leads to a position of unknown value.
+/// If, further, each exit line is a draw by the men, the tables of the sides that no line forbids a
 /// move are exact in chess.
 pub fn none_unassigned()
     ensures closed { (rules : RuleLines) (value : Board → Value) (codes : Colour → List ℕ) →

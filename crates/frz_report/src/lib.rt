@@ -1,4 +1,4 @@
-//! Reports of tables: where neither side would like to move, and which exits no line assigns yet.
+//! Reports of tables: the mutual zugzwangs of a set, and the exits that no exit line values yet.
 #![tactic(auto)]
 
 mod census;

@@ -39,8 +39,7 @@ fn write_classes<O: Sink>(classes: &IndexMap<Class, u64>, out: &mut O) -> Result
     Ok(())
 }
 
-/// Writes the report of a set by the codes of both sides. The moves of each number are asked for
-/// once.
+/// Writes the report of a set by the codes of both sides. The moves of each number are listed once.
 fn write_report<B: ExitBook, E: Entries, O: Sink, L: Ledger>(
     alloc: Global,
     game: &Game<'_, B>,
@@ -66,7 +65,7 @@ fn write_report<B: ExitBook, E: Entries, O: Sink, L: Ledger>(
     })
 }
 
-/// What stops a report whose table is not loaded.
+/// The fault of a report whose codes could not be loaded.
 fn fault_of(fault: TableFault) -> ReportFault
     requires { IsOutside fault }
     ensures { result ≡ unloaded fault }
@@ -107,9 +106,9 @@ fn report_codes<O: Sink, L: Ledger>(
     write_report(alloc, &game, &entries, out, steps)
 }
 
-/// Writes the report of a table by the codes that its file keeps: a line for each squeeze, as it is
-/// met, one for each class of open exits, and the totals. With a fault whole lines were written, or
-/// the sink failed within one.
+/// Writes the report of a table by the codes in its file: a line for each mutual zugzwang as it is
+/// met, a line for each class of open exits, and a line with the totals, which are also the answer.
+/// With a fault, whole lines were written, or the sink failed within one.
 pub fn report<S: Store, O: Sink, L: Ledger>(
     alloc: Global,
     table: &TableFile,

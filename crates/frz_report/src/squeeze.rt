@@ -1,4 +1,4 @@
-//! Squeezes: pairs of numbers at which neither side would like to move.
+//! Squeezes, which are mutual zugzwangs: pairs of numbers at which neither side would like to move.
 ghost use Rattle.std.specs.Prelude.{◌≡◌, ◌<◌, length, IfSome, None};
 ghost use Rattle.frz_board.specs.Boards.{Board};
 ghost use Rattle.frz_board.specs.declared.man.Colour.TheVariants.{White};
@@ -15,7 +15,7 @@ use frz_fide::valid;
 use frz_game::Entries;
 use frz_index::Set;
 
-/// What a code is worth: a win 2, a hold 1, and every other code 0.
+/// What a code is worth to its side: a win 2, a hold 1, and every other code 0.
 fn rank(code: u32) -> u8
     ensures { result ≡ rank_of code }
 {
@@ -46,15 +46,15 @@ fn is_worse_to_move<E: Entries>(entries: &E, w: u32, b: u32) -> bool
         && rank_in(entries, Colour::Black, b) < rank_in(entries, Colour::Black, w)
 }
 
-/// Is White to move, with no target?
+/// Is White to move, with no en passant target?
 fn is_first(p: &Position) -> bool
     ensures { result ≡ stands_first p.now }
 {
     p.turn() == Colour::White && p.ep().is_none()
 }
 
-/// The number of the men of the position with this number, where Black is to move with no target,
-/// and `None` where that is not valid.
+/// The number of the position `q`, which has the men of the position with number `w`, Black to move
+/// and no en passant target; `None` if `q` is not valid.
 fn number_if_valid(set: &Set, w: u32, q: &Position) -> Option<u32>
     requires { (p : Board) × HasNumber set.now w p × (p.turn ≡ White) × (p.ep ≡ None)
         × (q.now ≡ with_black p) }
@@ -67,7 +67,8 @@ fn number_if_valid(set: &Set, w: u32, q: &Position) -> Option<u32>
     }
 }
 
-/// The number of the same men with Black to move, where White is to move with no target.
+/// The number of the same men with Black to move, if White is to move in `p` with no en passant
+/// target; else `None`, and also if that position is not valid.
 fn partner(set: &Set, w: u32, p: &Position) -> Option<u32>
     requires { HasNumber set.now w p.now }
     ensures number { result ≡ partner_of set.now p.now }
@@ -80,7 +81,8 @@ fn partner(set: &Set, w: u32, p: &Position) -> Option<u32>
     }
 }
 
-/// The number of the second position of a squeeze whose first is this one.
+/// The number of the second position of a squeeze, where Black is to move, if `p` with the number
+/// `w` is the first; else `None`.
 pub fn squeezed_with<E: Entries>(set: &Set, entries: &E, w: u32, p: &Position) -> Option<u32>
     requires position { HasNumber set.now w p.now }
     requires inside { w < size_of set.now }

@@ -12,7 +12,7 @@ use frz_board::Position;
 use frz_fen::write_fen;
 use frz_store::{Failed, Sink};
 
-/// Writes the line of a squeeze: its numbers, and the position with White to move.
+/// Writes the line of a squeeze: both numbers, and the FEN of the position with White to move.
 pub fn write_squeeze<O: Sink>(w: u32, b: u32, p: &Position, out: &mut O) -> Result<(), Failed>
     requires { IsValid p.now }
     ensures { WroteText (pair_line w b p.now) result

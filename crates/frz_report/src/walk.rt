@@ -24,10 +24,11 @@ use frz_steps::Steps;
 use frz_store::{Failed, Sink};
 use std::sync::ledger::Ledger;
 
-/// How many moves a list of moves holds at most.
+/// The greatest number of moves that a list of moves holds.
 pub const MOST_MOVES: u64 = 1_024;
 
-/// Writes the line of the squeeze at a number, if it is one, and gives how many there are.
+/// Writes the line of a number if it is the first of a squeeze. Answers how many squeezes it wrote,
+/// 0 or 1.
 fn write_if_squeeze<E: Entries, O: Sink>(
     set: &Set,
     entries: &E,
@@ -53,7 +54,7 @@ fn write_if_squeeze<E: Entries, O: Sink>(
     }
 }
 
-/// Counts the open exits of a number that has this position.
+/// Counts the open exits of this position, which has this number.
 fn count_exits<B: ExitBook, L: Ledger>(
     game: &Game<'_, B>,
     number: u32,
@@ -82,7 +83,8 @@ fn count_exits<B: ExitBook, L: Ledger>(
     census.note_all(p, lists.nexts.as_slice())
 }
 
-/// Looks at a number: its open exits are counted, and its squeeze is written, if it is one.
+/// Counts the open exits of a number, and writes its line if it is the first of a squeeze. Answers
+/// how many squeezes it wrote, 0 or 1; a broken number has no exit and no line.
 fn look<B: ExitBook, E: Entries, O: Sink, L: Ledger>(
     game: &Game<'_, B>,
     entries: &E,
@@ -121,8 +123,8 @@ fn look<B: ExitBook, E: Entries, O: Sink, L: Ledger>(
     Ok(squeezes)
 }
 
-/// Walks over all numbers: the squeezes are written as they are met, and the open exits counted.
-/// Gives how many squeezes there are.
+/// Walks over all numbers: each squeeze is written as it is met, and the open exits are counted.
+/// Answers how many squeezes there are.
 pub fn walk<B: ExitBook, E: Entries, O: Sink, L: Ledger>(
     game: &Game<'_, B>,
     entries: &E,

@@ -50,7 +50,7 @@ coming_from {Q = Q} h w l p =
       preds = p;
     }
 
--- then it is done too
+-- once its predecessors are gone through, the number at place h is done too
 pub came : {B : Shape} {side : Colour} {k mid : ℕ} {bar : ℕ → ℕ} {E C L R : List ℕ} {tail : ℕ}
     (h : ℕ) (Q : List ℕ) →
     Work B side k mid bar (λ _ r. done_by Q h r || (get_or Q h 0 == r)) E C L R tail →

@@ -13,7 +13,7 @@ use Rattle.frz_arena.specs.declared.arm.Next.TheVariants.{Inside, Outside}
 use Rattle.frz_retro.specs.Graphs.{Arm}
 use Rattle.frz_retro.specs.declared.start.Start.{Start}
 
--- one more counted arm, by its code
+-- adds a counted arm that leads to an exit of code c
 abbrev pub after_code : Bool → Start → ℕ → Start
 after_code own s c =
     cond (is_of own c)
@@ -34,11 +34,11 @@ abbrev pub start_of : Bool → Colour → List Arm → Start
 start_of own side [] = record { any = false; count = 0; least = 0; most = 0 }
 start_of own side (a ∷ arms) = after_arm own side (start_of own side arms) a
 
--- what the exits give in the end
+-- what the exits alone give in the end, or 0
 abbrev pub later_of : Start → ℕ
 later_of s = cond (nat_lt 0 s.least) (s.least + 2) (cond (nat_lt 0 s.most) (s.most + 2) 0)
 
--- a number with no counted arm fails at once, and another is open
+-- where the game goes on: a number with a counted arm is open, and one with none fails at once
 pub record Opens (own : Bool) (side : Colour) (arms : List Arm)
     (entry count later : ℕ) : Type 0 where
   pub open_ : entry ≡ 1

@@ -21,7 +21,7 @@ Next = nexts.Next ℕ Value
 abbrev pub IsMoveTo : Arena Step ℕ Value → ℕ → Step → ℕ → Type 0
 IsMoveTo arena i m q = (a : Arm) × IsArm arena i a × (a.mv ≡ m) × (a.next ≡ Inside q)
 
--- two moves of one number do not lead to one number
+-- no two moves of one number lead to the same number
 abbrev pub HasDifferentArms : Arena Step ℕ Value → Type 0
 HasDifferentArms arena = (i k l q : ℕ) →
     LeadsInside (arena.arms i) k q → LeadsInside (arena.arms i) l q → k ≡ l

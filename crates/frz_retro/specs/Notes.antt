@@ -1,4 +1,4 @@
--- What a number begins with, kept in short.
+-- What a number begins with for a side, as a counter and one code.
 use Rattle.std.specs.Prelude.{◌≡◌, ◌≢◌, ℕ, ◌<◌, ◌≤◌, List, cond, length, nat_lt, slice_index}
 use Rattle.frz_board.specs.declared.man.Colour.{Colour}
 use Rattle.frz_board.specs.Moving.{Step}
@@ -9,12 +9,12 @@ use Rattle.frz_arena.specs.declared.node.Node.TheVariants.{Going}
 use Rattle.frz_retro.specs.Beginning.{IsBegun}
 use Rattle.frz_retro.specs.Graphs.{Arm}
 
--- the entry that a number with this code begins with: from 4 on the code is one that its exits give
--- in the end, and it is open
+-- the entry that a number with this code in its note begins with: below 4 the code itself; from 4
+-- on the number is open, and the code is the one that its exits alone give it in the end
 abbrev pub entry_in : ℕ → ℕ
 entry_in code = cond (nat_lt code 4) code 1
 
--- the code that its exits give in the end, or 0
+-- the code that the number's exits alone give it in the end, or 0
 abbrev pub later_in : ℕ → ℕ
 later_in code = cond (nat_lt code 4) 0 code
 
@@ -29,7 +29,7 @@ pub record Notes : Type 0 where
   pub counts : List ℕ
   pub codes : List ℕ
 
--- there is room for the notes of so many numbers
+-- the notes have room for exactly so many numbers
 pub record HasRoom (size : ℕ) (notes : Notes) : Type 0 where
   pub counts : length notes.counts ≡ size
   pub codes : length notes.codes ≡ size

@@ -1,4 +1,4 @@
--- What the solver keeps.
+-- What the entries, counters and due codes of the solver say in each pass.
 use Rattle.std.specs.Prelude.{◌≡◌, ◌≢◌, ℕ, ◌+◌, ◌*◌, ◌<◌, ◌≤◌, ◌⊎◌, Bool, true, false, not, ◌&&◌, List, get_or, slice_index}
 use Rattle.frz_board.specs.Men.{same_colour}
 use Rattle.frz_board.specs.Moving.{Step}
@@ -13,7 +13,8 @@ use Rattle.frz_arena.specs.declared.node.Node.TheVariants.{Going}
 use Rattle.frz_arena.specs.declared.arm.Next.TheVariants.{Inside, Outside}
 use Rattle.frz_retro.specs.Graphs.{Arm, Next}
 
--- c rests on a counted arm with the least code of the deciding kind
+-- One arm decides: c is one ply beyond the least code of the deciding kind among the counted arms.
+-- The deciding kind is a win where the side moves (own), and a failure where its opponent does.
 pub record Decided (own : Bool) (f : Arm → ℕ) (arms : List Arm) (c : ℕ) : Type 0 where
   pub arm : Arm
   pub there : In arm arms
@@ -22,7 +23,8 @@ pub record Decided (own : Bool) (f : Arm → ℕ) (arms : List Arm) (c : ℕ) : 
   pub least : (b : Arm) → In b arms → counts_for own b ≡ true → is_of own (f b) ≡ true → f arm ≤ f b
   pub code : c ≡ f arm + 2
 
--- all counted arms are of the settling kind, and c rests on the greatest, or on none
+-- No arm is left: all counted arms are of the settling kind, which is the other one, and c is one
+-- ply beyond the greatest of their codes, or 3 where no arm counts.
 pub record Exhausted (own : Bool) (f : Arm → ℕ) (arms : List Arm) (c : ℕ) : Type 0 where
   pub most : ℕ
   pub each : (b : Arm) → In b arms → counts_for own b ≡ true →
@@ -41,8 +43,8 @@ pub record Held (own : Bool) (f : Arm → ℕ) (arms : List Arm) : Type 0 where
 abbrev pub IsSettled : Bool → (Arm → ℕ) → List Arm → ℕ → Type 0
 IsSettled own f arms c = Decided own f arms c ⊎ Exhausted own f arms c
 
--- what the exits of a number give in the end: the code that it settles with by a deciding exit,
--- else by its settling ones
+-- what the exits of a number alone give it in the end: the code that it settles with by a deciding
+-- exit, else by its settling ones, or 0
 pub record IsLater (own : Bool) (side : Colour) (arms : List Arm) (later : ℕ) : Type 0 where
   pub deciding : (a : Arm) → In a arms → counts_for own a ≡ true → (v : _) → a.next ≡ Outside v →
       is_of own (value_code side v) ≡ true →
@@ -54,7 +56,8 @@ pub record IsLater (own : Bool) (side : Colour) (arms : List Arm) (later : ℕ) 
       ⊎ ((a : Arm) × (v : _) × In a arms × (counts_for own a ≡ true) × (a.next ≡ Outside v)
       × (2 ≤ value_code side v) × (later ≡ value_code side v + 2))
 
--- what no longer waits: an exit of the settling kind, or a number of that kind that is done
+-- whether an arm to this place is no longer waited for: an exit of the settling kind, or a number
+-- of that kind that is done
 abbrev pub is_off : Bool → (ℕ → Bool) → Colour → List ℕ → Next → Bool
 is_off own done side E (Inside q) = done q && is_of (not own) (get_or E q 0)
 is_off own done side E (Outside v) = is_of (not own) (value_code side v)
@@ -62,7 +65,8 @@ is_off own done side E (Outside v) = is_of (not own) (value_code side v)
 abbrev pub waits : Bool → (ℕ → Bool) → Colour → List ℕ → Arm → Bool
 waits own done side E a = counts_for own a && not (is_off own done side E a.next)
 
--- an open number: its counter, and when its exits are due
+-- an open number: its counter is how many arms it waits for, and its exits settle it with no code
+-- below bar
 pub record IsOpen (own : Bool) (side : Colour) (arms : List Arm) (done : ℕ → Bool) (bar : ℕ)
     (E : List ℕ) (count later : ℕ) : Type 0 where
   pub counter : count ≡ how_many (waits own done side E) arms
@@ -72,8 +76,8 @@ pub record IsOpen (own : Bool) (side : Colour) (arms : List Arm) (done : ℕ →
   pub due : is_of own later ≡ true → bar ≤ later
   pub last : count ≡ 0 → bar ≤ later
 
--- In pass k: the entries E, the counters C and what the exits give L; done i q says that q no
--- longer waits to be met by i.
+-- The lists in pass k: the entries E, the counters C, and L, what the exits alone give; done i q
+-- says that i no longer waits to meet q.
 pub record State (B : Shape) (side : Colour) (k : ℕ) (bar : ℕ → ℕ) (done : ℕ → ℕ → Bool)
     (E C L : List ℕ) : Type 0 where
   -- broken numbers, mates and stalemates

@@ -17,8 +17,8 @@ pub record Tally : Type 0 where
   pub queue : List ℕ
   pub tail : ℕ
 
--- a number begins with an entry, waits for so many arms, and its exits give this code in the end;
--- where it is settled, it stands at the queue's end
+-- number i begins with an entry, waits for count arms, and its exits alone give it the code later
+-- in the end; where the entry settles it, it stands at the queue's end
 abbrev pub begun_at : Tally → ℕ → ℕ → ℕ → ℕ → Tally
 begun_at t i entry count later = record {
   codes = slice_set t.codes i entry;
@@ -28,7 +28,7 @@ begun_at t i entry count later = record {
   tail = if nat_le 2 entry then t.tail + 1 else t.tail;
 }
 
--- a number is settled by a code, and stands at the queue's end
+-- number i is settled by a code, and stands at the queue's end
 abbrev pub settled : Tally → ℕ → ℕ → Tally
 settled t i code = record {
   codes = slice_set t.codes i code;
@@ -38,7 +38,7 @@ settled t i code = record {
   tail = t.tail + 1;
 }
 
--- an open number waits for one arm less
+-- number i waits for one arm less
 abbrev pub counted_down : Tally → ℕ → Tally
 counted_down t i = record {
   codes = t.codes;
@@ -56,36 +56,37 @@ abbrev pub HasBegun : Arena Step ℕ Value → ℕ → Colour → ℕ → Tally 
 HasBegun arena size side n t =
     Begun (shape_of arena size) side n t.codes t.counts t.later t.queue t.tail
 
--- Pass k, where the exits of the first n numbers have been looked at: mid stood in the queue when
--- the pass began, and done i q says that i no longer waits to meet q.
+-- The tally in pass k, where the exits of the first n numbers have been looked at: mid numbers
+-- stood in the queue when the pass began, and done i q says that i no longer waits to meet q.
 abbrev pub InPass :
     Arena Step ℕ Value → ℕ → Colour → ℕ → ℕ → ℕ → (ℕ → ℕ → Bool) → Tally → Type 0
 InPass arena size side k n mid done t =
     Work (shape_of arena size) side k mid (bar_at k n) done t.codes t.counts t.later t.queue t.tail
 
--- the same, whatever stood in the queue and was met
+-- the tally in pass k, for some mid and some done
 abbrev pub IsInPass : Arena Step ℕ Value → ℕ → Colour → ℕ → ℕ → Tally → Type 0
 IsInPass arena size side k n t =
     (mid : ℕ) × (done : ℕ → ℕ → Bool) × InPass arena size side k n mid done t
 
--- the exits of n numbers had been looked at, and now those of m
+-- t becomes u: in pass k the exits of the first n numbers had been looked at, and now those of the
+-- first m
 abbrev pub LooksAt : Arena Step ℕ Value → ℕ → Colour → ℕ → ℕ → ℕ → Tally → Tally → Type 0
 LooksAt arena size side k n m t u = (mid : ℕ) (done : ℕ → ℕ → Bool) →
     InPass arena size side k n mid done t → InPass arena size side k m mid done u
 
--- q is met by a number, along its move
+-- in pass k the settled number q is about to be met by its predecessor p
 abbrev pub IsMeeting :
     Arena Step ℕ Value → ℕ → Colour → ℕ → ℕ → (ℕ → ℕ → Bool) → Tally → ℕ → Pred → Type 0
 IsMeeting arena size side k mid done t q p =
     Meeting (shape_of arena size) side k mid done t.codes t.counts t.later t.queue t.tail q p
 
--- q is to be met by each of these
+-- in pass k the settled number q is about to be met by each of its predecessors
 abbrev pub AreComing :
     Arena Step ℕ Value → ℕ → Colour → ℕ → ℕ → (ℕ → ℕ → Bool) → Tally → ℕ → List Pred → Type 0
 AreComing arena size side k mid done t q pairs =
     Coming (shape_of arena size) side k mid done t.codes t.counts t.later t.queue t.tail q pairs
 
--- What the exits give stays, and the queue grows at its end alone.
+-- From t to u what the exits give stays, and the queue grows at its end alone.
 abbrev pub Grows : Tally → Tally → Type 0
 Grows t u = (u.later ≡ t.later) × (t.tail ≤ u.tail)
     × ((j : ℕ) → j < t.tail → slice_index u.queue j ≡ slice_index t.queue j)

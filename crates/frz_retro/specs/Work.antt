@@ -1,4 +1,4 @@
--- The lists of the workshop, within and between passes.
+-- All lists of the solver together, within and between passes.
 use Rattle.std.specs.Prelude.{◌≡◌, ◌≢◌, ℕ, zero, suc, ◌+◌, ◌*◌, ◌<◌, ◌≤◌, ◌^◌, Bool, true, false, not, cond, nat_lt, ◌==◌, ◌&&◌, ◌||◌, List, [], ◌∷◌, length, get_or}
 use Rattle.std.specs.List.{list_any}
 use Rattle.frz_retro.specs.Shape.{Shape, Leads, ArePreds}
@@ -13,8 +13,8 @@ abbrev pub ones : List ℕ → ℕ
 ones [] = 0
 ones (c ∷ cs) = cond (c == 1) 1 0 + ones cs
 
--- The queue's front of this many numbers: each number settled as a win or a failure, once. Those
--- below mid have plies below k, the others k.
+-- The first tail places of the queue Q hold each number that is settled as a win or a failure,
+-- once. Those below mid have fewer plies than k, the others have k.
 pub record Queue (k mid : ℕ) (E Q : List ℕ) (tail : ℕ) : Type 0 where
   pub room : tail + ones E ≤ length Q
   pub each : (t : ℕ) → t < tail → 2 ≤ get_or E (get_or Q t 0) 0
@@ -23,24 +23,25 @@ pub record Queue (k mid : ℕ) (E Q : List ℕ) (tail : ℕ) : Type 0 where
   pub found : (q : ℕ) → 2 ≤ get_or E q 0 → (t : ℕ) × (t < tail) × (get_or Q t 0 ≡ q)
   pub once : (s t : ℕ) → s < tail → t < tail → get_or Q s 0 ≡ get_or Q t 0 → s ≡ t
 
--- due passes: those of the first s numbers are above k
+-- in pass k, where the first s numbers have been looked at: below this code the exits of number i
+-- are no longer due
 abbrev pub bar_at : ℕ → ℕ → ℕ → ℕ
 bar_at k s i = cond (nat_lt i s) (4 + 2 * k) (2 + 2 * k)
 
--- whether q is among the first numbers of the queue
+-- whether q is among the first so many numbers of the queue
 abbrev pub done_by : List ℕ → ℕ → ℕ → Bool
 done_by Q zero q = false
 done_by Q (suc h) q = (get_or Q h 0 == q) || done_by Q h q
 
--- to each number alike
+-- which numbers q are done for number i: those at the front of the queue, whatever i is
 abbrev pub done_in : List ℕ → ℕ → ℕ → ℕ → Bool
 done_in Q h i q = done_by Q h q
 
--- the same while q's pairs are gone through, and these are left
+-- what is done while the predecessors of q are gone through, and the pairs of rest are left
 abbrev pub done_mid : (ℕ → ℕ → Bool) → ℕ → List Pred → ℕ → ℕ → Bool
 done_mid done q rest i p = done i p || ((q == p) && not (list_any (λ r. r.number == i) rest))
 
--- each list is exactly as long as the size
+-- each of the four lists has exactly n items
 pub record Sized (n : ℕ) (E C L Q : List ℕ) : Type 0 where
   pub codes : length E ≡ n
   pub counts : length C ≡ n
@@ -56,7 +57,7 @@ pub record Work (B : Shape) (side : Colour) (k mid : ℕ) (bar : ℕ → ℕ) (d
   pub within : mid ≤ tail
   pub ended : (i : ℕ) → i < B.size → ((c : Colour) → B.arena.node i ≢ Going c) → get_or L i 0 ≡ 0
 
--- q is met by i, along an arm with this move
+-- in pass k the settled number q is about to be met by its predecessor p
 pub record Meeting (B : Shape) (side : Colour) (k mid : ℕ) (done : ℕ → ℕ → Bool) (E C L Q : List ℕ)
     (tail q : ℕ) (p : Pred) : Type 0 where
   pub work : Work B side k mid (bar_at k B.size) done E C L Q tail
@@ -66,13 +67,13 @@ pub record Meeting (B : Shape) (side : Colour) (k mid : ℕ) (done : ℕ → ℕ
   pub inside : p.number < B.size
   pub leads : Leads B p q
 
--- what is done besides: that i has met q
+-- more is done, with one meeting added: i has met q
 pub record Meets (done more : ℕ → ℕ → Bool) (i q : ℕ) : Type 0 where
   pub others : (j p : ℕ) → j ≢ i → more j p ≡ done j p
   pub same : (p : ℕ) → p ≢ q → more i p ≡ done i p
   pub now : more i q ≡ true
 
--- q is to be met by each number with an arm to it
+-- in pass k the settled number q is about to be met by each of its predecessors
 pub record Coming (B : Shape) (side : Colour) (k mid : ℕ) (done : ℕ → ℕ → Bool) (E C L Q : List ℕ)
     (tail q : ℕ) (pairs : List Pred) : Type 0 where
   pub work : Work B side k mid (bar_at k B.size) done E C L Q tail
@@ -81,7 +82,7 @@ pub record Coming (B : Shape) (side : Colour) (k mid : ℕ) (done : ℕ → ℕ 
   pub old : get_or E q 0 < 2 + 2 * k
   pub preds : ArePreds B q pairs
 
--- the first of these numbers have begun, and the others have the entry 1
+-- the first n numbers have begun, and the others have the entry 1
 pub record Begun (B : Shape) (side : Colour) (n : ℕ) (E C L Q : List ℕ) (tail : ℕ) : Type 0 where
   pub begun : (i : ℕ) → i < n →
       IsBegun side (B.arena.node i) (B.arena.arms i) (get_or E i 0) (get_or C i 0) (get_or L i 0)

@@ -1,4 +1,4 @@
-//! Pass 0: what each number is by itself.
+//! Pass 0 of the solver: the entry, counter and due code that each number begins with.
 
 ghost use Rattle.std.specs.Prelude.{◌≡◌, ◌≢◌, ◌⊎◌, ℕ, ◌+◌, ◌<◌, ◌≤◌, length, slice_index};
 ghost use Rattle.frz_board.specs.Men.{other_of};
@@ -14,7 +14,7 @@ use frz_graph::Lists;
 use frz_steps::Steps;
 use std::sync::ledger::Ledger;
 
-/// A number begins as its note says.
+/// Enters number `i` into the tally as its note says.
 fn begin<G: Graph<L>, L: Ledger>(_graph: &G, side: Colour, i: u32, note: Note, tally: &mut Tally)
     requires inside { i < G.count _graph.now }
     requires noted { IsNoteOf side ((G.arena _graph.now).node i) ((G.arena _graph.now).arms i)
@@ -28,7 +28,7 @@ fn begin<G: Graph<L>, L: Ledger>(_graph: &G, side: Colour, i: u32, note: Note, t
     tally.begin(i, note.entry(), note.count, note.later());
 }
 
-/// The notes of a number for the side and for the other one.
+/// The notes of a number for `side` and for the other side, from one listing of its moves.
 fn notes_of<G: Graph<L>, L: Ledger>(
     graph: &G,
     side: Colour,
@@ -50,8 +50,8 @@ fn notes_of<G: Graph<L>, L: Ledger>(
     (note_of(node, side, arms), note_of(node, side.other(), arms))
 }
 
-/// All numbers begin, and what they begin with for the other side is written down. The answer is the
-/// last due code.
+/// Begins all numbers for `side`, and writes into `notes` what they begin with for the other side.
+/// The answer is the greatest code that exits alone give a number, at most 2004, or 0.
 pub fn begin_all<G: Graph<L>, L: Ledger>(
     graph: &G,
     side: Colour,
@@ -85,7 +85,8 @@ pub fn begin_all<G: Graph<L>, L: Ledger>(
     last
 }
 
-/// All numbers begin as their notes say. The answer is the last due code.
+/// Begins all numbers for `side` from its notes, without listing moves. The answer is the greatest
+/// code that exits alone give a number, at most 2004, or 0.
 pub fn begin_noted<G: Graph<L>, L: Ledger>(
     graph: &G,
     side: Colour,

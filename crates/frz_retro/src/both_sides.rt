@@ -1,4 +1,4 @@
-//! The lists of a solver of both sides, the second of which begins as the first one's walk tells.
+//! The lists of a solver that solves a game for one side and then, from kept notes, for the other.
 
 ghost use Rattle.std.specs.Prelude.{◌≡◌, ◌+◌, ◌*◌, ◌≤◌, length, IfOk};
 ghost use Rattle.frz_arena.specs.Tables.{IsExact};
@@ -25,8 +25,8 @@ use std::alloc::Global;
 use std::marker::Model;
 use std::sync::ledger::Ledger;
 
-/// The lists of a solver, each exactly as long as the numbers are many, for both sides one after the
-/// other.
+/// The lists of a solver that serves both sides of a game, one after the other. They hold, for each
+/// number, its entry for the side that is solved and a note of what it begins with for the other.
 #[derive(Drop)]
 pub struct BothSides {
     tally: Tally,
@@ -47,7 +47,8 @@ impl Model for BothSides {
 }
 
 impl BothSides {
-    /// Lists for so many numbers, which take 16 bytes for each of them and those of [`Preds`].
+    /// Allocates the lists for `size` numbers: 16 bytes for each number, and those of [`Preds`]. It
+    /// answers [`NoMemory`] if memory runs out.
     pub fn new(alloc: Global, size: u32) -> Result<BothSides, NoMemory>
         ensures { IfOk result (λ b. length b.entries ≡ size) }
     {
@@ -59,7 +60,8 @@ impl BothSides {
         })
     }
 
-    /// Solves the game for the side, and keeps what the other side's numbers begin with.
+    /// Solves the game for `side`, and keeps notes of what each number begins with for the other
+    /// side, so that `run_second` can follow. It takes at most two steps a number.
     pub fn run<G: Graph<L>, L: Ledger>(&mut self, graph: &G, side: Colour, steps: &mut Steps<L>)
         requires sound { G.sound graph.now }
         requires size { length self.old.entries ≡ G.count graph.now }
@@ -80,7 +82,8 @@ impl BothSides {
         );
     }
 
-    /// Solves the game for the side of which it is kept what its numbers begin with.
+    /// Solves the game for `side` from the notes that `run` kept for it, when it solved the game
+    /// for the other side. It takes at most one step a number.
     pub fn run_second<G: Graph<L>, L: Ledger>(
         &mut self,
         graph: &G,
@@ -105,8 +108,8 @@ impl BothSides {
         );
     }
 
-    /// Solves the game of sound rules for the side: the entries become the codes of its bounds, and
-    /// 0 at broken numbers.
+    /// Solves the game of sound rules for `side`, as `run` does: the entries become the codes of
+    /// its bounds, and 0 at broken numbers.
     pub fn run_game<B: ExitBook, L: Ledger>(
         &mut self,
         game: &Game<'_, B>,
@@ -127,7 +130,8 @@ impl BothSides {
         self.run(&GameGraph::new(game), side, steps);
     }
 
-    /// The same for the side of which it is kept what its numbers begin with.
+    /// Solves the game of sound rules for the side of which `run_game` kept the notes, as
+    /// `run_second` does: the entries become the codes of its bounds, and 0 at broken numbers.
     pub fn run_game_second<B: ExitBook, L: Ledger>(
         &mut self,
         game: &Game<'_, B>,

@@ -1,4 +1,4 @@
-//! Numbers that settle by their exits, in the pass in which these are due.
+//! Numbers that settle by their exits alone, each in the pass of the plies that these exits give.
 
 ghost use Rattle.std.specs.Prelude.{◌≡◌, ℕ, ◌+◌, ◌<◌, ◌≤◌, slice_index};
 ghost use Rattle.frz_retro.specs.Tallies.{Grows, IsInPass, LooksAt};
@@ -9,7 +9,8 @@ use crate::tally::Tally;
 use frz_board::Colour;
 use std::sync::ledger::Ledger;
 
-/// A number settles if the due pass of its exits is this one.
+/// Settles an open number in pass `k` if its exits are due: the code that they give has `k` plies,
+/// and it is of the deciding kind or the number waits for no further move.
 pub fn settle_if_due<G: Graph<L>, L: Ledger>(
     graph: &G,
     side: Colour,
@@ -45,7 +46,7 @@ pub fn settle_if_due<G: Graph<L>, L: Ledger>(
     tally.settle(i, code);
 }
 
-/// The numbers whose exits are due in this pass settle.
+/// Settles each number whose exits are due in pass `k`.
 pub fn settle_due<G: Graph<L>, L: Ledger>(graph: &G, side: Colour, k: u32, tally: &mut Tally)
     requires sound { G.sound graph.now }
     requires work { IsInPass (G.arena graph.now) (G.count graph.now) side k 0 tally.old }
@@ -58,7 +59,7 @@ pub fn settle_due<G: Graph<L>, L: Ledger>(graph: &G, side: Colour, k: u32, tally
     }
 }
 
-/// The same, with no look at the numbers once all due passes are over.
+/// As [`settle_due`], without the scan once all due passes are over.
 pub fn settle_late<G: Graph<L>, L: Ledger>(
     graph: &G,
     side: Colour,

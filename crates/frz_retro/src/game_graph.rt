@@ -1,4 +1,4 @@
-//! The game of some rules as a graph.
+//! The restricted game of rules as a graph that the solver walks forward and backward.
 
 ghost use Rattle.std.specs.Prelude.{◌≡◌};
 ghost use Rattle.std.specs.List.{list_any};
@@ -21,14 +21,14 @@ use frz_steps::Steps;
 use frz_unmove::{Preds, unmoves};
 use std::sync::ledger::Ledger;
 
-/// Whether a forbid line of the rules is the side's.
+/// Whether the rules have a forbid line for `side`.
 fn is_restricted(rules: &Rules, side: Colour) -> bool
     ensures { result ≡ list_any (λ line. same_colour line.colour side) rules.now.forbids }
 {
     rules.forbids.iter().any(|line| line.colour == side)
 }
 
-/// The restricted game of rules, with its moves taken back.
+/// The restricted game of rules as a [`Graph`]: its legal moves, and these moves taken back.
 #[derive_where(Clone, Copy)]
 pub struct GameGraph<'a, B: ExitBook> {
     pub game: &'a Game<'a, B>,

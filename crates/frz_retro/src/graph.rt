@@ -1,4 +1,4 @@
-//! What the solver by passes asks of a game.
+//! What the retrograde solver asks of a game.
 
 ghost use Rattle.std.specs.Prelude.{◌≡◌, ◌≢◌, ◌↔◌, ℕ, ◌+◌, ◌<◌, Some};
 ghost use Rattle.std.specs.List.{Contains};
@@ -14,9 +14,10 @@ use frz_steps::Steps;
 use frz_unmove::Preds;
 use std::sync::ledger::Ledger;
 
-/// A restricted game over numbers that tells its moves backwards too.
+/// A restricted game over numbers that lists the predecessors of a number too.
 pub trait Graph<L: Ledger>: NumberedGame<L> {
-    /// Leaves the numbers from which a move leads to this one, each with that move.
+    /// Leaves in `out` the predecessors of number `q`, each once, with the move that leads from it
+    /// to `q`. The number is not broken. This takes one step.
     fn preds(&self, q: u32, out: &mut Preds, steps: &mut Steps<L>)
         requires sound { Self.sound self.now }
         requires inside { q < Self.count self.now }
@@ -26,14 +27,14 @@ pub trait Graph<L: Ledger>: NumberedGame<L> {
         ensures once { HaveDifferentNumbers out.new }
         ensures step { steps.new ≡ steps.old + 1 };
 
-    /// Who is to move.
+    /// Who is to move at number `i`, which is not broken.
     fn mover(&self, i: u32) -> Colour
         requires sound { Self.sound self.now }
         requires inside { i < Self.count self.now }
         requires whole { (Self.arena self.now).node i ≢ Broken }
         ensures { mover_of ((Self.arena self.now).node i) ≡ Some result };
 
-    /// Whether a move of the number is free.
+    /// Whether `mv`, a legal move at number `i`, is free, that is, not renounced by the mover.
     fn free(&self, i: u32, mv: Move) -> bool
         requires sound { Self.sound self.now }
         requires inside { i < Self.count self.now }

@@ -1,5 +1,5 @@
-//! A fast solver of the restricted game over any graph of numbers: backwards, pass by pass, from
-//! the numbers that are settled to those that lead to them.
+//! Retrograde analysis of the restricted game over any graph of numbers: pass by pass, from the
+//! numbers that are settled to their predecessors.
 #![tactic(auto)]
 
 mod beginning;

@@ -1,4 +1,4 @@
-//! What settles a number gives its local code.
+//! A law: where the solver's conditions settle a number, they give its local code.
 
 ghost use Rattle.std.specs.Prelude.{◌≡◌, ℕ, List};
 ghost use Rattle.frz_board.specs.Moving.{Step};
@@ -12,7 +12,8 @@ use frz_arena::laws::local::{opponent_codes, own_codes};
 use frz_board::Move;
 use frz_sets::Value;
 
-/// A number that is settled has its local code, and one that stays open to the end has 1.
+/// A number that is settled has its local code, and a number that stays open to the end has the
+/// local code 1.
 pub fn local_codes()
     ensures { (arena : Arena Step ℕ values.Value) (size : ℕ) → IsFinite arena size →
         (side : colours.Colour) (entries : List ℕ) → GivesLocalCodes arena side entries }

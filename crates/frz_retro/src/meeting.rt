@@ -1,4 +1,4 @@
-//! Numbers that meet one that was settled in the pass before.
+//! The predecessors of a number that was settled in the pass before, and what it means for each.
 
 ghost use Rattle.std.specs.Prelude.{◌≡◌, ℕ, Bool, ◌<◌, ◌≤◌, ◌||◌, ◌==◌, slice_index};
 ghost use Rattle.frz_retro.specs.Graphs.{Arm};
@@ -13,7 +13,8 @@ use frz_board::Colour;
 use frz_unmove::Pred;
 use std::sync::ledger::Ledger;
 
-/// Whether an arm counts: a free one where the side moves, else each.
+/// Whether the move of `pred` counts. Where the side that is solved moves (`own`) only a free move
+/// counts, and where its opponent moves every legal move does.
 pub fn is_counted<G: Graph<L>, L: Ledger>(graph: &G, own: bool, pred: &Pred) -> bool
     requires sound { G.sound graph.now }
     requires inside { pred.now.number < (G.count graph.now) }
@@ -29,7 +30,9 @@ pub fn is_counted<G: Graph<L>, L: Ledger>(graph: &G, own: bool, pred: &Pred) -> 
     }
 }
 
-/// A number meets one that was settled in the pass before.
+/// The predecessor `pred` meets its successor `q`, which was settled in the pass before. An open
+/// predecessor settles one ply later than `q` if `q` decides it, or if `q` is the last successor
+/// that it waits for and its exits take no longer.
 pub fn meet<G: Graph<L>, L: Ledger>(graph: &G, side: Colour, q: u32, pred: &Pred, tally: &mut Tally)
     requires sound { G.sound graph.now }
     requires meeting { (k mid : ℕ) × (done : ℕ → ℕ → Bool)
@@ -67,7 +70,7 @@ pub fn meet<G: Graph<L>, L: Ledger>(graph: &G, side: Colour, q: u32, pred: &Pred
     tally.settle(i, code + 2);
 }
 
-/// Each number with an arm to q meets it.
+/// Each predecessor of `q` meets `q`.
 pub fn go_through<G: Graph<L>, L: Ledger>(
     graph: &G,
     side: Colour,

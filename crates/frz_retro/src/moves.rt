@@ -1,4 +1,4 @@
-//! The moves of the game of some rules, in the words of chess.
+//! A law: what the moves of the game over numbers are in chess.
 
 ghost use Rattle.std.specs.Prelude.{◌≡◌, ◌≢◌, ◌↔◌, ℕ, true, Some};
 ghost use Rattle.frz_board.specs.Boards.{Board};
@@ -16,8 +16,9 @@ ghost use Rattle.frz_retro.specs.Graphs.{Arm, IsMoveTo, mover_of};
 use frz_fide::laws::all_listed;
 use frz_game::laws::numbers::membership;
 
-/// A number that is not broken is that of a position with its mover; its moves inside are the legal
-/// moves to positions of the set; and a move is free where the rules leave it so.
+/// A number that is not broken belongs to a position with the same side to move. Its moves inside
+/// the set are the legal moves to positions of the set, and a move is free where the rules leave it
+/// free.
 pub fn game_moves()
     ensures there { (rules : RuleLines) (value : Board → Value) (i : ℕ) →
         (graph_by rules value).node i ≢ Broken →

@@ -1,4 +1,4 @@
-//! What a number begins with, kept in short, so that both sides begin with one walk over the moves.
+//! What a number begins with, kept in 4 bytes, so that one listing of its moves serves both sides.
 
 ghost use Rattle.std.specs.Prelude.{◌≡◌, ◌≤◌, length};
 ghost use Rattle.frz_arena.specs.declared.node.Node.TheVariants.{Going};
@@ -14,18 +14,18 @@ use frz_arena::Node;
 use frz_board::Colour;
 use frz_graph::Arm;
 
-/// What a number begins with.
+/// What a number begins with for one side.
 #[derive(Clone, Copy, Debug)]
 pub struct Note {
-    /// For how many arms it waits, if it is open.
+    /// How many arms (legal moves that count) the number waits for, if it is open.
     pub count: u16,
-    /// The entry that it begins with, or from 4 on, of an open number, the code that its exits give
-    /// in the end.
+    /// Below 4, the entry that the number begins with. From 4 on the number is open, its entry is
+    /// 1, and this is the code that its exits alone give it in the end.
     pub code: u16,
 }
 
 impl Note {
-    /// The entry.
+    /// The entry that the number begins with: 0 broken, 1 open or stalemate, 2 a win, 3 a failure.
     pub fn entry(self) -> u32
         ensures { result ≡ entry_in self.code }
     {
@@ -36,7 +36,7 @@ impl Note {
         }
     }
 
-    /// The code that the exits give in the end, or 0.
+    /// The code that the number's exits alone give it in the end, or 0 if they give none.
     pub fn later(self) -> u16
         ensures { result ≡ later_in self.code }
     {
@@ -61,7 +61,7 @@ fn going(own: bool, side: Colour, arms: &[Arm]) -> Note
     }
 }
 
-/// The note of a number with this node and these arms.
+/// The note of a number for `side`, from what the number is and its legal moves.
 pub fn note_of(node: Node, side: Colour, arms: &[Arm]) -> Note
     requires few { length arms.now ≤ 1024 }
     requires short { (a : Arm) → In a arms.now → AreShort a.next }

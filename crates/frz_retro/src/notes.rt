@@ -1,4 +1,4 @@
-//! The notes of all numbers.
+//! The notes of all numbers for one side.
 
 ghost use Rattle.std.specs.Prelude.{◌≡◌, ◌<◌, IfOk, length, slice_index, slice_set};
 ghost use Rattle.frz_retro.specs.Notes.{HasRoom};
@@ -9,8 +9,8 @@ use frz_board::NoMemory;
 use std::alloc::Global;
 use std::marker::Model;
 
-/// What each number begins with for one side. Solving the other side's game writes it down, so that
-/// this side's game begins without a second walk over the moves.
+/// What each number begins with for one side. The run that solves the other side's game writes the
+/// notes, so that this side's game begins without listing the moves again.
 #[derive(Drop)]
 pub struct Notes {
     counts: Vec<u16>,
@@ -29,7 +29,7 @@ impl Model for Notes {
 }
 
 impl Notes {
-    /// Room for the notes of so many numbers, which takes 4 bytes for each of them.
+    /// Allocates room for the notes of `size` numbers, 4 bytes for each.
     pub fn new(alloc: Global, size: u32) -> Result<Notes, NoMemory>
         ensures { IfOk result (λ n. HasRoom size n) }
     {

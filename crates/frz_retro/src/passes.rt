@@ -1,4 +1,4 @@
-//! The passes.
+//! The passes of the solver: pass `k` settles the numbers whose bounds have `k` plies.
 
 ghost use Rattle.std.specs.Prelude.{◌≡◌, ℕ, ◌+◌, ◌-◌, ◌*◌, ◌<◌, ◌≤◌, length, slice_index};
 ghost use Rattle.frz_arena.specs.Tables.{IsExact};
@@ -20,8 +20,9 @@ use frz_steps::Steps;
 use frz_unmove::Preds;
 use std::sync::ledger::Ledger;
 
-/// One pass: what its due numbers and the numbers of the pass before settle. Those stand in the
-/// queue from the head on.
+/// Pass `k`: it settles the numbers whose exits are due, and then those predecessors that the
+/// numbers of the pass before settle. The numbers of the pass before stand in the queue from `head`
+/// on. No code that exits give is above `last`.
 pub fn pass<G: Graph<L>, L: Ledger>(
     graph: &G,
     side: Colour,
@@ -52,7 +53,8 @@ pub fn pass<G: Graph<L>, L: Ledger>(
     }
 }
 
-/// All passes, from the numbers that begin settled.
+/// Runs all passes, from the numbers that begin settled, until the queue has no further number and
+/// no exit is still due. No code that exits give is above `last`.
 pub fn passes<G: Graph<L>, L: Ledger>(
     graph: &G,
     side: Colour,
@@ -82,8 +84,8 @@ pub fn passes<G: Graph<L>, L: Ledger>(
     }
 }
 
-/// Solves the game for the side, in a tally of its size. What the numbers begin with for the other
-/// side is written down.
+/// Solves the game for `side`, in a tally of the game's size, and writes into `notes` what the
+/// numbers begin with for the other side.
 pub fn solve<G: Graph<L>, L: Ledger>(
     graph: &G,
     side: Colour,
@@ -106,8 +108,8 @@ pub fn solve<G: Graph<L>, L: Ledger>(
     passes(graph, side, last, tally, preds, steps);
 }
 
-/// Solves the game for the side, in a tally of its size, where it is written down what the numbers
-/// begin with.
+/// Solves the game for `side`, in a tally of the game's size, from the notes of what the numbers
+/// begin with for it.
 pub fn solve_noted<G: Graph<L>, L: Ledger>(
     graph: &G,
     side: Colour,

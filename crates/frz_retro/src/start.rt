@@ -1,4 +1,4 @@
-//! What the arms of a number say before any number is settled.
+//! What the legal moves of a number say before any number is settled.
 
 ghost use Rattle.std.specs.Prelude.{◌≡◌, ◌+◌, ◌^◌, ◌<◌, ◌≤◌, length};
 ghost use Rattle.frz_retro.specs.Graphs.{Arm};
@@ -10,12 +10,14 @@ use crate::kinds::is_kind;
 use frz_board::Colour;
 use frz_graph::{Arm, Next, exit_code};
 
-/// What the arms of a number say before any number is settled.
+/// What the arms (legal moves) of a number say before any number is settled. A single arm of the
+/// deciding kind settles the number: a win where the side moves, a failure where its opponent does.
+/// The settling kind is the other one: it settles the number where all arms that count are of it.
 #[derive(Clone, Copy, Debug)]
 pub struct Start {
-    /// Whether an arm counts.
+    /// Whether at least one arm counts.
     pub any: bool,
-    /// The counted arms but for exits of the settling kind.
+    /// How many counted arms are not exits of the settling kind: the number waits for these.
     pub count: u32,
     /// The least code of a counted exit of the deciding kind, or 0.
     pub least: u32,
@@ -23,7 +25,7 @@ pub struct Start {
     pub most: u32,
 }
 
-/// One more counted arm, by its code.
+/// Adds a counted arm that leads to an exit of this code. `own` says that the side itself moves.
 pub fn after_code(own: bool, s: Start, code: u32) -> Start
     requires count { s.count < 2 ^ 31 }
     ensures value { result ≡ after_code own s code }
@@ -82,7 +84,7 @@ pub fn after_arm(own: bool, side: Colour, s: Start, arm: &Arm) -> Start
     }
 }
 
-/// What the arms say, from the last to the first.
+/// What all arms of a number say, taken from the last to the first.
 pub fn start_of(own: bool, side: Colour, arms: &[Arm]) -> Start
     requires few { length arms.now < 2 ^ 30 }
     requires short { (a : Arm) → In a arms.now → AreShort a.next }
@@ -105,7 +107,8 @@ pub fn start_of(own: bool, side: Colour, arms: &[Arm]) -> Start
     s
 }
 
-/// The code that exits alone give in the end, or 0.
+/// The code that its exits alone give the number in the end, one ply beyond the exit that it rests
+/// on, or 0 if they give none.
 pub fn later_of(s: Start) -> u32
     requires least { s.least ≤ 2002 }
     requires most { s.most ≤ 2002 }

@@ -8,18 +8,18 @@ use frz_board::NoMemory;
 use std::alloc::Global;
 use std::marker::Model;
 
-/// What the solver keeps of the numbers: four lists, each exactly as long as the numbers are many.
+/// What the solver keeps of the numbers: four lists, each with one place for each number.
 #[derive(Drop)]
 pub struct Tally {
     /// The entry of each number: 1 while it is open.
     codes: Vec<u32>,
-    /// For how many arms each open number waits.
+    /// How many arms (legal moves that count) each open number still waits for.
     counts: Vec<u16>,
-    /// The code that the exits of each number give in the end, or 0.
+    /// The code that its exits alone give each number in the end, or 0.
     later: Vec<u16>,
     /// The numbers that are settled as wins or failures, in the order of their plies.
     queue: Vec<u32>,
-    /// How many stand in the queue.
+    /// How many numbers stand in the queue.
     tail: usize,
 }
 
@@ -42,7 +42,7 @@ impl Model for Tally {
         × (vec_len t.later ≡ vec_len t.codes) };
 }
 
-/// A list of so many zeros.
+/// A list of `size` zeros.
 fn zeros(alloc: Global, size: u32) -> Result<Vec<u32>, NoMemory>
     ensures { IfOk result (λ list. vec_len list ≡ size) }
 {
@@ -52,7 +52,7 @@ fn zeros(alloc: Global, size: u32) -> Result<Vec<u32>, NoMemory>
     }
 }
 
-/// The same, of half the size.
+/// A list of `size` zeros in 16 bits each, half of what `zeros` takes.
 pub fn short_zeros(alloc: Global, size: u32) -> Result<Vec<u16>, NoMemory>
     ensures { IfOk result (λ list. vec_len list ≡ size) }
 {
@@ -62,7 +62,7 @@ pub fn short_zeros(alloc: Global, size: u32) -> Result<Vec<u16>, NoMemory>
     }
 }
 
-/// Each item becomes this one.
+/// Sets each item of the list to `item`.
 fn fill(list: &mut [u32], item: u32)
     ensures each { (i : ℕ) → i < length list.old → slice_index list.new i ≡ item }
 {
@@ -72,7 +72,7 @@ fn fill(list: &mut [u32], item: u32)
 }
 
 impl Tally {
-    /// A tally of so many numbers, which takes 12 bytes for each of them.
+    /// Allocates a tally for `size` numbers, 12 bytes for each.
     pub fn new(alloc: Global, size: u32) -> Result<Tally, NoMemory>
         ensures { IfOk result (λ t. length t.codes ≡ size) }
     {
@@ -85,7 +85,7 @@ impl Tally {
         })
     }
 
-    /// Every number is open, and the queue is empty.
+    /// Makes every number open and the queue empty.
     pub fn reset(&mut self)
         ensures codes { (i : ℕ) → i < length self.old.codes → slice_index self.new.codes i ≡ 1 }
         ensures tail { self.new.tail ≡ 0 }
@@ -95,7 +95,7 @@ impl Tally {
         self.tail = 0;
     }
 
-    /// The entries.
+    /// The entries, in order of number.
     pub fn codes(&self) -> &[u32]
         ensures { result.now ≡ self.now.codes }
     {
@@ -110,7 +110,7 @@ impl Tally {
         self.codes[i as usize]
     }
 
-    /// For how many arms an open number waits.
+    /// How many arms number `i`, if it is open, still waits for.
     pub fn count(&self, i: u32) -> u32
         requires { i < length self.now.codes }
         ensures { result ≡ slice_index self.now.counts i }
@@ -118,7 +118,7 @@ impl Tally {
         u32::from(self.counts[i as usize])
     }
 
-    /// The code that the exits of a number give in the end, or 0.
+    /// The code that its exits alone give number `i` in the end, or 0.
     pub fn later(&self, i: u32) -> u32
         requires { i < length self.now.codes }
         ensures { result ≡ slice_index self.now.later i }
@@ -126,7 +126,7 @@ impl Tally {
         u32::from(self.later[i as usize])
     }
 
-    /// How many stand in the queue.
+    /// How many numbers stand in the queue.
     pub fn tail(&self) -> usize
         ensures { result ≡ self.now.tail }
     {
@@ -141,8 +141,9 @@ impl Tally {
         self.queue[at]
     }
 
-    /// A number begins with this entry, waits for so many arms, and its exits give this code in the
-    /// end. Where the entry settles it, it stands at the queue's end.
+    /// Begins number `i` with this entry, with `count` arms to wait for, and with `later`, the code
+    /// that its exits alone give it in the end. A number that its entry settles (2 or more) joins
+    /// the queue.
     pub fn begin(&mut self, i: u32, entry: u32, count: u16, later: u16)
         requires inside { i < length self.old.codes }
         requires room { self.old.tail < length self.old.queue }
@@ -157,7 +158,7 @@ impl Tally {
         }
     }
 
-    /// A number settles: its code is entered, and it stands at the queue's end.
+    /// Settles number `i`: its code is entered, and it joins the queue.
     pub fn settle(&mut self, i: u32, code: u32)
         requires inside { i < length self.old.codes }
         requires room { self.old.tail < length self.old.queue }
@@ -168,7 +169,7 @@ impl Tally {
         self.tail += 1;
     }
 
-    /// An open number waits for one arm less.
+    /// Number `i`, which is open, waits for one arm less.
     pub fn count_down(&mut self, i: u32)
         requires inside { i < length self.old.codes }
         requires some { 0 < slice_index self.old.counts i }

@@ -1,4 +1,4 @@
-//! The lists of the solver, and a run over them.
+//! A solver whose lists are allocated once and serve many runs.
 
 ghost use Rattle.std.specs.Prelude.{◌≡◌, ◌+◌, ◌*◌, ◌≤◌, length, IfOk};
 ghost use Rattle.frz_sets.specs.Sets.{size_of};
@@ -16,8 +16,8 @@ use std::alloc::Global;
 use std::marker::Model;
 use std::sync::ledger::Ledger;
 
-/// The lists of a solver, each exactly as long as the numbers are many. One workshop serves both
-/// sides in turn, and any game of its size.
+/// A solver for games of one size, whose lists have one place for each number. One workshop serves
+/// both sides in turn, and any game of its size.
 #[derive(Drop)]
 pub struct Workshop {
     sides: BothSides,
@@ -32,8 +32,8 @@ impl Model for Workshop {
 }
 
 impl Workshop {
-    /// A workshop for so many numbers, which takes 16 bytes for each of them and those of
-    /// [`Preds`].
+    /// Allocates a workshop for `size` numbers: 16 bytes for each number, and those of [`Preds`].
+    /// It answers [`NoMemory`] if memory runs out.
     pub fn new(alloc: Global, size: u32) -> Result<Workshop, NoMemory>
         ensures { IfOk result (λ w. length w ≡ size) }
     {
@@ -42,8 +42,9 @@ impl Workshop {
         })
     }
 
-    /// Solves the game for the side: each entry becomes the side's local code of its number by
-    /// these entries. It takes no memory, and nothing of an earlier run is left.
+    /// Solves the game for `side`: each entry becomes the local code that the entries themselves
+    /// give its number. A run takes at most two steps a number, allocates nothing, and depends on
+    /// no earlier run.
     pub fn run<G: Graph<L>, L: Ledger>(&mut self, graph: &G, side: Colour, steps: &mut Steps<L>)
         requires sound { G.sound graph.now }
         requires size { length self.old ≡ G.count graph.now }
@@ -54,8 +55,9 @@ impl Workshop {
         self.sides.run(graph, side, steps);
     }
 
-    /// Solves the game of sound rules for the side: the entries become the codes of its bounds, and
-    /// 0 at broken numbers. It takes no memory, and nothing of an earlier run is left.
+    /// Solves the game of sound rules for `side`: the entries become the codes of its bounds, and 0
+    /// at broken numbers. A run takes at most two steps a number, allocates nothing, and depends on
+    /// no earlier run.
     pub fn run_game<B: ExitBook, L: Ledger>(
         &mut self,
         game: &Game<'_, B>,

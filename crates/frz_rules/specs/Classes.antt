@@ -10,7 +10,7 @@ use Rattle.frz_words.specs.Parts.{split}
 use Rattle.frz_words.specs.Numbers.{number_of}
 use Rattle.frz_words.specs.Squares.{squares_of}
 
--- this very word
+-- whether the word is this very text
 abbrev pub is : List ℕ → List ℕ → Bool
 is text word = bytes_eq word text
 

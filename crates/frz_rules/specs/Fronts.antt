@@ -7,7 +7,7 @@ use Rattle.frz_rules.specs.Grammar.{Form, fits}
 abbrev pub FrontFits : Form → List (List ℕ) → ℕ → Type 0
 FrontFits f ws n = (rest : List (List ℕ)) × (fits f (take n ws ++ rest) ≡ true)
 
--- and no more of them do
+-- n is the greatest number of first words that begin a line of the form
 pub record IsGreatestFront (f : Form) (ws : List (List ℕ)) (n : ℕ) : Type 0 where
   pub within : n ≤ length ws
   pub begins : FrontFits f ws n

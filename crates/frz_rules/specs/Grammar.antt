@@ -1,4 +1,4 @@
--- The forms of lines: classes of words one after the other. What begins a line of a form.
+-- The forms of lines, as classes of words one after the other, and what begins a line of a form.
 use Rattle.std.specs.Prelude.{ℕ, ◌+◌, Bool, true, false, ◌&&◌, ◌||◌, List, [], ◌∷◌, max, Option, is_some, if◌then◌else◌, codes}
 use Rattle.std.specs.List.{list_all}
 use Rattle.frz_words.specs.Squares.{squares_of}

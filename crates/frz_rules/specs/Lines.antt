@@ -25,7 +25,7 @@ abbrev pub all_of : {A : Type 0} → (List ℕ → Option A) → List (List ℕ)
 all_of class [] = Some []
 all_of class (w ∷ ws) = with_first (class w) (all_of class ws)
 
--- one word or more
+-- what each of the words says, where there is one word or more
 abbrev pub some_of : {A : Type 0} → (List ℕ → Option A) → List (List ℕ) → Option (List A)
 some_of class [] = None
 some_of class (w ∷ ws) = all_of class (w ∷ ws)

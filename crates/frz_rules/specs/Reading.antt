@@ -24,7 +24,7 @@ use Rattle.frz_rules.specs.Text.{◌>>=◌}
 use Rattle.frz_words.specs.Words.{words}
 use Rattle.frz_words.specs.Squares.{squares_of}
 
--- the words that are left where a line stops to fit
+-- what reading gives: a value, or the words that are left from the first that does not fit
 abbrev pub Read : Type 0 → Type 0
 Read A = Result A (List (List ℕ))
 
@@ -37,7 +37,7 @@ abbrev pub Gives : {X Y : Type 0} → (X → Y) → Result X Stop → Read Y →
 Gives view (Ok x) read = read ≡ Ok (view x)
 Gives view (Err e) read = Stops e read
 
--- the same of a function that wants no memory
+-- what a function that needs no memory returned, seen by view, is what reading gives
 abbrev pub Leaves : {X Y : Type 0} → (X → Y) → Result X Left → Read Y → Type 0
 Leaves view (Ok x) read = read ≡ Ok (view x)
 Leaves view (Err left) read = read ≡ Err (words left.0.now)
@@ -46,12 +46,12 @@ abbrev pub taken : {A : Type 0} → Option A → List ℕ → List (List ℕ) �
 taken None w ws = Err (w ∷ ws)
 taken (Some x) w ws = Ok (x, ws)
 
--- a word of a class
+-- the first word, if it is of the class, and the words behind it
 abbrev pub slot : {A : Type 0} → (List ℕ → Option A) → List (List ℕ) → Read (A × List (List ℕ))
 slot class [] = Err []
 slot class (w ∷ ws) = taken (class w) w ws
 
--- this very word
+-- the words behind the first, if the first is this very word
 abbrev pub literal : List ℕ → List (List ℕ) → Read (List (List ℕ))
 literal text [] = Err []
 literal text (w ∷ ws) = if is text w then Ok ws else Err (w ∷ ws)
@@ -113,7 +113,7 @@ abbrev pub after_wins : Colour → List (List ℕ) → Read (Value × List (List
 after_wins c [] = Err []
 after_wins c (w ∷ ws) = if is (codes "if") w then Ok (wins c, ws) else lagged c (lag_of w) w ws
 
--- what follows a colour
+-- what follows a colour in a value: `wins` or `holds`, and what ends it
 abbrev pub after_colour : Colour → List (List ℕ) → Read (Value × List (List ℕ))
 after_colour c [] = Err []
 after_colour c (w ∷ ws) =

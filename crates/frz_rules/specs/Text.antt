@@ -20,7 +20,8 @@ use Rattle.frz_sets.specs.Groups.{has_king_group}
 use Rattle.frz_rules.specs.Causes.{cause_of_group}
 use Rattle.frz_sets.specs.Sets.{size_of}
 
--- the line has no form: the word behind its longest front that begins a line of some form
+-- the cause of a line that has no form: the place of the word behind its longest front that begins
+-- a line of some form
 abbrev pub unreadable : List (List ℕ) → RulesCause
 unreadable line = causes.Word (reach line_form line + 1)
 
@@ -100,7 +101,7 @@ abbrev pub is_header : List (List ℕ) → Bool
 is_header (a ∷ b ∷ []) = is (codes "freezer") a && is (codes "1") b
 is_header _ = false
 
--- the causes of the whole text
+-- the rules, if nothing is wrong with them as a whole
 abbrev pub whole : RuleLines → Result RuleLines RulesFault
 whole r =
     if not (has_king_group r.groups White && has_king_group r.groups Black)
@@ -114,7 +115,7 @@ after_header (l ∷ ls) =
     if is_header l.1 then lines_of no_rules ls >>= whole else
     Err (record { line = l.0; cause = causes.Header })
 
--- more than 65,536 bytes
+-- the refusal of a text of more than 65,536 bytes
 abbrev pub too_long : Result RuleLines RulesFault
 too_long = Err (record { line = 0; cause = causes.TooLong })
 
@@ -131,8 +132,8 @@ abbrev pub has_known_line : List (ℕ × List (List ℕ)) → Bool
 has_known_line [] = false
 has_known_line (l ∷ ls) = is_header l.1 && first_known ls
 
--- want of memory: only where the text is within its limit, the header is right, and the first line
--- behind it begins with a known word
+-- whether memory may run out: only where the text is within its limit, the header is right, and the
+-- first line behind it begins with a known word
 unfoldable pub may_want_memory : List ℕ → Bool
 may_want_memory text =
     nat_le (length text) LONGEST_TEXT && has_known_line (significant (numbered 1 (lines text)))

@@ -1,4 +1,4 @@
-//! What is wrong with a group behind the earlier ones.
+//! Why a group line is refused behind the earlier group lines.
 ghost use Rattle.std.specs.Prelude.{◌≡◌, ◌≤◌, ◌&&◌, length};
 ghost use Rattle.std.specs.List.{list_any};
 ghost use Rattle.frz_board.specs.Men.{same_colour};
@@ -16,7 +16,7 @@ fn is_king_group(g: &Group, c: Colour) -> bool
     g.colour.is_same(c) && has_king(&g.states)
 }
 
-/// Has the colour a group with kings?
+/// Has some group of the colour a king among its states?
 pub fn some_king_group(groups: &[Group], c: Colour) -> bool
     ensures { result ≡ has_king_group groups.now c }
 {
@@ -49,7 +49,7 @@ fn has_overlap(earlier: &[Group], g: &Group) -> bool
     earlier.iter().any(|e| group_shares(e, g))
 }
 
-/// The most men of the colour's groups together.
+/// The sum of the most men of each group of the colour.
 #[tactic(auto, using(crate::proofs::Counting::men_all))]
 fn men(groups: &[Group], c: Colour) -> u32
     requires { length groups.now ≤ MOST_GROUPS }
@@ -65,7 +65,8 @@ fn men(groups: &[Group], c: Colour) -> u32
     total
 }
 
-/// The first thing that is wrong with a group behind the earlier ones.
+/// The first cause for which the group is refused behind the earlier ones, or `None`. The causes
+/// are tried in the order in which they stand here.
 pub fn group_cause(earlier: &[Group], g: &Group) -> Option<RulesCause>
     requires { length earlier.now ≤ MOST_GROUPS }
     ensures { result ≡ cause_of_group earlier.now g.now }

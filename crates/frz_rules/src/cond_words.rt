@@ -1,4 +1,4 @@
-//! The words of conditions.
+//! Reads the words of conditions, such as `!check` or `count:white:R:0`.
 ghost use Rattle.std.specs.Prelude.{◌≡◌, ◌∷◌, []};
 ghost use Rattle.frz_words.specs.Parts.{split};
 ghost use Rattle.frz_words.specs.Squares.{square_word, squares_of};
@@ -99,7 +99,7 @@ fn signed(negated: bool, w: &[u8]) -> Option<Cond>
     Some(Cond { negated, test })
 }
 
-/// A test with or without `!` in front.
+/// The condition of a word: a test, with or without `!` in front. `None` for any other word.
 pub fn cond(w: &[u8]) -> Option<Cond>
     ensures { result ≡ cond_of w.now }
 {

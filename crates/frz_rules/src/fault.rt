@@ -13,23 +13,25 @@ pub enum RulesCause {
     Header,
     /// The first word is none of `group`, `forbid` and `exit`.
     UnknownLine,
-    /// The line has no form. The place, from 1, of the first word that no line of a form goes on
-    /// with.
+    /// The line has none of the forms. The number is the place, from 1, of the first word with
+    /// which no line of a form goes on.
     Word(u32),
     /// The group has a pawn on rank 1 or 8.
     PawnSquare,
-    /// The least is above the most, or the most is 0 or above the number of states.
+    /// The least number of men is above the most, or the most is 0 or above the number of states.
     Count,
     /// A group with kings has other kinds, or not exactly one man, or is the second of its
     /// colour; or a colour has no group with kings.
     KingGroup,
     /// The group shares a state with an earlier one of its colour.
     Overlap,
-    /// The most of the colour's groups so far sum up to more than 16.
+    /// The most men of each group of the colour so far sum up to more than 16.
     TooManyMen,
-    /// It is the 33rd group, the 65th forbid line or the 129th exit line, or has a ninth condition.
+    /// The line is the 33rd group, the 65th forbid line or the 129th exit line, or it has a ninth
+    /// condition.
     TooManyLines,
-    /// The set has more than 134,217,728 numbers: how many, or the greatest number of 64 bits.
+    /// The set has more than 134,217,728 numbers. The number is how many, capped at the greatest
+    /// number of 64 bits.
     SetTooBig(u64),
 }
 

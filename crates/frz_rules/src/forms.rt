@@ -1,4 +1,4 @@
-//! The parts of a group line, a forbid line and an exit line, behind the first word.
+//! Reads what follows the first word of a group line, a forbid line and an exit line.
 ghost use Rattle.std.specs.Prelude.{◌≡◌, map};
 ghost use Rattle.frz_words.specs.Words.{words};
 ghost use Rattle.frz_rules.specs.Lines.{wins as wins_of, holds as holds_of, wins_in as wins_in_of};

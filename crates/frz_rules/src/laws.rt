@@ -12,7 +12,7 @@ pub fn line_places()
     ensures { (line : List (List ℕ)) → IsGreatestFront line_form line (reach line_form line) }
 {}
 
-/// A line says something exactly where it has its form.
+/// A line gives a group, a forbid line or an exit line exactly where it has the form of one.
 pub fn line_forms()
     ensures group { (ws : List (List ℕ)) → fits group_form ws ≡ is_some (group_of ws) }
     ensures forbid { (ws : List (List ℕ)) → fits forbid_form ws ≡ is_some (forbid_of ws) }

@@ -1,4 +1,4 @@
-//! Rules texts: the reader, exact both ways, and the size of the set that rules describe.
+//! The reader of rules texts, exact both ways, and the size of the set that rules describe.
 #![tactic(auto)]
 
 mod causes;

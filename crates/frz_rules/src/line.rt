@@ -1,4 +1,4 @@
-//! A line behind the header: the rules with it, or its cause.
+//! Reads a line behind the header: the rules with it, or the cause for which it is refused.
 ghost use Rattle.std.specs.Prelude.{◌≡◌, ◌≤◌, true, length, IfOk};
 ghost use Rattle.frz_words.specs.Words.{words};
 ghost use Rattle.frz_rules.specs.Reading.{Reads, read_to, place as place_of, read_group, read_exit, group_words, forbid_words, exit_words};
@@ -58,7 +58,7 @@ fn add_exit(mut rules: Rules, e: Exit) -> Result<Rules, LineError>
     Ok(rules)
 }
 
-/// The rules with a group line, of whose words these are left.
+/// The rules with a group line. `rest` is what follows its first word.
 fn read_group_line(
     alloc: Global,
     rules: Rules,
@@ -116,7 +116,8 @@ fn read_exit_line(alloc: Global, rules: Rules, line: &[u8], rest: &[u8]) -> Resu
     }
 }
 
-/// The rules with a line behind the header, or why the line is bad.
+/// The rules with a line behind the header, or why the line is bad. A line without words adds
+/// nothing.
 pub fn read_line(alloc: Global, rules: Rules, line: &[u8]) -> Result<Rules, LineError>
     requires few { length rules.groups ≤ MOST_GROUPS }
     requires short { length line.now ≤ LONGEST_TEXT }

@@ -1,4 +1,4 @@
-//! The words of a line in turn, each of its class.
+//! Reads the words of a line in turn, each of the class that its place asks for.
 ghost use Rattle.std.specs.Prelude.{map};
 ghost use Rattle.frz_words.specs.Words.{words};
 ghost use Rattle.frz_words.specs.Squares.{squares_of};
@@ -55,7 +55,7 @@ pub fn literal_at<'a>(text: &[u8], line: &'a [u8]) -> Result<&'a [u8], Left<'a>>
     }
 }
 
-/// One place or more, to the end of the line.
+/// One place or more, each a kind and its squares, to the end of the line.
 #[tactic(auto, using(crate::proofs::Many::manying))]
 pub fn places_at(alloc: Global, line: &[u8]) -> Result<Vec<(Kind, SquareSet)>, Stop<'_>>
     ensures { Gives (λ v. v.items) result

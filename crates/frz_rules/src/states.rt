@@ -1,4 +1,4 @@
-//! The states of a group line's places.
+//! The states, a kind and a square each, that the places of a group line give.
 ghost use Rattle.std.specs.Prelude.{◌≡◌, ◌<◌, ◌==◌, ◌&&◌, not, map, IfOk};
 ghost use Rattle.std.specs.List.{list_any};
 ghost use Rattle.frz_board.specs.Men.{number_of_kind, is_pawn as is_pawn_kind};
@@ -19,7 +19,7 @@ pub fn is_pawn(kind: Kind) -> bool
     }
 }
 
-/// The state of a number below 384.
+/// The state of a number below 384: by kind, then square, 64 of each of the six kinds.
 fn state_at(n: u16) -> (Kind, Square)
     requires { n < 384 }
     ensures { result ≡ state_of_number n }
@@ -41,7 +41,7 @@ fn is_in_place(places: &[(Kind, SquareSet)], s: &(Kind, Square)) -> bool
     places.iter().any(|p| place_has(p, s))
 }
 
-/// The states of the places, in order and each once.
+/// The states of the places, by kind, then square, each once.
 #[tactic(auto, using(crate::proofs::Placing::placing))]
 pub fn states(
     alloc: Global,

@@ -1,4 +1,4 @@
-//! Why reading stops, with and without want of memory.
+//! Why reading stops: at a word that does not fit, for a cause, or for want of memory.
 ghost use Rattle.std.specs.Prelude.{◌≡◌};
 ghost use Rattle.frz_rules.specs.declared.stop.Stop.TheVariants as stops;
 ghost use Rattle.frz_rules.specs.declared.stop.LineError.TheVariants as refusals;
@@ -6,11 +6,11 @@ ghost use Rattle.frz_rules.specs.declared.stop.LineError.TheVariants as refusals
 use crate::fault::RulesCause;
 use std::alloc::{AllocError, AllocFailed};
 
-/// The bytes of a line from the first word on that no line of its form has there.
+/// The rest of a line, from the first word on that no line of its form has there.
 #[derive(Clone, Copy)]
 pub struct Left<'a>(pub &'a [u8]);
 
-/// Why a line was not read: no memory, or from these bytes on it has no form.
+/// Why a line was not read: memory ran out, or its words do not fit from these bytes on.
 #[derive(Drop)]
 pub enum Stop<'a> {
     Memory,

@@ -46,7 +46,7 @@ fn is_header(line: &[u8]) -> bool
     }
 }
 
-/// The next line that counts.
+/// The next line that has words and is no comment, or `None` at the end of the text.
 fn next_line<'a>(lines: &mut Lines<'a>) -> Option<Line<'a>>
     requires { AllByRecursion (λ l. length l.1 ≤ LONGEST_TEXT) lines.old }
     ensures next { MatchOption result (significant lines.old ≡ [])
@@ -70,7 +70,7 @@ fn fault(line: u32, cause: RulesCause) -> RulesError
     RulesError::Bad(RulesFault { line, cause })
 }
 
-/// The lines behind the header.
+/// The rules of the lines behind the header, or the first fault there.
 fn read_lines(alloc: Global, mut lines: Lines<'_>) -> Result<Rules, RulesError>
     requires { AllByRecursion (λ l. length l.1 ≤ LONGEST_TEXT) lines }
     ensures read { Answers result (lines_of no_rules (significant lines.entry)) }
@@ -91,7 +91,8 @@ fn read_lines(alloc: Global, mut lines: Lines<'_>) -> Result<Rules, RulesError>
     Ok(rules)
 }
 
-/// The causes of the whole text.
+/// The rules, if nothing is wrong with them as a whole: each colour has a group with kings, and the
+/// set has at most [`MOST_NUMBERS`] numbers.
 fn whole(rules: Rules) -> Result<Rules, RulesFault>
     requires { AreSoundLines rules }
     ensures { result ≡ whole_of rules }
@@ -135,7 +136,8 @@ fn read_text(alloc: Global, text: &[u8]) -> Result<Rules, RulesError>
     }
 }
 
-/// The rules of a text, or its first bad line with the first cause there.
+/// Reads a rules text. The answer is its rules, which are sound, or its first bad line with the
+/// first cause there, or that memory ran out.
 pub fn read_rules(alloc: Global, text: &[u8]) -> Result<Rules, RulesError>
     ensures exact { Answers result (rules_of text.now) }
     ensures sound { IfOk result IsSound }

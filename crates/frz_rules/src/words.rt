@@ -1,4 +1,4 @@
-//! The classes of single words.
+//! Reads single words of a rules text, each by its class.
 ghost use Rattle.std.specs.Prelude.{◌≡◌, option_map};
 ghost use Rattle.frz_rules.specs.Classes.{colour_of, kind_of, count_of, range_of, place_of};
 ghost use Rattle.frz_words.specs.Numbers.{number_of};
@@ -40,7 +40,8 @@ fn men(w: &[u8]) -> Option<u8>
     }
 }
 
-/// A number of men, or two with a hyphen between them: the least and the most.
+/// A number of men up to 16, or two with a hyphen between them: the least and the most. One number
+/// alone is both.
 #[tactic(auto, using(crate::proofs::Parts::count_many))]
 pub fn count(w: &[u8]) -> Option<(u8, u8)>
     ensures { result ≡ count_of w.now }

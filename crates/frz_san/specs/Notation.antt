@@ -16,28 +16,28 @@ use Rattle.frz_fide.specs.Listing.{legal_moves_of}
 abbrev pub square_text : ℕ → List ℕ
 square_text s = file_letter s ∷ rank_digit s ∷ []
 
--- n brings such a man as m does to the same square, from another one
+-- n brings a man of the same kind and colour as m does to the same square, from another one
 abbrev pub is_rival : Board → Step → Step → Bool
 is_rival p m n =
     (slice_index p.cells n.from == slice_index p.cells m.from && n.to == m.to)
     && not (n.from == m.from)
 
--- some legal move is a rival
+-- some legal move is a rival of m
 unfoldable pub has_rival : Board → Step → Bool
 has_rival p m = list_any (is_rival p m) (legal_moves_of p)
 
--- some rival starts on the same file
+-- some rival of m starts on the same file
 unfoldable pub has_rival_on_file : Board → Step → Bool
 has_rival_on_file p m =
     list_any (λ n. is_rival p m n && file_of n.from == file_of m.from) (legal_moves_of p)
 
--- some rival starts on the same rank
+-- some rival of m starts on the same rank
 unfoldable pub has_rival_on_rank : Board → Step → Bool
 has_rival_on_rank p m =
     list_any (λ n. is_rival p m n && rank_of n.from == rank_of m.from) (legal_moves_of p)
 
--- as much of the square where a piece starts as tells it from its rivals:
--- nothing, else the file, else the rank, else both (C.10)
+-- the part of a piece's square of origin that tells its move from its rivals: nothing if that is
+-- enough, else the file, else the rank, else both (C.10)
 abbrev pub origin : Board → Step → List ℕ
 origin p m =
     if not (has_rival p m) then [] else
@@ -76,7 +76,7 @@ abbrev pub text_by : Board → Option Man → Step → List ℕ
 text_by p None m = []
 text_by p (Some man) m = if is_pawn man.kind then pawn_text p man m else piece_text p man m
 
--- the text without its sign
+-- the text of a move without its sign
 abbrev pub unsigned : Board → Step → List ℕ
 unsigned p m = text_by p (man_on p m.from) m
 
@@ -85,7 +85,7 @@ sign_by false moves = []
 sign_by true [] = codes "#"
 sign_by true (m ∷ ms) = codes "+"
 
--- # where the side to move is mated, else + where it is in check (C.13)
+-- the sign: # where the side to move is mated, else + where it is in check (C.13), else nothing
 unfoldable pub sign : Board → List ℕ
 sign q = sign_by (is_in_check q q.turn) (legal_moves_of q)
 
@@ -93,10 +93,10 @@ sign q = sign_by (is_in_check q q.turn) (legal_moves_of q)
 abbrev pub gives_check : Board → Step → Bool
 gives_check p m = let q = after p m in is_in_check q q.turn
 
--- San(p, m): the text, and the sign of the position afterwards
+-- the text of a move, San(p, m): its text without the sign, and the sign of the position afterwards
 abbrev pub san_of : Board → Step → List ℕ
 san_of p m = unsigned p m ++ sign (after p m)
 
--- the text is San(p, m), or that without its sign
+-- the text is that of the move, with its sign or without
 abbrev pub IsSan : Board → Step → List ℕ → Type 0
 IsSan p m text = (text ≡ san_of p m) ⊎ (text ≡ unsigned p m)

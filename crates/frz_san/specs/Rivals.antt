@@ -4,7 +4,8 @@ use Rattle.frz_board.specs.Boards.{Board, man_on}
 use Rattle.frz_board.specs.Moving.{Step, IsStep}
 use Rattle.frz_fide.specs.Legal.{is_legal}
 
--- n is a legal move that brings such a man as m does to the same square, from another one
+-- n is a legal move that brings a man of the same kind and colour as m does to the same square,
+-- from another one
 pub record Rival (p : Board) (m n : Step) : Type 0 where
   pub step : IsStep n
   pub legal : is_legal p n ≡ true

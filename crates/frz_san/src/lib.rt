@@ -1,4 +1,4 @@
-//! Algebraic notation of moves (FIDE appendix C, as PGN exports it): written, and read.
+//! Algebraic notation of moves (FIDE appendix C, as PGN exports it): writes and reads it.
 #![tactic(auto)]
 
 pub mod laws;

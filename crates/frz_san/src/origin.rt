@@ -1,4 +1,4 @@
-//! As much of the square where a piece starts as tells it from its rivals.
+//! The part of a piece's square of origin that tells its move from its rivals.
 ghost use Rattle.std.specs.Prelude.{◌≡◌, ◌==◌, ◌&&◌, ◌++◌, ◌+◌, ◌≤◌};
 ghost use Rattle.std.specs.List.{list_any};
 ghost use Rattle.arrayvec.specs.ArrayString.{array_string_len};
@@ -9,7 +9,8 @@ ghost use Rattle.frz_san.specs.Notation.{is_rival as is_rival_of, has_rival, has
 use crate::text::{San, add, add_square};
 use frz_board::{Move, Position};
 
-/// Does `n` bring such a man as `m` does to the same square, from another one?
+/// Is `n` a rival of `m`: does it bring a man of the same kind and colour to the same square, from
+/// another one?
 fn is_rival(p: &Position, m: Move, n: Move) -> bool
     ensures { result ≡ is_rival_of p.now m n }
 {
@@ -46,7 +47,7 @@ fn any_rival_on_rank(p: &Position, moves: &[Move], m: Move) -> bool
 }
 
 /// Adds nothing, the file, the rank or both: the first of these that tells the move from its
-/// rivals.
+/// rivals. `moves` are all legal moves.
 pub fn add_origin(p: &Position, moves: &[Move], m: Move, text: &mut San)
     requires moves { moves.now ≡ legal_moves_of p.now }
     requires room { array_string_len text.old ≤ 1 }

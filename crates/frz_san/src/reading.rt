@@ -1,4 +1,4 @@
-//! Notation read.
+//! Reads the notation of a move.
 ghost use Rattle.std.specs.Prelude.{◌≡◌, ◌↔◌, ◌≤◌, ◌+◌, true, false};
 ghost use Rattle.frz_board.specs.Moving.{Step, IsStep};
 ghost use Rattle.frz_fide.specs.Legal.{is_legal};
@@ -13,7 +13,7 @@ use frz_fide::legal_moves;
 use frz_steps::Steps;
 use std::sync::ledger::Ledger;
 
-/// The move whose text without its sign this is.
+/// The legal move whose text without its sign is `text`. `moves` are all legal moves.
 fn find_unsigned(p: &Position, moves: &[Move], text: &[u8]) -> Option<Move>
     requires { moves.now ≡ legal_moves_of p.now }
     ensures { (m : Step) → (result ≡ Some m)
@@ -27,8 +27,8 @@ fn find_unsigned(p: &Position, moves: &[Move], text: &[u8]) -> Option<Move>
     None
 }
 
-/// The legal move whose text this is, with its sign or without; no sign is read that the move does
-/// not have.
+/// The legal move that the text stands for, or `None`. The sign (`+` or `#`) may be left out, but a
+/// sign that the move does not have is refused. It takes at most two steps.
 pub fn read_san<L: Ledger>(p: &Position, text: &[u8], steps: &mut Steps<L>) -> Option<Move>
     requires { IsValid p.now }
     ensures exact { (m : Step) → (result ≡ Some m)

@@ -1,4 +1,4 @@
-//! The sign of a move: mate or check.
+//! The sign of a move, for check or mate.
 ghost use Rattle.std.specs.Prelude.{◌≡◌, ◌<◌, ◌≤◌, ◌+◌, true, false, IfSome, option_to_list};
 ghost use Rattle.frz_board.specs.Attacks.{is_in_check};
 ghost use Rattle.frz_fide.specs.Legal.{is_legal, after as board_after};
@@ -11,8 +11,8 @@ use frz_fide::{MoveList, after, put_legal_moves};
 use frz_steps::Steps;
 use std::sync::ledger::Ledger;
 
-/// `#` where the side to move is mated, else `+` where it is in check. Only there are its moves
-/// listed.
+/// `#` where the side to move is mated, else `+` where it is in check, else nothing. Its moves are
+/// listed only where it is in check.
 #[tactic(auto, unfolding(crate::specs::Notation::sign))]
 fn sign<L: Ledger>(q: &Bitboards, steps: &mut Steps<L>) -> Option<u8>
     requires { IsValid q.now }
@@ -34,7 +34,7 @@ fn sign<L: Ledger>(q: &Bitboards, steps: &mut Steps<L>) -> Option<u8>
     }
 }
 
-/// The sign after a legal move.
+/// The sign of a legal move: that of the position after it.
 pub fn sign_after<L: Ledger>(p: &Position, m: Move, steps: &mut Steps<L>) -> Option<u8>
     requires valid { IsValid p.now }
     requires legal { is_legal p.now m ≡ true }

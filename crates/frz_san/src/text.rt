@@ -6,7 +6,7 @@ ghost use Rattle.frz_san.specs.Notation.{square_text};
 use arrayvec::ArrayString;
 use frz_board::Square;
 
-/// The text of a move: at most seven bytes.
+/// The text of a move, of at most seven bytes.
 pub type San = ArrayString<8>;
 
 pub fn add(text: &mut San, byte: u8)

@@ -10,7 +10,7 @@ use crate::origin::add_origin;
 use crate::text::{San, add, add_square};
 use frz_board::{Kind, Man, Move, Position};
 
-/// Does a man stand on the destination, or does a pawn capture en passant?
+/// Is the move a capture: does a man stand on its destination, or does a pawn capture en passant?
 #[tactic(auto, using(crate::proofs::Taking::captures_by_file))]
 fn is_capture(p: &Position, man: Man, m: Move) -> bool
     requires man { man_on p.now m.from ≡ Some man }
@@ -67,7 +67,7 @@ fn piece_move(p: &Position, moves: &[Move], man: Man, m: Move) -> San
     text
 }
 
-/// The text of a legal move without its sign.
+/// The text of a legal move without its sign. `moves` are all legal moves.
 pub fn unsigned(p: &Position, moves: &[Move], m: Move) -> San
     requires moves { moves.now ≡ legal_moves_of p.now }
     requires legal { is_legal p.now m ≡ true }

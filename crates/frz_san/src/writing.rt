@@ -1,4 +1,4 @@
-//! Notation written.
+//! Writes the notation of a move.
 ghost use Rattle.std.specs.Prelude.{◌≡◌, ◌≤◌, ◌+◌, true, false};
 ghost use Rattle.arrayvec.specs.ArrayString.{array_string_len};
 ghost use Rattle.frz_fide.specs.Legal.{is_legal};
@@ -14,8 +14,8 @@ use frz_fide::legal_moves;
 use frz_steps::Steps;
 use std::sync::ledger::Ledger;
 
-/// The text of a legal move, where the legal moves are listed already. Moves are listed once more
-/// only where the move gives check.
+/// The text of a legal move, where `moves` are all legal moves, listed already. Moves are listed
+/// once more, in one step, only where the move gives check.
 pub fn san_among<L: Ledger>(p: &Position, moves: &[Move], m: Move, steps: &mut Steps<L>) -> San
     requires valid { IsValid p.now }
     requires moves { moves.now ≡ legal_moves_of p.now }
@@ -33,7 +33,8 @@ pub fn san_among<L: Ledger>(p: &Position, moves: &[Move], m: Move, steps: &mut S
     text
 }
 
-/// The text of a legal move. For all moves of one position, list them once and take [`san_among`].
+/// The text of a legal move. To write all moves of a position, list them once and use
+/// [`san_among`].
 pub fn san<L: Ledger>(p: &Position, m: Move, steps: &mut Steps<L>) -> San
     requires valid { IsValid p.now }
     requires legal { is_legal p.now m ≡ true }

@@ -7,7 +7,7 @@ use Rattle.frz_board.specs.Squares.{rank_of}
 use Rattle.frz_board.specs.Men.{number_of_kind, kind_of_number, same_colour, is_pawn}
 use Rattle.frz_sets.specs.Views.{GroupLine}
 
--- the states in order, by kind, then square: 64 of each of the six kinds
+-- the state of a number: by kind, then square, 64 of each of the six kinds
 abbrev pub state_at : ℕ → Kind × ℕ
 state_at n = (kind_of_number (n / 64 + 1), n % 64)
 
@@ -27,12 +27,12 @@ is_end_pawn s = is_pawn s.0 && (rank_of s.1 == 0 || rank_of s.1 == 7)
 abbrev pub is_bad_count : GroupLine → Bool
 is_bad_count g = nat_lt g.most g.least || (g.most == 0 || nat_lt (length g.states) g.most)
 
--- a group of this colour has king states
+-- some group of this colour has a king among its states
 abbrev pub has_king_group : List GroupLine → Colour → Bool
 has_king_group groups c = list_any (λ g. same_colour g.colour c && list_any is_king g.states) groups
 
--- a group with king states has no others and exactly one man,
--- and is the first of its colour with them
+-- a group with king states is bad where it has other states too, or not exactly one man, or is not
+-- the first of its colour with king states
 abbrev pub is_bad_king : List GroupLine → GroupLine → Bool
 is_bad_king earlier g =
     list_any is_king g.states
@@ -47,7 +47,7 @@ abbrev pub overlaps : List GroupLine → GroupLine → Bool
 overlaps earlier g =
     list_any (λ e. same_colour e.colour g.colour && shares e.states g.states) earlier
 
--- the most men of the groups of this colour together
+-- the sum of the most men of each group of this colour
 abbrev pub most_men_of : List GroupLine → Colour → ℕ
 most_men_of [] c = 0
 most_men_of (g ∷ groups) c = (if same_colour g.colour c then g.most else 0) + most_men_of groups c

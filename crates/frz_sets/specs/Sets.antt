@@ -12,13 +12,13 @@ use Rattle.frz_combinations.specs.Selections.{radix}
 use Rattle.frz_combinations.specs.MixedRadix.{product}
 use Rattle.frz_sets.specs.Views.{GroupLine}
 
--- the group has the man of this cell on this square as a state
+-- by the states of the group the man of this cell may stand on this square
 abbrev pub is_state : ℕ → ℕ → GroupLine → Bool
 is_state cell s g =
     list_any (λ state. cell_of_man (record { colour = g.colour; kind = state.0 }) == cell
     && state.1 == s) g.states
 
--- some group has it
+-- by the states of some group the man of this cell may stand on this square
 abbrev pub has_state : List GroupLine → ℕ → ℕ → Bool
 has_state gs cell s = list_any (is_state cell s) gs
 
@@ -32,8 +32,8 @@ is_pair gs c b =
     has_state gs (pawn c) b
     && list_any (λ s. is_beside s b && has_state gs (pawn (other_of c)) s) squares
 
--- a pawn of c can stand ahead of t as if it had just come over
--- t, with one of the other side beside it
+-- t can be a target that a pawn of c has passed: the pawn can stand ahead of t, with a pawn of the
+-- other side beside it
 abbrev pub is_possible_for : List GroupLine → Colour → ℕ → Bool
 is_possible_for gs c t = is_passing_rank c t && is_pair gs c (ahead c t)
 
@@ -48,7 +48,8 @@ targets gs = filter (is_possible gs) squares
 abbrev pub radix_of : GroupLine → ℕ
 radix_of g = radix (length g.states) g.least g.most
 
--- White, Black, one turn state for each possible target; and the choices of each group
+-- the factors of the size: the turn states, which are White, Black and one for each possible
+-- target, and then the choices of each group
 abbrev pub radices : List GroupLine → List ℕ
 radices gs = (2 + length (targets gs)) ∷ map radix_of gs
 

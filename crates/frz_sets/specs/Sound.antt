@@ -10,7 +10,8 @@ use Rattle.frz_sets.specs.Views.{GroupLine, ExitLine, RuleLines}
 use Rattle.frz_sets.specs.Groups.{state_number, is_end_pawn, is_bad_count, is_bad_king, has_king_group, overlaps, most_men_of}
 use Rattle.frz_sets.specs.Sets.{size_of}
 
--- squares of the board, and each state behind the one before, by kind, then square
+-- the states are on squares of the board and in order by kind, then square, each once, and none is
+-- below number n
 abbrev pub AreIncreasingFrom : ℕ → List (Kind × ℕ) → Type 0
 AreIncreasingFrom n [] = Unit {0}
 AreIncreasingFrom n (s ∷ states) =
@@ -55,14 +56,15 @@ pub record IsSoundExit (e : ExitLine) : Type 0 where
   pub lag : HasFewPlies e.value
   pub conds : length e.conds ≤ MOST_CONDS
 
--- nothing is wrong with any line
+-- nothing is wrong with any line of the rules
 pub record AreSoundLines (r : RuleLines) : Type 0 where
   pub groups : AreSoundAfter [] r.groups
   pub forbids : length r.forbids ≤ MOST_FORBIDS
   pub few_exits : length r.exits ≤ MOST_EXITS
   pub exits : AllByRecursion IsSoundExit r.exits
 
--- nor of the whole
+-- nothing is wrong with any line, nor with the rules as a whole: each side has a king group, and
+-- the set is not too big
 pub record IsSound (r : RuleLines) : Type 0 where
   pub lines : AreSoundLines r
   pub white_king : has_king_group r.groups White ≡ true

@@ -8,19 +8,19 @@ use std::marker::Model;
 pub enum Test {
     /// The side is to move.
     Turn(Colour),
-    /// So many such men stand on the board, from the least to the most.
+    /// The number of men of this colour and kind on the board is from the least to the most.
     Count(Colour, Kind, u8, u8),
-    /// Such a man stands on one of the squares.
+    /// A man of this colour and kind stands on one of the squares.
     On(Colour, Kind, SquareSet),
-    /// The side's king is so far from the square: the greater of the files and the ranks between
-    /// them, from the least to the most.
+    /// The distance of the side's king from the square is from the least to the most. It is the
+    /// greater of the files and the ranks between them.
     Distance(Colour, Square, u8, u8),
     /// The side to move is in check.
     Check,
     Always,
 }
 
-/// A test that is to hold, or not to hold where it is negated.
+/// A test that must hold, or must not hold where it is negated.
 #[derive(Debug, Drop)]
 pub struct Cond {
     pub negated: bool,
@@ -35,8 +35,8 @@ impl Model for Cond {
     ghost view = { λ c. record { negated = c.negated; test = c.test } };
 }
 
-/// What an exit line says of a position outside the set. The number is in how many plies at most
-/// the side mates, at most 1,000.
+/// What an exit line says of a position outside the set. `WhiteWinsIn` and `BlackWinsIn` hold the
+/// number of plies in which that side mates at most; sound rules have at most 1,000 there.
 #[derive(Clone, Copy, Debug, PartialEq, Eq)]
 pub enum Value {
     WhiteWins,
@@ -49,7 +49,7 @@ pub enum Value {
     BlackWinsIn(u32),
 }
 
-/// An exit line: the value where all the conditions hold.
+/// An exit line: the value of each position outside the set where all the conditions hold.
 #[derive(Debug, Drop)]
 pub struct Exit {
     pub value: Value,

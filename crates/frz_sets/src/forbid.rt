@@ -2,16 +2,17 @@
 use frz_board::{Colour, Kind};
 use frz_squares::SquareSet;
 
-/// Which of the moves a forbid line covers.
+/// Which moves of its man between its squares a forbid line covers.
 #[derive(Clone, Copy, Debug, PartialEq, Eq)]
 pub enum Only {
     Any,
-    /// Those that capture, en passant too.
+    /// Captures, en passant too.
     Capture,
     Promotion,
 }
 
-/// A forbid line: moves of such a man from the first squares to the second.
+/// A forbid line: the colour renounces the moves of its men of this kind from a square of `from` to
+/// a square of `to`, all of them or those that `only` names.
 #[derive(Clone, Copy, Debug, PartialEq, Eq)]
 pub struct Forbid {
     pub colour: Colour,

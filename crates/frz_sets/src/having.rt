@@ -5,7 +5,8 @@ ghost use Rattle.frz_sets.specs.Sets.{is_state, has_state as some_has_state};
 use crate::group::Group;
 use frz_board::{Man, Square, cell_of};
 
-/// Has the group the man of this cell on this square as a state?
+/// May the man of this cell stand on this square by the states of the group? A cell is the number
+/// of a man.
 fn group_has_state(g: &Group, cell: u8, s: Square) -> bool
     ensures { result ≡ is_state cell s g.now }
 {
@@ -19,7 +20,7 @@ fn group_has_state(g: &Group, cell: u8, s: Square) -> bool
     })
 }
 
-/// Has some group the man of this cell on this square as a state?
+/// May the man of this cell stand on this square by the states of some group?
 pub fn has_state(groups: &[Group], cell: u8, s: Square) -> bool
     ensures { result ≡ some_has_state groups.now cell s }
 {

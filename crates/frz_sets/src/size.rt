@@ -9,7 +9,8 @@ use crate::rules::Rules;
 use crate::targets::target_count;
 use frz_combinations::binomial;
 
-/// How many choices of men and squares the group has, or the greatest number of 64 bits.
+/// In how many ways men of the group can stand, from its least to its most of them among its
+/// states, capped at the greatest number of 64 bits.
 #[tactic(auto, using(crate::proofs::Sizes::sums))]
 pub fn radix(g: &Group) -> u64
     requires { IsCounted g.now }
@@ -22,7 +23,7 @@ pub fn radix(g: &Group) -> u64
     total
 }
 
-/// How many numbers the set of these groups has.
+/// How many numbers the set of these groups has, capped at the greatest number of 64 bits.
 #[tactic(auto, using(crate::proofs::Sizes::products))]
 fn size(groups: &[Group]) -> u64
     requires { AreCounted groups.now }
@@ -35,8 +36,9 @@ fn size(groups: &[Group]) -> u64
     total
 }
 
-/// The size of the set that the rules describe, or the greatest number of 64 bits where that is
-/// greater: the turn states times, for each group, the choices of its men and their squares.
+/// The size of the set that the rules describe, capped at the greatest number of 64 bits. It is the
+/// number of turn states (White, Black, and one for each possible en passant target), times the
+/// choices of men and squares of each group.
 #[tactic(auto, using(crate::proofs::SoundGroups::counted))]
 pub fn set_size(r: &Rules) -> u64
     requires { AreSoundLines r.now }

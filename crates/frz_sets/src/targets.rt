@@ -1,4 +1,5 @@
-//! The possible targets of a set.
+//! The possible targets of a set: squares that a pawn may just have passed, with a pawn beside it
+//! that may capture it en passant.
 ghost use Rattle.std.specs.Prelude.{◌≡◌, ◌&&◌, ◌≤◌, length};
 ghost use Rattle.std.specs.List.{list_any};
 ghost use Rattle.frz_squares.specs.Squares.{is_beside, squares};
@@ -8,7 +9,7 @@ use crate::group::Group;
 use crate::having::has_state;
 use frz_board::{Colour, Kind, Man, Square, cell_of};
 
-/// The cell of a pawn of the colour.
+/// The cell, that is, the number of the man, of a pawn of the colour.
 pub fn pawn_cell(colour: Colour) -> u8
     ensures cell { result ≡ pawn colour }
     ensures fits { result ≤ 12 }
@@ -41,14 +42,14 @@ fn is_target_of(groups: &[Group], colour: Colour, t: Square) -> bool
     t.is_passing_rank(colour) && has_pair(groups, colour, t.ahead(colour))
 }
 
-/// Can the square be a target in the set?
+/// Can the square be an en passant target in the set, of a pawn of either colour?
 pub fn is_target(groups: &[Group], t: Square) -> bool
     ensures { result ≡ is_possible groups.now t }
 {
     is_target_of(groups, Colour::White, t) || is_target_of(groups, Colour::Black, t)
 }
 
-/// How many squares can be a target in the set.
+/// How many squares can be an en passant target in the set, at most 64.
 #[tactic(auto, unfolding(frz_board::specs::Squares::squares))]
 pub fn target_count(groups: &[Group]) -> usize
     ensures count { result ≡ length (targets groups.now) }

@@ -6,7 +6,7 @@ use Rattle.std.specs.Int.{bit_at}
 abbrev pub has_square : ℕ → ℕ → Bool
 has_square set s = bit_at set s == 1
 
--- the number whose bits below n are those of the test
+-- the number whose bit k is set exactly where k is below n and passes the test
 abbrev pub bits_below : (ℕ → Bool) → ℕ → ℕ
 bits_below f zero = 0
 bits_below f (suc n) = bits_below f n + (if f n then 2 ^ n else 0)

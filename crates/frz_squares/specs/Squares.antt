@@ -24,7 +24,7 @@ files_apart a b = apart (file_of a) (file_of b)
 abbrev pub ranks_apart : ℕ → ℕ → ℕ
 ranks_apart a b = apart (rank_of a) (rank_of b)
 
--- the greater of the files and the ranks between two squares
+-- the greater of the files and the ranks that two squares are apart
 abbrev pub distance : ℕ → ℕ → ℕ
 distance a b = max (files_apart a b) (ranks_apart a b)
 

@@ -11,7 +11,8 @@ pub fn file(s: u8) -> u8
     s % 8
 }
 
-/// The rank of a square's number less 1, from 0 to 7 on the board.
+/// The rank of a square's number, from 0 for rank 1 to 7 for rank 8. A number above 63 has a rank
+/// above 7.
 pub fn rank(s: u8) -> u8
     ensures rank { result ≡ rank_of s }
     ensures below { s < 64 → result < 8 }

@@ -5,8 +5,8 @@ ghost use Rattle.frz_squares.specs.SquareSets.{has_square};
 
 use std::marker::Model;
 
-/// A set of squares, seen as the number of its bits: the square of number s is in it where bit s is
-/// set. Squares are numbered from 0, a1, along the ranks to 63, h8.
+/// A set of squares in 64 bits, which contracts see as one number: square s is in the set where bit
+/// s is set. Squares are numbered from 0, a1, along the ranks to 63, h8.
 #[derive(Clone, Copy, Debug, PartialEq, Eq)]
 pub struct SquareSet(pub u64);
 

@@ -1,4 +1,4 @@
-//! A counter of steps that takes no bytes: only clauses read it.
+//! A counter of steps that takes no bytes: only contracts read it.
 #![tactic(auto)]
 
 ghost use Rattle.std.specs.Prelude.{◌≡◌, ◌+◌, ◌<◌};
@@ -6,8 +6,9 @@ ghost use Rattle.std.specs.Prelude.{◌≡◌, ◌+◌, ◌<◌};
 use std::marker::Model;
 use std::sync::ledger::{Blank, Book, Ledger, Share};
 
-/// How many steps were taken, as a number that only clauses see. `L` is any ledger: its book keeps
-/// the sum, so that no call but [`Steps::tick`] changes it.
+/// How many steps were taken, as a number that only contracts see. A step is what the caller counts
+/// as one. `L` is any ledger: its book keeps the sum, so that no call but [`Steps::tick`] changes
+/// it.
 #[derive(Drop)]
 pub struct Steps<L: Ledger> {
     book: Book<L>,
@@ -25,7 +26,8 @@ impl<L: Ledger> Model for Steps<L> {
 }
 
 impl<L: Ledger> Steps<L> {
-    /// No step yet. The blank ledger becomes `L`; `Blank::new(1)` and the ledger `Brand` will do.
+    /// A counter at 0. The blank ledger becomes `L`; `Blank::new(1)` and the ledger `Brand` will
+    /// do.
     pub fn new(blank: Blank) -> Steps<L>
         requires name { blank.name ≡ L.name }
         requires parts { blank.parts ≡ L.parts }

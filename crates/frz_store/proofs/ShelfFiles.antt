@@ -68,7 +68,6 @@ open_grown m o f bytes piece is b =
     ∙ sym (grown-put m (string_bytes f.name) f.held.bytes.items piece)
     ∙ ap (λ (x : Option GrowingFile). grown (name_of_newest x) piece (over m x)) (sym is)
 
--- a list of length 0
 -- an empty piece changes no file
 pub open_same : (m : Files) (o : Option GrowingFile) (f : GrowingFile) (bytes piece : List ℕ)
     → o ≡ Some f → bytes ≡ f.held.bytes.items ++ piece → length piece ≡ 0

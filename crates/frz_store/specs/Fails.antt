@@ -6,7 +6,7 @@ use Rattle.frz_store.specs.declared.fails.FailOn.{FailOn}
 use Rattle.frz_store.specs.declared.fails.FailOn.TheVariants.{Call, Size, Read, Create, Append}
 use Rattle.frz_store.specs.declared.fails.Fail.{Fail}
 
--- the list of the calls that are to fail, and how many calls of each name there were
+-- the planned failures, and how many calls of each kind there were
 pub record Plan : Type 0 where
   pub fails : List Fail
   pub calls : ℕ
@@ -19,7 +19,7 @@ pub record Plan : Type 0 where
 abbrev pub new_plan : List Fail → Plan
 new_plan fails = record { fails = fails; calls = 0; sizes = 0; reads = 0; creates = 0; appends = 0 }
 
--- whether an entry on the first name counts the calls of the second
+-- whether an entry on the first kind of call counts the calls of the second
 abbrev pub counts : FailOn → FailOn → Bool
 counts Call name = true
 counts Size Size = true
@@ -28,7 +28,7 @@ counts Create Create = true
 counts Append Append = true
 counts _ _ = false
 
--- which of the calls that an entry on this name counts the next one will be
+-- the number, from 1, that the next call has among the calls that an entry on this kind counts
 abbrev pub next_number : Plan → FailOn → ℕ
 next_number plan Call = counted plan.calls
 next_number plan Size = counted plan.sizes
@@ -36,15 +36,16 @@ next_number plan Read = counted plan.reads
 next_number plan Create = counted plan.creates
 next_number plan Append = counted plan.appends
 
--- whether the entry says that the next call of this name fails
+-- whether the entry makes the next call of this kind fail
 abbrev pub names : Plan → FailOn → Fail → Bool
 names plan on fail = counts fail.on on && (fail.nth == next_number plan fail.on)
 
--- how many bytes the next call of this name keeps, where it is to fail: the first entry says it
+-- how many bytes of its piece the next call of this kind keeps, by the first entry that makes it
+-- fail; none if it is not to fail
 abbrev pub due_of : Plan → FailOn → Option ℕ
 due_of plan on = option_map (λ fail. fail.keep) (find (names plan on) plan.fails)
 
--- the plan after a call of this name
+-- the plan after a call of this kind was counted
 abbrev pub after : Plan → FailOn → Plan
 after plan Call = record plan { calls = counted plan.calls }
 after plan Size = record plan { calls = counted plan.calls; sizes = counted plan.sizes }

@@ -19,7 +19,7 @@ last store = last_of store.shelf
 abbrev pub room : MemStore → ℕ
 room store = room_of store.shelf
 
--- the bytes that all reads asked for
+-- how many bytes all reads together asked for
 abbrev pub asked : MemStore → ℕ
 asked store = store.asked
 
@@ -34,25 +34,25 @@ faults store = store.faults
 abbrev pub plan : MemStore → Plan
 plan store = store.plan
 
--- how many bytes the next call of this name keeps, where it is to fail
+-- how many bytes the next call of this kind keeps, if it is to fail
 abbrev pub due : MemStore → FailOn → Option ℕ
 due store on = due_of store.plan on
 
--- whether the next call of this name is to fail
+-- whether the next call of this kind is to fail
 abbrev pub fails_next : MemStore → FailOn → Bool
 fails_next store on = is_some (due store on)
 
--- the store after a call of this name is counted, and its fault where it fails
+-- the store after a call of this kind was counted, and counted as a fault too if it is to fail
 abbrev pub called : MemStore → FailOn → MemStore
 called store on = record store {
   plan = after store.plan on;
   faults = if fails_next store on then counted store.faults else store.faults;
 }
 
--- the store after the bytes of a read are counted
+-- the store after the bytes that a read asks for were counted
 abbrev pub asked_for : MemStore → ℕ → MemStore
 asked_for store count = record store { asked = min (store.asked + count) (2 ^ 64 - 1) }
 
--- a call of this name was counted, and nothing else but the files is new
+-- a call of this kind was counted, and besides that only the files are new
 abbrev pub IsCalled : MemStore → FailOn → MemStore → Type 0
 IsCalled store on new = new ≡ record (called store on) { shelf = new.shelf }

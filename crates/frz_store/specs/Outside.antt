@@ -4,21 +4,21 @@ use Rattle.std.specs.Result.{IsErrOf}
 use Rattle.frz_store.specs.declared.outside.StoreFault.{StoreFault}
 use Rattle.frz_store.specs.declared.outside.StoreFault.TheVariants.{Failed, NoMemory}
 
--- one more, up to the greatest number of 64 bits
+-- one more, at most 2^64 - 1
 abbrev pub counted : ℕ → ℕ
 counted n = min (n + 1) (2 ^ 64 - 1)
 
--- the count is the next one
+-- the count has gone up by one, or stands at 2^64 - 1
 pub record IsNext (before now : ℕ) : Type 0 where
   pub next : now ≡ counted before
   pub later : before ≤ now
 
--- the count has risen, or stands at the greatest number of 64 bits
+-- the count has risen, or stands at 2^64 - 1
 abbrev pub Rose : ℕ → ℕ → Type 0
 Rose before now = counted before ≤ now
 
--- neither count falls, and success leaves both; a failure has
--- raised the count of faults, and want of memory that of wants
+-- no count falls, and success changes none; `Failed` has raised the count of faults, and `NoMemory`
+-- that of wants
 pub record StoreCauses {T : Type 0} (faults_before faults_now wants_before wants_now : ℕ)
     (result : Result T StoreFault) : Type 0 where
   pub later : faults_before ≤ faults_now
@@ -28,8 +28,8 @@ pub record StoreCauses {T : Type 0} (faults_before faults_now wants_before wants
   pub failed : IsErrOf result Failed → Rose faults_before faults_now
   pub no_memory : IsErrOf result NoMemory → Rose wants_before wants_now
 
--- neither count falls, and success leaves both; a failure has
--- raised the count of faults, and want of memory is free
+-- no count falls, and success changes none; `Failed` has raised the count of faults, and `NoMemory`
+-- need not have raised any
 pub record FreeCauses {T : Type 0} (faults_before faults_now wants_before wants_now : ℕ)
     (result : Result T StoreFault) : Type 0 where
   pub later : faults_before ≤ faults_now
@@ -38,14 +38,14 @@ pub record FreeCauses {T : Type 0} (faults_before faults_now wants_before wants_
   pub wants_fine : OnOk result (wants_now ≡ wants_before)
   pub failed : IsErrOf result Failed → Rose faults_before faults_now
 
--- the count of faults does not fall; success leaves it, and each refusal has raised it
+-- the count of faults does not fall; success does not change it, and each error has raised it
 pub record HasCause {T E : Type 0} (faults_before faults_now : ℕ)
     (result : Result T E) : Type 0 where
   pub later : faults_before ≤ faults_now
   pub fine : OnOk result (faults_now ≡ faults_before)
   pub failed : OnErr result (Rose faults_before faults_now)
 
--- the first n of these bytes stand at the front of the buffer, and n is 0 only where there are none
+-- the first n of these bytes stand at the front of the buffer, and n is 0 only if there are none
 pub record Took (buffer : List ℕ) (n : ℕ) (bytes : List ℕ) : Type 0 where
   pub front : take n buffer ≡ take n bytes
   pub within : n ≤ length bytes

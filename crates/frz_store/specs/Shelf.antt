@@ -6,12 +6,12 @@ use Rattle.frz_store.specs.declared.named_file.NamedFile.{NamedFile}
 use Rattle.frz_store.specs.declared.growing_file.GrowingFile.{GrowingFile}
 use Rattle.frz_store.specs.declared.shelf.Shelf.{Shelf}
 
--- these files over others, a later one over an earlier one
+-- the files of `m` with those of the list put over them, a later one over an earlier one
 abbrev pub stacked : Files → List NamedFile → Files
 stacked m [] = m
 stacked m (file ∷ files) = stacked (put m (string_bytes file.name) file.bytes.items) files
 
--- the file that was created last, over the others
+-- the files of `m` with the one that was created last put over them
 abbrev pub over : Files → Option GrowingFile → Files
 over m None = m
 over m (Some file) = put m (string_bytes file.name) file.held.bytes.items

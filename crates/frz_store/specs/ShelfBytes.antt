@@ -9,13 +9,13 @@ use Rattle.frz_store.specs.declared.growing_file.GrowingFile.{GrowingFile}
 use Rattle.frz_store.specs.declared.named_file.NamedFile.{NamedFile}
 use Rattle.frz_store.specs.declared.shelf.Shelf.{Shelf}
 
--- one of two choices
+-- a choice of two holds bytes if both do
 either : (b : Bool) (x y : Option (List ℕ)) → IfSome x AreBytes → IfSome y AreBytes
     → IfSome (if b then x else y) AreBytes
 either true x y h k = h
 either false x y h k = k
 
--- bytes that are put under a name
+-- files that hold bytes still do so after bytes were put under a name
 pub put_bytes : (m : Files) (name bytes : List ℕ) → HoldsBytes m → AreBytes bytes
     → HoldsBytes (put m name bytes)
 unfolding put
@@ -32,7 +32,7 @@ over_bytes m None h = h
 over_bytes m (Some file) h =
     put_bytes m (string_bytes file.name) file.held.bytes.items h file.held.are_bytes
 
--- each file has its bytes by itself
+-- each file of a shelf holds bytes, as the type of each file says
 pub shelf_bytes : (shelf : Shelf) → HoldsBytes (files_of shelf)
 shelf_bytes shelf =
     over_bytes (stacked no_files shelf.rest.items) shelf.newest

@@ -26,7 +26,8 @@ pub record SinkTold : Type 0 where
   pub taken : Option (List ℕ)
   pub faults : ℕ
 
--- what an object tells, by the members of its trait: `store_of S.Store` at a type parameter S
+-- what an object tells, by the ghost members of its trait; it is written `store_of S.Store` where S
+-- is a type parameter
 abbrev pub store_of : {A : Type 0} → StoreGhosts A → A → StoreTold
 store_of g s = record {
   files = g.files s;
@@ -57,18 +58,18 @@ pub record StoreLater (old new : StoreTold) : Type 0 where
   pub faults : old.faults ≤ new.faults
   pub wants : old.wants ≤ new.wants
 
--- the store was called, and nothing written
+-- the store may have been called, but nothing was written
 pub record StoreQuiet (old new : StoreTold) : Type 0 where
   pub unwritten : Unwritten old new
   pub later : StoreLater old new
 
--- each call of the store succeeded
+-- no call of the store has raised the count of faults or of wants
 pub record StoreFine (old new : StoreTold) : Type 0 where
   pub faults : new.faults ≡ old.faults
   pub wants : new.wants ≡ old.wants
 
--- the bytes were put under the name, or there was no memory and
--- nothing is new. It is no call of the store
+-- the bytes were put under the name, or there was no memory and nothing is new; it does not count
+-- as a call of the store
 pub record IsPut {T : Type 0} (name bytes : List ℕ) (result : Result T StoreFault)
     (old new : StoreTold) : Type 0 where
   pub files : OnOk result (new.files ≡ option_map (λ m. put m name bytes) old.files)

@@ -19,16 +19,16 @@ pub record WrotePart (name whole : List ℕ) (old new : StoreTold) : Type 0 wher
       ⊎ ((k : ℕ) × (new.files ≡ option_map (λ m. put m name (take k whole)) old.files))
   pub later : StoreLater old new
 
--- how much of these bytes was written under the name: all of them, some first ones where the store
--- failed, and nothing where there was no memory
+-- how much of these bytes was written under the name: all of them, a front part if the store
+-- failed, and nothing if there was no memory
 abbrev pub Written : {T : Type 0} → List ℕ → List ℕ → Result T StoreFault → StoreTold → StoreTold
     → Type 0
 Written name bytes (Ok _) old new = Wrote name bytes old new × StoreFine old new
 Written name bytes (Err Failed) old new = WrotePart name bytes old new × Rose old.faults new.faults
 Written name bytes (Err NoMemory) old new = StoreQuiet old new
 
--- the bytes were put behind those of the file that was created
--- last, or some first ones where the store failed
+-- the bytes were appended to the file that was created last, or a front part of them if the store
+-- failed
 pub record Appended {T E : Type 0} (bytes : List ℕ) (result : Result T E)
     (old new : StoreTold) : Type 0 where
   pub files : OnOk result (new.files ≡ option_map (grown old.last bytes) old.files)

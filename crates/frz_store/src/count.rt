@@ -4,7 +4,7 @@ ghost use Rattle.frz_store.specs.Outside.{HasCause};
 
 use std::marker::Model;
 
-/// A count in 64 bits, which stays at its greatest value once it is there.
+/// A counter of 64 bits that stops at 2^64 - 1.
 #[derive(Drop)]
 pub struct Count {
     value: u64,
@@ -33,7 +33,7 @@ impl Count {
         self.value
     }
 
-    /// One more than the count, up to its greatest value.
+    /// The count plus one, at most 2^64 - 1. The count itself does not change.
     pub fn next(&self) -> u64
         ensures { result ≡ min (self.now + 1) (2 ^ 64 - 1) }
     {
@@ -47,7 +47,7 @@ impl Count {
         self.value = self.value.saturating_add(amount);
     }
 
-    /// Passes a result on, with this fault in place of an error, which is counted.
+    /// Passes `done` on. An error adds one to the count and is answered as `fault`.
     pub fn or_fault<T: Drop, E: Drop, F: Drop>(
         &mut self,
         done: Result<T, E>,

@@ -1,4 +1,4 @@
-//! The store over real files. It does not tell what they hold.
+//! The store over real files. Its contracts do not say what the files hold.
 ghost use Rattle.std.specs.Prelude.{◌≡◌, ◌≢◌, ◌↔◌, ◌-◌, ◌+◌, ◌≤◌, ◌^◌, min, length, Some, None, Ok, Err, IfOk, IfErr, IfSome, OnOk, IsTrue, is_err};
 ghost use Rattle.std.specs.Fs.{IsDir, file_type, metadata_len};
 ghost use Rattle.std.specs.Io.KnownBytes.{Consumes};
@@ -13,7 +13,7 @@ use std::fs::{Files, Metadata, OpenFile};
 use std::io::{Error, ErrorKind, Read, Seek, SeekFrom, Write};
 use std::{fs, io};
 
-/// Files by path.
+/// A store of real files, which are named by their paths.
 #[derive(Drop)]
 pub struct DiskStore<R: Files + Drop> {
     rt: R,
@@ -25,7 +25,7 @@ pub struct DiskStore<R: Files + Drop> {
 }
 
 impl<R: Files + Drop> DiskStore<R> {
-    /// A store over the files of this runtime, with no fault yet.
+    /// A store over the files of this runtime. All its counts are 0, and no file is created yet.
     pub fn new(rt: R) -> DiskStore<R>
         ensures faults { result.faults ≡ 0 }
         ensures asked { result.asked ≡ 0 }
@@ -43,7 +43,7 @@ impl<R: Files + Drop> DiskStore<R> {
     }
 }
 
-/// The file that std opened, and None where std found none. Every other error stays one.
+/// The opened file, or `None` if std did not find it. Every other error is passed on.
 fn found<F: Drop>(opened: io::Result<F>) -> io::Result<Option<F>>
     ensures there { IfOk opened (λ file. result ≡ Ok (Some file)) }
     ensures missing { IfErr opened (λ e. error_kind e ≡ kinds.NotFound → result ≡ Ok None) }
@@ -56,7 +56,7 @@ fn found<F: Drop>(opened: io::Result<F>) -> io::Result<Option<F>>
     }
 }
 
-/// The length that std tells. A folder has none to read.
+/// The length of a file in bytes. A folder is an error.
 fn length_of(about: &Metadata) -> io::Result<u64>
     ensures length { IfOk result (λ n. n ≡ metadata_len about.now) }
     ensures folder { IsTrue (is_err result) ↔ IsDir (file_type about.now) }
@@ -67,7 +67,7 @@ fn length_of(about: &Metadata) -> io::Result<u64>
     Ok(about.len())
 }
 
-/// How many bytes a file holds, and None where there is none.
+/// The length of a file in bytes, or `None` if there is no such file.
 fn size_of<R: Files>(rt: &R, name: &str) -> io::Result<Option<u64>> {
     let Some(file) = found(fs::open(rt, name))? else {
         return Ok(None);
@@ -76,7 +76,7 @@ fn size_of<R: Files>(rt: &R, name: &str) -> io::Result<Option<u64>> {
     Ok(Some(length_of(&about)?))
 }
 
-/// Sends a file to a place.
+/// Moves the position of a file to byte `at`.
 fn send<F: Seek>(file: &mut F, at: u64) -> io::Result<()>
     ensures { OnOk result (IfSome (F.stream_position file.old)
         (λ _. F.stream_position file.new ≡ Some at)) }
@@ -85,7 +85,7 @@ fn send<F: Seek>(file: &mut F, at: u64) -> io::Result<()>
     Ok(())
 }
 
-/// Fills the slice from the place of a file on.
+/// Fills the slice with the bytes of the file from byte `at` on.
 fn read_from<F: Read + Seek>(file: &mut F, at: u64, into: &mut [u8]) -> io::Result<()>
     ensures { OnOk result (ReadsAt F.stream_position F.remaining at into.new file.old) }
 {

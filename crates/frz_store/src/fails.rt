@@ -1,4 +1,4 @@
-//! The calls that an object in memory is told to fail.
+//! The planned failures of an object in memory: which of its calls are to fail.
 ghost use Rattle.std.specs.Prelude.{◌≡◌};
 ghost use Rattle.frz_store.specs.Outside.{IsNext};
 ghost use Rattle.frz_store.specs.Fails.{counts, next_number, names, due_of, after, new_plan};
@@ -6,7 +6,8 @@ ghost use Rattle.frz_store.specs.Fails.{counts, next_number, names, due_of, afte
 use crate::count::Count;
 use std::marker::Model;
 
-/// Which calls an entry counts: all calls of the object, or those of one name on a store.
+/// Which calls a `Fail` counts: all calls of the object (`Call`), or those of one function of a
+/// store.
 #[derive(Clone, Copy, Debug, PartialEq, Eq, Drop)]
 pub enum FailOn {
     Call,
@@ -16,8 +17,8 @@ pub enum FailOn {
     Append,
 }
 
-/// A call that is to fail: the `nth` of those that `on` counts, from 1. A failing `append` or
-/// `write` keeps the first `keep` bytes of its piece.
+/// A planned failure: the `nth` of the calls that `on` counts, from 1, is to fail. A failing
+/// `append` or `write` still keeps the first `keep` bytes of its piece.
 #[derive(Clone, Copy, Debug, PartialEq, Eq, Drop)]
 pub struct Fail {
     pub on: FailOn,
@@ -25,7 +26,7 @@ pub struct Fail {
     pub keep: u64,
 }
 
-/// The calls that are to fail, and how many calls of each name there were.
+/// The planned failures of an object, and how many calls of each kind it has had.
 #[derive(Drop)]
 pub struct FailPlan {
     fails: Vec<Fail>,
@@ -66,7 +67,8 @@ impl FailPlan {
         }
     }
 
-    /// Counts a call. Where it is to fail, how many bytes are kept.
+    /// Counts a call. Answers how many bytes of its piece the call keeps if it is to fail, else
+    /// `None`.
     pub fn next(&mut self, on: FailOn) -> Option<u64>
         ensures due { result ≡ due_of self.old on }
         ensures after { self.new ≡ after self.old on }
@@ -120,7 +122,7 @@ impl FailPlan {
 }
 
 impl FailOn {
-    /// Whether an entry on this name counts the calls of the other.
+    /// Whether an entry on `self` counts the calls of the kind `name`.
     fn counts(self, name: FailOn) -> bool
         ensures { result ≡ counts self name }
     {

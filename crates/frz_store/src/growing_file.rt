@@ -1,7 +1,7 @@
 //! A file in memory that may still grow.
 use crate::reserved::Reserved;
 
-/// The file that was created last, with the room that was reserved for it.
+/// The file that was created last: its name, its bytes and the room that is reserved for more.
 #[derive(Drop)]
 pub struct GrowingFile {
     pub name: String,

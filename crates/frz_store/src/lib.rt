@@ -1,6 +1,6 @@
 //! What lies outside the program, as three traits: a store of named files, a source of bytes and a
-//! sink for bytes. Beside them the objects in memory, whose calls can be told to fail, and the real
-//! ones over files, standard input and standard output.
+//! sink for bytes. Each trait has objects in memory, some of them with planned failures, and a real
+//! object: over files, standard input and standard output.
 #![tactic(auto)]
 
 mod count;

@@ -1,4 +1,4 @@
-//! A sink in memory whose calls can be told to fail.
+//! A sink in memory with planned failures.
 ghost use Rattle.std.specs.Prelude.{◌≡◌, ◌+◌, ◌-◌, ◌≤◌, ◌++◌, ℕ, List, [], length, take, Some, is_err, IfOk, OnOk};
 ghost use Rattle.std.specs.Result.{IsErrOf};
 ghost use Rattle.frz_store.specs.Fails.{new_plan, after};
@@ -11,8 +11,8 @@ use crate::reserved::{Reserved, front};
 use crate::{Failed, Sink, StoreFault};
 use std::alloc::Global;
 
-/// A sink that keeps what it takes, in room that is reserved when it is made. The calls that its
-/// list names by `Call` fail, and so does a write past the room.
+/// A sink that keeps what it takes, in room that is reserved when it is made. A write fails if an
+/// entry of its list on `Call` names it, or if its piece does not fit in the room that is left.
 #[derive(Drop)]
 pub struct MemSink {
     held: Reserved,
@@ -21,7 +21,8 @@ pub struct MemSink {
 }
 
 impl MemSink {
-    /// A sink that has taken nothing, with room for so many bytes.
+    /// An empty sink with room for `room` bytes, or `NoMemory` if that room cannot be reserved. The
+    /// writes that `fails` names will fail.
     pub fn new(alloc: Global, room: usize, fails: Vec<Fail>) -> Result<MemSink, StoreFault>
         ensures taken { IfOk result (λ sink. ⟦<MemSink as Sink>⟧.taken sink ≡ Some []) }
         ensures faults { IfOk result (λ sink. ⟦<MemSink as Sink>⟧.faults sink ≡ 0) }
@@ -39,7 +40,7 @@ impl MemSink {
         }
     }
 
-    /// The bytes taken.
+    /// The bytes taken so far.
     pub fn taken(&self) -> &[u8]
         ensures { ⟦<MemSink as Sink>⟧.taken self.now ≡ Some result.now }
     {

@@ -1,4 +1,4 @@
-//! A source in memory whose calls can be told to fail.
+//! A source in memory with planned failures.
 ghost use Rattle.std.specs.Prelude.{◌≡◌, ◌<◌, ◌≤◌, min, ℕ, List, Some, is_err, IfOk, OnErr, length};
 ghost use Rattle.frz_store.specs.Fails.{new_plan};
 ghost use Rattle.frz_store.specs.MemSource.{left, faults, plan, fails_next, called, without_front};
@@ -9,7 +9,7 @@ use crate::fails::{Fail, FailOn, FailPlan};
 use crate::remaining::Remaining;
 use crate::{Failed, Source};
 
-/// A source over bytes in memory. The calls that its list names by `Call` fail.
+/// A source over bytes in memory. A read fails if an entry of its list on `Call` names it.
 #[derive(Drop)]
 pub struct MemSource {
     remaining: Remaining,

@@ -1,4 +1,4 @@
-//! A store in memory whose calls can be told to fail.
+//! A store in memory with planned failures.
 ghost use Rattle.std.specs.Prelude.{◌≡◌, ◌+◌, ◌-◌, ◌≤◌, ◌↔◌, ℕ, List, [], length, take, drop, Some, None, Ok, Err, is_err, if◌then◌else◌, IfSome, IsTrue, IsErr, OnOk, OnErr};
 ghost use Rattle.std.specs.Option.{option_copied, option_map};
 ghost use Rattle.std.specs.Result.{IsErrOf};
@@ -16,8 +16,8 @@ use crate::shelf::Shelf;
 use crate::{Failed, Store, StoreFault};
 use std::alloc::Global;
 
-/// A store in memory. The calls that its list names fail; where two entries name one call, the
-/// first counts.
+/// A store in memory. The calls that its list of failures names fail. Where two entries name one
+/// call, the first entry counts.
 #[derive(Drop)]
 pub struct MemStore {
     alloc: Global,
@@ -28,7 +28,7 @@ pub struct MemStore {
 }
 
 impl MemStore {
-    /// A store without names.
+    /// A store without files. The calls that `fails` names will fail.
     pub fn new(alloc: Global, fails: Vec<Fail>) -> MemStore
         ensures files { ⟦<MemStore as Store>⟧.files result ≡ Some no_files }
         ensures last { ⟦<MemStore as Store>⟧.last result ≡ None }
@@ -48,7 +48,7 @@ impl MemStore {
         }
     }
 
-    /// The bytes of the name, and None exactly where it is not there.
+    /// The bytes of the file, or `None` exactly if no file has this name.
     pub fn file(&self, name: &str) -> Option<&[u8]>
         ensures { IfSome (⟦<MemStore as Store>⟧.files self.now)
             (λ m. option_copied result ≡ m name.now) }
@@ -56,14 +56,15 @@ impl MemStore {
         self.shelf.file(name)
     }
 
-    /// The bytes that all reads asked for, up to the greatest number of 64 bits.
+    /// How many bytes all reads together asked for, at most 2^64 - 1.
     pub fn asked(&self) -> u64
         ensures { result ≡ ⟦<MemStore as Store>⟧.asked self.now }
     {
         self.asked.get()
     }
 
-    /// Makes the name hold these bytes. It is no call of the trait, so it counts as none.
+    /// Makes the name hold these bytes, or answers `NoMemory` and changes nothing. No room to
+    /// append may be left. It is not a call of the trait, so it is not counted as one.
     pub fn put(&mut self, name: &str, bytes: &[u8]) -> Result<(), StoreFault>
         requires { ⟦<MemStore as Store>⟧.room self.old ≡ 0 }
         ensures put { IsPut name.now bytes.now result

@@ -1,7 +1,7 @@
 //! A file in memory.
 ghost use Rattle.frz_store.specs.Bytes.{AreBytes};
 
-/// A file at rest.
+/// A file that no longer grows: its name and its bytes.
 #[derive(Drop)]
 pub struct NamedFile {
     pub name: String,

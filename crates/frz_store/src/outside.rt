@@ -1,5 +1,6 @@
-//! The three objects as the program sees them. Each has a count of faults that never falls. What it
-//! holds, has left or has taken is optional: none where the object does not tell.
+//! The traits of the three objects outside the program: store, source and sink.
+//! Each object has a count of faults that never falls. What an object holds, has left or has taken
+//! is optional in its contracts: it is `None` if the object does not tell, as the real ones do not.
 ghost use Rattle.std.specs.Prelude.{◌≡◌, ◌⊎◌, ℕ, ◌+◌, ◌-◌, ◌^◌, ◌≤◌, ◌<◌, min, List, [], length, take, drop, Option, Some, IfOk, OnOk, OnErr, IfSome, OnSome};
 ghost use Rattle.std.specs.Option.{option_map};
 ghost use Rattle.std.specs.Result.{IsErrOf};
@@ -8,16 +9,16 @@ ghost use Rattle.frz_store.specs.Bytes.{HoldsBytes};
 ghost use Rattle.frz_store.specs.Files.{Files, put, grown, Covers};
 ghost use Rattle.frz_store.specs.Outside.{StoreCauses, FreeCauses, HasCause, Took, IsNext};
 
-/// The object failed, and its count of faults rose.
+/// The call failed, and the count of faults of its object rose.
 #[derive(Clone, Copy, Debug, PartialEq, Eq, Drop)]
 pub struct Failed;
 
-/// Why a call of a store that may want memory did not succeed.
+/// Why a call of a store that may need memory did not succeed.
 #[derive(Clone, Copy, Debug, PartialEq, Eq, Drop)]
 pub enum StoreFault {
     /// The store failed, and its count of faults rose.
     Failed,
-    /// Memory was wanted and not there.
+    /// The call needed memory and got none.
     NoMemory,
 }
 
@@ -32,29 +33,29 @@ impl From<Failed> for StoreFault {
 }
 
 /// Named files, read at any place and written from front to back, one file at a time. A call that
-/// succeeds leaves the counts of faults and wants.
+/// succeeds does not change the counts of faults and wants.
 pub trait Store {
-    /// What each name holds.
+    /// The bytes that each name holds, or `None` if the store does not tell.
     ghost files: { Self → Option Files };
 
-    /// The name that was created last.
+    /// The name of the file that was created last.
     ghost last: { Self → Option (List ℕ) };
 
     ghost faults: { Self → ℕ };
 
-    /// How often `size` or `read` wanted memory for the store itself and had none.
+    /// How often `size` or `read` needed memory for the store itself and got none.
     ghost wants: { Self → ℕ };
 
-    /// The bytes that all reads asked for, up to the greatest number of 64 bits.
+    /// How many bytes all reads together asked for, at most 2^64 - 1.
     ghost asked: { Self → ℕ };
 
-    /// How often the store was called, up to the greatest number of 64 bits.
+    /// How often the store was called, at most 2^64 - 1.
     ghost calls: { Self → ℕ };
 
-    /// How many bytes may still be appended.
+    /// How many bytes may still be appended to the file that was created last.
     ghost room: { Self → ℕ };
 
-    /// How many bytes the name holds, and None exactly where the name is not there.
+    /// The length of the file in bytes, or `None` exactly if no file has this name.
     fn size(&mut self, name: &str) -> Result<Option<u64>, StoreFault>
         ensures size { IfOk result (λ size. IfSome (files self.old)
             (λ m. size ≡ option_map length (m name.now))) }
@@ -66,8 +67,8 @@ pub trait Store {
         ensures causes { StoreCauses (faults self.old) (faults self.new)
             (wants self.old) (wants self.new) result };
 
-    /// Fills the slice with the bytes of the name from the place `at` on. After a refusal the slice
-    /// may hold anything.
+    /// Fills the slice with the bytes of the file from byte `at` on. The file must be there and
+    /// reach that far, if the store tells. After an error the slice may hold anything.
     fn read(&mut self, name: &str, at: u64, into: &mut [u8]) -> Result<(), StoreFault>
         requires { IfSome (files self.old) (Covers at (length into.old) name.now) }
         ensures bytes { OnOk result (IfSome (files self.old) (λ m. IfSome (m name.now)
@@ -81,7 +82,8 @@ pub trait Store {
         ensures causes { StoreCauses (faults self.old) (faults self.new)
             (wants self.old) (wants self.new) result };
 
-    /// Makes the name hold no bytes, with room for `due` bytes to come.
+    /// Creates an empty file of this name, or empties the one that is there, with room for `due`
+    /// bytes to come.
     fn create(&mut self, name: &str, due: u64) -> Result<(), StoreFault>
         ensures files { OnOk result (files self.new
             ≡ option_map (λ m. put m name.now []) (files self.old)) }
@@ -93,13 +95,13 @@ pub trait Store {
         ensures causes { FreeCauses (faults self.old) (faults self.new)
             (wants self.old) (wants self.new) result }
 
-        // Failed leaves the name as it was or with no bytes.
+        // After `Failed` the file is as it was or holds no bytes, and nothing may be appended.
         ensures failed_files { IsErrOf result StoreFault.Failed
             → (files self.new ≡ files self.old)
             ⊎ (files self.new ≡ option_map (λ m. put m name.now []) (files self.old)) }
         ensures failed_room { IsErrOf result StoreFault.Failed → room self.new ≡ 0 }
 
-        // NoMemory changes nothing.
+        // After `NoMemory` nothing has changed but the count of calls.
         ensures no_memory_files { IsErrOf result StoreFault.NoMemory
             → files self.new ≡ files self.old }
         ensures no_memory_room { IsErrOf result StoreFault.NoMemory
@@ -109,7 +111,9 @@ pub trait Store {
         ensures no_memory_wants { IsErrOf result StoreFault.NoMemory
             → wants self.new ≡ wants self.old };
 
-    /// Puts the piece at the end of the file that was created last.
+    /// Appends the piece, which must fit in the room, to the file that was created last. A call
+    /// that fails may have appended the front of the piece. The whole piece is taken off the room
+    /// in both cases.
     fn append(&mut self, piece: &[u8]) -> Result<(), Failed>
         requires { length piece.now ≤ room self.old }
         ensures files { OnOk result (files self.new
@@ -124,19 +128,19 @@ pub trait Store {
         ensures wants { wants self.new ≡ wants self.old }
         ensures cause { HasCause (faults self.old) (faults self.new) result };
 
-    /// What it tells are bytes.
+    /// Each file that the store tells of holds bytes: numbers below 256.
     ghost holds_bytes: { (store : Self) → IfSome (files store) HoldsBytes };
 }
 
-/// Bytes that come one after the other.
+/// A stream of bytes to read.
 pub trait Source {
-    /// The bytes that are left.
+    /// The bytes that no read has taken.
     ghost left: { Self → Option (List ℕ) };
 
     ghost faults: { Self → ℕ };
 
-    /// Takes bytes into the front of the slice and answers how many; 0 is the end. Behind them, and
-    /// after a failure, the slice may hold anything.
+    /// Reads bytes into the front of the slice, which must not be empty, and answers how many; 0 is
+    /// the end. Behind these bytes, and after a failure, the slice may hold anything.
     fn read(&mut self, into: &mut [u8]) -> Result<usize, Failed>
         requires { 0 < length into.old }
         ensures count { IfOk result (λ n. n ≤ length into.new) }
@@ -146,14 +150,14 @@ pub trait Source {
         ensures cause { HasCause (faults self.old) (faults self.new) result };
 }
 
-/// What takes bytes, one after the other.
+/// A stream to write bytes to.
 pub trait Sink {
-    /// The bytes taken.
+    /// The bytes taken so far.
     ghost taken: { Self → Option (List ℕ) };
 
     ghost faults: { Self → ℕ };
 
-    /// Takes the whole piece, or fails and takes a prefix of it.
+    /// Takes the whole piece, or fails and takes a prefix of it, which may be empty.
     fn write(&mut self, piece: &[u8]) -> Result<(), Failed>
         ensures ok { OnOk result (taken self.new ≡ append_known (taken self.old) piece.now) }
         ensures failed { OnErr result ((k : ℕ)

@@ -4,7 +4,7 @@ ghost use Rattle.frz_store.specs.Outside.{Took};
 
 use std::marker::Model;
 
-/// The bytes that are left.
+/// Bytes, and the place of the first one that is left.
 #[derive(Drop)]
 pub struct Remaining {
     bytes: Vec<u8>,
@@ -34,7 +34,8 @@ impl Remaining {
         &self.bytes[self.at..]
     }
 
-    /// Takes as many bytes as are left and as the slice holds.
+    /// Moves as many bytes as are left and as fit into the front of the slice, and answers how
+    /// many.
     pub fn take_into(&mut self, into: &mut [u8]) -> usize
         requires { 0 < length into.old }
         ensures count { result ≡ min (length into.old) (length self.old) }

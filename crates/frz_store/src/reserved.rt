@@ -5,7 +5,8 @@ ghost use Rattle.frz_store.specs.Bytes.{AreBytes};
 
 use std::alloc::{AllocError, Global};
 
-/// Bytes with reserved room, so that what fits is appended without taking memory.
+/// Bytes, and room that is reserved behind them: a piece that fits in it is appended without taking
+/// memory.
 #[derive(Drop)]
 pub struct Reserved {
     pub bytes: Vec<u8>,
@@ -35,7 +36,7 @@ impl Reserved {
     }
 }
 
-/// The first bytes of a piece, or the whole piece where it is shorter.
+/// The first `most` bytes of a piece, or the whole piece if it is shorter.
 pub fn front(piece: &[u8], most: u64) -> &[u8]
     ensures { result.now ≡ take most piece.now }
 {

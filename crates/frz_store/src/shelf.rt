@@ -1,4 +1,4 @@
-//! Files in memory: those at rest, and over them the one that was created last.
+//! Files in memory: those that no longer grow, and the one that was created last.
 ghost use Rattle.std.specs.Prelude.{◌≡◌, ◌+◌, ◌-◌, ◌≤◌, ℕ, List, [], ◌∷◌, ◌++◌, Some, None, length, drop, take, IfSome, IfOk, OnOk, OnErr};
 ghost use Rattle.std.specs.Option.{option_copied, option_map};
 ghost use Rattle.std.specs.String.{string_bytes};
@@ -11,7 +11,7 @@ use crate::named_file::NamedFile;
 use crate::reserved::{Reserved, front};
 use std::alloc::{AllocError, Global};
 
-/// The bytes of the last file of this name.
+/// The bytes of the last file of this name in the list, or `None` if there is none.
 fn find<'a>(files: &'a [NamedFile], name: &str) -> Option<&'a [u8]>
     ensures { option_copied result ≡ stacked no_files files.now name.now }
 {
@@ -27,8 +27,8 @@ fn find<'a>(files: &'a [NamedFile], name: &str) -> Option<&'a [u8]>
     }
 }
 
-/// A store's files. The file that was created last lies apart, with its room reserved, until the
-/// next one is created.
+/// The files of a store in memory. The file that was created last lies apart, with its room
+/// reserved, until the next one is created.
 #[derive(Drop)]
 pub struct Shelf {
     rest: Vec<NamedFile>,
@@ -62,7 +62,7 @@ impl Shelf {
         }
     }
 
-    /// How many bytes the name holds.
+    /// The length of the file in bytes, or `None` if no file has this name.
     pub fn size(&self, name: &str) -> Option<u64>
         ensures { result ≡ option_map length (files_of self.now name.now) }
     {
@@ -72,7 +72,7 @@ impl Shelf {
         }
     }
 
-    /// Copies what the name holds from the place `at` on.
+    /// Fills the slice with the bytes of the file from byte `at` on.
     pub fn read(&self, name: &str, at: u64, into: &mut [u8])
         requires { Covers at (length into.old) name.now (files_of self.now) }
         ensures { IfSome (files_of self.now name.now)
@@ -84,7 +84,8 @@ impl Shelf {
         }
     }
 
-    /// Makes the name hold nothing, with room for so many bytes.
+    /// Creates an empty file of this name, or empties the one that is there, with room for `due`
+    /// bytes. An error changes nothing.
     pub fn create(&mut self, alloc: Global, name: &str, due: u64) -> Result<(), AllocError>
         ensures files { OnOk result (files_of self.new ≡ put (files_of self.old) name.now []) }
         ensures last { OnOk result (last_of self.new ≡ Some name.now) }
@@ -103,7 +104,7 @@ impl Shelf {
         Ok(())
     }
 
-    /// Makes the name hold these bytes.
+    /// Makes the name hold these bytes. No room to append may be left. An error changes nothing.
     pub fn put(&mut self, alloc: Global, name: &str, bytes: &[u8]) -> Result<(), AllocError>
         requires { room_of self.old ≡ 0 }
         ensures files { OnOk result
@@ -126,7 +127,7 @@ impl Shelf {
         }
     }
 
-    /// Puts a piece that has room at the end of the file that was created last.
+    /// Appends a piece, which must fit in the room, to the file that was created last.
     pub fn append(&mut self, piece: &[u8])
         requires { length piece.now ≤ room_of self.old }
         ensures files { files_of self.new ≡ grown (last_of self.old) piece.now (files_of self.old) }
@@ -139,8 +140,8 @@ impl Shelf {
         }
     }
 
-    /// Puts the first bytes of a piece that has room at the end of the file that was created last,
-    /// and uses up the room of the whole piece.
+    /// Appends the first `keep` bytes of a piece to the file that was created last, and uses up the
+    /// room of the whole piece, which must fit.
     pub fn append_front(&mut self, piece: &[u8], keep: u64)
         requires { length piece.now ≤ room_of self.old }
         ensures files { files_of self.new
@@ -165,7 +166,7 @@ impl Shelf {
         }
     }
 
-    /// No more may be appended.
+    /// Gives up the room, so that nothing more may be appended.
     pub fn close(&mut self)
         ensures files { files_of self.new ≡ files_of self.old }
         ensures last { last_of self.new ≡ last_of self.old }
@@ -185,7 +186,7 @@ fn copy_out(bytes: &[u8], at: u64, into: &mut [u8])
     into.copy_from_slice(&bytes[at..at + into.len()]);
 }
 
-/// Puts a file behind the others, which have room for one more.
+/// Adds a file at the end of the list, which has capacity for one more.
 fn shelve(rest: &mut Vec<NamedFile>, file: GrowingFile)
     requires { vec_len rest.old + 1 ≤ vec_capacity rest.old }
     ensures { stacked no_files rest.new.items
@@ -199,7 +200,7 @@ fn shelve(rest: &mut Vec<NamedFile>, file: GrowingFile)
     }
 }
 
-/// Puts a file behind the others.
+/// Adds a file of this name and these bytes at the end of the list.
 fn add(
     rest: &mut Vec<NamedFile>,
     alloc: Global,

@@ -1,4 +1,4 @@
-//! The real source and sink, over any reader and writer. They tell nothing.
+//! The real source and sink, over any reader and writer. They do not tell what is left or taken.
 ghost use Rattle.std.specs.Prelude.{◌≡◌, ◌<◌, ◌≤◌, length, None, IfOk, OnOk};
 ghost use Rattle.std.specs.Io.KnownBytes.{Appends, ReadConsumes};
 ghost use Rattle.frz_store.specs.Outside.{HasCause};
@@ -63,7 +63,7 @@ impl<W: Write + Drop> OutputSink<W> {
     }
 }
 
-/// Writes the whole piece and sends it on its way.
+/// Writes the whole piece and flushes the writer.
 fn write_through<W: Write>(writer: &mut W, piece: &[u8]) -> io::Result<()>
     ensures { OnOk result (Appends (W.contents writer.old) (W.contents writer.new) piece.now) }
 {

@@ -1,4 +1,4 @@
-//! A store in memory that never fails.
+//! A store in memory whose only error is want of memory.
 ghost use Rattle.std.specs.Prelude.{◌≡◌, ◌+◌, ◌≤◌, ℕ, List, [], length, take, drop, Some, None, IfSome, OnOk, OnErr};
 ghost use Rattle.std.specs.Option.{option_copied, option_map};
 ghost use Rattle.std.specs.Result.{IsErrOf};
@@ -12,7 +12,7 @@ use crate::shelf::Shelf;
 use crate::{Failed, Store, StoreFault};
 use std::alloc::Global;
 
-/// A store in memory that never fails.
+/// A store in memory that never fails, except that `create` and `put` may find no memory.
 #[derive(Drop)]
 pub struct SureStore {
     alloc: Global,
@@ -22,7 +22,7 @@ pub struct SureStore {
 }
 
 impl SureStore {
-    /// A store without names.
+    /// A store without files.
     pub fn new(alloc: Global) -> SureStore
         ensures files { ⟦<SureStore as Store>⟧.files result ≡ Some no_files }
         ensures last { ⟦<SureStore as Store>⟧.last result ≡ None }
@@ -40,7 +40,7 @@ impl SureStore {
         }
     }
 
-    /// The bytes of the name, and None exactly where it is not there.
+    /// The bytes of the file, or `None` exactly if no file has this name.
     pub fn file(&self, name: &str) -> Option<&[u8]>
         ensures { IfSome (⟦<SureStore as Store>⟧.files self.now)
             (λ m. option_copied result ≡ m name.now) }
@@ -48,14 +48,15 @@ impl SureStore {
         self.shelf.file(name)
     }
 
-    /// The bytes that all reads asked for, up to the greatest number of 64 bits.
+    /// How many bytes all reads together asked for, at most 2^64 - 1.
     pub fn asked(&self) -> u64
         ensures { result ≡ ⟦<SureStore as Store>⟧.asked self.now }
     {
         self.asked.get()
     }
 
-    /// Makes the name hold these bytes. It is no call of the trait, so it counts as none.
+    /// Makes the name hold these bytes, or answers `NoMemory` and changes nothing. No room to
+    /// append may be left. It is not a call of the trait, so it is not counted as one.
     pub fn put(&mut self, name: &str, bytes: &[u8]) -> Result<(), StoreFault>
         requires { ⟦<SureStore as Store>⟧.room self.old ≡ 0 }
         ensures put { IsPut name.now bytes.now result

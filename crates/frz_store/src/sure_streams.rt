@@ -37,7 +37,7 @@ impl Source for SureSource {
     }
 }
 
-/// A sink that never fails, drops what it takes and does not tell it.
+/// A sink that never fails, discards what it takes and does not tell it.
 #[derive(Drop)]
 pub struct SureSink;
 

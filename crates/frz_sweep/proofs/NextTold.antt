@@ -163,8 +163,8 @@ late_code arena side n i c some open_one told ne =
       ]
     ]
 
--- in the middle of a ply, where the numbers below i are told
--- it, the next one is told it by its local code
+-- in the middle of a ply, where the codes of the numbers below i tell this ply too, the local code
+-- of number i makes its code tell it
 pub next_told : {M V : Type 0} (arena : Arena M ℕ V) → IsLawful arena →
     (side : Colour) (n i : ℕ) (codes : List ℕ) →
     ((p : ℕ) → p < i → IsTold arena side (n + 1) p (slice_index codes p)) →

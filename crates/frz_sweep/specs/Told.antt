@@ -15,10 +15,10 @@ pub record IsTold {M V : Type 0} (arena : Arena M ℕ V) (side : Colour) (n i co
   pub fails : (m : ℕ) → m < n → FailsWithin arena side m i ↔ IsFailureWithin m code
   pub within : code ≤ 1 + 2 * n
 
--- the codes of all numbers do
+-- the code of each number tells its wins and failures within fewer plies than n, and no others
 abbrev pub AreTold : {M V : Type 0} → Arena M ℕ V → Colour → ℕ → List ℕ → Type 0
 AreTold arena side n codes = (i : ℕ) → IsTold arena side n i (slice_index codes i)
 
--- a code once its plies are reached, and 1 before
+-- the code, if it has at most so many plies, else 1, the code of an open number
 abbrev pub settled_code : (ply code : ℕ) → ℕ
 settled_code ply code = if nat_le code (3 + 2 * ply) then code else 1

@@ -1,4 +1,4 @@
--- How long the assigned wins take that one move reaches.
+-- The lags of the exits one move away that win for a side.
 use Rattle.std.specs.Prelude.{◌≡◌, ◌≤◌, ℕ, List, Contains, ⊤}
 use Rattle.frz_board.specs.declared.man.Colour.{Colour}
 use Rattle.frz_sets.specs.declared.exit.Value.{Value}
@@ -14,7 +14,7 @@ use Rattle.frz_exits.specs.Values.{class_of, lag_of}
 abbrev pub HasSmallLag : Next ℕ Value → Type 0
 HasSmallLag = LeadsTo (λ q. ⊤) (λ v. lag_of v ≤ 1000)
 
--- an exit that wins for the side has at most this lag
+-- the lag of an exit that wins for the side is at most this
 abbrev pub WinsIn : Colour → ℕ → Next ℕ Value → Type 0
 WinsIn side most = LeadsTo (λ q. ⊤) (λ v. class_of v side ≡ Good → lag_of v ≤ most)
 

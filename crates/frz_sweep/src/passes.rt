@@ -1,4 +1,4 @@
-//! Ply by ply, until nothing changes.
+//! The loop of the slow solver: ply by ply, until nothing changes.
 
 ghost use Rattle.std.specs.Prelude.{◌≡◌, ◌≤◌, ◌⊎◌, ℕ, length, slice_index, vec_len, IfOk};
 ghost use Rattle.frz_arena.specs.Bounds.{IsCodeAt};
@@ -35,7 +35,8 @@ fn greatest_lag<G: NumberedGame<L>, L: Ledger>(
     most
 }
 
-/// Goes on from the first ply until one changes nothing and no lag is still to come.
+/// Goes on from ply 1 until a ply changes nothing and is above `lag`, so that no exit that wins for
+/// the side is still to come.
 fn settle_from_first<G: NumberedGame<L>, L: Ledger>(
     game: &G,
     side: Colour,
@@ -62,7 +63,7 @@ fn settle_from_first<G: NumberedGame<L>, L: Ledger>(
     }
 }
 
-/// Settles all numbers, from the first ply on.
+/// Settles all numbers, from ply 0 on.
 fn settle_from_none<G: NumberedGame<L>, L: Ledger>(
     game: &G,
     side: Colour,
@@ -81,7 +82,8 @@ fn settle_from_none<G: NumberedGame<L>, L: Ledger>(
     settle_from_first(game, side, lag, codes, &mut lists, steps);
 }
 
-/// The codes of the bounds of a side, one for each number.
+/// The codes of the bounds of a side, one for each number. It answers [`NoMemory`] if memory runs
+/// out.
 pub fn solve<G: NumberedGame<L>, L: Ledger>(
     alloc: Global,
     game: &G,

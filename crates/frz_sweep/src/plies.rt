@@ -1,4 +1,4 @@
-//! One ply: what the codes one ply on settle.
+//! One ply of the slow solver: the numbers that the codes one ply on settle.
 
 ghost use Rattle.std.specs.Prelude.{◌≡◌, ◌≢◌, ◌≤◌, ◌<◌, ◌+◌, ◌*◌, ℕ, length, slice_index, true, false};
 ghost use Rattle.frz_arena.specs.LocalCodes.{local_code};
@@ -10,10 +10,10 @@ use frz_graph::{Lists, NumberedGame, local_at};
 use frz_steps::Steps;
 use std::sync::ledger::Ledger;
 
-/// The code of a number whose plies are not yet reached.
+/// The code of an open number, that is, one which no ply has settled yet. A hold keeps it.
 pub const OPEN: u32 = 1;
 
-/// The code of the number once its plies are reached, else that of an open number.
+/// The local code of number `i` if it has at most `ply` plies, else [`OPEN`].
 fn settled<G: NumberedGame<L>, L: Ledger>(
     game: &G,
     side: Colour,
@@ -39,7 +39,8 @@ fn settled<G: NumberedGame<L>, L: Ledger>(
     }
 }
 
-/// Settles the number if it is open and its plies are reached, and says whether it did.
+/// Settles number `i` if it is open, and is broken or has the local code of a win or a failure of
+/// at most `ply` plies. The answer is whether it did.
 fn settle<G: NumberedGame<L>, L: Ledger>(
     game: &G,
     side: Colour,
@@ -74,7 +75,7 @@ fn settle<G: NumberedGame<L>, L: Ledger>(
     true
 }
 
-/// Settles all numbers whose plies are reached, and says whether there is one.
+/// Settles, as `settle` does, each number that is open, and says whether one was settled.
 pub fn settle_all<G: NumberedGame<L>, L: Ledger>(
     game: &G,
     side: Colour,

@@ -12,8 +12,9 @@ use frz_steps::Steps;
 use std::alloc::Global;
 use std::sync::ledger::Ledger;
 
-/// The codes of the bounds of a side, one for each number, and 0 at broken ones. It goes forwards
-/// ply by ply, and is slow: it asks each number that is not settled again at each ply.
+/// The table of a side: the codes of its bounds, one for each number, and 0 at broken ones. The
+/// solver goes forward ply by ply, and is slow: at each ply it asks again for the moves of each
+/// open number. It answers [`NoMemory`] if memory runs out.
 pub fn sweep<B: ExitBook, L: Ledger>(
     alloc: Global,
     game: &Game<'_, B>,

@@ -1,4 +1,4 @@
-//! How long the assigned wins take that one move reaches.
+//! The lags of the exits one move away that win for a side.
 
 ghost use Rattle.std.specs.Prelude.{◌≡◌, ◌≤◌, ◌⊎◌, All};
 ghost use Rattle.frz_sweep.specs.Winning.{HasSmallLag, HasWinAfter, WinsAfter, WinsIn};
@@ -7,7 +7,7 @@ use frz_board::Colour;
 use frz_exits::{Class, class, lag};
 use frz_graph::{Arm, Next};
 
-/// The lag of the move's exit where that wins for the side, and 0 elsewhere.
+/// The lag of the exit that a move leads to, if its value wins for the side, and 0 otherwise.
 fn winning_lag(side: Colour, next: Next) -> u32
     requires { HasSmallLag next }
     ensures within { WinsIn side result next }
@@ -23,7 +23,8 @@ fn winning_lag(side: Colour, next: Next) -> u32
     }
 }
 
-/// The greatest lag of the exits of these moves that win for the side, and 0 where none does.
+/// The greatest lag, in plies, of the exits of these moves that win for the side, and 0 if none
+/// does.
 pub fn greatest_winning_lag(side: Colour, arms: &[Arm]) -> u32
     requires { All (λ a. HasSmallLag a.next) arms.now }
     ensures within { All (λ a. WinsIn side result a.next) arms.now }

@@ -221,7 +221,7 @@ some_size magic text count size kept eight are are_text short enough fits differ
           (ne_eqb (kept_size bytes) size (λ e. differs (sym is ∙ e))) ∙ ap at is;
     }
 
--- what so many bytes give where so many are due
+-- what the last step gives for `count` bytes where `due` bytes are due
 abbrev by_length : ℕ → ℕ → Contents → Given
 by_length count due contents =
     cond (ltb count due) (Err (Truncated count due))

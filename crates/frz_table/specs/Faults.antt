@@ -17,20 +17,20 @@ abbrev pub rules_fault : RulesError → TableFault
 rules_fault (reading.Bad fault) = Rules fault
 rules_fault reading.NoMemory = NoMemory
 
--- the store failed or memory was wanted
+-- the store failed, or there was no memory
 abbrev pub IsOutside : TableFault → Type 0
 IsOutside Failed = ⊤
 IsOutside NoMemory = ⊤
 IsOutside fault = ⊥
 
--- a fault of the file itself has this
+-- P holds if the fault is of the file itself, not of the store or of memory
 abbrev pub UnlessOutside : TableFault → Type 0 → Type 0
 UnlessOutside Failed P = ⊤
 UnlessOutside NoMemory P = ⊤
 UnlessOutside fault P = P
 
--- neither count falls, and an answer of the call's own leaves both; a failure has raised the count
--- of faults, and want of memory is free
+-- neither count falls, and success or a fault of the file changes none; `Failed` has raised the
+-- count of faults, and `NoMemory` need not have raised any
 pub record TableCauses {T : Type 0} (faults_before faults_now wants_before wants_now : ℕ)
     (result : Result T TableFault) : Type 0 where
   pub later : faults_before ≤ faults_now

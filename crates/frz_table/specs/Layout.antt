@@ -26,11 +26,11 @@ file_of magic text size white black =
 abbrev pub due_length : List ℕ → ℕ → ℕ
 due_length text size = 16 + length text + 8 * size
 
--- how many pieces of 16,384 so many codes make, of which the last may be shorter
+-- how many pieces of 16,384 codes `count` codes make, of which the last may be shorter
 abbrev pub pieces_of : ℕ → ℕ
 pieces_of count = (count + 16383) / 16384
 
--- where a side's codes begin
+-- the byte at which a side's codes begin
 abbrev pub place_of : Colour → List ℕ → ℕ → ℕ
 place_of White text size = 16 + length text
 place_of Black text size = 16 + length text + 4 * size

@@ -3,7 +3,7 @@ use Rattle.std.specs.Prelude.{ℕ, zero, suc, ◌^◌, ◌<◌, List, [], ◌∷
 use Rattle.std.specs.Int.{w32, to_le_bytes, from_le_bytes}
 pub use Rattle.frz_store.specs.Bytes.{AreBytes}
 
--- each is a number of 32 bits
+-- each number of the list is below 2^32
 abbrev pub AreNumbers : List ℕ → Type 0
 AreNumbers ns = (i : ℕ) → slice_index ns i < 2 ^ 32
 
@@ -11,7 +11,7 @@ AreNumbers ns = (i : ℕ) → slice_index ns i < 2 ^ 32
 abbrev pub number_at : ℕ → List ℕ → ℕ
 number_at place bytes = from_le_bytes w32 (take 4 (drop place bytes))
 
--- so many numbers, one behind the other from the front
+-- the first `count` numbers in these bytes
 unfoldable pub numbers : ℕ → List ℕ → List ℕ
 numbers zero bytes = []
 numbers (suc count) bytes = number_at 0 bytes ∷ numbers count (drop 4 bytes)

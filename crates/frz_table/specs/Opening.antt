@@ -13,8 +13,8 @@ use Rattle.frz_table.specs.Numbers.{number_at}
 use Rattle.frz_table.specs.Layout.{magic_of, due_length}
 use Rattle.frz_table.specs.Tables.{Table, IsTableFile}
 
--- what tells one format of table files from another: its magic,
--- how it reads a text, and the size of rules
+-- what distinguishes one format of table files from another: its magic, how it reads a text, and
+-- the size that rules have
 pub record Format : Type 0 where
   pub magic : List ℕ
   pub read : List ℕ → Result RuleLines RulesFault
@@ -24,12 +24,12 @@ abbrev pub table_format : FileKind → Format
 table_format kind =
     record { magic = magic_of kind; read = rules_of; size = λ rules. size_of rules.groups }
 
--- what a file gives that opens
+-- what opening a file gives
 pub record Contents : Type 0 where
   pub text : List ℕ
   pub rules : RuleLines
 
--- what these bytes keep as the length of the text, as the text and as the size
+-- the length of the text, the text and the size, as these bytes keep them
 abbrev pub kept_length : List ℕ → ℕ
 kept_length bytes = number_at 8 bytes
 
@@ -39,7 +39,7 @@ kept_text bytes = take (kept_length bytes) (drop 12 bytes)
 abbrev pub kept_size : List ℕ → ℕ
 kept_size bytes = number_at (12 + kept_length bytes) bytes
 
--- the file is shorter or longer than is due
+-- the last step: a file that is shorter or longer than is due is refused
 abbrev pub of_length : List ℕ → Contents → ℕ → Result Contents TableFault
 of_length bytes contents due =
     if nat_lt (length bytes) due then Err (Truncated (length bytes) due) else
@@ -70,7 +70,7 @@ abbrev pub with_magic : Format → List ℕ → Result Contents TableFault
 with_magic format bytes =
     if bytes_eq (take 8 bytes) format.magic then with_length format bytes else Err Magic
 
--- what a name gives that holds these bytes, or is not there
+-- what opening a name gives: the name holds these bytes, or is not there
 unfoldable pub opened : Format → Option (List ℕ) → Result Contents TableFault
 opened format None = Err Missing
 opened format (Some bytes) =
@@ -103,19 +103,21 @@ opening_calls format (Some bytes) =
 abbrev pub contents_of : Table → Contents
 contents_of table = record { text = table.text; rules = table.rules }
 
--- the file is refused so, unless the fault is of the store or of memory
+-- opening gives this fault, unless it is a fault of the store or of memory
 abbrev pub Refuses : Result Contents TableFault → TableFault → Type 0
 Refuses given Failed = ⊤
 Refuses given NoMemory = ⊤
 Refuses given fault = given ≡ Err fault
 
--- the bytes are a file of this text and of this size in this format, and the text gives these rules
+-- the bytes are a file of this format with this text and the size of these rules, and the text
+-- gives these rules
 pub record IsOpened (format : Format) (bytes : List ℕ) (contents : Contents) : Type 0 where
   pub file : IsTableFile format.magic contents.text (format.size contents.rules) bytes
   pub short : length contents.text ≤ 65536
   pub read : format.read contents.text ≡ Ok contents.rules
 
--- the length due by what is left of such a file when so many bytes of it are left
+-- the length that is due for a file of this text and size of which only `left` bytes are left, as
+-- far as these bytes tell it
 abbrev pub due_by : List ℕ → ℕ → ℕ → ℕ
 due_by text size left =
     if nat_lt left 16 then 16 else

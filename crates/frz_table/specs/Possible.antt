@@ -11,29 +11,29 @@ use Rattle.frz_table.specs.Opening.{Format, Contents, Refuses, opened, opening_c
 use Rattle.frz_table.specs.Steps.{IsFormatOf, HasText, SizeRefused}
 use Rattle.frz_table.specs.Tables.{Table, IsTableFile, table_size}
 
--- the name may hold this: what the store tells that it holds,
--- and any bytes or none where it does not tell
+-- what the name may hold: what the store tells that it holds, or, if the store does not tell, any
+-- bytes or nothing
 abbrev pub MayHold : Option Files → List ℕ → Option (List ℕ) → Type 0
 MayHold None name held = IfSome held AreBytes
 MayHold (Some m) name held = m name ≡ held
 
--- the text that is kept there, and none where the name is not there
+-- the text in the file, and no text if the file is not there
 abbrev pub held_text : Option (List ℕ) → List ℕ
 held_text held = kept_text (unwrap_or held [])
 
--- no more bytes were asked for than 16 and those of the text that is kept there
+-- at most 16 bytes and those of the text in the file were asked for
 abbrev pub AskedFor : Option (List ℕ) → (before now : ℕ) → Type 0
 AskedFor held before now = now ≤ before + (16 + length (held_text held))
 
--- the name may hold bytes that open so
+-- the name may hold bytes that open with these contents
 pub record MayOpen (format : Format) (files : Option Files) (name : List ℕ)
     (contents : Contents) : Type 0 where
   pub bytes : List ℕ
   pub may : MayHold files name (Some bytes)
   pub opens : opened format (Some bytes) ≡ Ok contents
 
--- the name may hold what is refused so, and no more bytes and
--- calls were asked of the store than open it
+-- the name may hold what is refused with this fault, and no more bytes and calls were asked of the
+-- store than opening it takes
 pub record MayRefuse (format : Format) (name : List ℕ) (old new : StoreTold)
     (fault : TableFault) : Type 0 where
   pub held : Option (List ℕ)
@@ -56,7 +56,8 @@ abbrev pub MayKeep : Option Files → Table → List ℕ → List ℕ → Type 0
 MayKeep files table white black =
     MayKeepCodes files table.name (magic_of table.kind) table.text (table_size table) white black
 
--- something is refused so by each format of this magic, and opened by so many calls
+-- there is a file, or none, that each format of this magic refuses with this fault, and no more
+-- bytes and calls were asked of the store than opening it takes
 pub record SomeRefused (magic : List ℕ) (old new : StoreTold) (fault : TableFault) : Type 0 where
   pub held : Option (List ℕ)
   pub bytes : IfSome held AreBytes
@@ -65,7 +66,7 @@ pub record SomeRefused (magic : List ℕ) (old new : StoreTold) (fault : TableFa
   pub calls : (format : Format) → IsFormatOf magic format
       → new.calls ≤ old.calls + opening_calls format held
 
--- some bytes with this text are refused so by the last two steps
+-- there are bytes with this text that the last two steps refuse with this fault
 pub record SomeSizeRefused (magic text : List ℕ) (count size : ℕ)
     (fault : TableFault) : Type 0 where
   pub held : List ℕ

@@ -16,19 +16,19 @@ pub record IsFormatOf (magic : List ℕ) (format : Format) : Type 0 where
   pub refuses : (text : List ℕ) (fault : RulesFault) → rules_of text ≡ Err fault
       → format.read text ≡ Err fault
 
--- where the store tells, each format of this magic refuses the name so
+-- if the store tells, each format of this magic refuses what the name holds with this fault
 abbrev pub AllRefuse : List ℕ → Option Files → List ℕ → TableFault → Type 0
 AllRefuse magic files name fault =
     IfSome files (λ m. (format : Format) → IsFormatOf magic format
     → Refuses (opened format (m name)) fault)
 
--- where the store tells, each format of this magic opens the name by so many calls or more
+-- if the store tells, no more calls were made than each format of this magic takes to open the name
 abbrev pub AllCall : List ℕ → Option Files → List ℕ → (before now : ℕ) → Type 0
 AllCall magic files name before now =
     IfSome files (λ m. (format : Format) → IsFormatOf magic format
     → now ≤ before + opening_calls format (m name))
 
--- the magic is there, and so many bytes of so many are the text
+-- there are `count` bytes, which begin with the magic, and `text_count` of them are the text
 pub record HasHead (magic : List ℕ) (count text_count : ℕ) (bytes : List ℕ) : Type 0 where
   pub all : length bytes ≡ count
   pub enough : 16 + text_count ≤ count
@@ -36,22 +36,23 @@ pub record HasHead (magic : List ℕ) (count text_count : ℕ) (bytes : List ℕ
   pub kept : kept_length bytes ≡ text_count
   pub short : text_count ≤ 65536
 
--- and the text is this one
+-- the head is right, and the text is this one
 pub record HasText (magic text : List ℕ) (count : ℕ) (bytes : List ℕ) : Type 0 where
   pub head : HasHead magic count (length text) bytes
   pub text_is : kept_text bytes ≡ text
 
--- the size kept is the one due, and so is the length
+-- the size in the bytes is this one, and their length is the one that is due by it
 pub record HasSize (text : List ℕ) (size : ℕ) (bytes : List ℕ) : Type 0 where
   pub sized : kept_size bytes ≡ size
   pub due : length bytes ≡ due_length text size
 
--- the last two steps refuse so
+-- the last two steps refuse the bytes with this fault
 abbrev pub SizeRefused : List ℕ → ℕ → TableFault → List ℕ → Type 0
 SizeRefused text size fault bytes =
     (rules : RuleLines) → Refuses (of_size bytes (record { text = text; rules = rules }) size) fault
 
--- the lists are both sides' codes in the file of this name, text and size, where the store tells
+-- the lists are White's and Black's codes in the file of this name, text and size, if the store
+-- tells
 pub record AreLoaded (files : Option Files) (name text : List ℕ) (size : ℕ)
     (white black : List ℕ) : Type 0 where
   pub white_is : IfSome files

@@ -9,7 +9,7 @@ use Rattle.frz_table.specs.declared.kind.FileKind.{FileKind}
 use Rattle.frz_table.specs.Numbers.{AreBytes, number_at}
 use Rattle.frz_table.specs.Layout.{magic_of, due_length}
 
--- what contracts see of a table; its set is the one of the rules' groups
+-- what contracts see of an open table; its set is the one that the groups of its rules describe
 pub record Table : Type 0 where
   pub name : List ℕ
   pub kind : FileKind
@@ -19,7 +19,7 @@ pub record Table : Type 0 where
 abbrev pub table_size : Table → ℕ
 table_size table = size_of table.rules.groups
 
--- the rules are those of the text, which is one of bytes
+-- the text is a list of bytes that gives these rules, and the rules are sound
 pub record IsRead (text : List ℕ) (rules : RuleLines) : Type 0 where
   pub read : rules_of text ≡ Ok rules
   pub sound : IsSound rules
@@ -37,10 +37,10 @@ pub record IsTableFile (magic text : List ℕ) (size : ℕ) (bytes : List ℕ) :
 abbrev pub IsFileOf : Table → List ℕ → Type 0
 IsFileOf table bytes = IsTableFile (magic_of table.kind) table.text (table_size table) bytes
 
--- where the store tells, the name is there and holds such bytes
+-- if the store tells, the file is there and its bytes have the property P
 abbrev pub Holds : Option Files → List ℕ → (List ℕ → Type 0) → Type 0
 Holds files name P = IfSome files (λ m. IsSomeAnd (m name) P)
 
--- where the store tells, the table's name holds a file of the table
+-- if the store tells, the table's name holds a file of the table
 abbrev pub Carries : Option Files → Table → Type 0
 Carries files table = Holds files table.name (IsFileOf table)

@@ -1,4 +1,4 @@
-//! The codes of a table file: where those of a side begin, and both sides' codes read.
+//! The codes of a table file: where those of a side begin, and how those of both sides are read.
 ghost use Rattle.std.specs.Prelude.{◌≡◌, ◌+◌, ◌*◌, ◌≤◌, length, IfOk, IfErr};
 ghost use Rattle.frz_store.specs.Told.{store_of, StoreQuiet};
 ghost use Rattle.frz_table.specs.Faults.{IsOutside, TableCauses};
@@ -13,7 +13,7 @@ use frz_board::Colour;
 use frz_store::Store;
 use std::alloc::Global;
 
-/// Where the side's codes begin in a file of this text and this size.
+/// The byte at which the side's codes begin in a file of this text, with `size` codes a side.
 pub(crate) fn codes_place(side: Colour, text: &[u8], size: u32) -> u64
     ensures { result ≡ place_of side text.now size }
 {
@@ -24,7 +24,8 @@ pub(crate) fn codes_place(side: Colour, text: &[u8], size: u32) -> u64
     }
 }
 
-/// White's codes and Black's, in order of number, in the file of this name, text and size.
+/// Reads White's codes and Black's, each in order of number, from the file of this name and text,
+/// with `size` codes a side. The only errors are those of the store and of memory.
 pub fn load_codes<S: Store>(
     alloc: Global,
     store: &mut S,

@@ -9,8 +9,9 @@ use frz_store::StoreFault;
 use std::alloc::AllocError;
 use thiserror::Error;
 
-/// The first thing that is wrong with a table file, or why it could not be read. The numbers of
-/// bytes are what the file has and what is due, likewise the sizes.
+/// The first thing that is wrong with a table file, or why it could not be read. `Truncated` and
+/// `Extra` say how many bytes the file has and how many are due, and `Size` gives the size in the
+/// file and that of its rules.
 #[derive(Clone, Copy, Debug, PartialEq, Eq, Error)]
 pub enum TableFault {
     #[error("there is no such file")]

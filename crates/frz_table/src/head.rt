@@ -16,17 +16,17 @@ use crate::numbers::read_number;
 use frz_rules::{RulesCause, RulesFault};
 use frz_store::{Store, StoreFault};
 
-/// How many bytes a rules text may have.
+/// The greatest length of a rules text, in bytes.
 pub(crate) const LONGEST_TEXT: u32 = 65_536;
 
-/// How many bytes a file has, and how many of them are its text.
+/// The length of a file and that of the text in it, in bytes.
 #[derive(Clone, Copy)]
 pub(crate) struct Head {
     pub file: u64,
     pub text: u32,
 }
 
-/// Whether the name begins with these bytes.
+/// Whether the file begins with these eight bytes.
 fn begins_with<S: Store>(store: &mut S, name: &str, magic: &[u8; 8]) -> Result<bool, StoreFault>
     requires { IfSome (S.files store.old) (Covers 0 8 name.now) }
     ensures front { IfOk result (λ same. IfSome (S.files store.old) (λ m. IfSome (m name.now)
@@ -42,7 +42,8 @@ fn begins_with<S: Store>(store: &mut S, name: &str, magic: &[u8; 8]) -> Result<b
     Ok(front.as_slice() == magic.as_slice())
 }
 
-/// The first five steps of opening a file.
+/// The first five steps of opening a file: it is there, has 16 bytes or more, begins with the
+/// magic, keeps a length of at most 65,536 for its text, and has room for that text.
 pub(crate) fn read_head<S: Store>(
     store: &mut S,
     name: &str,

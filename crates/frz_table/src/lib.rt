@@ -1,5 +1,6 @@
-//! The table file: one file with a rules text and, for each side, a code for each number of the
-//! set. Files are opened, read and written here; what the codes mean is not known here.
+//! The table file: one file with a rules text and, for each side, one code for each number of the
+//! set (each position has its own number). Files are opened, read and written here; what the codes
+//! mean is not known here.
 #![tactic(auto)]
 
 mod codes;

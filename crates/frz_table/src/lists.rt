@@ -1,4 +1,4 @@
-//! Lists of numbers of a file, read in pieces.
+//! Lists of 32-bit numbers, read from a file in pieces.
 ghost use Rattle.std.specs.Prelude.{◌≡◌, ◌+◌, ◌*◌, ◌^◌, ◌≤◌, ◌<◌, ◌++◌, length, drop, vec_len, vec_capacity, IfOk, IfErr, IfSome, OnOk};
 ghost use Rattle.frz_store.specs.Files.{Covers};
 ghost use Rattle.frz_store.specs.Outside.{IsNext, StoreCauses, FreeCauses};
@@ -10,10 +10,11 @@ use crate::numbers::push_numbers;
 use frz_store::{Store, StoreFault};
 use std::alloc::Global;
 
-/// How many numbers are read or written at once.
+/// How many numbers are read or written at once, at most.
 pub(crate) const PIECE: usize = 16_384;
 
-/// Reads the numbers at a place, as many as the buffer has room for, behind those that are there.
+/// Reads `count` numbers from byte `at` on and appends them to the list. The buffer has four bytes
+/// for each.
 fn read_piece<S: Store>(
     store: &mut S,
     name: &str,
@@ -40,7 +41,7 @@ fn read_piece<S: Store>(
     Ok(())
 }
 
-/// So many numbers from the place on.
+/// Reads `count` numbers, four bytes each, from byte `at` of the file on.
 pub(crate) fn load_numbers<S: Store>(
     alloc: Global,
     store: &mut S,

@@ -1,4 +1,4 @@
-//! What an open table keeps: one code, or all of them.
+//! Reading the codes of an open table: one code, or all of them.
 ghost use Rattle.std.specs.Prelude.{◌≡◌, ◌+◌, ◌*◌, ◌≤◌, ◌<◌, length, slice_get, Some, IfOk, IfErr, IfSome};
 ghost use Rattle.frz_board.specs.declared.man.Colour.TheVariants.{White, Black};
 ghost use Rattle.frz_store.specs.Outside.{IsNext, StoreCauses};
@@ -16,7 +16,7 @@ use frz_store::{Store, StoreFault};
 use std::alloc::Global;
 
 impl TableFile {
-    /// The code of the side at the number.
+    /// Reads the code of the side at number `i`, which must be below the size of the set.
     pub fn entry<S: Store>(&self, store: &mut S, side: Colour, i: u32) -> Result<u32, StoreFault>
         requires number { i < table_size self.now }
         requires carried { Carries (S.files store.old) self.now }
@@ -34,7 +34,7 @@ impl TableFile {
         read_number(store, &self.name, place + 4 * u64::from(i))
     }
 
-    /// White's codes and Black's, in order of number.
+    /// Reads all codes: White's and Black's, each in order of number.
     pub fn load<S: Store>(
         &self,
         alloc: Global,

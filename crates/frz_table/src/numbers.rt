@@ -7,7 +7,7 @@ ghost use Rattle.frz_table.specs.Numbers.{number_at, numbers, number_bytes};
 
 use frz_store::{Store, StoreFault};
 
-/// The number in the four bytes of the name from the place on.
+/// Reads the number in the four bytes of the file from byte `at` on, the lowest byte first.
 pub(crate) fn read_number<S: Store>(store: &mut S, name: &str, at: u64) -> Result<u32, StoreFault>
     requires { IfSome (S.files store.old) (Covers at 4 name.now) }
     ensures number { IfOk result (λ n. IfSome (S.files store.old) (λ m. IfSome (m name.now)
@@ -23,7 +23,7 @@ pub(crate) fn read_number<S: Store>(store: &mut S, name: &str, at: u64) -> Resul
     Ok(u32::from_le_bytes(field))
 }
 
-/// Puts the numbers in these bytes behind those that are there.
+/// Appends the numbers in these bytes, four bytes each, to the list, which has capacity for them.
 pub(crate) fn push_numbers(bytes: &[u8], to: &mut Vec<u32>)
     requires whole { (k : ℕ) × (length bytes.now ≡ 4 * k) }
     requires room { 4 * vec_len to.old + length bytes.now ≤ 4 * vec_capacity to.old }
@@ -39,7 +39,7 @@ pub(crate) fn push_numbers(bytes: &[u8], to: &mut Vec<u32>)
     }
 }
 
-/// Fills the slice with the bytes of these numbers.
+/// Fills the slice with the bytes of these numbers, four for each, the lowest first.
 pub(crate) fn put_numbers(numbers: &[u32], into: &mut [u8])
     requires { length into.old ≡ 4 * length numbers.now }
     ensures { into.new ≡ number_bytes numbers.now }

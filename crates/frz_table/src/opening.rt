@@ -19,8 +19,8 @@ use frz_index::Set;
 use frz_store::Store;
 use std::alloc::Global;
 
-/// Opens a table of the kind. The file is not changed, and the first thing that is wrong with it
-/// is the answer.
+/// Opens a table file of this kind. The file is not changed. An error of the file is the first
+/// thing that is wrong with it.
 pub fn open_kind<S: Store>(
     alloc: Global,
     store: &mut S,
@@ -39,7 +39,7 @@ pub fn open_kind<S: Store>(
     ensures kind { IfOk result (λ t. t.kind ≡ kind) }
     ensures carries { IfOk result (Carries (S.files store.new)) }
 
-    // Nothing is written; at most 16 bytes and the text are asked for, in five calls.
+    // Nothing is written; at most 16 bytes and the text are asked for, in at most five calls.
     ensures quiet { StoreQuiet (store_of S.Store store.old) (store_of S.Store store.new) }
     ensures asked { IfOk result
         (λ t. S.asked store.new ≤ S.asked store.old + (16 + length t.text)) }
@@ -66,7 +66,7 @@ pub fn open_kind<S: Store>(
     })
 }
 
-/// Opens a plain table.
+/// Opens a plain table file, as `open_kind` does.
 pub fn open_table<S: Store>(
     alloc: Global,
     store: &mut S,

@@ -1,4 +1,4 @@
-//! The size that a table file keeps, and the length due by it.
+//! The size that a table file keeps, and the length that is due by it.
 ghost use Rattle.std.specs.Prelude.{◌≡◌, ◌+◌, ◌*◌, ◌≤◌, length, IfErr, IfSome, OnOk};
 ghost use Rattle.std.specs.Result.{IsErrOf};
 ghost use Rattle.frz_store.specs.Outside.{Rose};
@@ -15,7 +15,8 @@ use crate::numbers::read_number;
 use crate::texts::Text;
 use frz_store::Store;
 
-/// The last two steps of opening a file.
+/// The last two steps of opening a file: it keeps the size `size`, and has the length that is due
+/// by that size.
 pub fn check_size<S: Store>(
     store: &mut S,
     name: &str,

@@ -57,7 +57,7 @@ impl TableFile {
         self.text.as_slice()
     }
 
-    /// The rules of the text.
+    /// The rules that the text gives.
     pub fn rules(&self) -> &Rules
         ensures rules { result.now ≡ self.now.rules }
         ensures read { rules_of self.now.text ≡ Ok self.now.rules }
@@ -66,7 +66,7 @@ impl TableFile {
         &self.rules
     }
 
-    /// The set of the rules' groups.
+    /// The set that the groups of the rules describe.
     pub fn set(&self) -> &Set
         ensures { result.now ≡ self.now.rules.groups }
     {

@@ -19,7 +19,7 @@ use frz_rules::{Rules, read_rules};
 use frz_store::{Store, StoreFault};
 use std::alloc::Global;
 
-/// The text of a file and its rules, and how many bytes the file has.
+/// The length of a file in bytes, the rules text in it, and the rules that the text gives.
 #[derive(Drop)]
 pub struct Text {
     pub file: u64,
@@ -27,7 +27,7 @@ pub struct Text {
     pub rules: Rules,
 }
 
-/// Fills the slice with so many bytes of the name from place 12 on.
+/// Fills the slice with `count` bytes of the file from byte 12 on, where its text begins.
 fn read_text<S: Store>(
     store: &mut S,
     name: &str,
@@ -49,7 +49,8 @@ fn read_text<S: Store>(
     store.read(name, 12, into)
 }
 
-/// The first six steps of opening a file. No memory is taken before the rules are read.
+/// The first six steps of opening a file: those of its head, and the text gives rules. No memory is
+/// taken before the rules are read.
 pub fn open_text<S: Store>(
     alloc: Global,
     store: &mut S,

@@ -13,7 +13,7 @@ use crate::lists::PIECE;
 use crate::numbers::put_numbers;
 use frz_store::{Failed, Store};
 
-/// The magic of the kind and the length of the text.
+/// The first 12 bytes of a file: the magic of the kind and the length of the text.
 fn front_of(kind: FileKind, text_length: u32) -> [u8; 12]
     ensures { result ≡ magic_of kind ++ to_le_bytes w32 text_length }
 {
@@ -23,7 +23,8 @@ fn front_of(kind: FileKind, text_length: u32) -> [u8; 12]
     front
 }
 
-/// Appends the header of a table of the kind: magic and length of the text, the text, the size.
+/// Appends the header of a table of this kind: the magic (8 bytes), the length of the text (4), the
+/// text, and the size (4), which is the number of codes a side.
 pub fn write_header_kind<S: Store>(
     store: &mut S,
     kind: FileKind,
@@ -72,7 +73,7 @@ pub fn write_header<S: Store>(store: &mut S, text: &[u8], size: u32) -> Result<(
     write_header_kind(store, FileKind::Plain, text, size)
 }
 
-/// Appends the codes in pieces of 16,384, of which the last may be shorter.
+/// Appends the codes, four bytes each, in pieces of 16,384 codes, of which the last may be shorter.
 pub fn write_entries<S: Store>(store: &mut S, codes: &[u32]) -> Result<(), Failed>
     requires { 4 * length codes.now ≤ S.room store.old }
     ensures files { OnOk result (0 < length codes.now → S.files store.new

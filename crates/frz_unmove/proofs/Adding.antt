@@ -33,7 +33,7 @@ once_both (x ∷ xs) ys hx hy apart = (
 pub at_place : {A : Type 0} (xs : List A) (k : ℕ) (x : A) → slice_get xs k ≡ Some x → Contains xs x
 at_place xs k x e = (k, slice_get_within xs k x e, get_or_from_slice_get xs k x x e)
 
--- where there are none
+-- where no item has P, nothing is added
 pub adds_none : {A : Type 0} (P : A → Type 0) (old : List A) (n : ℕ) → ((x : A) → P x → ⊥) →
     Adds P old old n
 adds_none P old n none = record {
@@ -45,7 +45,7 @@ adds_none P old n none = record {
   few = omega arith;
 }
 
--- where there is one
+-- where one item alone has P, it is added
 pub adds_one : {A : Type 0} (P : A → Type 0) (old new : List A) (y : A) → new ≡ old ++ y ∷ [] →
     P y → ((x : A) → P x → x ≡ y) → Adds P old new 1
 adds_one P old new y e h same = record {
@@ -57,7 +57,7 @@ adds_one P old new y e h same = record {
   few = omega arith;
 }
 
--- those of two kinds, one after the other
+-- the items of two kinds are added, one kind after the other
 pub adds_both : {A : Type 0} (P Q R : A → Type 0) (old mid new : List A) (a b n : ℕ) →
     Adds P old mid a → Adds Q mid new b → a + b ≤ n →
     ((x : A) → P x → Q x → ⊥) → ((x : A) → P x → R x) → ((x : A) → Q x → R x)
@@ -77,7 +77,7 @@ adds_both P Q R old mid new a b n f g room apart left right cases = record {
   few = (let sum = length-append f.more g.more in let l = f.few in let r = g.few in omega arith);
 }
 
--- of a kind that says the same
+-- two kinds with the same items: what adds the one adds the other
 pub adds_same : {A : Type 0} (P R : A → Type 0) (old new : List A) (a n : ℕ) → Adds P old new a →
     a ≤ n → ((x : A) → P x → R x) → ((x : A) → R x → P x) → Adds R old new n
 adds_same P R old new a n f room left back = record {

@@ -43,7 +43,7 @@ taken_by : (d : Colour) (x : ℕ) → x < 13 → is_man_of d (man_of_cell x) ≡
 taken_by White x l h k = grind (arith, nat_tests)
 taken_by Black x l h k = grind (arith, nat_tests)
 
--- a target's square
+-- a target is one of the eight squares of its rank
 pub target_place : (d : Colour) (t : ℕ) → is_passing_rank d t ≡ true →
     (first_target d ≤ t) × (t < first_target d + 8)
 target_place White t h = let e = eqb-true (rank_of t) 2 h in (omega arith, omega arith)

@@ -36,7 +36,7 @@ comes gs q b h i m l = record {
   arrives = sym (is_candidate gs q (after l.earlier m) l.arrives) ∙ is_candidate gs q b h;
 }
 
--- a number and a position from which the moves lead to one position: the moves are one
+-- two moves that lead from the position of one number to one position are the same move
 same_pred : (gs : List GroupLine) (b : Board) (x y : Pred) → Comes gs b x → Comes gs b y →
     x.number ≡ y.number → x ≡ y
 same_pred gs b x y c d e =

@@ -1,4 +1,4 @@
--- A list to which those of some kind are added, each once.
+-- A list to which all items of some kind are added, each once.
 use Rattle.std.specs.Prelude.{ℕ, ◌≡◌, ◌≤◌, List, [], ◌∷◌, ◌++◌, length, Contains}
 
 -- none stands twice in the list
@@ -6,8 +6,8 @@ abbrev pub Once : {A : Type 0} → List A → Type 0
 Once [] = Unit {0}
 Once (x ∷ xs) = (Contains xs x → ⊥) × Once xs
 
--- the later list is the earlier one with exactly those that
--- have P behind it, each once, and at most n of them
+-- the later list is the earlier one, followed by exactly the items that have P, each once, and at
+-- most n of them
 pub record Adds {A : Type 0} (P : A → Type 0) (old new : List A) (n : ℕ) : Type 0 where
   pub more : List A
   pub is : new ≡ old ++ more

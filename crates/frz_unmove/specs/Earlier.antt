@@ -7,9 +7,8 @@ use Rattle.frz_board.specs.Attacks.{pawn_reaches}
 use Rattle.frz_sets.specs.Sets.{pawn}
 use Rattle.frz_fide.specs.Legal.{beside_on_file, is_target}
 
--- the name of a move taken back: its origin, the square where its man stands now and whether it
--- promoted; the cell of what it captured there, 0 for none; and
--- the target that stood before, or none
+-- the name of a move taken back: the move; the cell of what it captured on its last square, 0 for
+-- none; and the en passant target that stood before it, or none
 pub record Name : Type 0 where
   pub mv : Step
   pub captured : ℕ

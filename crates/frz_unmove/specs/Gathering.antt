@@ -17,7 +17,7 @@ use Rattle.frz_index.specs.Members.{HasNumber}
 use Rattle.frz_index.specs.Candidates.{candidate}
 use Rattle.frz_unmove.specs.declared.preds.Pred.{Pred}
 
--- the position before q from which a number's move leads to it
+-- x is the number of a position of the set, with a legal move from there that leads to q
 pub record Comes (gs : List GroupLine) (q : Board) (x : Pred) : Type 0 where
   pub earlier : Board
   pub number : HasNumber gs x.number earlier
@@ -25,20 +25,21 @@ pub record Comes (gs : List GroupLine) (q : Board) (x : Pred) : Type 0 where
   pub legal : is_legal earlier x.mv ≡ true
   pub arrives : after earlier x.mv ≡ q
 
--- what stood where the move ends, and the target: the position of a number tells
+-- the cell that stood where the move ends, and the target before the move: both are read from the
+-- position of the number
 abbrev pub taken_of : List GroupLine → Pred → ℕ
 taken_of gs x = slice_index (candidate gs x.number).cells x.mv.to
 
 abbrev pub target_of : List GroupLine → Pred → Option ℕ
 target_of gs x = (candidate gs x.number).ep
 
--- a target's place behind none
+-- the number of a target: 0 for none, or the square plus 1
 abbrev pub target_key : Option ℕ → ℕ
 target_key None = 0
 target_key (Some t) = t + 1
 
--- the moves to this square; with this promotion; that took
--- this; with this earlier target; from this square
+-- the moves that lead to q, each time with one condition more: to this square; with this promotion;
+-- that took this cell; with this earlier target; from this square
 abbrev pub ComesTo : List GroupLine → Board → ℕ → Pred → Type 0
 ComesTo gs q b x = Comes gs q x × (x.mv.to ≡ b)
 
@@ -65,7 +66,7 @@ abbrev pub first_taken : Colour → ℕ
 first_taken White = 2
 first_taken Black = 8
 
--- the word has each square from which a man has come so
+-- the bitboard has each square from which such a move to b, with this promotion, leads to q
 abbrev pub HasOrigins : List GroupLine → Board → ℕ → Option Kind → ℕ → Type 0
 HasOrigins gs q b promo word =
     (x : Pred) → ComesAs gs q b promo x → has_square word x.mv.from ≡ true
@@ -79,10 +80,10 @@ may_have_passed q b t = has q q.turn Pawn (ahead q.turn t) || (ahead q.turn t ==
 abbrev pub may_have_stood : Board → ℕ → ℕ → Bool
 may_have_stood q b t = is_passing_rank q.turn t && may_have_passed q b t
 
--- and it is a target of the set
+-- the square may have been the target before a move to this square, and is a target of the set
 abbrev pub may_be_target : List GroupLine → Board → ℕ → ℕ → Bool
 may_be_target gs q b t = list_any (λ y. t == y) (targets gs) && may_have_stood q b t
 
--- the word of the targets that may have stood
+-- the bitboard of the set's targets that may have stood before a move to this square
 abbrev pub IsTargetWord : List GroupLine → Board → ℕ → ℕ → Type 0
 IsTargetWord gs q b word = (t : ℕ) → t < 64 → has_square word t ≡ may_be_target gs q b t

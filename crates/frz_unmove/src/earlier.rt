@@ -1,4 +1,4 @@
-//! The position before a move, and whether the set has it and the move leads on.
+//! The position before a move, and its number if the set has it and the move leads from it.
 ghost use Rattle.std.specs.Prelude.{◌≡◌, ◌≤◌, ◌&&◌, ◌↔◌, IfSome, IsTrue, Some, true, ℕ};
 ghost use Rattle.frz_board.specs.Moving.{IsStep};
 ghost use Rattle.frz_fide.specs.Legal.{after, is_legal, is_target};
@@ -14,7 +14,7 @@ use frz_fide::{beside, leads, valid_boards};
 use frz_index::Set;
 use frz_sets::pawn_cell;
 
-/// The cell of the man that has moved, as it was before.
+/// The cell of the man that has moved, as it was before the move: a pawn's, if it promoted.
 fn mover_cell(q: &Bitboards, m: Move) -> u8
     ensures cell { result ≡ cell_of_mover q.now m }
     ensures fits { result ≤ 12 }
@@ -35,7 +35,7 @@ fn is_at(target: &Option<Square>, b: Square) -> bool
     }
 }
 
-/// Has a pawn gone to the target?
+/// Did a pawn capture en passant, going diagonally to the earlier target?
 fn took_passing(q: &Bitboards, m: Move, target: &Option<Square>) -> bool
     ensures { result ≡ was_en_passant q.now m target.now }
 {
@@ -44,7 +44,8 @@ fn took_passing(q: &Bitboards, m: Move, target: &Option<Square>) -> bool
         && (m.from.is_pawn_attack(mover, m.to) && is_at(target, m.to))
 }
 
-/// The position before the move, where this stood on the move's end and this was the target.
+/// The position before the move that led to `q`, if the cell `taken` stood on the move's last
+/// square and `target` was the en passant target.
 fn earlier(q: &Bitboards, m: Move, taken: u8, target: &Option<Square>) -> Bitboards
     requires { taken ≤ 12 }
     ensures { result ≡ before q.now (name m taken target.now) }
@@ -65,7 +66,8 @@ pub(crate) fn is_valid(p: &Bitboards) -> bool
     valid_boards(p).is_ok()
 }
 
-/// The number of that earlier position, by the men that moved.
+/// The number of the position that `earlier` gives, computed from the men that moved. `None` unless
+/// the set has it and the move leads from it to `q`.
 fn number_of_earlier(
     set: &Set,
     at: u32,
@@ -92,7 +94,8 @@ fn number_of_earlier(
     }
 }
 
-/// The number of that earlier position, if the set has it and the move leads from it to this one.
+/// The number of the position that `earlier` gives. `None` unless the set has it, and the move is
+/// legal there and leads to `q`, whose number is `at`.
 pub(crate) fn number_before(
     set: &Set,
     at: u32,

@@ -1,4 +1,4 @@
-//! The walk over the names of earlier positions.
+//! The search for the legal moves that lead to a position, by move, man taken and earlier target.
 ghost use Rattle.std.specs.Prelude.{ℕ, ◌≡◌, ◌≤◌, ◌<◌, ◌+◌, ◌&&◌, IfSome, MatchOption, None, Some, false, true, length};
 ghost use Rattle.frz_board.specs.Boards.{holds, man_on};
 ghost use Rattle.frz_board.specs.Men.{cell_of_man, is_man_of, man_of_cell, other_of};
@@ -21,7 +21,8 @@ use frz_bits::{Bitboards, next_square};
 use frz_board::{Colour, Kind, Man, Move, Square, man_of};
 use frz_index::Set;
 
-/// Adds the move from the earlier position of this name, if the set has it.
+/// Adds the move that took the cell `taken` and had this earlier target, with the number of the
+/// position before it, if the set has that position and the move leads from it to `q`.
 fn add_named(
     set: &Set,
     at: u32,
@@ -44,7 +45,8 @@ fn add_named(
     }
 }
 
-/// Adds the moves from these origins, with this earlier target.
+/// Adds the moves from the squares `origins` that took the cell `taken` and had this earlier
+/// target.
 fn add_at(
     set: &Set,
     at: u32,
@@ -81,7 +83,8 @@ fn add_at(
     }
 }
 
-/// Adds the moves that took this: without an earlier target, and with each.
+/// Adds the moves that took the cell `taken`, 0 for nothing: those without an earlier target, and
+/// those with each of `targets`.
 fn add_taking(
     set: &Set,
     at: u32,
@@ -110,7 +113,7 @@ fn add_taking(
     }
 }
 
-/// Has the set room for the man of this cell on the square?
+/// Has the set room for one man more, the one of this cell on the square? `false` for no man.
 fn may_take(set: &Set, q: &Bitboards, taken: u8, to: Square) -> bool
     ensures { MatchOption (man_of_cell taken)
         (result ≡ false)
@@ -122,7 +125,7 @@ fn may_take(set: &Set, q: &Bitboards, taken: u8, to: Square) -> bool
     }
 }
 
-/// Adds the moves that took this man, if the set has room for it.
+/// Adds the moves that took the man of the cell `taken`, if the set has room for it.
 fn add_taken(
     set: &Set,
     at: u32,
@@ -149,7 +152,7 @@ fn add_taken(
     }
 }
 
-/// The cell of this side's first kind that may be taken, a queen.
+/// The cell of this side's queen, the first of the five kinds that may be taken.
 fn first_taken(c: Colour) -> u8
     ensures first { result ≡ first_taken_of c }
     ensures low { result ≤ 8 }
@@ -160,7 +163,8 @@ fn first_taken(c: Colour) -> u8
     }
 }
 
-/// Adds the moves from these origins: those that take nothing, or a man of one of five kinds.
+/// Adds the moves from these origins: those that took nothing, and those that took a man of one of
+/// the five kinds that may be taken.
 fn add_from_origins(
     set: &Set,
     at: u32,
@@ -185,7 +189,8 @@ fn add_from_origins(
     }
 }
 
-/// Adds the moves of this man to the square, if it may have come from anywhere.
+/// Adds the moves to the square by this man, as it was before the move; there are none if no square
+/// is left from which it may have come.
 fn add_as(
     set: &Set,
     at: u32,
@@ -221,7 +226,7 @@ fn is_promoted(man: Man, to: Square) -> bool
     last && !matches!(man.kind, Kind::King | Kind::Pawn)
 }
 
-/// Adds the moves of the man on the square, to it: of itself, or of a pawn that became it.
+/// Adds the moves that brought the man to the square: its own, and those of a pawn that became it.
 fn add_man(set: &Set, at: u32, q: &Bitboards, to: Square, man: Man, out: &mut Preds)
     requires man { man_on q.now to ≡ Some man }
     requires own { man.colour ≡ other_of q.now.turn }
@@ -238,7 +243,7 @@ fn add_man(set: &Set, at: u32, q: &Bitboards, to: Square, man: Man, out: &mut Pr
     }
 }
 
-/// Adds the moves to the square, where a man of the side stands that has moved.
+/// Adds the moves to the square, on which a man of the side that has moved stands.
 fn add_square(set: &Set, at: u32, q: &Bitboards, to: Square, out: &mut Preds)
     requires own { holds q.now (other_of q.now.turn) to ≡ true }
     requires number { HasNumber set.now at q.now }
@@ -251,7 +256,8 @@ fn add_square(set: &Set, at: u32, q: &Bitboards, to: Square, out: &mut Preds)
     }
 }
 
-/// Adds all moves from earlier positions: it goes over the men of the side that has moved.
+/// Adds all legal moves that lead from positions of the set to `q`, whose number is `at`. It goes
+/// over the men of the side that has moved.
 pub(crate) fn add_all(set: &Set, at: u32, q: &Bitboards, out: &mut Preds)
     requires number { HasNumber set.now at q.now }
     requires valid { IsValid q.now }

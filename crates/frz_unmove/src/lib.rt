@@ -1,4 +1,4 @@
-//! The way back: the numbers of a set from which a legal move leads to a number, with the moves.
+//! Moves taken back: the predecessors of a number of a set, with the legal moves that lead to it.
 #![tactic(auto)]
 
 mod earlier;

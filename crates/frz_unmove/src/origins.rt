@@ -14,8 +14,8 @@ use frz_bits::{Bitboards, both, move_set, next_square, replaced, without};
 use frz_board::{Kind, Man, Square};
 use frz_index::Set;
 
-/// The empty squares that an opponent's man of this kind goes to from here on some board: a man
-/// comes from where one of the other side would go.
+/// The empty squares from which the man may have come to `to` on some board: a man comes from where
+/// a man of its kind and of the other side would go.
 #[tactic(auto, using(frz_squares::proofs::Lemmas::set_reading))]
 fn ways_back(q: &Bitboards, man: Man, to: Square) -> u64
     ensures { (a : ℕ) → a < 64 →
@@ -28,7 +28,7 @@ fn ways_back(q: &Bitboards, man: Man, to: Square) -> u64
     without(move_set(back, to), q.occupied())
 }
 
-/// Those of the squares on which the set has room for the man.
+/// The bitboard of those squares on which the set has room for one man more, this one.
 fn with_room(set: &Set, p: &Bitboards, man: Man, word: u64) -> u64
     ensures { (a : ℕ) → a < 64 →
         has_square result a ≡ (has_square word a && has_room set.now p.now man a) }
@@ -42,7 +42,7 @@ fn with_room(set: &Set, p: &Bitboards, man: Man, word: u64) -> u64
     kept
 }
 
-/// Those of the squares on which the man may stand in a position of the set.
+/// The bitboard of those squares on which the set allows the man.
 fn with_known(set: &Set, man: Man, squares: u64) -> u64
     ensures { result ≡
         set_of (λ a. has_square squares a && is_known set.now (cell_of_man man) a) }
@@ -50,8 +50,8 @@ fn with_known(set: &Set, man: Man, squares: u64) -> u64
     both(squares, set.known_squares(man))
 }
 
-/// The squares from which this man may have come to the square. Where it promoted, it counts as a
-/// pawn in place of the man that it has become.
+/// A bitboard with each square from which the man came to `to` by a legal move from a position of
+/// the set, and perhaps with others. If the move promoted, the man is the pawn that it was before.
 pub(crate) fn origins(set: &Set, q: &Bitboards, to: Square, promo: Option<Kind>, man: Man) -> u64
     requires mover { (a : ℕ) →
         mover_cell q.now (record { from = a; to = to; promo = promo }) ≡ cell_of_man man }

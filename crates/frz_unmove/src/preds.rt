@@ -5,14 +5,14 @@ use frz_board::{Move, NoMemory};
 use std::alloc::Global;
 use std::marker::Model;
 
-/// A number, and a move from its position.
+/// A number of a set, and a move from its position.
 #[derive(Clone, Copy, Debug, PartialEq, Eq)]
 pub struct Pred {
     pub number: u32,
     pub mv: Move,
 }
 
-/// A list of moves to one position, with room for all that there can be.
+/// A list of the moves to one position, with room for all that there can be.
 #[derive(Drop)]
 pub struct Preds {
     list: Vec<Pred>,
@@ -31,7 +31,7 @@ impl Model for Preds {
 }
 
 impl Preds {
-    /// An empty list, which has room for 131,072 items.
+    /// An empty list, which has room for 131,072 items. The only error is want of memory.
     pub fn new(alloc: Global) -> Result<Preds, NoMemory>
         ensures { IfOk result (λ p. p ≡ []) }
     {
@@ -48,14 +48,14 @@ impl Preds {
         &self.list
     }
 
-    /// Takes all items out.
+    /// Removes all items.
     pub fn clear(&mut self)
         ensures { self.new ≡ [] }
     {
         self.list.clear();
     }
 
-    /// Puts one behind the others, in the room that there is.
+    /// Adds an item at the end, in the room that there is. The list must have fewer than 131,072.
     pub fn push(&mut self, pred: Pred)
         requires { length self.old < 131072 }
         ensures { self.new ≡ self.old ++ pred ∷ [] }

@@ -1,4 +1,4 @@
-//! The position before a move that takes nothing and is no pawn's, and its number.
+//! The position before a move that took nothing and was no pawn's, and its number.
 ghost use Rattle.std.specs.Prelude.{◌≡◌, ◌↔◌, IfSome, None, Some, true, ℕ};
 ghost use Rattle.frz_board.specs.Attacks.{reaches};
 ghost use Rattle.frz_fide.specs.Valid.{IsValid};
@@ -11,7 +11,7 @@ use frz_bits::{Bitboards, next_square};
 use frz_board::{Kind, Man, Move, Square, cell_of};
 use frz_index::Set;
 
-/// The man that has moved, if it is no pawn and took nothing, and no target stands.
+/// The man that has moved, if it is no pawn and took nothing, and `q` has no en passant target.
 pub(crate) fn stepped_man(q: &Bitboards, m: Move, taken: u8) -> Option<Man>
     ensures { IfSome result (λ man. IsQuietBack q.now m taken man) }
 {
@@ -33,7 +33,7 @@ pub(crate) fn stepped_man(q: &Bitboards, m: Move, taken: u8) -> Option<Man>
     }
 }
 
-/// The position before the step, where this was the target.
+/// The position before the man went from `from` to `to`, if `target` was the en passant target.
 fn back(q: &Bitboards, man: Man, from: Square, to: Square, target: &Option<Square>) -> Bitboards
     ensures { result ≡ stepped q.now man to from target.now }
 {
@@ -43,15 +43,16 @@ fn back(q: &Bitboards, man: Man, from: Square, to: Square, target: &Option<Squar
     p
 }
 
-/// The board without a man that has moved, where it does not leave its opponent's king attacked,
-/// and that king's square.
+/// The board without the man that has moved, and the square of the king of the side to move, which
+/// is not attacked on that board.
 #[derive(Drop)]
 pub(crate) struct Ready {
     pub bare: Bitboards,
     pub king: Square,
 }
 
-/// The board without the man on the square.
+/// The board without the man on the square. `None` if the king of the side to move is then
+/// attacked.
 fn bared(q: &Bitboards, to: Square) -> Option<Ready>
     ensures { IfSome result (λ r. IsReady q.now to r) }
 {
@@ -67,8 +68,8 @@ fn bared(q: &Bitboards, to: Square) -> Option<Ready>
     Some(Ready { bare, king })
 }
 
-/// The board without the man on the square, where steps are looked for that take nothing and are
-/// no pawn's, and no target stands.
+/// `bared`, for moves to the square that took nothing, promoted nothing and are no pawn's, with no
+/// en passant target before or after them. `None` for all others.
 pub(crate) fn ready_for(
     q: &Bitboards,
     to: Square,
@@ -87,8 +88,9 @@ pub(crate) fn ready_for(
     bared(q, to)
 }
 
-/// The number of the position before the step, if the set has it and the man goes so. No target
-/// stood there.
+/// The number of the position before the move, if the set has it and the man can go so. That
+/// position has no target. The test looks at the man's ways on the board of `ready` alone: it must
+/// have one to its new square, and none to the king.
 fn number_by_lines(
     set: &Set,
     at: u32,
@@ -121,7 +123,8 @@ fn number_by_lines(
     }
 }
 
-/// The number of the position before the step, by that position.
+/// The number of the position before the move, if the set has it and the man can go so. The
+/// position is made, and its validity tested.
 fn number_by_board(
     set: &Set,
     at: u32,
@@ -150,7 +153,7 @@ fn number_by_board(
     }
 }
 
-/// The number of the position before the step, if the set has it and the man goes so.
+/// The number of the position before the move, if the set has it and the man can go so.
 pub(crate) fn number_before_step(
     set: &Set,
     at: u32,

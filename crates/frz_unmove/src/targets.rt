@@ -1,4 +1,4 @@
-//! The targets that may have stood before a move.
+//! The en passant targets that there may have been before a move.
 ghost use Rattle.std.specs.Prelude.{ℕ, ◌≡◌, ◌==◌, ◌&&◌, ◌||◌, ◌<◌, ◌≤◌, true};
 ghost use Rattle.frz_squares.specs.SquareSets.{has_square};
 ghost use Rattle.frz_unmove.specs.Gathering.{IsTargetWord, may_have_passed as may_have_passed_over, may_have_stood as stood_before};
@@ -7,8 +7,8 @@ use frz_bits::{Bitboards, replaced};
 use frz_board::{Kind, Square};
 use frz_index::Set;
 
-/// Can the pawn that had passed over the square stand ahead of it still, or have been taken by a
-/// move to this square?
+/// Can a pawn have passed over `t` just before a move to `to`? It still stands ahead of `t`, or the
+/// move went to its square, or to `t`.
 fn may_have_passed(q: &Bitboards, to: Square, t: Square) -> bool
     requires low { 8 ≤ t }
     requires high { t < 56 }
@@ -18,14 +18,14 @@ fn may_have_passed(q: &Bitboards, to: Square, t: Square) -> bool
     q.has(q.turn(), Kind::Pawn, stood) || (stood == to || t == to)
 }
 
-/// May the square have been the target before a move to this square, if the set has it?
+/// May `t` have been the target before a move to `to`? Whether the set has it is not asked.
 fn may_have_stood(q: &Bitboards, to: Square, t: Square) -> bool
     ensures { result ≡ stood_before q.now to t }
 {
     t.is_passing_rank(q.turn()) && may_have_passed(q, to, t)
 }
 
-/// The word with the target, if it may have stood.
+/// The bitboard `word` with this target added, if it may have been the target before the move.
 fn with_target(word: u64, q: &Bitboards, to: Square, target: u8) -> u64
     ensures { (t : ℕ) → t < 64 →
         has_square result t ≡ (has_square word t || (t == target && stood_before q.now to t)) }
@@ -42,7 +42,7 @@ fn with_target(word: u64, q: &Bitboards, to: Square, target: u8) -> u64
     }
 }
 
-/// The targets of the set that may have stood before a move to this square.
+/// The bitboard of the set's possible targets that may have stood before a move to this square.
 pub(crate) fn earlier_targets(set: &Set, q: &Bitboards, to: Square) -> u64
     ensures { IsTargetWord set.now q.now to result }
 {

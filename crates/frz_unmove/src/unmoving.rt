@@ -10,8 +10,9 @@ use frz_index::Set;
 use frz_steps::Steps;
 use std::sync::ledger::Ledger;
 
-/// Lists the numbers from which a legal move leads to the number, each with that move. It is one
-/// step, and takes no memory.
+/// Lists the predecessors of the number `q`, which must not be broken: each number from which a
+/// legal move leads to `q`, once, with that move. They replace what was in `out`. The call counts
+/// as one step, and takes no memory.
 pub fn unmoves<L: Ledger>(set: &Set, q: u32, out: &mut Preds, steps: &mut Steps<L>)
     requires { Broken set.now q → ⊥ }
     ensures all { (i : ℕ) (m : Step) →

@@ -31,14 +31,14 @@ at_in {X} xs i x e =
     subst (λ (z : X). Contains xs z) (get_or_from_slice_get xs i x x e)
     (All-contains_itself xs i x (slice_get_within xs i x e))
 
--- that the code asks for one move alone
+-- the claim that the code asks for one move alone
 abbrev pub AsksForOne : Type 0
 AsksForOne = (arena : Arena Step (ℕ × ℕ) Value) (side : Colour) (entry : ℕ × ℕ → ℕ)
     (mover : Colour) (p : ℕ × ℕ) (i j : ℕ) (a b : Arm Step (ℕ × ℕ) Value)
     → IsChosen arena side entry mover p i a → IsChosen arena side entry mover p j b
     → (i ≡ j) × (a ≡ b)
 
--- that the moves of a number and their codes give its local code
+-- the claim that the moves of a number and their codes give its local code
 abbrev pub FillsLocal : Type 0
 FillsLocal = (arena : Arena Step ℕ Value) → arena.class ≡ class_of → arena.lag ≡ lag_of
     → (side : Colour) (kept : List ℕ) (i : ℕ)
@@ -50,7 +50,7 @@ FillsLocal = (arena : Arena Step ℕ Value) → arena.class ≡ class_of → are
 abbrev pub known : (ℕ → List ℕ) → ℕ × ℕ → ℕ
 known codes p = slice_index (codes p.0) p.1
 
--- by the codes that are read now
+-- the local code by the codes that are read now
 pub local_code_of : FillsLocal → (arena : Arena Step ℕ Value) (size : ℕ) → IsFinite arena size
     → (side : Colour) (codes : ℕ → List ℕ) (k i : ℕ) (arms : List (Arm Step ℕ Value))
     (cs : List ℕ) → arms ≡ arena.arms i → cs ≡ map (arm_code side (codes (suc k))) arms

@@ -29,7 +29,7 @@ quiet_here store = record {
   };
 }
 
--- a line by its code or its plies, a session by its lines
+-- how much a way may still do: a line by its code or its plies, a session by its lines
 abbrev pub way_left : Opponent → Arena Step ℕ Value → Colour → Reader → Spot → ℕ
 way_left opponents.Codes arena side reader spot = line_left MOST_PLIES spot.played spot.code
 way_left opponents.Input arena side reader spot = session_left arena side reader.more spot.number
@@ -56,7 +56,7 @@ next_of : (spot : Spot) (code : ℕ) → IsNextCode spot.code code
 next_of spot code next early =
     elim next [ inl h ↦ inl h | inr h ↦ inr (h.0, h.1, early h.0) ]
 
--- and so at the next spot
+-- at the next spot the plies are few too
 module _ (arena : Arena Step ℕ Value) (side : Colour) (spot : Spot) (old new : Reader)
     (number code : ℕ) where
   abbrev pub there : Spot

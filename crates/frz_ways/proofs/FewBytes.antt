@@ -26,8 +26,8 @@ use Rattle.frz_ways.proofs.Goings.{way_front}
 abbrev most_bytes : ℕ → ℕ
 most_bytes lines = lines * (MOST_LENGTH + 1)
 
--- from so many bytes, with so many lines to come: at a stop no
--- more bytes were taken than those of all lines, at a reply than those of the lines that were read
+-- of an input with so many bytes and lines left: at a stop, no more bytes were taken
+-- than all these lines may have; at a reply, no more than the lines that were read may have
 abbrev TakesFew : (bytes more : ℕ) → Answer Input Halt → Type 0
 TakesFew bytes more (Reply refused place t) =
     bytes + most_bytes t.more ≤ length t.left + most_bytes more
@@ -38,7 +38,7 @@ few_refused : (bytes more : ℕ) (answer : Answer Input Halt) → TakesFew bytes
 few_refused bytes more (Reply refused place t) h = h
 few_refused bytes more (Stop halt t) h = h
 
--- behind a line
+-- few bytes were taken where a line was read before
 few_behind : (bytes rest more : ℕ) → bytes ≤ rest + (MOST_LENGTH + 1)
     → (answer : Answer Input Halt) → TakesFew rest more answer → TakesFew bytes (suc more) answer
 few_behind bytes rest more l (Reply refused place t) h = omega (arith, l, h)
@@ -74,7 +74,7 @@ few_read arms (suc more) (b ∷ bs) =
 abbrev IsFew : Input → Input → Type 0
 IsFew s u = length s.left + most_bytes u.more ≤ length u.left + most_bytes s.more
 
--- and no more than all lines may have
+-- from one state of the input to another no more was taken than all lines may have
 abbrev IsFewInAll : Input → Input → Type 0
 IsFewInAll s t = length s.left ≤ length t.left + most_bytes s.more
 

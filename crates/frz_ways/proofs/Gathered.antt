@@ -26,7 +26,7 @@ pub any_read : (known : Option (List ℕ)) (size : ℕ) → (codes : List ℕ) �
 any_read None size = (replicate size 0, (length-replicate size 0, small_codes size 0 (lit< tt)))
 any_read (Some told) size = (told, refl)
 
--- and of which one number has this code
+-- some codes that may be read, with this code at one number
 pub start_read : (known : Option (List ℕ)) (size start code : ℕ) → start < size → code < 2 ^ 32
     → IfSome known (λ codes. slice_index codes start ≡ code)
     → (codes : List ℕ) × MayRead known size codes × (slice_index codes start ≡ code)

@@ -12,7 +12,7 @@ use Rattle.frz_arena.specs.Arena.{Arena}
 use Rattle.frz_arena.specs.Ways.{Ply}
 use Rattle.frz_ways.specs.Costs.{arms_reads, reads_at, way_numbers, Spends, SpendsAt}
 
--- at one number more, and at some more
+-- the codes read at some numbers and then at others, or at one number
 reads_more : (arena : Arena Step ℕ Value) (xs ys : List ℕ)
     → reads_at arena (xs ++ ys) ≡ reads_at arena xs + reads_at arena ys
 reads_more arena xs ys = sum_by-append (λ n. arms_reads (arena.arms n)) xs ys
@@ -48,7 +48,7 @@ spends_on arena xs ys before mid now first next =
       asked = (let a = first.asked in let b = next.asked in omega (arith, reads, a, b));
     }
 
--- no more than at more numbers
+-- what was spent at some numbers is no more than what may be spent at more
 spends_less : (arena : Arena Step ℕ Value) (xs ys : List ℕ) (before now : Spent)
     → SpendsAt arena 0 xs before now → SpendsAt arena 0 (xs ++ ys) before now
 spends_less arena xs ys before now spent =

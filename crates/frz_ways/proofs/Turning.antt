@@ -96,12 +96,12 @@ own_most side (nodes.Going m) =
     elim (cases_Bool (same_colour m side))
     [ inl t ↦ rw t (omega arith) | inr f ↦ rw f (omega arith) ]
 
--- where the input finds a ply it is not the side's own
+-- where the input says a ply, it is not the side's own
 not_own : (o : Opponent) (own : Bool) → by_codes o own ≡ false → own ≡ false
 not_own opponents.Codes own e = absurd (cc)
 not_own opponents.Input own e = e
 
--- and so what is cut is a line
+-- only a line is cut
 cut_line : (opponent : Opponent) (is_start : Bool) (played code given : ℕ) (node : Node)
     (due : Due) → due ≡ due_by is_start (late_by opponent played) code given node
     → due ≡ dues.Cut → opponent ≡ opponents.Codes
@@ -156,7 +156,7 @@ module _ {arena : Arena Step ℕ Value} {size : ℕ} (finite : IsFinite arena si
       found).1 in
       subst (λ c. IsNextCode spot.code c) code next
 
-  -- and behind any reply
+  -- the code behind any reply is no failure
   reply_code_stands : (m : Colour) → IsDue (dues.Ply m)
       → by_codes opponent (same_colour m side) ≡ false → (place : ℕ) (a : Arm Step ℕ Value) →
       slice_get arms place ≡ Some a
@@ -224,7 +224,7 @@ module _ {arena : Arena Step ℕ Value} {size : ℕ} (finite : IsFinite arena si
       subst (λ k. session_left arena side k n < session_left arena side old.more spot.number)
       (sym same) (left_own alternates m e own old.more place a there n leads)
 
-  -- and so does a reply
+  -- a reply leaves less to do
   less_by_reply : (o : Opponent) (own : Bool) → by_codes o own ≡ false → (old new : Reader)
       → new.more < old.more → (n code : ℕ) → LeavesLess o arena side spot old new n code
   less_by_reply opponents.Codes own found old new less n code = absurd (cc)

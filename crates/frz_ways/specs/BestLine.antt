@@ -1,4 +1,4 @@
--- What is written of the best line at a position of a set.
+-- What the best line from a position of a set writes.
 use Rattle.std.specs.Prelude.{◌≡◌, ℕ, List, ◌++◌, Result, slice_index}
 use Rattle.frz_board.specs.declared.man.Colour.{Colour}
 use Rattle.frz_board.specs.Boards.{Board}
@@ -16,8 +16,8 @@ use Rattle.frz_ways.specs.Lines.{LinePly, EndOfLine, IsLine}
 use Rattle.frz_ways.specs.Texts.{line_text}
 
 -- the text begins the text of the line from the position's number, and is all of it where the
--- line's end is answered; the code of the start is read once, and at each number that the line
--- comes to the moves are made once, and the code is read once of each that stays inside
+-- line's end is answered. At most, the code of the start is read once, and at each number that the
+-- line comes to, the moves are listed once, and the code of each that stays inside is read once
 abbrev pub TellsLine : RuleLines → Colour → (codes : ℕ → List ℕ) → Board → (text : List ℕ) →
     Result LineEnd LineFault →
     (before now : Spent) → Type 0

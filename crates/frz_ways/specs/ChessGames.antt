@@ -9,15 +9,15 @@ use Rattle.frz_exits.specs.Forbidding.{is_free}
 use Rattle.frz_game.specs.Numbers.{position_at}
 use Rattle.frz_ways.specs.Lines.{LinePly}
 
--- the ply is from the number of this position: a legal move of who is to move there, and where the
--- side itself moves one that it has not renounced
+-- the ply starts at the number of this position and is a legal move of the side to move there.
+-- Where the side itself moves, it is a move that the side has not renounced
 pub record IsPlyFrom (rules : RuleLines) (side : Colour) (p : Board) (x : LinePly) : Type 0 where
   pub here : position_at rules.groups x.from.1 ≡ Some p
   pub turn : p.turn ≡ x.mover
   pub legal : slice_get (legal_moves_of p) x.place ≡ Some x.arm.mv
   pub free : x.mover ≡ side → is_free rules side p x.arm.mv ≡ true
 
--- from this position on each ply is from the position that those before it lead to
+-- from this position on, each ply starts at the position to which the plies before it lead
 abbrev pub IsGame : RuleLines → Colour → Board → List LinePly → Type 0
 IsGame rules side p [] = ⊤
 IsGame rules side p (x ∷ plies) =

@@ -18,13 +18,13 @@ told side (Exit v) = Ok (ends.Exit v)
 told side Cut = Ok ends.Cut
 told side (Stopped reason) = elim reason [ ]
 
--- some text is left, or the end has a line of the caller's
+-- some text is still to be written, or the answer is a fault, whose line the caller writes
 abbrev pub IsUnfinished : (answer : Result LineEnd LineFault) → (rest : List ℕ) → Type 0
 IsUnfinished (Ok end) rest = rest ≢ []
 IsUnfinished (Err fault) rest = ⊤
 
--- a line answers what its end tells, with all of its text written; with a fault of the store it is
--- unfinished, and with one of the sink nothing is said
+-- a line answers what its end calls for, with its whole text written. At a fault of the store it is
+-- unfinished; at a fault of the sink nothing is said of how far it came
 abbrev pub Finishes : (result answer : Result LineEnd LineFault) → (rest : List ℕ) → Type 0
 Finishes (Err faults.Store) answer rest = IsUnfinished answer rest
 Finishes (Err faults.NoMemory) answer rest = IsUnfinished answer rest

@@ -1,4 +1,4 @@
--- The faults of a line, and what they leave.
+-- The faults of a line, and what each leaves of the sink and the store.
 use Rattle.std.specs.Prelude.{List, ℕ, Result, Err}
 use Rattle.frz_store.specs.Outside.{Rose}
 use Rattle.frz_store.specs.Told.{StoreTold, SinkTold, StoreFine}
@@ -12,12 +12,12 @@ abbrev pub fault_of : StoreFault → LineFault
 fault_of Failed = faults.Store
 fault_of NoMemory = faults.NoMemory
 
--- the sink took the text, or failed within it
+-- the sink failed within the text, where that is the fault, and else took all of the text
 abbrev pub WroteBy : {T : Type 0} → Result T LineFault → List ℕ → SinkTold → SinkTold → Type 0
 WroteBy (Err faults.Output) text old new = FailedWithin text old new
 WroteBy result text old new = TookText text old new
 
--- a fault of the store has raised its count, and all else left the counts
+-- a fault of the store has raised its count there; any other answer left both counts as they were
 abbrev pub StoreCause : {T : Type 0} → Result T LineFault → StoreTold → StoreTold → Type 0
 StoreCause (Err faults.Store) old new = Rose old.faults new.faults
 StoreCause (Err faults.NoMemory) old new = Rose old.wants new.wants

@@ -1,4 +1,4 @@
--- How the lines of an input are taken: a byte, a line, and the lines up to a reply.
+-- How lines are taken of an input: a byte, a line, and the lines up to a reply.
 use Rattle.std.specs.Prelude.{◌≡◌, ◌≢◌, ◌⊎◌, ◌≤◌, ◌<◌, ◌+◌, ◌-◌, ℕ, zero, suc, true, List, [], ◌∷◌, ◌++◌, length, Option, Some, None, IfSome, Result, Ok, Err, ⊤}
 use Rattle.frz_board.specs.Moving.{Step}
 use Rattle.frz_sets.specs.declared.exit.Value.{Value}
@@ -22,11 +22,11 @@ use Rattle.frz_ways.specs.SessionFaults.{WroteBy, TookBytes}
 use Rattle.frz_ways.specs.Reading.{Input, Halt, halted, line_length, place_said, reads, refuse_one, reply_or}
 use Rattle.frz_ways.specs.SessionTexts.{refused_text}
 
--- where the input tells, nothing is left
+-- the input is at its end, where it is known what it has left
 abbrev pub HasEnded : SourceTold → Type 0
 HasEnded input = IfSome input.left (λ left. left ≡ [])
 
--- this byte was taken, or none was there
+-- this byte was taken, or the input had none, or it failed and none was taken
 abbrev pub GaveByte : Result (Option ℕ) Failed → SourceTold → SourceTold → Type 0
 GaveByte (Ok (Some byte)) old new = TookBytes (byte ∷ []) old new
 GaveByte (Ok None) old new = TookBytes [] old new × HasEnded new
@@ -36,12 +36,12 @@ GaveByte (Err fault) old new = TookBytes [] old new
 abbrev pub IsOneLine : List ℕ → Type 0
 IsOneLine bytes = line_length bytes ≡ length bytes
 
--- one byte more than a line may have was taken
+-- one byte more than a line may have was taken, and no line feed
 abbrev pub TookTooLong : SourceTold → SourceTold → Type 0
 TookTooLong old new =
     (bytes : List ℕ) × IsOneLine bytes × (length bytes ≡ MOST_LENGTH + 1) × TookBytes bytes old new
 
--- a line was taken, with its line feed if it has one
+-- a line was taken, with its line feed if it has one; where the input failed, a part of a line
 abbrev pub GaveLine : Result NextLine Failed → (line : List ℕ) → SourceTold → SourceTold → Type 0
 GaveLine (Ok Nothing) line old new = TookBytes [] old new × HasEnded new
 GaveLine (Ok Whole) line old new = IsOneLine line × TookBytes (line ++ 10 ∷ []) old new
@@ -50,7 +50,7 @@ GaveLine (Ok Last) line old new =
 GaveLine (Ok TooLong) line old new = TookTooLong old new
 GaveLine (Err fault) line old new = IsOneLine line × TookBytes line old new
 
--- behind the end of the input nothing is read
+-- what may follow in the input: nothing, once the reader has seen its end
 abbrev pub MayFollow : Reader → (rest : List ℕ) → Type 0
 MayFollow reader rest = reader.ended ≡ true → rest ≡ []
 
@@ -61,7 +61,7 @@ after_line reader Whole = record { more = reader.more - 1; ended = reader.ended 
 after_line reader Last = record { more = reader.more - 1; ended = true }
 after_line reader TooLong = reader
 
--- why a line is none
+-- why what was read is no line, where it is none
 abbrev pub no_line : NextLine → Option Why
 no_line Nothing = Some Ended
 no_line TooLong = Some (Limit LineLength)
@@ -71,7 +71,7 @@ no_line line = None
 abbrev pub StaysEnded : (old new : Reader) → (bytes : List ℕ) → Type 0
 StaysEnded old new bytes = old.ended ≡ true → (bytes ≡ []) × (new.ended ≡ true)
 
--- what an answer leaves of the input
+-- the bytes of the input that are left behind an answer
 abbrev pub left_by : Answer Input Halt → List ℕ
 left_by (Reply refused place left) = left.left
 left_by (Stop halt left) = left.left
@@ -80,8 +80,8 @@ left_by (Stop halt left) = left.left
 abbrev pub EndsWith : (end bytes : List ℕ) → Type 0
 EndsWith end bytes = (unread : List ℕ) × (unread ++ end ≡ bytes)
 
--- what the input gives to an opponent with these moves: a line, or why there is none; at a fault
--- the rest of what it takes is not taken yet
+-- what the input gives to an opponent with these moves, by what was read: a line, or why there is
+-- none. At a fault the answer may take more of the input than was taken
 abbrev pub IsLineHeard : List (Arm Step ℕ Value) → Answer Input Halt → (line rest : List ℕ) →
     (more : ℕ) →
     Result (Option Why) Failed → Type 0
@@ -92,12 +92,12 @@ IsLineHeard arms answer line rest more (Ok (Some why)) =
     answer ≡ Stop (halted why) (record { left = rest; more = more })
 IsLineHeard arms answer line rest more (Err fault) = EndsWith (left_by answer) rest
 
--- a line was read, and there are fewer to come
+-- where a line was read, fewer lines may still be read; else as many as before
 abbrev pub AreFewer : Result (Option Why) Failed → (old new : ℕ) → Type 0
 AreFewer (Ok None) old new = new < old
 AreFewer result old new = new ≡ old
 
--- the next line was taken, whatever follows it
+-- the next line was taken, or there was none; `heard` says so whatever follows it in the input
 pub record HearsLine
     (old new : Reader) (result : Result (Option Why) Failed) (line : List ℕ)
     (source left : SourceTold) : Type 0 where
@@ -109,34 +109,34 @@ pub record HearsLine
   pub heard : (arms : List (Arm Step ℕ Value)) (rest : List ℕ) → MayFollow new rest →
       IsLineHeard arms (reads arms old.more (bytes ++ rest)) line rest new.more result
 
--- the same answer behind so many refused lines more
+-- an answer with so many more refused lines before it
 abbrev pub refuse : ℕ → Answer Input Halt → Answer Input Halt
 refuse zero answer = answer
 refuse (suc n) answer = refuse_one (refuse n answer)
 
--- after so many refused lines the input gave what was heard; or
--- it still gives something, of what is left
+-- after n refused lines the input gave what was heard; or a fault
+-- came, and an answer is still to be read of what is left
 abbrev pub IsHeard : Answer Input Halt → (n : ℕ) → Result Heard PlayFault → Input → Type 0
 IsHeard answer n (Ok (heard.Reply place)) left = answer ≡ Reply n place left
 IsHeard answer n (Ok (heard.Stop why)) left = answer ≡ Stop (record { refused = n; why = why }) left
 IsHeard answer n (Err fault) left =
     (later : Answer Input Halt) × (answer ≡ refuse n later) × EndsWith (left_by later) left.left
 
--- a reply is one of so many moves
+-- the place of a reply is that of one of so many moves
 abbrev pub IsThere : (many : ℕ) → Heard → Type 0
 IsThere many (heard.Reply place) = place < many
 IsThere many (heard.Stop why) = ⊤
 
--- a line was read where there is a reply
+-- fewer lines may still be read where there is a reply, and else no more than before
 abbrev pub LeavesFewer : Result Heard PlayFault → (old new : ℕ) → Type 0
 LeavesFewer (Ok (heard.Reply place)) old new = new < old
 LeavesFewer result old new = new ≤ old
 
--- the input or the sink failed
+-- the faults that can stop the hearing: those of the input and of the sink
 abbrev pub MayFail : PlayFault → Type 0
 MayFail fault = (fault ≡ plays.Input) ⊎ (fault ≡ plays.Line faults.Output)
 
--- so many lines were refused and these bytes taken, whatever follows them
+-- so many lines were refused and these bytes taken; `heard` says so whatever follows these bytes
 pub record Hears
     (arms : List (Arm Step ℕ Value)) (old new : Reader) (result : Result Heard PlayFault)
     (source left : SourceTold)

@@ -7,14 +7,15 @@ use Rattle.frz_table.specs.Layout.{codes_at}
 use Rattle.frz_table.specs.Numbers.{AreNumbers}
 use Rattle.frz_table.specs.Tables.{Table, table_size}
 
--- in order of number, where the store tells and the name is there
+-- the codes of the side in order of number, where it is known what the store holds and the file is
+-- there
 abbrev pub told_codes : Table → Colour → Option Files → Option (List ℕ)
 told_codes table side files =
     option_and_then (λ m. option_map (codes_at side table.text (table_size table)) (m table.name))
     files
 
--- these may be the codes of a side, of so many numbers, as they
--- were read at one time: where the store tells them, those that it tells
+-- these may be a side's codes, one for each of `size` numbers, as they are read at one time: the
+-- known codes where these are known, and else any numbers of 32 bits
 abbrev pub MayRead : Option (List ℕ) → (size : ℕ) → List ℕ → Type 0
 MayRead None size codes = (length codes ≡ size) × AreNumbers codes
 MayRead (Some told) size codes = codes ≡ told

@@ -1,4 +1,4 @@
--- The best line of a side over its kept codes, as they are read: its plies and its end.
+-- The best line of a side by the codes kept for it, as they are read: its plies and its end.
 use Rattle.std.specs.Prelude.{ℕ, List}
 use Rattle.std.specs.declared.convert.Infallible.{Infallible}
 use Rattle.frz_board.specs.declared.man.Colour.{Colour}
@@ -13,21 +13,22 @@ use Rattle.frz_arena.specs.Ways.{Player, Ply, ByCodes, IsWay}
 use Rattle.frz_game.specs.Games.{graph_by}
 use Rattle.frz_ways.specs.declared.end.TheConstants.{MOST_PLIES}
 
--- a ply is from a number after so many plies
+-- a ply of a line: its places are pairs of the plies played before and a number
 abbrev pub LinePly : Type 0
 LinePly = Ply Step (ℕ × ℕ) Value
 
--- no input stops a line
+-- the ends of a line, which no input can stop
 abbrev pub EndOfLine : Type 0
 EndOfLine = End (ℕ × ℕ) Value Infallible
 
--- both sides go by the codes, as they are known after so many plies, and a hold is cut after the
--- most plies
+-- the codes find the moves of both sides, where `codes k` are those known after k plies, and a hold
+-- is cut after MOST_PLIES plies
 abbrev pub line_player : Arena Step ℕ Value → Colour → (codes : ℕ → List ℕ)
     → Player Step (ℕ × ℕ) Value (Unit {0}) Infallible
 line_player arena side codes = reader arena side codes (ByCodes MOST_PLIES)
 
--- the line of the side from the number, in the game of the rules with these values outside its set
+-- the line of the side from the number, in the game that the rules describe, with these values
+-- outside the set
 abbrev pub IsLine : RuleLines → (Board → Value) → Colour → (codes : ℕ → List ℕ) → (start : ℕ)
     → List LinePly → EndOfLine → Type 0
 IsLine rules value side codes start plies end =

@@ -1,4 +1,4 @@
--- What is written and taken in the session at a position of a set.
+-- What a session from a position of a set writes and takes of the input.
 use Rattle.std.specs.Prelude.{◌≡◌, ℕ, List, ◌++◌, Result, slice_index}
 use Rattle.frz_board.specs.declared.man.Colour.{Colour}
 use Rattle.frz_board.specs.Boards.{Board}
@@ -16,8 +16,8 @@ use Rattle.frz_ways.specs.Reading.{Input}
 use Rattle.frz_ways.specs.Sessions.{SessionPly, EndOfSession, IsSession}
 use Rattle.frz_ways.specs.SessionTexts.{session_text}
 
--- how much of a session was played: its text begins with what was written, what it takes of the
--- input begins with what was taken, and both are all of it at an end of its own
+-- how much of a session was played: its text begins with what was written, and what it takes of the
+-- input begins with what was taken. Where the session came to an end of its own, both are complete
 pub record PlayedOf
     (side : Colour) (code : ℕ) (input bytes text : List ℕ) (result : Result SessionEnd PlayFault)
     (plies : List SessionPly) (end : EndOfSession) (left : Input) : Type 0 where
@@ -27,9 +27,9 @@ pub record PlayedOf
   pub takes : bytes ++ (unread ++ left.left) ≡ input
   pub finishes : Finishes result side end rest unread
 
--- the text and the bytes are those of the session from the position's number against the input; the
--- code of the start is read once, and at each number that the session comes to the moves are made
--- once, and the code is read once of each that stays inside
+-- the text and the bytes are those of the session from the position's number against the input. At
+-- most, the code of the start is read once, and at each number that the session comes to, the moves
+-- are listed once, and the code of each move that stays inside is read once
 abbrev pub TellsSession : RuleLines → Colour → (codes : ℕ → List ℕ) → Board
     → (input bytes text : List ℕ) →
     Result SessionEnd PlayFault → (before now : Spent) → Type 0

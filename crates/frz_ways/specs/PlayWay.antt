@@ -1,4 +1,4 @@
--- What is written and taken in the way of a side from a number, and from a position of a set.
+-- What a side's way from a number, or from a position of a set, writes and takes of the input.
 use Rattle.std.specs.Prelude.{◌≡◌, ℕ, List, ◌++◌, Result, slice_index}
 use Rattle.frz_board.specs.declared.man.Colour.{Colour}
 use Rattle.frz_board.specs.Boards.{Board}
@@ -22,8 +22,8 @@ use Rattle.frz_ways.specs.WayEnds.{told, Finishes}
 use Rattle.frz_ways.specs.Ways.{WayPly, EndOfWay, GoesOn}
 use Rattle.frz_ways.specs.WayTexts.{way_text}
 
--- how much of a way was played: its text begins with what was written, what it takes of the input
--- begins with what was taken, and both are all of it at an end of its own
+-- how much of a way was played: its text begins with what was written, and what it takes of the
+-- input begins with what was taken. Where the way came to an end of its own, both are complete
 pub record WayPlayed
     (opponent : Opponent) (side : Colour) (code : ℕ) (input bytes text : List ℕ)
     (result : Result WayEnd PlayFault)
@@ -34,7 +34,8 @@ pub record WayPlayed
   pub takes : bytes ++ (unread ++ left.left) ≡ input
   pub finishes : Finishes result (told side end) rest unread
 
--- the same of all turns from the start, against some input that may be the one that is told
+-- so much of the way from the start was played, against an input that agrees with what is known of
+-- it, and within these costs
 abbrev pub Plays : Arena Step ℕ Value → Opponent → Colour → (ℕ → List ℕ) → (start code : ℕ) →
     SourceTold → (bytes text : List ℕ) → Result WayEnd PlayFault → (before now : Spent) → Type 0
 Plays arena opponent side kept start code source bytes text result before now =
@@ -45,7 +46,8 @@ Plays arena opponent side kept start code source bytes text result before now =
     WayPlayed opponent side code input bytes text result plies end last
     × SpendsAt arena 0 (way_numbers (Inside (0, start)) plies) before now)
 
--- the text and the bytes are those of the way from the position's number against the input
+-- the text and the bytes are those of the way from the position's number against this input, as far
+-- as it was played, and within its costs
 abbrev pub TellsWay : Opponent → RuleLines → Colour → (codes : ℕ → List ℕ) → Board →
     (input bytes text : List ℕ) → Result WayEnd PlayFault → (before now : Spent) → Type 0
 TellsWay opponent rules side codes p input bytes text result before now =

@@ -1,4 +1,4 @@
--- What is left of the input of a session, its lines, and what they say to the opponent.
+-- What is left of a session's input, its lines, and which moves of the opponent they say.
 use Rattle.std.specs.Prelude.{◌+◌, ℕ, zero, suc, nat_lt, not, List, [], ◌∷◌, take, drop, position, Option, Some, None, if◌then◌else◌}
 use Rattle.std.specs.List.{prefix_len}
 use Rattle.std.specs.Str.{bytes_eq}
@@ -19,7 +19,7 @@ pub record Input : Type 0 where
   pub left : List ℕ
   pub more : ℕ
 
--- an input of which nothing is read yet
+-- an input of which nothing was read yet
 abbrev pub opened : List ℕ → Input
 opened bytes = record { left = bytes; more = MOST_LINES }
 
@@ -34,13 +34,13 @@ first_line left = take (line_length left) left
 abbrev pub behind_line : List ℕ → List ℕ
 behind_line left = drop (line_length left + 1) left
 
--- the one word of a line: blanks at the ends of the line are no part of it
+-- the word of a line that has just one word; blanks around it do not matter
 abbrev pub only_of : List (List ℕ) → Option (List ℕ)
 only_of [] = None
 only_of (word ∷ []) = Some word
 only_of (word ∷ next ∷ others) = None
 
--- the place of the move whose text is this word
+-- the place of the first move whose text is this word
 abbrev pub place_by : List (Arm Step ℕ Value) → Option (List ℕ) → Option ℕ
 place_by arms None = None
 place_by arms (Some word) = position (λ a. bytes_eq word (text_of a.mv)) arms
@@ -49,7 +49,7 @@ place_by arms (Some word) = position (λ a. bytes_eq word (text_of a.mv)) arms
 abbrev pub place_said : List (Arm Step ℕ Value) → (line : List ℕ) → Option ℕ
 place_said arms line = place_by arms (only_of (words line))
 
--- why an input gives no reply, and how many lines it had that were refused
+-- why an input gives no reply, and how many of its lines were refused before
 pub record Halt : Type 0 where
   pub refused : ℕ
   pub why : Why
@@ -57,7 +57,7 @@ pub record Halt : Type 0 where
 abbrev pub halted : Why → Halt
 halted why = record { refused = 0; why = why }
 
--- with one refused line more before it
+-- an answer with one more refused line before it
 abbrev pub refuse_one : Answer Input Halt → Answer Input Halt
 refuse_one (Reply refused place left) = Reply (suc refused) place left
 refuse_one (Stop halt left) = Stop (record halt { refused = suc halt.refused }) left
@@ -67,8 +67,8 @@ abbrev pub reply_or : Option ℕ → Input → (next : Answer Input Halt) → An
 reply_or (Some place) left next = Reply 0 place left
 reply_or None left next = refuse_one next
 
--- what the input gives to an opponent with these moves: first the limit of lines is tried, then the
--- end, then the length of the line
+-- what the input gives to an opponent with these moves. The limit of lines is checked first, then
+-- the end of the input, then the length of the line
 abbrev pub reads : List (Arm Step ℕ Value) → (more : ℕ) → (left : List ℕ) → Answer Input Halt
 reads arms zero left = Stop (halted (Limit Lines)) (record { left = left; more = 0 })
 reads arms (suc more) [] = Stop (halted Ended) (record { left = []; more = suc more })

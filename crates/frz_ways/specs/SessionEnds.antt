@@ -15,7 +15,7 @@ abbrev pub why_told : Why → Result SessionEnd PlayFault
 why_told Ended = Ok ends.InputEnded
 why_told (Limit limit) = Err (plays.Limit limit)
 
--- this is answered at the end. No session is cut
+-- a session with this end answers this. No session is cut
 abbrev pub Tells : Colour → EndOfSession → Result SessionEnd PlayFault → Type 0
 Tells side (Wrong at kept given) answer =
     answer ≡ Err (plays.Line
@@ -27,12 +27,12 @@ Tells side (Exit v) answer = answer ≡ Ok (ends.Exit v)
 Tells side Cut answer = ⊥
 Tells side (Stopped halt) answer = answer ≡ why_told halt.why
 
--- where the session has an end with a line of its own, that line is still to come
+-- where the session's end has a line in its text, that line is still to be written
 abbrev pub StopsShort : Colour → EndOfSession → (rest : List ℕ) → Type 0
 StopsShort side end rest = (last : SessionEnd) → Tells side end (Ok last) → rest ≢ []
 
--- a session answers what its end tells, with all of its text written and all that it takes of the
--- input taken; but for a fault of the store, of the sink or of the input
+-- a session answers what its end calls for, with its whole text written and all that it takes of
+-- the input taken. Only a fault of the store, the sink or the input ends it earlier
 abbrev pub Finishes : Result SessionEnd PlayFault → Colour → EndOfSession → (rest unread : List ℕ)
     → Type 0
 Finishes (Err (plays.Line faults.Store)) side end rest unread = StopsShort side end rest

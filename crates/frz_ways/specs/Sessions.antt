@@ -1,4 +1,4 @@
--- The session of a side over its kept codes against an input:
+-- The session of a side by the codes kept for it against an input:
 -- its plies, its end, and what is left of the input.
 use Rattle.std.specs.Prelude.{ℕ, List}
 use Rattle.frz_board.specs.declared.man.Colour.{Colour}
@@ -13,20 +13,21 @@ use Rattle.frz_ways.specs.declared.opponent.Opponent.TheVariants as opponents
 use Rattle.frz_ways.specs.Reading.{Input, Halt, opened}
 use Rattle.frz_ways.specs.Ways.{WayPly, EndOfWay, way_player, GoesOn}
 
--- a ply is from a number after so many plies
+-- a ply of a session: its places are pairs of the plies played before and a number
 abbrev pub SessionPly : Type 0
 SessionPly = WayPly
 
 abbrev pub EndOfSession : Type 0
 EndOfSession = EndOfWay
 
--- the side goes by the codes, as they are known after so many plies, and the opponent by the input
+-- the side goes by these codes, where `codes k` are those known after k plies; the input says the
+-- opponent's moves
 abbrev pub session_player : Arena Step ℕ Value → Colour → (codes : ℕ → List ℕ)
     → Player Step (ℕ × ℕ) Value Input Halt
 session_player arena side codes = way_player arena opponents.Input side codes
 
--- the session of the side from the number, in the game of the
--- rules with these values outside its set
+-- the session of the side from the number, in the game that the
+-- rules describe, with these values outside the set
 abbrev pub IsSession : RuleLines → (Board → Value) → Colour → (codes : ℕ → List ℕ) → (start : ℕ) →
     (input : List ℕ) →
     List SessionPly → EndOfSession → Input → Type 0

@@ -31,7 +31,7 @@ exit_line v = codes "exit " ++ (value_text v ++ codes "\n")
 abbrev pub move_line : Step → List ℕ
 move_line m = text_of m ++ codes "\n"
 
--- a move that leaves the set has the line of its exit behind it
+-- behind a move that leaves the set stands the line of its exit
 abbrev pub next_line : Next ℕ Value → List ℕ
 next_line (Inside number) = []
 next_line (Outside v) = exit_line v
@@ -49,18 +49,18 @@ end_line ends.Stalemate = codes "stalemate\n"
 end_line (ends.Exit v) = exit_line v
 end_line ends.Cut = codes "cut\n"
 
--- what stops a line is named by no line of its own
+-- the line of what the best line answers at its end; a fault has none, and the caller names it
 abbrev pub last_line : Result LineEnd LineFault → List ℕ
 last_line (Ok end) = end_line end
 last_line (Err fault) = []
 
--- a start that is refused has no line
+-- the line of the start's bound; a start that is refused has none
 abbrev pub start_line : Colour → ℕ → List LinePly → Result LineEnd LineFault → List ℕ
 start_line side code [] (Err fault) = []
 start_line side code [] (Ok end) = kept_line side code
 start_line side code (x ∷ plies) answer = kept_line side code
 
--- of a line from a start with this kept code
+-- the whole text of a line from a start with this kept code
 abbrev pub line_text : Colour → ℕ → List LinePly → Result LineEnd LineFault → List ℕ
 line_text side code plies answer =
     start_line side code plies answer ++ (plies_text plies ++ last_line answer)

@@ -1,4 +1,4 @@
--- One turn of a way: what is written, taken and answered at a number.
+-- One turn of a way: what it writes, takes of the input and answers at a number.
 use Rattle.std.specs.Prelude.{◌≡◌, ◌⊎◌, ◌==◌, ◌<◌, ◌+◌, ◌*◌, nat_le, ℕ, suc, Bool, true, false, List, [], ◌∷◌, ◌++◌, Result, Ok, Err, Some, slice_get, slice_index, get_or, if◌then◌else◌, codes, ⊤}
 use Rattle.frz_board.specs.declared.man.Colour.{Colour}
 use Rattle.frz_board.specs.Men.{same_colour}
@@ -45,7 +45,7 @@ use Rattle.frz_ways.specs.WayTexts.{plies_text}
 abbrev pub moved_text : (word : List ℕ) → Arm Step ℕ Value → List ℕ
 moved_text word a = word ++ arm_text a
 
--- the bound of a start that is not refused
+-- the line of the side's bound: before the first ply, and only where the start is not refused
 abbrev pub opening : Colour → Spot → Due → List ℕ
 opening side spot (dues.Wrong given) = []
 opening side spot dues.NoBound = []
@@ -56,13 +56,13 @@ abbrev pub turn_of : Next ℕ Value → (code : ℕ) → Turn
 turn_of (Inside number) code = On number code
 turn_of (Outside v) code = Over (ends.Exit v)
 
--- the text was written and this answered, or the sink failed within it
+-- the text was written and this turn answered, or the sink failed within the text
 abbrev pub Answers : Turn → List ℕ → Result Turn PlayFault → SinkTold → SinkTold → Type 0
 Answers turn text result old new =
     ((result ≡ Ok turn) × TookText text old new)
     ⊎ ((result ≡ Err (plays.Line faults.Output)) × FailedWithin text old new)
 
--- the move at this place was played, and written behind this word
+-- the move at this place of the list was played, and written behind this word
 abbrev pub PlaysAt : (word : List ℕ) → (place : ℕ) → List (Arm Step ℕ Value) → List ℕ →
     Result Turn PlayFault →
     SinkTold → SinkTold → Type 0
@@ -70,7 +70,7 @@ PlaysAt word place arms cs result old new =
     (a : Arm Step ℕ Value) × (slice_get arms place ≡ Some a)
     × Answers (turn_of a.next (get_or cs place 0)) (moved_text word a) result old new
 
--- do the codes find the ply of this side
+-- whether the codes find the ply, `own` being whether the side itself moves
 abbrev pub by_codes : Opponent → (own : Bool) → Bool
 by_codes opponents.Codes own = true
 by_codes opponents.Input own = own
@@ -80,7 +80,7 @@ abbrev pub own_word : Opponent → List ℕ
 own_word opponents.Codes = []
 own_word opponents.Input = codes "move "
 
--- the move that the kept code asks for
+-- the move that the kept code asks for was played
 abbrev pub PlaysByCodes : Opponent → (own : Bool) → Spot → List (Arm Step ℕ Value) → List ℕ →
     Result Turn PlayFault → SinkTold → SinkTold → Type 0
 PlaysByCodes opponent own spot arms cs result old new =
@@ -88,7 +88,8 @@ PlaysByCodes opponent own spot arms cs result old new =
     × IsFound has_code (is_win spot.code) spot.code (choices_by own arms cs) place x
     × PlaysAt (own_word opponent) place arms cs result old new
 
--- what was heard is done
+-- what the turn does by what it heard: a move is played, or the end of the input ends the way, or a
+-- limit or a fault is answered and nothing written
 abbrev pub AfterHeard : List (Arm Step ℕ Value) → List ℕ → Result Heard PlayFault →
     Result Turn PlayFault → SinkTold →
     SinkTold → Type 0
@@ -100,7 +101,7 @@ AfterHeard arms cs (Ok (heard.Stop (Limit limit))) result old new =
     (result ≡ Err (plays.Limit limit)) × (new ≡ old)
 AfterHeard arms cs (Err fault) result old new = (result ≡ Err fault) × (new ≡ old)
 
--- the reply of the opponent
+-- the opponent's reply was heard from the input and played
 pub record PlaysReply
     (arms : List (Arm Step ℕ Value)) (cs : List ℕ) (old new : Reader)
     (result : Result Turn PlayFault)
@@ -110,11 +111,11 @@ pub record PlaysReply
   pub hears : Hears arms old new heard source left out between
   pub after : AfterHeard arms cs heard result between taken
 
--- nothing was read
+-- nothing was read of the input
 abbrev pub Unread : Reader → Reader → SourceTold → SourceTold → Type 0
 Unread old new source left = (new ≡ old) × (left ≡ source)
 
--- a ply that the codes find, or one of the input
+-- the ply was played: one that the codes find, or one that the input says
 abbrev pub PlaysPly : (found : Bool) → Opponent → (own : Bool) → Spot → List (Arm Step ℕ Value) →
     List ℕ → Reader → Reader → Result Turn PlayFault → SourceTold → SourceTold → SinkTold → SinkTold
     → Type 0
@@ -123,17 +124,17 @@ PlaysPly true opponent own spot arms cs old new result source left out taken =
 PlaysPly false opponent own spot arms cs old new result source left out taken =
     PlaysReply arms cs old new result source left out taken
 
--- nothing was written and this fault answered
+-- nothing was written, and this fault was answered
 abbrev pub Stops : PlayFault → Result Turn PlayFault → SinkTold → SinkTold → Type 0
 Stops fault result old new = (result ≡ Err fault) × (new ≡ old)
 
--- the kept code of the spot is not the local one, which is this
+-- the fault where the kept code of the spot is not the local code, which is `given`
 abbrev pub wrong_at : Colour → Spot → (given : ℕ) → PlayFault
 wrong_at side spot given =
     plays.Line (faults.Wrong
     (record { side = side; number = spot.number; kept = spot.code; given = given }))
 
--- what is due was done, with these moves and their codes
+-- the turn did what is due, with these moves and their codes
 abbrev pub IsPlayed : Opponent → Colour → Spot → Due → List (Arm Step ℕ Value) → List ℕ → Reader →
     Reader → Result Turn PlayFault → SourceTold → SourceTold → SinkTold → SinkTold → Type 0
 IsPlayed opponent side spot (dues.Wrong given) arms cs old new result source left out taken =
@@ -152,7 +153,7 @@ IsPlayed opponent side spot (dues.Ply mover) arms cs old new result source left 
     PlaysPly (by_codes opponent (same_colour mover side)) opponent (same_colour mover side) spot
     arms cs old new result source left out taken
 
--- where a ply is due, the code asks for a move
+-- where a ply is due, there is a move that the kept code asks for
 abbrev pub HasMove : Colour → Spot → Due → List (Arm Step ℕ Value) → List ℕ → Type 0
 HasMove side spot (dues.Ply mover) arms cs =
     (i : ℕ) × (x : Choice)
@@ -160,22 +161,24 @@ HasMove side spot (dues.Ply mover) arms cs =
     x
 HasMove side spot due arms cs = ⊤
 
--- one where the side is to move
+-- 1 where the side itself is to move, and else 0
 abbrev pub own_turn : Colour → Node → ℕ
 own_turn side (Going mover) = if same_colour mover side then 1 else 0
 own_turn side node = 0
 
--- how much a session may still do: two plies for each line
+-- a bound on the plies that a session may still play: two for each line that may be read, and one
+-- where the side itself is to move
 abbrev pub session_left : Arena Step ℕ Value → Colour → (more number : ℕ) → ℕ
 session_left arena side more number = 2 * more + own_turn side (arena.node number)
 
--- is a hold cut after so many plies: in a line alone
+-- whether a hold is cut after so many plies: only in a line
 abbrev pub late_by : Opponent → (played : ℕ) → Bool
 late_by opponents.Codes played = nat_le MOST_PLIES played
 late_by opponents.Input played = false
 
--- a ply leaves less to do: in a line the code is as the kept one asks, and no hold is played past
--- its plies; in a session fewer lines are left, or the other side is to move
+-- a ply leaves less to do, so that the way ends: in a line the next code is the one that the kept
+-- code asks for, and no hold is played beyond MOST_PLIES; in a session fewer lines are left, or the
+-- side has made its move
 abbrev pub LeavesLess : Opponent → Arena Step ℕ Value → Colour → Spot → (old new : Reader)
     → (number code : ℕ) → Type 0
 LeavesLess opponents.Codes arena side spot old new number code =
@@ -183,7 +186,7 @@ LeavesLess opponents.Codes arena side spot old new number code =
 LeavesLess opponents.Input arena side spot old new number code =
     session_left arena side new.more number < session_left arena side old.more spot.number
 
--- a ply leads to a number of the set, whose code is no failure, and leaves less to do
+-- a turn that goes on leads to a number of the set whose code is no failure, and leaves less to do
 abbrev pub TurnsTo : Arena Step ℕ Value → (size : ℕ) → Opponent → Colour → Spot → Reader → Reader
     → Turn → Type 0
 TurnsTo arena size opponent side spot old new (Over end) = ⊤
@@ -191,20 +194,20 @@ TurnsTo arena size opponent side spot old new (On number code) =
     (number < size) × (is_failure code ≡ false)
     × LeavesLess opponent arena side spot old new number code
 
--- such a turn may be one of this way
+-- the turn's answer is one that a way against this opponent can give
 abbrev pub IsTurnOf : Result Turn PlayFault → Opponent → Type 0
 IsTurnOf (Ok (Over end)) opponent = IsEndOf end opponent
 IsTurnOf (Ok (On number code)) opponent = ⊤
 IsTurnOf (Err fault) opponent = IsFaultOf fault opponent
 
--- what is left of a way's text at a spot
+-- the text that a way has still to write at a spot
 abbrev pub rest_text : Opponent → Colour → Spot → List WayPly → EndOfWay → List ℕ
 rest_text opponent side spot plies end =
     (if spot.played == 0 then start_line side spot.code plies end else [])
     ++ (plies_text opponent side plies ++ end_text end)
 
--- how a turn leaves a way: it goes on behind its first ply, which leads to this number, or it
--- finished
+-- how a turn leaves a way: the way goes on behind its first ply, which leads to this number, or it
+-- has finished
 abbrev pub Leaves : Arena Step ℕ Value → Opponent → Colour → (ℕ → List ℕ) → Spot → Input →
     List WayPly → EndOfWay → (last : Input) → (rest : List ℕ) → Result Turn PlayFault → Type 0
 Leaves arena opponent side kept spot left plies end last rest (Ok (On number code)) =
@@ -220,7 +223,8 @@ Leaves arena opponent side kept spot left plies end last rest (Err fault) =
     (unread : List ℕ) × (unread ++ last.left ≡ left.left)
     × Finishes (Err fault) (told side end) rest unread
 
--- the text and the bytes are what the turn adds to each way that goes on from here
+-- each way that goes on from the spot begins with what the turn wrote and took, and goes on as the
+-- turn's answer says
 abbrev pub GoesBy : Arena Step ℕ Value → Opponent → Colour → (ℕ → List ℕ) → Spot →
     (old new : Reader) → (bytes text : List ℕ) → Result Turn PlayFault → Type 0
 GoesBy arena opponent side kept spot old new bytes text result =

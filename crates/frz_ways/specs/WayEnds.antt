@@ -1,4 +1,4 @@
--- What a way answers at its end, and what the line or the session does then.
+-- What a way answers at its end, and what the line or the session answers then.
 use Rattle.std.specs.Prelude.{◌≡◌, ◌≢◌, ℕ, List, [], Result, Ok, Err, ⊤}
 use Rattle.frz_board.specs.declared.man.Colour.{Colour}
 use Rattle.frz_arena.specs.WayEnds.{Wrong, NoBound, Mated, Stalemated, Exit, Cut, Stopped}
@@ -33,13 +33,13 @@ told side (Exit v) = Ok (ends.Exit v)
 told side Cut = Ok ends.Cut
 told side (Stopped halt) = told_why halt.why
 
--- some text is left, or the end has a line of the caller's
+-- some text is still to be written, or the answer is a fault, whose line the caller writes
 abbrev pub IsUnfinished : (answer : Result WayEnd PlayFault) → (rest : List ℕ) → Type 0
 IsUnfinished (Ok end) rest = rest ≢ []
 IsUnfinished (Err fault) rest = ⊤
 
--- a way answers what its end tells, with all of its text written and all that it takes of the input
--- taken; but for a fault of the store, of the sink or of the input
+-- a way answers what its end calls for, with its whole text written and all that it takes of the
+-- input taken. Only a fault of the store, the sink or the input ends it earlier
 abbrev pub Finishes : (result answer : Result WayEnd PlayFault) → (rest unread : List ℕ) → Type 0
 Finishes (Err (plays.Line faults.Store)) answer rest unread = IsUnfinished answer rest
 Finishes (Err (plays.Line faults.NoMemory)) answer rest unread = IsUnfinished answer rest
@@ -47,13 +47,13 @@ Finishes (Err (plays.Line faults.Output)) answer rest unread = ⊤
 Finishes (Err plays.Input) answer rest unread = IsUnfinished answer rest
 Finishes result answer rest unread = (result ≡ answer) × (rest ≡ []) × (unread ≡ [])
 
--- no session is cut, and no input ends a line
+-- the ends that a way can have: only a line is cut, and only a session ends with its input
 abbrev pub IsEndOf : WayEnd → Opponent → Type 0
 IsEndOf ends.Cut opponent = opponent ≡ opponents.Codes
 IsEndOf ends.InputEnded opponent = opponent ≡ opponents.Input
 IsEndOf end opponent = ⊤
 
--- no fault or limit of an input stops a line
+-- the faults that a way can have: only a session meets a fault or a limit of an input
 abbrev pub IsFaultOf : PlayFault → Opponent → Type 0
 IsFaultOf (plays.Line fault) opponent = ⊤
 IsFaultOf plays.Input opponent = opponent ≡ opponents.Input
@@ -63,7 +63,7 @@ abbrev pub IsAnswerOf : Result WayEnd PlayFault → Opponent → Type 0
 IsAnswerOf (Ok end) opponent = IsEndOf end opponent
 IsAnswerOf (Err fault) opponent = IsFaultOf fault opponent
 
--- the way's answer where the line answers this
+-- the way's end where the line has this end
 abbrev pub end_of_line : LineEnd → WayEnd
 end_of_line lines.Mate = ends.Mate
 end_of_line lines.Stalemate = ends.Stalemate
@@ -74,7 +74,7 @@ abbrev pub of_line : Result LineEnd LineFault → Result WayEnd PlayFault
 of_line (Ok end) = Ok (end_of_line end)
 of_line (Err fault) = Err (plays.Line fault)
 
--- the way's answer where the session answers this
+-- the way's end where the session has this end
 abbrev pub end_of_session : SessionEnd → WayEnd
 end_of_session sessions.Mate = ends.Mate
 end_of_session sessions.Stalemate = ends.Stalemate

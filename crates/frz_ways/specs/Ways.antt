@@ -1,4 +1,4 @@
--- The way of a side over its kept codes: its best line, or its session against an input.
+-- The way of a side by the codes kept for it: its best line, or its session against an input.
 use Rattle.std.specs.Prelude.{ℕ, List}
 use Rattle.frz_board.specs.declared.man.Colour.{Colour}
 use Rattle.frz_board.specs.Moving.{Step}
@@ -12,25 +12,25 @@ use Rattle.frz_ways.specs.declared.opponent.Opponent.{Opponent}
 use Rattle.frz_ways.specs.declared.opponent.Opponent.TheVariants as opponents
 use Rattle.frz_ways.specs.Reading.{Input, Halt, reads}
 
--- a ply is from a number after so many plies
+-- a ply of a way: its places are pairs of the plies played before and a number
 abbrev pub WayPly : Type 0
 WayPly = Ply Step (ℕ × ℕ) Value
 
 abbrev pub EndOfWay : Type 0
 EndOfWay = End (ℕ × ℕ) Value Halt
 
--- who finds the opponent's plies: the codes, where a hold is cut after the most plies, or the input
+-- what finds the opponent's plies: the codes, which cut a hold after MOST_PLIES plies, or the input
 abbrev pub finder : Arena Step ℕ Value → Opponent → Finder (ℕ × ℕ) Input Halt
 finder arena opponents.Codes = ByCodes MOST_PLIES
 finder arena opponents.Input = ByInput (λ p input. reads (arena.arms p.1) input.more input.left)
 
--- the side goes by the codes, as they are known after so many plies
+-- a player that goes by these codes, where `codes k` are those known after k plies
 abbrev pub way_player : Arena Step ℕ Value → Opponent → Colour → (codes : ℕ → List ℕ)
     → Player Step (ℕ × ℕ) Value Input Halt
 way_player arena opponent side codes = reader arena side codes (finder arena opponent)
 
--- after so many plies the way goes on from the number and this input with these plies to this end,
--- and leaves this. By codes the input stays as it is
+-- from the number, after `played` plies and with the first input left, the way has these plies and
+-- this end, and leaves the last input. Where the codes find all plies, the input stays as it is
 abbrev pub GoesOn : Arena Step ℕ Value → Opponent → Colour → (codes : ℕ → List ℕ) → (played : ℕ)
     → Input → (number : ℕ) → List WayPly → EndOfWay → Input → Type 0
 GoesOn arena opponent side codes played input number plies end left =

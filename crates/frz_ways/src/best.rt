@@ -34,9 +34,9 @@ impl Source for NoInput {
     }
 }
 
-/// Writes the best line of the side from the position: the bound of its kept code, the moves, and
-/// the end, each line as it is made. The side goes by its kept codes and the opponent by them too.
-/// With a fault the lines before it were written, and the line that names it is the caller's.
+/// Plays the best line of the side from the position, and writes it as it is played: the side's
+/// bound, the moves, and the end. The side's codes in the table find the moves of both sides. At a
+/// fault the lines before it stay written; it is for the caller to write the line that names it.
 pub fn best_line<S: Store, O: Sink, L: Ledger>(
     table: &TableFile,
     store: &mut S,
@@ -51,8 +51,8 @@ pub fn best_line<S: Store, O: Sink, L: Ledger>(
     ensures untouched { result ≡ Err LineFault.Outside
         → (store.new ≡ store.old) × (out.new ≡ out.old) × (steps.new ≡ steps.old) }
 
-    // The text is that of the line by the codes that were read after each number of plies. Where
-    // the store tells, they are those that it tells.
+    // The text is that of the line by the codes in `read`, one list for each number of plies.
+    // Where the store's contract says what it holds, they are the codes that it holds.
     ensures wrote { (text : List ℕ) × (read : ℕ → List ℕ) × IsLines text
         × WroteBy result text (sink_of O.Sink out.old) (sink_of O.Sink out.new)
         × ((k : ℕ) → MayRead (told_codes table.now side (S.files store.old)) (table_size table.now)

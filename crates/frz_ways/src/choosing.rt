@@ -1,4 +1,4 @@
-//! The move that a kept code asks for, among the moves of a number whose codes were read.
+//! The move that a kept code asks for, chosen by the codes that were read for the moves.
 ghost use Rattle.std.specs.Prelude.{◌≡◌, ◌||◌, not, ℕ, length};
 ghost use Rattle.frz_arena.specs.Codes as codes;
 ghost use Rattle.frz_arena.specs.Chosen.{IsFound};
@@ -15,7 +15,7 @@ const NO_CHOICE: Choice = Choice {
     code: 0,
 };
 
-/// A move as its mover sees it: the side itself takes free ones alone.
+/// A move as its mover sees it. The side itself may take free moves only, its opponent any move.
 fn seen(own: bool, arm: Arm, code: u32) -> Choice
     ensures { result ≡ record { allowed = not own || arm.free; code = code } }
 {
@@ -25,7 +25,7 @@ fn seen(own: bool, arm: Arm, code: u32) -> Choice
     }
 }
 
-/// Fills the slice with the moves as their mover sees them.
+/// Fills `into` with the moves as their mover sees them.
 fn put_choices(own: bool, arms: &[Arm], codes: &[u32], into: &mut [Choice])
     requires many { length codes.now ≡ length arms.now }
     requires room { length into.old ≡ length arms.now }
@@ -36,7 +36,8 @@ fn put_choices(own: bool, arms: &[Arm], codes: &[u32], into: &mut [Choice])
     }
 }
 
-/// The place of the move that the kept code asks for; `own` says whether the side itself moves.
+/// The place in the list of the move that the kept code asks for; `own` says whether the side
+/// itself moves. The caller has shown that there is such a move.
 pub fn place_for(own: bool, kept: u32, list: &NextList, read: &CodeList) -> usize
     requires many { length read.now.items ≡ length list.now.items }
     requires there { (i : ℕ) × (x : Seen) × IsFound has_code (codes.is_win kept) kept

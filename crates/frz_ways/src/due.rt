@@ -1,16 +1,16 @@
-//! What is due at a number of a way.
+//! What is due at a number of a way: its end, or a ply.
 ghost use Rattle.std.specs.Prelude.{◌≡◌};
 ghost use Rattle.frz_ways.specs.Dues.{due_by, due_on};
 
 use frz_arena::{Node, is_failure};
 use frz_board::Colour;
 
-/// What is due at a number of a way: its end, or a ply of this side.
+/// What is due at a number of a way. A colour is that of the side to move.
 #[derive(Clone, Copy, Debug, PartialEq, Eq)]
 pub enum Due {
-    /// The kept code is not the local one, which is this.
+    /// The kept code differs from the local code, which is given here.
     Wrong(u64),
-    /// The start is a failure.
+    /// The number is the start of the way, and its code is a failure: no bound to play for.
     NoBound,
     Mate(Colour),
     Stalemate(Colour),
@@ -18,8 +18,7 @@ pub enum Due {
     Ply(Colour),
 }
 
-/// What is due where the kept code is the given one, by what the number is. A hold is cut where the
-/// way is late.
+/// What is due where the kept code is the local one. A way that is late is cut at a hold.
 fn due_at(node: Node, kept: u32, is_late: bool) -> Due
     ensures { result ≡ due_on is_late kept node }
 {
@@ -37,7 +36,8 @@ fn due_at(node: Node, kept: u32, is_late: bool) -> Due
     }
 }
 
-/// What is due: first the kept code is compared with the given one, then the start must not fail.
+/// What is due at a number. The kept code is first compared with `given`, the local code; then a
+/// start whose code is a failure is refused.
 pub fn what_is_due(node: Node, kept: u32, given: u64, is_start: bool, is_late: bool) -> Due
     ensures { result ≡ due_by is_start is_late kept given node }
 {

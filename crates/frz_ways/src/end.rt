@@ -7,7 +7,7 @@ use frz_game::Wrong;
 use frz_sets::Value;
 use frz_store::{Failed, StoreFault};
 
-/// A line from a hold is cut after so many plies.
+/// The number of plies after which a line from a hold is cut.
 pub const MOST_PLIES: u32 = 100;
 
 /// How a line ends.
@@ -15,26 +15,26 @@ pub const MOST_PLIES: u32 = 100;
 pub enum LineEnd {
     Mate,
     Stalemate,
-    /// By a move out of the set, to a position of this value.
+    /// A move left the set, to a position with this value.
     Exit(Value),
-    /// After the most plies of a line that holds.
+    /// The line holds, and was cut after [`MOST_PLIES`] plies.
     Cut,
 }
 
-/// Why a line has no end of its own.
+/// Why a line is refused or stops before an end of its own.
 #[derive(Clone, Copy, Debug, PartialEq, Eq, Drop)]
 pub enum LineFault {
     /// The position is not in the set.
     Outside,
-    /// The kept code of the start is that of a failure.
+    /// The table keeps a failure for the side at the start, so there is no bound to play for.
     NoBound,
-    /// A kept code on the way is not the local code.
+    /// At a number that the line came to, the kept code is not the local code.
     Wrong(Wrong),
     /// The store failed.
     Store,
     /// The sink failed.
     Output,
-    /// The store wanted memory.
+    /// The store had no memory.
     NoMemory,
 }
 

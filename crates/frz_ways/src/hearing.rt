@@ -1,4 +1,4 @@
-//! The reply of the opponent: lines of the input are read until one says a legal move.
+//! The reply of the opponent: the first line of the input that says a legal move.
 ghost use Rattle.std.specs.Prelude.{◌≡◌, ◌<◌, codes, length, true, IfOk};
 ghost use Rattle.frz_store.specs.Outside.{HasCause};
 ghost use Rattle.frz_store.specs.Told.{source_of, sink_of};
@@ -20,16 +20,16 @@ pub enum Why {
     Limit(PlayLimit),
 }
 
-/// What an input gives.
+/// What an input gives where the opponent is to move.
 #[derive(Clone, Copy)]
 pub enum Heard {
-    /// The place of the move that a line says.
+    /// A move, by its place in the list of moves.
     Reply(usize),
     Stop(Why),
 }
 
-/// How far an input is read: how many lines may still be read, and whether its end was seen. Behind
-/// its end no byte is asked for.
+/// How far an input was read: how many lines may still be read, and whether its end was seen. Once
+/// the end was seen, no byte is asked for.
 #[derive(Clone, Copy)]
 pub struct Reader {
     pub more: u32,
@@ -43,7 +43,7 @@ fn write_refused<O: Sink>(out: &mut O) -> Result<(), Failed>
     write_piece(b"illegal\n", out)
 }
 
-/// Counts a line that was read, and tells why it is none, where it is none.
+/// Counts what was read as a line, or tells why there was no line to count.
 fn counted(next: NextLine, reader: &mut Reader) -> Option<Why>
     requires some { 0 < reader.old.more }
     ensures reader { reader.new ≡ after_line reader.old next }
@@ -67,8 +67,8 @@ fn counted(next: NextLine, reader: &mut Reader) -> Option<Why>
     }
 }
 
-/// Takes the next line, or tells why there is none: first the limit of lines is tried, then the
-/// end, then the length of the line.
+/// Takes the next line, or tells why there is none. The limit of lines is checked first, then the
+/// end of the input, then the length of the line.
 #[tactic(auto, using(crate::proofs::Heard::seen_before, crate::proofs::Heard::input_failed, crate::proofs::Heard::line_heard))]
 fn next_line<I: Source>(
     reader: &mut Reader,
@@ -90,7 +90,7 @@ fn next_line<I: Source>(
     Ok(counted(next, reader))
 }
 
-/// Reads lines until one says a move of the list. Each other line is refused.
+/// Reads lines until one says a move of the list. For each other line it writes `illegal`.
 pub fn hear<I: Source, O: Sink>(
     list: &NextList,
     reader: &mut Reader,

@@ -17,15 +17,15 @@ pub type LineBytes = ArrayVec<u8, MOST_LENGTH>;
 pub enum NextLine {
     /// No byte.
     Nothing,
-    /// A line with its line feed.
+    /// A line that ends with a line feed.
     Whole,
-    /// A line at the end of the input.
+    /// A last line, which the end of the input ends.
     Last,
-    /// More bytes than a line may have.
+    /// More bytes than the `MOST_LENGTH` that a line may have.
     TooLong,
 }
 
-/// Takes the next byte, and None at the end.
+/// Takes the next byte. None at the end of the input.
 fn read_byte<I: Source>(input: &mut I) -> Result<Option<u8>, Failed>
     ensures gave { GaveByte result (source_of I.Source input.old) (source_of I.Source input.new) }
     ensures cause { HasCause (I.faults input.old) (I.faults input.new) result }
@@ -37,8 +37,9 @@ fn read_byte<I: Source>(input: &mut I) -> Result<Option<u8>, Failed>
     Ok(Some(byte[0]))
 }
 
-/// Takes the next line with its line feed, and nothing behind it. Where a line is too long, its
-/// first byte too many is the last that is taken.
+/// Takes the next line and its line feed from the input, and puts the line without it into `line`.
+/// Nothing behind the line feed is taken. Of a line that is too long, `MOST_LENGTH` bytes and one
+/// more are taken.
 pub fn read_line<I: Source>(input: &mut I, line: &mut LineBytes) -> Result<NextLine, Failed>
     ensures gave { GaveLine result line.new.items (source_of I.Source input.old)
         (source_of I.Source input.new) }

@@ -1,5 +1,5 @@
-//! Ways of a side that plays by the codes in a table file: its best line, in which the opponent
-//! goes by them too, and sessions against the lines of an input.
+//! Games that a side plays by the codes of a table file, called ways: its best line, where the
+//! codes find the opponent's moves too, and sessions, where the lines of an input say them.
 #![tactic(auto)]
 
 mod best;

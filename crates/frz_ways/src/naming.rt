@@ -1,4 +1,4 @@
-//! The move that a line says.
+//! The move that a line of the input says.
 ghost use Rattle.std.specs.Prelude.{◌≡◌, ◌<◌, length, option_map, Some, IfSome};
 ghost use Rattle.std.specs.Str.{bytes_eq};
 ghost use Rattle.frz_board.specs.Texts.{text_of};
@@ -9,7 +9,7 @@ use frz_board::{Move, move_text};
 use frz_graph::NextList;
 use frz_words::next_word;
 
-/// The one word of a line.
+/// The word of a line that has just one.
 fn only_word(line: &[u8]) -> Option<&[u8]>
     ensures { option_map (λ w. w.now) result ≡ only_of (words line.now) }
 {
@@ -27,7 +27,7 @@ fn is_text(word: &[u8], m: Move) -> bool
     word == move_text(m).as_str().as_bytes()
 }
 
-/// The place of the move whose text is the word.
+/// The place in the list of the first move whose text is the word.
 fn place_in(word: &[u8], list: &NextList) -> Option<usize>
     ensures place { result ≡ place_by list.now.items (Some word.now) }
     ensures within { IfSome result (λ place. place < length list.now.items) }
@@ -35,7 +35,8 @@ fn place_in(word: &[u8], list: &NextList) -> Option<usize>
     list.as_slice().iter().position(|arm| is_text(word, arm.mv))
 }
 
-/// The place of the move that the line says.
+/// The place in the list of the move that the line says. None where the line is not one word, or
+/// the word is the text of no move in the list.
 pub fn place_of(line: &[u8], list: &NextList) -> Option<usize>
     ensures place { result ≡ place_said list.now.items line.now }
     ensures within { IfSome result (λ place. place < length list.now.items) }

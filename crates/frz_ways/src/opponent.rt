@@ -1,13 +1,13 @@
-//! Who plays a way: a side by its codes, and who finds its opponent's plies.
+//! Who plays a way: a side that goes by its codes, and who finds its opponent's plies.
 
 use frz_board::Colour;
 
 /// Who finds the plies of the opponent.
 #[derive(Clone, Copy)]
 pub enum Opponent {
-    /// The codes of the side, in its line: a line that holds is cut.
+    /// In a line: the codes of the side. A line from a hold is cut after `MOST_PLIES` plies.
     Codes,
-    /// The lines of an input, in a session.
+    /// In a session: the lines of an input.
     Input,
 }
 

@@ -1,4 +1,4 @@
-//! One turn of a way: what is due at a number is done.
+//! One turn of a way: the program does what is due at a number.
 ghost use Rattle.std.specs.Prelude.{◌≡◌, ◌<◌, ℕ, List, length, true};
 ghost use Rattle.frz_store.specs.Told.{SinkTold, source_of, sink_of};
 ghost use Rattle.frz_answer.specs.Texts.{WroteText};
@@ -27,7 +27,8 @@ use frz_graph::{Lists, Next};
 use frz_prelude::write_kept_line;
 use frz_store::{Failed, Sink, Source};
 
-/// Where a way has come to: a number, its kept code, and how many plies were played before.
+/// Where a way has come to: a number, the code that the table file keeps for the side there, and
+/// how many plies were played before.
 #[derive(Clone, Copy)]
 pub struct Spot {
     pub number: u32,
@@ -35,15 +36,15 @@ pub struct Spot {
     pub played: u32,
 }
 
-/// How a way goes on.
+/// How a way goes on after a turn.
 #[derive(Clone, Copy)]
 pub enum Turn {
     Over(WayEnd),
-    /// At this number, whose code was read as this.
+    /// At this number, with the code that was read for it.
     On(u32, u32),
 }
 
-/// Writes the bound of the start, where it is not refused.
+/// Writes the line of the side's bound before the first ply, unless the start is refused.
 pub fn write_opening<O: Sink>(side: Colour, spot: Spot, due: Due, out: &mut O) -> Result<(), Failed>
     ensures { WroteText (opening side spot due) result
         (sink_of O.Sink out.old) (sink_of O.Sink out.new) }
@@ -59,7 +60,7 @@ pub fn write_opening<O: Sink>(side: Colour, spot: Spot, due: Due, out: &mut O) -
     }
 }
 
-/// Answers this where it was written.
+/// The answer `turn`, once its text was written.
 fn answered(turn: Turn, written: Result<(), Failed>) -> Result<Turn, PlayFault>
     ensures { (text : List ℕ) (old new : SinkTold) → WroteText text written old new
         → Answers turn text result old new }
@@ -79,7 +80,7 @@ fn turn_to(next: Next, code: u32) -> Turn
     }
 }
 
-/// Plays the move at a place, and writes it behind this word.
+/// Plays the move at this place of the list, and writes it behind `word`.
 fn play_at<O: Sink>(
     word: &[u8],
     place: usize,
@@ -98,7 +99,7 @@ fn play_at<O: Sink>(
     )
 }
 
-/// Do the codes find the ply? `own` says whether the side itself moves.
+/// Do the codes find this ply? `own` says whether the side itself moves.
 fn goes_by_codes(opponent: Opponent, own: bool) -> bool
     ensures { result ≡ by_codes opponent own }
 {
@@ -108,7 +109,7 @@ fn goes_by_codes(opponent: Opponent, own: bool) -> bool
     }
 }
 
-/// Plays the move that the kept code asks for. In a line no word stands before a move.
+/// Plays the move that the kept code asks for. A session writes `move` before it, a line nothing.
 fn play_by_codes<O: Sink>(
     opponent: Opponent,
     own: bool,
@@ -129,7 +130,7 @@ fn play_by_codes<O: Sink>(
     }
 }
 
-/// Plays the reply of the opponent.
+/// Plays the reply of the opponent that the input says, or ends the way where it says none.
 fn play_reply<I: Source, O: Sink>(
     lists: &Lists,
     reader: &mut Reader,
@@ -154,7 +155,7 @@ fn play_reply<I: Source, O: Sink>(
     }
 }
 
-/// Does what is due.
+/// Plays the ply that is due, or ends the way.
 pub fn play<I: Source, O: Sink>(
     player: Player,
     spot: Spot,

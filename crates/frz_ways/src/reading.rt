@@ -13,7 +13,8 @@ use frz_graph::{CodeList, Next, NextList, exit_code};
 use frz_store::{Store, StoreFault};
 use frz_table::TableFile;
 
-/// The code of where a move leads.
+/// The code for the side of where a move leads: an entry of the file, or the code of an exit's
+/// value, which needs no call.
 fn read_code<S: Store>(
     table: &TableFile,
     store: &mut S,
@@ -37,8 +38,8 @@ fn read_code<S: Store>(
     }
 }
 
-/// Puts the code of each move of the list into `codes`, and drops what was there. That of a move
-/// which stays inside is read where it stands in the file: one call, and four bytes.
+/// Puts the code of each move of the list into `codes`, and drops what was there. A move that stays
+/// inside the set costs one call of the store, which reads four bytes, and an exit none.
 pub fn read_codes<S: Store>(
     table: &TableFile,
     store: &mut S,

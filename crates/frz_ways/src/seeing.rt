@@ -1,5 +1,5 @@
-//! What a player by a table file sees at a number: its moves and their codes, and what is due
-//! there. Lines and sessions share it.
+//! What a player by a table file sees at a number: its moves, their codes, and what is due there.
+//! Lines and sessions share this module.
 ghost use Rattle.std.specs.Prelude.{◌≡◌, ◌≤◌, ◌<◌, ◌+◌, ◌*◌, ℕ, List, length, map, IfOk, OnOk};
 ghost use Rattle.frz_store.specs.Outside.{StoreCauses};
 ghost use Rattle.frz_store.specs.Told.{store_of, StoreQuiet};
@@ -22,8 +22,8 @@ use frz_store::{Store, StoreFault};
 use frz_table::TableFile;
 use std::sync::ledger::Ledger;
 
-/// What is due at a number with this kept code, by its moves and their codes. The lists then have
-/// them.
+/// What is due at a number with this kept code. It takes one step to list the moves, and reads the
+/// codes of those that stay inside the set. Afterwards `lists` has the moves and their codes.
 pub fn sight<G: NumberedGame<L>, S: Store, L: Ledger>(
     game: &G,
     table: &TableFile,

@@ -23,9 +23,9 @@ use frz_table::TableFile;
 use std::sync::ledger::Ledger;
 
 /// Plays the side from the position against the input, and writes the session as it is played: the
-/// bound of its kept code, the moves of the side, which goes by its kept codes, the replies, and
-/// the end. The input is taken byte by byte, and nothing behind the last line of the session. With
-/// a fault the lines before it were written, and the line that names it is the caller's.
+/// side's bound, its moves, which its codes in the table find, the opponent's replies, and the end.
+/// The input is taken byte by byte, and nothing behind the last line that the session needs. At a
+/// fault the lines before it stay written; it is for the caller to write the line that names it.
 pub fn play_session<S: Store, I: Source, O: Sink, L: Ledger>(
     table: &TableFile,
     store: &mut S,
@@ -43,9 +43,9 @@ pub fn play_session<S: Store, I: Source, O: Sink, L: Ledger>(
         → (store.new ≡ store.old) × (input.new ≡ input.old) × (out.new ≡ out.old)
         × (steps.new ≡ steps.old) }
 
-    // The text and the bytes are those of the session by the codes that were read after each
-    // number of plies, against some input. Where the store and the input tell, they are those that
-    // these tell.
+    // The text and the bytes are those of a session against some input, by the codes in `read`, one
+    // list for each number of plies. Where the contracts of the store and the input say what
+    // these hold, codes and input are what they hold.
     ensures played { (text bytes : List ℕ) × IsLines text
         × WroteBy result text (sink_of O.Sink out.old) (sink_of O.Sink out.new)
         × TookBytes bytes (source_of I.Source input.old) (source_of I.Source input.new)

@@ -8,10 +8,10 @@ use crate::end::LineFault;
 use frz_sets::Value;
 use frz_store::{Failed, StoreFault};
 
-/// How many lines of the input a session reads at most.
+/// The most lines that a session reads of its input.
 pub const MOST_LINES: u32 = 10_000;
 
-/// How many bytes a line has at most, its line feed apart.
+/// The most bytes that a line of the input may have, without its line feed.
 pub const MOST_LENGTH: usize = 64;
 
 /// How a session ends.
@@ -19,25 +19,25 @@ pub const MOST_LENGTH: usize = 64;
 pub enum SessionEnd {
     Mate,
     Stalemate,
-    /// By a move out of the set, to a position of this value.
+    /// A move left the set, to a position with this value.
     Exit(Value),
-    /// A line was wanted, and no byte was left.
+    /// The opponent was to move, and the input had no byte left.
     InputEnded,
 }
 
-/// A limit that the input of a session has come to.
+/// Which limit the input of a session exceeds.
 #[derive(Clone, Copy, Debug, PartialEq, Eq, Drop)]
 pub enum PlayLimit {
-    /// A line was wanted, and the most lines were read.
+    /// The opponent was to move, and [`MOST_LINES`] lines were read before.
     Lines,
-    /// One byte more than a line may have was read, and is no line feed.
+    /// A line has more than [`MOST_LENGTH`] bytes.
     LineLength,
 }
 
-/// Why a session has no end of its own.
+/// Why a session is refused or stops before an end of its own.
 #[derive(Clone, Copy, Debug, PartialEq, Eq, Drop)]
 pub enum PlayFault {
-    /// As a line may have none.
+    /// A cause that a line can have too.
     Line(LineFault),
     /// The input failed.
     Input,

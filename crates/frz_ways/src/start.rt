@@ -31,7 +31,8 @@ use frz_store::{Sink, Source, Store};
 use frz_table::TableFile;
 use std::sync::ledger::Ledger;
 
-/// Plays the way of the side from the position, and writes it as it is played.
+/// Plays the way of the side from the position, and writes it as it is played. A position outside
+/// the table's set answers `Outside`: then nothing is read, written or taken.
 pub fn play_from<S: Store, I: Source, O: Sink, L: Ledger>(
     table: &TableFile,
     store: &mut S,

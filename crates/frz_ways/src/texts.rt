@@ -29,7 +29,7 @@ fn write_value<O: Sink>(value: Value, out: &mut O) -> Result<(), Failed>
     }
 }
 
-/// Writes the line of an exit to this value.
+/// Writes the line of an exit with this value.
 fn write_exit<O: Sink>(value: Value, out: &mut O) -> Result<(), Failed>
     ensures { WroteText (exit_line value) result (sink_of O.Sink out.old) (sink_of O.Sink out.new) }
 {
@@ -52,7 +52,7 @@ fn write_move<O: Sink>(m: Move, out: &mut O) -> Result<(), Failed>
     write_piece(b"\n", out)
 }
 
-/// Writes the line of the exit, where the move leaves the set.
+/// Writes the line of the exit, or nothing where the move stays in the set.
 fn write_next<O: Sink>(next: Next, out: &mut O) -> Result<(), Failed>
     ensures { WroteText (next_line next) result (sink_of O.Sink out.old) (sink_of O.Sink out.new) }
 {
@@ -62,7 +62,7 @@ fn write_next<O: Sink>(next: Next, out: &mut O) -> Result<(), Failed>
     }
 }
 
-/// Writes the line of a move and that of its exit.
+/// Writes the line of a move, and that of the exit where the move leaves the set.
 fn write_arm<O: Sink>(arm: Arm, out: &mut O) -> Result<(), Failed>
     ensures { WroteText (arm_text arm) result (sink_of O.Sink out.old) (sink_of O.Sink out.new) }
 {
@@ -70,7 +70,8 @@ fn write_arm<O: Sink>(arm: Arm, out: &mut O) -> Result<(), Failed>
     write_next(arm.next, out)
 }
 
-/// Writes the line of a move behind this word, if it is one, and that of its exit.
+/// Writes `word`, which may be empty, then the line of a move, and the line of the exit where the
+/// move leaves the set.
 pub fn write_moved<O: Sink>(word: &[u8], arm: Arm, out: &mut O) -> Result<(), Failed>
     ensures { WroteText (moved_text word.now arm) result
         (sink_of O.Sink out.old) (sink_of O.Sink out.new) }

@@ -32,7 +32,7 @@ use frz_store::{Sink, Source, Store};
 use frz_table::TableFile;
 use std::sync::ledger::Ledger;
 
-/// Is a way that holds cut after so many plies?
+/// Is a way from a hold cut after so many plies? A session never is.
 fn is_late(opponent: Opponent, played: u32) -> bool
     ensures { result ≡ late_by opponent played }
 {
@@ -42,7 +42,7 @@ fn is_late(opponent: Opponent, played: u32) -> bool
     }
 }
 
-/// One turn: the moves of the number and their codes are read, and what is due is done.
+/// Plays one turn: it lists the moves of the number, reads their codes, and does what is due there.
 fn turn<G: NumberedGame<L>, S: Store, I: Source, O: Sink, L: Ledger>(
     game: &G,
     table: &TableFile,
@@ -106,8 +106,8 @@ fn turn<G: NumberedGame<L>, S: Store, I: Source, O: Sink, L: Ledger>(
     play(player, spot, due, lists, reader, input, out)
 }
 
-/// Plays the way of the side from a number with this kept code, and writes its text. Where the
-/// codes find the opponent's plies the input is not read.
+/// Plays the way of the side from the number `start`, and writes its text. `code` is what the table
+/// file keeps for the side there. Where the codes find the opponent's plies, the input is not read.
 pub fn play_way<G: NumberedGame<L>, S: Store, I: Source, O: Sink, L: Ledger>(
     game: &G,
     table: &TableFile,

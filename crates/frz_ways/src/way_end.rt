@@ -1,4 +1,4 @@
-//! How a way ends, and the answer of a line or of a session by that of its way.
+//! How a way ends, and how its answer becomes that of a line or of a session.
 ghost use Rattle.std.specs.Prelude.{◌≡◌};
 ghost use Rattle.frz_ways.specs.declared.opponent.Opponent.TheVariants as opponents;
 ghost use Rattle.frz_ways.specs.WayEnds.{IsAnswerOf, of_line, of_session};
@@ -7,20 +7,20 @@ use crate::end::{LineEnd, LineFault};
 use crate::session_end::{PlayFault, SessionEnd};
 use frz_sets::Value;
 
-/// How a way ends: a line or a session.
+/// How a way ends, whether it is a line or a session.
 #[derive(Clone, Copy)]
 pub enum WayEnd {
     Mate,
     Stalemate,
-    /// By a move out of the set, to a position of this value.
+    /// A move left the set, to a position with this value.
     Exit(Value),
-    /// In a line: after the most plies of one that holds.
+    /// Only in a line: it holds, and was cut after the most plies.
     Cut,
-    /// In a session: a line was wanted, and no byte was left.
+    /// Only in a session: the opponent was to move, and the input had no byte left.
     InputEnded,
 }
 
-/// What a line answers, by what its way does.
+/// What a line answers where its way answers this.
 pub fn line_answer(answer: Result<WayEnd, PlayFault>) -> Result<LineEnd, LineFault>
     requires { IsAnswerOf answer opponents.Codes }
     ensures { answer ≡ of_line result }
@@ -37,7 +37,7 @@ pub fn line_answer(answer: Result<WayEnd, PlayFault>) -> Result<LineEnd, LineFau
     }
 }
 
-/// What a session answers, by what its way does.
+/// What a session answers where its way answers this.
 pub fn session_answer(answer: Result<WayEnd, PlayFault>) -> Result<SessionEnd, PlayFault>
     requires { IsAnswerOf answer opponents.Input }
     ensures { answer ≡ of_session result }

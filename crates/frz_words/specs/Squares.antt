@@ -8,13 +8,13 @@ unfoldable pub use Rattle.frz_squares.specs.SquareSets.{set_of}
 use Rattle.frz_words.specs.Parts.{split}
 use Rattle.frz_words.specs.declared.squares.Rectangle.{Rectangle}
 
--- a letter a to h and a digit 1 to 8
+-- the square, with a1 = 0 and h8 = 63, of the bytes of a letter a to h and a digit 1 to 8
 abbrev pub square_of : ℕ → ℕ → Option ℕ
 square_of letter digit =
     if (nat_le 97 letter && nat_le letter 104) && (nat_le 49 digit && nat_le digit 56)
     then Some (8 * (digit - 49) + (letter - 97)) else None
 
--- the first corner's file and rank are at most those of the last
+-- the rectangle between two corners, where the first is on no higher file or rank than the last
 abbrev pub between : Option ℕ → Option ℕ → Option Rectangle
 between None last = None
 between (Some s) None = None
@@ -22,7 +22,7 @@ between (Some s) (Some t) =
     if nat_le (file_of s) (file_of t) && nat_le (rank_of s) (rank_of t)
     then Some (record { first = s; last = t }) else None
 
--- an item: a square, or `all`, or two squares with a hyphen between them
+-- the squares of an item: of a square, of `all`, or of two corners with a hyphen between them
 abbrev pub item_of : List ℕ → Option Rectangle
 item_of (f ∷ r ∷ []) = between (square_of f r) (square_of f r)
 item_of (a ∷ b ∷ c ∷ []) =
@@ -43,7 +43,7 @@ abbrev pub with_item : Rectangle → Option (List Rectangle) → Option (List Re
 with_item r None = None
 with_item r (Some rs) = Some (r ∷ rs)
 
--- None where one of them is no item
+-- the items; None where one part of the word is no item
 abbrev pub all_items : List (Option Rectangle) → Option (List Rectangle)
 all_items [] = Some []
 all_items (None ∷ items) = None
@@ -52,11 +52,11 @@ all_items ((Some r) ∷ items) = with_item r (all_items items)
 abbrev pub items_of : List ℕ → Option (List Rectangle)
 items_of word = all_items (map item_of (split is_comma word))
 
--- one of the items covers the square
+-- whether one of the items covers the square
 abbrev pub is_covered : List Rectangle → ℕ → Bool
 is_covered items s = list_any (λ r. covers r s) items
 
--- the union of the items
+-- the set of squares that a word writes: the union of its items
 unfoldable pub squares_of : List ℕ → Option ℕ
 squares_of word = option_map (λ items. set_of (is_covered items)) (items_of word)
 
@@ -64,11 +64,11 @@ abbrev pub covered_by : Option (List Rectangle) → ℕ → Bool
 covered_by None s = false
 covered_by (Some items) s = is_covered items s
 
--- the square belongs to the set that the word writes
+-- whether the square belongs to the set that the word writes
 unfoldable pub is_square_of : List ℕ → ℕ → Bool
 is_square_of word s = covered_by (items_of word) s
 
--- the square of a whole word
+-- the square that a word of two bytes names
 abbrev pub square_word : List ℕ → Option ℕ
 square_word (letter ∷ digit ∷ []) = square_of letter digit
 square_word _ = None

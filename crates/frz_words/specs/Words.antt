@@ -3,7 +3,7 @@ use Rattle.std.specs.Prelude.{ℕ, ◌-◌, Bool, true, false, not, ◌==◌, �
 use Rattle.std.specs.List.{filter}
 use Rattle.frz_words.specs.Parts.{split}
 
--- a space, a tab or a carriage return
+-- whether the byte is a space, a tab or a carriage return
 abbrev pub is_blank : ℕ → Bool
 is_blank b = b == 32 || (b == 9 || b == 13)
 
@@ -11,11 +11,11 @@ abbrev pub has_bytes : List ℕ → Bool
 has_bytes [] = false
 has_bytes (b ∷ bs) = true
 
--- the longest runs of bytes that are no blanks
+-- the words of a line: the longest runs of bytes that are no blanks
 unfoldable pub words : List ℕ → List (List ℕ)
 words line = filter has_bytes (split is_blank line)
 
--- the word of a number from 1
+-- the k-th word, counted from 1
 abbrev pub word_at : List (List ℕ) → ℕ → Option (List ℕ)
 word_at [] k = None
 word_at (word ∷ others) k =

@@ -1,4 +1,4 @@
-//! Lines, words, numbers and sets of squares of a rules text. Every part is a slice of the text.
+//! The lines, words, numbers and sets of squares of a rules text; lines and words are its slices.
 #![tactic(auto)]
 
 mod lines;

@@ -9,7 +9,7 @@ use crate::parts::cut;
 use crate::words::{count_words, next_word};
 use std::marker::Model;
 
-/// A line of a text without its line feed, and its number from 1.
+/// A line of a text without its line feed, and its number; the first line has number 1.
 #[derive(Clone, Copy, Debug, Drop)]
 pub struct Line<'a> {
     pub number: u32,
@@ -17,7 +17,7 @@ pub struct Line<'a> {
 }
 
 impl<'a> Line<'a> {
-    /// How many words it has.
+    /// How many words the line has.
     pub fn count(&self) -> u32
         requires { length self.now.text.now < 2 ^ 32 }
         ensures { result ≡ length (words self.now.text.now) }
@@ -25,7 +25,8 @@ impl<'a> Line<'a> {
         count_words(self.text) as u32
     }
 
-    /// The word of a number from 1, a slice of the text.
+    /// The k-th word of the line, counted from 1, as a slice of the text. None where there is no
+    /// such word, and for k = 0.
     #[tactic(auto, using(crate::proofs::Wording::word_at_zero))]
     pub fn word(&self, k: u32) -> Option<&'a [u8]>
         requires { length self.now.text.now < 2 ^ 32 }
@@ -45,7 +46,8 @@ impl<'a> Line<'a> {
     }
 }
 
-/// The lines that are left of a text, seen as the list of their numbers and texts.
+/// The lines of a text that are still to be read. Contracts see the list of their numbers and
+/// texts.
 #[derive(Drop)]
 pub struct Lines<'a> {
     rest: &'a [u8],
@@ -73,7 +75,7 @@ impl<'a> Lines<'a> {
         }
     }
 
-    /// The next line, and None after the last.
+    /// The next line. None after the last.
     #[tactic(auto, using(crate::proofs::Lining::lining))]
     pub fn next(&mut self) -> Option<Line<'a>>
         ensures line { MatchOption result ((self.old ≡ []) × (self.new ≡ []))

@@ -3,7 +3,8 @@
 ghost use Rattle.std.specs.Prelude.{◌≡◌, ◌≤◌, IfSome};
 ghost use Rattle.frz_words.specs.Numbers.{number_of};
 
-/// The value of one to nine decimal digits, where it is at most `most`.
+/// The value of a word of one to nine decimal digits. None for any other word, and where the value
+/// is above `most`.
 #[tactic(auto, unfolding(crate::specs::Numbers::number_of))]
 pub fn read_number(w: &[u8], most: u32) -> Option<u32>
     ensures value { result ≡ number_of w.now most }

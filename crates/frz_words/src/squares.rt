@@ -1,4 +1,4 @@
-//! Squares and sets of squares, as words write them.
+//! Squares and sets of squares, as the words of a rules text write them.
 
 ghost use Rattle.std.specs.Prelude.{◌≡◌, ◌<◌, ◌^◌, ℕ, IfSome};
 ghost use Rattle.frz_squares.specs.SquareSets.{has_square, set_of};
@@ -8,7 +8,9 @@ use crate::parts::cut;
 use crate::words::is_word;
 use frz_squares::{SquareSet, file, rank};
 
-/// The squares from one corner to the other, the first on the lower file and rank.
+/// The squares of a rectangle, from its corner `first` to its corner `last`. The file and the rank
+/// of `first` are at most those of `last`. Squares are numbered from a1 = 0 along the ranks to
+/// h8 = 63.
 #[derive(Clone, Copy)]
 pub struct Rectangle {
     first: u8,
@@ -25,7 +27,8 @@ fn square_at(letter: u8, digit: u8) -> Option<u8>
     }
 }
 
-/// The number of the square of a letter a to h and a digit 1 to 8.
+/// The number of the square that a word of a letter a to h and a digit 1 to 8 names, from a1 = 0
+/// along the ranks to h8 = 63. None for any other word.
 pub fn read_square(w: &[u8]) -> Option<u8>
     ensures square { result ≡ square_word w.now }
     ensures on_board { IfSome result (λ s. s < 64) }
@@ -48,7 +51,8 @@ fn between_corners(first: Option<u8>, last: Option<u8>) -> Option<Rectangle>
     }
 }
 
-/// A square, two squares with a hyphen between them, or `all`.
+/// Reads an item: a square, two corners with a hyphen between them, or `all`. None for any other
+/// word, and where the first corner is on a higher file or rank than the last.
 fn read_item(w: &[u8]) -> Option<Rectangle>
     ensures { result ≡ item_of w.now }
 {
@@ -68,7 +72,7 @@ impl Rectangle {
             && (rank(self.first) <= rank(s) && rank(s) <= rank(self.last))
     }
 
-    /// Its squares, a bit for each.
+    /// The squares of the rectangle, bit s for square s.
     #[tactic(auto, using(crate::proofs::Gathering::bits))]
     fn squares(self) -> u64
         ensures { result ≡ set_of (covers_square self) }
@@ -105,7 +109,9 @@ fn union_of_items(w: &[u8]) -> Option<SquareSet>
     Some(SquareSet(set))
 }
 
-/// The union of the items between commas; an item may come again.
+/// The set of squares that a word writes: the union of its items, which stand between commas. An
+/// item is a square (`e4`), a rectangle by two corners (`a1-c3`) or `all`. Items may overlap. None
+/// where one of the parts is no item.
 #[tactic(auto, using(crate::proofs::Members::members))]
 pub fn read_squares(w: &[u8]) -> Option<SquareSet>
     ensures set { result ≡ squares_of w.now }

@@ -1,4 +1,4 @@
-//! The words of a line.
+//! The words of a line: spaces, tabs and carriage returns separate them.
 
 ghost use Rattle.std.specs.Prelude.{◌≡◌, ◌<◌, ◌≤◌, ◌∷◌, [], not, IsTrue, MatchOption, IfSome, length};
 ghost use Rattle.std.specs.List.{position};
@@ -23,7 +23,7 @@ fn word_end(line: &[u8]) -> Option<usize>
     line.iter().position(|b| is_blank(*b))
 }
 
-/// The first word of a line, and what follows it. None where there is no word.
+/// The first word of a line, and what follows the word and one blank. None where there is no word.
 #[tactic(auto, using(crate::proofs::Wording::wording))]
 pub fn next_word(line: &[u8]) -> Option<(&[u8], &[u8])>
     ensures word { MatchOption result (words line.now ≡ [])
@@ -36,7 +36,7 @@ pub fn next_word(line: &[u8]) -> Option<(&[u8], &[u8])>
     }
 }
 
-/// The word that a line begins with, and what follows it.
+/// The word that a line begins with, and what follows the word and one blank.
 #[tactic(auto, using(crate::proofs::Wording::wording))]
 fn first_word(line: &[u8]) -> (&[u8], &[u8])
     requires { IsTrue (begins_word line.now) }
@@ -63,7 +63,7 @@ pub fn count_words(line: &[u8]) -> usize
     count
 }
 
-/// Is this the word?
+/// Is the word equal to this text?
 pub fn is_word(w: &[u8], text: &[u8]) -> bool
     ensures { result ≡ bytes_eq w.now text.now }
 {

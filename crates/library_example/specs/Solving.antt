@@ -14,22 +14,23 @@ use Rattle.frz_exits.specs.Books.{value_by}
 use Rattle.frz_graph.specs.EntryCodes.{arm_code, of_side, IsWithin}
 use Rattle.frz_game.specs.Bounds.{IsTableOf}
 
--- the set is that of the rules, and the lists are the tables of both sides
+-- the set is that of the rules, and the two lists are the tables of both sides
 pub record IsSolved (rules : RuleLines) (set : List GroupLine) (white black : List ℕ) : Type 0 where
   pub sound : IsSound rules
   pub fits : set ≡ rules.groups
   pub tables : (side : Colour) →
       IsTableOf rules (value_by rules) side (of_side side white black)
 
--- a move with the code behind it, as its mover sees it
+-- a move with the code behind it, as its mover sees it; `own` is whether the mover is the side
+-- whose codes these are
 abbrev pub choice_by : (own : Bool) → Arm Step ℕ Value × ℕ → Choice
 choice_by own p = record { allowed = not own || p.0.free; code = p.1 }
 
 abbrev pub choices_of : (own : Bool) → List (Arm Step ℕ Value) → List ℕ → List Choice
 choices_of own arms codes = map (choice_by own) (zip arms codes)
 
--- a move of a number: it leads to a number of the list or out of the set, and from a win of the
--- side to one of just one ply less
+-- a move of a number leads to a number of the list or out of the set. From a win of the side it
+-- leads to a win of exactly one ply less
 pub record KeepsWin (side : Colour) (codes : List ℕ) (number : ℕ) (arm : Arm Step ℕ Value)
     : Type 0 where
   pub within : IsWithin (length codes) arm.next

@@ -18,10 +18,11 @@ use frz_steps::Steps;
 use std::alloc::{AllocError, Global};
 use std::sync::ledger::Ledger;
 
-/// A line is cut after so many plies.
+/// A line is cut after this many plies.
 const MOST_PLIES: u32 = 200;
 
-/// The moves as their mover sees them: the side itself takes free ones alone.
+/// The legal moves as their mover sees them, each with the code behind it. If the mover is the side
+/// whose codes these are (`own`), only the moves that it has not renounced are allowed.
 fn seen(alloc: Global, own: bool, arms: &[Arm], codes: &[u32]) -> Result<Vec<Choice>, AllocError>
     ensures { IfOk result (λ choices. choices.items ≡ choices_of own arms.now codes.now) }
 {
@@ -34,7 +35,8 @@ fn seen(alloc: Global, own: bool, arms: &[Arm], codes: &[u32]) -> Result<Vec<Cho
         .collect(alloc)
 }
 
-/// The move that the side's code of the number asks for, and none where no move keeps it.
+/// The move that the side's code of the number asks for; `None` where the game is over, or where no
+/// move keeps the code.
 fn best<E: Entries, L: Ledger>(
     alloc: Global,
     game: &Game<'_, RuleBook<'_>>,
@@ -65,8 +67,8 @@ fn best<E: Entries, L: Ledger>(
     }
 }
 
-/// The moves from a number that the side's codes ask for, until the game is over, a move leaves the
-/// set, or the line is cut.
+/// The moves from a number that the side's codes ask for. The line ends where the game is over,
+/// where a move leaves the set, or after `MOST_PLIES`. From a win within n plies it has at most n.
 pub fn play<E: Entries, L: Ledger>(
     alloc: Global,
     game: &Game<'_, RuleBook<'_>>,

@@ -1,5 +1,5 @@
-//! How a program uses the library: it solves the game of a rules text in memory, and tells at each
-//! position that is named as an argument the bounds of both sides, and the line that keeps each.
+//! How a program uses the library: it solves the game of a rules text in memory and, for each FEN
+//! among its arguments, prints the bounds of both sides and the line that keeps each.
 #![tactic(auto)]
 
 ghost use Rattle.std.specs.Prelude.{◌≡◌, ◌<◌};
@@ -41,7 +41,7 @@ fn name(side: Colour) -> &'static str {
     }
 }
 
-/// Prints the bound of a side, and the line that keeps it.
+/// Prints the bound of a side, and the line that keeps it; a failure (`none`) has no line.
 fn tell_side<L: Ledger>(
     rt: &impl Print,
     alloc: Global,
@@ -63,7 +63,7 @@ fn tell_side<L: Ledger>(
     print_moves(rt, &moves)
 }
 
-/// Prints what is known of the position that a FEN text stands for.
+/// Prints the bounds and lines of the position that a FEN stands for, or why it stands for none.
 fn tell<L: Ledger>(
     rt: &impl Print,
     alloc: Global,
@@ -81,7 +81,7 @@ fn tell<L: Ledger>(
     }
 }
 
-/// Solves the game of the rules, and tells of each position.
+/// Solves the game of the rules, and tells the bounds and lines at the position of each FEN.
 fn run<L: Ledger>(rt: &impl Print, alloc: Global, fens: env::Args, blank: Blank) -> io::Result<()>
     requires name { blank.name ≡ L.name }
     requires parts { blank.parts ≡ L.parts }

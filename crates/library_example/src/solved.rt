@@ -1,4 +1,4 @@
-//! The table of a rules text, in memory: solved once, and asked as often as one likes.
+//! The tables of a rules text in memory: solved once, and asked as often as one likes.
 
 ghost use Rattle.std.specs.Prelude.{◌≡◌, ◌≤◌, ◌↔◌, ℕ, Ok, length, IsNone, IfOk, IfSome};
 ghost use Rattle.frz_fide.specs.Valid.{IsValid};
@@ -24,7 +24,7 @@ use std::alloc::{AllocError, Global};
 use std::marker::Model;
 use std::sync::ledger::Ledger;
 
-/// The rules of a text, with the code of each number for both sides. Clauses see the rules.
+/// The rules of a text, with the code of each number for both sides. Contracts see only the rules.
 #[derive(Drop)]
 pub struct Solved {
     rules: Rules,
@@ -45,7 +45,8 @@ impl Model for Solved {
 }
 
 impl Solved {
-    /// Reads a rules text, and solves its game for both sides.
+    /// Reads a rules text, and solves its game for both sides. A text that is refused gives its
+    /// fault.
     pub fn new<L: Ledger>(
         alloc: Global,
         text: &[u8],
@@ -88,7 +89,8 @@ impl Solved {
         })
     }
 
-    /// The bound of a side at a position, and none exactly where the position is outside the set.
+    /// The bound of a side at a position. It is `None` exactly where the position is outside the
+    /// set.
     pub fn bound(&self, side: Colour, p: &Position) -> Option<Bound>
         requires { IsValid p.now }
         ensures outside { IsNone result ↔ (Member self.now.groups p.now → ⊥) }
@@ -108,8 +110,8 @@ impl Solved {
         }
     }
 
-    /// The line from a position by the codes of a side, and no move where the position is outside
-    /// the set. Where the side wins within n plies, the line has at most n moves.
+    /// The line from a position by the codes of a side. Where the position is outside the set, it
+    /// has no move; where the side wins within n plies, it has at most n moves.
     pub fn line<L: Ledger>(
         &self,
         alloc: Global,

@@ -7,9 +7,9 @@ ghost use Rattle.frz_store.specs.Files.{Files};
 ghost use Rattle.atlas.specs.Calls.{build, check, query, Succeeds, TellsBoundsOver};
 ghost use Rattle.atlas.specs.Commands.{job_of};
 
-/// After `check` with status 0, `query` of the same file tells the bounds of both sides, by its exit
-/// lines and by the tables behind where these say nothing, and refuses nothing but the FEN, or a
-/// position outside the set.
+/// After `check` has ended with status 0, `query` of the same file tells the bounds of both sides,
+/// and refuses only a bad FEN or a position outside the set. Exits have the values of the table's
+/// exit lines, and of the tables behind where these say nothing.
 pub fn asked_after_check()
     ensures query { (table : List ℕ) (behind : List (List ℕ)) (fen : List ℕ) (files : Files)
         (a b : Answer) →
@@ -22,8 +22,8 @@ pub fn asked_after_check()
         OneOf b.status (Success ∷ Fen ∷ Outside ∷ []) }
 {}
 
-/// Over the files that `build` left with status 0, `check` of its table and the tables behind has
-/// status 0, and `query` tells the bounds of both sides.
+/// Over the files that `build` leaves with status 0, `check` of its table and the tables behind it
+/// ends with status 0, and `query` tells the bounds of both sides.
 pub fn after_build()
     ensures check { (rules table : List ℕ) (behind : List (List ℕ)) (files : Files)
         (input : List ℕ) (a b : Answer) →

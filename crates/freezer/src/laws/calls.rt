@@ -12,9 +12,9 @@ use frz_commands_chain::laws::chained_is_accepted;
 use frz_commands_table::laws::built_is_accepted;
 use frz_report::laws::squeezes_are_zugzwangs;
 
-/// After `check` with status 0, `query` of the same file tells the bounds of both sides, and
-/// refuses nothing but the FEN, or a position outside the set; `report` tells by the bounds, and
-/// refuses nothing.
+/// After `check` has ended with status 0, `query` of the same file tells the bounds of both sides,
+/// and refuses only a bad FEN or a position outside the set. `report` of it uses the codes of the
+/// bounds, and refuses nothing.
 pub fn asked_after_check()
     ensures query { (before later : ℕ → Files) (table fen : List ℕ) (files : Files)
         (a b : Answer) →
@@ -38,8 +38,9 @@ pub fn asked_after_check()
     squeezes_are_zugzwangs();
 }
 
-/// After `check` with status 0, and as long as the file stays, `line` goes from the bound of its
-/// start. No entry is found wrong on its way, and nothing of the file is refused.
+/// After `check` has ended with status 0, and as long as the file stays as it is, `line` begins
+/// with the bound of its start. It finds no wrong entry on its way, and refuses nothing in the
+/// file.
 pub fn line_after_check()
     ensures bound { (before later : ℕ → Files) (table fen side : List ℕ) (files : Files)
         (a b : Answer) →
@@ -55,8 +56,9 @@ pub fn line_after_check()
     one_answer();
 }
 
-/// The same of `play`, whatever the input is; and where the exits are true, the opponent forces no
-/// mate after any ply.
+/// After `check` has ended with status 0, and as long as the file stays as it is, `play` begins
+/// with the bound of its start, whatever the input is. Where the exits are true, the opponent
+/// cannot force mate after any ply.
 pub fn play_after_check()
     ensures bound { (before later : ℕ → Files) (table fen side : List ℕ) (files : Files)
         (a b : Answer) →
@@ -72,8 +74,8 @@ pub fn play_after_check()
     one_answer();
 }
 
-/// Over the files that `build` left with status 0, `check` of its table has status 0, and `query`
-/// tells the bounds of both sides, in the game of the rules file.
+/// Over the files that `build` leaves with status 0, `check` of its table ends with status 0, and
+/// `query` tells the bounds of both sides in the game of the rules file.
 pub fn after_build()
     ensures check { (before later : ℕ → Files) (rules table : List ℕ) (files : Files)
         (input : List ℕ) (a b : Answer) →
@@ -94,8 +96,9 @@ pub fn after_build()
     built_is_accepted();
 }
 
-/// After `chaincheck` with status 0, `chainquery` of the same file tells the bounds of both sides,
-/// by its exit lines and by the back table where these say nothing.
+/// After `chaincheck` has ended with status 0, `chainquery` of the same file tells the bounds of
+/// both sides. Exits have the values of the table's exit lines, and of the back table where these
+/// say nothing.
 pub fn asked_after_chaincheck()
     ensures { (before later : ℕ → Files) (table back fen : List ℕ) (files : Files)
         (a b : Answer) →
@@ -106,8 +109,8 @@ pub fn asked_after_chaincheck()
     one_answer();
 }
 
-/// Over the files that `chain` left with status 0, `chaincheck` of its table and the back table has
-/// status 0, and `chainquery` tells the bounds of both sides.
+/// Over the files that `chain` leaves with status 0, `chaincheck` of its table and the back table
+/// ends with status 0, and `chainquery` tells the bounds of both sides.
 pub fn after_chain()
     ensures check { (before later : ℕ → Files) (rules back table : List ℕ) (files : Files)
         (input : List ℕ) (a b : Answer) →

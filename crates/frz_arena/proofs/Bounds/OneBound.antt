@@ -16,7 +16,7 @@ use Rattle.frz_arena.proofs.Plies.Opposed.{wins_later, fails_later, wins_gives_f
 use Rattle.frz_arena.proofs.LocalCodes.ChosenCodes.{win_of, win_and_failure}
 use Rattle.frz_arena.proofs.LocalCodes.UniqueCodes.{none, hold, win, failure, code_is, as_win, as_failure}
 
--- the least of two least numbers
+-- two numbers that are the least of one kind are equal
 least_is_one : (F : ℕ → Type 0) (n m : ℕ) → F n → ((k : ℕ) → k < n → F k → ⊥) → F m →
     ((k : ℕ) → k < m → F k → ⊥) → n ≡ m
 least_is_one F n m f below g under =
@@ -25,7 +25,7 @@ least_is_one F n m f below g under =
       | inr h ↦ elim (cases_lt m n) [ inl k ↦ absurd (below m k g) | inr k ↦ omega arith ]
     ]
 
--- two bounds have two codes
+-- different bounds have different codes
 pub codes_differ : (b c : Bound) → code_of b ≡ code_of c → b ≡ c
 codes_differ (Wins n) (Wins m) e = ap Wins (omega arith)
 codes_differ (Wins n) Holds e = absurd (omega arith)
@@ -37,7 +37,7 @@ codes_differ (Fails n) (Wins m) e = absurd (omega arith)
 codes_differ (Fails n) Holds e = absurd (omega arith)
 codes_differ (Fails n) (Fails m) e = ap Fails (omega arith)
 
--- a position has one bound
+-- a position has at most one bound
 pub one_bound : {M N V : Type 0} (arena : Arena M N V) (side : Colour) (p : N) (b c : Bound) →
     IsBound arena side p b → IsBound arena side p c → b ≡ c
 one_bound arena side p (Wins n) (Wins m) h k =
@@ -110,7 +110,7 @@ codes_of_bounds arena side entry codes p =
       )
     ]
 
--- the converse, at one position
+-- where b is the bound, the side wins within n plies exactly where the code of b says so
 pub bound_wins : {M N V : Type 0} (arena : Arena M N V) (side : Colour) (p : N) (b : Bound) →
     IsBound arena side p b → (n : ℕ) → WinsWithin arena side n p ↔ IsWinWithin n (code_of b)
 bound_wins arena side p (Wins m) h n = (

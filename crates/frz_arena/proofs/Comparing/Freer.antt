@@ -226,7 +226,7 @@ module _ {P M V W : Type 0} (first : Game P M V) (other : Game P M W) (side : Co
         | inr l ↦ l
       ]
 
--- the same over equal chess
+-- the bound in a game that is no worse is at least as good, where both have equal chess
 pub no_worse : {P M V W : Type 0} (first : Game P M V) (second : Game P M W) →
     first.chess ≡ second.chess → (side : Colour) → IsNoWorse first second side →
     (p : P) (b c : Bound) → first.member p ≡ true → IsBound (arena_of first) side p b →

@@ -71,8 +71,8 @@ module _ {P M V : Type 0} (game : Game P M V) (side : Colour) (holds : TrueHolds
         | inr none ↦ inl (fails_at_once (arena_of game) side n p (inr (g, none)))
       ]
 
--- it holds of mates of the side and of bad exits, and where a move of the opponent or each of the
--- side leads to it
+-- F holds of mates of the side and of bad exits, and with one ply more where a move of the
+-- opponent, or each move of the side, leads to F
 pub record HoldsOfFailures {P M V : Type 0} (game : Game P M V) (side : Colour)
     (F : ℕ → P → Type 0) : Type 0 where
   pub lost : (p : P) → ForcesMate game.chess (other_of side) 0 p → F 0 p
@@ -148,7 +148,7 @@ module _ {P M V : Type 0} (game : Game P M V) (side : Colour) (free : MovesFreel
         exits = λ n q x e. losses q x e;
       })
 
-  -- within some plies more, where these take at most so many
+  -- the opponent forces mate within some plies more, where each bad exit takes at most so many
   pub fails_forced_within : (most : ℕ) → LossesWithin game side most → (n : ℕ) (p : P) →
       FailsWithin (arena_of game) side n p → ForcesMate game.chess (other_of side) (n + most) p
   fails_forced_within most losses =
@@ -167,7 +167,7 @@ module _ {P M V : Type 0} (game : Game P M V) (side : Colour) (free : MovesFreel
         exits = λ n q x e. later most (n + most) q (omega arith) (losses q x e);
       })
 
-  -- within as many plies, where none is bad outside
+  -- the opponent forces mate within as many plies, where no exit is bad
   pub fails_forced_in : NoneIsBad game side → (n : ℕ) (p : P) →
       FailsWithin (arena_of game) side n p → ForcesMate game.chess (other_of side) n p
   fails_forced_in none =

@@ -183,7 +183,7 @@ true_wins_mate {P} {M} game side exits =
       exits = λ n q x g. exits q x g.0;
     })
 
--- within its plies, where each good exit is forced within its lag
+-- a win is a forced mate within its plies, where each good exit is forced within its lag
 pub counted_wins_mate : {P M V : Type 0} (game : Game P M V) (side : Colour) →
     WinsAreCounted game side → (n : ℕ) (p : P) → WinsWithin (arena_of game) side n p →
     ForcesMate game.chess side n p
@@ -192,7 +192,8 @@ counted_wins_mate game side counts =
     (forced_by_wins game mate_alone side
     (λ q x g. (counts q x (game.lag (game.value q))).0 (g, omega arith)))
 
--- within more plies, where each good exit takes so many more than it says
+-- a win is a forced mate within some plies more, where each good exit takes at most so many more
+-- than its lag
 pub more_wins_mate : {P M V : Type 0} (game : Game P M V) (side : Colour) (more : ℕ) →
     WinsWithinMore game side more → (n : ℕ) (p : P) → WinsWithin (arena_of game) side n p →
     ForcesMate game.chess side (n + more) p

@@ -24,7 +24,7 @@ is_bad Good g s = absurd (g refl)
 is_bad Safe g s = absurd (s refl)
 is_bad Bad g s = refl
 
--- what the other_of forces is bad, where the exits are true
+-- what the other side forces is bad, where the exits are true
 forced_is_bad : {P M V : Type 0} (game : Game P M V) → TrueExits game → (side : Colour) (n : ℕ) →
     ((q : P) → game.member q ≡ true → Forces game.chess mate_alone (other_of side) n q
     → FailsWithin (arena_of game) side n q)

@@ -54,7 +54,7 @@ wins_mates {P} {M} game exits side =
       exits = λ n q x g. true_win game exits side q x g.0;
     })
 
--- where each good exit has a number, within as many plies
+-- a win is a forced mate within its plies, where each good exit gives a number of plies
 pub wins_mates_in : {P M V : Type 0} (game : Game P M V) → TrueExits game → (side : Colour) →
     AllNumbered game side → (n : ℕ) (p : P) → WinsWithin (arena_of game) side n p →
     Forces game.chess mate_alone side n p

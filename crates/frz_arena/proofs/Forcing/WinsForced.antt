@@ -75,7 +75,8 @@ arm_at game p m h = mapped_in (arm_of game p) (game.chess.moves p) m h
 goal_by_class : (i : Bool) (c : Class) (lag : ℕ) → i ≡ false → c ≡ Good → goal_by i c lag ≡ Some lag
 goal_by_class i c lag e h = rw (e, h) refl
 
--- it holds of mates and of good exits, and where one's own move or each reply leads to it
+-- F holds of mates and of good exits, and with one ply more where an own move or each reply leads
+-- to F
 pub record HoldsOfWins {P M V : Type 0} (game : Game P M V) (side : Colour)
     (F : ℕ → P → Type 0) : Type 0 where
   pub mates : (p : P) → IsMated game.chess (other_of side) p → F 0 p
@@ -124,7 +125,7 @@ module _ {P M V : Type 0} (game : Game P M V) (side : Colour) (F : ℕ → P →
         λ m i. by_arm n (holds_of_win n) p m g.0 i (w.2 (arm_of game p m) (arm_at game p m i)),
       )
 
--- what is forced does, where each good exit is forced within its lag
+-- what the side forces is such an F, where each good exit is forced within its lag
 pub forced_by_wins : {P M V : Type 0} (game : Game P M V) (goals : P → Option ℕ) (side : Colour) →
     ((q : P) → IsExit game q → game.class (game.value q) side ≡ Good →
     Forces game.chess goals side (game.lag (game.value q)) q) →

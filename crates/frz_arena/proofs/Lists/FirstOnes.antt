@@ -65,7 +65,7 @@ first_there test (y ∷ ys) x h t =
       ]
     ]
 
--- the found arm is one
+-- at most one element is found
 pub one_found : {X : Type 0} (with_code : ℕ → X → Bool) (won : Bool) (c : ℕ) (xs : List X) (i j : ℕ)
     (x y : X) → IsFound with_code won c xs i x → IsFound with_code won c xs j y → (i ≡ j) × (x ≡ y)
 one_found with_code true c xs i j x y a b = one_first i j x y a b

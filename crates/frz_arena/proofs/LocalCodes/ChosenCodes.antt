@@ -1,4 +1,4 @@
--- What the chosen_code code says of the codes.
+-- What the chosen code says of the codes that it was chosen from.
 use Rattle.std.proofs.Common.{◌≡◌, ◌≤◌, ◌+◌, ◌*◌, ◌-◌, ◌/◌, ℕ, ◌⊎◌, inl, inr, Bool, true, false, List, [], ◌∷◌, refl, sym, subst, arith, min, max, ap, ◌∙◌}
 use Rattle.std.specs.List.{Contains, list_any, list_all, filter}
 use Rattle.std.proofs.lemmas.Bool.{cases_lt, and_parts, cases_Bool}
@@ -183,7 +183,7 @@ least_sought sought cs h =
     from_kept sought cs (least (filter sought cs))
     (least_kept (filter sought cs) r.0 (kept_in sought cs r.0 r.1 r.2))
 
--- a chosen_code code that is sought comes from a sought one
+-- a chosen code that is sought comes from a sought one
 pub chosen_sought : {sought shunned : ℕ → Bool} → Kinds sought shunned → (c : ℕ) (cs : List ℕ) →
     sought (chosen_code sought shunned (c ∷ cs)) ≡ true →
     (w : ℕ) × Contains (c ∷ cs) w × (sought w ≡ true)
@@ -204,7 +204,7 @@ chosen_sought {sought} {shunned} k c cs h =
       ]
     ]
 
--- a sought code bounds the chosen_code one
+-- a sought code bounds the chosen one
 pub chosen_least : {sought shunned : ℕ → Bool} → Kinds sought shunned → (cs : List ℕ) (w : ℕ) →
     Contains cs w → sought w ≡ true →
     (sought (chosen_code sought shunned cs) ≡ true) × (chosen_code sought shunned cs ≤ w + 2)
@@ -217,7 +217,7 @@ chosen_least {sought} {shunned} k cs w h t =
       omega arith,
     )
 
--- a chosen_code code that is shunned bounds each code, and each is shunned
+-- a chosen code that is shunned bounds each code, and each is shunned
 pub chosen_shunned : {sought shunned : ℕ → Bool} → Kinds sought shunned → (cs : List ℕ) →
     shunned (chosen_code sought shunned cs) ≡ true → (x : ℕ) → Contains cs x →
     (shunned x ≡ true) × (x + 2 ≤ chosen_code sought shunned cs)
@@ -239,7 +239,7 @@ chosen_shunned {sought} {shunned} k cs h x i =
       ]
     ]
 
--- where each code is shunned and at most m, so is the chosen_code one, but for its step
+-- where each code is shunned and at most m, so is the chosen one, but for its step
 pub chosen_all : {sought shunned : ℕ → Bool} → Kinds sought shunned →
     (c : ℕ) (cs : List ℕ) (m : ℕ) → ((x : ℕ) → Contains (c ∷ cs) x → (shunned x ≡ true) × (x ≤ m)) →
     (shunned (chosen_code sought shunned (c ∷ cs)) ≡ true)
@@ -303,7 +303,7 @@ chosen_is_greatest {sought} {shunned} k cs w i h =
           omega arith)
     ]
 
--- where no code is sought and some is not shunned, it is a hold
+-- where no code is sought and some is not shunned, the chosen code is 1, a hold
 pub chosen_is_hold : (sought shunned : ℕ → Bool) (cs : List ℕ) (w : ℕ) → Contains cs w →
     shunned w ≡ false → ((x : ℕ) → Contains cs x → sought x ≡ false) →
     chosen_code sought shunned cs ≡ 1

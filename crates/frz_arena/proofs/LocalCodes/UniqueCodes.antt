@@ -26,7 +26,7 @@ equations_tell arena law side entry eqs (suc n) =
           (next.fails m p l);
     }
 
--- what meets every equation is the codes
+-- entries that meet every equation are the codes
 pub solution_is_codes : {M N V : Type 0} (arena : Arena M N V) → IsLawful arena →
     (side : Colour) (entry : N → ℕ) → MeetsEquations arena side entry → AreCodes arena side entry
 solution_is_codes arena law side entry eqs = record {

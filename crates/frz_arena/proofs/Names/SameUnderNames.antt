@@ -20,7 +20,7 @@ use Rattle.frz_arena.proofs.LocalCodes.PlyCodes.{mapped_in, from_mapped}
 Alike : {A B V : Type 0} → (A → B) → (Next A V → Type 0) → (Next B V → Type 0) → Type 0
 Alike {A} {B} {V} name P R = (x : Next A V) → P x ↔ R (named_next name x)
 
--- what is alike on both sides is alike in a choice, and where facts stand behind one another
+-- statements that are alike on both sides stay alike when joined by or, or by and
 either_alike : {P Q R S : Type 0} → (P ↔ R) → (Q ↔ S) → (P ⊎ Q) ↔ (R ⊎ S)
 either_alike h k = (
   elim [ inl p ↦ inl (h.0 p) | inr q ↦ inr (k.0 q) ],

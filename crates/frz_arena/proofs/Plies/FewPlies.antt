@@ -22,7 +22,7 @@ use Rattle.frz_arena.proofs.Lists.Members.{none_in_empty, first_in, later_in, in
 use Rattle.frz_arena.proofs.LocalCodes.ChosenCodes.{least_sought, greatest_in, some_from}
 use Rattle.frz_arena.proofs.LocalCodes.PlyCodes.{broken, mated, mates, stale, moves, waits, node_is, at_broken, at_mated, at_mates, at_stale, at_own, at_other, free_of_code, arm_of_code, some_arm, code_among_all}
 
--- a chosen_code code above 1 is 2 more than one of the codes
+-- a chosen code above 1 is 2 more than one of the codes
 chosen_step : (sought shunned : ℕ → Bool) (c : ℕ) (cs : List ℕ) →
     1 < chosen_code sought shunned (c ∷ cs) →
     (w : ℕ) × Contains (c ∷ cs) w × (chosen_code sought shunned (c ∷ cs) ≡ w + 2)

@@ -28,7 +28,7 @@ some_not test (y ∷ xs) h =
       | inr f ↦ (y, first_in y xs, f)
     ]
 
--- the chosen_code code is 1 where no code is sought, and some is not shunned
+-- the chosen code is 1 where no code is sought, and some is not shunned
 chosen_one : (sought shunned : ℕ → Bool) (cs : List ℕ) → chosen_code sought shunned cs ≡ 1 →
     (x : ℕ) × Contains cs x × (sought x ≡ false) × (shunned x ≡ false)
 chosen_one sought shunned cs h =
@@ -64,7 +64,7 @@ own_win_arm arena side entry p e w =
     let a = free_of_code arena side entry p s.0 s.1 in
     (a.0, a.1, a.2, ap (λ z. z + 2) a.3 ∙ (sym s.3 ∙ sym f))
 
--- each arm of the other_of keeps it
+-- each arm of the other side keeps it
 pub other_win_arms : {M N V : Type 0} (arena : Arena M N V) (side : Colour) (entry : N → ℕ) (p : N)
     → arena.node p ≡ Going (other_of side) → is_win (local_code arena side entry p) ≡ true
     → (a : Arm M N V) → IsArm arena p a → (is_win (next_code arena side entry a.next) ≡ true)
@@ -85,7 +85,7 @@ own_hold_arm arena side entry p e h =
     let a = free_of_code arena side entry p s.0 s.1 in
     (a.0, a.1, a.2, (let k = a.3 in let l = s.2 in omega arith))
 
--- no arm of the other_of loses it
+-- no arm of the other side loses it
 pub other_hold_arms : {M N V : Type 0} (arena : Arena M N V) (side : Colour) (entry : N → ℕ) (p : N)
     → arena.node p ≡ Going (other_of side) → local_code arena side entry p ≡ 1 → (a : Arm M N V)
     → IsArm arena p a → is_failure (next_code arena side entry a.next) ≡ false

@@ -9,7 +9,7 @@ use Rattle.frz_arena.specs.Arena.{Arena, IsArm}
 use Rattle.frz_arena.specs.Plies.{LeadsTo, IsGoodExit, IsBadExit, MovesToGood, MovesToBad, WinsWithin, FailsWithin, LagsWithin}
 use Rattle.frz_arena.proofs.Plies.Opposed.{wins_later, fails_at_once}
 
--- better arms for better arms
+-- a position that moves to where P holds moves to where R holds, if each of its arms with P has R
 pub moves_better : {M N V : Type 0} (arena : Arena M N V) (side : Colour) (P R : Next N V → Type 0)
     (p : N) → ((a : Arm M N V) → IsArm arena p a → P a.next → R a.next) → MovesToGood arena side P p
     → MovesToGood arena side R p

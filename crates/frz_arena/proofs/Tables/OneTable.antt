@@ -72,7 +72,7 @@ exact_is_table {M} {N} {V} numbers arena numbering law side codes exact =
           ]);
     }
 
--- and the table of the bounds is exact
+-- the table of the bounds is exact
 pub table_is_exact : {M N V : Type 0} (numbers : Numbering N) (arena : Arena M N V) →
     IsNumbering numbers arena → IsLawful arena → (side : Colour) (codes : List ℕ) →
     IsTable numbers arena side codes → IsExact (numbers_of numbers arena) side numbers.size codes

@@ -310,7 +310,7 @@ not_yet (ByCodes m) most k c o e f =
     omega (arith, h, l)
 not_yet (ByInput read) most k c o e f = absurd (cc)
 
--- now it is due
+-- a line is cut no sooner than after so many plies
 now_cut : {N S R : Type 0} (opponent : Opponent N S R) (most k c : ℕ) → opponent ≡ ByCodes most →
     is_cut opponent k c ≡ true → most ≤ k
 now_cut opponent most k c o t = at_cut most k (c == 1) (subst (λ z. is_cut z k c ≡ true) o t)

@@ -114,7 +114,8 @@ with_ply {M} {N} {V} {S} {R} player k s u x o h (Outside v) e ih =
       );
     }
 
--- what is wanted of the fuel: two for each bit of the input, and one where the side is to move
+-- the fuel that a session needs: two for each unit of the input's size, and one more where the side
+-- is to move
 pub record Enough {M N V S R : Type 0} (player : Player M N V S R) (size : S → ℕ) (fuel : ℕ) (s : S)
     (p : N) : Type 0 where
   pub input : 2 * size s ≤ fuel

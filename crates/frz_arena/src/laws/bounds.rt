@@ -1,4 +1,4 @@
-//! The bound of a side at a position.
+//! The bound of a side at a position: there is exactly one.
 
 ghost use Rattle.std.specs.Prelude.{◌≡◌, ◌≤◌, ◌+◌, ℕ};
 ghost use Rattle.frz_board.specs.declared.man.Colour.{Colour};
@@ -11,7 +11,7 @@ ghost use Rattle.frz_arena.specs.Codes.{code_of};
 ghost use Rattle.frz_arena.specs.Names.{IsNumbered};
 ghost use Rattle.frz_arena.specs.Plies.{LagsWithin};
 
-/// A position has one bound, and so one code.
+/// A position has at most one bound for a side, and so at most one code.
 pub fn one_bound<M, N, V>()
     ensures bound { (arena : Arena M N V) (side : Colour) (p : N) (b c : Bound) →
         IsBound arena side p b → IsBound arena side p c → b ≡ c }
@@ -19,20 +19,20 @@ pub fn one_bound<M, N, V>()
         IsCodeAt arena side p c → IsCodeAt arena side p d → c ≡ d }
 {}
 
-/// Two bounds have two codes.
+/// Different bounds have different codes.
 pub fn codes_differ()
     ensures { (b c : Bound) → code_of b ≡ code_of c → b ≡ c }
 {}
 
-/// Where the bound of one side is a win, that of the other is a failure of no more plies.
+/// Where the bound of one side is a win, that of the other is a failure in at most as many plies.
 pub fn opposed_bounds<M, N, V>()
     ensures { (arena : Arena M N V) → IsLawful arena → (side : Colour) (p : N) (n : ℕ) (c : Bound) →
         IsBound arena side p (Wins n) → IsBound arena (other_of side) p c →
         (m : ℕ) × (m ≤ n) × (c ≡ Fails m) }
 {}
 
-/// Each position of a finite arena has a bound. Its plies are at most the size, and for a win the
-/// size and the greatest lag.
+/// Each position of a finite arena has a bound. A failure has at most `size` plies, and a win at
+/// most `size` plus the greatest lag.
 pub fn bounds_exist<M, V>()
     ensures bound { (arena : Arena M ℕ V) → IsLawful arena → (size : ℕ) → IsNumbered arena size →
         (side : Colour) (most : ℕ) → LagsWithin arena side most →

@@ -1,4 +1,4 @@
-//! Codes and local codes.
+//! Local codes, which the codes one ply on give a position, and the moves that keep them.
 
 ghost use Rattle.std.specs.Prelude.{◌≡◌, ◌≤◌, ◌+◌, ℕ, true, false};
 ghost use Rattle.frz_board.specs.declared.man.Colour.{Colour};
@@ -10,7 +10,8 @@ ghost use Rattle.frz_arena.specs.Bounds.{IsCodeAt};
 ghost use Rattle.frz_arena.specs.Codes.{is_win, is_failure};
 ghost use Rattle.frz_arena.specs.LocalCodes.{arm_code, local_code, MeetsEquations};
 
-/// Entries that are all their own local codes are the codes of the bounds, and these are.
+/// Where each position's entry is its local code, the entries are the codes of the bounds.
+/// Conversely, where the entries are the codes of the bounds, each is its local code.
 pub fn unique_codes<M, N, V>()
     ensures solution { (arena : Arena M N V) → IsLawful arena → (side : Colour) (entry : N → ℕ) →
         MeetsEquations arena side entry → (p : N) → IsCodeAt arena side p (entry p) }
@@ -18,7 +19,8 @@ pub fn unique_codes<M, N, V>()
         ((p : N) → IsCodeAt arena side p (entry p)) → MeetsEquations arena side entry }
 {}
 
-/// Where the side is to move, and its local code is a win or a hold, a free move keeps it.
+/// Where the side is to move, and its local code is a win or a hold, some free move keeps it: from
+/// a win it leads to a win of one ply less, from a hold to code 1 or 0.
 pub fn own_plies<M, N, V>()
     ensures win { (arena : Arena M N V) (side : Colour) (entry : N → ℕ) (p : N) →
         arena.node p ≡ Going side →
@@ -31,8 +33,9 @@ pub fn own_plies<M, N, V>()
         (a : Arm M N V) × IsArm arena p a × (a.free ≡ true) × (arm_code arena side entry a ≤ 1) }
 {}
 
-/// Where the opponent is to move, no move of his takes a win or a hold away, and one takes as many
-/// plies as the code says.
+/// Where the opponent is to move, and the side's local code is a win or a hold, no move of his
+/// takes it away. Some move of his makes the win last as long as the code says, and some move leads
+/// from the hold to code 1 or 0.
 pub fn opponent_plies<M, N, V>()
     ensures each_win { (arena : Arena M N V) (side : Colour) (entry : N → ℕ) (p : N) →
         arena.node p ≡ Going (other_of side) → is_win (local_code arena side entry p) ≡ true →

@@ -13,9 +13,10 @@ ghost use Rattle.frz_arena.specs.Games.{Game, arena_of};
 ghost use Rattle.frz_arena.specs.Plies.{WinsWithin, FailsWithin};
 ghost use Rattle.frz_arena.specs.WholeTruth.{CanForceMate, MatesIn, IsDead, MovesFreely, TrueHolds, WinsAreKnown, WinsAreCounted, LossesAreKnown, TrueLosses, LossesWithin, NoneIsBad, IsDecided, IsWin, IsFailure, WinsWithinMore};
 
-/// Where a side moves freely, and what it wins and loses just outside the set is known, its bound
-/// at a position of the set is a win exactly where it forces mate in chess, a failure exactly where
-/// the opponent forces mate, and a hold exactly where neither does.
+/// Where each legal move of a side is free, and the values just outside the set say exactly where
+/// it and its opponent force mate, its bound at a position of the set is a win exactly where it
+/// forces mate in chess, a failure exactly where the opponent forces mate, and a hold exactly where
+/// neither does.
 pub fn exact_bounds<P, M, V>()
     ensures win { (game : Game P M V) (side : Colour) → MovesFreely game side →
         WinsAreKnown game side →
@@ -31,10 +32,11 @@ pub fn exact_bounds<P, M, V>()
         IsBound (arena_of game) side p Holds ↔ IsDead game.chess side p }
 {}
 
-/// Where a side moves freely, and its plies to mate just outside the set are counted, it wins
-/// within n plies exactly where it forces mate within n plies in chess, so the plies of its bound
-/// are least in chess: no quicker mate exists. Where no value just outside is bad for it, the plies
-/// of its failures are those to the opponent's mate.
+/// Where each legal move of a side is free, and the values just outside the set say exactly within
+/// how many plies it forces mate, it wins within n plies exactly where it forces mate within n
+/// plies in chess. So the plies of its win are the distance to mate: no quicker mate exists. Where
+/// instead no value just outside is bad for it, and the opponent forces no mate there, the plies of
+/// its failures are the opponent's distance to mate.
 pub fn exact_plies<P, M, V>()
     ensures within { (game : Game P M V) (side : Colour) → MovesFreely game side →
         WinsAreCounted game side →
@@ -54,8 +56,9 @@ pub fn exact_plies<P, M, V>()
         IsBound (arena_of game) side p (Fails n) ↔ MatesIn game.chess (other_of side) n p }
 {}
 
-/// Where the exits are true, and each value decides the game, what a side wins and loses outside is
-/// known; and where by each value the opponent wins or holds, there is no mate to count.
+/// Where the values of the exits are true, and each of them decides the game, they say exactly
+/// where each side forces mate. Where the opponent wins or holds by each of them, the side forces
+/// no mate outside, and there are no plies to count.
 pub fn known_outside<P, M, V>()
     ensures wins { (game : Game P M V) → TrueExits game → (side : Colour) → IsDecided game →
         WinsAreKnown game side }
@@ -66,9 +69,10 @@ pub fn known_outside<P, M, V>()
         NoneIsBad game (other_of side) → WinsAreCounted game side }
 {}
 
-/// Where a side moves freely, and each value that is bad for it just outside the set is a true win
-/// of its opponent, a failure of the side is a win of its opponent in chess. Where each of these
-/// wins takes at most so many plies, it takes the plies of the failure and so many.
+/// Where each legal move of a side is free, and each value that is bad for it just outside the set
+/// is a true win of its opponent, a failure of the side is a win of its opponent in chess. Where
+/// each of these wins takes at most `most` plies, a failure within n plies is a mate by the
+/// opponent within n + `most` plies.
 pub fn failures_are_lost<P, M, V>()
     ensures lost { (game : Game P M V) (side : Colour) → MovesFreely game side →
         TrueLosses game side → (n : ℕ) (p : P) → FailsWithin (arena_of game) side n p →
@@ -79,8 +83,8 @@ pub fn failures_are_lost<P, M, V>()
         ForcesMate game.chess (other_of side) (n + most) p }
 {}
 
-/// Where each win just outside the set takes at most so many plies more than its value says, so
-/// does each win of the set.
+/// Where each win just outside the set is a mate within at most `more` plies more than its lag,
+/// each win within n plies in the set is a mate within n + `more` plies.
 pub fn plies_add<P, M, V>()
     ensures { (game : Game P M V) (side : Colour) (more : ℕ) → WinsWithinMore game side more →
         (n : ℕ) (p : P) → WinsWithin (arena_of game) side n p →

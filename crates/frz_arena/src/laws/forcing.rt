@@ -11,15 +11,16 @@ ghost use Rattle.frz_arena.specs.Exits.{TrueExits, AllNumbered};
 ghost use Rattle.frz_arena.specs.Games.{Game, arena_of, goals_of};
 ghost use Rattle.frz_arena.specs.Plies.{WinsWithin, FailsWithin};
 
-/// The arena of a game is lawful where no value is good for one side and not bad for the other.
+/// The arena of a game is lawful where each value that is good for one side is bad for the other.
 pub fn games_are_lawful<P, M, V>()
     ensures { (game : Game P M V) →
         ((v : V) (side : Colour) → game.class v side ≡ Good → game.class v (other_of side) ≡ Bad) →
         IsLawful (arena_of game) }
 {}
 
-/// A win of the restricted game is forced in chess, to its goals; where the exits are true, to
-/// mate, and within its plies where each value by which the side wins has a number.
+/// A win of the restricted game is forced in chess, to mate or to an exit that is good for the
+/// side. Where the values of the exits are true, it is forced to mate; and within the plies of the
+/// win, where each value by which the side wins gives a number of plies.
 pub fn wins_are_forced<P, M, V>()
     ensures goals { (game : Game P M V) (side : Colour) (n : ℕ) (p : P) →
         WinsWithin (arena_of game) side n p → Forces game.chess (goals_of game side) side n p }
@@ -30,13 +31,14 @@ pub fn wins_are_forced<P, M, V>()
         (n : ℕ) (p : P) → WinsWithin (arena_of game) side n p → ForcesMate game.chess side n p }
 {}
 
-/// Both sides never force mate.
+/// At no position do both sides force mate.
 pub fn one_mate<P, M>()
     ensures { (chess : Chess P M) (side : Colour) (n m : ℕ) (p : P) →
         ForcesMate chess side n p → ForcesMate chess (other_of side) m p → ⊥ }
 {}
 
-/// Where the exits are true, the opponent forces mate only where the side fails.
+/// Where the values of the exits are true, the opponent forces mate at a position of the set only
+/// where the side fails.
 pub fn holds_are_safe<P, M, V>()
     ensures forced { (game : Game P M V) → TrueExits game → (side : Colour) (n : ℕ) (p : P) →
         game.member p ≡ true → ForcesMate game.chess (other_of side) n p →
@@ -47,8 +49,8 @@ pub fn holds_are_safe<P, M, V>()
         NeverForcesMate game.chess (other_of side) p }
 {}
 
-/// Where no move leaves certain positions, and the opponent is mated at none of them, the side
-/// never forces mate at one of them.
+/// Where no legal move leaves the positions of `here`, and the opponent is mated at none of them,
+/// the side never forces mate at one of them.
 pub fn never_by_positions<P, M>()
     ensures { (chess : Chess P M) (side : Colour) (here : P → Bool) →
         ((p : P) (m : M) → here p ≡ true → Contains (chess.moves p) m

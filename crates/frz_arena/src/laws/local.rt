@@ -1,4 +1,4 @@
-//! A local code by the moves that decide it.
+//! The local code of a position, told by the move that decides it.
 
 ghost use Rattle.std.specs.Prelude.{◌≡◌, ◌≤◌, ◌+◌, ℕ, true, false};
 ghost use Rattle.frz_board.specs.declared.man.Colour.{Colour};
@@ -9,8 +9,9 @@ ghost use Rattle.frz_arena.specs.Arena.{Arena, IsArm};
 ghost use Rattle.frz_arena.specs.Codes.{is_win, is_failure};
 ghost use Rattle.frz_arena.specs.LocalCodes.{arm_code, local_code};
 
-/// Where the side is to move: the free win of the fewest plies, else the longest of free failures
-/// alone, else a hold; and a failure at once where no move is free.
+/// The local code where the side is to move. It is one ply (2) more than the code of the free win
+/// of the fewest plies. Where all free moves are failures, it is one ply more than the longest of
+/// them. Else it is 1, a hold. Where no move is free it is 3, a failure at once.
 pub fn own_codes<M, N, V>()
     ensures win { (arena : Arena M N V) (side : Colour) (entry : N → ℕ) (p : N) →
         arena.node p ≡ Going side →
@@ -40,8 +41,9 @@ pub fn own_codes<M, N, V>()
         local_code arena side entry p ≡ 3 }
 {}
 
-/// Where the opponent is to move: the failure of the fewest plies, else the longest of wins alone,
-/// else a hold.
+/// The local code where the opponent is to move. It is one ply (2) more than the code of the
+/// failure of the fewest plies. Where all moves are wins of the side, it is one ply more than the
+/// longest of them. Else it is 1, a hold.
 pub fn opponent_codes<M, N, V>()
     ensures failure { (arena : Arena M N V) (side : Colour) (entry : N → ℕ) (p : N) →
         arena.node p ≡ Going (other_of side) →

@@ -1,4 +1,4 @@
-//! Positions under other names.
+//! Positions under other names, such as their numbers.
 
 ghost use Rattle.std.specs.Prelude.{◌≡◌, ◌≢◌, ◌<◌, ◌↔◌, ℕ};
 ghost use Rattle.frz_board.specs.declared.man.Colour.{Colour};
@@ -28,7 +28,8 @@ pub fn same_under_names<M, A, B, V>()
         (name p) b }
 {}
 
-/// The numbers of an arena are an arena of the same positions.
+/// The arena of the numbers is the same arena under other names. Its numbers from the size on are
+/// broken: they stand for no position. It is lawful where the first arena is.
 pub fn numbers_are_names<M, N, V>()
     ensures naming { (numbers : Numbering N) (arena : Arena M N V) → IsNumbering numbers arena →
         IsNaming (name_in numbers) arena (numbers_of numbers arena) }

@@ -6,19 +6,19 @@ ghost use Rattle.frz_board.specs.Men.{other_of};
 ghost use Rattle.frz_arena.specs.Arena.{Arena, IsLawful};
 ghost use Rattle.frz_arena.specs.Plies.{WinsWithin, FailsWithin, LagsWithin};
 
-/// A side never wins and fails at one position.
+/// At no position does a side both win and fail.
 pub fn never_both<M, N, V>()
     ensures { (arena : Arena M N V) (side : Colour) (n m : ℕ) (p : N) →
         WinsWithin arena side n p → FailsWithin arena side m p → ⊥ }
 {}
 
-/// Where a side wins, its opponent fails in no more plies.
+/// Where a side wins, its opponent fails within as many plies.
 pub fn opponent_fails<M, N, V>()
     ensures { (arena : Arena M N V) → IsLawful arena → (side : Colour) (n : ℕ) (p : N) →
         WinsWithin arena side n p → FailsWithin arena (other_of side) n p }
 {}
 
-/// Both sides never win at one position.
+/// At no position do both sides win.
 pub fn one_winner<M, N, V>()
     ensures { (arena : Arena M N V) → IsLawful arena → (side : Colour) (n m : ℕ) (p : N) →
         WinsWithin arena side n p → WinsWithin arena (other_of side) m p → ⊥ }
@@ -27,7 +27,7 @@ pub fn one_winner<M, N, V>()
     never_both::<M, N, V>();
 }
 
-/// Plies can be added: a win within fewer plies is one within more, and so is a failure.
+/// A win within fewer plies is a win within more, and so is a failure.
 pub fn later<M, N, V>()
     ensures wins { (arena : Arena M N V) (side : Colour) (n k : ℕ) (p : N) →
         n ≤ k → WinsWithin arena side n p → WinsWithin arena side k p }
@@ -35,7 +35,8 @@ pub fn later<M, N, V>()
         n ≤ k → FailsWithin arena side n p → FailsWithin arena side k p }
 {}
 
-/// Where one more ply changes nothing, and no exit still waits for its lag, no further ply does.
+/// Where each win within k + 1 plies is one within k, and no exit that wins has a lag above k, each
+/// win is one within k plies. So it is with failures, which have no lags.
 pub fn stable<M, N, V>()
     ensures wins { (arena : Arena M N V) (side : Colour) (k : ℕ) → LagsWithin arena side k →
         ((p : N) → WinsWithin arena side (k + 1) p → WinsWithin arena side k p) →

@@ -11,8 +11,8 @@ ghost use Rattle.frz_arena.specs.Turns.{Alternates};
 ghost use Rattle.frz_arena.specs.WayEnds.{End};
 ghost use Rattle.frz_arena.specs.Ways.{Player, Ply, ByInput, IsWay};
 
-/// A session ends, where the sides move in turn and each reply
-/// is an arm and uses up some of the input.
+/// From each start there is a session with an end, where the sides move in turn, and each reply of
+/// the input is a move of the position and uses up some of the input.
 pub fn sessions_end<M, N, V, S, R>()
     ensures { (player : Player M N V S R) (read : N → S → Answer S R) →
         player.opponent ≡ ByInput read →
@@ -22,7 +22,8 @@ pub fn sessions_end<M, N, V, S, R>()
         × IsWay player 0 s p xs e t }
 {}
 
-/// In a game whose moves change the turn the sides move in turn, also over its numbers.
+/// In a game where each legal move changes the side to move, the sides move in turn in its arena,
+/// and in that of its numbers.
 pub fn sides_move_in_turn<P, M, V>()
     ensures game { (game : Game P M V) → ((p : P) (m : M) → Contains (game.chess.moves p) m →
         game.chess.turn (game.chess.play p m) ≡ other_of (game.chess.turn p))

@@ -13,7 +13,7 @@ ghost use Rattle.frz_arena.specs.Names.{IsNumbered, Numbering, IsNumbering, numb
 ghost use Rattle.frz_arena.specs.Plies.{LagsWithin};
 ghost use Rattle.frz_arena.specs.Tables.{IsExact, IsTable};
 
-/// The codes of an exact table over numbers are the codes of the bounds.
+/// In an exact table, in which each code is its local code, each code is that of its bound.
 pub fn exact_codes<M, V>()
     ensures { (arena : Arena M ℕ V) → IsLawful arena → (side : Colour) (size : ℕ) →
         IsNumbered arena size →
@@ -21,8 +21,9 @@ pub fn exact_codes<M, V>()
         (i : ℕ) → IsCodeAt arena side i (slice_index codes i) }
 {}
 
-/// A table is exact by its local codes exactly where it is the table of the bounds. There is one
-/// such table, and its codes have few plies.
+/// A table is exact, so that each code is its local code, exactly where it is the table of the
+/// bounds. There is exactly one such table, and each of its codes is at most 3 + 2 * (the size +
+/// the greatest lag).
 pub fn one_table<M, N, V>()
     ensures table { (numbers : Numbering N) (arena : Arena M N V) → IsNumbering numbers arena →
         IsLawful arena →
@@ -47,7 +48,9 @@ pub fn one_table<M, N, V>()
         (i : ℕ) → slice_index codes i ≤ 3 + 2 * (numbers.size + most) }
 {}
 
-/// A win in the table of a restricted game is forced in chess.
+/// A win in the table of a game is forced in chess, to mate or to an exit that is good for the
+/// side. Where the values of the exits are true, it is forced to mate; and within the plies of the
+/// code, where each value by which the side wins gives a number of plies.
 pub fn stored_wins<P, M, V>()
     ensures goals { (game : Game P M V) (numbers : Numbering P) (side : Colour) (codes : List ℕ) →
         IsTable numbers (arena_of game) side codes →
@@ -65,7 +68,8 @@ pub fn stored_wins<P, M, V>()
         ForcesMate game.chess side n p }
 {}
 
-/// Where the exits are true, a side that holds or wins by its table is never mated by force.
+/// Where the values of the exits are true, a side that holds or wins by its table is never mated by
+/// force.
 pub fn stored_holds<P, M, V>()
     ensures { (game : Game P M V) → TrueExits game →
         (numbers : Numbering P) (side : Colour) (codes : List ℕ) →

@@ -1,4 +1,4 @@
-//! Ways, of lines and of sessions.
+//! Ways: the plies that a side plays by its codes, in a line or in a session, and their end.
 
 ghost use Rattle.std.specs.Prelude.{◌≡◌, ◌≤◌, ◌+◌, ◌*◌, ◌⊎◌, ◌≢◌, ℕ, List, [], map, length, slice_get, suc, true, Some};
 ghost use Rattle.std.specs.List.{Contains};
@@ -22,7 +22,8 @@ ghost use Rattle.frz_arena.specs.Turns.{IsClosed};
 ghost use Rattle.frz_arena.specs.WayEnds.{End, Wrong, Exit, EndsWon, EndsHeld};
 ghost use Rattle.frz_arena.specs.Ways.{Player, Opponent, Ply, is_by_codes, IsWay, IsPlyOf, table_player};
 
-/// A way is unique: the start and the input tell its plies, its end, and what is left of the input.
+/// A way is unique: its start and the input determine its plies, its end, and what is left of the
+/// input.
 pub fn one_way<M, N, V, S, R>()
     ensures { (player : Player M N V S R) (k : ℕ) (s t u : S) (p : N) (xs ys : List (Ply M N V))
         (e f : End N V R) →
@@ -30,7 +31,8 @@ pub fn one_way<M, N, V, S, R>()
         (xs ≡ ys) × (e ≡ f) × (t ≡ u) }
 {}
 
-/// Where the kept code is the local one, a win or a hold, the code asks for exactly one arm.
+/// Where the code kept for a position is its local code, and a win or a hold, it asks for exactly
+/// one arm. A choice among the moves as the mover sees them has that arm's place.
 pub fn arms_are_found<M, N, V>()
     ensures there { (arena : Arena M N V) → IsLawful arena →
         (side : Colour) (entry : N → ℕ) (mover : Colour) (p : N) →
@@ -48,16 +50,17 @@ pub fn arms_are_found<M, N, V>()
         (a : Arm M N V) × IsChosen arena side entry mover p i a }
 {}
 
-/// Each ply of a way is at a right code, and its arm is there, free where the side moves. It keeps
-/// a win with at least one ply less, and a hold does not become a failure.
+/// At each ply of a way the kept code is the local one, and the ply is a move of the position, free
+/// where the side moves. From a win it leads to a win of at least one ply less, and from a hold
+/// never to a failure.
 pub fn plies_keep<M, N, V, S, R>()
     ensures { (player : Player M N V S R) (s t : S) (p : N) (xs : List (Ply M N V))
         (e : End N V R) →
         IsWay player 0 s p xs e t → (x : Ply M N V) → Contains xs x → IsPlyOf player x }
 {}
 
-/// From a win of n plies a way has at most n plies, with the lag of its exit counted; it ends in a
-/// mate of the opponent or at an exit that wins, unless a code is wrong or the input stops it.
+/// A way from a win of n plies has at most n plies, with the lag of its exit counted. It ends with
+/// the opponent mated or at an exit that wins, unless a code is wrong or the input stops it.
 pub fn wins_are_kept<M, N, V, S, R>()
     ensures few { (player : Player M N V S R) (s t : S) (p : N) (xs : List (Ply M N V))
         (e : End N V R) (n : ℕ) →
@@ -72,15 +75,15 @@ pub fn wins_are_kept<M, N, V, S, R>()
         → length xs + player.arena.lag v ≤ n }
 {}
 
-/// From a hold the side is not mated, and no exit is bad for it.
+/// A way from a hold does not end with the side mated, nor at an exit that is bad for it.
 pub fn holds_are_kept<M, N, V, S, R>()
     ensures { (player : Player M N V S R) (s t : S) (p : N) (xs : List (Ply M N V))
         (e : End N V R) →
         player.entry p ≡ 1 → IsWay player 0 s p xs e t → EndsHeld player.arena player.side e }
 {}
 
-/// Where each code is its local one, no way ends as wrong, from a position that is not broken; and
-/// so with the table of the bounds, from the number of a position.
+/// Where each code is its local one, no way from a position that is not broken ends at a wrong
+/// code. With the table of the bounds, no way from the number of a position does.
 pub fn right_codes<M, N, V, S, R>()
     ensures codes { (player : Player M N V S R) → IsClosed player.arena →
         MeetsEquations player.arena player.side player.entry →
@@ -95,7 +98,8 @@ pub fn right_codes<M, N, V, S, R>()
         IsWay (table_player numbers arena side codes opponent) 0 s i xs (Wrong j kept given) t → ⊥ }
 {}
 
-/// The arena of a game is closed, and so is that of its numbers.
+/// In the arena of a game no arm leads to a broken position, nor does one in the arena of its
+/// numbers.
 pub fn games_are_closed<P, M, V>()
     ensures game { (game : Game P M V) → IsClosed (arena_of game) }
     ensures numbers { (game : Game P M V) (numbers : Numbering P) →
@@ -103,7 +107,8 @@ pub fn games_are_closed<P, M, V>()
         IsClosed (numbers_of numbers (arena_of game)) }
 {}
 
-/// Where the exits are true, the opponent forces no mate after any ply of a way by the table.
+/// Where the values of the exits are true, the opponent cannot force mate after any ply of a way by
+/// the table.
 pub fn ways_are_safe<P, M, V, S, R>()
     ensures { (game : Game P M V) → TrueExits game → (numbers : Numbering P) →
         IsNumbering numbers (arena_of game) →
@@ -158,8 +163,8 @@ pub fn plies_are_moves<P, M, V, S, R>()
         × (game.free p m ≡ x.arm.free) }
 {}
 
-/// From code 0 a way has no plies and ends as wrong: it is
-/// there that a hold without an arm that holds ends.
+/// A way from code 0 has no plies and ends at once, at a wrong code. From a hold without a move to
+/// code 1 a way goes to code 0, and so ends there.
 pub fn zero_is_wrong<M, N, V, S, R>()
     ensures { (player : Player M N V S R) (k : ℕ) (s t : S) (p : N) (xs : List (Ply M N V))
         (e : End N V R) →

@@ -27,9 +27,9 @@ ghost use Rattle.frz_game.specs.Values.{AreTrueExits};
 
 /// The table of a side that no line forbids a move. Where its plies to mate just outside the set
 /// are counted, a win of n plies stands exactly where it forces mate in n plies and no fewer. Where
-/// what it wins and loses there is known, as where each value there truly says who wins or that the
-/// game is drawn, the outcomes are those of chess. And where each way out of the set is drawn by
-/// the men, the table is exact in chess, with no more said.
+/// it is known what it wins and loses there, the outcomes are those of chess; so they are where
+/// each value there truly says who wins or that the game is drawn. Where each exit is drawn by the
+/// men, the table is exact in chess.
 pub fn exact_tables()
     ensures wins { (rules : RuleLines) (value : Board → Value) (side : Colour) (codes : List ℕ) →
         IsTableOf rules value side codes → HasNoForbid rules side →
@@ -49,8 +49,8 @@ pub fn exact_tables()
         IsExactInChess rules side codes }
 {}
 
-/// What the bounds and the table of a side say of chess, both ways, where no line forbids the side
-/// a move.
+/// What the bounds and the table of a side that no line forbids a move say of chess, both ways, as
+/// `MeansExactly` and `TableMeansExactly` state it.
 pub fn exact_where_free()
     ensures bound { (rules : RuleLines) (value : Board → Value) (side : Colour) (p : Board)
         (b : Bound) → Member rules.groups p → IsBoundAt rules value side p b →
@@ -59,10 +59,10 @@ pub fn exact_where_free()
         IsTableOf rules value side codes → TableIsExactWhereFree rules value side codes }
 {}
 
-/// A game in which a side does not move freely: White renounces all moves but two of the rook's.
-/// Each way out of its set is drawn by the men, and no line forbids Black a move. But at one
-/// position White mates in one, and his bound is a failure; at another he mates in one, and it is a
-/// win within three.
+/// A counterexample where a side does not move freely: White renounces all moves but those of the
+/// rook to g1 and g8. Each exit is drawn by the men, and no line forbids Black a move. But at one
+/// position White mates in one ply, and his bound is a failure; at another he mates in one ply, and
+/// his bound is a win within three.
 pub fn freedom_renounced()
     ensures drawn { IsDrawnOutside renounced_rook (value_by renounced_rook) }
     ensures opponent { HasNoForbid renounced_rook Black }
@@ -72,8 +72,9 @@ pub fn freedom_renounced()
         × IsBoundAt renounced_rook (value_by renounced_rook) White p (Wins 3) }
 {}
 
-/// So what `MeansExactly` says where no line forbids the side a move is false, field by field,
-/// where that is asked of the opponent in place of the side, or of neither.
+/// The condition that no line forbids the side a move is needed: each field of `MeansExactly` is
+/// false in general where that condition is asked of the opponent in place of the side, or of
+/// neither.
 pub fn bounds_need_freedom()
     ensures drawn { OfBounds (λ rules value side p b. IsDrawnOutside rules value →
         IsExactBound side p b) → ⊥ }
@@ -90,7 +91,8 @@ pub fn bounds_need_freedom()
         MatesIn chess (other_of side) m p) → ⊥ }
 {}
 
-/// And so is each field of `TableMeansExactly`.
+/// The condition is needed for tables too: each field of `TableMeansExactly` is false in general
+/// where it is asked of the opponent in place of the side, or of neither.
 pub fn tables_need_freedom()
     ensures drawn { OfTables (λ rules value side codes. IsDrawnOutside rules value →
         IsExactInChess rules side codes) → ⊥ }
@@ -101,8 +103,8 @@ pub fn tables_need_freedom()
         MeansExactly rules value side p b) → ⊥ }
 {}
 
-/// Where the table of a side is exact in chess, its greatest code of a win tells the longest mate
-/// of the set.
+/// Where the table of a side is exact in chess, its greatest code of a win gives the plies of the
+/// longest mate in the set.
 pub fn longest_mate()
     ensures { (rules : RuleLines) (value : Board → Value) (side : Colour) (codes : List ℕ) →
         IsTableOf rules value side codes → IsExactInChess rules side codes →
@@ -117,8 +119,8 @@ pub fn king_and_rook()
         IsTableOf rook (value_by rook) side codes → IsExactInChess rook side codes }
 {}
 
-/// Each move out of the set of king and pawn against king leads into the set of what the pawn may
-/// become, and the bare kings.
+/// Each exit of the set of king and pawn against king is a position of `pawn_back`: the bare kings,
+/// or the kings and what the pawn may become.
 pub fn king_and_pawn()
     ensures { (value : Board → Value) (q : Board) → IsExit (game_of pawn value) q →
         Member pawn_back.groups q }

@@ -1,4 +1,4 @@
-//! What bounds say of chess.
+//! What bounds say of chess, by the truth of the values outside the set.
 
 ghost use Rattle.std.specs.Prelude.{◌≡◌, ◌≢◌, ℕ, false, []};
 ghost use Rattle.frz_board.specs.declared.man.Colour.{Colour};
@@ -19,7 +19,7 @@ ghost use Rattle.frz_game.specs.Games.{chess, game_of};
 ghost use Rattle.frz_game.specs.Bounds.{ForcesWin, IsBoundAt};
 ghost use Rattle.frz_game.specs.Values.{AreTrueExits, IsTrueValue};
 
-/// A value is true where it is, by the words of the arena.
+/// Values and exits that are true in chess are true as `frz_arena` defines it.
 pub fn true_values()
     ensures value { (rules : RuleLines) (value : Board → Value) (v : Value) (q : Board) →
         IsTrueValue v q → IsTrueAt (game_of rules value) v q }
@@ -27,8 +27,9 @@ pub fn true_values()
         AreTrueExits rules value → TrueExits (game_of rules value) }
 {}
 
-/// A bound that is a win is forced in chess, to mate or to a value that wins. Where the exits are
-/// true it is forced to mate, and within its plies where each value that wins has a number.
+/// A side whose bound is a win forces, within its plies, mate in chess or an exit whose value wins
+/// for it. Where the exits are true it forces mate, and within these plies where each value by
+/// which it wins names its plies.
 pub fn wins()
     ensures goals { (rules : RuleLines) (value : Board → Value) (side : Colour) (n : ℕ)
         (p : Board) →
@@ -51,8 +52,8 @@ pub fn holds()
         IsBoundAt rules value side p (Wins n) → NeverForcesMate chess (other_of side) p }
 {}
 
-/// Without an exit line each value outside the set is unknown:
-/// the exits are true, and no value wins without a number.
+/// Without an exit line each value outside the set is unknown. So the exits are true, and no value
+/// wins without naming its plies.
 pub fn no_exit_line()
     ensures true_exits { (rules : RuleLines) → rules.exits ≡ []
         → AreTrueExits rules (value_by rules) }
@@ -60,8 +61,8 @@ pub fn no_exit_line()
         (side : Colour) → AllNumbered (game_of rules (value_by rules)) side }
 {}
 
-/// Where the mover is mated, the value that the other side wins is true there, with any number or
-/// none; where he is stalemated, so is each value by which nobody wins.
+/// At a position where the mover is mated, each value by which the other side wins is true,
+/// whatever plies it names. Where he is stalemated, each value by which nobody wins is true.
 pub fn true_at_ends()
     ensures mate { (q : Board) (side : Colour) → IsMated chess (other_of side) q →
         (v : Value) → class_of v side ≡ Good → IsTrueValue v q }

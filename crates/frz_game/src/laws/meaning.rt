@@ -11,8 +11,8 @@ ghost use Rattle.frz_arena.specs.declared.bound.Bound.{Bound};
 ghost use Rattle.frz_game.specs.Bounds.{IsBoundAt, IsTableOf};
 ghost use Rattle.frz_game.specs.Meaning.{Means, WinsAlone, TableMeans};
 
-/// The bound of a side at a position of the set means what it says of chess, and where one side's
-/// is a win, the other's is a failure of no more plies.
+/// The bound of a side at a position of the set says of chess what `Means` states. Where one side's
+/// bound is a win, the other's is a failure within no more plies.
 pub fn bounds_mean()
     ensures bound { (rules : RuleLines) (value : Board → Value) (side : Colour) (p : Board)
         (b : Bound) →
@@ -22,7 +22,7 @@ pub fn bounds_mean()
         IsBoundAt rules value side p b → IsBoundAt rules value (other_of side) p c → WinsAlone b c }
 {}
 
-/// The table of a side means at each number what its code says of chess.
+/// The table of a side says of chess, number by number, what `TableMeans` states.
 pub fn tables_mean()
     ensures { (rules : RuleLines) (value : Board → Value) (side : Colour) (codes : List ℕ) →
         IsTableOf rules value side codes → TableMeans rules value side codes }

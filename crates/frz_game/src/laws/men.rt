@@ -1,4 +1,4 @@
-//! What the men alone show.
+//! Laws of what the men on the board alone show.
 
 ghost use Rattle.std.specs.Prelude.{◌≡◌, true};
 ghost use Rattle.frz_board.specs.declared.man.Colour.{Colour};
@@ -19,7 +19,8 @@ ghost use Rattle.frz_game.specs.TextsByMen.{are_true_by_men, are_drawn_by_men, H
 ghost use Rattle.frz_game.specs.Values.{IsTrueValue, AreTrueExits};
 ghost use Rattle.frz_game.specs.WholeSets.{IsWholeSet};
 
-/// A side with its king alone never forces mate. So against it the values draw and hold are right.
+/// A side with its king alone never forces mate. So where a value says draw, or that the opponent
+/// of that side holds, the opponent is indeed never mated by force.
 pub fn bare_kings()
     ensures never { (p : Board) (c : Colour) → IsValid p → IsBare p c → NeverForcesMate chess c p }
     ensures right { (v : Value) (q : Board) (side : Colour) → IsValid q →
@@ -40,7 +41,7 @@ pub fn true_by_men()
         AreTrueExits rules value }
 {}
 
-/// Where each way out of the set is drawn by the men, the exits are true and decide the game.
+/// Where each exit is drawn by the men, the exits are true, and their values decide the game.
 pub fn drawn_outside()
     ensures exits { (rules : RuleLines) (value : Board → Value) → IsDrawnOutside rules value →
         AreTrueExits rules value }
@@ -48,8 +49,8 @@ pub fn drawn_outside()
         AreDecidedOutside rules value }
 {}
 
-/// Rules whose exit lines are true by the men, by a test of their lines, have true exits; and where
-/// all of them are draws, and no exit is open, each way out of the set is drawn by the men.
+/// Two tests of the exit lines. Rules that pass `are_true_by_men` have true exits. Rules that pass
+/// `are_drawn_by_men`, and whose exits are all valued, have only exits that are drawn by the men.
 pub fn texts_by_men()
     ensures exits { (rules : RuleLines) → are_true_by_men rules ≡ true →
         AreTrueExits rules (value_by rules) }
@@ -57,9 +58,9 @@ pub fn texts_by_men()
         HasNoOpenExit rules (value_by rules) → IsDrawnOutside rules (value_by rules) }
 {}
 
-/// Only captures leave a set whose groups have their men on every square, and no pawns. Where each
-/// group but the kings' may be empty, or an exit line stands for its want of men, and all lines are
-/// draws by the men, each way out of the set is drawn by the men.
+/// Only captures leave a set without pawns whose groups allow their kinds on every square. Let each
+/// group but the kings' be one that may be empty, or that an exit line covers where too few of its
+/// men stand, and let all exit lines be draws by the men. Then each exit is drawn by the men.
 pub fn whole_sets()
     ensures { (rules : RuleLines) → IsWholeSet rules → are_drawn_by_men rules ≡ true →
         IsDrawnOutside rules (value_by rules) }

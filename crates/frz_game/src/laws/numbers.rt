@@ -1,4 +1,4 @@
-//! Numbers of a set, and the game over them.
+//! Laws of the numbers of a set, and of the game over them.
 
 ghost use Rattle.std.specs.Prelude.{◌≡◌, ◌≤◌, ◌^◌, ◌↔◌, ℕ, List, true, Some, None};
 ghost use Rattle.frz_board.specs.declared.man.Colour.{Colour};
@@ -16,7 +16,8 @@ ghost use Rattle.frz_game.specs.Games.{arena_by, graph_by};
 ghost use Rattle.frz_game.specs.Numbers.{is_member, number_of, position_at, numbers_by};
 ghost use Rattle.frz_game.specs.SmallLags.{HasSmallLags};
 
-/// The test of membership is membership, and numbers go both ways.
+/// `is_member` holds of exactly the members of the set. `number_of` gives a member its number, and
+/// any other position none. `position_at` gives a position exactly where it has that number.
 pub fn membership()
     ensures member { (groups : List GroupLine) (p : Board) →
         (is_member groups p ≡ true) ↔ Member groups p }
@@ -28,7 +29,9 @@ pub fn membership()
         (position_at groups i ≡ Some p) ↔ HasNumber groups i p }
 {}
 
-/// The game is an arena whose positions have dense numbers, and the lags of its exits are small.
+/// The game is a lawful arena, and its positions have numbers below the size of the set. Where no
+/// value names more than 1,000 plies the lags of exits are at most 1,000, and if the size is at
+/// most 2^27 too, the game over numbers is finite, as solvers ask.
 pub fn numbered()
     ensures lawful { (rules : RuleLines) (value : Board → Value) → IsLawful (arena_by rules value) }
     ensures numbering { (rules : RuleLines) (value : Board → Value) →
@@ -43,7 +46,7 @@ pub fn numbered()
         size_of rules.groups ≤ 2 ^ 27 → IsFinite (graph_by rules value) (size_of rules.groups) }
 {}
 
-/// A number is reached by one move of a number at most: two moves that lead inside lead to two
+/// At most one move leads from one number to another: two moves that lead inside lead to two
 /// different numbers.
 pub fn different_arms()
     ensures { (rules : RuleLines) (value : Board → Value) (i k l n : ℕ) →

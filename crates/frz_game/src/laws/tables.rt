@@ -1,4 +1,4 @@
-//! Tables and bounds.
+//! Laws of tables and bounds.
 
 ghost use Rattle.std.specs.Prelude.{◌≡◌, ◌≤◌, ◌+◌, ◌*◌, ℕ, List, slice_index};
 ghost use Rattle.frz_board.specs.declared.man.Colour.{Colour};
@@ -16,8 +16,10 @@ ghost use Rattle.frz_game.specs.Games.{graph_by};
 ghost use Rattle.frz_game.specs.Bounds.{IsBoundAt, IsTableOf};
 ghost use Rattle.frz_game.specs.SmallLags.{HasSmallLags};
 
-/// A list of codes is the table of the side exactly where each code is its local code. There is one
-/// such table, and its codes have few plies.
+/// A list of codes is the table of a side exactly where each of its codes is the local code. There
+/// are never two such tables. Where no value names more than 1,000 plies there is one, and no code
+/// in it has more plies than the size of the set plus 1,000. At the number of each position of the
+/// set stands the code of its bound.
 pub fn tables()
     ensures table { (rules : RuleLines) (value : Board → Value) (side : Colour) (codes : List ℕ) →
         IsExact (graph_by rules value) side (size_of rules.groups) codes →
@@ -39,8 +41,8 @@ pub fn tables()
         × IsBoundAt rules value side p b }
 {}
 
-/// A position of the set has one bound of each side. Where one side's is a win, the other's is a
-/// failure of no more plies.
+/// A position of the set has exactly one bound of each side, where no value names more than 1,000
+/// plies. Where one side's bound is a win, the other's is a failure within no more plies.
 pub fn bounds()
     ensures there { (rules : RuleLines) (value : Board → Value) → HasSmallLags value →
         (side : Colour) (p : Board) → Member rules.groups p → (b : Bound)

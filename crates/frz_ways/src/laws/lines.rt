@@ -1,4 +1,4 @@
-//! What holds of lines, each law the contract of a function that does nothing.
+//! Laws of best lines: each law is the contract of a function that does nothing.
 ghost use Rattle.std.specs.Prelude.{◌≡◌, ◌≤◌, ◌+◌, ◌*◌, ℕ, List, [], length, slice_index, MatchOption};
 ghost use Rattle.frz_board.specs.declared.man.Colour.{Colour};
 ghost use Rattle.frz_board.specs.Boards.{Board};
@@ -22,7 +22,7 @@ use frz_game::laws::numbers::{membership, numbered};
 use frz_sets::Value as ExitValue;
 use std::convert::Infallible;
 
-/// From each number there is one line over the codes, as they are known after each number of
+/// From each number there is exactly one line by given codes. `codes k` are those known after `k`
 /// plies.
 pub fn one_line()
     ensures there { (rules : RuleLines) (value : Board → Value)
@@ -40,9 +40,9 @@ pub fn one_line()
     numbered();
 }
 
-/// A line is a game of chess: from its position on the moves are legal one after another, and those
-/// of the side itself are moves that it has not renounced. From the number of no position there is
-/// no ply.
+/// A line is a game of chess: from its first position on, each move is legal where it is played,
+/// and the side itself plays no move that it has renounced. From a number that belongs to no
+/// position there is no ply.
 pub fn lines_are_games()
     ensures { (rules : RuleLines) (value : Board → Value)
         (side : Colour) (codes : ℕ → List ℕ) (start : ℕ)
@@ -55,9 +55,9 @@ pub fn lines_are_games()
     plies_follow::<Move, (u32, u32), ExitValue, (), Infallible>();
 }
 
-/// From the kept code of a win of n plies a line has at most n plies, and is won: by a mate after n
-/// plies, or at an exit that wins, after n plies with its lag counted. Only a wrong code on its way
-/// ends it otherwise.
+/// From a start whose code is a win in n plies, a line has at most n plies and is won: by a mate
+/// after just n plies, or at a winning exit, where its lag and the plies before it add up to n.
+/// Only a code that is not the local one ends it otherwise.
 pub fn least_plies()
     ensures few { (rules : RuleLines) (value : Board → Value)
         (side : Colour) (codes : ℕ → List ℕ) (start n : ℕ)
@@ -81,8 +81,8 @@ pub fn least_plies()
     wins_in_lines::<Move, (u32, u32), ExitValue, (), Infallible>();
 }
 
-/// From the kept code of a hold nobody is mated in a line, and an exit holds for the side and no
-/// more. It has at most the most plies, and so many where it is cut.
+/// From a start whose code is a hold, nobody is mated in a line, and an exit holds for the side and
+/// does not win. The line has at most `MOST_PLIES` plies, and exactly so many where it is cut.
 pub fn holds_are_drawn()
     ensures drawn { (rules : RuleLines) (value : Board → Value)
         (side : Colour) (codes : ℕ → List ℕ) (start : ℕ)
@@ -101,8 +101,8 @@ pub fn holds_are_drawn()
     holds_in_lines::<Move, (u32, u32), ExitValue, (), Infallible>();
 }
 
-/// Where the codes are each time those of the table of the side, no line from a position of the set
-/// ends as wrong.
+/// Where the codes after each number of plies are those of the side's table, no line from a
+/// position of the set meets a code that is not the local one.
 pub fn tables_are_never_wrong()
     ensures { (rules : RuleLines) (value : Board → Value) (side : Colour) (codes : ℕ → List ℕ) →
         ((k : ℕ) → IsTableOf rules value side (codes k)) → (p : Board) → Member rules.groups p →

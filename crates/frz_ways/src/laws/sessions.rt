@@ -1,4 +1,4 @@
-//! What holds of sessions, each law the contract of a function that does nothing.
+//! Laws of sessions: each law is the contract of a function that does nothing.
 ghost use Rattle.std.specs.Prelude.{◌≡◌, ◌≤◌, ◌+◌, ◌*◌, ◌++◌, ℕ, List, [], Some, length, slice_get, slice_index, MatchOption};
 ghost use Rattle.std.specs.List.{Contains};
 ghost use Rattle.frz_board.specs.declared.man.Colour.{Colour};
@@ -56,8 +56,8 @@ impl Model for HaltedInput {
     ghost view = { λ _. halted Ended };
 }
 
-/// From each number there is one session over the codes, as they are known after each
-/// number of plies, and each input.
+/// From each number there is exactly one session by given codes against a given input. `codes k`
+/// are those known after `k` plies.
 pub fn one_session()
     ensures there { (rules : RuleLines) (value : Board → Value)
         (side : Colour) (codes : ℕ → List ℕ) (start : ℕ) (input : List ℕ) →
@@ -77,9 +77,9 @@ pub fn one_session()
     numbered();
 }
 
-/// From the kept code of a win of n plies a session has at most n plies, with the lag of its exit
-/// counted, and is won: by a mate of the opponent or at an exit that wins. Only a wrong code on its
-/// way or its input ends it otherwise.
+/// From a start whose code is a win in n plies, a session has at most n plies, with the lag of an
+/// exit counted, and is won: the opponent is mated, or the exit wins. Only a code that is not the
+/// local one, or the input, ends it otherwise.
 pub fn wins_are_kept()
     ensures few { (rules : RuleLines) (value : Board → Value)
         (side : Colour) (codes : ℕ → List ℕ) (start n : ℕ) (input : List ℕ)
@@ -102,7 +102,8 @@ pub fn wins_are_kept()
     ways::wins_are_kept::<Move, (u32, u32), ExitValue, LeftInput, HaltedInput>();
 }
 
-/// From the kept code of a hold the side is not mated in a session, and no exit is bad for it.
+/// From a start whose code is a hold, the side is not mated in a session, and no exit is bad for
+/// it.
 pub fn holds_are_kept()
     ensures { (rules : RuleLines) (value : Board → Value)
         (side : Colour) (codes : ℕ → List ℕ) (start : ℕ) (input : List ℕ)
@@ -114,8 +115,9 @@ pub fn holds_are_kept()
     ways::holds_are_kept::<Move, (u32, u32), ExitValue, LeftInput, HaltedInput>();
 }
 
-/// A session is a game of chess, as a line is one: from its position on the moves are legal one
-/// after another, and those of the side itself are moves that it has not renounced.
+/// A session is a game of chess: from its first position on, each move is legal where it is played,
+/// and the side itself plays no move that it has renounced. From a number that belongs to no
+/// position there is no ply.
 pub fn sessions_are_games()
     ensures { (rules : RuleLines) (value : Board → Value)
         (side : Colour) (codes : ℕ → List ℕ) (start : ℕ) (input : List ℕ)
@@ -128,8 +130,8 @@ pub fn sessions_are_games()
     ways::plies_follow::<Move, (u32, u32), ExitValue, LeftInput, HaltedInput>();
 }
 
-/// A session takes bytes from the front of its input, at most the most lines of the most length,
-/// each with its line feed.
+/// A session takes bytes from the front of its input, at most `MOST_LINES` lines of `MOST_LENGTH`
+/// bytes, each with its line feed.
 pub fn few_bytes_taken()
     ensures { (rules : RuleLines) (value : Board → Value)
         (side : Colour) (codes : ℕ → List ℕ) (start : ℕ) (input : List ℕ)
@@ -139,8 +141,8 @@ pub fn few_bytes_taken()
         × (length taken ≤ MOST_LINES * (MOST_LENGTH + 1)) }
 {}
 
-/// Where the codes are each time those of the table of the side, no session from a position of the
-/// set ends as wrong.
+/// Where the codes after each number of plies are those of the side's table, no session from a
+/// position of the set meets a code that is not the local one.
 pub fn tables_are_never_wrong()
     ensures { (rules : RuleLines) (value : Board → Value) (side : Colour) (codes : ℕ → List ℕ) →
         ((k : ℕ) → IsTableOf rules value side (codes k)) → (p : Board) → Member rules.groups p →
@@ -153,9 +155,9 @@ pub fn tables_are_never_wrong()
     numbered();
 }
 
-/// Where the codes are each time those of the table of the side and the exits are true, the
-/// opponent forces no mate after any ply
-/// of a session, in the set or out of it.
+/// Where the codes after each number of plies are those of the side's table, and the values of the
+/// exits are true in chess, the opponent can force no mate in chess after any ply of a session, in
+/// the set or out of it.
 pub fn sessions_are_safe()
     ensures { (rules : RuleLines) (value : Board → Value) → AreTrueExits rules value →
         (side : Colour) (codes : ℕ → List ℕ) → ((k : ℕ) → IsTableOf rules value side (codes k)) →

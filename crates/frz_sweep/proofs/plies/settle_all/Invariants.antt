@@ -2,7 +2,7 @@ use Rattle.std.proofs.Common.{◌≡◌, ◌≤◌, ◌<◌, ◌+◌, ◌*◌, �
 use Rattle.frz_sweep.specs.Told.{IsTold}
 use Rattle.frz_sweep.proofs.plies.settle_all.Given as goal
 
--- the numbers below i are told the ply, the others what came before it
+-- the codes of the numbers below i tell this ply too, the others only the plies before it
 abbrev pub invariant-loop-i : goal.invariant-loop-i
 invariant-loop-i g l = record {
   before : (p : ℕ) → p < l.i →
