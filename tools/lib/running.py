@@ -34,12 +34,18 @@ class Program:
         return self.run(*words) != (2, "words: command\n")
 
 
-def arguments(about, program="freezer", **numbers):
-    """The options that each tool takes, and whole numbers of its own with their defaults."""
+def arguments(about, program="freezer", files=None, **numbers):
+    """The options that each tool takes, and whole numbers of its own with their defaults.
+
+    A tool that calls no program has none, and one that takes files has a word for them.
+    """
     parser = argparse.ArgumentParser(description=about)
-    parser.add_argument(
-        "--program", default=os.path.join(REPOSITORY, program), help="the program under test"
-    )
+    if program:
+        parser.add_argument(
+            "--program", default=os.path.join(REPOSITORY, program), help="the program under test"
+        )
+    if files:
+        parser.add_argument("files", nargs="*", metavar=files)
     parser.add_argument("--seed", type=int, default=1, help="one seed gives the same questions")
     for name, default in numbers.items():
         parser.add_argument(f"--{name}", type=int, default=default)
