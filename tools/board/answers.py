@@ -1,21 +1,33 @@
 """What the page asks about: a position with its moves, a line, a report. Each fact in it is an answer of
-the program."""
+`freezer` or of `atlas`."""
 
-from .head import CHAINED
+import os
+
+from .head import CHAINED, LEANING, PLAIN
 from .report import Report
 from .start import first_positions
 
 ENDS = ("mate", "stalemate")
 LONGEST_WORD = 200
+# The program and the command that tell the bounds of a table, by its kind.
+ASKED = {
+    PLAIN: ("freezer", "query"),
+    CHAINED: ("freezer", "chainquery"),
+    LEANING: ("atlas", "query"),
+}
+
+
+def question(head, fen):
+    """The words that ask for the bounds of a table at a position."""
+    return (*ASKED[head.kind], head.path, fen)
 
 
 class Answers:
-    """The answers about one table, and the one behind it where there is one."""
+    """The answers about one table, and those behind it."""
 
     def __init__(self, calls, heads):
         self.calls = calls
-        self.head = heads[0]
-        self.back = heads[1] if len(heads) > 1 else None
+        self.head, *self.backs = heads
         self.report = Report(calls, self.head.path)
 
     def stop(self):
@@ -24,26 +36,21 @@ class Answers:
     def tables(self):
         return {
             "table": self.head.shown(),
-            "back": self.back.shown() if self.back else None,
+            "backs": [back.shown() for back in self.backs],
             "start": self.start(),
         }
 
     def start(self):
         """A position of the set to begin with, or nothing where none was found."""
         for fen in first_positions(self.head.text):
-            if self.calls.ask(*self.question(fen)).status == 0:
+            if self.calls.ask(*question(self.head, fen)).status == 0:
                 return fen
         return None
-
-    def question(self, fen):
-        """The words that ask for the bounds at a position."""
-        command = "chainquery" if self.head.kind == CHAINED else "query"
-        return (command, self.head.path, fen)
 
     def position(self, fen):
         """The bounds at a position, and its legal moves with the bounds after each."""
         bounds, sans, moves = self.calls.ask_all(
-            [self.question(fen), ("sans", fen), ("moves", fen)]
+            [question(self.head, fen), ("freezer", "sans", fen), ("freezer", "moves", fen)]
         )
         if sans.status != 0:
             return {"fen": fen, "refused": sans.text.strip()}
@@ -55,9 +62,9 @@ class Answers:
 
     def after(self, fen, sans, moves):
         """Each move with the position that it leads to, and the bounds there."""
-        played = self.calls.ask_all([("move", fen, san) for san in sans])
+        played = self.calls.ask_all([("freezer", "move", fen, san) for san in sans])
         fens = [answer.lines[1] if len(answer.lines) > 1 else "" for answer in played]
-        asked = self.calls.ask_all([self.question(next_fen) for next_fen in fens])
+        asked = self.calls.ask_all([question(self.head, next_fen) for next_fen in fens])
         return [
             {"san": san, "move": move, "fen": next_fen, "bounds": self.bounds(next_fen, answer)}
             for san, move, next_fen, answer in zip(sans, moves, fens, asked)
@@ -69,15 +76,21 @@ class Answers:
             white, black = answer.lines
             return {"white": white, "black": black}
         said = {"text": answer.text.strip()}
-        if self.back and said["text"] == "outside":
-            behind = self.calls.ask("query", self.back.path, fen)
-            if behind.status == 0:
-                said["behind"] = behind.lines
+        if said["text"] == "outside":
+            said.update(self.behind(fen))
         return said
+
+    def behind(self, fen):
+        """What the first of the tables behind says that has the position, and its name."""
+        for back in self.backs:
+            answer = self.calls.ask(*question(back, fen))
+            if answer.status == 0:
+                return {"behind": answer.lines, "table": os.path.basename(back.path)}
+        return {}
 
     def line(self, fen, side):
         """The best line of a side: its bound, the positions that it comes to, and how it ends."""
-        answer = self.calls.ask("line", self.head.path, fen, side)
+        answer = self.calls.ask("freezer", "line", self.head.path, fen, side)
         lines = answer.lines
         if answer.status not in (0, 6) or not lines:
             return {"refused": answer.text.strip()}
@@ -89,9 +102,9 @@ class Answers:
 
     def step(self, fen, move):
         """A move of coordinates in algebraic notation, and the position after it."""
-        sans, moves = self.calls.ask_all([("sans", fen), ("moves", fen)])
+        sans, moves = self.calls.ask_all([("freezer", "sans", fen), ("freezer", "moves", fen)])
         san = dict(zip(moves.text.split(), sans.text.split()))[move]
-        return san, self.calls.ask("move", fen, san).lines[1]
+        return san, self.calls.ask("freezer", "move", fen, san).lines[1]
 
 
 def turn_of(fen):

@@ -1,4 +1,4 @@
-"""Calls of the program: words as a list and never through a shell, few at once, each for a bounded
+"""Calls of the programs: words as a list and never through a shell, few at once, each for a bounded
 time, and what was answered is kept."""
 
 import collections
@@ -25,10 +25,10 @@ class Answer:
 
 
 class Calls:
-    """The program, asked one question a call."""
+    """The programs by their names, asked one question a call: the first word names the program."""
 
-    def __init__(self, program):
-        self.program = program
+    def __init__(self, programs):
+        self.programs = programs
         self.pool = concurrent.futures.ThreadPoolExecutor(AT_ONCE)
         self.kept = collections.OrderedDict()
         self.lock = threading.Lock()
@@ -48,10 +48,13 @@ class Calls:
         """The answers to many questions, some at once."""
         return list(self.pool.map(lambda words: self.ask(*words), questions))
 
+    def command(self, words):
+        return [self.programs[words[0]], *words[1:]]
+
     def call(self, words):
         try:
             done = subprocess.run(
-                [self.program, *words],
+                self.command(words),
                 stdin=subprocess.DEVNULL,
                 stdout=subprocess.PIPE,
                 stderr=subprocess.DEVNULL,
@@ -73,7 +76,7 @@ class Calls:
     def start(self, *words):
         """A call that may take long, for who waits for it or ends it."""
         return subprocess.Popen(
-            [self.program, *words],
+            self.command(words),
             stdin=subprocess.DEVNULL,
             stdout=subprocess.PIPE,
             stderr=subprocess.DEVNULL,

@@ -3,8 +3,8 @@
 import os
 import re
 
-PLAIN, CHAINED = "plain", "chained"
-KINDS = {b"FREEZER2": PLAIN, b"FREEZERC": CHAINED}
+PLAIN, CHAINED, LEANING = "plain", "chained", "leaning"
+KINDS = {b"FREEZER2": PLAIN, b"FREEZERC": CHAINED, b"FREEZERA": LEANING}
 LONGEST_TEXT = 65_536
 # A group of one man on one square.
 FAST = re.compile(r"\s*group\s+(white|black)\s+1\s+([KQRBNP]):([a-h][1-8])\s*$")
@@ -50,7 +50,7 @@ def read_head(path):
         with open(path, "rb") as file:
             magic, length = file.read(8), int.from_bytes(file.read(4), "little")
             if magic not in KINDS or length > LONGEST_TEXT:
-                raise NoTable(f"{path}: no table of build or of chain")
+                raise NoTable(f"{path}: no table of freezer or of atlas")
             text = file.read(length)
             size = int.from_bytes(file.read(4), "little")
     except OSError as fault:

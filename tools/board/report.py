@@ -21,7 +21,7 @@ class Report:
                 return
             self.answer = None
             self.begun = time.monotonic()
-            self.child = self.calls.start("report", self.table)
+            self.child = self.calls.start("freezer", "report", self.table)
             threading.Thread(target=self.wait, args=(self.child,), daemon=True).start()
 
     def stop(self):

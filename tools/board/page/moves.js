@@ -14,9 +14,13 @@ export function readBound(line) {
   return { kind: line.endsWith(" holds") ? HOLD : NONE };
 }
 
-// The line of bounds of a side: in the table, or in the one behind it where that knows the position.
+// The line of bounds of a side: of the table, or of the first one behind it that has the position.
+export function lineOf(bounds, side) {
+  return bounds[side] ?? bounds.behind?.[side === "white" ? 0 : 1];
+}
+
 export function boundOf(bounds, side) {
-  return readBound(bounds[side] ?? bounds.behind?.[side === "white" ? 0 : 1]);
+  return readBound(lineOf(bounds, side));
 }
 
 export function otherSide(side) {
@@ -33,7 +37,7 @@ function markOf(before, after, behind) {
   if (ORDER.indexOf(after.kind) > ORDER.indexOf(before.kind)) {
     return ["throws", before.kind === WIN ? "throws the win away" : "throws the hold away"];
   }
-  if (behind) return ["keeps", "into the table behind"];
+  if (behind) return ["keeps", "into a table behind"];
   if (before.kind === WIN && after.plies + 1 > before.plies) return ["slower", "wins more slowly"];
   return ["keeps", ""];
 }
@@ -54,5 +58,5 @@ export function sortedMoves(position) {
 // Both bounds in short, or what the program said in their place.
 export function shortBounds(bounds) {
   if (bounds.white !== undefined) return `${bounds.white}, ${bounds.black}`;
-  return bounds.behind ? `outside; behind: ${bounds.behind.join(", ")}` : bounds.text;
+  return bounds.behind ? `in ${bounds.table}: ${bounds.behind.join(", ")}` : bounds.text;
 }

@@ -1,7 +1,7 @@
 // The page: the game so far, the position shown, and the questions that are asked about it.
 import { drawBoard, squareAt } from "./board.js";
 import { element } from "./men.js";
-import { readBound, shortBounds, sortedMoves } from "./moves.js";
+import { boundOf, lineOf, shortBounds, sortedMoves } from "./moves.js";
 
 const at = (id) => document.getElementById(id);
 const state = { game: [], place: 0, turned: false, position: null, picked: null, tables: null, asked: 0 };
@@ -42,13 +42,14 @@ function showBounds() {
   const { bounds, end, turn } = state.position;
   at("bounds").replaceChildren();
   for (const side of ["white", "black"]) {
-    const { kind, plies } = readBound(bounds[side]);
+    const { kind, plies } = boundOf(bounds, side);
     const row = make("p", "", `bound ${kind}`);
-    row.append(make("span", bounds[side] ?? (side === "white" ? shortBounds(bounds) : ""), "words"));
+    row.append(make("span", lineOf(bounds, side) ?? (side === "white" ? bounds.text : ""), "words"));
     if (plies !== undefined) row.append(make("span", String(plies), "plies"));
     at("bounds").append(row);
   }
-  at("bounds").append(make("p", end ? `${turn} to move: ${end}` : `${turn} to move`, "turn"));
+  const where = bounds.behind ? `, by ${bounds.table}` : "";
+  at("bounds").append(make("p", `${turn} to move${end ? `: ${end}` : ""}${where}`, "turn"));
 }
 
 function moveButton(move) {
@@ -145,7 +146,7 @@ function smallBoard(fen) {
 
 function showReport(report) {
   at("report-stop").hidden = report.state !== "running";
-  at("report-start").disabled = report.state === "running";
+  at("report-start").disabled = report.state === "running" || state.tables.table.kind !== "plain";
   const words = { none: "", stopped: "stopped", refused: report.text };
   if (report.state === "running") words.running = `going over ${state.tables.table.size} numbers, ${report.seconds} s`;
   at("report-said").textContent = words[report.state] ?? report.totals;
@@ -203,14 +204,28 @@ function listen() {
   document.addEventListener("keydown", onKey);
 }
 
+const KINDS = { plain: "a table", chained: "a chained table", leaning: "a table over others" };
+
+function rulesOf(back) {
+  const shown = document.createElement("details");
+  shown.append(make("summary", `Rules text of ${back.name}, ${back.size} numbers`), make("pre", back.text));
+  return shown;
+}
+
+function showTables() {
+  const { table, backs } = state.tables;
+  document.title = at("title").textContent = table.name;
+  at("table-said").textContent = `${KINDS[table.kind]} of ${table.size} numbers`;
+  at("rules").textContent = table.text;
+  at("behind").replaceChildren(...backs.map(rulesOf));
+  at("plain-alone").hidden = table.kind === "plain";
+  for (const id of ["line-white", "line-black", "report-start"]) at(id).disabled = table.kind !== "plain";
+}
+
 async function begin() {
   state.tables = await ask("tables");
-  const { table, back, start } = state.tables;
-  document.title = at("title").textContent = table.name;
-  at("table-said").textContent = `${table.kind === "chained" ? "a chained table" : "a table"} of ${table.size} numbers`;
-  at("rules").textContent = table.text;
-  at("behind").hidden = !back;
-  if (back) at("rules-behind").textContent = back.text;
+  const { start } = state.tables;
+  showTables();
   listen();
   if (start) await go(0, [{ fen: start }]);
   else at("refusal").textContent = "type a FEN to begin";
