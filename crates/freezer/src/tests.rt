@@ -13,11 +13,11 @@ mod steps;
 mod tables;
 
 use crate::run_once;
-use frz_handmade::{plain_file, rook, store_with};
 use frz_store::{Fail, FailOn, MemSink, MemSource, MemStore, Store};
 use std::alloc::Global;
 use std::process::Abort;
 use std::test::Fail as TestFail;
+use test_tables::{plain_file, rook, store_with};
 
 const RULES: &[u8] =
     b"freezer 1\ngroup white 1 K:b6\ngroup white 1 R:h1,h8\ngroup black 1 K:a8,b8\n";

@@ -146,7 +146,7 @@ impl Set {
     }
 
     /// Is the cell empty (0), or a man (1 to 12) that some group allows on the square?
-    pub fn knows(&self, cell: u8, s: Square) -> bool
+    pub fn may_stand(&self, cell: u8, s: Square) -> bool
         requires { cell ≤ 12 }
         ensures { result ≡ is_known self.now cell s }
     {
@@ -164,7 +164,7 @@ impl Set {
     pub fn has_room(&self, p: &Bitboards, man: Man, s: Square) -> bool
         ensures { result ≡ has_room self.now p.now man s }
     {
-        self.knows(cell_of(man), s)
+        self.may_stand(cell_of(man), s)
             && any_takes_one_more(
                 &self.plan.triangle,
                 p,
@@ -282,7 +282,7 @@ impl Set {
     {
         match p.man(m.from) {
             None => false,
-            Some(man) => !self.knows(cell_of(arriving(man, m.promo)), m.to),
+            Some(man) => !self.may_stand(cell_of(arriving(man, m.promo)), m.to),
         }
     }
 

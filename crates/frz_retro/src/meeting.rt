@@ -33,7 +33,13 @@ pub fn is_counted<G: Graph<L>, L: Ledger>(graph: &G, own: bool, pred: &Pred) -> 
 /// The predecessor `pred` meets its successor `q`, which was settled in the pass before. An open
 /// predecessor settles one ply later than `q` if `q` decides it, or if `q` is the last successor
 /// that it waits for and its exits take no longer.
-pub fn meet<G: Graph<L>, L: Ledger>(graph: &G, side: Colour, q: u32, pred: &Pred, tally: &mut Tally)
+pub fn visit_predecessor<G: Graph<L>, L: Ledger>(
+    graph: &G,
+    side: Colour,
+    q: u32,
+    pred: &Pred,
+    tally: &mut Tally,
+)
     requires sound { G.sound graph.now }
     requires meeting { (k mid : ℕ) × (done : ℕ → ℕ → Bool)
         × IsMeeting (G.arena graph.now) (G.count graph.now) side k mid done tally.old q pred.now }
@@ -89,6 +95,6 @@ pub fn go_through<G: Graph<L>, L: Ledger>(
     ensures queue { Grows tally.old tally.new }
 {
     for pred in preds {
-        meet(graph, side, q, pred, tally);
+        visit_predecessor(graph, side, q, pred, tally);
     }
 }

@@ -78,7 +78,7 @@ in_room gs q b promo x h man word kept size e ways room =
     ∙ and_from _ _ (in_ways gs q b promo x h man word e ways)
     (ap (λ s. has_room gs (taken_off q s) man x.mv.from) (sym h.0.1) ∙ begins)
 
--- one of the squares on which the set knows the man
+-- one of the squares on which the man may stand
 abbrev pub known_on : List GroupLine → Man → ℕ → ℕ → Bool
 known_on gs man squares a = has_square squares a && is_known gs (cell_of_man man) a
 

@@ -172,7 +172,7 @@ module _ (gs : List GroupLine) (q : Board) (x : Pred) (c : Comes gs q x) where
         | inr e ↦ either_or _ _ (inr (c.number.member.men s l e.1))
       ]
 
-  -- the set knows the man where it was, and what it took
+  -- the man may stand where it was, and so may what it took
   pub known_mover : is_known gs (mover_cell q x.mv) x.mv.from ≡ true
   known_mover =
       ap (λ cell. is_known gs cell x.mv.from)

@@ -10,7 +10,7 @@ use Rattle.frz_arena.specs.declared.choice.Choice.{Choice}
 use Rattle.frz_arena.specs.Chosen.{IsFound}
 use Rattle.frz_arena.specs.Choices.{has_code}
 use Rattle.frz_arena.proofs.Lemmas.{found_at}
-use Rattle.frz_ways.specs.Sights.{choices_by}
+use Rattle.frz_ways.specs.SeenMoves.{choices_by}
 
 pub length_choices : (own : Bool) (arms : List (Arm Step ℕ Value)) (cs : List ℕ)
     → length cs ≡ length arms → length (choices_by own arms cs) ≡ length arms

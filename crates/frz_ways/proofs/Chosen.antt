@@ -23,7 +23,7 @@ use Rattle.frz_exits.specs.Values.{class_of, lag_of}
 use Rattle.frz_graph.specs.EntryCodes.{arm_code}
 use Rattle.frz_graph.specs.Finite.{IsFinite}
 use Rattle.frz_graph.specs.FreeCodes.{free_among}
-use Rattle.frz_ways.specs.Sights.{choices_by}
+use Rattle.frz_ways.specs.SeenMoves.{choices_by}
 use Rattle.frz_ways.proofs.Stages.{seen_by_codes}
 
 pub at_in : {X : Type 0} (xs : List X) (i : ℕ) (x : X) → slice_get xs i ≡ Some x → Contains xs x

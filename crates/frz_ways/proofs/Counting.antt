@@ -11,9 +11,9 @@ use Rattle.frz_ways.specs.declared.end.TheConstants.{MOST_PLIES}
 use Rattle.frz_ways.specs.declared.hearing.Reader.{Reader}
 use Rattle.frz_ways.specs.declared.opponent.Opponent.{Opponent}
 use Rattle.frz_ways.specs.declared.opponent.Opponent.TheVariants as opponents
-use Rattle.frz_ways.specs.declared.playing.Spot.{Spot}
+use Rattle.frz_ways.specs.declared.playing.Cursor.{Cursor}
 use Rattle.frz_ways.specs.declared.session_end.TheConstants.{MOST_LINES}
-use Rattle.frz_ways.specs.Sights.{IsNextCode}
+use Rattle.frz_ways.specs.SeenMoves.{IsNextCode}
 use Rattle.frz_ways.specs.Turns.{session_left, LeavesLess}
 use Rattle.frz_ways.proofs.Turning.{own_most}
 
@@ -30,15 +30,15 @@ quiet_here store = record {
 }
 
 -- how much a way may still do: a line by its code or its plies, a session by its lines
-abbrev pub way_left : Opponent → Arena Step ℕ Value → Colour → Reader → Spot → ℕ
-way_left opponents.Codes arena side reader spot = line_left MOST_PLIES spot.played spot.code
-way_left opponents.Input arena side reader spot = session_left arena side reader.more spot.number
+abbrev pub way_left : Opponent → Arena Step ℕ Value → Colour → Reader → Cursor → ℕ
+way_left opponents.Codes arena side reader cursor = line_left MOST_PLIES cursor.played cursor.code
+way_left opponents.Input arena side reader cursor = session_left arena side reader.more cursor.number
 
 -- the plies until now, with those that may follow, are few
-abbrev pub HasFew : Opponent → Arena Step ℕ Value → Colour → Reader → Spot → Type 0
-HasFew opponents.Codes arena side reader spot = IsFew MOST_PLIES spot.played spot.code
-HasFew opponents.Input arena side reader spot =
-    spot.played + session_left arena side reader.more spot.number ≤ 2 * MOST_LINES + 1
+abbrev pub HasFew : Opponent → Arena Step ℕ Value → Colour → Reader → Cursor → Type 0
+HasFew opponents.Codes arena side reader cursor = IsFew MOST_PLIES cursor.played cursor.code
+HasFew opponents.Input arena side reader cursor =
+    cursor.played + session_left arena side reader.more cursor.number ≤ 2 * MOST_LINES + 1
 
 pub few_at_start : (opponent : Opponent) (arena : Arena Step ℕ Value) (side : Colour)
     (start code : ℕ) → code < 4294967296
@@ -49,31 +49,31 @@ few_at_start opponents.Codes arena side start code l =
 few_at_start opponents.Input arena side start code l =
     (let h = own_most side (arena.node start) in omega (arith, h))
 
-next_of : (spot : Spot) (code : ℕ) → IsNextCode spot.code code
-    → (spot.code ≡ 1 → spot.played < MOST_PLIES)
-    → ((is_win spot.code ≡ true) × (is_win code ≡ true) × (code + 2 ≡ spot.code))
-    ⊎ ((spot.code ≡ 1) × (code ≤ 1) × (spot.played < MOST_PLIES))
-next_of spot code next early =
+next_of : (cursor : Cursor) (code : ℕ) → IsNextCode cursor.code code
+    → (cursor.code ≡ 1 → cursor.played < MOST_PLIES)
+    → ((is_win cursor.code ≡ true) × (is_win code ≡ true) × (code + 2 ≡ cursor.code))
+    ⊎ ((cursor.code ≡ 1) × (code ≤ 1) × (cursor.played < MOST_PLIES))
+next_of cursor code next early =
     elim next [ inl h ↦ inl h | inr h ↦ inr (h.0, h.1, early h.0) ]
 
--- at the next spot the plies are few too
-module _ (arena : Arena Step ℕ Value) (side : Colour) (spot : Spot) (old new : Reader)
+-- at the next cursor the plies are few too
+module _ (arena : Arena Step ℕ Value) (side : Colour) (cursor : Cursor) (old new : Reader)
     (number code : ℕ) where
-  abbrev pub there : Spot
-  there = record { number = number; code = code; played = spot.played + 1 }
+  abbrev pub there : Cursor
+  there = record { number = number; code = code; played = cursor.played + 1 }
 
-  pub few_on : (o : Opponent) → LeavesLess o arena side spot old new number code
-      → HasFew o arena side old spot → HasFew o arena side new there
+  pub few_on : (o : Opponent) → LeavesLess o arena side cursor old new number code
+      → HasFew o arena side old cursor → HasFew o arena side new there
   few_on opponents.Codes less few =
-      let e : suc spot.played ≡ spot.played + 1 = omega arith in
+      let e : suc cursor.played ≡ cursor.played + 1 = omega arith in
       subst (λ k. IsFew MOST_PLIES k code) e
-      (few_after MOST_PLIES spot.played spot.code code few (next_of spot code less.0 less.1))
+      (few_after MOST_PLIES cursor.played cursor.code code few (next_of cursor code less.0 less.1))
   few_on opponents.Input less few = omega (arith, less, few)
 
-  pub left_on : (o : Opponent) → LeavesLess o arena side spot old new number code
-      → way_left o arena side new there < way_left o arena side old spot
+  pub left_on : (o : Opponent) → LeavesLess o arena side cursor old new number code
+      → way_left o arena side new there < way_left o arena side old cursor
   left_on opponents.Codes less =
-      let e : suc spot.played ≡ spot.played + 1 = omega arith in
-      subst (λ k. line_left MOST_PLIES k code < line_left MOST_PLIES spot.played spot.code) e
-      (left_after MOST_PLIES spot.played spot.code code (next_of spot code less.0 less.1))
+      let e : suc cursor.played ≡ cursor.played + 1 = omega arith in
+      subst (λ k. line_left MOST_PLIES k code < line_left MOST_PLIES cursor.played cursor.code) e
+      (left_after MOST_PLIES cursor.played cursor.code code (next_of cursor code less.0 less.1))
   left_on opponents.Input less = less

@@ -23,7 +23,7 @@ use Rattle.frz_ways.specs.declared.session_end.PlayFault.TheVariants as plays
 use Rattle.frz_ways.specs.declared.hearing.Reader.{Reader}
 use Rattle.frz_ways.specs.declared.hearing.Why.{Why}
 use Rattle.frz_ways.specs.declared.hearing.Why.TheVariants.{Ended, Limit}
-use Rattle.frz_ways.specs.declared.playing.Spot.{Spot}
+use Rattle.frz_ways.specs.declared.playing.Cursor.{Cursor}
 use Rattle.frz_ways.specs.declared.playing.Turn.{Turn}
 use Rattle.frz_ways.specs.declared.opponent.Opponent.{Opponent}
 use Rattle.frz_ways.specs.declared.opponent.Opponent.TheVariants as opponents
@@ -97,18 +97,18 @@ short_of fault answer rest unread is short =
 
 -- nothing was written or taken
 pub store_goes : (arena : Arena Step ℕ Value) (opponent : Opponent) (side : Colour)
-    (kept : ℕ → List ℕ) (spot : Spot) (reader : Reader) (fault : PlayFault) → IsStoreFault fault
-    → GoesBy arena opponent side kept spot reader reader [] [] (Err fault)
-store_goes arena opponent side kept spot reader fault is = λ agrees left may plies end last w.
-    let front = way_front arena opponent side kept spot.played (record {
+    (kept : ℕ → List ℕ) (cursor : Cursor) (reader : Reader) (fault : PlayFault) → IsStoreFault fault
+    → GoesBy arena opponent side kept cursor reader reader [] [] (Err fault)
+store_goes arena opponent side kept cursor reader fault is = λ agrees left may plies end last w.
+    let front = way_front arena opponent side kept cursor.played (record {
       left = left;
       more =
           reader.more;
     }) last
-    (spot.played, spot.number) plies end w in
-    let rest = rest_text opponent side spot plies end in
+    (cursor.played, cursor.number) plies end w in
+    let rest = rest_text opponent side cursor plies end in
     let short = short_text side end
-    (if spot.played == 0 then start_line side spot.code plies end else [])
+    (if cursor.played == 0 then start_line side cursor.code plies end else [])
     (plies_text opponent side plies) in
     (rest, refl, (front.0, front.1, short_of fault (told side end) rest front.0 is short))
 
@@ -127,65 +127,65 @@ nothing_both true = refl
 nothing_both false = refl
 
 module _ (arena : Arena Step ℕ Value) (opponent : Opponent) (side : Colour) (kept : ℕ → List ℕ)
-    (spot : Spot) where
+    (cursor : Cursor) where
   over_start : (s last : Input) (plies : List WayPly) (end f : EndOfWay)
-      → GoesOn arena opponent side kept spot.played s spot.number plies end last
-      → stage (way_player arena opponent side kept) spot.played (spot.played, spot.number) ≡ OverWay
+      → GoesOn arena opponent side kept cursor.played s cursor.number plies end last
+      → stage (way_player arena opponent side kept) cursor.played (cursor.played, cursor.number) ≡ OverWay
       f
-      → start_line side spot.code [] f ≡ start_line side spot.code plies end
+      → start_line side cursor.code [] f ≡ start_line side cursor.code plies end
   over_start s last plies end f w over =
-      let o = over_here arena opponent side kept spot.played s last spot.number plies end f w over
-      in ap (λ (e : EndOfWay). start_line side spot.code [] e) (sym o.1)
-      ∙ ap (λ (ys : List WayPly). start_line side spot.code ys end) (sym o.0)
+      let o = over_here arena opponent side kept cursor.played s last cursor.number plies end f w over
+      in ap (λ (e : EndOfWay). start_line side cursor.code [] e) (sym o.1)
+      ∙ ap (λ (ys : List WayPly). start_line side cursor.code ys end) (sym o.0)
 
   moved_start : (s last : Input) (plies : List WayPly) (end : EndOfWay)
-      (mover : Colour) → GoesOn arena opponent side kept spot.played s spot.number plies end last
-      → stage (way_player arena opponent side kept) spot.played (spot.played, spot.number) ≡ Moves
+      (mover : Colour) → GoesOn arena opponent side kept cursor.played s cursor.number plies end last
+      → stage (way_player arena opponent side kept) cursor.played (cursor.played, cursor.number) ≡ Moves
       mover
-      → kept_line side spot.code ≡ start_line side spot.code plies end
+      → kept_line side cursor.code ≡ start_line side cursor.code plies end
   moved_start s last [] end mover (inl w) due = absurd (let h = w.0 in cc)
   moved_start s last [] end mover (inr w) due =
-      let stop = stop_is opponent (same_colour w.0 side) arena s last (spot.played, spot.number) end
+      let stop = stop_is opponent (same_colour w.0 side) arena s last (cursor.played, cursor.number) end
       w.2 in
-      ap (λ (e : EndOfWay). start_line side spot.code [] e) (sym stop.1)
+      ap (λ (e : EndOfWay). start_line side cursor.code [] e) (sym stop.1)
   moved_start s last (x ∷ plies) end mover w due = refl
 
   -- what opens a way is the line of its start
   opening_is : (due : Due) (s last : Input) (plies : List WayPly)
-      (end : EndOfWay) → GoesOn arena opponent side kept spot.played s spot.number plies end last
-      → stage (way_player arena opponent side kept) spot.played (spot.played, spot.number)
-      ≡ stage_told (spot.played, spot.number) spot.code due → opening side spot due
-      ≡ (if spot.played == 0 then start_line side spot.code plies end else [])
+      (end : EndOfWay) → GoesOn arena opponent side kept cursor.played s cursor.number plies end last
+      → stage (way_player arena opponent side kept) cursor.played (cursor.played, cursor.number)
+      ≡ stage_told (cursor.played, cursor.number) cursor.code due → opening side cursor due
+      ≡ (if cursor.played == 0 then start_line side cursor.code plies end else [])
   opening_is (dues.Wrong given) s last plies end w stands =
-      nothing_both (spot.played == 0) ∙ same_start (spot.played == 0) [] (start_line side spot.code
+      nothing_both (cursor.played == 0) ∙ same_start (cursor.played == 0) [] (start_line side cursor.code
       plies end)
-      (over_start s last plies end (Wrong (spot.played, spot.number) spot.code given) w stands)
+      (over_start s last plies end (Wrong (cursor.played, cursor.number) cursor.code given) w stands)
   opening_is dues.NoBound s last plies end w stands =
-      nothing_both (spot.played == 0) ∙ same_start (spot.played == 0) [] (start_line side spot.code
+      nothing_both (cursor.played == 0) ∙ same_start (cursor.played == 0) [] (start_line side cursor.code
       plies end) (over_start s last plies end NoBound w stands)
   opening_is (dues.Mate m) s last plies end w stands =
-      same_start (spot.played == 0) (kept_line side spot.code) (start_line side spot.code plies end)
+      same_start (cursor.played == 0) (kept_line side cursor.code) (start_line side cursor.code plies end)
       (over_start s last plies end (Mated m) w stands)
   opening_is (dues.Stalemate m) s last plies end w stands =
-      same_start (spot.played == 0) (kept_line side spot.code) (start_line side spot.code plies end)
+      same_start (cursor.played == 0) (kept_line side cursor.code) (start_line side cursor.code plies end)
       (over_start s last plies end (Stalemated m) w stands)
   opening_is dues.Cut s last plies end w stands =
-      same_start (spot.played == 0) (kept_line side spot.code) (start_line side spot.code plies end)
+      same_start (cursor.played == 0) (kept_line side cursor.code) (start_line side cursor.code plies end)
       (over_start s last plies end Cut w stands)
   opening_is (dues.Ply m) s last plies end w stands =
-      same_start (spot.played == 0) (kept_line side spot.code) (start_line side spot.code plies end)
+      same_start (cursor.played == 0) (kept_line side cursor.code) (start_line side cursor.code plies end)
       (moved_start s last plies end m w stands)
 
   -- the sink failed within the opening
   pub opening_failed : (due : Due) (reader : Reader)
-      → Stands arena opponent side kept spot (stage_told (spot.played, spot.number) spot.code due)
-      → GoesBy arena opponent side kept spot reader reader [] (opening side spot due)
+      → Stands arena opponent side kept cursor (stage_told (cursor.played, cursor.number) cursor.code due)
+      → GoesBy arena opponent side kept cursor reader reader [] (opening side cursor due)
       (Err (plays.Line faults.Output))
   opening_failed due reader stands = λ agrees left may plies end last w.
       let here : Input = record { left = left; more = reader.more } in
-      let front = way_front arena opponent side kept spot.played here last (
-        spot.played,
-        spot.number,
+      let front = way_front arena opponent side kept cursor.played here last (
+        cursor.played,
+        cursor.number,
       ) plies end w in
       let rest = plies_text opponent side plies ++ end_text end in (
         rest,
@@ -197,16 +197,16 @@ module _ (arena : Arena Step ℕ Value) (opponent : Opponent) (side : Colour) (k
   -- behind the opening
   pub opened_tail : (due : Due) (old new : Reader) (bytes text : List ℕ)
       (result : Result Turn PlayFault)
-      → Stands arena opponent side kept spot (stage_told (spot.played, spot.number) spot.code due)
-      → TailBy arena opponent side kept spot old new bytes text result
-      → GoesBy arena opponent side kept spot old new bytes (opening side spot due ++ text) result
+      → Stands arena opponent side kept cursor (stage_told (cursor.played, cursor.number) cursor.code due)
+      → TailBy arena opponent side kept cursor old new bytes text result
+      → GoesBy arena opponent side kept cursor old new bytes (opening side cursor due ++ text) result
   opened_tail due old new bytes text result stands tail =
       λ agrees left may plies end last w.
       let t = tail agrees left may plies end last w in
       let here : Input = record { left = bytes ++ left; more = old.more } in (
         t.0,
-        append_assoc (opening side spot due) text t.0
-            ∙ (ap (λ (l : List ℕ). opening side spot due ++ l) t.1
+        append_assoc (opening side cursor due) text t.0
+            ∙ (ap (λ (l : List ℕ). opening side cursor due ++ l) t.1
             ∙ ap (λ (l : List ℕ). l ++ (plies_text opponent side plies ++ end_text end))
             (opening_is due here last plies end w (stands agrees))),
         t.2,
@@ -252,24 +252,24 @@ front_of_text : (a b : List ℕ) (word move rest last : List ℕ)
 front_of_text a b word move rest last = simp append_assoc
 
 module _ (arena : Arena Step ℕ Value) (opponent : Opponent) (side mover : Colour)
-    (kept : ℕ → List ℕ) (spot : Spot) (own : by_codes opponent (same_colour mover side) ≡ false)
-    (stands : Stands arena opponent side kept spot (Moves mover))
+    (kept : ℕ → List ℕ) (cursor : Cursor) (own : by_codes opponent (same_colour mover side) ≡ false)
+    (stands : Stands arena opponent side kept cursor (Moves mover))
     (fault : PlayFault) (fails : MayFail fault) where
   -- what the text still lacks where a fault stops the lines of a reply
   abbrev Lacks : (n : ℕ) (here : Input) (plies : List WayPly) (end : EndOfWay)
       (last : Input) → Type 0
   Lacks n here plies end last =
-      LeavesText arena opponent side kept spot here plies end last (refused_text n) (Err fault)
+      LeavesText arena opponent side kept cursor here plies end last (refused_text n) (Err fault)
 
   lacks_by : (n : ℕ) (later : Answer Input Halt) (s here last : Input)
       (plies : List WayPly) (end : EndOfWay)
-      → GoesOn arena opponent side kept spot.played s spot.number plies end last
-      → stage (way_player arena opponent side kept) spot.played (spot.played, spot.number) ≡ Moves
+      → GoesOn arena opponent side kept cursor.played s cursor.number plies end last
+      → stage (way_player arena opponent side kept) cursor.played (cursor.played, cursor.number) ≡ Moves
       mover
-      → reads (arena.arms spot.number) s.more s.left ≡ refuse n later
+      → reads (arena.arms cursor.number) s.more s.left ≡ refuse n later
       → EndsWith (left_by later) here.left → Lacks n here plies end last
   lacks_by n (Reply m place u) s here last plies end w due gives ends =
-      let r = replies_here arena opponent side kept spot.played s last u spot.number plies end mover
+      let r = replies_here arena opponent side kept cursor.played s last u cursor.number plies end mover
       (n + m) place own w due (gives ∙ refuse_replies n m place u) in
       let first = r.on.first in
       let others = r.on.others in
@@ -291,8 +291,8 @@ module _ (arena : Arena Step ℕ Value) (opponent : Opponent) (side mover : Colo
       (before_some (word ++ move) (plies_text opponent side others ++ end_text end)
       (before_some word move (λ e. absurd (cc)))) in
       let front = ends_on last.left u.left here.left
-      (leads_front arena opponent side kept spot.played u last others end
-      (λ p h. way_front arena opponent side kept (suc spot.played) u last p others end h)
+      (leads_front arena opponent side kept cursor.played u last others end
+      (λ p h. way_front arena opponent side kept (suc cursor.played) u last p others end h)
       first.arm.next r.on.leads) ends in
       subst (λ (ys : List WayPly). Lacks n here ys end last) (sym r.on.are) (
         rest,
@@ -306,7 +306,7 @@ module _ (arena : Arena Step ℕ Value) (opponent : Opponent) (side mover : Colo
       )
   lacks_by n (Stop halt u) s here last plies end w due gives ends =
       let all : Halt = record { refused = n + halt.refused; why = halt.why } in
-      let o = stops_here arena opponent side kept spot.played s last u spot.number plies end mover
+      let o = stops_here arena opponent side kept cursor.played s last u cursor.number plies end mover
       all own w due (gives ∙ refuse_stops n halt u) in
       let rest = refused_text halt.refused ++ why_line halt.why in
       let whole : refused_text n ++ rest ≡ end_text (Stopped all) = sym
@@ -329,14 +329,14 @@ module _ (arena : Arena Step ℕ Value) (opponent : Opponent) (side mover : Colo
       ))
 
   pub fault_tail : (old new : Reader) (arms : List (Arm Step ℕ Value))
-      → arms ≡ arena.arms spot.number → (source left : SourceTold) (out taken : SinkTold)
+      → arms ≡ arena.arms cursor.number → (source left : SourceTold) (out taken : SinkTold)
       → (hears : Hears arms old new (Err fault) source left out taken)
-      → TailBy arena opponent side kept spot old new hears.bytes (refused_text hears.refused)
+      → TailBy arena opponent side kept cursor old new hears.bytes (refused_text hears.refused)
       (Err fault)
   fault_tail old new arms are source left out taken hears =
       λ agrees rest_in may plies end last w.
       let h = hears.heard rest_in may in
-      let gives : reads (arena.arms spot.number) old.more (hears.bytes ++ rest_in)
+      let gives : reads (arena.arms cursor.number) old.more (hears.bytes ++ rest_in)
       ≡ refuse hears.refused h.0 =
       subst (λ (z : List (Arm Step ℕ Value)). reads z old.more (hears.bytes ++ rest_in)
       ≡ refuse hears.refused h.0) are h.1 in

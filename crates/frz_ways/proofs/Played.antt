@@ -22,7 +22,7 @@ use Rattle.frz_ways.specs.declared.way_end.WayEnd.{WayEnd}
 use Rattle.frz_ways.specs.declared.session_end.PlayFault.{PlayFault}
 use Rattle.frz_ways.specs.declared.session_end.TheConstants.{MOST_LINES}
 use Rattle.frz_ways.specs.declared.hearing.Reader.{Reader}
-use Rattle.frz_ways.specs.declared.playing.Spot.{Spot}
+use Rattle.frz_ways.specs.declared.playing.Cursor.{Cursor}
 use Rattle.frz_ways.specs.declared.playing.Turn.{Turn}
 use Rattle.frz_ways.specs.declared.playing.Turn.TheVariants.{Over, On}
 use Rattle.frz_ways.specs.declared.opponent.Opponent.{Opponent}
@@ -42,28 +42,28 @@ use Rattle.frz_ways.proofs.Written.{wrote_after, same_wrote}
 -- what is left of a way from the start, behind the text that was written and the numbers that it
 -- came to
 pub record IsLeft (arena : Arena Step ℕ Value) (opponent : Opponent) (side : Colour)
-    (kept : ℕ → List ℕ) (start code : ℕ) (spot : Spot) (input : Input) (numbers text : List ℕ)
+    (kept : ℕ → List ℕ) (start code : ℕ) (cursor : Cursor) (input : Input) (numbers text : List ℕ)
     (plies : List WayPly) (end : EndOfWay) (last : Input) : Type 0 where
-  pub agrees : slice_index (kept spot.played) spot.number ≡ spot.code
+  pub agrees : slice_index (kept cursor.played) cursor.number ≡ cursor.code
   pub others : List WayPly
-  pub way : GoesOn arena opponent side kept spot.played input spot.number others end last
-  pub is : text ++ rest_text opponent side spot others end ≡ way_text opponent side code plies end
-  pub came : numbers ++ way_numbers (Inside (spot.played, spot.number)) others
+  pub way : GoesOn arena opponent side kept cursor.played input cursor.number others end last
+  pub is : text ++ rest_text opponent side cursor others end ≡ way_text opponent side code plies end
+  pub came : numbers ++ way_numbers (Inside (cursor.played, cursor.number)) others
       ≡ way_numbers (Inside (0, start)) plies
 
 -- each way from the start against these bytes comes by here
-abbrev pub ComeBy : Arena Step ℕ Value → Opponent → Colour → (ℕ → List ℕ) → (start code : ℕ) → Spot
+abbrev pub ComeBy : Arena Step ℕ Value → Opponent → Colour → (ℕ → List ℕ) → (start code : ℕ) → Cursor
     → Reader → (numbers bytes text : List ℕ) → Type 0
-ComeBy arena opponent side kept start code spot reader numbers bytes text =
+ComeBy arena opponent side kept start code cursor reader numbers bytes text =
     slice_index (kept 0) start ≡ code → (left : List ℕ) → MayFollow reader left →
     (plies : List WayPly) (end : EndOfWay) (last : Input) →
     GoesOn arena opponent side kept 0 (opened (bytes ++ left)) start plies end last →
-    IsLeft arena opponent side kept start code spot (record { left = left; more = reader.more })
+    IsLeft arena opponent side kept start code cursor (record { left = left; more = reader.more })
     numbers text plies end last
 
 pub record SoFar (known : Option (List ℕ)) (size : ℕ) (arena : Arena Step ℕ Value)
     (opponent : Opponent) (side : Colour)
-    (start code : ℕ) (spot : Spot) (reader : Reader) (source left : SourceTold)
+    (start code : ℕ) (cursor : Cursor) (reader : Reader) (source left : SourceTold)
     (out taken : SinkTold) (before now : Spent) : Type 0 where
   pub text : List ℕ
   pub bytes : List ℕ
@@ -75,8 +75,8 @@ pub record SoFar (known : Option (List ℕ)) (size : ℕ) (arena : Arena Step �
   -- what was read after each ply
   pub read : ℕ → List ℕ
   pub may : (k : ℕ) → MayRead known size (read k)
-  pub comes : (kept : ℕ → List ℕ) → ((k : ℕ) → k < spot.played → kept (suc k) ≡ read k) →
-      ComeBy arena opponent side kept start code spot reader numbers bytes text
+  pub comes : (kept : ℕ → List ℕ) → ((k : ℕ) → k < cursor.played → kept (suc k) ≡ read k) →
+      ComeBy arena opponent side kept start code cursor reader numbers bytes text
 
 pub at_start : (known : Option (List ℕ)) (size : ℕ) (arena : Arena Step ℕ Value)
     (opponent : Opponent) (side : Colour)
@@ -108,14 +108,14 @@ follows_both old new bytes left stays may = λ e.
 
 -- a ply was played
 after_ply : (arena : Arena Step ℕ Value) (opponent : Opponent) (side : Colour) (kept : ℕ → List ℕ)
-    (start code : ℕ) (spot next : Spot) (old new : Reader)
+    (start code : ℕ) (cursor next : Cursor) (old new : Reader)
     (numbers bytes more text written : List ℕ)
-    → next.played ≡ spot.played + 1 → StaysEnded old new more
-    → ComeBy arena opponent side kept start code spot old numbers bytes text
-    → GoesBy arena opponent side kept spot old new more written (Ok (On next.number next.code))
-    → ComeBy arena opponent side kept start code next new (numbers ++ spot.number ∷ [])
+    → next.played ≡ cursor.played + 1 → StaysEnded old new more
+    → ComeBy arena opponent side kept start code cursor old numbers bytes text
+    → GoesBy arena opponent side kept cursor old new more written (Ok (On next.number next.code))
+    → ComeBy arena opponent side kept start code next new (numbers ++ cursor.number ∷ [])
     (bytes ++ more) (text ++ written)
-after_ply arena opponent side kept start code spot next old new numbers bytes more text written e
+after_ply arena opponent side kept start code cursor next old new numbers bytes more text written e
     stays comes goes = λ agrees left may plies end last w.
     let v = subst (λ (l : List ℕ). GoesOn arena opponent side kept 0 (opened l) start plies end
     last) (append_assoc bytes more left) w in
@@ -124,9 +124,9 @@ after_ply arena opponent side kept start code spot next old new numbers bytes mo
     let g = goes l.agrees left may l.others end last l.way in
     let others = g.2.1.1 in
     let here : Input = record { left = left; more = new.more } in
-    let played : suc spot.played ≡ next.played = (omega (arith, e)) in
+    let played : suc cursor.played ≡ next.played = (omega (arith, e)) in
     let later : (next.played == 0) ≡ false = subst (λ (k : ℕ). (k == 0) ≡ false) (sym e)
-    (more_is spot.played) in
+    (more_is cursor.played) in
     let rest : rest_text opponent side next others end ≡ g.0 =
     ap (λ (b : Bool). (if b then start_line side next.code others end else [])
     ++ (plies_text opponent side others ++ end_text end)) later ∙ sym g.2.1.5 in
@@ -138,33 +138,33 @@ after_ply arena opponent side kept start code spot next old new numbers bytes mo
       is = ap (λ (z : List ℕ). (text ++ written) ++ z) rest
           ∙ (append_assoc text written g.0 ∙ (ap (λ (z : List ℕ). text ++ z) g.1 ∙ l.is));
       came = subst
-          (λ k. (numbers ++ spot.number ∷ []) ++ way_numbers (Inside (k, next.number)) others
+          (λ k. (numbers ++ cursor.number ∷ []) ++ way_numbers (Inside (k, next.number)) others
           ≡ way_numbers (Inside (0, start)) plies) played
-          (came_on numbers spot.played spot.number (suc spot.played, next.number) l.others others
+          (came_on numbers cursor.played cursor.number (suc cursor.played, next.number) l.others others
           g.2.1.0 (way_numbers (Inside (0, start)) plies) l.came g.2.1.2 g.2.1.3);
     }
 
 left_over : (arena : Arena Step ℕ Value) (opponent : Opponent) (side : Colour) (kept : ℕ → List ℕ)
-    (spot : Spot) (left : Input) (plies : List WayPly) (end : EndOfWay) (last : Input)
+    (cursor : Cursor) (left : Input) (plies : List WayPly) (end : EndOfWay) (last : Input)
     (rest : List ℕ) (answer : Result WayEnd PlayFault)
-    → Leaves arena opponent side kept spot left plies end last rest (turn_over answer)
+    → Leaves arena opponent side kept cursor left plies end last rest (turn_over answer)
     → (unread : List ℕ) × (unread ++ last.left ≡ left.left)
     × Finishes answer (told side end) rest unread
-left_over arena opponent side kept spot left plies end last rest (Ok answer) h = h
-left_over arena opponent side kept spot left plies end last rest (Err fault) h = h
+left_over arena opponent side kept cursor left plies end last rest (Ok answer) h = h
+left_over arena opponent side kept cursor left plies end last rest (Err fault) h = h
 
 -- the last turn
 played_out : (arena : Arena Step ℕ Value) (opponent : Opponent) (side : Colour) (kept : ℕ → List ℕ)
-    (start code : ℕ) (spot : Spot) (old new : Reader) (numbers bytes more text next : List ℕ)
+    (start code : ℕ) (cursor : Cursor) (old new : Reader) (numbers bytes more text next : List ℕ)
     (answer : Result WayEnd PlayFault) (before now after : Spent) (source left : SourceTold)
     → SpendsAt arena 0 numbers before now
-    → SpendsAt arena 0 (spot.number ∷ []) now after → StaysEnded old new more
+    → SpendsAt arena 0 (cursor.number ∷ []) now after → StaysEnded old new more
     → TookBytes (bytes ++ more) source left → (new.ended ≡ true → HasEnded left)
-    → ComeBy arena opponent side kept start code spot old numbers bytes text
-    → GoesBy arena opponent side kept spot old new more next (turn_over answer)
+    → ComeBy arena opponent side kept start code cursor old numbers bytes text
+    → GoesBy arena opponent side kept cursor old new more next (turn_over answer)
     → Plays arena opponent side kept start code source (bytes ++ more) (text ++ next) answer before
     after
-played_out arena opponent side kept start code spot old new numbers bytes more text next answer
+played_out arena opponent side kept start code cursor old new numbers bytes more text next answer
     before now after source left b n stays took has comes goes =
     let r = some_rest left (new.ended ≡ true) has in
     let rest = r.0 in (
@@ -177,9 +177,9 @@ played_out arena opponent side kept start code spot old new numbers bytes more t
           let l = comes agrees (more ++ rest) (follows_both old new more rest stays r.2) plies end
           last v in
           let g = goes l.agrees rest r.2 l.others end last l.way in
-          let o = left_over arena opponent side kept spot (record { left = rest; more = new.more })
+          let o = left_over arena opponent side kept cursor (record { left = rest; more = new.more })
           l.others end last g.0 answer g.2 in
-          let spent = spends_last arena numbers spot.played spot.number l.others
+          let spent = spends_last arena numbers cursor.played cursor.number l.others
           (way_numbers (Inside (0, start)) plies) before now after l.came b n in (
             record {
               rest = g.0;
@@ -205,12 +205,12 @@ WayWrote known size arena opponent side start code result source left out taken 
     → Plays arena opponent side kept start code source bytes text result before now))
 
 -- what was read in a turn
-abbrev pub TurnRead : Option (List ℕ) → (size : ℕ) → Arena Step ℕ Value → Opponent → Colour → Spot
+abbrev pub TurnRead : Option (List ℕ) → (size : ℕ) → Arena Step ℕ Value → Opponent → Colour → Cursor
     → (old new : Reader) → (more next : List ℕ) → Result Turn PlayFault → Type 0
-TurnRead known size arena opponent side spot old new more next result =
+TurnRead known size arena opponent side cursor old new more next result =
     (now : List ℕ) × MayRead known size now
-    × ((kept : ℕ → List ℕ) → kept (suc spot.played) ≡ now
-    → GoesBy arena opponent side kept spot old new more next result)
+    × ((kept : ℕ → List ℕ) → kept (suc cursor.played) ≡ now
+    → GoesBy arena opponent side kept cursor old new more next result)
 
 over_wrote : (answer : Result WayEnd PlayFault) (text : List ℕ) (old new : SinkTold)
     → WroteBy (turn_over answer) text old new → WroteBy answer text old new
@@ -236,42 +236,42 @@ fault_wrote known size arena opponent side start code source left out taken befo
 -- one turn more, which left the reader so
 module _ {known : Option (List ℕ)} {size : ℕ} {arena : Arena Step ℕ Value} {opponent : Opponent}
     {side : Colour} {start code : ℕ}
-    {spot : Spot} {old : Reader} (new : Reader) {source mid left : SourceTold}
+    {cursor : Cursor} {old : Reader} (new : Reader) {source mid left : SourceTold}
     {out between : SinkTold} (taken : SinkTold) {before now after : Spent}
-    (far : SoFar known size arena opponent side start code spot old source mid out between before
-    now) (few : SpendsAt arena 0 (spot.number ∷ []) now after) (next more : List ℕ)
+    (far : SoFar known size arena opponent side start code cursor old source mid out between before
+    now) (few : SpendsAt arena 0 (cursor.number ∷ []) now after) (next more : List ℕ)
     (lines : IsLines next) (took : TookBytes more mid left) (stays : StaysEnded old new more) where
   -- a ply was played
   pub next_far : {turn : Turn} {number read : ℕ} → turn ≡ On number read
       → TookText next between taken
-      → TurnRead known size arena opponent side spot old new more next (Ok turn)
+      → TurnRead known size arena opponent side cursor old new more next (Ok turn)
       → SoFar known size arena opponent side start code
-      (record { number = number; code = read; played = spot.played + 1 }) new source left out taken
+      (record { number = number; code = read; played = cursor.played + 1 }) new source left out taken
       before after
   next_far {turn} {number} {read} on wrote goes =
-      let there : Spot = record { number = number; code = read; played = spot.played + 1 } in
+      let there : Cursor = record { number = number; code = read; played = cursor.played + 1 } in
       record {
         text = far.text ++ next;
         bytes = far.bytes ++ more;
         lines = lines_behind far.text next far.lines lines;
         wrote = took_behind far.text next (far.text ++ next) out between taken far.wrote refl wrote;
         took = took_on far.bytes more source mid left far.took took;
-        numbers = far.numbers ++ spot.number ∷ [];
-        spent = spends_on arena far.numbers (spot.number ∷ []) before now after far.spent few;
-        read = and_now far.read spot.played goes.0;
-        may = now_may known size far.read spot.played goes.0 far.may goes.1;
+        numbers = far.numbers ++ cursor.number ∷ [];
+        spent = spends_on arena far.numbers (cursor.number ∷ []) before now after far.spent few;
+        read = and_now far.read cursor.played goes.0;
+        may = now_may known size far.read cursor.played goes.0 far.may goes.1;
         comes = λ kept same.
-            after_ply arena opponent side kept start code spot there old new far.numbers far.bytes
+            after_ply arena opponent side kept start code cursor there old new far.numbers far.bytes
             more far.text next refl stays (far.comes kept (λ k l. same k (omega (arith, l))
-            ∙ before_is far.read spot.played goes.0 k l))
-            (subst (λ (t : Turn). GoesBy arena opponent side kept spot old new more next (Ok t)) on
-            (goes.2 kept (same spot.played (omega arith)
-            ∙ now_is far.read spot.played goes.0)));
+            ∙ before_is far.read cursor.played goes.0 k l))
+            (subst (λ (t : Turn). GoesBy arena opponent side kept cursor old new more next (Ok t)) on
+            (goes.2 kept (same cursor.played (omega arith)
+            ∙ now_is far.read cursor.played goes.0)));
       }
 
   last_far : (answer : Result WayEnd PlayFault) → (new.ended ≡ true → HasEnded left)
       → WroteBy (turn_over answer) next between taken
-      → TurnRead known size arena opponent side spot old new more next (turn_over answer)
+      → TurnRead known size arena opponent side cursor old new more next (turn_over answer)
       → WayWrote known size arena opponent side start code answer source left out taken before after
   last_far answer has wrote goes =
       let all = took_on far.bytes more source mid left far.took took in (
@@ -282,32 +282,32 @@ module _ {known : Option (List ℕ)} {size : ℕ} {arena : Arena Step ℕ Value}
             (over_wrote answer next between taken wrote),
         all,
         (
-          and_now far.read spot.played goes.0,
-          now_may known size far.read spot.played goes.0 far.may goes.1,
+          and_now far.read cursor.played goes.0,
+          now_may known size far.read cursor.played goes.0 far.may goes.1,
           λ kept same.
-              played_out arena opponent side kept start code spot old new far.numbers far.bytes
+              played_out arena opponent side kept start code cursor old new far.numbers far.bytes
               more far.text next answer before now after source left far.spent few stays all has
-              (far.comes kept (λ k l. same k ∙ before_is far.read spot.played goes.0 k l))
-              (goes.2 kept (same spot.played ∙ now_is far.read spot.played goes.0)),
+              (far.comes kept (λ k l. same k ∙ before_is far.read cursor.played goes.0 k l))
+              (goes.2 kept (same cursor.played ∙ now_is far.read cursor.played goes.0)),
         ),
       )
 
   -- the way's end
   pub over_far : {turn : Turn} {end : WayEnd} → turn ≡ Over end
       → (new.ended ≡ true → HasEnded left) → TookText next between taken
-      → TurnRead known size arena opponent side spot old new more next (Ok turn)
+      → TurnRead known size arena opponent side cursor old new more next (Ok turn)
       → WayWrote known size arena opponent side start code (Ok end) source left out taken before
       after
   over_far {turn} {end} over has wrote goes =
       last_far (Ok end) has wrote
-      (subst (λ (t : Turn). TurnRead known size arena opponent side spot old new more next (Ok t))
+      (subst (λ (t : Turn). TurnRead known size arena opponent side cursor old new more next (Ok t))
       over goes)
 
   -- a fault on its way
   pub fault_far : (fault : PlayFault) (result : Result WayEnd PlayFault)
       → IsErrAnd result (λ e. e ≡ fault) → (new.ended ≡ true → HasEnded left)
       → WroteBy {T = Turn} (Err fault) next between taken
-      → TurnRead known size arena opponent side spot old new more next (Err fault)
+      → TurnRead known size arena opponent side cursor old new more next (Err fault)
       → WayWrote known size arena opponent side start code result source left out taken before after
   fault_far fault result is has wrote goes =
       fault_wrote known size arena opponent side start code source left out taken before after fault

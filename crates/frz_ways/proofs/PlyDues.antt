@@ -15,7 +15,7 @@ use Rattle.frz_graph.specs.Finite.{IsFinite}
 use Rattle.frz_graph.specs.FreeCodes.{free_among}
 use Rattle.frz_ways.specs.declared.due.Due.{Due}
 use Rattle.frz_ways.specs.declared.due.Due.TheVariants as dues
-use Rattle.frz_ways.specs.declared.playing.Spot.{Spot}
+use Rattle.frz_ways.specs.declared.playing.Cursor.{Cursor}
 use Rattle.frz_ways.specs.Dues.{due_by, due_on}
 use Rattle.frz_ways.specs.Turns.{HasMove}
 use Rattle.frz_ways.proofs.Seen.{move_there}
@@ -70,7 +70,7 @@ second : (a b : Bool) → a ≡ true → (a && b) ≡ false → b ≡ false
 second true b t f = f
 second false b t f = absurd (cc)
 
--- a spot where a ply is due has no failing code
+-- a cursor where a ply is due has no failing code
 pub never_failing : (k kept : ℕ) → (k ≡ 0) ⊎ (is_failure kept ≡ false)
     → ((k == 0) && is_failure kept) ≡ false → is_failure kept ≡ false
 never_failing k kept (inl e) f = second (k == 0) (is_failure kept) (eq-eqb k 0 e) f
@@ -81,23 +81,23 @@ still_early kept k most f e = grind (arith, nat_tests)
 
 -- where a ply is due the code asks for a move
 pub has_move : {arena : Arena Step ℕ Value} {size : ℕ} → IsFinite arena size
-    → (side : Colour) (spot : Spot) {arms : List (Arm Step ℕ Value)} (cs : List ℕ)
-    → arms ≡ arena.arms spot.number → length cs ≡ length arms → (spot.played ≡ 0)
-    ⊎ (is_failure spot.code ≡ false) → (is_late : Bool) (due : Due)
-    → due ≡ due_by (spot.played == 0) is_late spot.code
-    (node_code side (arena.node spot.number) (free_among arms cs) cs) (arena.node spot.number)
-    → HasMove side spot due arms cs
-has_move finite side spot cs are many stands is_late (dues.Wrong given) e = tt
-has_move finite side spot cs are many stands is_late dues.NoBound e = tt
-has_move finite side spot cs are many stands is_late (dues.Mate m) e = tt
-has_move finite side spot cs are many stands is_late (dues.Stalemate m) e = tt
-has_move finite side spot cs are many stands is_late dues.Cut e = tt
-has_move {arena} finite side spot {arms} cs are many stands is_late (dues.Ply m) e =
-    let d = ply_due (spot.played == 0) is_late spot.code
-    (node_code side (arena.node spot.number) (free_among arms cs) cs) (arena.node spot.number) m
+    → (side : Colour) (cursor : Cursor) {arms : List (Arm Step ℕ Value)} (cs : List ℕ)
+    → arms ≡ arena.arms cursor.number → length cs ≡ length arms → (cursor.played ≡ 0)
+    ⊎ (is_failure cursor.code ≡ false) → (is_late : Bool) (due : Due)
+    → due ≡ due_by (cursor.played == 0) is_late cursor.code
+    (node_code side (arena.node cursor.number) (free_among arms cs) cs) (arena.node cursor.number)
+    → HasMove side cursor due arms cs
+has_move finite side cursor cs are many stands is_late (dues.Wrong given) e = tt
+has_move finite side cursor cs are many stands is_late dues.NoBound e = tt
+has_move finite side cursor cs are many stands is_late (dues.Mate m) e = tt
+has_move finite side cursor cs are many stands is_late (dues.Stalemate m) e = tt
+has_move finite side cursor cs are many stands is_late dues.Cut e = tt
+has_move {arena} finite side cursor {arms} cs are many stands is_late (dues.Ply m) e =
+    let d = ply_due (cursor.played == 0) is_late cursor.code
+    (node_code side (arena.node cursor.number) (free_among arms cs) cs) (arena.node cursor.number) m
     (sym e) in
-    let some : arms ≢ [] = λ none. finite.lawful.goes_on spot.number m d.goes (sym are ∙ none) in
-    let agrees = subst (λ (z : Node). spot.code ≡ node_code side z (free_among arms cs) cs) d.goes
+    let some : arms ≢ [] = λ none. finite.lawful.goes_on cursor.number m d.goes (sym are ∙ none) in
+    let agrees = subst (λ (z : Node). cursor.code ≡ node_code side z (free_among arms cs) cs) d.goes
     d.agrees in
-    move_there side m spot.code arms cs many some agrees
-    (never_failing spot.played spot.code stands d.starts)
+    move_there side m cursor.code arms cs many some agrees
+    (never_failing cursor.played cursor.code stands d.starts)

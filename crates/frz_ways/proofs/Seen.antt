@@ -25,7 +25,7 @@ use Rattle.frz_arena.specs.Ways.{Player, Ply, Moves, Opponent, ByCodes, IsTaken,
 use Rattle.frz_arena.proofs.Lemmas.{choice_is_arm, from_mapped, reaches_start, chosen_here, ply_here, found_at}
 use Rattle.frz_graph.specs.FreeCodes.{free_among}
 use Rattle.frz_ways.specs.declared.end.TheConstants.{MOST_PLIES}
-use Rattle.frz_ways.specs.Sights.{choices_by, IsNextCode}
+use Rattle.frz_ways.specs.SeenMoves.{choices_by, IsNextCode}
 
 -- each move leads to the code that was read for it
 abbrev pub seen_arms : List (Arm Step ℕ Value) → List ℕ → List (Arm Step (Option ℕ) Value)

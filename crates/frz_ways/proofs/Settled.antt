@@ -22,7 +22,7 @@ use Rattle.frz_ways.specs.declared.hearing.Heard.{Heard}
 use Rattle.frz_ways.specs.declared.hearing.Heard.TheVariants as heard
 use Rattle.frz_ways.specs.declared.hearing.Reader.{Reader}
 use Rattle.frz_ways.specs.declared.hearing.Why.TheVariants.{Ended, Limit}
-use Rattle.frz_ways.specs.declared.playing.Spot.{Spot}
+use Rattle.frz_ways.specs.declared.playing.Cursor.{Cursor}
 use Rattle.frz_ways.specs.declared.playing.Turn.{Turn}
 use Rattle.frz_ways.specs.SessionFaults.{StoreCause}
 use Rattle.frz_ways.specs.Hearing.{HasEnded, MayFail, Hears}
@@ -76,7 +76,7 @@ store_kind opponent (Ok turn) fault h = absurd h
 store_kind opponent (Err e) fault h =
     subst (λ (f : PlayFault). IsFaultOf f opponent) (sym h) tt
 
-module _ (opponent : Opponent) (side : Colour) (spot : Spot) (arms : List (Arm Step ℕ Value))
+module _ (opponent : Opponent) (side : Colour) (cursor : Cursor) (arms : List (Arm Step ℕ Value))
     (cs : List ℕ) (old new : Reader) (result : Result Turn PlayFault)
     (source left : SourceTold) where
   heard_settled : (heard_is : Result Heard PlayFault) (out between taken : SinkTold)
@@ -92,13 +92,13 @@ module _ (opponent : Opponent) (side : Colour) (spot : Spot) (arms : List (Arm S
       settled_by (Err fault) result h.0 (fails_settled fault (hears.fails fault refl))
 
   ply_settled : (found own : Bool) (out taken : SinkTold)
-      → PlaysPly found opponent own spot arms cs old new result source left out taken
+      → PlaysPly found opponent own cursor arms cs old new result source left out taken
       → IsSettled result
   ply_settled true own out taken h = answers_settled _ _ result out taken h.1.3.2
   ply_settled false own out taken h = heard_settled h.heard out h.between taken h.hears h.after
 
   pub played_settled : (due : Due) (out taken : SinkTold)
-      → IsPlayed opponent side spot due arms cs old new result source left out taken → IsSettled
+      → IsPlayed opponent side cursor due arms cs old new result source left out taken → IsSettled
       result
   played_settled (dues.Wrong given) out taken h = settled_by _ result h.1.0 tt
   played_settled dues.NoBound out taken h = settled_by _ result h.1.0 tt
@@ -146,7 +146,7 @@ module _ (opponent : Opponent) (side : Colour) (spot : Spot) (arms : List (Arm S
 
   ply_kind : (found own : Bool) → (found ≡ false → opponent ≡ opponents.Input)
       → (out taken : SinkTold)
-      → PlaysPly found opponent own spot arms cs old new result source left out taken
+      → PlaysPly found opponent own cursor arms cs old new result source left out taken
       → IsTurnOf result opponent
   ply_kind true own by out taken h = moved_kind h.1.0 (own_word opponent) out taken h.1.3
   ply_kind false own by out taken h =
@@ -154,7 +154,7 @@ module _ (opponent : Opponent) (side : Colour) (spot : Spot) (arms : List (Arm S
 
   pub played_kind : (due : Due) → (due ≡ dues.Cut → opponent ≡ opponents.Codes)
       → (out taken : SinkTold)
-      → IsPlayed opponent side spot due arms cs old new result source left out taken
+      → IsPlayed opponent side cursor due arms cs old new result source left out taken
       → IsTurnOf result opponent
   played_kind (dues.Wrong given) cut out taken h = fault_kind _ tt h.1.0
   played_kind dues.NoBound cut out taken h = fault_kind _ tt h.1.0
@@ -171,14 +171,14 @@ module _ (opponent : Opponent) (side : Colour) (spot : Spot) (arms : List (Arm S
       subst HasEnded (sym unread.1) (has (sym (ap (λ (r : Reader). r.ended) unread.0) ∙ e))
 
   ply_ended : (found own : Bool) (out taken : SinkTold)
-      → PlaysPly found opponent own spot arms cs old new result source left out taken
+      → PlaysPly found opponent own cursor arms cs old new result source left out taken
       → (old.ended ≡ true → HasEnded source) → new.ended ≡ true → HasEnded left
   ply_ended true own out taken h has = still_unread h.0 has
   ply_ended false own out taken h has = h.hears.ended
 
   -- behind the end of the input nothing is left
   pub still_ended : (due : Due) (out taken : SinkTold)
-      → IsPlayed opponent side spot due arms cs old new result source left out taken
+      → IsPlayed opponent side cursor due arms cs old new result source left out taken
       → (old.ended ≡ true → HasEnded source) → new.ended ≡ true → HasEnded left
   still_ended (dues.Wrong given) out taken h has = still_unread h.0 has
   still_ended dues.NoBound out taken h has = still_unread h.0 has

@@ -23,7 +23,7 @@ use Rattle.frz_graph.proofs.Lemmas.{same_next}
 use Rattle.frz_ways.specs.declared.due.Due.{Due}
 use Rattle.frz_ways.specs.declared.due.Due.TheVariants as dues
 use Rattle.frz_ways.specs.Dues.{due_by, due_on}
-use Rattle.frz_ways.specs.Sights.{choices_by}
+use Rattle.frz_ways.specs.SeenMoves.{choices_by}
 
 -- the stage that what is due stands for
 abbrev pub stage_told : {N R : Type 0} → (number : N) → (kept : ℕ) → Due → Stage N Value R

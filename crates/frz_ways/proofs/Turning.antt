@@ -1,4 +1,4 @@
--- What is due at a spot of a way, and where a turn leads.
+-- What is due at a cursor of a way, and where a turn leads.
 use Rattle.std.proofs.Common.{◌≡◌, ◌<◌, ◌≤◌, ◌==◌, ◌&&◌, ℕ, ◌⊎◌, inl, inr, Bool, true, false, List, Some, length, refl, sym, subst, ap, ◌∙◌, arith, get_or, if◌then◌else◌, Result, Ok, Err, IfOk}
 use Rattle.std.specs.Prelude.{slice_get}
 use Rattle.std.specs.List.{Contains}
@@ -30,7 +30,7 @@ use Rattle.frz_graph.specs.FreeCodes.{free_among}
 use Rattle.frz_ways.specs.declared.due.Due.{Due}
 use Rattle.frz_ways.specs.declared.due.Due.TheVariants as dues
 use Rattle.frz_ways.specs.Dues.{due_by, due_on}
-use Rattle.frz_ways.specs.Sights.{choices_by, IsNextCode}
+use Rattle.frz_ways.specs.SeenMoves.{choices_by, IsNextCode}
 use Rattle.frz_ways.proofs.Choices.{found_code}
 use Rattle.frz_ways.proofs.Chosen.{at_in}
 use Rattle.frz_ways.proofs.PlyDues.{PlyDue, ply_due, never_failing, still_early}
@@ -44,7 +44,7 @@ use Rattle.frz_ways.specs.declared.hearing.Heard.{Heard}
 use Rattle.frz_ways.specs.declared.hearing.Heard.TheVariants as heard
 use Rattle.frz_ways.specs.declared.hearing.Reader.{Reader}
 use Rattle.frz_ways.specs.declared.hearing.Why.TheVariants.{Ended, Limit}
-use Rattle.frz_ways.specs.declared.playing.Spot.{Spot}
+use Rattle.frz_ways.specs.declared.playing.Cursor.{Cursor}
 use Rattle.frz_ways.specs.declared.playing.Turn.{Turn}
 use Rattle.frz_ways.specs.declared.playing.Turn.TheVariants.{Over}
 use Rattle.frz_ways.specs.Hearing.{Hears}
@@ -64,17 +64,17 @@ on_cut code (nodes.Going m) h =
     (λ b. (if b then dues.Cut else dues.Ply m) ≡ dues.Cut) (and_right (code == 1) false refl) h in
     absurd (cc)
 
--- what is due at a spot, where it is told whether its way is late
-pub by_late : (arena : Arena Step ℕ Value) (opponent : Opponent) (side : Colour) (spot : Spot)
+-- what is due at a cursor, where it is told whether its way is late
+pub by_late : (arena : Arena Step ℕ Value) (opponent : Opponent) (side : Colour) (cursor : Cursor)
     (arms : List (Arm Step ℕ Value)) (cs : List ℕ) (late : Bool) (due : Due)
-    → late ≡ late_by opponent spot.played
-    → due ≡ due_by (spot.played == 0) late spot.code
-    (node_code side (arena.node spot.number) (free_among arms cs) cs) (arena.node spot.number)
-    → due ≡ due_by (spot.played == 0) (late_by opponent spot.played) spot.code
-    (node_code side (arena.node spot.number) (free_among arms cs) cs) (arena.node spot.number)
-by_late arena opponent side spot arms cs late due same e =
-    e ∙ ap (λ (z : Bool). due_by (spot.played == 0) z spot.code
-    (node_code side (arena.node spot.number) (free_among arms cs) cs) (arena.node spot.number)) same
+    → late ≡ late_by opponent cursor.played
+    → due ≡ due_by (cursor.played == 0) late cursor.code
+    (node_code side (arena.node cursor.number) (free_among arms cs) cs) (arena.node cursor.number)
+    → due ≡ due_by (cursor.played == 0) (late_by opponent cursor.played) cursor.code
+    (node_code side (arena.node cursor.number) (free_among arms cs) cs) (arena.node cursor.number)
+by_late arena opponent side cursor arms cs late due same e =
+    e ∙ ap (λ (z : Bool). due_by (cursor.played == 0) z cursor.code
+    (node_code side (arena.node cursor.number) (free_among arms cs) cs) (arena.node cursor.number)) same
 
 -- no session is cut
 never_cut : (is_start : Bool) (code given : ℕ) (node : Node) (due : Due)
@@ -111,32 +111,32 @@ cut_line opponents.Input is_start played code given node due e cut =
 
 module _ {arena : Arena Step ℕ Value} {size : ℕ} (finite : IsFinite arena size)
     (opponent : Opponent) (side : Colour)
-    (spot : Spot) {arms : List (Arm Step ℕ Value)} (cs : List ℕ)
-    (are : arms ≡ arena.arms spot.number) (many : length cs ≡ length arms)
-    (stands : (spot.played ≡ 0) ⊎ (is_failure spot.code ≡ false)) where
+    (cursor : Cursor) {arms : List (Arm Step ℕ Value)} (cs : List ℕ)
+    (are : arms ≡ arena.arms cursor.number) (many : length cs ≡ length arms)
+    (stands : (cursor.played ≡ 0) ⊎ (is_failure cursor.code ≡ false)) where
   abbrev IsDue : Due → Type 0
   IsDue due =
-      due ≡ due_by (spot.played == 0) (late_by opponent spot.played) spot.code
-      (node_code side (arena.node spot.number) (free_among arms cs) cs) (arena.node spot.number)
+      due ≡ due_by (cursor.played == 0) (late_by opponent cursor.played) cursor.code
+      (node_code side (arena.node cursor.number) (free_among arms cs) cs) (arena.node cursor.number)
 
   facts : (m : Colour) → IsDue (dues.Ply m)
-      → PlyDue (spot.played == 0) (late_by opponent spot.played) spot.code
-      (node_code side (arena.node spot.number) (free_among arms cs) cs) (arena.node spot.number) m
-  facts m e = ply_due (spot.played == 0) (late_by opponent spot.played) spot.code
-      (node_code side (arena.node spot.number) (free_among arms cs) cs) (arena.node spot.number) m
+      → PlyDue (cursor.played == 0) (late_by opponent cursor.played) cursor.code
+      (node_code side (arena.node cursor.number) (free_among arms cs) cs) (arena.node cursor.number) m
+  facts m e = ply_due (cursor.played == 0) (late_by opponent cursor.played) cursor.code
+      (node_code side (arena.node cursor.number) (free_among arms cs) cs) (arena.node cursor.number) m
       (sym e)
 
   agreed : (m : Colour) → IsDue (dues.Ply m)
-      → spot.code ≡ node_code side (nodes.Going m) (free_among arms cs) cs
-  agreed m e = subst (λ (z : Node). spot.code ≡ node_code side z (free_among arms cs) cs)
+      → cursor.code ≡ node_code side (nodes.Going m) (free_among arms cs) cs
+  agreed m e = subst (λ (z : Node). cursor.code ≡ node_code side z (free_among arms cs) cs)
       (facts m e).goes (facts m e).agrees
 
   inside_size : (place : ℕ) (a : Arm Step ℕ Value) → slice_get arms place ≡ Some a → (n : ℕ)
       → a.next ≡ Inside n → n < size
   inside_size place a there n leads =
-      let among : IsArm arena spot.number a = subst (λ (z : List (Arm Step ℕ Value)). Contains z a)
+      let among : IsArm arena cursor.number a = subst (λ (z : List (Arm Step ℕ Value)). Contains z a)
       are (at_in arms place a there) in
-      (finite.inside spot.number n a among leads).0
+      (finite.inside cursor.number n a among leads).0
 
   no_failure : (code next : ℕ) → IsNextCode code next → is_failure next ≡ false
   no_failure code next (inl h) =
@@ -146,15 +146,15 @@ module _ {arena : Arena Step ℕ Value} {size : ℕ} (finite : IsFinite arena si
 
   -- the code behind a ply that the codes find
   next_code : (m : Colour) → IsDue (dues.Ply m) → (place : ℕ) (x : Choice)
-      → IsFound has_code (is_win spot.code) spot.code (choices_by (same_colour m side) arms cs)
-      place x → IsNextCode spot.code (get_or cs place 0)
+      → IsFound has_code (is_win cursor.code) cursor.code (choices_by (same_colour m side) arms cs)
+      place x → IsNextCode cursor.code (get_or cs place 0)
   next_code m e place x found =
       let d = facts m e in
-      let next = next_code_is side m spot.code arms cs many (agreed m e)
-      (never_failing spot.played spot.code stands d.starts) place x found in
-      let code = (found_code (same_colour m side) arms cs (is_win spot.code) spot.code place x many
+      let next = next_code_is side m cursor.code arms cs many (agreed m e)
+      (never_failing cursor.played cursor.code stands d.starts) place x found in
+      let code = (found_code (same_colour m side) arms cs (is_win cursor.code) cursor.code place x many
       found).1 in
-      subst (λ c. IsNextCode spot.code c) code next
+      subst (λ c. IsNextCode cursor.code c) code next
 
   -- the code behind any reply is no failure
   reply_code_stands : (m : Colour) → IsDue (dues.Ply m)
@@ -168,7 +168,7 @@ module _ {arena : Arena Step ℕ Value} {size : ℕ} (finite : IsFinite arena si
       let other : node_code side (nodes.Going m) (free_among arms cs) cs ≡ other_code cs =
       rw own refl in
       let whole : is_failure (other_code cs) ≡ false = subst (λ c. is_failure c ≡ false)
-      (agreed m e ∙ other) (never_failing spot.played spot.code stands d.starts) in
+      (agreed m e ∙ other) (never_failing cursor.played cursor.code stands d.starts) in
       other_stands cs place whole (omega (arith, within, many))
 
   same_other : (m : Colour) → same_colour m side ≡ true → same_colour (other_of m) side ≡ false
@@ -195,46 +195,46 @@ module _ {arena : Arena Step ℕ Value} {size : ℕ} (finite : IsFinite arena si
   left_own : Alternates arena → (m : Colour) → IsDue (dues.Ply m) → same_colour m side ≡ true
       → (more place : ℕ) (a : Arm Step ℕ Value) → slice_get arms place ≡ Some a → (n : ℕ)
       → a.next ≡ Inside n → session_left arena side more n < session_left arena side more
-      spot.number
+      cursor.number
   left_own alternates m e own more place a there n leads =
       let d = facts m e in
-      let among : Contains (arena.arms spot.number) a = subst
+      let among : Contains (arena.arms cursor.number) a = subst
       (λ (z : List (Arm Step ℕ Value)). Contains z a) are (at_in arms place a there) in
-      let here = own_one m (arena.node spot.number) d.goes own in
+      let here = own_one m (arena.node cursor.number) d.goes own in
       let next = own_none (arena.node n)
       (λ c g. subst (λ z. same_colour z side ≡ false)
-      (sym (alternates.turns spot.number a m c n among leads d.goes g)) (same_other m own)) in
+      (sym (alternates.turns cursor.number a m c n among leads d.goes g)) (same_other m own)) in
       omega (arith, here, next)
 
   left_reply : (more now : ℕ) → now < more → (n : ℕ)
-      → session_left arena side now n < session_left arena side more spot.number
+      → session_left arena side now n < session_left arena side more cursor.number
   left_reply more now l n = (let h = own_most side (arena.node n) in omega (arith, l, h))
 
   -- a ply that the codes find leaves less to do
   less_by_codes : Alternates arena → (o : Opponent) → o ≡ opponent → (m : Colour)
       → IsDue (dues.Ply m) → by_codes o (same_colour m side) ≡ true → (old new : Reader)
       → new.more ≡ old.more → (place : ℕ) (a : Arm Step ℕ Value) → slice_get arms place ≡ Some a
-      → IsNextCode spot.code (get_or cs place 0) → (n : ℕ) → a.next ≡ Inside n
-      → LeavesLess o arena side spot old new n (get_or cs place 0)
+      → IsNextCode cursor.code (get_or cs place 0) → (n : ℕ) → a.next ≡ Inside n
+      → LeavesLess o arena side cursor old new n (get_or cs place 0)
   less_by_codes alternates opponents.Codes is m e own old new same place a there next n leads =
-      let early = subst (λ (z : Opponent). ((spot.code == 1) && late_by z spot.played) ≡ false)
+      let early = subst (λ (z : Opponent). ((cursor.code == 1) && late_by z cursor.played) ≡ false)
       (sym is) (facts m e).early in
-      (next, still_early spot.code spot.played MOST_PLIES early)
+      (next, still_early cursor.code cursor.played MOST_PLIES early)
   less_by_codes alternates opponents.Input is m e own old new same place a there next n leads =
-      subst (λ k. session_left arena side k n < session_left arena side old.more spot.number)
+      subst (λ k. session_left arena side k n < session_left arena side old.more cursor.number)
       (sym same) (left_own alternates m e own old.more place a there n leads)
 
   -- a reply leaves less to do
   less_by_reply : (o : Opponent) (own : Bool) → by_codes o own ≡ false → (old new : Reader)
-      → new.more < old.more → (n code : ℕ) → LeavesLess o arena side spot old new n code
+      → new.more < old.more → (n code : ℕ) → LeavesLess o arena side cursor old new n code
   less_by_reply opponents.Codes own found old new less n code = absurd (cc)
   less_by_reply opponents.Input own found old new less n code =
       left_reply old.more new.more less n
 
   to_next : (old new : Reader) (next : Next ℕ Value) (code : ℕ)
       → ((n : ℕ) → next ≡ Inside n → (n < size) × (is_failure code ≡ false)
-      × LeavesLess opponent arena side spot old new n code)
-      → TurnsTo arena size opponent side spot old new (turn_of next code)
+      × LeavesLess opponent arena side cursor old new n code)
+      → TurnsTo arena size opponent side cursor old new (turn_of next code)
   to_next old new (Inside n) code h = h n refl
   to_next old new (Outside v) code h = tt
 
@@ -253,9 +253,9 @@ module _ {arena : Arena Step ℕ Value} {size : ℕ} (finite : IsFinite arena si
       → (old new : Reader) (heard_is : Result Heard PlayFault) (source left : SourceTold)
       (out between taken : SinkTold) → Hears arms old new heard_is source left out between
       → (result : Result Turn PlayFault) → AfterHeard arms cs heard_is result between taken
-      → IfOk result (TurnsTo arena size opponent side spot old new)
+      → IfOk result (TurnsTo arena size opponent side cursor old new)
   after_next m e own old new (Ok (heard.Reply place)) source left out between taken hears result h =
-      if_answers (TurnsTo arena size opponent side spot old new) (turn_of h.0.next (get_or cs place
+      if_answers (TurnsTo arena size opponent side cursor old new) (turn_of h.0.next (get_or cs place
       0)) _ result between taken (to_next old new h.0.next (get_or cs place 0)
       (λ n leads. (
         inside_size place h.0 h.1 n leads,
@@ -263,19 +263,19 @@ module _ {arena : Arena Step ℕ Value} {size : ℕ} (finite : IsFinite arena si
         less_by_reply opponent (same_colour m side) own old new hears.fewer n (get_or cs place 0),
       ))) h.2
   after_next m e own old new (Ok (heard.Stop Ended)) source left out between taken hears result h =
-      if_answers (TurnsTo arena size opponent side spot old new) (Over ends.InputEnded) _ result
+      if_answers (TurnsTo arena size opponent side cursor old new) (Over ends.InputEnded) _ result
       between taken tt h
   after_next m e own old new (Ok (heard.Stop (Limit limit))) source left out between taken hears
       result h =
-      if_failed (TurnsTo arena size opponent side spot old new) _ result h.0
+      if_failed (TurnsTo arena size opponent side cursor old new) _ result h.0
   after_next m e own old new (Err fault) source left out between taken hears result h =
-      if_failed (TurnsTo arena size opponent side spot old new) fault result h.0
+      if_failed (TurnsTo arena size opponent side cursor old new) fault result h.0
 
   ply_next : Alternates arena → (m : Colour) → IsDue (dues.Ply m) → (found : Bool)
       → by_codes opponent (same_colour m side) ≡ found → (old new : Reader)
       (result : Result Turn PlayFault) (source left : SourceTold) (out taken : SinkTold)
-      → PlaysPly found opponent (same_colour m side) spot arms cs old new result source left out
-      taken → IfOk result (TurnsTo arena size opponent side spot old new)
+      → PlaysPly found opponent (same_colour m side) cursor arms cs old new result source left out
+      taken → IfOk result (TurnsTo arena size opponent side cursor old new)
   ply_next alternates m e true own old new result source left out taken h =
       let plays = h.1 in
       let place = plays.0 in
@@ -283,11 +283,11 @@ module _ {arena : Arena Step ℕ Value} {size : ℕ} (finite : IsFinite arena si
       let there = plays.3.1 in
       let same : new.more ≡ old.more = ap (λ (r : Reader). r.more) h.0.0 in
       let next = next_code m e place plays.1 plays.2 in
-      if_answers (TurnsTo arena size opponent side spot old new)
+      if_answers (TurnsTo arena size opponent side cursor old new)
       (turn_of a.next (get_or cs place 0)) _ result out taken
       (to_next old new a.next (get_or cs place 0) (λ n leads. (
         inside_size place a there n leads,
-        no_failure spot.code (get_or cs place 0) next,
+        no_failure cursor.code (get_or cs place 0) next,
         less_by_codes alternates opponent refl m e own old new same place a there next n leads,
       ))) plays.3.2
   ply_next alternates m e false own old new result source left out taken h =
@@ -296,28 +296,28 @@ module _ {arena : Arena Step ℕ Value} {size : ℕ} (finite : IsFinite arena si
   -- what is cut here is a line
   pub cut_is_line : (due : Due) → IsDue due → due ≡ dues.Cut → opponent ≡ opponents.Codes
   cut_is_line due e cut =
-      cut_line opponent (spot.played == 0) spot.played spot.code
-      (node_code side (arena.node spot.number) (free_among arms cs) cs) (arena.node spot.number) due
+      cut_line opponent (cursor.played == 0) cursor.played cursor.code
+      (node_code side (arena.node cursor.number) (free_among arms cs) cs) (arena.node cursor.number) due
       e cut
 
   -- where a turn leads
   pub turn_next : Alternates arena → (due : Due) → IsDue due
       → (old new : Reader) (result : Result Turn PlayFault) (source left : SourceTold)
-      (out taken : SinkTold) → IsPlayed opponent side spot due arms cs old new result source left
+      (out taken : SinkTold) → IsPlayed opponent side cursor due arms cs old new result source left
       out taken
-      → IfOk result (TurnsTo arena size opponent side spot old new)
+      → IfOk result (TurnsTo arena size opponent side cursor old new)
   turn_next alternates (dues.Wrong given) e old new result source left out taken h =
-      if_failed (TurnsTo arena size opponent side spot old new) _ result h.1.0
+      if_failed (TurnsTo arena size opponent side cursor old new) _ result h.1.0
   turn_next alternates dues.NoBound e old new result source left out taken h =
-      if_failed (TurnsTo arena size opponent side spot old new) _ result h.1.0
+      if_failed (TurnsTo arena size opponent side cursor old new) _ result h.1.0
   turn_next alternates (dues.Mate m) e old new result source left out taken h =
-      if_answers (TurnsTo arena size opponent side spot old new) (Over ends.Mate) _ result out taken
+      if_answers (TurnsTo arena size opponent side cursor old new) (Over ends.Mate) _ result out taken
       tt h.1
   turn_next alternates (dues.Stalemate m) e old new result source left out taken h =
-      if_answers (TurnsTo arena size opponent side spot old new) (Over ends.Stalemate) _ result out
+      if_answers (TurnsTo arena size opponent side cursor old new) (Over ends.Stalemate) _ result out
       taken tt h.1
   turn_next alternates dues.Cut e old new result source left out taken h =
-      if_answers (TurnsTo arena size opponent side spot old new) (Over ends.Cut) _ result out taken
+      if_answers (TurnsTo arena size opponent side cursor old new) (Over ends.Cut) _ result out taken
       tt h.1
   turn_next alternates (dues.Ply m) e old new result source left out taken h =
       ply_next alternates m e (by_codes opponent (same_colour m side)) refl old new result source

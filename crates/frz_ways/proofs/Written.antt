@@ -38,7 +38,7 @@ use Rattle.frz_ways.specs.declared.hearing.Heard.{Heard}
 use Rattle.frz_ways.specs.declared.hearing.Heard.TheVariants as heard
 use Rattle.frz_ways.specs.declared.hearing.Reader.{Reader}
 use Rattle.frz_ways.specs.declared.hearing.Why.TheVariants.{Ended, Limit}
-use Rattle.frz_ways.specs.declared.playing.Spot.{Spot}
+use Rattle.frz_ways.specs.declared.playing.Cursor.{Cursor}
 use Rattle.frz_ways.specs.declared.playing.Turn.{Turn}
 use Rattle.frz_ways.specs.declared.playing.Turn.TheVariants.{Over}
 use Rattle.frz_ways.specs.declared.opponent.Opponent.{Opponent}
@@ -67,17 +67,17 @@ lines_if : (b : Bool) (text : List ℕ) → IsLines text → IsLines (if b then 
 lines_if true text l = l
 lines_if false text l = inl refl
 
-opening_lines : (side : Colour) (spot : Spot) (due : Due) → IsLines (opening side spot due)
-opening_lines side spot (dues.Wrong given) = inl refl
-opening_lines side spot dues.NoBound = inl refl
-opening_lines side spot (dues.Mate m) =
-    lines_if (spot.played == 0) (kept_line side spot.code) (kept_lines side spot.code)
-opening_lines side spot (dues.Stalemate m) =
-    lines_if (spot.played == 0) (kept_line side spot.code) (kept_lines side spot.code)
-opening_lines side spot dues.Cut =
-    lines_if (spot.played == 0) (kept_line side spot.code) (kept_lines side spot.code)
-opening_lines side spot (dues.Ply m) =
-    lines_if (spot.played == 0) (kept_line side spot.code) (kept_lines side spot.code)
+opening_lines : (side : Colour) (cursor : Cursor) (due : Due) → IsLines (opening side cursor due)
+opening_lines side cursor (dues.Wrong given) = inl refl
+opening_lines side cursor dues.NoBound = inl refl
+opening_lines side cursor (dues.Mate m) =
+    lines_if (cursor.played == 0) (kept_line side cursor.code) (kept_lines side cursor.code)
+opening_lines side cursor (dues.Stalemate m) =
+    lines_if (cursor.played == 0) (kept_line side cursor.code) (kept_lines side cursor.code)
+opening_lines side cursor dues.Cut =
+    lines_if (cursor.played == 0) (kept_line side cursor.code) (kept_lines side cursor.code)
+opening_lines side cursor (dues.Ply m) =
+    lines_if (cursor.played == 0) (kept_line side cursor.code) (kept_lines side cursor.code)
 
 -- a text behind one that was taken
 pub wrote_after : {T : Type 0} (text more : List ℕ) (result : Result T PlayFault)
@@ -122,19 +122,19 @@ by_answers turn text result old new (inr a) =
     subst (λ (z : Result Turn PlayFault). WroteBy z text old new) (sym a.0) a.1
 
 -- what a turn wrote and took
-abbrev pub TurnWrote : ((ℕ → List ℕ) → Type 0) → Arena Step ℕ Value → Opponent → Colour → Spot
+abbrev pub TurnWrote : ((ℕ → List ℕ) → Type 0) → Arena Step ℕ Value → Opponent → Colour → Cursor
     → (old new : Reader)
     → Result Turn PlayFault → (source left : SourceTold) → (out taken : SinkTold) → Type 0
-TurnWrote is arena opponent side spot old new result source left out taken =
+TurnWrote is arena opponent side cursor old new result source left out taken =
     (text bytes : List ℕ) × IsLines text × WroteBy result text out taken
     × TookBytes bytes source left
     × StaysEnded old new bytes
     × ((kept : ℕ → List ℕ) → is kept
-    → GoesBy arena opponent side kept spot old new bytes text result)
+    → GoesBy arena opponent side kept cursor old new bytes text result)
 
 -- the same behind the opening
 record Tail (is : (ℕ → List ℕ) → Type 0) (arena : Arena Step ℕ Value) (opponent : Opponent)
-    (side : Colour) (spot : Spot)
+    (side : Colour) (cursor : Cursor)
     (old new : Reader) (result : Result Turn PlayFault) (source left : SourceTold)
     (out taken : SinkTold) : Type 0 where
   pub text : List ℕ
@@ -144,7 +144,7 @@ record Tail (is : (ℕ → List ℕ) → Type 0) (arena : Arena Step ℕ Value) 
   pub took : TookBytes bytes source left
   pub stays : StaysEnded old new bytes
   pub goes : (kept : ℕ → List ℕ) → is kept
-      → TailBy arena opponent side kept spot old new bytes text result
+      → TailBy arena opponent side kept cursor old new bytes text result
 
 pub store_fault : (fault : StoreFault) → IsStoreFault (plays.Line (fault_of fault))
 store_fault Failed = record { is = inl refl }
@@ -157,13 +157,13 @@ store_wrote NoMemory out = took_nothing out
 
 -- the store failed before anything was written
 pub stopped_by : (is : (ℕ → List ℕ) → Type 0) (arena : Arena Step ℕ Value)
-    (opponent : Opponent) (side : Colour) (spot : Spot)
+    (opponent : Opponent) (side : Colour) (cursor : Cursor)
     (reader : Reader) (fault : StoreFault) (result : Result Turn PlayFault) (source : SourceTold)
     (out : SinkTold) → IsErrAnd result (λ e. e ≡ plays.Line (fault_of fault))
-    → TurnWrote is arena opponent side spot reader reader result source source out out
-stopped_by is arena opponent side spot reader fault (Ok turn) source out h = absurd h
-stopped_by is arena opponent side spot reader fault (Err e) source out h =
-    subst (λ (f : PlayFault). TurnWrote is arena opponent side spot reader reader (Err f) source
+    → TurnWrote is arena opponent side cursor reader reader result source source out out
+stopped_by is arena opponent side cursor reader fault (Ok turn) source out h = absurd h
+stopped_by is arena opponent side cursor reader fault (Err e) source out h =
+    subst (λ (f : PlayFault). TurnWrote is arena opponent side cursor reader reader (Err f) source
     source out out) (sym h) (
       [],
       [],
@@ -171,56 +171,56 @@ stopped_by is arena opponent side spot reader fault (Err e) source out h =
       store_wrote fault out,
       took_none source source refl,
       λ e. (refl, e),
-      λ kept any. store_goes arena opponent side kept spot reader
+      λ kept any. store_goes arena opponent side kept cursor reader
           (plays.Line (fault_of fault)) (store_fault fault),
     )
 
 module _ (one : AsksForOne) (fills : FillsLocal)
     {arena : Arena Step ℕ Value} {size : ℕ} (finite : IsFinite arena size)
-    (opponent : Opponent) (side : Colour) (spot : Spot) {arms : List (Arm Step ℕ Value)}
-    (cs : List ℕ) (are : arms ≡ arena.arms spot.number) where
+    (opponent : Opponent) (side : Colour) (cursor : Cursor) {arms : List (Arm Step ℕ Value)}
+    (cs : List ℕ) (are : arms ≡ arena.arms cursor.number) where
   -- these codes were read for these moves in this turn
   abbrev pub IsReadBy : (ℕ → List ℕ) → Type 0
-  IsReadBy kept = cs ≡ map (arm_code side (kept (suc spot.played))) arms
+  IsReadBy kept = cs ≡ map (arm_code side (kept (suc cursor.played))) arms
 
   abbrev IsDue : Due → Type 0
   IsDue due =
-      due ≡ due_by (spot.played == 0) (late_by opponent spot.played) spot.code
-      (node_code side (arena.node spot.number) (free_among arms cs) cs) (arena.node spot.number)
+      due ≡ due_by (cursor.played == 0) (late_by opponent cursor.played) cursor.code
+      (node_code side (arena.node cursor.number) (free_among arms cs) cs) (arena.node cursor.number)
 
   standing : (due : Due) → IsDue due → (kept : ℕ → List ℕ) → IsReadBy kept
-      → Stands arena opponent side kept spot (stage_told (spot.played, spot.number) spot.code due)
+      → Stands arena opponent side kept cursor (stage_told (cursor.played, cursor.number) cursor.code due)
   standing due e kept same =
-      way_stage fills arena size finite opponent side spot arms cs kept are same due e
+      way_stage fills arena size finite opponent side cursor arms cs kept are same due e
 
   -- the sink failed within the opening
   pub opening_wrote : (due : Due) → IsDue due → (reader : Reader) (result : Result Turn PlayFault)
       (source : SourceTold) (out taken : SinkTold)
       → IsErrAnd result (λ e. e ≡ plays.Line faults.Output)
-      → FailedWithin (opening side spot due) out taken
-      → TurnWrote IsReadBy arena opponent side spot reader reader result source source out taken
+      → FailedWithin (opening side cursor due) out taken
+      → TurnWrote IsReadBy arena opponent side cursor reader reader result source source out taken
   opening_wrote due e reader (Ok turn) source out taken h failed = absurd h
   opening_wrote due e reader (Err f) source out taken h failed =
-      subst (λ (z : PlayFault). TurnWrote IsReadBy arena opponent side spot reader reader (Err z)
+      subst (λ (z : PlayFault). TurnWrote IsReadBy arena opponent side cursor reader reader (Err z)
       source source out taken) (sym h) (
-        opening side spot due,
+        opening side cursor due,
         [],
-        opening_lines side spot due,
+        opening_lines side cursor due,
         failed,
         took_none source source refl,
         λ x. (refl, x),
         λ kept same.
-            opening_failed arena opponent side kept spot due reader (standing due e kept same),
+            opening_failed arena opponent side kept cursor due reader (standing due e kept same),
       )
 
   -- a way that is over here: its text is that of its end
   over_wrote : (due : Due) → IsDue due → (f : EndOfWay)
-      → (stage_told (spot.played, spot.number) spot.code due ≡ OverWay f)
+      → (stage_told (cursor.played, cursor.number) cursor.code due ≡ OverWay f)
       → (old new : Reader) (answer : Result WayEnd PlayFault) (result : Result Turn PlayFault)
       (source left : SourceTold) (out taken : SinkTold) → Unread old new source left
       → result ≡ turn_over answer → IsLines (end_text f) → WroteBy result (end_text f) out taken
       → Finishes answer (told side f) [] []
-      → Tail IsReadBy arena opponent side spot old new result source left out taken
+      → Tail IsReadBy arena opponent side cursor old new result source left out taken
   over_wrote due e f stops old new answer result source left out taken unread is lines wrote
       finishes = record {
         text = end_text f;
@@ -230,11 +230,11 @@ module _ (one : AsksForOne) (fills : FillsLocal)
         took = took_none source left (ap (λ (z : SourceTold). z.left) unread.1);
         stays = λ x. (refl, ap (λ (z : Reader). z.ended) unread.0 ∙ x);
         goes = λ kept same.
-            subst (λ (z : Reader). TailBy arena opponent side kept spot old z [] (end_text f)
+            subst (λ (z : Reader). TailBy arena opponent side kept cursor old z [] (end_text f)
             result) (sym unread.0)
-            (subst (λ (z : Result Turn PlayFault). TailBy arena opponent side kept spot old old []
+            (subst (λ (z : Result Turn PlayFault). TailBy arena opponent side kept cursor old old []
             (end_text f) z) (sym is)
-            (over_tail arena opponent side kept spot old (end_text f) f answer
+            (over_tail arena opponent side kept cursor old (end_text f) f answer
             (λ agrees. standing due e kept same agrees ∙ stops) refl
             finishes));
       }
@@ -242,9 +242,9 @@ module _ (one : AsksForOne) (fills : FillsLocal)
   -- the kept code is not the local one
   wrong_wrote : (given : ℕ) → IsDue (dues.Wrong given) → (old new : Reader)
       (result : Result Turn PlayFault) (source left : SourceTold) (out taken : SinkTold)
-      → Unread old new source left → result ≡ Err (wrong_at side spot given)
+      → Unread old new source left → result ≡ Err (wrong_at side cursor given)
       → WroteBy result [] out taken
-      → Tail IsReadBy arena opponent side spot old new result source left out taken
+      → Tail IsReadBy arena opponent side cursor old new result source left out taken
   wrong_wrote given e old new result source left out taken unread is wrote = record {
     text = [];
     bytes = [];
@@ -253,23 +253,23 @@ module _ (one : AsksForOne) (fills : FillsLocal)
     took = took_none source left (ap (λ (z : SourceTold). z.left) unread.1);
     stays = λ x. (refl, ap (λ (z : Reader). z.ended) unread.0 ∙ x);
     goes = λ kept same.
-        subst (λ (z : Reader). TailBy arena opponent side kept spot old z [] [] result)
+        subst (λ (z : Reader). TailBy arena opponent side kept cursor old z [] [] result)
         (sym unread.0)
-        (subst (λ (z : Result Turn PlayFault). TailBy arena opponent side kept spot old old []
+        (subst (λ (z : Result Turn PlayFault). TailBy arena opponent side kept cursor old old []
         [] z) (sym is)
-        (over_tail arena opponent side kept spot old [] (Wrong (spot.played, spot.number) spot.code
-        given) (Err (wrong_at side spot given))
+        (over_tail arena opponent side kept cursor old [] (Wrong (cursor.played, cursor.number) cursor.code
+        given) (Err (wrong_at side cursor given))
         (λ agrees. standing (dues.Wrong given) e kept same agrees) refl
         (refl, refl, refl)));
   }
 
   ends_wrote : (due : Due) → IsDue due → (f : EndOfWay)
-      → (stage_told (spot.played, spot.number) spot.code due ≡ OverWay f)
+      → (stage_told (cursor.played, cursor.number) cursor.code due ≡ OverWay f)
       → (old new : Reader) (last : WayEnd) (result : Result Turn PlayFault)
       (source left : SourceTold) (out taken : SinkTold) → Unread old new source left
       → IsLines (end_text f) → Ok last ≡ told side f
       → Answers (Over last) (end_text f) result out taken
-      → Tail IsReadBy arena opponent side spot old new result source left out taken
+      → Tail IsReadBy arena opponent side cursor old new result source left out taken
   ends_wrote due e f stops old new last result source left out taken unread lines tells (inl a) =
       over_wrote due e f stops old new (Ok last) result source left out taken unread a.0 lines
       (by_answers (Over last) (end_text f) result out taken (inl a)) (tells, refl, refl)
@@ -289,8 +289,8 @@ module _ (one : AsksForOne) (fills : FillsLocal)
       {result : Result Turn PlayFault} {source left : SourceTold} {out between taken : SinkTold}
       (hears : Hears arms old new heard_is source left out between) (text : List ℕ) → IsLines text
       → WroteBy result text out taken → ((kept : ℕ → List ℕ) → IsReadBy kept
-      → TailBy arena opponent side kept spot old new hears.bytes text result)
-      → Tail IsReadBy arena opponent side spot old new result source left out taken
+      → TailBy arena opponent side kept cursor old new hears.bytes text result)
+      → Tail IsReadBy arena opponent side cursor old new result source left out taken
   tail_with {old} {new} {result = result} hears text lines wrote goes = record {
     text = text;
     bytes = hears.bytes;
@@ -309,7 +309,7 @@ module _ (one : AsksForOne) (fills : FillsLocal)
       → result ≡ turn_over answer → WroteBy result (codes "input ended\n") between taken
       → Finishes answer (told side (Stopped (record { refused = hears.refused; why = Ended }))) []
       []
-      → Tail IsReadBy arena opponent side spot old new result source left out taken
+      → Tail IsReadBy arena opponent side cursor old new result source left out taken
   ended_by m e own old new answer result source left out between taken hears is wrote finishes =
       let text = refused_text hears.refused ++ codes "input ended\n" in
       tail_with hears text
@@ -317,8 +317,8 @@ module _ (one : AsksForOne) (fills : FillsLocal)
       (refused_lines hears.refused) (inr (codes "input ended", refl)))
       (wrote_after (refused_text hears.refused) (codes "input ended\n") result out between taken
       hears.wrote wrote) (λ kept same.
-      subst (λ (z : Result Turn PlayFault). TailBy arena opponent side kept spot old new hears.bytes
-      text z) (sym is) (stop_tail arena opponent side m kept spot old new own
+      subst (λ (z : Result Turn PlayFault). TailBy arena opponent side kept cursor old new hears.bytes
+      text z) (sym is) (stop_tail arena opponent side m kept cursor old new own
       (standing (dues.Ply m) e kept same) arms are
       source left out between Ended hears answer finishes))
 
@@ -327,7 +327,7 @@ module _ (one : AsksForOne) (fills : FillsLocal)
       (out between taken : SinkTold)
       → (hears : Hears arms old new (Ok (heard.Stop Ended)) source left out between)
       → Answers (Over ends.InputEnded) (codes "input ended\n") result between taken
-      → Tail IsReadBy arena opponent side spot old new result source left out taken
+      → Tail IsReadBy arena opponent side cursor old new result source left out taken
   ended_wrote m e own old new result source left out between taken hears (inl a) =
       ended_by m e own old new (Ok ends.InputEnded) result source left out between taken hears a.0
       (by_answers (Over ends.InputEnded) (codes "input ended\n") result between taken (inl a))
@@ -343,7 +343,7 @@ module _ (one : AsksForOne) (fills : FillsLocal)
       (source left : SourceTold) (out between taken : SinkTold)
       → Hears arms old new heard_is source left out between
       → AfterHeard arms cs heard_is result between taken
-      → Tail IsReadBy arena opponent side spot old new result source left out taken
+      → Tail IsReadBy arena opponent side cursor old new result source left out taken
   reply_wrote m e own old new (Ok (heard.Reply place)) result source left out between taken
       hears h =
       let text = refused_text hears.refused ++ moved_text (codes "reply ") h.0 in
@@ -354,7 +354,7 @@ module _ (one : AsksForOne) (fills : FillsLocal)
       taken hears.wrote
       (by_answers (turn_of h.0.next (get_or cs place 0)) (moved_text (codes "reply ") h.0) result
       between taken h.2)) (λ kept same.
-      reply_tail arena opponent side m kept spot old new own
+      reply_tail arena opponent side m kept cursor old new own
       (standing (dues.Ply m) e kept same) arms cs are
       same source left out between taken place hears h.0 h.1 result h.2)
   reply_wrote m e own old new (Ok (heard.Stop Ended)) result source left out between taken hears h =
@@ -366,11 +366,11 @@ module _ (one : AsksForOne) (fills : FillsLocal)
       (subst (λ (z : Result Turn PlayFault). WroteBy z text out taken) (sym h.0)
       (subst (λ (z : SinkTold). TookText text out z) (sym h.1) hears.wrote))
       (λ kept same.
-      subst (λ (z : Result Turn PlayFault). TailBy arena opponent side kept spot old new hears.bytes
+      subst (λ (z : Result Turn PlayFault). TailBy arena opponent side kept cursor old new hears.bytes
       text z) (sym h.0)
-      (subst (λ (t : List ℕ). TailBy arena opponent side kept spot old new hears.bytes t
+      (subst (λ (t : List ℕ). TailBy arena opponent side kept cursor old new hears.bytes t
       (Err (plays.Limit limit))) (append-nil text)
-      (stop_tail arena opponent side m kept spot old new own
+      (stop_tail arena opponent side m kept cursor old new own
       (standing (dues.Ply m) e kept same) arms are
       source left out between (Limit limit) hears (Err (plays.Limit limit)) (refl, refl, refl))))
   reply_wrote m e own old new (Err fault) result source left out between taken hears h =
@@ -380,16 +380,16 @@ module _ (one : AsksForOne) (fills : FillsLocal)
       (subst (λ (z : SinkTold). WroteBy {T = Turn} (Err fault) text out z) (sym h.1)
       (same_wrote Heard Turn fault text out between hears.wrote)))
       (λ kept same.
-      subst (λ (z : Result Turn PlayFault). TailBy arena opponent side kept spot old new hears.bytes
+      subst (λ (z : Result Turn PlayFault). TailBy arena opponent side kept cursor old new hears.bytes
       text z) (sym h.0)
-      (fault_tail arena opponent side m kept spot own (standing (dues.Ply m) e kept same) fault
+      (fault_tail arena opponent side m kept cursor own (standing (dues.Ply m) e kept same) fault
       (hears.fails fault refl) old new arms are source left out between hears))
 
   own_wrote : (m : Colour) → IsDue (dues.Ply m) → by_codes opponent (same_colour m side) ≡ true
       → (old new : Reader) (result : Result Turn PlayFault) (source left : SourceTold)
       (out taken : SinkTold) → Unread old new source left
-      → PlaysByCodes opponent (same_colour m side) spot arms cs result out taken
-      → Tail IsReadBy arena opponent side spot old new result source left out taken
+      → PlaysByCodes opponent (same_colour m side) cursor arms cs result out taken
+      → Tail IsReadBy arena opponent side cursor old new result source left out taken
   own_wrote m e own old new result source left out taken unread h =
       let place = h.0 in
       let a = h.3.0 in
@@ -402,9 +402,9 @@ module _ (one : AsksForOne) (fills : FillsLocal)
         took = took_none source left (ap (λ (z : SourceTold). z.left) unread.1);
         stays = λ x. (refl, ap (λ (z : Reader). z.ended) unread.0 ∙ x);
         goes = λ kept same.
-            subst (λ (z : Reader). TailBy arena opponent side kept spot old z [] text result)
+            subst (λ (z : Reader). TailBy arena opponent side kept cursor old z [] text result)
             (sym unread.0)
-            (own_tail one arena size finite opponent side m spot old arms cs kept own are same
+            (own_tail one arena size finite opponent side m cursor old arms cs kept own are same
             (standing (dues.Ply m) e kept same) place h.1 a h.2 h.3.1 result out taken
             h.3.2);
       }
@@ -412,8 +412,8 @@ module _ (one : AsksForOne) (fills : FillsLocal)
   ply_wrote : (m : Colour) → IsDue (dues.Ply m) → (found : Bool)
       → by_codes opponent (same_colour m side) ≡ found → (old new : Reader)
       (result : Result Turn PlayFault) (source left : SourceTold) (out taken : SinkTold)
-      → PlaysPly found opponent (same_colour m side) spot arms cs old new result source left out
-      taken → Tail IsReadBy arena opponent side spot old new result source left out taken
+      → PlaysPly found opponent (same_colour m side) cursor arms cs old new result source left out
+      taken → Tail IsReadBy arena opponent side cursor old new result source left out taken
   ply_wrote m e true own old new result source left out taken h =
       own_wrote m e own old new result source left out taken h.0 h.1
   ply_wrote m e false own old new result source left out taken h =
@@ -421,11 +421,11 @@ module _ (one : AsksForOne) (fills : FillsLocal)
 
   tail_wrote : (due : Due) → IsDue due → (old new : Reader) (result : Result Turn PlayFault)
       (source left : SourceTold) (out taken : SinkTold)
-      → IsPlayed opponent side spot due arms cs old new result source left out taken
-      → Tail IsReadBy arena opponent side spot old new result source left out taken
+      → IsPlayed opponent side cursor due arms cs old new result source left out taken
+      → Tail IsReadBy arena opponent side cursor old new result source left out taken
   tail_wrote (dues.Wrong given) e old new result source left out taken h =
       wrong_wrote given e old new result source left out taken h.0 h.1.0
-      (untouched (wrong_at side spot given) result out taken (took_nothing out) h.1.0 h.1.1)
+      (untouched (wrong_at side cursor given) result out taken (took_nothing out) h.1.0 h.1.1)
   tail_wrote dues.NoBound e old new result source left out taken h =
       over_wrote dues.NoBound e NoBound refl old new (Err (plays.Line faults.NoBound))
       result source left out taken h.0 h.1.0 (inl refl)
@@ -447,18 +447,18 @@ module _ (one : AsksForOne) (fills : FillsLocal)
   -- what a turn wrote and took
   pub turn_wrote : (due : Due) → IsDue due → (old new : Reader) (result : Result Turn PlayFault)
       (source left : SourceTold) (out mid taken : SinkTold)
-      → TookText (opening side spot due) out mid
-      → IsPlayed opponent side spot due arms cs old new result source left mid taken
-      → TurnWrote IsReadBy arena opponent side spot old new result source left out taken
+      → TookText (opening side cursor due) out mid
+      → IsPlayed opponent side cursor due arms cs old new result source left mid taken
+      → TurnWrote IsReadBy arena opponent side cursor old new result source left out taken
   turn_wrote due e old new result source left out mid taken opened h =
       let t = tail_wrote due e old new result source left mid taken h in (
-        opening side spot due ++ t.text,
+        opening side cursor due ++ t.text,
         t.bytes,
-        lines_behind (opening side spot due) t.text (opening_lines side spot due) t.lines,
-        wrote_after (opening side spot due) t.text result out mid taken opened t.wrote,
+        lines_behind (opening side cursor due) t.text (opening_lines side cursor due) t.lines,
+        wrote_after (opening side cursor due) t.text result out mid taken opened t.wrote,
         t.took,
         t.stays,
         λ kept same.
-            opened_tail arena opponent side kept spot due old new t.bytes t.text result
+            opened_tail arena opponent side kept cursor due old new t.bytes t.text result
             (standing due e kept same) (t.goes kept same),
       )

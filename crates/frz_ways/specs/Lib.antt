@@ -3,7 +3,7 @@ pub mod Kept
 pub mod Reads
 pub mod Costs
 pub mod Dues
-pub mod Sights
+pub mod SeenMoves
 pub mod Lines
 pub mod ChessGames
 pub mod Texts

@@ -27,7 +27,7 @@ use Rattle.frz_ways.specs.declared.hearing.Why.TheVariants.{Ended, Limit}
 use Rattle.frz_ways.specs.declared.hearing.Reader.{Reader}
 use Rattle.frz_ways.specs.declared.opponent.Opponent.{Opponent}
 use Rattle.frz_ways.specs.declared.opponent.Opponent.TheVariants as opponents
-use Rattle.frz_ways.specs.declared.playing.Spot.{Spot}
+use Rattle.frz_ways.specs.declared.playing.Cursor.{Cursor}
 use Rattle.frz_ways.specs.declared.playing.Turn.{Turn}
 use Rattle.frz_ways.specs.declared.playing.Turn.TheVariants.{Over, On}
 use Rattle.frz_ways.specs.declared.session_end.PlayFault.{PlayFault}
@@ -36,7 +36,7 @@ use Rattle.frz_ways.specs.declared.way_end.WayEnd.TheVariants as ends
 use Rattle.frz_ways.specs.Hearing.{Hears, MayFollow}
 use Rattle.frz_ways.specs.Reading.{Input}
 use Rattle.frz_ways.specs.SessionTexts.{end_text, start_line}
-use Rattle.frz_ways.specs.Sights.{choices_by, IsNextCode}
+use Rattle.frz_ways.specs.SeenMoves.{choices_by, IsNextCode}
 use Rattle.frz_ways.specs.Texts.{arm_text}
 use Rattle.frz_ways.specs.WayEnds.{told, Finishes, IsEndOf, IsFaultOf}
 use Rattle.frz_ways.specs.Ways.{WayPly, EndOfWay, GoesOn}
@@ -46,10 +46,10 @@ abbrev pub moved_text : (word : List ℕ) → Arm Step ℕ Value → List ℕ
 moved_text word a = word ++ arm_text a
 
 -- the line of the side's bound: before the first ply, and only where the start is not refused
-abbrev pub opening : Colour → Spot → Due → List ℕ
-opening side spot (dues.Wrong given) = []
-opening side spot dues.NoBound = []
-opening side spot due = if spot.played == 0 then kept_line side spot.code else []
+abbrev pub opening : Colour → Cursor → Due → List ℕ
+opening side cursor (dues.Wrong given) = []
+opening side cursor dues.NoBound = []
+opening side cursor due = if cursor.played == 0 then kept_line side cursor.code else []
 
 -- where the move leads, with the code that was read for it
 abbrev pub turn_of : Next ℕ Value → (code : ℕ) → Turn
@@ -81,11 +81,11 @@ own_word opponents.Codes = []
 own_word opponents.Input = codes "move "
 
 -- the move that the kept code asks for was played
-abbrev pub PlaysByCodes : Opponent → (own : Bool) → Spot → List (Arm Step ℕ Value) → List ℕ →
+abbrev pub PlaysByCodes : Opponent → (own : Bool) → Cursor → List (Arm Step ℕ Value) → List ℕ →
     Result Turn PlayFault → SinkTold → SinkTold → Type 0
-PlaysByCodes opponent own spot arms cs result old new =
+PlaysByCodes opponent own cursor arms cs result old new =
     (place : ℕ) × (x : Choice)
-    × IsFound has_code (is_win spot.code) spot.code (choices_by own arms cs) place x
+    × IsFound has_code (is_win cursor.code) cursor.code (choices_by own arms cs) place x
     × PlaysAt (own_word opponent) place arms cs result old new
 
 -- what the turn does by what it heard: a move is played, or the end of the input ends the way, or a
@@ -116,50 +116,50 @@ abbrev pub Unread : Reader → Reader → SourceTold → SourceTold → Type 0
 Unread old new source left = (new ≡ old) × (left ≡ source)
 
 -- the ply was played: one that the codes find, or one that the input says
-abbrev pub PlaysPly : (found : Bool) → Opponent → (own : Bool) → Spot → List (Arm Step ℕ Value) →
+abbrev pub PlaysPly : (found : Bool) → Opponent → (own : Bool) → Cursor → List (Arm Step ℕ Value) →
     List ℕ → Reader → Reader → Result Turn PlayFault → SourceTold → SourceTold → SinkTold → SinkTold
     → Type 0
-PlaysPly true opponent own spot arms cs old new result source left out taken =
-    Unread old new source left × PlaysByCodes opponent own spot arms cs result out taken
-PlaysPly false opponent own spot arms cs old new result source left out taken =
+PlaysPly true opponent own cursor arms cs old new result source left out taken =
+    Unread old new source left × PlaysByCodes opponent own cursor arms cs result out taken
+PlaysPly false opponent own cursor arms cs old new result source left out taken =
     PlaysReply arms cs old new result source left out taken
 
 -- nothing was written, and this fault was answered
 abbrev pub Stops : PlayFault → Result Turn PlayFault → SinkTold → SinkTold → Type 0
 Stops fault result old new = (result ≡ Err fault) × (new ≡ old)
 
--- the fault where the kept code of the spot is not the local code, which is `given`
-abbrev pub wrong_at : Colour → Spot → (given : ℕ) → PlayFault
-wrong_at side spot given =
+-- the fault where the kept code of the cursor is not the local code, which is `given`
+abbrev pub wrong_at : Colour → Cursor → (given : ℕ) → PlayFault
+wrong_at side cursor given =
     plays.Line (faults.Wrong
-    (record { side = side; number = spot.number; kept = spot.code; given = given }))
+    (record { side = side; number = cursor.number; kept = cursor.code; given = given }))
 
 -- the turn did what is due, with these moves and their codes
-abbrev pub IsPlayed : Opponent → Colour → Spot → Due → List (Arm Step ℕ Value) → List ℕ → Reader →
+abbrev pub IsPlayed : Opponent → Colour → Cursor → Due → List (Arm Step ℕ Value) → List ℕ → Reader →
     Reader → Result Turn PlayFault → SourceTold → SourceTold → SinkTold → SinkTold → Type 0
-IsPlayed opponent side spot (dues.Wrong given) arms cs old new result source left out taken =
+IsPlayed opponent side cursor (dues.Wrong given) arms cs old new result source left out taken =
     Unread old new source left
-    × Stops (wrong_at side spot given) result out taken
-IsPlayed opponent side spot dues.NoBound arms cs old new result source left out taken =
+    × Stops (wrong_at side cursor given) result out taken
+IsPlayed opponent side cursor dues.NoBound arms cs old new result source left out taken =
     Unread old new source left × Stops (plays.Line faults.NoBound) result out taken
-IsPlayed opponent side spot (dues.Mate mover) arms cs old new result source left out taken =
+IsPlayed opponent side cursor (dues.Mate mover) arms cs old new result source left out taken =
     Unread old new source left × Answers (Over ends.Mate) (codes "mate\n") result out taken
-IsPlayed opponent side spot (dues.Stalemate mover) arms cs old new result source left out taken =
+IsPlayed opponent side cursor (dues.Stalemate mover) arms cs old new result source left out taken =
     Unread old new source left × Answers (Over ends.Stalemate) (codes "stalemate\n") result out
     taken
-IsPlayed opponent side spot dues.Cut arms cs old new result source left out taken =
+IsPlayed opponent side cursor dues.Cut arms cs old new result source left out taken =
     Unread old new source left × Answers (Over ends.Cut) (codes "cut\n") result out taken
-IsPlayed opponent side spot (dues.Ply mover) arms cs old new result source left out taken =
-    PlaysPly (by_codes opponent (same_colour mover side)) opponent (same_colour mover side) spot
+IsPlayed opponent side cursor (dues.Ply mover) arms cs old new result source left out taken =
+    PlaysPly (by_codes opponent (same_colour mover side)) opponent (same_colour mover side) cursor
     arms cs old new result source left out taken
 
 -- where a ply is due, there is a move that the kept code asks for
-abbrev pub HasMove : Colour → Spot → Due → List (Arm Step ℕ Value) → List ℕ → Type 0
-HasMove side spot (dues.Ply mover) arms cs =
+abbrev pub HasMove : Colour → Cursor → Due → List (Arm Step ℕ Value) → List ℕ → Type 0
+HasMove side cursor (dues.Ply mover) arms cs =
     (i : ℕ) × (x : Choice)
-    × IsFound has_code (is_win spot.code) spot.code (choices_by (same_colour mover side) arms cs) i
+    × IsFound has_code (is_win cursor.code) cursor.code (choices_by (same_colour mover side) arms cs) i
     x
-HasMove side spot due arms cs = ⊤
+HasMove side cursor due arms cs = ⊤
 
 -- 1 where the side itself is to move, and else 0
 abbrev pub own_turn : Colour → Node → ℕ
@@ -179,20 +179,20 @@ late_by opponents.Input played = false
 -- a ply leaves less to do, so that the way ends: in a line the next code is the one that the kept
 -- code asks for, and no hold is played beyond MOST_PLIES; in a session fewer lines are left, or the
 -- side has made its move
-abbrev pub LeavesLess : Opponent → Arena Step ℕ Value → Colour → Spot → (old new : Reader)
+abbrev pub LeavesLess : Opponent → Arena Step ℕ Value → Colour → Cursor → (old new : Reader)
     → (number code : ℕ) → Type 0
-LeavesLess opponents.Codes arena side spot old new number code =
-    IsNextCode spot.code code × (spot.code ≡ 1 → spot.played < MOST_PLIES)
-LeavesLess opponents.Input arena side spot old new number code =
-    session_left arena side new.more number < session_left arena side old.more spot.number
+LeavesLess opponents.Codes arena side cursor old new number code =
+    IsNextCode cursor.code code × (cursor.code ≡ 1 → cursor.played < MOST_PLIES)
+LeavesLess opponents.Input arena side cursor old new number code =
+    session_left arena side new.more number < session_left arena side old.more cursor.number
 
 -- a turn that goes on leads to a number of the set whose code is no failure, and leaves less to do
-abbrev pub TurnsTo : Arena Step ℕ Value → (size : ℕ) → Opponent → Colour → Spot → Reader → Reader
+abbrev pub TurnsTo : Arena Step ℕ Value → (size : ℕ) → Opponent → Colour → Cursor → Reader → Reader
     → Turn → Type 0
-TurnsTo arena size opponent side spot old new (Over end) = ⊤
-TurnsTo arena size opponent side spot old new (On number code) =
+TurnsTo arena size opponent side cursor old new (Over end) = ⊤
+TurnsTo arena size opponent side cursor old new (On number code) =
     (number < size) × (is_failure code ≡ false)
-    × LeavesLess opponent arena side spot old new number code
+    × LeavesLess opponent arena side cursor old new number code
 
 -- the turn's answer is one that a way against this opponent can give
 abbrev pub IsTurnOf : Result Turn PlayFault → Opponent → Type 0
@@ -200,39 +200,39 @@ IsTurnOf (Ok (Over end)) opponent = IsEndOf end opponent
 IsTurnOf (Ok (On number code)) opponent = ⊤
 IsTurnOf (Err fault) opponent = IsFaultOf fault opponent
 
--- the text that a way has still to write at a spot
-abbrev pub rest_text : Opponent → Colour → Spot → List WayPly → EndOfWay → List ℕ
-rest_text opponent side spot plies end =
-    (if spot.played == 0 then start_line side spot.code plies end else [])
+-- the text that a way has still to write at a cursor
+abbrev pub rest_text : Opponent → Colour → Cursor → List WayPly → EndOfWay → List ℕ
+rest_text opponent side cursor plies end =
+    (if cursor.played == 0 then start_line side cursor.code plies end else [])
     ++ (plies_text opponent side plies ++ end_text end)
 
 -- how a turn leaves a way: the way goes on behind its first ply, which leads to this number, or it
 -- has finished
-abbrev pub Leaves : Arena Step ℕ Value → Opponent → Colour → (ℕ → List ℕ) → Spot → Input →
+abbrev pub Leaves : Arena Step ℕ Value → Opponent → Colour → (ℕ → List ℕ) → Cursor → Input →
     List WayPly → EndOfWay → (last : Input) → (rest : List ℕ) → Result Turn PlayFault → Type 0
-Leaves arena opponent side kept spot left plies end last rest (Ok (On number code)) =
-    (slice_index (kept (suc spot.played)) number ≡ code)
+Leaves arena opponent side kept cursor left plies end last rest (Ok (On number code)) =
+    (slice_index (kept (suc cursor.played)) number ≡ code)
     × ((first : WayPly) × (others : List WayPly) × (plies ≡ first ∷ others)
-    × (first.arm.next ≡ Inside (suc spot.played, number))
-    × GoesOn arena opponent side kept (suc spot.played) left number others end last
+    × (first.arm.next ≡ Inside (suc cursor.played, number))
+    × GoesOn arena opponent side kept (suc cursor.played) left number others end last
     × (rest ≡ plies_text opponent side others ++ end_text end))
-Leaves arena opponent side kept spot left plies end last rest (Ok (Over answer)) =
+Leaves arena opponent side kept cursor left plies end last rest (Ok (Over answer)) =
     (unread : List ℕ) × (unread ++ last.left ≡ left.left)
     × Finishes (Ok answer) (told side end) rest unread
-Leaves arena opponent side kept spot left plies end last rest (Err fault) =
+Leaves arena opponent side kept cursor left plies end last rest (Err fault) =
     (unread : List ℕ) × (unread ++ last.left ≡ left.left)
     × Finishes (Err fault) (told side end) rest unread
 
--- each way that goes on from the spot begins with what the turn wrote and took, and goes on as the
+-- each way that goes on from the cursor begins with what the turn wrote and took, and goes on as the
 -- turn's answer says
-abbrev pub GoesBy : Arena Step ℕ Value → Opponent → Colour → (ℕ → List ℕ) → Spot →
+abbrev pub GoesBy : Arena Step ℕ Value → Opponent → Colour → (ℕ → List ℕ) → Cursor →
     (old new : Reader) → (bytes text : List ℕ) → Result Turn PlayFault → Type 0
-GoesBy arena opponent side kept spot old new bytes text result =
-    slice_index (kept spot.played) spot.number ≡ spot.code →
+GoesBy arena opponent side kept cursor old new bytes text result =
+    slice_index (kept cursor.played) cursor.number ≡ cursor.code →
     (left : List ℕ) → MayFollow new left →
     (plies : List WayPly) (end : EndOfWay) (last : Input) →
-    GoesOn arena opponent side kept spot.played (record { left = bytes ++ left; more = old.more })
-    spot.number plies end last →
-    (rest : List ℕ) × (text ++ rest ≡ rest_text opponent side spot plies end)
-    × Leaves arena opponent side kept spot (record { left = left; more = new.more }) plies end last
+    GoesOn arena opponent side kept cursor.played (record { left = bytes ++ left; more = old.more })
+    cursor.number plies end last →
+    (rest : List ℕ) × (text ++ rest ≡ rest_text opponent side cursor plies end)
+    × Leaves arena opponent side kept cursor (record { left = left; more = new.more }) plies end last
     rest result

@@ -4,7 +4,7 @@ ghost use Rattle.frz_arena.specs.Codes as codes;
 ghost use Rattle.frz_arena.specs.Chosen.{IsFound};
 ghost use Rattle.frz_arena.specs.Choices.{has_code};
 ghost use Rattle.frz_arena.specs.declared.choice.Choice.{Choice as Seen};
-ghost use Rattle.frz_ways.specs.Sights.{choices_by};
+ghost use Rattle.frz_ways.specs.SeenMoves.{choices_by};
 
 use frz_arena::{Choice, choose};
 use frz_graph::{Arm, CodeList, NextList};

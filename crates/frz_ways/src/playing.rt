@@ -6,7 +6,7 @@ ghost use Rattle.frz_arena.specs.Chosen.{IsFound};
 ghost use Rattle.frz_arena.specs.Choices.{has_code};
 ghost use Rattle.frz_arena.specs.Codes.{is_win};
 ghost use Rattle.frz_arena.specs.declared.choice.Choice.{Choice as Seen};
-ghost use Rattle.frz_ways.specs.Sights.{choices_by};
+ghost use Rattle.frz_ways.specs.SeenMoves.{choices_by};
 ghost use Rattle.frz_ways.specs.SessionFaults.{InputCause};
 ghost use Rattle.frz_ways.specs.Hearing.{HasEnded};
 ghost use Rattle.frz_ways.specs.declared.opponent.Opponent.TheVariants as opponents;
@@ -30,7 +30,7 @@ use frz_store::{Failed, Sink, Source};
 /// Where a way has come to: a number, the code that the table file keeps for the side there, and
 /// how many plies were played before.
 #[derive(Clone, Copy)]
-pub struct Spot {
+pub struct Cursor {
     pub number: u32,
     pub code: u32,
     pub played: u32,
@@ -45,15 +45,20 @@ pub enum Turn {
 }
 
 /// Writes the line of the side's bound before the first ply, unless the start is refused.
-pub fn write_opening<O: Sink>(side: Colour, spot: Spot, due: Due, out: &mut O) -> Result<(), Failed>
-    ensures { WroteText (opening side spot due) result
+pub fn write_opening<O: Sink>(
+    side: Colour,
+    cursor: Cursor,
+    due: Due,
+    out: &mut O,
+) -> Result<(), Failed>
+    ensures { WroteText (opening side cursor due) result
         (sink_of O.Sink out.old) (sink_of O.Sink out.new) }
 {
     match due {
         Due::Wrong(_) | Due::NoBound => Ok(()),
         _ => {
-            if spot.played == 0 {
-                return write_kept_line(side, spot.code, out);
+            if cursor.played == 0 {
+                return write_kept_line(side, cursor.code, out);
             }
             Ok(())
         }
@@ -113,17 +118,17 @@ fn goes_by_codes(opponent: Opponent, own: bool) -> bool
 fn play_by_codes<O: Sink>(
     opponent: Opponent,
     own: bool,
-    spot: Spot,
+    cursor: Cursor,
     lists: &Lists,
     out: &mut O,
 ) -> Result<Turn, PlayFault>
     requires many { length lists.now.codes.items ≡ length lists.now.nexts.items }
-    requires there { (i : ℕ) × (x : Seen) × IsFound has_code (is_win spot.code) spot.code
+    requires there { (i : ℕ) × (x : Seen) × IsFound has_code (is_win cursor.code) cursor.code
         (choices_by own lists.now.nexts.items lists.now.codes.items) i x }
-    ensures { PlaysByCodes opponent own spot lists.now.nexts.items lists.now.codes.items result
+    ensures { PlaysByCodes opponent own cursor lists.now.nexts.items lists.now.codes.items result
         (sink_of O.Sink out.old) (sink_of O.Sink out.new) }
 {
-    let place = place_for(own, spot.code, &lists.nexts, &lists.codes);
+    let place = place_for(own, cursor.code, &lists.nexts, &lists.codes);
     match opponent {
         Opponent::Codes => play_at(b"", place, lists, out),
         Opponent::Input => play_at(b"move ", place, lists, out),
@@ -158,7 +163,7 @@ fn play_reply<I: Source, O: Sink>(
 /// Plays the ply that is due, or ends the way.
 pub fn play<I: Source, O: Sink>(
     player: Player,
-    spot: Spot,
+    cursor: Cursor,
     due: Due,
     lists: &Lists,
     reader: &mut Reader,
@@ -166,9 +171,9 @@ pub fn play<I: Source, O: Sink>(
     out: &mut O,
 ) -> Result<Turn, PlayFault>
     requires many { length lists.now.codes.items ≡ length lists.now.nexts.items }
-    requires there { HasMove player.side spot due lists.now.nexts.items lists.now.codes.items }
+    requires there { HasMove player.side cursor due lists.now.nexts.items lists.now.codes.items }
     requires ended { reader.old.ended ≡ true → HasEnded (source_of I.Source input.old) }
-    ensures played { IsPlayed player.opponent player.side spot due lists.now.nexts.items
+    ensures played { IsPlayed player.opponent player.side cursor due lists.now.nexts.items
         lists.now.codes.items reader.old reader.new result
         (source_of I.Source input.old) (source_of I.Source input.new)
         (sink_of O.Sink out.old) (sink_of O.Sink out.new) }
@@ -179,8 +184,8 @@ pub fn play<I: Source, O: Sink>(
     match due {
         Due::Wrong(given) => Err(PlayFault::Line(LineFault::Wrong(Wrong {
             side: player.side,
-            number: spot.number,
-            kept: spot.code,
+            number: cursor.number,
+            kept: cursor.code,
             given,
         }))),
         Due::NoBound => Err(PlayFault::Line(LineFault::NoBound)),
@@ -193,7 +198,7 @@ pub fn play<I: Source, O: Sink>(
         Due::Ply(mover) => {
             let own = mover.is_same(player.side);
             if goes_by_codes(player.opponent, own) {
-                return play_by_codes(player.opponent, own, spot, lists, out);
+                return play_by_codes(player.opponent, own, cursor, lists, out);
             }
             play_reply(lists, reader, input, out)
         }

@@ -24,7 +24,7 @@ use std::sync::ledger::Ledger;
 
 /// What is due at a number with this kept code. It takes one step to list the moves, and reads the
 /// codes of those that stay inside the set. Afterwards `lists` has the moves and their codes.
-pub fn sight<G: NumberedGame<L>, S: Store, L: Ledger>(
+pub fn inspect<G: NumberedGame<L>, S: Store, L: Ledger>(
     game: &G,
     table: &TableFile,
     store: &mut S,

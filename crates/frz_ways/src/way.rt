@@ -21,8 +21,8 @@ ghost use Rattle.frz_ways.specs.WayEnds.{IsAnswerOf};
 use crate::end::MOST_PLIES;
 use crate::hearing::Reader;
 use crate::opponent::{Opponent, Player};
-use crate::playing::{Spot, Turn, play, write_opening};
-use crate::seeing::sight;
+use crate::playing::{Cursor, Turn, play, write_opening};
+use crate::seeing::inspect;
 use crate::session_end::{MOST_LINES, PlayFault};
 use crate::way_end::WayEnd;
 use frz_graph::laws::filled;
@@ -48,7 +48,7 @@ fn turn<G: NumberedGame<L>, S: Store, I: Source, O: Sink, L: Ledger>(
     table: &TableFile,
     store: &mut S,
     player: Player,
-    spot: Spot,
+    cursor: Cursor,
     lists: &mut Lists,
     reader: &mut Reader,
     input: &mut I,
@@ -57,14 +57,14 @@ fn turn<G: NumberedGame<L>, S: Store, I: Source, O: Sink, L: Ledger>(
 ) -> Result<Turn, PlayFault>
     requires sound { G.sound game.now }
     requires turns { Alternates (G.arena game.now) }
-    requires inside { spot.number < G.count game.now }
+    requires inside { cursor.number < G.count game.now }
     requires many { table_size table.now ≡ G.count game.now }
     requires different { HasDifferentArms (G.arena game.now) }
     requires carried { Carries (S.files store.old) table.now }
-    requires stands { (spot.played ≡ 0) ⊎ (is_failure spot.code ≡ false) }
+    requires stands { (cursor.played ≡ 0) ⊎ (is_failure cursor.code ≡ false) }
     requires ended { reader.old.ended ≡ true → HasEnded (source_of I.Source input.old) }
     ensures next { IfOk result (TurnsTo (G.arena game.now) (G.count game.now) player.opponent
-        player.side spot reader.old reader.new) }
+        player.side cursor reader.old reader.new) }
     ensures kind { IsTurnOf result player.opponent }
     ensures wrote { (text bytes : List ℕ) × IsLines text
         × WroteBy result text (sink_of O.Sink out.old) (sink_of O.Sink out.new)
@@ -72,17 +72,17 @@ fn turn<G: NumberedGame<L>, S: Store, I: Source, O: Sink, L: Ledger>(
         × StaysEnded reader.old reader.new bytes
         × ((read : List ℕ)
         × MayRead (told_codes table.now player.side (S.files store.old)) (table_size table.now) read
-        × ((codes : ℕ → List ℕ) → codes (suc spot.played) ≡ read
-        → GoesBy (G.arena game.now) player.opponent player.side codes spot reader.old reader.new
+        × ((codes : ℕ → List ℕ) → codes (suc cursor.played) ≡ read
+        → GoesBy (G.arena game.now) player.opponent player.side codes cursor reader.old reader.new
         bytes text result)) }
     ensures still_ended { reader.new.ended ≡ true → HasEnded (source_of I.Source input.new) }
     ensures unread { player.opponent ≡ opponents.Codes → input.new ≡ input.old }
     ensures placed { result ≡ Err (Line faults.Outside) → ⊥ }
     ensures quiet { StoreQuiet (store_of S.Store store.old) (store_of S.Store store.new) }
     ensures asked { S.asked store.new ≤
-        S.asked store.old + 4 * arms_reads ((G.arena game.now).arms spot.number) }
+        S.asked store.old + 4 * arms_reads ((G.arena game.now).arms cursor.number) }
     ensures calls { S.calls store.new ≤
-        S.calls store.old + arms_reads ((G.arena game.now).arms spot.number) }
+        S.calls store.old + arms_reads ((G.arena game.now).arms cursor.number) }
     ensures cause { StoreCause result (store_of S.Store store.old) (store_of S.Store store.new) }
     ensures input { InputCause result (source_of I.Source input.old)
         (source_of I.Source input.new) }
@@ -90,20 +90,20 @@ fn turn<G: NumberedGame<L>, S: Store, I: Source, O: Sink, L: Ledger>(
     ensures later { steps.old ≤ steps.new }
 {
     filled();
-    let due = sight(
+    let due = inspect(
         game,
         table,
         store,
         player.side,
-        spot.number,
-        spot.code,
-        spot.played == 0,
-        is_late(player.opponent, spot.played),
+        cursor.number,
+        cursor.code,
+        cursor.played == 0,
+        is_late(player.opponent, cursor.played),
         lists,
         steps,
     )?;
-    write_opening(player.side, spot, due, out)?;
-    play(player, spot, due, lists, reader, input, out)
+    write_opening(player.side, cursor, due, out)?;
+    play(player, cursor, due, lists, reader, input, out)
 }
 
 /// Plays the way of the side from the number `start`, and writes its text. `code` is what the table
@@ -150,7 +150,7 @@ pub fn play_way<G: NumberedGame<L>, S: Store, I: Source, O: Sink, L: Ledger>(
         more: MOST_LINES,
         ended: false,
     };
-    let mut spot = Spot {
+    let mut cursor = Cursor {
         number: start,
         code,
         played: 0,
@@ -161,7 +161,7 @@ pub fn play_way<G: NumberedGame<L>, S: Store, I: Source, O: Sink, L: Ledger>(
             table,
             store,
             player,
-            spot,
+            cursor,
             &mut lists,
             &mut reader,
             input,
@@ -170,10 +170,10 @@ pub fn play_way<G: NumberedGame<L>, S: Store, I: Source, O: Sink, L: Ledger>(
         )? {
             Turn::Over(end) => return Ok(end),
             Turn::On(number, code) => {
-                spot = Spot {
+                cursor = Cursor {
                     number,
                     code,
-                    played: spot.played + 1,
+                    played: cursor.played + 1,
                 };
             }
         }

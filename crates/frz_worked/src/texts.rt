@@ -1,11 +1,11 @@
 //! Rules texts.
 
 /// Four pawns a side that block each other.
-pub use frz_handmade::blocked::TEXT as BLOCKED;
+pub use test_tables::blocked::TEXT as BLOCKED;
 
 /// A rook on h1 or h8 and a king on b6 against a king on a8 or b8. A number is 4 where Black is to
 /// move, plus 2 for a rook on h8, plus 1 for a king on b8.
-pub use frz_handmade::rook::TEXT as ROOK;
+pub use test_tables::rook::TEXT as ROOK;
 
 /// The rook and king, where White mates at once when the black king leaves to c8.
 pub const WIN: &str = "freezer 1

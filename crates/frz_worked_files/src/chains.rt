@@ -4,7 +4,6 @@ ghost use Rattle.std.specs.Prelude.{◌≡◌, ◌<◌, ◌≢◌};
 use frz_board::Colour;
 use frz_chain::{ChainFault, ChainVerdict, build_chain, check_chain, pair_value};
 use frz_game::Wrong;
-use frz_handmade::{rook, store_with, table_file};
 use frz_rules::{RulesCause, RulesFault};
 use frz_sets::Value;
 use frz_steps::Steps;
@@ -15,6 +14,7 @@ use std::marker::Brand;
 use std::process::Abort;
 use std::sync::ledger::{Blank, Ledger};
 use std::test::Fail;
+use test_tables::{rook, store_with, table_file};
 
 /// The rook's ending with a line that calls every exit unknown.
 const ROOK_UNKNOWN: &str = "freezer 1

@@ -5,7 +5,6 @@ use crate::stores::table_store;
 use frz_board::Colour;
 use frz_check::{Verdict, check_table};
 use frz_game::Wrong;
-use frz_handmade::{plain_file, rook, store_with};
 use frz_steps::Steps;
 use frz_store::MemStore;
 use frz_table::TableFault;
@@ -14,6 +13,7 @@ use std::marker::Brand;
 use std::process::Abort;
 use std::sync::ledger::{Blank, Ledger};
 use std::test::Fail;
+use test_tables::{plain_file, rook, store_with};
 
 /// The rook's ending with the rook where it gives no mate: 8 numbers.
 const NEAR_ROOK: &str = "freezer 1

@@ -1,7 +1,7 @@
 //! Two files, written out.
 use crate::stores::check_file;
-use frz_handmade::{plain_file, store_with, table_file};
 use std::test::Fail;
+use test_tables::{plain_file, store_with, table_file};
 
 #[test]
 fn writes_numbers_with_the_lowest_byte_first(rt: HostRuntime) -> Result<(), Fail> {

@@ -4,7 +4,6 @@ ghost use Rattle.std.specs.Prelude.{◌≡◌, ◌<◌};
 use crate::stores::{check_bytes, table_store};
 use frz_board::Colour;
 use frz_fen::read_fen;
-use frz_handmade::rook;
 use frz_sets::Value;
 use frz_steps::Steps;
 use frz_store::{Fail as Failing, FailOn, MemSink, MemStore};
@@ -15,6 +14,7 @@ use std::marker::Brand;
 use std::process::Abort;
 use std::sync::ledger::{Blank, Ledger};
 use std::test::Fail;
+use test_tables::rook;
 
 /// The rook's ending with an exit that White wins within 7 plies: 8 numbers.
 const ROOK_AND_EXIT: &str = "freezer 1

@@ -2,7 +2,6 @@
 ghost use Rattle.std.specs.Prelude.{◌≡◌, ◌<◌};
 
 use crate::stores::{check_bytes, table_store};
-use frz_handmade::rook;
 use frz_report::{ReportFault, Totals, report};
 use frz_steps::Steps;
 use frz_store::{Fail as Failing, FailOn, MemSink, MemStore};
@@ -12,6 +11,7 @@ use std::marker::Brand;
 use std::process::Abort;
 use std::sync::ledger::{Blank, Ledger};
 use std::test::Fail;
+use test_tables::rook;
 
 /// The rook's ending where White may move nothing.
 const FORBIDDEN: &str = "freezer 1

@@ -5,7 +5,6 @@ use crate::stores::{check_bytes, table_store};
 use frz_board::Colour;
 use frz_fen::read_fen;
 use frz_game::Wrong;
-use frz_handmade::rook;
 use frz_sets::Value;
 use frz_steps::Steps;
 use frz_store::{Fail as Failing, FailOn, MemSink, MemSource, MemStore};
@@ -18,6 +17,7 @@ use std::marker::Brand;
 use std::process::Abort;
 use std::sync::ledger::{Blank, Ledger};
 use std::test::Fail;
+use test_tables::rook;
 
 /// Two kings far apart, and all is drawn outside: 8 numbers.
 const KINGS: &str = "freezer 1

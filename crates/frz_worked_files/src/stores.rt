@@ -1,9 +1,9 @@
 //! A store in memory that holds the table file of a row, made by hand, and looks at what is held.
-use frz_handmade::{plain_file, store_with};
 use frz_store::{Fail as Failing, MemStore};
 use std::alloc::Global;
 use std::process::Abort;
 use std::test::Fail;
+use test_tables::{plain_file, store_with};
 
 /// A store whose calls fail so, with the table of these codes under the name `A.t`.
 pub(crate) fn table_store(

@@ -5,13 +5,13 @@ mod writing;
 use crate::stores::table_store;
 use byteorder::{ByteOrder, LittleEndian};
 use frz_board::Colour;
-use frz_handmade::{rook, store_with};
 use frz_rules::{RulesCause, RulesFault};
 use frz_store::{Fail as Failing, FailOn, MemStore};
 use frz_table::{FileKind, TableFault, TableFile, open_kind, open_table};
 use std::alloc::Global;
 use std::process::Abort;
 use std::test::Fail;
+use test_tables::{rook, store_with};
 
 /// A king and a rook against a king in the corner: 73 bytes, 8 numbers.
 const ROOK: &[u8] = b"freezer 1

@@ -4,7 +4,6 @@ ghost use Rattle.std.specs.Prelude.{◌≡◌, ◌<◌};
 
 use super::{Said, call, expect_all, expect_said, no_fails, sink, words_of};
 use frz_commands_table::build;
-use frz_handmade::store_with;
 use frz_prelude::Reply;
 use frz_steps::Steps;
 use frz_store::MemStore;
@@ -12,6 +11,7 @@ use std::alloc::Global;
 use std::marker::Brand;
 use std::sync::ledger::{Blank, Ledger};
 use std::test::Fail as TestFail;
+use test_tables::store_with;
 
 /// A promotion on a8, where Black's king may take at once, and the bare kings: 3,840 numbers.
 const BACK: &[u8] = b"freezer 1

@@ -1,9 +1,9 @@
 //! Tables of a rook, made by hand, over one that tells what is outside.
 use super::{Said, call, call_fails, expect_all, expect_said, no_fails, sink};
-use frz_handmade::{plain_file, rook, store_with, table_file};
 use frz_store::{Fail, MemStore};
 use std::alloc::Global;
 use std::test::Fail as TestFail;
+use test_tables::{plain_file, rook, store_with, table_file};
 
 /// The black king has gone to c8, and White wins everywhere outside.
 const NEXT: &str = "freezer 1

@@ -3,11 +3,11 @@ use super::{
     Answered, COUNTED, RULES, Row, expect_all, expect_asking, expect_call, expect_calls,
     expect_file, expect_front, expect_left, expect_length, fails, no_fails,
 };
-use frz_handmade::{blocked, rook, store_with, table_file};
 use frz_store::{FailOn, MemStore};
 use std::alloc::Global;
 use std::process::Abort;
 use std::test::Fail as TestFail;
+use test_tables::{blocked, rook, store_with, table_file};
 
 /// Up to two rooks.
 const ROOKS: &[u8] =

@@ -5,11 +5,11 @@ use super::{
     CORNER, MATE_IN_ONE, RULES, call_fails, call_with_input, expect_ended, no_fails, rook_file,
     sink,
 };
-use frz_handmade::store_with;
 use frz_store::{Fail, MemSink, MemSource, MemStore};
 use std::alloc::Global;
 use std::process::Abort;
 use std::test::Fail as TestFail;
+use test_tables::store_with;
 
 /// The words of a call, what it answers where nothing fails, and the name that it writes.
 struct Asked<'a>(&'a [&'a str], &'a str, Option<&'a str>);

@@ -2,11 +2,11 @@
 ghost use Rattle.std.specs.Prelude.{None};
 
 use super::{MATE_IN_ONE, RULES, call, expect_taken, rook_file, sink};
-use frz_handmade::table_file;
 use frz_store::{Failed, Store, StoreFault};
 use std::alloc::Global;
 use std::process::Abort;
 use std::test::Fail as TestFail;
+use test_tables::table_file;
 
 /// A store in which a name is there at the first call alone, and which keeps no more than these
 /// bytes of it, whatever its length: the others are read as 0.

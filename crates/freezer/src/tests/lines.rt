@@ -4,11 +4,11 @@ use super::{
     Answered, CORNER, COUNTED, DRAWN, MATE_IN_ONE, NEXT_TO_IT, RULES, STALEMATE, call_fails,
     expect_asking, expect_calls, expect_failing, expect_taken, no_fails, repeated, sink,
 };
-use frz_handmade::{rook, store_with};
 use frz_store::{Fail, MemSink};
 use std::alloc::Global;
 use std::process::Abort;
 use std::test::Fail as TestFail;
+use test_tables::{rook, store_with};
 
 /// The rook beside its king: no mate is forced, and the king has no third square.
 const NEAR_ROOK: &[u8] =

@@ -2,11 +2,11 @@
 use super::{
     Answered, expect_call, expect_calls, expect_file, expect_front, expect_length, fails, no_fails,
 };
-use frz_handmade::{plain_file, store_with, table_file};
 use frz_store::{Fail, FailOn, MemStore};
 use std::alloc::Global;
 use std::process::Abort;
 use std::test::Fail as TestFail;
+use test_tables::{plain_file, store_with, table_file};
 
 /// Up to two rooks on h1 and h8. A former number has a digit for each: 0 and 1 are its square, and
 /// 2 means that it is absent. So there are 2 * 3 * 3 * 2 former numbers, and today 2 * 4 * 2.

@@ -4,11 +4,11 @@ use super::{
     CORNER, DRAWN, MATE_IN_ONE, NEXT_TO_IT, RULES, call_fails, call_with_input, expect_ended,
     no_fails, repeated, sink,
 };
-use frz_handmade::rook;
 use frz_store::{Fail, MemSink, MemSource};
 use std::alloc::Global;
 use std::process::Abort;
 use std::test::Fail as TestFail;
+use test_tables::rook;
 
 const ROOK: &[u32] = &rook::CODES;
 

@@ -1,10 +1,10 @@
 //! Reports of tables, those that the program builds and one made by hand.
 use super::{Answered, RULES, call, expect_calls, expect_ended, fails, no_fails, sink};
-use frz_handmade::store_with;
 use frz_store::{Fail, FailOn, MemSink, MemStore};
 use std::alloc::Global;
 use std::process::Abort;
 use std::test::Fail as TestFail;
+use test_tables::store_with;
 
 /// Two kings, far apart: whoever is to move has lost, by the exits that are assigned.
 const LOST: &[u8] = b"freezer 1

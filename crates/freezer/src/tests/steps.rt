@@ -9,7 +9,6 @@ use frz_build::{NewTable, build_table};
 use frz_check::{Verdict, check_kept};
 use frz_exits::RuleBook;
 use frz_game::Game;
-use frz_handmade::blocked;
 use frz_index::Set;
 use frz_rules::{Rules, read_rules};
 use frz_steps::Steps;
@@ -19,6 +18,7 @@ use std::alloc::Global;
 use std::marker::Brand;
 use std::sync::ledger::{Blank, Ledger};
 use std::test::Fail;
+use test_tables::blocked;
 
 /// Builds the table of a game whose set has this size, under the name `T`.
 fn build_game<L: Ledger>(

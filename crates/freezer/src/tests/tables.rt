@@ -3,11 +3,11 @@ use super::{
     Answered, CORNER, MATE_IN_ONE, NEXT_TO_IT, RULES, call_fails, expect_asking, expect_call,
     expect_failing, no_fails, rook_file,
 };
-use frz_handmade::{plain_file, rook, store_with, table_file};
 use frz_store::{Fail, MemStore};
 use std::alloc::Global;
 use std::process::Abort;
 use std::test::Fail as TestFail;
+use test_tables::{plain_file, rook, store_with, table_file};
 
 /// The rook beside its king: no mate is forced.
 const NEAR_ROOK: &[u8] =

@@ -1,6 +1,6 @@
 //! Sizes of sets, worked out by hand.
 use super::{A, KINGS, SetSize, all_sized, sized};
-use frz_handmade::blocked;
+use test_tables::blocked;
 
 const CHOICES: &[SetSize] = &[
     // 2 * 64 * 64 * 64 * 32 and 2 * 64 * 64 * 64 * 33

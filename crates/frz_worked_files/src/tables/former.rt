@@ -1,13 +1,13 @@
 //! Files of the former format that are made by hand, opened and read.
 use super::refusal;
 use frz_former::{OldFile, open_old};
-use frz_handmade::{store_with, table_file};
 use frz_rules::{RulesCause, RulesFault};
 use frz_store::MemStore;
 use frz_table::{FileKind, TableFault};
 use std::alloc::Global;
 use std::process::Abort;
 use std::test::Fail;
+use test_tables::{store_with, table_file};
 
 /// None, one or both rooks: 75 bytes, and 36 numbers in the former format.
 const ROOKS: &str = "freezer 1

@@ -1,12 +1,12 @@
 //! Files and headers that are written, whole and up to a fault.
 use super::{BLACK, ROOK, WHITE, joined, rook_file};
 use crate::stores::check_file;
-use frz_handmade::blocked;
 use frz_store::{Fail as Failing, FailOn, MemStore, Store, StoreFault};
 use frz_table::{FileKind, write_entries, write_header, write_header_kind};
 use std::alloc::Global;
 use std::process::Abort;
 use std::test::Fail;
+use test_tables::blocked;
 
 /// A king and a rook beside it against a king in the corner: 73 bytes, 8 numbers.
 const NEAR_ROOK: &str = "freezer 1

@@ -12,8 +12,8 @@ loop-pred-init g c = let t = c.args.tally.now in record {
   queue = (refl, omega arith, λ j l. refl);
 }
 
-pub meet-requires-clause-meeting : goal.meet-requires-clause-meeting
-meet-requires-clause-meeting g c =
+pub visit_predecessor-requires-clause-meeting : goal.visit_predecessor-requires-clause-meeting
+visit_predecessor-requires-clause-meeting g c =
     let r = c.requires.coming in
     let done = done_mid r.2 c.args.q (drop c.loop-pred.pred-index c.args.preds.now) in (
       r.0,
@@ -30,7 +30,7 @@ loop-pred-preserved g c = record {
   kept = λ k mid done m.
       let before = done_mid done c.args.q (drop c.loop-pred.pred-index c.args.preds.now) in
       let after = done_mid done c.args.q (drop (c.loop-pred.pred-index + 1) c.args.preds.now) in
-      c.meet.ensures.kept k mid before after
+      c.visit_predecessor.ensures.kept k mid before after
       (rw c.pred-item.is
       (through_at c.loop-pred.pred-index c.pred-item.result m c.loop-pred-test.true
       (c.loop-pred.invariant.settled c.args.q m.settled) (c.loop-pred.invariant.kept k mid done m)))
@@ -38,10 +38,10 @@ loop-pred-preserved g c = record {
       (through_more c.loop-pred.pred-index c.pred-item.result m c.loop-pred-test.true));
   settled =
       λ r h. let e =
-      c.loop-pred.invariant.settled r h in c.meet.ensures.settled r (omega (arith, e, h)) ∙ e;
+      c.loop-pred.invariant.settled r h in c.visit_predecessor.ensures.settled r (omega (arith, e, h)) ∙ e;
   queue =
-      grows_on c.args.tally.now c.loop-pred.tally c.meet.new.tally c.loop-pred.invariant.queue
-      c.meet.ensures.queue;
+      grows_on c.args.tally.now c.loop-pred.tally c.visit_predecessor.new.tally c.loop-pred.invariant.queue
+      c.visit_predecessor.ensures.queue;
 }
 
 pub returns-clause-kept : goal.returns-clause-kept

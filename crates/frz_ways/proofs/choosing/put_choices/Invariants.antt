@@ -1,5 +1,5 @@
 use Rattle.std.proofs.Common.{◌≡◌, length, take}
-use Rattle.frz_ways.specs.Sights.{choices_by}
+use Rattle.frz_ways.specs.SeenMoves.{choices_by}
 use Rattle.frz_ways.proofs.choosing.put_choices.Given as goal
 
 abbrev pub invariant-loop-place : goal.invariant-loop-place

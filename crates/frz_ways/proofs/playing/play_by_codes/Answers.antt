@@ -5,13 +5,13 @@ use Rattle.frz_ways.proofs.playing.play_by_codes.Goals as goal
 pub play_at-requires-clause-there : goal.play_at-requires-clause-there
 play_at-requires-clause-there g c =
     let lists = c.args.lists.now in
-    (found_code c.args.own lists.nexts.items lists.codes.items (is_win c.args.spot.code)
-    c.args.spot.code c.place_for-place.result c.place_for-place.ensures.0 c.requires.many
+    (found_code c.args.own lists.nexts.items lists.codes.items (is_win c.args.cursor.code)
+    c.args.cursor.code c.place_for-place.result c.place_for-place.ensures.0 c.requires.many
     c.place_for-place.ensures.1).0
 
 pub play_at-requires-in-Input-clause-there : goal.play_at-requires-in-Input-clause-there
 play_at-requires-in-Input-clause-there g c =
     let lists = c.args.lists.now in
-    (found_code c.args.own lists.nexts.items lists.codes.items (is_win c.args.spot.code)
-    c.args.spot.code c.place_for-place.result c.place_for-place.ensures.0 c.requires.many
+    (found_code c.args.own lists.nexts.items lists.codes.items (is_win c.args.cursor.code)
+    c.args.cursor.code c.place_for-place.result c.place_for-place.ensures.0 c.requires.many
     c.place_for-place.ensures.1).0

@@ -39,7 +39,7 @@ returns-in_err-end-clause-wrote g c =
     let e = c.in_err-end.ensures in
     let w = e.wrote in
     fault_far c.turn.new.reader _ c.plies.invariant.far
-    (at_one arena c.plies.spot.number e.asked e.calls e.step) w.0 w.1 w.2 w.4 w.5
+    (at_one arena c.plies.cursor.number e.asked e.calls e.step) w.0 w.1 w.2 w.4 w.5
     c.in_err-end.field-0.0 c.from_residual.result c.from_residual.ensures.1 e.still_ended w.3 (
       w.6.0,
       may_before c.args.table.now c.args.player.side (table_size c.args.table.now) w.6.0
@@ -53,7 +53,7 @@ returns-in-Over-clause-wrote g c =
     let e = c.in_ok-end.ensures in
     let w = e.wrote in
     over_far c.turn.new.reader _ c.plies.invariant.far
-    (at_one arena c.plies.spot.number e.asked e.calls e.step) w.0 w.1 w.2 w.4 w.5 c.in-Over.is
+    (at_one arena c.plies.cursor.number e.asked e.calls e.step) w.0 w.1 w.2 w.4 w.5 c.in-Over.is
     e.still_ended w.3 (
       w.6.0,
       may_before c.args.table.now c.args.player.side (table_size c.args.table.now) w.6.0
@@ -69,18 +69,18 @@ plies-preserved g c =
     let side = c.args.player.side in
     let e = c.in_ok-end.ensures in
     let w = e.wrote in
-    let to : TurnsTo arena size opponent side c.plies.spot c.plies.reader c.turn.new.reader
+    let to : TurnsTo arena size opponent side c.plies.cursor c.plies.reader c.turn.new.reader
     (On c.in-On.number c.in-On.code) =
-    subst (λ (t : Turn). TurnsTo arena size opponent side c.plies.spot c.plies.reader
+    subst (λ (t : Turn). TurnsTo arena size opponent side c.plies.cursor c.plies.reader
     c.turn.new.reader t) c.in-On.is e.next in
     record {
       inside = to.0;
       stands = inr to.1;
       ended = e.still_ended;
-      few = few_on arena side c.plies.spot c.plies.reader c.turn.new.reader c.in-On.number
+      few = few_on arena side c.plies.cursor c.plies.reader c.turn.new.reader c.in-On.number
           c.in-On.code opponent to.2 c.plies.invariant.few;
       far = next_far c.turn.new.reader _ c.plies.invariant.far
-          (at_one arena c.plies.spot.number e.asked e.calls e.step) w.0 w.1 w.2 w.4 w.5 c.in-On.is
+          (at_one arena c.plies.cursor.number e.asked e.calls e.step) w.0 w.1 w.2 w.4 w.5 c.in-On.is
           w.3 (
             w.6.0,
             may_before c.args.table.now side (table_size c.args.table.now) w.6.0
@@ -102,9 +102,9 @@ plies-smaller g c =
     let size = g.G.NumberedGame.count c.args.game.now in
     let opponent = c.args.player.opponent in
     let side = c.args.player.side in
-    let to : TurnsTo arena size opponent side c.plies.spot c.plies.reader c.turn.new.reader
+    let to : TurnsTo arena size opponent side c.plies.cursor c.plies.reader c.turn.new.reader
     (On c.in-On.number c.in-On.code) =
-    subst (λ (t : Turn). TurnsTo arena size opponent side c.plies.spot c.plies.reader
+    subst (λ (t : Turn). TurnsTo arena size opponent side c.plies.cursor c.plies.reader
     c.turn.new.reader t) c.in-On.is c.in_ok-end.ensures.next in
-    left_on arena side c.plies.spot c.plies.reader c.turn.new.reader c.in-On.number c.in-On.code
+    left_on arena side c.plies.cursor c.plies.reader c.turn.new.reader c.in-On.number c.in-On.code
     opponent to.2

@@ -12,13 +12,13 @@ use Rattle.frz_ways.proofs.way.play_way.Given as goal
 
 abbrev pub invariant-plies : goal.invariant-plies
 invariant-plies g l = record {
-  inside : l.spot.number < g.G.NumberedGame.count l.game;
-  stands : (l.spot.played ≡ 0) ⊎ (is_failure l.spot.code ≡ false);
+  inside : l.cursor.number < g.G.NumberedGame.count l.game;
+  stands : (l.cursor.played ≡ 0) ⊎ (is_failure l.cursor.code ≡ false);
   ended : l.reader.ended ≡ true → HasEnded (source_of g.I.Source l.input);
-  few : HasFew l.player.opponent (g.G.NumberedGame.arena l.game) l.player.side l.reader l.spot;
+  few : HasFew l.player.opponent (g.G.NumberedGame.arena l.game) l.player.side l.reader l.cursor;
   far : SoFar (told_codes l.table l.player.side (g.S.Store.files l.initial.store))
       (table_size l.table)
-      (g.G.NumberedGame.arena l.game) l.player.opponent l.player.side l.start l.code l.spot l.reader
+      (g.G.NumberedGame.arena l.game) l.player.opponent l.player.side l.start l.code l.cursor l.reader
       (source_of g.I.Source l.initial.input) (source_of g.I.Source l.input)
       (sink_of g.O.Sink l.initial.out) (sink_of g.O.Sink l.out)
       (spent_by (store_of g.S.Store l.initial.store) l.initial.steps)
@@ -32,4 +32,4 @@ invariant-plies g l = record {
 
 abbrev pub decreases-plies : goal.decreases-plies
 decreases-plies g l =
-    way_left l.player.opponent (g.G.NumberedGame.arena l.game) l.player.side l.reader l.spot
+    way_left l.player.opponent (g.G.NumberedGame.arena l.game) l.player.side l.reader l.cursor

@@ -18,7 +18,7 @@ returns-in_err-due-clause-wrote g c =
     let known = told_codes c.args.table.now c.args.player.side (g.S.Store.files c.args.store.now) in
     let any = any_read known (table_size c.args.table.now) in
     let h = stopped_by (λ codes. ⊤)
-    (g.G.NumberedGame.arena c.args.game.now) c.args.player.opponent c.args.player.side c.args.spot
+    (g.G.NumberedGame.arena c.args.game.now) c.args.player.opponent c.args.player.side c.args.cursor
     c.args.reader.now
     c.in_err-due.field-0.0 c.from_residual.result (source_of g.I.Source c.args.input.now)
     (sink_of g.O.Sink c.args.out.now) c.from_residual.ensures.1 in
@@ -27,13 +27,13 @@ returns-in_err-due-clause-wrote g c =
 pub returns-in_err-write_opening-clause-wrote : goal.returns-in_err-write_opening-clause-wrote
 returns-in_err-write_opening-clause-wrote g c =
     let read = c.in_ok-due.ensures.codes in
-    let cs = c.sight.new.lists.codes.items in
-    let arms = c.sight.new.lists.nexts.items in
+    let cs = c.inspect.new.lists.codes.items in
+    let arms = c.inspect.new.lists.nexts.items in
     let h = opening_wrote one_chosen c.filled.ensures
     (g.met.G.NumberedGame.finite c.args.game.now c.requires.sound) c.args.player.opponent
-    c.args.player.side c.args.spot cs c.in_ok-due.ensures.arms c.in_ok-due.due
+    c.args.player.side c.args.cursor cs c.in_ok-due.ensures.arms c.in_ok-due.due
     (by_late (g.G.NumberedGame.arena c.args.game.now) c.args.player.opponent c.args.player.side
-    c.args.spot c.sight.new.lists.nexts.items c.sight.new.lists.codes.items c.is_late.result
+    c.args.cursor c.inspect.new.lists.nexts.items c.inspect.new.lists.codes.items c.is_late.result
     c.in_ok-due.due c.is_late.ensures c.in_ok-due.ensures.due) c.args.reader.now
     c.from_residual-in_err-write_opening.result
     (source_of g.I.Source c.args.input.now) (sink_of g.O.Sink c.args.out.now)
@@ -57,19 +57,19 @@ returns-in_err-write_opening-clause-wrote g c =
 pub play-requires-clause-there : goal.play-requires-clause-there
 play-requires-clause-there g c =
     has_move (g.met.G.NumberedGame.finite c.args.game.now c.requires.sound) c.args.player.side
-    c.args.spot c.sight.new.lists.codes.items c.in_ok-due.ensures.arms c.in_ok-due.ensures.read
-    c.requires.stands (late_by c.args.player.opponent c.args.spot.played) c.in_ok-due.due
+    c.args.cursor c.inspect.new.lists.codes.items c.in_ok-due.ensures.arms c.in_ok-due.ensures.read
+    c.requires.stands (late_by c.args.player.opponent c.args.cursor.played) c.in_ok-due.due
     (by_late (g.G.NumberedGame.arena c.args.game.now) c.args.player.opponent c.args.player.side
-    c.args.spot c.sight.new.lists.nexts.items c.sight.new.lists.codes.items c.is_late.result
+    c.args.cursor c.inspect.new.lists.nexts.items c.inspect.new.lists.codes.items c.is_late.result
     c.in_ok-due.due c.is_late.ensures c.in_ok-due.ensures.due)
 
 pub returns-clause-next : goal.returns-clause-next
 returns-clause-next g c =
     turn_next (g.met.G.NumberedGame.finite c.args.game.now c.requires.sound) c.args.player.opponent
-    c.args.player.side c.args.spot c.sight.new.lists.codes.items c.in_ok-due.ensures.arms
+    c.args.player.side c.args.cursor c.inspect.new.lists.codes.items c.in_ok-due.ensures.arms
     c.in_ok-due.ensures.read c.requires.stands c.requires.turns c.in_ok-due.due
     (by_late (g.G.NumberedGame.arena c.args.game.now) c.args.player.opponent c.args.player.side
-    c.args.spot c.sight.new.lists.nexts.items c.sight.new.lists.codes.items c.is_late.result
+    c.args.cursor c.inspect.new.lists.nexts.items c.inspect.new.lists.codes.items c.is_late.result
     c.in_ok-due.due c.is_late.ensures c.in_ok-due.ensures.due) c.args.reader.now
     c.play.new.reader c.play.result (source_of g.I.Source c.args.input.now)
     (source_of g.I.Source c.play.new.input) (sink_of g.O.Sink c.write_opening.new.out)
@@ -78,13 +78,13 @@ returns-clause-next g c =
 pub returns-clause-wrote : goal.returns-clause-wrote
 returns-clause-wrote g c =
     let read = c.in_ok-due.ensures.codes in
-    let cs = c.sight.new.lists.codes.items in
-    let arms = c.sight.new.lists.nexts.items in
+    let cs = c.inspect.new.lists.codes.items in
+    let arms = c.inspect.new.lists.nexts.items in
     let h = turn_wrote one_chosen c.filled.ensures
     (g.met.G.NumberedGame.finite c.args.game.now c.requires.sound) c.args.player.opponent
-    c.args.player.side c.args.spot cs c.in_ok-due.ensures.arms c.in_ok-due.due
+    c.args.player.side c.args.cursor cs c.in_ok-due.ensures.arms c.in_ok-due.due
     (by_late (g.G.NumberedGame.arena c.args.game.now) c.args.player.opponent c.args.player.side
-    c.args.spot c.sight.new.lists.nexts.items c.sight.new.lists.codes.items c.is_late.result
+    c.args.cursor c.inspect.new.lists.nexts.items c.inspect.new.lists.codes.items c.is_late.result
     c.in_ok-due.due c.is_late.ensures c.in_ok-due.ensures.due) c.args.reader.now c.play.new.reader
     c.play.result (source_of g.I.Source c.args.input.now) (source_of g.I.Source c.play.new.input)
     (sink_of g.O.Sink c.args.out.now) (sink_of g.O.Sink c.write_opening.new.out)
@@ -106,8 +106,8 @@ returns-clause-wrote g c =
 
 pub returns-clause-still_ended : goal.returns-clause-still_ended
 returns-clause-still_ended g c =
-    still_ended c.args.player.opponent c.args.player.side c.args.spot c.sight.new.lists.nexts.items
-    c.sight.new.lists.codes.items
+    still_ended c.args.player.opponent c.args.player.side c.args.cursor c.inspect.new.lists.nexts.items
+    c.inspect.new.lists.codes.items
     c.args.reader.now c.play.new.reader c.play.result (source_of g.I.Source c.args.input.now)
     (source_of g.I.Source c.play.new.input) c.in_ok-due.due
     (sink_of g.O.Sink c.write_opening.new.out) (sink_of g.O.Sink c.play.new.out)
@@ -116,9 +116,9 @@ returns-clause-still_ended g c =
 pub returns-clause-placed : goal.returns-clause-placed
 returns-clause-placed g c =
     settled_placed c.play.result
-    (played_settled c.args.player.opponent c.args.player.side c.args.spot
-    c.sight.new.lists.nexts.items
-    c.sight.new.lists.codes.items c.args.reader.now c.play.new.reader c.play.result
+    (played_settled c.args.player.opponent c.args.player.side c.args.cursor
+    c.inspect.new.lists.nexts.items
+    c.inspect.new.lists.codes.items c.args.reader.now c.play.new.reader c.play.result
     (source_of g.I.Source c.args.input.now) (source_of g.I.Source c.play.new.input) c.in_ok-due.due
     (sink_of g.O.Sink c.write_opening.new.out) (sink_of g.O.Sink c.play.new.out)
     c.play.ensures.played)
@@ -126,10 +126,10 @@ returns-clause-placed g c =
 pub returns-clause-cause : goal.returns-clause-cause
 returns-clause-cause g c =
     settled_cause c.play.result (store_of g.S.Store c.args.store.now)
-    (store_of g.S.Store c.sight.new.store)
-    (played_settled c.args.player.opponent c.args.player.side c.args.spot
-    c.sight.new.lists.nexts.items
-    c.sight.new.lists.codes.items c.args.reader.now c.play.new.reader c.play.result
+    (store_of g.S.Store c.inspect.new.store)
+    (played_settled c.args.player.opponent c.args.player.side c.args.cursor
+    c.inspect.new.lists.nexts.items
+    c.inspect.new.lists.codes.items c.args.reader.now c.play.new.reader c.play.result
     (source_of g.I.Source c.args.input.now) (source_of g.I.Source c.play.new.input) c.in_ok-due.due
     (sink_of g.O.Sink c.write_opening.new.out) (sink_of g.O.Sink c.play.new.out)
     c.play.ensures.played)
@@ -149,15 +149,15 @@ returns-in_err-write_opening-clause-kind g c =
 
 pub returns-clause-kind : goal.returns-clause-kind
 returns-clause-kind g c =
-    played_kind c.args.player.opponent c.args.player.side c.args.spot
-    c.sight.new.lists.nexts.items c.sight.new.lists.codes.items c.args.reader.now
+    played_kind c.args.player.opponent c.args.player.side c.args.cursor
+    c.inspect.new.lists.nexts.items c.inspect.new.lists.codes.items c.args.reader.now
     c.play.new.reader c.play.result (source_of g.I.Source c.args.input.now)
     (source_of g.I.Source c.play.new.input) c.in_ok-due.due
     (cut_is_line (g.met.G.NumberedGame.finite c.args.game.now c.requires.sound)
-    c.args.player.opponent c.args.player.side c.args.spot c.sight.new.lists.codes.items
+    c.args.player.opponent c.args.player.side c.args.cursor c.inspect.new.lists.codes.items
     c.in_ok-due.ensures.arms c.in_ok-due.ensures.read c.requires.stands c.in_ok-due.due
     (by_late (g.G.NumberedGame.arena c.args.game.now) c.args.player.opponent c.args.player.side
-    c.args.spot c.sight.new.lists.nexts.items c.sight.new.lists.codes.items c.is_late.result
+    c.args.cursor c.inspect.new.lists.nexts.items c.inspect.new.lists.codes.items c.is_late.result
     c.in_ok-due.due c.is_late.ensures c.in_ok-due.ensures.due))
     (sink_of g.O.Sink c.write_opening.new.out) (sink_of g.O.Sink c.play.new.out)
     c.play.ensures.played

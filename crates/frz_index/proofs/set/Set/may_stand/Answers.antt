@@ -2,7 +2,7 @@ use Rattle.std.proofs.Common.{◌∙◌, ap, arith}
 use Rattle.frz_squares.specs.SquareSets.{has_square}
 use Rattle.frz_squares.proofs.Lemmas.{has-set_of}
 use Rattle.frz_index.specs.Kept.{is_known}
-use Rattle.frz_index.proofs.set.Set.knows.Goals as goal
+use Rattle.frz_index.proofs.set.Set.may_stand.Goals as goal
 
 pub returns : goal.returns
 returns c =

@@ -2,7 +2,7 @@
 ghost use Rattle.std.specs.Prelude.{◌≡◌, ◌++◌, ◌/◌, length, codes, IfOk, OnOk};
 ghost use Rattle.std.specs.List.{flat_map};
 ghost use Rattle.byteorder.specs.Endian.{little_bytes};
-ghost use Rattle.frz_handmade.specs.TableBytes.{table_bytes};
+ghost use Rattle.test_tables.specs.TableBytes.{table_bytes};
 
 use byteorder::{ByteOrder, LittleEndian};
 use std::alloc::Global;

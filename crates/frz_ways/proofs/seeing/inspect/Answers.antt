@@ -7,7 +7,7 @@ use Rattle.frz_table.specs.Tables.{table_size}
 use Rattle.frz_ways.specs.Kept.{told_codes}
 use Rattle.frz_ways.specs.Reads.{AreApart}
 use Rattle.frz_ways.proofs.Gathered.{gather}
-use Rattle.frz_ways.proofs.seeing.sight.Goals as goal
+use Rattle.frz_ways.proofs.seeing.inspect.Goals as goal
 
 pub read_codes-requires-clause-within : goal.read_codes-requires-clause-within
 read_codes-requires-clause-within g c =

@@ -3,9 +3,9 @@ use Rattle.frz_retro.specs.Shape.{shape_of}
 use Rattle.frz_retro.proofs.Laws.{is_graph}
 use Rattle.frz_retro.proofs.Meetings.{Told, told_from, Waits, meet_settled, meet_uncounted, meet_decides, meet_waits, meet_less, meet_last}
 use Rattle.frz_retro.proofs.WorkFacts.{room_for}
-use Rattle.frz_retro.proofs.meeting.meet.Given.{Over}
-use Rattle.frz_retro.proofs.meeting.meet.Goals as goal
-use Rattle.frz_retro.proofs.meeting.meet.Goals.{After-is_counted-counted, Else-is_kind}
+use Rattle.frz_retro.proofs.meeting.visit_predecessor.Given.{Over}
+use Rattle.frz_retro.proofs.meeting.visit_predecessor.Goals as goal
+use Rattle.frz_retro.proofs.meeting.visit_predecessor.Goals.{After-is_counted-counted, Else-is_kind}
 
 -- what the graph has told
 told : (g : Over) (c : After-is_counted-counted g) →

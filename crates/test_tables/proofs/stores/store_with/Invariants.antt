@@ -1,7 +1,7 @@
 use Rattle.std.proofs.Common.{◌≡◌, fold, take}
 use Rattle.frz_store.specs.Files.{no_files, put}
 use Rattle.frz_store.specs.MemStore.{files, room}
-use Rattle.frz_handmade.proofs.stores.store_with.Given as goal
+use Rattle.test_tables.proofs.stores.store_with.Given as goal
 
 abbrev pub invariant-loop-name : goal.invariant-loop-name
 invariant-loop-name l =
