@@ -5,7 +5,7 @@ use Rattle.std.specs.Prelude.{◌==◌, not}
 use Rattle.std.proofs.lemmas.Bool.{and_from, and_parts, cases_eq, eq-eqb, eqb-true}
 use Rattle.std.proofs.lemmas.Bool.Decides.{nat_tests}
 use Rattle.std.proofs.lemmas.List.Sums.{sum_by-set}
-use Rattle.frz_board.proofs.Lemmas.{cell_forth, cell-some, other_differs}
+use Rattle.frz_board.proofs.Lemmas.{attacks_too, cell_forth, cell-some, other_differs}
 use Rattle.frz_board.specs.declared.man.Colour.{Colour}
 use Rattle.frz_board.specs.declared.man.Colour.TheVariants.{White, Black}
 use Rattle.frz_board.specs.declared.man.Kind.{Kind}
@@ -52,40 +52,6 @@ only_king p c a b size kings la lb ha hb ab =
     let one_b : one f (slice_index p.cells b) ≡ 1 = ap (λ x. cond x 1 0) hb in
     let all = kings_of p c kings in
     omega (arith, zero, first, second, same, one_a, one_b, all)
-
-module _ (q p : Board)
-    (emptier : (s : ℕ) → s < 64 → is_empty q s ≡ true → is_empty p s ≡ true) where
-  clear_too : (a b : ℕ) → is_clear q a b ≡ true → is_clear p a b ≡ true
-  clear_too a b h =
-      all_squares (λ s. not (is_between a s b) || is_empty p s)
-      (λ s l. implies (is_between a s b) (is_empty p s)
-      (λ w. emptier s l
-      (implied (is_between a s b) (is_empty q s)
-      (each_square (λ k. not (is_between a k b) || is_empty q k) h s l) w)))
-
-  along : (x : Bool) (a b : ℕ) → (x && is_clear q a b) ≡ true → (x && is_clear p a b) ≡ true
-  along x a b h =
-      let parts = and_parts x (is_clear q a b) h in and_from x (is_clear p a b) parts.0
-      (clear_too a b parts.1)
-
-  reaches_too : (c : Colour) (k : Kind) (a b : ℕ) → reaches q c k a b ≡ true →
-      reaches p c k a b ≡ true
-  reaches_too c King a b h = h
-  reaches_too c Queen a b h = along (is_rook_line a b || is_bishop_line a b) a b h
-  reaches_too c Rook a b h = along (is_rook_line a b) a b h
-  reaches_too c Bishop a b h = along (is_bishop_line a b) a b h
-  reaches_too c Knight a b h = h
-  reaches_too c Pawn a b h = h
-
-  man_reaches_too : (o : Option Man) (a b : ℕ) → man_reaches q o a b ≡ true →
-      man_reaches p o a b ≡ true
-  man_reaches_too None a b h = h
-  man_reaches_too (Some man) a b h = reaches_too man.colour man.kind a b h
-
-  attacks_too : (a b : ℕ) → slice_index q.cells a ≡ slice_index p.cells a →
-      attacks q a b ≡ true → attacks p a b ≡ true
-  attacks_too a b same h =
-      ap (λ x. man_reaches p (man_of_cell x) a b) (sym same) ∙ man_reaches_too (man_on q a) a b h
 
 -- the beginning of a line does not stand between
 start_apart : (a b : ℕ) → is_between a a b ≡ false
