@@ -22,7 +22,7 @@ use Rattle.frz_unmove.specs.Gathering.{Comes, ComesFrom, taken_of, target_of, ta
 use Rattle.frz_unmove.proofs.Undone.{written, written-length}
 use Rattle.frz_unmove.proofs.Coming.{comes_before, v}
 
--- what was taken stands on the move's end
+-- a board has as many cells as the one before it
 before_size : (q : Board) (m : Step) (taken : ℕ) (target : Option ℕ) →
     length (before q (name m taken target)).cells ≡ 64 → length q.cells ≡ 64
 before_size q m taken target h =
@@ -35,6 +35,7 @@ back_by : (t : Bool) (e a b y v w x : ℕ) → (a ≡ b → ⊥) → (t ≡ true
 back_by false e a b y v w x ne he = grind (arith, nat_tests)
 back_by true e a b y v w x ne he = let n : b ≢ e = he refl in grind (arith, nat_tests)
 
+-- what was taken stands on the move's end
 taken_back : (q : Board) (m : Step) (taken : ℕ) (target : Option ℕ) → length q.cells ≡ 64 →
     m.from < 64 → m.to < 64 → (m.from ≡ m.to → ⊥) →
     slice_index (before q (name m taken target)).cells m.to ≡ taken
