@@ -10,7 +10,7 @@ use Rattle.frz_prelude.specs.Positions.{on_position}
 use Rattle.frz_prelude.proofs.Lemmas.{fen_lawful}
 use Rattle.frz_commands_ask.specs.Kept.{answer_by, kept_of}
 use Rattle.frz_commands_ask.specs.Querying.{querying_at, querying_words}
-use Rattle.frz_commands_ask.proofs.QueryMeans.{query_means}
+use Rattle.frz_commands_ask.proofs.Lemmas.{query_means}
 
 querying_lawful : (table : List ℕ) (p : Board) → IsLawful (querying_at Atlas table p)
 querying_lawful table p = record {

@@ -1,6 +1,6 @@
 pub mod Lemmas
-pub mod Pascals
-pub mod Ranking
-pub mod Selecting
-pub mod Digits
-pub mod Rows
+mod Pascals
+mod Ranking
+mod Selecting
+mod Digits
+mod Rows

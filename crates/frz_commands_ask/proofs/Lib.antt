@@ -1,11 +1,11 @@
-pub mod Solved
-pub mod SolvedOnce
-pub mod Entries
-pub mod Meaning
-pub mod Asked
-pub mod KeptFiles
-pub mod QueryMeans
-pub mod Queried
+mod Solved
+mod SolvedOnce
+mod Entries
+mod Meaning
+mod Asked
+mod KeptFiles
+mod QueryMeans
+mod Queried
 pub mod Lemmas
 mod Reported
 mod ReportMeans

@@ -12,7 +12,7 @@ use Rattle.frz_board.specs.Men.{cell_of_man}
 use Rattle.frz_board.specs.declared.man.Colour.{Colour}
 use Rattle.frz_board.specs.declared.man.Kind.{Kind}
 use Rattle.frz_board.specs.declared.man.Man.{Man}
-use Rattle.frz_combinations.proofs.Digits.{digits_fit, value-digits}
+use Rattle.frz_combinations.proofs.Lemmas.{digits_fit, value-digits}
 use Rattle.frz_combinations.specs.MixedRadix.{AreDigits, digits, product, value}
 use Rattle.frz_combinations.specs.Selections.{digit, selection_at}
 use Rattle.frz_sets.specs.Groups.{state_number}

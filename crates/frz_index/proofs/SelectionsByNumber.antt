@@ -7,7 +7,7 @@ use Rattle.std.proofs.lemmas.Bool.Decides.{nat_tests}
 use Rattle.frz_combinations.specs.Binomials.{choose}
 use Rattle.frz_combinations.specs.Combinations.{AreDescending, places_below, rank, unrank}
 use Rattle.frz_combinations.specs.Selections.{choices, count_and_rank, digit, radix, selection_at}
-use Rattle.frz_combinations.proofs.Ranking.{rank-unrank}
+use Rattle.frz_combinations.proofs.Lemmas.{rank-unrank}
 
 -- so many places more than the least, and a rank below their binomial, make the number
 record Found (s l n r : ℕ) (x : ℕ × ℕ) : Type 0 where

@@ -10,8 +10,7 @@ use Rattle.frz_board.specs.declared.man.Kind.{Kind}
 use Rattle.frz_board.specs.declared.man.Man.{Man}
 use Rattle.frz_board.specs.Boards.{Board}
 use Rattle.frz_board.specs.Men.{cell_of_man}
-use Rattle.frz_combinations.proofs.Lemmas.{choose-one}
-use Rattle.frz_combinations.proofs.Pascals.{choose-zero}
+use Rattle.frz_combinations.proofs.Lemmas.{choose-one, choose-zero}
 use Rattle.frz_combinations.specs.Binomials.{choose}
 use Rattle.frz_combinations.specs.Selections.{choices, digit}
 use Rattle.frz_sets.specs.Sets.{is_state}
