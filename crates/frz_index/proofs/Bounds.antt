@@ -10,7 +10,7 @@ use Rattle.frz_combinations.specs.MixedRadix.{product, value}
 use Rattle.frz_index.proofs.GroupSteps.{product_some}
 use Rattle.frz_index.proofs.WholeNumbers.{Num_below}
 use Rattle.frz_index.specs.Kept.{AreNumberable}
-use Rattle.frz_index.specs.Members.{Member}
+use Rattle.frz_index.specs.Members.{HasNumber, Member}
 use Rattle.frz_index.specs.Places.{digit_of}
 use Rattle.frz_index.specs.TurnStates.{turn_number}
 use Rattle.frz_sets.specs.Sets.{is_possible, radix_of, targets}
@@ -29,6 +29,10 @@ pub number_fits : (gs : List GroupLine) (p : Board) → AreNumberable gs → Mem
     turn_number gs p.turn p.ep * product (map radix_of gs) + value (map radix_of gs)
     (map (digit_of p) gs) < 134217728
 number_fits gs p s m = omega (arith, Num_below gs p m, s.size)
+
+pub number_small : (gs : List GroupLine) (n : ℕ) (p : Board) → AreNumberable gs → HasNumber gs n p →
+    n < 134217728
+number_small gs n p s h = omega (arith, h.number, Num_below gs p h.member, s.size)
 
 squares_low : (k d : ℕ) → k < length squares → get_or squares k d < 64
 squares_low k d h =

@@ -353,3 +353,13 @@ charted_step gs n charts g chart h e is = record {
 pub charted_end : (gs : List GroupLine) (n : ℕ) (charts : List Chart) → Charted gs n charts →
     n ≡ length gs → AreCharts gs charts
 charted_end gs n charts h e = record { size = h.size ∙ e; each = h.each }
+
+-- with charts, the states of each group are in order
+pub states_in_order : (gs : List GroupLine) (charts : List Chart) (k : ℕ) (g : GroupLine) →
+    AreCharts gs charts → slice_get gs k ≡ Some g → AreStates g.states
+states_in_order gs charts k g h there =
+    let low = slice_get_within gs k g there in
+    let size = h.size in
+    (h.each k g _ there
+    (slice_get-get_or charts k (record { words = []; cuts = []; first = 0; end = 0 })
+    (omega (arith, low, size)))).in_order

@@ -8,7 +8,7 @@ use Rattle.frz_board.specs.declared.man.Man.{Man}
 use Rattle.frz_sets.specs.Sets.{is_state}
 use Rattle.frz_sets.specs.Views.{GroupLine}
 use Rattle.frz_index.proofs.RoomForMen.{any_at, at_itself, is_at}
-use Rattle.frz_index.specs.Stepping.{IsPlace, IsShare}
+use Rattle.frz_index.specs.Stepping.{IsPlace, IsShare, IsSharedOnBoth}
 
 -- the man is a state of the group where it has a place for him
 state_of_place : (g : GroupLine) (man : Man) (s k : ℕ) → IsPlace g man s k →
@@ -27,6 +27,24 @@ share_once gs man s i j x y hi hj =
           let on = state_of_place hi.group man s hi.place hi.place_is in
           absurd cc
     ]
+
+-- two shares by the same group
+abbrev pub shared_on_both : (gs : List GroupLine) (man : Man) (a b i j left comes : ℕ) → i ≡ j →
+    IsShare gs man a i left → IsShare gs man b j comes → IsSharedOnBoth gs man a b
+shared_on_both gs man a b i j left comes same there then = record {
+  group = i;
+  left = left;
+  comes = comes;
+  there = there;
+  then = subst (λ k. IsShare gs man b k comes) (sym same) then;
+}
+
+-- where one group has a share of him on both squares, his shares there are by the same group
+pub same_group : (gs : List GroupLine) (man : Man) (a b i j left comes : ℕ) →
+    IsSharedOnBoth gs man a b → IsShare gs man a i left → IsShare gs man b j comes → i ≡ j
+same_group gs man a b i j left comes both there then =
+    share_once gs man a i both.group left both.left there both.there
+    ∙ share_once gs man b both.group j both.comes comes both.then then
 
 module _ (gs : List GroupLine) (man : Man) (s i : ℕ) (g : GroupLine)
     (there : slice_get gs i ≡ Some g) where

@@ -5,7 +5,7 @@ use Rattle.std.specs.Prelude.{◌==◌, ◌&&◌}
 use Rattle.std.specs.List.{slice_get}
 use Rattle.std.proofs.lemmas.Bool.{and_from, and_parts, and_right, cases_Bool, cases_eq, eqb-true, eq-eqb, false_from_ne_true}
 use Rattle.std.proofs.lemmas.Option.{same_Some, slice_get_within}
-use Rattle.frz_board.proofs.Lemmas.{cell-some, set_at}
+use Rattle.frz_board.proofs.Lemmas.{cell_back, cell-some, set_at}
 use Rattle.frz_board.specs.declared.man.Colour.{Colour}
 use Rattle.frz_board.specs.declared.man.Colour.TheVariants.{White, Black}
 use Rattle.frz_board.specs.declared.man.Kind.{Kind}
@@ -13,7 +13,7 @@ use Rattle.frz_board.specs.declared.man.Kind.TheVariants.{King, Queen, Rook, Bis
 use Rattle.frz_board.specs.Moving.{Step}
 use Rattle.frz_fide.specs.Legal.{advances, after, after_man, beside_on_file, is_home, is_target, passed_over, takes_in_passing}
 use Rattle.frz_board.specs.declared.man.Man.{Man}
-use Rattle.frz_board.specs.Boards.{Board, is_empty}
+use Rattle.frz_board.specs.Boards.{Board, is_empty, man_on}
 use Rattle.frz_board.specs.EnPassant.{has_pawn_beside}
 use Rattle.frz_board.specs.Squares.{files_apart, is_forward, rank_of}
 use Rattle.frz_board.specs.Men.{cell_of_man, number_of_kind, other_of}
@@ -160,6 +160,40 @@ stands_there g man r s k pl is =
     (cell_of_man (record { colour = g.colour; kind = man.kind }))
     (is ∙ ap (λ c. cell_of_man (record { colour = c; kind = man.kind })) (sym pl.0))
 
+-- a group whose states have the same men on both boards
+module _ (p q : Board) (cell a b : ℕ) (g : GroupLine)
+    (same_stand : (j : ℕ) (o : Option (Kind × ℕ)) → slice_get g.states j ≡ o →
+    stands q g.colour o ≡ stands p g.colour o)
+    (covered : is_state cell a g ≡ true → is_state cell b g ≡ true) where
+  same_places : places q g ≡ places p g
+  same_places =
+      same_below (λ k. stands q g.colour (slice_get g.states k))
+      (λ k. stands p g.colour (slice_get g.states k))
+      (λ k. same_stand k (slice_get g.states k) refl) (length g.states)
+
+  pub unshifted : IsWithinCount p g → Shifts p q cell a b g 0 0
+  unshifted w =
+      let same = sym (ap length same_places) in
+      record {
+        digit = ap (λ d. d + 0) (ap (digit (length g.states) g.least) same_places);
+        counted = record {
+          least = subst (λ n. g.least ≤ n) same w.least;
+          most = subst (λ n. n ≤ g.most) same w.most;
+        };
+        covered = covered;
+      }
+
+-- the man goes to an empty square
+pub step_to_empty : (p : Board) (man : Man) (a b : ℕ) → length p.cells ≡ 64 → a < 64 → b < 64 →
+    man_on p a ≡ Some man → is_empty p b ≡ true → IsStep p man a b
+step_to_empty p man a b size from to stands empty = record {
+  size = size;
+  from = from;
+  to = to;
+  stood = cell_back _ man.colour man.kind stands;
+  free = eqb-true _ 0 empty;
+}
+
 module _ (p : Board) (man : Man) (a b : ℕ) (target : Option ℕ) (h : IsStep p man a b) where
   abbrev pub q : Board
   q = stepped p man a b target
@@ -219,23 +253,8 @@ module _ (p : Board) (man : Man) (a b : ℕ) (target : Option ℕ) (h : IsStep p
           ]
         ]
 
-    same_places : places q g ≡ places p g
-    same_places =
-        same_below (λ k. stands q g.colour (slice_get g.states k))
-        (λ k. stands p g.colour (slice_get g.states k))
-        (λ k. same_stand k (slice_get g.states k) refl) (length g.states)
-
     pub stays : IsWithinCount p g → Shifts p q (cell_of_man man) a b g 0 0
-    stays w =
-        let same = sym (ap length same_places) in
-        record {
-          digit = ap (λ d. d + 0) (ap (digit (length g.states) g.least) same_places);
-          counted = record {
-            least = subst (λ n. g.least ≤ n) same w.least;
-            most = subst (λ n. n ≤ g.most) same w.most;
-          };
-          covered = λ t. absurd cc;
-        }
+    stays = unshifted p q (cell_of_man man) a b g same_stand (λ t. absurd cc)
 
   -- a group that has the man on both, and no other man
   module _ (g : GroupLine) (in_order : AreStates g.states) (ka kb : ℕ) (pa : IsPlace g man a ka)

@@ -1,5 +1,5 @@
 -- A man taken off the board: the cells, and the digits of the groups.
-use Rattle.std.proofs.Common.{◌≡◌, ◌≢◌, ℕ, ◌+◌, ◌-◌, ◌<◌, ◌≤◌, Bool, true, false, cond, Option, None, Some, List, [], ◌∷◌, length, slice_index, slice_set, refl, ap, sym, subst, ◌∙◌, arith, inl, inr, length-set}
+use Rattle.std.proofs.Common.{◌≡◌, ◌≢◌, ℕ, ◌+◌, ◌-◌, ◌<◌, Bool, true, false, cond, Option, None, Some, List, [], ◌∷◌, length, slice_index, slice_set, refl, ap, sym, ◌∙◌, arith, inl, inr, length-set}
 use Rattle.std.specs.Prelude.{◌==◌}
 use Rattle.std.specs.List.{slice_get}
 use Rattle.std.proofs.lemmas.Bool.{cases_eq, eqb-true, eq-eqb, false_from_ne_true}
@@ -16,8 +16,7 @@ use Rattle.frz_combinations.specs.Selections.{choices, digit}
 use Rattle.frz_sets.specs.Sets.{is_state}
 use Rattle.frz_sets.specs.Views.{GroupLine}
 use Rattle.frz_index.proofs.Counting.{skip}
-use Rattle.frz_index.proofs.Partners.{same_below}
-use Rattle.frz_index.proofs.Stepping.{Shifts, no_man, not_the_man, one_place, single, stands_there}
+use Rattle.frz_index.proofs.Stepping.{Shifts, no_man, not_the_man, one_place, single, stands_there, unshifted}
 use Rattle.frz_index.specs.Places.{IsWithinCount, digit_of, places, stands}
 use Rattle.frz_index.specs.Stepping.{IsPlace, IsStep, stepped}
 
@@ -58,23 +57,8 @@ module _ (p : Board) (taken : Man) (b : ℕ) (size : length p.cells ≡ 64) (low
               (at_others st.1 other)
         ]
 
-    same_places : places r g ≡ places p g
-    same_places =
-        same_below (λ k. stands r g.colour (slice_get g.states k))
-        (λ k. stands p g.colour (slice_get g.states k))
-        (λ k. same_stand k (slice_get g.states k) refl) (length g.states)
-
     pub rests : IsWithinCount p g → Shifts p r (cell_of_man taken) b b g 0 0
-    rests w =
-        let same = sym (ap length same_places) in
-        record {
-          digit = ap (λ d. d + 0) (ap (digit (length g.states) g.least) same_places);
-          counted = record {
-            least = subst (λ n. g.least ≤ n) same w.least;
-            most = subst (λ n. n ≤ g.most) same w.most;
-          };
-          covered = λ t. t;
-        }
+    rests = unshifted p r (cell_of_man taken) b b g same_stand (λ t. t)
 
   -- a group that has the man there and no other, and may be empty
   module _ (g : GroupLine) (k : ℕ) (there : IsPlace g taken b k) (one : g.most ≡ 1)

@@ -1,50 +1,33 @@
-use Rattle.std.proofs.Common.{◌≤◌, ◌+◌, ◌∙◌, None, arith, refl, [], subst, sym}
-use Rattle.std.proofs.lemmas.Bool.{eqb-true}
-use Rattle.std.proofs.lemmas.Option.{slice_get-get_or, slice_get_within}
-use Rattle.frz_board.proofs.Lemmas.{cell_back}
+use Rattle.std.proofs.Common.{◌≤◌, ◌+◌, None, arith, refl, subst, sym}
 use Rattle.frz_board.specs.Boards.{Board}
 use Rattle.frz_board.specs.Men.{other_of}
-use Rattle.frz_sets.specs.Sound.{AreStates}
 use Rattle.frz_index.proofs.NumbersAfterSteps.{after_step, none_told, share_small}
-use Rattle.frz_index.proofs.OneShare.{share_once}
-use Rattle.frz_index.proofs.WholeNumbers.{Num_below}
+use Rattle.frz_index.proofs.OneShare.{same_group, shared_on_both}
+use Rattle.frz_index.proofs.Bounds.{number_small}
+use Rattle.frz_index.proofs.Charting.{states_in_order}
+use Rattle.frz_index.proofs.Stepping.{step_to_empty}
 use Rattle.frz_index.specs.Members.{HasNumber}
-use Rattle.frz_index.specs.Stepping.{IsSharedOnBoth, IsShare, IsStep, number_after, stepped, turn_adds}
+use Rattle.frz_index.specs.Stepping.{IsSharedOnBoth, IsStep, number_after, stepped, turn_adds}
 use Rattle.frz_index.proofs.across.number_after_in.Goals as goal
 use Rattle.frz_index.proofs.across.number_after_in.Goals.{Else-left-comes}
 
 is_step : (c : Else-left-comes) → IsStep c.args.p.now c.args.man c.args.from c.args.to
-is_step c = record {
-  size = c.requires.number.member.valid.fits.size;
-  from = let low = c.number-from.ensures.on_board in
-      let e = c.number-from.ensures.number in omega (arith, low, e);
-  to = let low = c.number-to.ensures.on_board in
-      let e = c.number-to.ensures.number in omega (arith, low, e);
-  stood = cell_back _ c.args.man.colour c.args.man.kind c.requires.man;
-  free = eqb-true _ 0 c.requires.free;
-}
+is_step c =
+    let low_from = c.number-from.ensures.on_board in
+    let from_is = c.number-from.ensures.number in
+    let low_to = c.number-to.ensures.on_board in
+    let to_is = c.number-to.ensures.number in
+    step_to_empty c.args.p.now c.args.man c.args.from c.args.to
+    c.requires.number.member.valid.fits.size (omega (arith, low_from, from_is))
+    (omega (arith, low_to, to_is)) c.requires.man c.requires.free
 
 -- the group that counts the man on both squares
-from_share : (c : Else-left-comes) → IsShare c.args.plan.now.groups.items c.args.man c.args.from
-    c.in_ok-left.left.group c.in_ok-left.left.adds
-from_share c = c.in_ok-left.ensures
-
-to_share : (c : Else-left-comes) → IsShare c.args.plan.now.groups.items c.args.man c.args.to
-    c.in_ok-left.left.group c.in_ok-comes.comes.adds
-to_share c =
-    subst (λ k. IsShare c.args.plan.now.groups.items c.args.man c.args.to k
-    c.in_ok-comes.comes.adds) (sym c.if-left-comes.false) c.in_ok-comes.ensures
-
-in_order : (c : Else-left-comes) → AreStates (from_share c).group.states
-in_order c =
-    let plan = c.requires.plan in
-    let share = from_share c in
-    let k = c.in_ok-left.left.group in
-    let low = slice_get_within c.args.plan.now.groups.items k share.group share.there in
-    let size = plan.charts_are.size in
-    (plan.charts_are.each k share.group _ share.there
-    (slice_get-get_or c.args.plan.now.charts.items k
-    (record { words = []; cuts = []; first = 0; end = 0 }) (omega (arith, low, size)))).in_order
+abbrev both : (c : Else-left-comes) → IsSharedOnBoth c.args.plan.now.groups.items c.args.man
+    c.args.from c.args.to
+both c =
+    shared_on_both c.args.plan.now.groups.items c.args.man c.args.from c.args.to
+    c.in_ok-left.left.group c.in_ok-comes.comes.group c.in_ok-left.left.adds
+    c.in_ok-comes.comes.adds c.if-left-comes.false c.in_ok-left.ensures c.in_ok-comes.ensures
 
 abbrev gone : (c : Else-left-comes) → Board
 gone c = stepped c.args.p.now c.args.man c.args.from c.args.to c.args.target.now
@@ -60,8 +43,10 @@ told : (c : Else-left-comes) → let gs = c.args.plan.now.groups.items in
 told c =
     after_step c.args.plan.now.groups.items c.args.p.now c.args.man c.args.from c.args.to
     c.args.target.now c.args.i c.in_ok-left.left.group c.in_ok-left.left.adds
-    c.in_ok-comes.comes.adds c.requires.number (is_step c) c.requires.valid (from_share c)
-    (in_order c) (to_share c)
+    c.in_ok-comes.comes.adds c.requires.number (is_step c) c.requires.valid (both c).there
+    (states_in_order c.args.plan.now.groups.items c.args.plan.now.charts.items
+    c.in_ok-left.left.group (both c).there.group c.requires.plan.charts_are (both c).there.there)
+    (both c).then
 
 pub returns-in_err-left-clause-told : goal.returns-in_err-left-clause-told
 returns-in_err-left-clause-told c =
@@ -80,20 +65,13 @@ returns-then-left-comes-clause-told c =
     let gs = c.args.plan.now.groups.items in
     none_told None (IsSharedOnBoth gs c.args.man c.args.from c.args.to) refl
     (λ t. c.if-left-comes.true
-    (share_once gs c.args.man c.args.from c.in_ok-left.left.group t.group c.in_ok-left.left.adds
-    t.left c.in_ok-left.ensures t.there
-    ∙ share_once gs c.args.man c.args.to t.group c.in_ok-comes.comes.group t.comes
-    c.in_ok-comes.comes.adds t.then c.in_ok-comes.ensures))
+    (same_group gs c.args.man c.args.from c.args.to c.in_ok-left.left.group
+    c.in_ok-comes.comes.group c.in_ok-left.left.adds c.in_ok-comes.comes.adds t
+    c.in_ok-left.ensures c.in_ok-comes.ensures))
 
 pub returns-clause-told : goal.returns-clause-told
 returns-clause-told c = (
-  λ _. record {
-    group = c.in_ok-left.left.group;
-    left = c.in_ok-left.left.adds;
-    comes = c.in_ok-comes.comes.adds;
-    there = from_share (goal.at.returns-clause-told c).Else-left-comes;
-    then = to_share (goal.at.returns-clause-told c).Else-left-comes;
-  },
+  λ _. both (goal.at.returns-clause-told c).Else-left-comes,
   λ _. refl,
 )
 
@@ -108,11 +86,8 @@ number_by-requires-clause-some c =
 
 pub number_by-requires-clause-small : goal.number_by-requires-clause-small
 number_by-requires-clause-small c =
-    let h = (told (goal.at.number_by-requires-clause-small c).Else-left-comes).1 in
-    let below = Num_below c.args.plan.now.groups.items _ h.member in
-    let is = h.number in
-    let size = c.requires.plan.numberable.size in
-    omega (arith, is, below, size)
+    number_small c.args.plan.now.groups.items _ _ c.requires.plan.numberable
+    (told (goal.at.number_by-requires-clause-small c).Else-left-comes).1
 
 pub returns-clause-number : goal.returns-clause-number
 returns-clause-number c =

@@ -1,13 +1,13 @@
-use Rattle.std.proofs.Common.{◌<◌, List, arith, length, refl, [], subst, sym}
-use Rattle.std.proofs.lemmas.Bool.{eqb-true}
-use Rattle.std.proofs.lemmas.Option.{slice_get-get_or, slice_get_within}
-use Rattle.frz_board.proofs.Lemmas.{cell_back}
+use Rattle.std.proofs.Common.{◌<◌, List, arith, length, refl, subst, sym}
+use Rattle.std.proofs.lemmas.Option.{slice_get_within}
 use Rattle.frz_board.specs.Boards.{Board}
 use Rattle.frz_sets.specs.Sound.{AreStates}
 use Rattle.frz_sets.specs.Views.{GroupLine}
 use Rattle.frz_index.proofs.AmongSeveral.{StepTold, SumTold, after_among, counted_on_both, on_both, with_sums}
 use Rattle.frz_index.proofs.NumbersAfterSteps.{none_told}
-use Rattle.frz_index.proofs.WholeNumbers.{Num_below}
+use Rattle.frz_index.proofs.Bounds.{number_small}
+use Rattle.frz_index.proofs.Charting.{states_in_order}
+use Rattle.frz_index.proofs.Stepping.{step_to_empty}
 use Rattle.frz_index.specs.Members.{HasNumber}
 use Rattle.frz_index.specs.Places.{IsWithinCount}
 use Rattle.frz_index.specs.Stepping.{HasOnBoth, IsCountedOnBoth, IsStep, stepped}
@@ -24,23 +24,19 @@ within : (c : After-gone-q) → c.in_ok-k.k < length c.args.plan.now.groups.item
 within c = slice_get_within c.args.plan.now.groups.items c.in_ok-k.k (on c).0 (on c).1
 
 is_step : (c : After-gone-q) → IsStep c.args.p.now c.args.man c.args.from c.args.to
-is_step c = record {
-  size = c.requires.number.member.valid.fits.size;
-  from = let low = c.number-from.ensures.on_board in
-      let e = c.number-from.ensures.number in omega (arith, low, e);
-  to = let low = c.number-to.ensures.on_board in
-      let e = c.number-to.ensures.number in omega (arith, low, e);
-  stood = cell_back _ c.args.man.colour c.args.man.kind c.requires.man;
-  free = eqb-true _ 0 c.requires.free;
-}
+is_step c =
+    let low_from = c.number-from.ensures.on_board in
+    let from_is = c.number-from.ensures.number in
+    let low_to = c.number-to.ensures.on_board in
+    let to_is = c.number-to.ensures.number in
+    step_to_empty c.args.p.now c.args.man c.args.from c.args.to
+    c.requires.number.member.valid.fits.size (omega (arith, low_from, from_is))
+    (omega (arith, low_to, to_is)) c.requires.man c.requires.free
 
 in_order : (c : After-gone-q) → AreStates (on c).0.states
 in_order c =
-    let charts = c.requires.plan.charts_are in
-    (charts.each c.in_ok-k.k (on c).0 _ (on c).1
-    (slice_get-get_or c.args.plan.now.charts.items c.in_ok-k.k
-    (record { words = []; cuts = []; first = 0; end = 0 })
-    (omega (arith, within c, charts.size)))).in_order
+    states_in_order c.args.plan.now.groups.items c.args.plan.now.charts.items c.in_ok-k.k (on c).0
+    c.requires.plan.charts_are (on c).1
 
 told : (c : After-gone-q) → StepTold c.args.plan.now.groups.items c.args.p.now c.args.man
     c.args.from c.args.to c.args.target.now c.args.i c.in_ok-k.k (on c).0
@@ -104,11 +100,8 @@ pub number_by-requires-clause-small : goal.number_by-requires-clause-small
 number_by-requires-clause-small c =
     let d = (goal.at.number_by-requires-clause-small c).After-gone-q in
     let e = (goal.at.number_by-requires-clause-small c).In_ok-comes in
-    let h = (sum e (on d) (told d)).1 in
-    let below = Num_below c.args.plan.now.groups.items _ h.member in
-    let is = h.number in
-    let size = c.requires.plan.numberable.size in
-    omega (arith, is, below, size)
+    number_small c.args.plan.now.groups.items _ _ c.requires.plan.numberable
+    (sum e (on d) (told d)).1
 
 pub returns-clause-told : goal.returns-clause-told
 returns-clause-told c =
