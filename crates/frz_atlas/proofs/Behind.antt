@@ -158,24 +158,26 @@ module _ (names : List (List ℕ)) (backs : List Back) (old mid new : StoreTold)
       → MayBeRefused backs held fault
       → IsOneRefused (all_held h.tables ++ (held ∷ rest)) (back_fault (length h.tables) fault)
   refused_next fault held rest r =
-      by fault (subst (λ (b : List Back). MayBeRefused b held fault) h.keeps r)
+      refused_for fault (subst (λ (b : List Back). MayBeRefused b held fault) h.keeps r)
     where
-      by : (f : BackFault) → MayBeRefused (backs_in h.tables) held f
+      refused_for : (f : BackFault) → MayBeRefused (backs_in h.tables) held f
           → IsOneRefused (all_held h.tables ++ (held ∷ rest)) (back_fault (length h.tables) f)
-      by (one.Wrong wrong) k = refused_behind [] h.tables held rest (one.Wrong wrong) h.exact k
-      by (one.Refused Missing) k =
+      refused_for (one.Wrong wrong) k =
+          refused_behind [] h.tables held rest (one.Wrong wrong) h.exact k
+      refused_for (one.Refused Missing) k =
           refused_behind [] h.tables held rest (one.Refused Missing) h.exact k
-      by (one.Refused Magic) k = refused_behind [] h.tables held rest (one.Refused Magic) h.exact k
-      by (one.Refused (Truncated n due)) k =
+      refused_for (one.Refused Magic) k =
+          refused_behind [] h.tables held rest (one.Refused Magic) h.exact k
+      refused_for (one.Refused (Truncated n due)) k =
           refused_behind [] h.tables held rest (one.Refused (Truncated n due)) h.exact k
-      by (one.Refused (Extra n due)) k =
+      refused_for (one.Refused (Extra n due)) k =
           refused_behind [] h.tables held rest (one.Refused (Extra n due)) h.exact k
-      by (one.Refused (Rules f)) k =
+      refused_for (one.Refused (Rules f)) k =
           refused_behind [] h.tables held rest (one.Refused (Rules f)) h.exact k
-      by (one.Refused (Size n due)) k =
+      refused_for (one.Refused (Size n due)) k =
           refused_behind [] h.tables held rest (one.Refused (Size n due)) h.exact k
-      by (one.Refused Failed) k = tt
-      by (one.Refused NoMemory) k = tt
+      refused_for (one.Refused Failed) k = tt
+      refused_for (one.Refused NoMemory) k = tt
 
   pub one_refused : (more : List (List ℕ)) (fault : BackFault)
       → RefusesOver backs name mid new steps_between steps_now fault

@@ -30,11 +30,11 @@ leans_by true bytes e = ap (λ (l : List ℕ). bytes_eq l (magic_of Atlas)) e
 leans_by false bytes e = ap (λ (l : List ℕ). bytes_eq l (magic_of Atlas)) e
 
 pub own_kind : (kind : FileKind) (b : Bool) → kind ≡ kind_by b → IsOwnKind kind
-own_kind kind b is = subst (λ (k : FileKind). IsOwnKind k) (sym is) (by b)
+own_kind kind b is = subst (λ (k : FileKind). IsOwnKind k) (sym is) (own_either_way b)
   where
-    by : (c : Bool) → IsOwnKind (kind_by c)
-    by true = refl
-    by false = refl
+    own_either_way : (c : Bool) → IsOwnKind (kind_by c)
+    own_either_way true = refl
+    own_either_way false = refl
 
 -- what opens as one kind or the other opens so as its own
 pub opens_own : (b : Bool) (bytes : List ℕ) (contents : Contents)

@@ -92,7 +92,7 @@ pub men_fill : (p : Board) (c : Colour) (states : List (Kind × ℕ)) (n : ℕ) 
     Fill p cells (put_men c states (places_below (at p c states) n) cells)
 men_fill p c states zero cells = λ q. inr refl
 men_fill p c states (suc n) cells =
-    let by : (b : Bool) → at p c states n ≡ b
+    let fills_either_way : (b : Bool) → at p c states n ≡ b
     → Fill p cells (put_men c states
     (cond b (n ∷ places_below (at p c states) n) (places_below (at p c states) n)) cells) =
     λ b. elim b as (λ b. at p c states n ≡ b
@@ -103,7 +103,7 @@ men_fill p c states (suc n) cells =
           (men_fill p c states n _)
       | false ↦ λ e. men_fill p c states n cells
     ] in
-    by (at p c states n) refl
+    fills_either_way (at p c states n) refl
 
 -- each man that has a state stands where it should
 pub men_hit : (p : Board) (c : Colour) (states : List (Kind × ℕ)) (k : ℕ) (state : Kind × ℕ) →
@@ -181,7 +181,7 @@ pub groups_hit : (p : Board) (gs : List GroupLine) (s : ℕ) (cells : List ℕ) 
 groups_hit p [] s cells h room covered = absurd cc
 groups_hit p (g ∷ gs) s cells h room covered =
     let next = put_group g (digit_of p g) cells in
-    let by : (b : Bool) → is_state (slice_index p.cells s) s g ≡ b
+    let hit_here_or_later : (b : Bool) → is_state (slice_index p.cells s) s g ≡ b
     → slice_index (put_groups gs (map (digit_of p) gs) next) s ≡ slice_index p.cells s =
     λ b. elim b as (λ b. is_state (slice_index p.cells s) s g ≡ b
     → slice_index (put_groups gs (map (digit_of p) gs) next) s ≡ slice_index p.cells s) [
@@ -192,7 +192,7 @@ groups_hit p (g ∷ gs) s cells h room covered =
           (selection_at (length g.states) g.least g.most (digit_of p g)) cells in omega arith)
           (ap (λ b. b || has_state gs (slice_index p.cells s) s) (sym e) ∙ covered)
     ] in
-    by (is_state (slice_index p.cells s) s g) refl
+    hit_here_or_later (is_state (slice_index p.cells s) s g) refl
 
 pub length-empty : length no_men ≡ 64
 unfolding no_men

@@ -211,14 +211,14 @@ place_before f t e (suc n) a low high =
           let test : (t == a) ≡ false = grind (arith, nat_tests) in
           let rest = place_before f t e n (a + 1) (omega arith) (omega arith) in
           let before = filter f (range_with_len (a + 1) k) in
-          let by : (b : Bool) → place_of t (cond b (a ∷ later) later) ≡ length
+          let place_either_way : (b : Bool) → place_of t (cond b (a ∷ later) later) ≡ length
           (cond b (a ∷ before) before) =
           λ b. elim b as (λ b. place_of t (cond b (a ∷ later) later) ≡ length
           (cond b (a ∷ before) before)) [
             | true ↦ place_at t a later false test ∙ ap suc rest
             | false ↦ rest
           ] in
-          by (f a) ∙ sym (ap (λ k. length (filter f (range_with_len a k))) more)
+          place_either_way (f a) ∙ sym (ap (λ k. length (filter f (range_with_len a k))) more)
     ]
 
 pub turn_found : (gs : List GroupLine) (c : Colour) (o : Option ℕ) →

@@ -198,7 +198,7 @@ number_parts gs p = refl
 module _ (gs : List GroupLine) (p : Board) (man : Man) (a b : ℕ) (target : Option ℕ)
     (i left comes : ℕ) (number : HasNumber gs i p) (h : IsStep p man a b)
     (valid : IsValid (stepped p man a b target))
-    (by : Shifted gs p (stepped p man a b target) (cell_of_man man) a b (length gs) comes left)
+    (shifted : Shifted gs p (stepped p man a b target) (cell_of_man man) a b (length gs) comes left)
   where
     pub after_shift :
         (left + turn_adds gs p.turn p.ep ≤ i + comes + turn_adds gs (other_of p.turn) target)
@@ -206,11 +206,12 @@ module _ (gs : List GroupLine) (p : Board) (man : Man) (a b : ℕ) (target : Opt
     after_shift =
         let before = number_parts gs p in
         let after = number_parts gs (stepped p man a b target) in
-        let sum = sums gs p (stepped p man a b target) (cell_of_man man) a b comes left by in
+        let sum = sums gs p (stepped p man a b target) (cell_of_man man) a b comes left shifted in
         let there = number.number in (
           omega (arith, before, sum, there),
           record {
-            member = Member-stepped gs p man a b target comes left number.member.men h valid by;
+            member =
+                Member-stepped gs p man a b target comes left number.member.men h valid shifted;
             number = omega (arith, before, after, sum, there);
           },
         )

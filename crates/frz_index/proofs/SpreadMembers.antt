@@ -65,7 +65,7 @@ men_free : (p : Board) (c : Colour) (states : List (Kind × ℕ)) (n : ℕ) (cel
 men_free p c states zero cells h free_yet = refl
 men_free p c states (suc n) cells h free_yet =
     let ks = places_below (at p c states) n in
-    let by : (b : Bool) → at p c states n ≡ b
+    let free_either_way : (b : Bool) → at p c states n ≡ b
     → are_free c states (cond b (n ∷ ks) ks) cells ≡ true =
     λ b. elim b as (λ b. at p c states n ≡ b → are_free c states (cond b (n ∷ ks) ks) cells
     ≡ true) [
@@ -84,7 +84,7 @@ men_free p c states (suc n) cells h free_yet =
           λ e. men_free p c states n cells h
           (λ k state low is on. free_yet k state (omega (arith, low)) is on)
     ] in
-    by (at p c states n) refl
+    free_either_way (at p c states n) refl
 
 -- each man of these groups still has his square free
 abbrev AreAllOpen : Board → List GroupLine → List ℕ → Type 0

@@ -32,7 +32,8 @@ pub place_found : (x : ℕ) (ys : List ℕ) → list_any (λ y. x == y) ys ≡ t
     slice_get ys (place_of x ys) ≡ Some x
 place_found x [] h = absurd cc
 place_found x (y ∷ ys) h =
-    let by : (b : Bool) → (x == y) ≡ b → slice_get (y ∷ ys) (place_of x (y ∷ ys)) ≡ Some x =
+    let found_first_or_later : (b : Bool) → (x == y) ≡ b
+    → slice_get (y ∷ ys) (place_of x (y ∷ ys)) ≡ Some x =
     λ b. elim b as (λ b. (x == y) ≡ b → slice_get (y ∷ ys) (place_of x (y ∷ ys)) ≡ Some x) [
       | true ↦
           λ e. ap (slice_get (y ∷ ys)) (place_at x y ys true e) ∙ ap Some (sym (eqb-true x y e))
@@ -40,7 +41,7 @@ place_found x (y ∷ ys) h =
           λ e. ap (slice_get (y ∷ ys)) (place_at x y ys false e)
           ∙ place_found x ys (ap (λ b. b || list_any (λ y. x == y) ys) (sym e) ∙ h)
     ] in
-    by (x == y) refl
+    found_first_or_later (x == y) refl
 
 -- the turn state is found again
 pub turn_back : (gs : List GroupLine) (c : Colour) (o : Option ℕ) →
@@ -72,12 +73,12 @@ filter_grows f a zero = tt
 filter_grows f a (suc n) =
     let later = filter f (range_with_len (a + 1) n) in
     let rest : AreGrowing (a + 1) later = filter_grows f (a + 1) n in
-    let by : (b : Bool) → AreGrowing a (cond b (a ∷ later) later) =
+    let grows_either_way : (b : Bool) → AreGrowing a (cond b (a ∷ later) later) =
     λ b. elim b as (λ b. AreGrowing a (cond b (a ∷ later) later)) [
       | true ↦ (omega arith, rest)
       | false ↦ growing_wider a (a + 1) later (omega arith) rest
     ] in
-    by (f a)
+    grows_either_way (f a)
 
 targets_grow : (gs : List GroupLine) → AreGrowing 0 (targets gs)
 unfolding squares

@@ -35,20 +35,20 @@ others c d = not (bytes_eq c d)
 any_others : (x c : Class) (ks : List Class) → bytes_eq x c ≡ false
     → list_any (bytes_eq x) (filter (others c) ks) ≡ list_any (bytes_eq x) ks
 any_others x c [] apart = refl
-any_others x c (d ∷ ks) apart = by (bytes_eq c d) refl (any_others x c ks apart)
+any_others x c (d ∷ ks) apart = any_kept_or_left (bytes_eq c d) refl (any_others x c ks apart)
   where
-    by : (b : Bool) → bytes_eq c d ≡ b → list_any (bytes_eq x) (filter (others c) ks) ≡ list_any
-        (bytes_eq x) ks
+    any_kept_or_left : (b : Bool) → bytes_eq c d ≡ b
+        → list_any (bytes_eq x) (filter (others c) ks) ≡ list_any (bytes_eq x) ks
         → list_any (bytes_eq x)
         (cond (not (bytes_eq c d)) (d ∷ filter (others c) ks) (filter (others c) ks))
         ≡ (bytes_eq x d || list_any (bytes_eq x) ks)
-    by true e rest =
+    any_kept_or_left true e rest =
         let off : bytes_eq x d ≡ false = subst (λ (z : Class). bytes_eq x z ≡ false)
         (same_class c d e) apart in
         ap (λ (b : Bool). list_any (bytes_eq x)
         (cond (not b) (d ∷ filter (others c) ks) (filter (others c) ks))) e ∙ rest
         ∙ sym (ap (λ (b : Bool). b || list_any (bytes_eq x) ks) off)
-    by false e rest =
+    any_kept_or_left false e rest =
         ap (λ (b : Bool). list_any (bytes_eq x)
         (cond (not b) (d ∷ filter (others c) ks) (filter (others c) ks))) e
         ∙ ap (λ (b : Bool). bytes_eq x d || b) rest
@@ -57,15 +57,17 @@ any_others x c (d ∷ ks) apart = by (bytes_eq c d) refl (any_others x c ks apar
 pub any_firsts : (x : Class) (cs : List Class) → list_any (bytes_eq x) (firsts cs) ≡ list_any
     (bytes_eq x) cs
 any_firsts x [] = refl
-any_firsts x (c ∷ cs) = by (bytes_eq x c) refl (any_firsts x cs)
+any_firsts x (c ∷ cs) = any_first_or_later (bytes_eq x c) refl (any_firsts x cs)
   where
-    by : (b : Bool) → bytes_eq x c ≡ b → list_any (bytes_eq x) (firsts cs) ≡ list_any
-        (bytes_eq x) cs
+    any_first_or_later : (b : Bool) → bytes_eq x c ≡ b
+        → list_any (bytes_eq x) (firsts cs) ≡ list_any (bytes_eq x) cs
         → (bytes_eq x c || list_any (bytes_eq x) (filter (others c) (firsts cs)))
         ≡ (bytes_eq x c || list_any (bytes_eq x) cs)
-    by true e rest = ap (λ (b : Bool). b || list_any (bytes_eq x) (filter (others c) (firsts cs))) e
+    any_first_or_later true e rest =
+        ap (λ (b : Bool). b || list_any (bytes_eq x) (filter (others c) (firsts cs))) e
         ∙ sym (ap (λ (b : Bool). b || list_any (bytes_eq x) cs) e)
-    by false e rest = ap (λ (b : Bool). bytes_eq x c || b) (any_others x c (firsts cs) e ∙ rest)
+    any_first_or_later false e rest =
+        ap (λ (b : Bool). bytes_eq x c || b) (any_others x c (firsts cs) e ∙ rest)
 
 abbrev pub Differs : Class → List Class → Type 0
 Differs c = AllByRecursion (λ d. bytes_eq c d ≡ false)
@@ -73,36 +75,37 @@ Differs c = AllByRecursion (λ d. bytes_eq c d ≡ false)
 -- nothing that is left is equal to what was left out
 differs_others : (c : Class) (ks : List Class) → Differs c (filter (others c) ks)
 differs_others c [] = tt
-differs_others c (d ∷ ks) = by (bytes_eq c d) refl (differs_others c ks)
+differs_others c (d ∷ ks) = differs_kept_or_left (bytes_eq c d) refl (differs_others c ks)
   where
-    by : (b : Bool) → bytes_eq c d ≡ b → Differs c (filter (others c) ks)
+    differs_kept_or_left : (b : Bool) → bytes_eq c d ≡ b → Differs c (filter (others c) ks)
         → Differs c (cond (not (bytes_eq c d)) (d ∷ filter (others c) ks) (filter (others c) ks))
-    by true e rest = subst
+    differs_kept_or_left true e rest = subst
         (λ (b : Bool). Differs c (cond (not b) (d ∷ filter (others c) ks) (filter (others c) ks)))
         (sym e) rest
-    by false e rest = subst
+    differs_kept_or_left false e rest = subst
         (λ (b : Bool). Differs c (cond (not b) (d ∷ filter (others c) ks) (filter (others c) ks)))
         (sym e) (e, rest)
 
 still_differs : (p : Class → Bool) (c : Class) (ks : List Class) → Differs c ks
     → Differs c (filter p ks)
 still_differs p c [] h = tt
-still_differs p c (d ∷ ks) h = by (p d) (still_differs p c ks h.1)
+still_differs p c (d ∷ ks) h = differs_kept_or_left (p d) (still_differs p c ks h.1)
   where
-    by : (b : Bool) → Differs c (filter p ks) → Differs c (cond b (d ∷ filter p ks) (filter p ks))
-    by true rest = (h.0, rest)
-    by false rest = rest
+    differs_kept_or_left : (b : Bool) → Differs c (filter p ks)
+        → Differs c (cond b (d ∷ filter p ks) (filter p ks))
+    differs_kept_or_left true rest = (h.0, rest)
+    differs_kept_or_left false rest = rest
 
 still_distinct : (p : Class → Bool) (ks : List Class) → IsDistinct bytes_eq ks
     → IsDistinct bytes_eq (filter p ks)
 unfolding IsDistinct
 still_distinct p [] h = tt
-still_distinct p (d ∷ ks) h = by (p d) (still_distinct p ks h.1)
+still_distinct p (d ∷ ks) h = distinct_kept_or_left (p d) (still_distinct p ks h.1)
   where
-    by : (b : Bool) → IsDistinct bytes_eq (filter p ks)
+    distinct_kept_or_left : (b : Bool) → IsDistinct bytes_eq (filter p ks)
         → IsDistinct bytes_eq (cond b (d ∷ filter p ks) (filter p ks))
-    by true rest = (still_differs p d ks h.0, rest)
-    by false rest = rest
+    distinct_kept_or_left true rest = (still_differs p d ks h.0, rest)
+    distinct_kept_or_left false rest = rest
 
 -- each class stands once
 pub firsts_distinct : (cs : List Class) → IsDistinct bytes_eq (firsts cs)
@@ -168,9 +171,9 @@ times_more cs x c = sum_by_push (λ (d : Class). cond (bytes_eq c d) 1 0) cs x
 pub times_none : (cs : List Class) (c : Class) → list_any (bytes_eq c) cs ≡ false → times cs c ≡ 0
 times_none [] c h = refl
 times_none (d ∷ cs) c h = sum_by-cons (λ (e : Class). cond (bytes_eq c e) 1 0) d cs
-    ∙ by (bytes_eq c d) h (times_none cs c)
+    ∙ none_here_or_later (bytes_eq c d) h (times_none cs c)
   where
-    by : (b : Bool) → (b || list_any (bytes_eq c) cs) ≡ false
+    none_here_or_later : (b : Bool) → (b || list_any (bytes_eq c) cs) ≡ false
         → (list_any (bytes_eq c) cs ≡ false → times cs c ≡ 0) → cond b 1 0 + times cs c ≡ 0
-    by true h rest = cc
-    by false h rest = let none : times cs c ≡ 0 = rest h in omega (arith, none)
+    none_here_or_later true h rest = cc
+    none_here_or_later false h rest = let none : times cs c ≡ 0 = rest h in omega (arith, none)

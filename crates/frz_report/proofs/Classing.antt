@@ -49,11 +49,11 @@ pub at_more : (cell : ℕ) (cells : List ℕ) (i : ℕ) → i < length cells
 at_more cell cells i within =
     ap (at cell) (take_more cells i 0 within) ∙ sum_by_push (λ (x : ℕ). cond (x == cell) 1 0)
     (take i cells) (get_or cells i 0)
-    ∙ ap (λ (n : ℕ). at cell (take i cells) + n) (by (get_or cells i 0 == cell))
+    ∙ ap (λ (n : ℕ). at cell (take i cells) + n) (one_if_is (get_or cells i 0 == cell))
   where
-    by : (b : Bool) → cond b 1 0 ≡ one_if b
-    by true = refl
-    by false = refl
+    one_if_is : (b : Bool) → cond b 1 0 ≡ one_if b
+    one_if_is true = refl
+    one_if_is false = refl
 
 -- the letters of one cell more
 pub letters_step : (old now new : List ℕ) (m n letter : ℕ) (b : Bool)

@@ -19,17 +19,18 @@ tally f ks = map (λ c. (c, f c)) ks
 pub looked_up : (f : Class → ℕ) (x : Class) (ks : List Class)
     → unwrap_or (lookup (bytes_eq x) (tally f ks)) 0 ≡ cond (list_any (bytes_eq x) ks) (f x) 0
 looked_up f x [] = refl
-looked_up f x (c ∷ ks) = by (bytes_eq x c) refl (looked_up f x ks)
+looked_up f x (c ∷ ks) = found_here_or_later (bytes_eq x c) refl (looked_up f x ks)
   where
-    by : (b : Bool) → bytes_eq x c ≡ b → unwrap_or (lookup (bytes_eq x) (tally f ks)) 0 ≡ cond
+    found_here_or_later : (b : Bool) → bytes_eq x c ≡ b
+        → unwrap_or (lookup (bytes_eq x) (tally f ks)) 0 ≡ cond
         (list_any (bytes_eq x) ks) (f x) 0
         → unwrap_or (cond (bytes_eq x c) (Some (f c)) (lookup (bytes_eq x) (tally f ks))) 0 ≡ cond
         (bytes_eq x c || list_any (bytes_eq x) ks) (f x) 0
-    by true e rest =
+    found_here_or_later true e rest =
         ap (λ (b : Bool). unwrap_or (cond b (Some (f c)) (lookup (bytes_eq x) (tally f ks))) 0) e
         ∙ ap f (sym (same_class x c e))
         ∙ sym (ap (λ (b : Bool). cond (b || list_any (bytes_eq x) ks) (f x) 0) e)
-    by false e rest =
+    found_here_or_later false e rest =
         ap (λ (b : Bool). unwrap_or (cond b (Some (f c)) (lookup (bytes_eq x) (tally f ks))) 0) e
         ∙ rest
         ∙ sym (ap (λ (b : Bool). cond (b || list_any (bytes_eq x) ks) (f x) 0) e)
@@ -38,12 +39,12 @@ looked_up f x (c ∷ ks) = by (bytes_eq x c) refl (looked_up f x ks)
 pub times_looked_up : (cs : List Class) (x : Class) → unwrap_or (lookup (bytes_eq x) (census cs)) 0
     ≡ times cs x
 times_looked_up cs x = looked_up (times cs) x (firsts cs) ∙ ap (λ (b : Bool). cond b (times cs x) 0)
-    (any_firsts x cs) ∙ by (list_any (bytes_eq x) cs) refl
+    (any_firsts x cs) ∙ times_met_or_not (list_any (bytes_eq x) cs) refl
   where
-    by : (b : Bool) → list_any (bytes_eq x) cs ≡ b → cond (list_any (bytes_eq x) cs) (times cs x) 0
-        ≡ times cs x
-    by true e = ap (λ (b : Bool). cond b (times cs x) 0) e
-    by false e = ap (λ (b : Bool). cond b (times cs x) 0) e ∙ sym (times_none cs x e)
+    times_met_or_not : (b : Bool) → list_any (bytes_eq x) cs ≡ b
+        → cond (list_any (bytes_eq x) cs) (times cs x) 0 ≡ times cs x
+    times_met_or_not true e = ap (λ (b : Bool). cond b (times cs x) 0) e
+    times_met_or_not false e = ap (λ (b : Bool). cond b (times cs x) 0) e ∙ sym (times_none cs x e)
 
 module _ (f g : Class → ℕ) (x : Class) (more : (c : Class) → g c ≡ f c + once (bytes_eq c x)) where
   kept : (c : Class) → bytes_eq x c ≡ false → g c ≡ f c
@@ -77,20 +78,21 @@ module _ (f g : Class → ℕ) (x : Class) (more : (c : Class) → g c ≡ f c +
       → insert_entry bytes_eq (tally f ks) x (f x + 1) ≡ tally g ks
   unfolding IsDistinct
   old_entry [] apart there = cc
-  old_entry (c ∷ ks) apart there = by (bytes_eq x c) refl there (old_entry ks apart.1)
+  old_entry (c ∷ ks) apart there =
+      entry_here_or_later (bytes_eq x c) refl there (old_entry ks apart.1)
     where
-      by : (b : Bool) → bytes_eq x c ≡ b → (b || list_any (bytes_eq x) ks) ≡ true
+      entry_here_or_later : (b : Bool) → bytes_eq x c ≡ b → (b || list_any (bytes_eq x) ks) ≡ true
           → (list_any (bytes_eq x) ks ≡ true → insert_entry bytes_eq (tally f ks) x (f x + 1)
           ≡ tally g ks)
           → (if bytes_eq x c then (c, f x + 1) ∷ tally f ks else (c, f c) ∷ insert_entry bytes_eq
           (tally f ks) x (f x + 1)) ≡ (c, g c) ∷ tally g ks
-      by true e here rest =
+      entry_here_or_later true e here rest =
           ap (λ (b : Bool). if b then (c, f x + 1) ∷ tally f ks
           else (c, f c) ∷ insert_entry bytes_eq (tally f ks) x (f x + 1)) e
           ∙ ap (λ (n : ℕ). (c, n) ∷ tally f ks) (sym (risen c e))
           ∙ ap (λ (l : List (Class × ℕ)). (c, g c) ∷ l)
           (others_kept ks (differs_too c ks e apart.0))
-      by false e later rest =
+      entry_here_or_later false e later rest =
           ap (λ (b : Bool). if b then (c, f x + 1) ∷ tally f ks
           else (c, f c) ∷ insert_entry bytes_eq (tally f ks) x (f x + 1)) e
           ∙ ap (λ (n : ℕ). (c, n) ∷ insert_entry bytes_eq (tally f ks) x (f x + 1)) (sym (kept c e))
@@ -99,29 +101,29 @@ module _ (f g : Class → ℕ) (x : Class) (more : (c : Class) → g c ≡ f c +
 -- none of these is equal to it
 none_there : (x : Class) (ks : List Class) → list_any (bytes_eq x) ks ≡ false → Differs x ks
 none_there x [] h = tt
-none_there x (c ∷ ks) h = by (bytes_eq x c) refl h (none_there x ks)
+none_there x (c ∷ ks) h = differs_from_all (bytes_eq x c) refl h (none_there x ks)
   where
-    by : (b : Bool) → bytes_eq x c ≡ b → (b || list_any (bytes_eq x) ks) ≡ false
+    differs_from_all : (b : Bool) → bytes_eq x c ≡ b → (b || list_any (bytes_eq x) ks) ≡ false
         → (list_any (bytes_eq x) ks ≡ false → Differs x ks) → Differs x (c ∷ ks)
-    by true e h rest = cc
-    by false e h rest = (e, rest h)
+    differs_from_all true e h rest = cc
+    differs_from_all false e h rest = (e, rest h)
 
 -- one more class in a census
 pub census_more : (cs : List Class) (x : Class)
     → insert_entry bytes_eq (census cs) x (times cs x + 1) ≡ census (cs ++ x ∷ [])
-census_more cs x = by (list_any (bytes_eq x) cs) refl
+census_more cs x = census_met_or_not (list_any (bytes_eq x) cs) refl
   where
     more : (c : Class) → times (cs ++ x ∷ []) c ≡ times cs c + once (bytes_eq c x)
     more c = times_more cs x c
 
-    by : (b : Bool) → list_any (bytes_eq x) cs ≡ b
+    census_met_or_not : (b : Bool) → list_any (bytes_eq x) cs ≡ b
         → insert_entry bytes_eq (census cs) x (times cs x + 1) ≡ census (cs ++ x ∷ [])
-    by true e =
+    census_met_or_not true e =
         let same : firsts (cs ++ x ∷ []) ≡ firsts cs = firsts_more cs x
         ∙ ap (λ (b : Bool). cond b (firsts cs) (firsts cs ++ x ∷ [])) e in
         old_entry (times cs) (times (cs ++ x ∷ [])) x more (firsts cs) (firsts_distinct cs)
         (any_firsts x cs ∙ e) ∙ sym (ap (tally (times (cs ++ x ∷ []))) same)
-    by false e =
+    census_met_or_not false e =
         let last : firsts (cs ++ x ∷ []) ≡ firsts cs ++ x ∷ [] = firsts_more cs x
         ∙ ap (λ (b : Bool). cond b (firsts cs) (firsts cs ++ x ∷ [])) e in
         new_entry (times cs) (times (cs ++ x ∷ [])) x more (firsts cs)
@@ -141,15 +143,16 @@ lettered_lookup k (e ∷ es) =
 pub lettered_insert : (k : ArrayString) (v : ℕ) (es : List (ArrayString × ℕ))
     → lettered (insert_entry eq_letters es k v) ≡ insert_entry bytes_eq (lettered es) k.bytes v
 lettered_insert k v [] = refl
-lettered_insert k v (e ∷ es) = by (bytes_eq k.bytes e.0.bytes) (lettered_insert k v es)
+lettered_insert k v (e ∷ es) =
+    insert_here_or_later (bytes_eq k.bytes e.0.bytes) (lettered_insert k v es)
   where
-    by : (b : Bool) → lettered (insert_entry eq_letters es k v) ≡ insert_entry bytes_eq
-        (lettered es) k.bytes v
+    insert_here_or_later : (b : Bool)
+        → lettered (insert_entry eq_letters es k v) ≡ insert_entry bytes_eq (lettered es) k.bytes v
         → lettered (if b then (e.0, v) ∷ es else e ∷ insert_entry eq_letters es k v)
         ≡ (if b then (e.0.bytes, v) ∷ lettered es else (e.0.bytes, e.1) ∷ insert_entry bytes_eq
         (lettered es) k.bytes v)
-    by true rest = refl
-    by false rest = ap (λ (l : List (Class × ℕ)). (e.0.bytes, e.1) ∷ l) rest
+    insert_here_or_later true rest = refl
+    insert_here_or_later false rest = ap (λ (l : List (Class × ℕ)). (e.0.bytes, e.1) ∷ l) rest
 
 -- the entry that was found for a class says how often it was met
 pub found_times : (exits : List Class) (k : ArrayString) (es : List (ArrayString × ℕ))

@@ -53,37 +53,39 @@ pub unloaded_writes : (files : Option Files) (tab : Table) (out : SinkTold) (fau
     (result : ReportFault) → result ≡ unloaded fault → IsOutside fault
     → WritesOfTable files tab (Err result) out out
 unloaded_writes files tab out fault result is outside =
-    subst (λ (f : ReportFault). WritesOfTable files tab (Err f) out out) (sym is) (by fault outside)
+    subst (λ (f : ReportFault). WritesOfTable files tab (Err f) out out) (sym is)
+    (nothing_written fault outside)
   where
-    by : (fault : TableFault) → IsOutside fault
+    nothing_written : (fault : TableFault) → IsOutside fault
         → WritesOfTable files tab (Err (unloaded fault)) out out
-    by table.Missing h = absurd h
-    by table.Magic h = absurd h
-    by (table.Truncated length due) h = absurd h
-    by (table.Extra length due) h = absurd h
-    by (table.Rules why) h = absurd h
-    by (table.Size kept due) h = absurd h
-    by table.Failed h = refl
-    by table.NoMemory h = inl refl
+    nothing_written table.Missing h = absurd h
+    nothing_written table.Magic h = absurd h
+    nothing_written (table.Truncated length due) h = absurd h
+    nothing_written (table.Extra length due) h = absurd h
+    nothing_written (table.Rules why) h = absurd h
+    nothing_written (table.Size kept due) h = absurd h
+    nothing_written table.Failed h = refl
+    nothing_written table.NoMemory h = inl refl
 
 pub unloaded_cause : {T : Type 0} (old new : StoreTold) (fault : TableFault) (result : ReportFault)
     → result ≡ unloaded fault → IsOutside fault
     → TableCauses {T = T} old.faults new.faults old.wants new.wants (Err fault)
     → StoreCause (Err result) old new
 unloaded_cause {T} old new fault result is outside causes =
-    subst (λ (f : ReportFault). StoreCause (Err f) old new) (sym is) (by fault outside causes)
+    subst (λ (f : ReportFault). StoreCause (Err f) old new) (sym is)
+    (store_cause fault outside causes)
   where
-    by : (fault : TableFault) → IsOutside fault
+    store_cause : (fault : TableFault) → IsOutside fault
         → TableCauses {T = T} old.faults new.faults old.wants new.wants (Err fault)
         → StoreCause (Err (unloaded fault)) old new
-    by table.Missing h k = absurd h
-    by table.Magic h k = absurd h
-    by (table.Truncated length due) h k = absurd h
-    by (table.Extra length due) h k = absurd h
-    by (table.Rules why) h k = absurd h
-    by (table.Size kept due) h k = absurd h
-    by table.Failed h k = k.failed refl
-    by table.NoMemory h k = tt
+    store_cause table.Missing h k = absurd h
+    store_cause table.Magic h k = absurd h
+    store_cause (table.Truncated length due) h k = absurd h
+    store_cause (table.Extra length due) h k = absurd h
+    store_cause (table.Rules why) h k = absurd h
+    store_cause (table.Size kept due) h k = absurd h
+    store_cause table.Failed h k = k.failed refl
+    store_cause table.NoMemory h k = tt
 
 pub loaded_cause : (old new : StoreTold) (result : Result Totals ReportFault) → StoreFine old new
     → (result ≡ Err Store → ⊥) → StoreCause result old new

@@ -147,7 +147,8 @@ module _ (groups : List GroupLine) (codes : Colour → List ℕ) where
     where
       none : (k : ℕ) → k < 0 → ⊥
       none k h = omega arith
-  is_from a (suc n) s h = by (squeeze_at groups codes a) refl h (λ rest. is_from (a + 1) n s rest)
+  is_from a (suc n) s h =
+      from_here_or_later (squeeze_at groups codes a) refl h (λ rest. is_from (a + 1) n s rest)
     where
       by_place : (t : Squeeze) → squeeze_at groups codes a ≡ Some t → (k : ℕ)
           → k < length (t ∷ from (a + 1) n) → slice_index_or (t ∷ from (a + 1) n) k s ≡ s
@@ -159,11 +160,11 @@ module _ (groups : List GroupLine) (codes : Colour → List ℕ) where
           (record { is = found.is; low = omega (arith, here); high = omega (arith, here) })
       by_place t e (suc k) within is rest = later_from a n s (rest (k, omega arith, is))
 
-      by : (o : Option Squeeze) → squeeze_at groups codes a ≡ o
+      from_here_or_later : (o : Option Squeeze) → squeeze_at groups codes a ≡ o
           → Contains (cons_option o (from (a + 1) n)) s
           → (Contains (from (a + 1) n) s → IsFrom (a + 1) n s) → IsFrom a (suc n) s
-      by None e h rest = later_from a n s (rest h)
-      by (Some t) e h rest = by_place t e h.0 h.1 h.2 rest
+      from_here_or_later None e h rest = later_from a n s (rest h)
+      from_here_or_later (Some t) e h rest = by_place t e h.0 h.1 h.2 rest
 
   is_listed : (a n : ℕ) (s : Squeeze) → IsSqueeze groups codes s → a ≤ s.white_to_move
       → s.white_to_move < a + n → Contains (from a n) s
@@ -196,12 +197,14 @@ module _ (groups : List GroupLine) (codes : Colour → List ℕ) where
     where
       none : (j : ℕ) → j < 0 → ⊥
       none j h = omega arith
-  all_before a (suc n) = by (squeeze_at groups codes a) refl (all_before (a + 1) n)
+  all_before a (suc n) =
+      pairs_here_and_later (squeeze_at groups codes a) refl (all_before (a + 1) n)
     where
-      by : (o : Option Squeeze) → squeeze_at groups codes a ≡ o → AllPairs Before (from (a + 1) n)
+      pairs_here_and_later : (o : Option Squeeze) → squeeze_at groups codes a ≡ o
+          → AllPairs Before (from (a + 1) n)
           → AllPairs Before (cons_option o (from (a + 1) n))
-      by None e rest = rest
-      by (Some t) e rest =
+      pairs_here_and_later None e rest = rest
+      pairs_here_and_later (Some t) e rest =
           AllPairs-cons Before t (from (a + 1) n)
           (λ k d within.
           let here = (found_at a t (position_at groups a) refl e).here in

@@ -25,16 +25,18 @@ sum_put : (es : List (Class × ℕ)) (x : Class) (v : ℕ)
     → sum_of (insert_entry bytes_eq es x v) + unwrap_or (lookup (bytes_eq x) es) 0 ≡ sum_of es + v
 sum_put [] x v = omega arith
 sum_put (e ∷ es) x v =
-    by (bytes_eq x e.0) (sum_put es x v)
+    put_here_or_later (bytes_eq x e.0) (sum_put es x v)
     ∙ sym (ap (λ (n : ℕ). n + v) (sum_by-cons (λ (y : Class × ℕ). y.1) e es))
   where
-    by : (b : Bool) → sum_of (insert_entry bytes_eq es x v) + unwrap_or (lookup (bytes_eq x) es) 0
+    put_here_or_later : (b : Bool)
+        → sum_of (insert_entry bytes_eq es x v) + unwrap_or (lookup (bytes_eq x) es) 0
         ≡ sum_of es + v
         → sum_of (if b then (e.0, v) ∷ es else e ∷ insert_entry bytes_eq es x v) + unwrap_or
         (cond b (Some e.1) (lookup (bytes_eq x) es)) 0 ≡ e.1 + sum_of es + v
-    by true h = ap (λ (n : ℕ). n + e.1) (sum_by-cons (λ (y : Class × ℕ). y.1) (e.0, v) es)
+    put_here_or_later true h =
+        ap (λ (n : ℕ). n + e.1) (sum_by-cons (λ (y : Class × ℕ). y.1) (e.0, v) es)
         ∙ swapped (sum_of es) v e.1
-    by false h =
+    put_here_or_later false h =
         ap (λ (n : ℕ). n + unwrap_or (lookup (bytes_eq x) es) 0)
         (sum_by-cons (λ (y : Class × ℕ). y.1) e (insert_entry bytes_eq es x v))
         ∙ moved (sum_of (insert_entry bytes_eq es x v)) (unwrap_or (lookup (bytes_eq x) es) 0)
