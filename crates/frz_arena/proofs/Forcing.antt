@@ -5,3 +5,4 @@ pub mod TrueWins
 pub mod HoldsSafe
 pub mod LawfulGame
 pub mod NeverByPositions
+pub mod ByPlies

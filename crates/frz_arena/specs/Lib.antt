@@ -6,6 +6,7 @@ pub mod LocalCodes
 pub mod Ranks
 pub mod Best
 pub mod Chess
+pub mod ForcesByPlies
 pub mod Games
 pub mod Exits
 pub mod WholeTruth

@@ -21,7 +21,7 @@ use Rattle.frz_arena.specs.declared.arm.Arm.{Arm}
 use Rattle.frz_arena.specs.declared.bound.Bound.TheVariants.{Wins, Fails}
 use Rattle.frz_arena.specs.declared.node.Node.TheVariants.{Mate, Going}
 use Rattle.frz_arena.specs.Arena.{Arena, IsArm}
-use Rattle.frz_arena.specs.Chess.{IsMated, Forces, mate_alone}
+use Rattle.frz_arena.specs.Chess.{IsMated, Forces, mated as mated_now, at_goal, own_move, mate_alone}
 use Rattle.frz_arena.specs.Games.{arm_of, next_by}
 use Rattle.frz_arena.specs.Plies.{LeadsTo, WinsWithin, IsGoodExit}
 use Rattle.frz_arena.specs.WholeTruth.{MatesIn}
@@ -208,14 +208,14 @@ later_mate =
 mates_by : (p : Board) (m : Step) → p.turn ≡ White → Contains (legal_moves_of p) m →
     after p m ≡ mated → MatesIn chess White 1 p
 mates_by p m turn i ends = record {
-  forced = inr (inr (inl
-      (turn, (m, i, inr (subst (λ (q : Board). IsMated chess Black q) (sym ends) mate_there)))));
+  forced = own_move m turn i
+      (mated_now (subst (λ (q : Board). IsMated chess Black q) (sym ends) mate_there));
   least = λ k l f. first k l f;
 }
   where
     first : (k : ℕ) → k < 1 → Forces chess mate_alone White k p → ⊥
-    first zero l (inl e) = cc
-    first zero l (inr w) = let t = w.to_move in cc
+    first zero l (at_goal e) = cc
+    first zero l (mated_now w) = let t = w.to_move in cc
     first (suc k) l f = omega arith
 
 pub h1_mate : MatesIn chess White 1 from_h1

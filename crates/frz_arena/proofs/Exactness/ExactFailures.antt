@@ -12,7 +12,7 @@ use Rattle.frz_arena.specs.declared.bound.Bound.TheVariants.{Wins, Holds, Fails}
 use Rattle.frz_arena.specs.Arena.{IsArm}
 use Rattle.frz_arena.specs.Bounds.{IsBound}
 use Rattle.frz_arena.specs.Plies.{LeadsTo, IsBadExit, FailsWithin}
-use Rattle.frz_arena.specs.Chess.{Forces, ForcesMate, mate_alone}
+use Rattle.frz_arena.specs.Chess.{Forces, mated, at_goal, later, own_move, every_reply, ForcesMate, mate_alone}
 use Rattle.frz_arena.specs.Exits.{IsExit}
 use Rattle.frz_arena.specs.Games.{Game, arm_of, arena_of}
 use Rattle.frz_arena.specs.WholeTruth.{CanForceMate, MatesIn, IsDead, MovesFreely, TrueHolds, WinsAreKnown, LossesAreKnown, TrueLosses, LossesWithin, NoneIsBad, IsFailure}
@@ -42,30 +42,30 @@ module _ {P M V : Type 0} (game : Game P M V) (side : Colour) (holds : TrueHolds
 
   pub forced_fails_in : (n : ℕ) (p : P) → game.member p ≡ true →
       ForcesMate game.chess (other_of side) n p → FailsWithin (arena_of game) side n p
-  forced_fails_in zero p b (inl e) = absurd (cc)
-  forced_fails_in zero p b (inr k) =
+  forced_fails_in zero p b (at_goal e) = absurd (cc)
+  forced_fails_in zero p b (mated k) =
       inl (mated_by (game.member p) (game.chess.moves p) (game.chess.in_check p)
       (game.chess.turn p) b k.no_move k.attacked ∙ ap Mate (k.to_move ∙ other_other side))
-  forced_fails_in (suc n) p b (inl f) = inl (forced_fails_in n p b f)
-  forced_fails_in (suc n) p b (inr (inl e)) = absurd (cc)
-  forced_fails_in (suc n) p b (inr (inr (inl f))) =
+  forced_fails_in (suc n) p b (later f) = inl (forced_fails_in n p b f)
+  forced_fails_in (suc n) p b (at_goal e) = absurd (cc)
+  forced_fails_in (suc n) p b (own_move m t i f) =
       inr (inl (
         goes (game.member p) (game.chess.moves p) (game.chess.in_check p) (game.chess.turn p) b
-            (some_move (game.chess.moves p) f.1.0 f.1.1) ∙ ap Going f.0,
+            (some_move (game.chess.moves p) m i) ∙ ap Going t,
         (
-          arm_of game p f.1.0,
-          arm_at game p f.1.0 f.1.1,
-          forced_is_bad n (forced_fails_in n) p f.1.0 b f.1.1 f.1.2,
+          arm_of game p m,
+          arm_at game p m i,
+          forced_is_bad n (forced_fails_in n) p m b i f,
         ),
       ))
-  forced_fails_in (suc n) p b (inr (inr (inr f))) =
+  forced_fails_in (suc n) p b (every_reply t some each) =
       let g = goes (game.member p) (game.chess.moves p) (game.chess.in_check p)
-      (game.chess.turn p) b f.1 ∙ ap Going (f.0 ∙ other_other side) in
+      (game.chess.turn p) b some ∙ ap Going (t ∙ other_other side) in
       let F = FailsWithin (arena_of game) side n in
       let Q = IsBadExit (arena_of game) side in
       let each : (a : Arm M P V) → IsArm (arena_of game) p a → LeadsTo F Q a.next =
       λ a i. (let m = move_of game p a i in subst (λ z. LeadsTo F Q z.next) m.2
-      (forced_is_bad n (forced_fails_in n) p m.0 b m.1 (f.2 m.0 m.1))) in
+      (forced_is_bad n (forced_fails_in n) p m.0 b m.1 (each m.0 m.1))) in
       elim (passes_or_none (λ (a : Arm M P V). a.free) ((arena_of game).arms p)) [
         | inl r ↦ inr (inr (g, (r.0, r.1, r.2, each r.0 r.1), λ a i _. each a i))
         | inr none ↦ inl (fails_at_once (arena_of game) side n p (inr (g, none)))
@@ -103,7 +103,7 @@ module _ {P M V : Type 0} (game : Game P M V) (side : Colour) (free : MovesFreel
   holds_of_failure zero p (inl e) =
       let h = is_mate (game.member p) (game.chess.moves p) (game.chess.in_check p)
       (game.chess.turn p) side e in
-      fails.lost p (inr (record {
+      fails.lost p (mated (record {
         to_move = h.3 ∙ sym (other_other side);
         no_move = h.1;
         attacked = h.2;
@@ -137,14 +137,14 @@ module _ {P M V : Type 0} (game : Game P M V) (side : Colour) (free : MovesFreel
       (λ n p. (k : ℕ) × Forces game.chess mate_alone (other_of side) k p) (record {
         lost = λ p f. (0, f);
         later = λ n p f. f;
-        theirs = λ n p m t i f. (suc f.0, inr (inr (inl (t, (m, i, f.1)))));
+        theirs = λ n p m t i f. (suc f.0, own_move m t i f.1);
         ours = λ n p t some f. (
             let k = one_for_all (λ (i : ℕ) (m : M). Forces game.chess mate_alone (other_of side) i
             (game.chess.play p m))
             (λ i j m l g. forces_later game.chess mate_alone (other_of side) i j
             (game.chess.play p m) l g)
             (game.chess.moves p) f in
-            (suc k.0, inr (inr (inr (t ∙ sym (other_other side), some, k.1)))));
+            (suc k.0, every_reply (t ∙ sym (other_other side)) some k.1));
         exits = λ n q x e. losses q x e;
       })
 
@@ -153,18 +153,18 @@ module _ {P M V : Type 0} (game : Game P M V) (side : Colour) (free : MovesFreel
       FailsWithin (arena_of game) side n p → ForcesMate game.chess (other_of side) (n + most) p
   fails_forced_within most losses =
       let F : ℕ → P → Type 0 = λ n p. ForcesMate game.chess (other_of side) (n + most) p in
-      let later : (k n : ℕ) (p : P) → k ≤ n → ForcesMate game.chess (other_of side) k p →
+      let more : (k n : ℕ) (p : P) → k ≤ n → ForcesMate game.chess (other_of side) k p →
       ForcesMate game.chess (other_of side) n p =
       forces_later game.chess mate_alone (other_of side) in
       let up : (n : ℕ) (p : P) → ForcesMate game.chess (other_of side) (suc (n + most)) p →
       F (suc n) p =
-      λ n p f. later (suc (n + most)) (suc n + most) p (omega arith) f in
+      λ n p f. more (suc (n + most)) (suc n + most) p (omega arith) f in
       holds_of_failure game side free F (record {
-        lost = λ p f. later 0 (0 + most) p (omega arith) f;
-        later = λ n p f. up n p (inl f);
-        theirs = λ n p m t i f. up n p (inr (inr (inl (t, (m, i, f)))));
-        ours = λ n p t some f. up n p (inr (inr (inr (t ∙ sym (other_other side), some, f))));
-        exits = λ n q x e. later most (n + most) q (omega arith) (losses q x e);
+        lost = λ p f. more 0 (0 + most) p (omega arith) f;
+        later = λ n p f. up n p (later f);
+        theirs = λ n p m t i f. up n p (own_move m t i f);
+        ours = λ n p t some f. up n p (every_reply (t ∙ sym (other_other side)) some f);
+        exits = λ n q x e. more most (n + most) q (omega arith) (losses q x e);
       })
 
   -- the opponent forces mate within as many plies, where no exit is bad
@@ -173,9 +173,9 @@ module _ {P M V : Type 0} (game : Game P M V) (side : Colour) (free : MovesFreel
   fails_forced_in none =
       holds_of_failure game side free (ForcesMate game.chess (other_of side)) (record {
         lost = λ p f. f;
-        later = λ n p f. inl f;
-        theirs = λ n p m t i f. inr (inr (inl (t, (m, i, f))));
-        ours = λ n p t some f. inr (inr (inr (t ∙ sym (other_other side), some, f)));
+        later = λ n p f. later f;
+        theirs = λ n p m t i f. own_move m t i f;
+        ours = λ n p t some f. every_reply (t ∙ sym (other_other side)) some f;
         exits = λ n q x e. absurd (none q x e);
       })
 

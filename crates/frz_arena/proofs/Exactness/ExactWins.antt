@@ -13,7 +13,7 @@ use Rattle.frz_arena.specs.declared.bound.Bound.TheVariants.{Wins, Holds, Fails}
 use Rattle.frz_arena.specs.Arena.{IsArm}
 use Rattle.frz_arena.specs.Bounds.{IsBound}
 use Rattle.frz_arena.specs.Plies.{LeadsTo, IsGoodExit, WinsWithin}
-use Rattle.frz_arena.specs.Chess.{IsMated, Forces, ForcesMate, mate_alone}
+use Rattle.frz_arena.specs.Chess.{IsMated, Forces, mated, at_goal, later, own_move, every_reply, ForcesMate, mate_alone}
 use Rattle.frz_arena.specs.Exits.{IsExit}
 use Rattle.frz_arena.specs.Games.{Game, arm_of, arena_of}
 use Rattle.frz_arena.specs.WholeTruth.{CanForceMate, MatesIn, MovesFreely, TrueWins, WinsAreKnown, WinsAreCounted, WinsWithinMore, IsWin}
@@ -33,9 +33,9 @@ an_element [] h = absurd (h refl)
 an_element (x ∷ xs) h = (x, first_in x xs)
 
 module _ {P M V : Type 0} (game : Game P M V) (side : Colour) (free : MovesFreely game side) where
-  mated : (p : P) → game.member p ≡ true → IsMated game.chess (other_of side) p →
+  mate_wins : (p : P) → game.member p ≡ true → IsMated game.chess (other_of side) p →
       WinsWithin (arena_of game) side 0 p
-  mated p b k =
+  mate_wins p b k =
       mated_by (game.member p) (game.chess.moves p) (game.chess.in_check p) (game.chess.turn p) b
       k.no_move k.attacked ∙ ap Mate k.to_move
 
@@ -97,16 +97,15 @@ module _ {P M V : Type 0} (game : Game P M V) (side : Colour) (free : MovesFreel
 
   pub forced_wins_in : WinsAreCounted game side → (n : ℕ) (p : P) → game.member p ≡ true →
       ForcesMate game.chess side n p → WinsWithin (arena_of game) side n p
-  forced_wins_in counts zero p b (inl e) = absurd (cc)
-  forced_wins_in counts zero p b (inr k) = mated p b k
-  forced_wins_in counts (suc n) p b (inl f) = inl (forced_wins_in counts n p b f)
-  forced_wins_in counts (suc n) p b (inr (inl e)) = absurd (cc)
-  forced_wins_in counts (suc n) p b (inr (inr (inl f))) =
-      own_ply n p f.1.0 b f.0 f.1.1
-      (counted_next counts n (forced_wins_in counts n) p f.1.0 b f.1.1 f.1.2)
-  forced_wins_in counts (suc n) p b (inr (inr (inr f))) =
-      replies_ply n p b f.0 f.1
-      (λ m i. counted_next counts n (forced_wins_in counts n) p m b i (f.2 m i))
+  forced_wins_in counts zero p b (at_goal e) = absurd (cc)
+  forced_wins_in counts zero p b (mated k) = mate_wins p b k
+  forced_wins_in counts (suc n) p b (later f) = inl (forced_wins_in counts n p b f)
+  forced_wins_in counts (suc n) p b (at_goal e) = absurd (cc)
+  forced_wins_in counts (suc n) p b (own_move m t i f) =
+      own_ply n p m b t i (counted_next counts n (forced_wins_in counts n) p m b i f)
+  forced_wins_in counts (suc n) p b (every_reply t some each) =
+      replies_ply n p b t some
+      (λ m i. counted_next counts n (forced_wins_in counts n) p m b i (each m i))
 
   -- where what is forced outside is known, a mate is a win
   good_later : (x : Next P V) (n k : ℕ) → n ≤ k →
@@ -151,35 +150,35 @@ module _ {P M V : Type 0} (game : Game P M V) (side : Colour) (free : MovesFreel
 
   pub forced_wins : WinsAreKnown game side → (n : ℕ) (p : P) → game.member p ≡ true →
       ForcesMate game.chess side n p → (k : ℕ) × WinsWithin (arena_of game) side k p
-  forced_wins known zero p b (inl e) = absurd (cc)
-  forced_wins known zero p b (inr k) = (0, mated p b k)
-  forced_wins known (suc n) p b (inl f) = forced_wins known n p b f
-  forced_wins known (suc n) p b (inr (inl e)) = absurd (cc)
-  forced_wins known (suc n) p b (inr (inr (inl f))) =
-      let w = known_next known n (forced_wins known n) p f.1.0 b f.1.1 f.1.2 in
-      (suc w.0, own_ply w.0 p f.1.0 b f.0 f.1.1 w.1)
-  forced_wins known (suc n) p b (inr (inr (inr f))) =
+  forced_wins known zero p b (at_goal e) = absurd (cc)
+  forced_wins known zero p b (mated k) = (0, mate_wins p b k)
+  forced_wins known (suc n) p b (later f) = forced_wins known n p b f
+  forced_wins known (suc n) p b (at_goal e) = absurd (cc)
+  forced_wins known (suc n) p b (own_move m t i f) =
+      let w = known_next known n (forced_wins known n) p m b i f in
+      (suc w.0, own_ply w.0 p m b t i w.1)
+  forced_wins known (suc n) p b (every_reply t some each) =
       let k = one_for_all (λ (i : ℕ) (m : M). LeadsTo (WinsWithin (arena_of game) side i)
       (IsGoodExit (arena_of game) side i) (arm_of game p m).next)
       (λ i j m l g. good_later (arm_of game p m).next i j l g)
       (game.chess.moves p)
-      (λ m i. known_next known n (forced_wins known n) p m b i (f.2 m i)) in
-      (suc k.0, replies_ply k.0 p b f.0 f.1 k.1)
+      (λ m i. known_next known n (forced_wins known n) p m b i (each m i)) in
+      (suc k.0, replies_ply k.0 p b t some k.1)
 
 -- a win is a forced mate, where the wins outside are true
 pub true_wins_mate : {P M V : Type 0} (game : Game P M V) (side : Colour) → TrueWins game side →
     (n : ℕ) (p : P) → WinsWithin (arena_of game) side n p → CanForceMate game.chess side p
 true_wins_mate {P} {M} game side exits =
     holds_of_win game side (λ n p. (k : ℕ) × Forces game.chess mate_alone side k p) (record {
-      mates = λ p h. (0, inr h);
+      mates = λ p h. (0, mated h);
       later = λ n p f. f;
-      own = λ n p f. (suc f.1.2.0, inr (inr (inl (f.0, (f.1.0, f.1.1, f.1.2.1)))));
-      replies = λ n p f. (
+      own = λ n p m t i f. (suc f.0, own_move m t i f.1);
+      replies = λ n p t some f. (
           let k = one_for_all (λ (i : ℕ) (m : M). Forces game.chess mate_alone side i
           (game.chess.play p m))
           (λ i j m l g. forces_later game.chess mate_alone side i j (game.chess.play p m) l g)
-          (game.chess.moves p) f.2 in
-          (suc k.0, inr (inr (inr (f.0, f.1, k.1)))));
+          (game.chess.moves p) f in
+          (suc k.0, every_reply t some k.1));
       exits = λ n q x g. exits q x g.0;
     })
 
@@ -203,10 +202,10 @@ more_wins_mate {P} game side more exits =
     λ n p f. (let e : suc (n + more) ≡ suc n + more = omega arith in
     subst (λ k. ForcesMate game.chess side k p) e f) in
     holds_of_win game side F (record {
-      mates = λ p h. forces_later game.chess mate_alone side 0 (0 + more) p (omega arith) (inr h);
-      later = λ n p f. up n p (inl f);
-      own = λ n p f. up n p (inr (inr (inl f)));
-      replies = λ n p f. up n p (inr (inr (inr f)));
+      mates = λ p h. forces_later game.chess mate_alone side 0 (0 + more) p (omega arith) (mated h);
+      later = λ n p f. up n p (later f);
+      own = λ n p m t i f. up n p (own_move m t i f);
+      replies = λ n p t some f. up n p (every_reply t some f);
       exits = λ n q x g. (let l = g.1 in
           forces_later game.chess mate_alone side (game.lag (game.value q) + more) (n + more) q
           (omega arith) (exits q x g.0));

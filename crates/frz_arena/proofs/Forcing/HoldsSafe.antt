@@ -10,7 +10,7 @@ use Rattle.frz_arena.specs.declared.node.Node.TheVariants.{Mate, Going}
 use Rattle.frz_arena.specs.declared.arm.Arm.{Arm}
 use Rattle.frz_arena.specs.Arena.{IsArm}
 use Rattle.frz_arena.specs.Plies.{LeadsTo, IsBadExit, FailsWithin}
-use Rattle.frz_arena.specs.Chess.{Forces, mate_alone}
+use Rattle.frz_arena.specs.Chess.{Forces, mated, at_goal, later, own_move, every_reply, mate_alone}
 use Rattle.frz_arena.specs.Games.{Game, arm_of, arena_of}
 use Rattle.frz_arena.specs.Exits.{IsExit, TrueExits}
 use Rattle.frz_arena.proofs.Lists.Members.{none_in_empty, passes_or_none}
@@ -48,35 +48,35 @@ forced_is_bad {P} {M} {V} game exits side n ih p m b i f =
 pub forced_fails : {P M V : Type 0} (game : Game P M V) → TrueExits game →
     (side : Colour) (n : ℕ) (p : P) → game.member p ≡ true →
     Forces game.chess mate_alone (other_of side) n p → FailsWithin (arena_of game) side n p
-forced_fails game exits side zero p b (inl e) = absurd (cc)
-forced_fails game exits side zero p b (inr k) =
+forced_fails game exits side zero p b (at_goal e) = absurd (cc)
+forced_fails game exits side zero p b (mated k) =
     inl (mated_by (game.member p) (game.chess.moves p) (game.chess.in_check p) (game.chess.turn p) b
     k.no_move k.attacked ∙ ap Mate (k.to_move ∙ other_other side))
-forced_fails game exits side (suc n) p b (inl f) = inl (forced_fails game exits side n p b f)
-forced_fails game exits side (suc n) p b (inr (inl e)) = absurd (cc)
-forced_fails game exits side (suc n) p b (inr (inr (inl f))) =
-    let some : game.chess.moves p ≢ [] = λ e. none_in_empty f.1.0
-    (subst (λ xs. Contains xs f.1.0) e f.1.1) in
+forced_fails game exits side (suc n) p b (later f) = inl (forced_fails game exits side n p b f)
+forced_fails game exits side (suc n) p b (at_goal e) = absurd (cc)
+forced_fails game exits side (suc n) p b (own_move m t i f) =
+    let some : game.chess.moves p ≢ [] = λ e. none_in_empty m
+    (subst (λ xs. Contains xs m) e i) in
     let g = goes (game.member p) (game.chess.moves p) (game.chess.in_check p) (game.chess.turn p) b
     some in
     inr (inl (
-      g ∙ ap Going f.0,
+      g ∙ ap Going t,
       (
-        arm_of game p f.1.0,
-        arm_at game p f.1.0 f.1.1,
+        arm_of game p m,
+        arm_at game p m i,
         forced_is_bad game exits side n
-            (forced_fails game exits side n) p f.1.0 b f.1.1 f.1.2,
+            (forced_fails game exits side n) p m b i f,
       ),
     ))
-forced_fails {P} {M} {V} game exits side (suc n) p b (inr (inr (inr f))) =
+forced_fails {P} {M} {V} game exits side (suc n) p b (every_reply t some each) =
     let g = goes (game.member p) (game.chess.moves p) (game.chess.in_check p) (game.chess.turn p) b
-    f.1 ∙ ap Going (f.0 ∙ other_other side) in
+    some ∙ ap Going (t ∙ other_other side) in
     let F = FailsWithin (arena_of game) side n in
     let Q = IsBadExit (arena_of game) side in
     let each : (a : Arm M P V) → IsArm (arena_of game) p a → LeadsTo F Q a.next =
     λ a i. (let m = move_of game p a i in subst (λ z. LeadsTo F Q z.next) m.2
     (forced_is_bad game exits side n (forced_fails game exits side n) p m.0 b m.1
-    (f.2 m.0 m.1))) in
+    (each m.0 m.1))) in
     elim (passes_or_none (λ (a : Arm M P V). a.free) ((arena_of game).arms p)) [
       | inl r ↦ inr (inr (g, (r.0, r.1, r.2, each r.0 r.1), λ a i _. each a i))
       | inr none ↦ inl (fails_at_once (arena_of game) side n p (inr (g, none)))

@@ -5,7 +5,7 @@ use Rattle.std.proofs.lemmas.Bool.{cases_Bool}
 use Rattle.frz_board.specs.declared.man.Colour.{Colour}
 use Rattle.frz_arena.specs.declared.class.Class.TheVariants.{Good}
 use Rattle.frz_arena.specs.Plies.{WinsWithin}
-use Rattle.frz_arena.specs.Chess.{Forces, mate_alone}
+use Rattle.frz_arena.specs.Chess.{Forces, mated, own_move, every_reply, mate_alone}
 use Rattle.frz_arena.specs.Games.{Game, arena_of}
 use Rattle.frz_arena.specs.Exits.{IsExit, TrueExits, AllNumbered}
 use Rattle.frz_arena.proofs.Lists.Members.{none_in_empty, first_in, later_in, in_cases}
@@ -42,15 +42,15 @@ pub wins_mates : {P M V : Type 0} (game : Game P M V) → TrueExits game →
     (k : ℕ) × Forces game.chess mate_alone side k p
 wins_mates {P} {M} game exits side =
     holds_of_win game side (λ n p. (k : ℕ) × Forces game.chess mate_alone side k p) (record {
-      mates = λ p h. (0, inr h);
+      mates = λ p h. (0, mated h);
       later = λ n p f. f;
-      own = λ n p f. (suc f.1.2.0, inr (inr (inl (f.0, (f.1.0, f.1.1, f.1.2.1)))));
-      replies = λ n p f. (
+      own = λ n p m t i f. (suc f.0, own_move m t i f.1);
+      replies = λ n p t some f. (
           let k = one_for_all (λ (i : ℕ) (m : M). Forces game.chess mate_alone side i
           (game.chess.play p m))
           (λ i j m l g. forces_later game.chess mate_alone side i j (game.chess.play p m) l g)
-          (game.chess.moves p) f.2 in
-          (suc k.0, inr (inr (inr (f.0, f.1, k.1)))));
+          (game.chess.moves p) f in
+          (suc k.0, every_reply t some k.1));
       exits = λ n q x g. true_win game exits side q x g.0;
     })
 

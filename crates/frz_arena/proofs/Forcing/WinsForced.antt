@@ -9,22 +9,16 @@ use Rattle.frz_arena.specs.declared.node.Node.TheVariants.{Mate, Going}
 use Rattle.frz_arena.specs.declared.arm.Arm.{Arm}
 use Rattle.frz_arena.specs.Arena.{IsArm}
 use Rattle.frz_arena.specs.Plies.{LeadsTo, IsGoodExit, WinsWithin}
-use Rattle.frz_arena.specs.Chess.{Chess, IsMated, OwnMoveTo, EveryReplyTo, Forces}
+use Rattle.frz_arena.specs.Chess.{Chess, IsMated, Forces, mated, at_goal, later, own_move, every_reply}
 use Rattle.frz_arena.specs.Exits.{IsExit}
 use Rattle.frz_arena.specs.Games.{Game, next_by, node_by, arm_of, arena_of, goal_by, goals_of}
-use Rattle.frz_arena.proofs.Plies.Later.{later}
+use Rattle.frz_arena.proofs.Plies.Later.{later as from_then_on}
 use Rattle.frz_arena.proofs.LocalCodes.PlyCodes.{mapped_in, from_mapped}
 
 pub forces_later : {P M : Type 0} (chess : Chess P M) (goal : P → Option ℕ) (side : Colour)
     (n k : ℕ) (p : P) → n ≤ k → Forces chess goal side n p → Forces chess goal side k p
 forces_later chess goal side n k p h f =
-    later (λ i. Forces chess goal side i p) (λ _ v. inl v) n k h f
-
--- a goal within its lag
-pub forces_goal : {P M : Type 0} (chess : Chess P M) (goal : P → Option ℕ) (side : Colour) (n : ℕ)
-    (p : P) → goal p ≡ Some n → Forces chess goal side n p
-forces_goal chess goal side zero p e = inl e
-forces_goal chess goal side (suc n) p e = inr (inl e)
+    from_then_on (λ i. Forces chess goal side i p) (λ _ v. later v) n k h f
 
 -- positions
 pub is_mate : {M : Type 0} (i : Bool) (ms : List M) (check : Bool) (turn side : Colour) →
@@ -81,8 +75,10 @@ pub record HoldsOfWins {P M V : Type 0} (game : Game P M V) (side : Colour)
     (F : ℕ → P → Type 0) : Type 0 where
   pub mates : (p : P) → IsMated game.chess (other_of side) p → F 0 p
   pub later : (n : ℕ) (p : P) → F n p → F (suc n) p
-  pub own : (n : ℕ) (p : P) → OwnMoveTo game.chess side (F n) p → F (suc n) p
-  pub replies : (n : ℕ) (p : P) → EveryReplyTo game.chess side (F n) p → F (suc n) p
+  pub own : (n : ℕ) (p : P) (m : M) → game.chess.turn p ≡ side →
+      Contains (game.chess.moves p) m → F n (game.chess.play p m) → F (suc n) p
+  pub replies : (n : ℕ) (p : P) → game.chess.turn p ≡ other_of side → game.chess.moves p ≢ [] →
+      ((m : M) → Contains (game.chess.moves p) m → F n (game.chess.play p m)) → F (suc n) p
   pub exits : (n : ℕ) (q : P) → IsExit game q → IsGoodExit (arena_of game) side n (game.value q) →
       F n q
 
@@ -115,15 +111,12 @@ module _ {P M V : Type 0} (game : Game P M V) (side : Colour) (F : ℕ → P →
       let W = WinsWithin (arena_of game) side n in
       let Q = IsGoodExit (arena_of game) side n in
       let h = subst (λ a. LeadsTo W Q a.next) (sym m.2) w.1.3 in
-      wins.own n p (g.2, (m.0, m.1, by_arm n (holds_of_win n) p m.0 g.0 m.1 h))
+      wins.own n p m.0 g.2 m.1 (by_arm n (holds_of_win n) p m.0 g.0 m.1 h)
   holds_of_win (suc n) p (inr (inr w)) =
       let g = is_going (game.member p) (game.chess.moves p) (game.chess.in_check p)
       (game.chess.turn p) (other_of side) w.0 in
-      wins.replies n p (
-        g.2,
-        g.1,
-        λ m i. by_arm n (holds_of_win n) p m g.0 i (w.2 (arm_of game p m) (arm_at game p m i)),
-      )
+      wins.replies n p g.2 g.1
+      (λ m i. by_arm n (holds_of_win n) p m g.0 i (w.2 (arm_of game p m) (arm_at game p m i)))
 
 -- what the side forces is such an F, where each good exit is forced within its lag
 pub forced_by_wins : {P M V : Type 0} (game : Game P M V) (goals : P → Option ℕ) (side : Colour) →
@@ -131,10 +124,10 @@ pub forced_by_wins : {P M V : Type 0} (game : Game P M V) (goals : P → Option 
     Forces game.chess goals side (game.lag (game.value q)) q) →
     HoldsOfWins game side (Forces game.chess goals side)
 forced_by_wins game goals side exits = record {
-  mates = λ p h. inr h;
-  later = λ n p f. inl f;
-  own = λ n p f. inr (inr (inl f));
-  replies = λ n p f. inr (inr (inr f));
+  mates = λ p h. mated h;
+  later = λ n p f. later f;
+  own = λ n p m t i f. own_move m t i f;
+  replies = λ n p t some f. every_reply t some f;
   exits = λ n q x g.
       forces_later game.chess goals side (game.lag (game.value q)) n q g.1 (exits q x g.0);
 }
@@ -145,6 +138,5 @@ pub wins_forces : {P M V : Type 0} (game : Game P M V) (side : Colour) (n : ℕ)
 wins_forces game side =
     holds_of_win game side (Forces game.chess (goals_of game side) side)
     (forced_by_wins game (goals_of game side) side
-    (λ q x g. forces_goal game.chess (goals_of game side) side (game.lag (game.value q)) q
-    (goal_by_class (game.member q) (game.class (game.value q) side) (game.lag (game.value q))
+    (λ q x g. at_goal (goal_by_class (game.member q) (game.class (game.value q) side) (game.lag (game.value q))
     x.outside g)))

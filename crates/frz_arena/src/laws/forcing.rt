@@ -1,6 +1,6 @@
 //! What the restricted game says of chess.
 
-ghost use Rattle.std.specs.Prelude.{◌≡◌, ℕ, Bool, true};
+ghost use Rattle.std.specs.Prelude.{◌≡◌, ◌↔◌, ℕ, Bool, true, Option};
 ghost use Rattle.std.specs.List.{Contains};
 ghost use Rattle.frz_board.specs.declared.man.Colour.{Colour};
 ghost use Rattle.frz_board.specs.Men.{other_of};
@@ -8,8 +8,15 @@ ghost use Rattle.frz_arena.specs.declared.class.Class.TheVariants.{Good, Bad};
 ghost use Rattle.frz_arena.specs.Arena.{IsLawful};
 ghost use Rattle.frz_arena.specs.Chess.{Chess, IsMated, Forces, ForcesMate, NeverForcesMate};
 ghost use Rattle.frz_arena.specs.Exits.{TrueExits, AllNumbered};
+ghost use Rattle.frz_arena.specs.ForcesByPlies.{ForcesByPlies};
 ghost use Rattle.frz_arena.specs.Games.{Game, arena_of, goals_of};
 ghost use Rattle.frz_arena.specs.Plies.{WinsWithin, FailsWithin};
+
+/// What a side forces by the named cases is what it forces by recursion over the plies.
+pub fn forces_by_plies<P, M>()
+    ensures { (chess : Chess P M) (goal : P → Option ℕ) (side : Colour) (n : ℕ) (p : P) →
+        Forces chess goal side n p ↔ ForcesByPlies chess goal side n p }
+{}
 
 /// The arena of a game is lawful where each value that is good for one side is bad for the other.
 pub fn games_are_lawful<P, M, V>()
