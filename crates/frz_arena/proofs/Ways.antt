@@ -15,3 +15,4 @@ pub mod Reaching
 pub mod Turns
 pub mod ZeroWays
 pub mod Counted
+pub mod WayByCases

@@ -18,5 +18,6 @@ pub mod Inputs
 pub mod WayEnds
 pub mod Turns
 pub mod Ways
+pub mod WayCases
 pub mod Counted
 pub mod Choices

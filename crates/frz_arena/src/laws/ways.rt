@@ -1,6 +1,6 @@
 //! Ways: the plies that a side plays by its codes, in a line or in a session, and their end.
 
-ghost use Rattle.std.specs.Prelude.{◌≡◌, ◌≤◌, ◌+◌, ◌*◌, ◌⊎◌, ◌≢◌, ℕ, List, [], map, length, slice_get, suc, true, Some};
+ghost use Rattle.std.specs.Prelude.{◌≡◌, ◌↔◌, ◌≤◌, ◌+◌, ◌*◌, ◌⊎◌, ◌≢◌, ℕ, List, [], map, length, slice_get, suc, true, Some};
 ghost use Rattle.std.specs.List.{Contains};
 ghost use Rattle.frz_board.specs.declared.man.Colour.{Colour};
 ghost use Rattle.frz_arena.specs.declared.node.Node.TheVariants.{Broken, Going};
@@ -20,7 +20,18 @@ ghost use Rattle.frz_arena.specs.Tables.{IsTable};
 ghost use Rattle.frz_arena.specs.Chosen.{IsFound, IsChosen};
 ghost use Rattle.frz_arena.specs.Turns.{IsClosed};
 ghost use Rattle.frz_arena.specs.WayEnds.{End, Wrong, Exit, EndsWon, EndsHeld};
-ghost use Rattle.frz_arena.specs.Ways.{Player, Opponent, Ply, is_by_codes, IsWay, IsPlyOf, table_player};
+ghost use Rattle.frz_arena.specs.WayCases.{Played, Way};
+ghost use Rattle.frz_arena.specs.Ways.{Player, Opponent, Ply, is_by_codes, IsTaken, IsWay, IsPlyOf, table_player};
+
+/// A way by the named cases is a way by recursion over its plies, and a ply is played by its cases
+/// where it is taken.
+pub fn ways_by_cases<M, N, V, S, R>()
+    ensures plies { (player : Player M N V S R) (s t : S) (x : Ply M N V) →
+        Played player s x t ↔ IsTaken player s x t }
+    ensures ways { (player : Player M N V S R) (k : ℕ) (s t : S) (p : N) (xs : List (Ply M N V))
+        (e : End N V R) →
+        Way player k s p xs e t ↔ IsWay player k s p xs e t }
+{}
 
 /// A way is unique: its start and the input determine its plies, its end, and what is left of the
 /// input.
