@@ -2,7 +2,11 @@
 use Rattle.std.proofs.Common.{◌≡◌, ◌≢◌, ℕ, Bool, true, false, cond, ◌+◌, ◌<◌, ◌≤◌, List, [], ◌∷◌, eqb, sym, ◌∙◌, ap, refl, arith, inl, inr, get_or, set, length, subst, get_or-set_same, get_or-set_other, length-set}
 use Rattle.std.proofs.lemmas.Bool.{cases_eq, cases_lt}
 use Rattle.std.proofs.lemmas.List.{get_or_past}
+use Rattle.frz_board.specs.Moving.{Step}
+use Rattle.frz_sets.specs.declared.exit.Value.{Value}
+use Rattle.frz_arena.specs.Arena.{Arena}
 use Rattle.frz_retro.specs.Shape.{Shape}
+use Rattle.frz_retro.specs.Tallies.{HasBegun, HasSize, Tally}
 use Rattle.frz_retro.specs.Work.{ones, Queue, Sized, Begun}
 use Rattle.frz_retro.specs.Beginning.{IsBegun}
 use Rattle.frz_retro.specs.Notes.{IsNoteOf, entry_in, later_in}
@@ -188,3 +192,10 @@ begun_none {E = E} s e =
       };
       sized = s;
     }
+
+-- a tally that was made anew
+pub begun_anew : (arena : Arena Step ℕ Value) (size : ℕ) (side : Colour) (n : ℕ) (t : Tally) →
+    n ≡ size → HasSize n t → ((i : ℕ) → i < n → get_or t.codes i 0 ≡ 1) → t.tail ≡ 0 →
+    HasBegun arena size side 0 t
+begun_anew arena size side n t e sized codes tail =
+    rw tail (begun_none (rw e at sized) (λ i h. codes i (omega (arith, h, e))))

@@ -1,5 +1,5 @@
 -- Notes of numbers, and the greatest of their codes.
-use Rattle.std.proofs.Common.{◌≡◌, ◌≢◌, ℕ, ◌+◌, ◌<◌, ◌≤◌, ◌⊎◌, Bool, true, false, cond, List, get_or, get_or-set_other, get_or-set_same, length-set, slice_set, sym, ◌∙◌, ap, refl, subst, arith, inl, inr}
+use Rattle.std.proofs.Common.{◌≡◌, ◌≢◌, ℕ, ◌+◌, ◌<◌, ◌≤◌, ◌⊎◌, Bool, true, false, cond, List, get_or, get_or-set_other, get_or-set_same, length, length-set, slice_set, sym, ◌∙◌, ap, refl, subst, arith, inl, inr}
 use Rattle.std.specs.Prelude.{max, nat_lt}
 use Rattle.std.proofs.lemmas.Bool.{cases_eq, cases_lt}
 use Rattle.std.proofs.lemmas.Bool.Decides.{nat_tests}
@@ -13,6 +13,7 @@ use Rattle.frz_retro.specs.Beginning.{Opens, later_of, start_of}
 use Rattle.frz_retro.specs.Graphs.{Arm}
 use Rattle.frz_retro.specs.Notes.{AreNoted, IsNoteOf, Notes, entry_in, later_in}
 use Rattle.frz_retro.specs.State.{IsLater}
+use Rattle.frz_retro.specs.Tallies.{IsGreatest}
 use Rattle.frz_retro.proofs.Starts.{opens_from}
 
 -- a code of an open number
@@ -92,28 +93,52 @@ noted_next arena size side i notes count code l h here =
       ];
     }
 
--- the greatest of the first numbers, or 0
-abbrev pub IsReached : List ℕ → ℕ → ℕ → Type 0
-IsReached L n top = (top ≡ 0) ⊎ ((j : ℕ) × (j < n) × (get_or L j 0 ≡ top))
+-- no number has begun
+pub greatest_none : (L : List ℕ) → IsGreatest L 0 0
+greatest_none L =
+    record { last = λ j h. absurd (omega (arith, h)); reached = inl refl; short = omega arith }
 
 -- one number more
-module _ (L M : List ℕ) (i top next x : ℕ)
-    (others : (j : ℕ) → j ≢ i → get_or M j 0 ≡ get_or L j 0) (here : get_or M i 0 ≡ x)
-    (high : top ≤ next) (above : x ≤ next) where
-  pub most_next : ((j : ℕ) → j < i → get_or L j 0 ≤ top) → (j : ℕ) → j < i + 1 →
-      get_or M j 0 ≤ next
-  most_next most j l = elim (cases_eq j i) [
-    | inl e ↦ let y = ap (λ k. get_or M k 0) e in omega (arith, y, here, above)
+module _ (L : List ℕ) (i top next x : ℕ) (room : i < length L) (is : next ≡ max x top)
+    (small : x ≤ 2004) (h : IsGreatest L i top) where
+  abbrev M : List ℕ
+  M = slice_set L i x
+
+  here : get_or M i 0 ≡ x
+  here = get_or-set_same L i x 0 room
+
+  others : (j : ℕ) → j ≢ i → get_or M j 0 ≡ get_or L j 0
+  others j n = get_or-set_other L i j x 0 n
+
+  last_next : (j : ℕ) → j < i + 1 → get_or M j 0 ≤ next
+  last_next j l = elim (cases_eq j i) [
+    | inl e ↦ let y = ap (λ k. get_or M k 0) e in omega (arith, y, here, is)
     | inr n ↦
-        let y = others j n in let z = most j (omega (arith, l, n)) in omega (arith, y, z, high)
+        let y = others j n in let z = h.last j (omega (arith, l, n)) in omega (arith, y, z, is)
   ]
 
-  pub reached_next : (next ≡ top) ⊎ (next ≡ x) → IsReached L i top → IsReached M (i + 1) next
+  reached_next : (next ≡ top) ⊎ (next ≡ x) →
+      (top ≡ 0) ⊎ ((j : ℕ) × (j < i) × (get_or L j 0 ≡ top)) →
+      (next ≡ 0) ⊎ ((j : ℕ) × (j < i + 1) × (get_or M j 0 ≡ next))
   reached_next (inr e) r = inr (i, omega arith, here ∙ sym e)
   reached_next (inl e) (inl z) = inl (e ∙ z)
   reached_next (inl e) (inr r) =
       let l = r.1 in
       inr (r.0, omega (arith, l), others r.0 (omega (arith, l)) ∙ r.2 ∙ sym e)
+
+  -- the greater one is one of both
+  one_of : (next ≡ top) ⊎ (next ≡ x)
+  one_of = elim (cases_lt top x) [
+    | inl l ↦ inr (omega (arith, is, l))
+    | inr l ↦ inl (omega (arith, is, l))
+  ]
+
+  pub greatest_next : IsGreatest M (i + 1) next
+  greatest_next = record {
+    last = last_next;
+    reached = reached_next one_of h.reached;
+    short = let short = h.short in omega (arith, is, small, short);
+  }
 
 pub later_small : (code : ℕ) → later_in code ≤ code
 later_small code = of_test (nat_lt code 4)
@@ -121,10 +146,3 @@ later_small code = of_test (nat_lt code 4)
     of_test : (t : Bool) → cond t 0 code ≤ code
     of_test true = omega arith
     of_test false = omega arith
-
--- the greater one is one of both
-pub one_of : (next top x : ℕ) → next ≡ max x top → (next ≡ top) ⊎ (next ≡ x)
-one_of next top x e = elim (cases_lt top x) [
-  | inl l ↦ inr (omega (arith, e, l))
-  | inr l ↦ inl (omega (arith, e, l))
-]

@@ -1,5 +1,5 @@
 -- What the solver keeps of the numbers, as its calls see it.
-use Rattle.std.specs.Prelude.{◌≡◌, ℕ, ◌+◌, ◌-◌, ◌<◌, ◌≤◌, Bool, List, if◌then◌else◌, nat_le, slice_index, slice_set}
+use Rattle.std.specs.Prelude.{◌≡◌, ◌⊎◌, ℕ, ◌+◌, ◌-◌, ◌<◌, ◌≤◌, Bool, List, if◌then◌else◌, nat_le, slice_index, slice_set}
 use Rattle.frz_board.specs.declared.man.Colour.{Colour}
 use Rattle.frz_board.specs.Moving.{Step}
 use Rattle.frz_sets.specs.declared.exit.Value.{Value}
@@ -55,6 +55,12 @@ HasSize n t = Sized n t.codes t.counts t.later t.queue
 abbrev pub HasBegun : Arena Step ℕ Value → ℕ → Colour → ℕ → Tally → Type 0
 HasBegun arena size side n t =
     Begun (shape_of arena size) side n t.codes t.counts t.later t.queue t.tail
+
+-- top is the greatest of 0 and the first n codes, and at most 2004
+pub record IsGreatest (later : List ℕ) (n top : ℕ) : Type 0 where
+  pub last : (i : ℕ) → i < n → slice_index later i ≤ top
+  pub reached : (top ≡ 0) ⊎ ((i : ℕ) × (i < n) × (slice_index later i ≡ top))
+  pub short : top ≤ 2004
 
 -- The tally in pass k, where the exits of the first n numbers have been looked at: mid numbers
 -- stood in the queue when the pass began, and done i q says that i no longer waits to meet q.

@@ -1,9 +1,9 @@
 //! Pass 0 of the solver: the entry, counter and due code that each number begins with.
 
-ghost use Rattle.std.specs.Prelude.{◌≡◌, ◌≢◌, ◌⊎◌, ℕ, ◌+◌, ◌<◌, ◌≤◌, length, slice_index};
+ghost use Rattle.std.specs.Prelude.{◌≡◌, ◌⊎◌, ℕ, ◌+◌, ◌<◌, ◌≤◌, length, slice_index};
 ghost use Rattle.frz_board.specs.Men.{other_of};
-ghost use Rattle.frz_retro.specs.Notes.{AreNoted, HasRoom, IsNoteOf, later_in};
-ghost use Rattle.frz_retro.specs.Tallies.{HasBegun};
+ghost use Rattle.frz_retro.specs.Notes.{AreNoted, HasRoom, IsNoteOf};
+ghost use Rattle.frz_retro.specs.Tallies.{HasBegun, IsGreatest};
 
 use crate::graph::Graph;
 use crate::note::{Note, note_of};
@@ -14,18 +14,27 @@ use frz_graph::Lists;
 use frz_steps::Steps;
 use std::sync::ledger::Ledger;
 
-/// Enters number `i` into the tally as its note says.
-fn begin<G: Graph<L>, L: Ledger>(_graph: &G, side: Colour, i: u32, note: Note, tally: &mut Tally)
+/// Enters number `i` into the tally as its note says. The answer is the greatest code that exits
+/// alone give one of the numbers up to `i`, where `last` is that of the numbers before it.
+fn begin<G: Graph<L>, L: Ledger>(
+    _graph: &G,
+    side: Colour,
+    i: u32,
+    note: Note,
+    tally: &mut Tally,
+    last: u32,
+) -> u32
     requires inside { i < G.count _graph.now }
     requires noted { IsNoteOf side ((G.arena _graph.now).node i) ((G.arena _graph.now).arms i)
         note.count note.code }
     requires begun { HasBegun (G.arena _graph.now) (G.count _graph.now) side i tally.old }
+    requires greatest { IsGreatest tally.old.later i last }
     ensures begun { HasBegun (G.arena _graph.now) (G.count _graph.now) side (i + 1) tally.new }
-    ensures later { slice_index tally.new.later i ≡ later_in note.code }
-    ensures others { (j : ℕ) → j ≢ i →
-        slice_index tally.new.later j ≡ slice_index tally.old.later j }
+    ensures greatest { IsGreatest tally.new.later (i + 1) result }
 {
-    tally.begin(i, note.entry(), note.count, note.later());
+    let later = note.later();
+    tally.begin(i, note.entry(), note.count, later);
+    u32::from(later).max(last)
 }
 
 /// The notes of a number for `side` and for the other side, from one listing of its moves.
@@ -78,9 +87,8 @@ pub fn begin_all<G: Graph<L>, L: Ledger>(
     let mut last = 0;
     for i in 0..graph.size() {
         let (own, other) = notes_of(graph, side, i, lists, steps);
-        begin(graph, side, i, own, tally);
+        last = begin(graph, side, i, own, tally, last);
         notes.write(i, other);
-        last = u32::from(own.later()).max(last);
     }
     last
 }
@@ -107,9 +115,7 @@ pub fn begin_noted<G: Graph<L>, L: Ledger>(
     tally.reset();
     let mut last = 0;
     for i in 0..graph.size() {
-        let note = notes.at(i);
-        begin(graph, side, i, note, tally);
-        last = u32::from(note.later()).max(last);
+        last = begin(graph, side, i, notes.at(i), tally, last);
     }
     last
 }
