@@ -1,28 +1,12 @@
 -- What several names may hold where another name was written: what they held.
 use Rattle.std.specs.Prelude.{Contains}
 use Rattle.std.specs.Option.{option_map}
-use Rattle.std.specs.Str.{bytes_eq}
-use Rattle.std.proofs.Common.{◌≡◌, ◌≢◌, sym, subst, ◌∙◌, ℕ, suc, List, [], ◌∷◌, Option, None, Some, arith}
-use Rattle.std.proofs.lemmas.Slice.Eq.{bytes_eq-Decides}
-use Rattle.std.proofs.lemmas.Bool.{false_from_ne_true}
+use Rattle.std.proofs.Common.{◌≡◌, sym, ℕ, suc, List, [], ◌∷◌, Option, arith}
 use Rattle.frz_store.specs.Files.{Files, put}
-use Rattle.frz_store.proofs.Lemmas.{put-off}
-use Rattle.frz_table.specs.Possible.{MayHold}
+use Rattle.frz_build.proofs.Lemmas.{still_held}
 use Rattle.frz_atlas.specs.Held.{MayHoldAll}
 
--- another name may hold what it held
-still_held : (name other bytes : List ℕ) (held : Option (List ℕ)) → name ≢ other
-    → (old new : Option Files) → new ≡ option_map (λ m. put m name bytes) old
-    → MayHold old other held → MayHold new other held
-still_held name other bytes held differs None new e may =
-    subst (λ (o : Option Files). MayHold o other held) (sym e) may
-still_held name other bytes held differs (Some m) new e may =
-    subst (λ (o : Option Files). MayHold o other held) (sym e)
-    (put-off m name bytes other
-    (false_from_ne_true (bytes_eq name other)
-    (λ same. differs ((bytes_eq-Decides name other).0 same))) ∙ may)
-
--- and so may all others
+-- each of them may hold what it held
 pub all_still_held : (name bytes : List ℕ) (names : List (List ℕ)) (helds : List (Option (List ℕ)))
     → (Contains names name → ⊥) → (old new : Option Files)
     → new ≡ option_map (λ m. put m name bytes) old

@@ -14,11 +14,8 @@ ghost use Rattle.frz_atlas.specs.Causes.{HasAtlasCause};
 
 use crate::{AtlasFault, open_behind};
 use frz_backs::AtlasBook;
-use frz_build::{NewTable, build_table};
+use frz_build::{NewTable, build_ruled};
 use frz_chain::{BackTable, ReadRules};
-use frz_game::Game;
-use frz_game::laws::tables::tables;
-use frz_index::Set;
 use frz_rules::read_rules;
 use frz_steps::Steps;
 use frz_store::{Store, StoreFault};
@@ -50,21 +47,12 @@ pub fn build_over<S: Store, L: Ledger>(
     ensures cost { steps.new ≤ steps.old + 4 * size_of read.now.rules.now.groups }
     ensures later { steps.old ≤ steps.new }
 {
-    tables();
-    let Ok(set) = Set::new(alloc, read.rules) else {
-        return Err(StoreFault::NoMemory);
-    };
-    let game = Game {
-        set: &set,
-        rules: read.rules,
-        book: &AtlasBook::new(read.rules, backs),
-    };
     let file = NewTable {
         name,
         kind: FileKind::Atlas,
         text: read.text,
     };
-    build_table(alloc, &game, &file, store, steps)
+    build_ruled(alloc, read.rules, &AtlasBook::new(read.rules, backs), &file, store, steps)
 }
 
 /// Reads the rules of the text, then opens and checks the tables behind from the left, and writes

@@ -1,5 +1,5 @@
 -- The file of two tables is the one file of its text.
-use Rattle.std.proofs.Common.{◌≡◌, ap, ℕ, List, Result}
+use Rattle.std.proofs.Common.{◌≡◌, refl, ap, ℕ, List, Result, Err}
 use Rattle.frz_board.specs.declared.man.Colour.{Colour}
 use Rattle.frz_board.specs.declared.man.Colour.TheVariants.{White, Black}
 use Rattle.frz_board.specs.Boards.{Board}
@@ -7,11 +7,15 @@ use Rattle.frz_sets.specs.declared.exit.Value.{Value}
 use Rattle.frz_sets.specs.Views.{RuleLines}
 use Rattle.frz_sets.specs.Sets.{size_of}
 use Rattle.frz_game.specs.Bounds.{IsTableOf}
+use Rattle.frz_game.specs.SmallLags.{HasSmallLags}
+use Rattle.frz_game.proofs.Lemmas.{table_there}
 use Rattle.frz_store.specs.Told.{StoreTold}
 use Rattle.frz_store.specs.Writes.{Written}
 use Rattle.frz_store.specs.declared.outside.StoreFault.{StoreFault}
+use Rattle.frz_store.specs.declared.outside.StoreFault.TheVariants.{NoMemory}
 use Rattle.frz_table.specs.Layout.{file_of}
 use Rattle.frz_build.specs.Building.{Builds}
+use Rattle.frz_build.proofs.AfterOpening.{quiet_same}
 
 -- a table for each side
 pub record Tables (rules : RuleLines) (value : Board → Value) : Type 0 where
@@ -20,12 +24,12 @@ pub record Tables (rules : RuleLines) (value : Board → Value) : Type 0 where
   pub white_is : IsTableOf rules value White white
   pub black_is : IsTableOf rules value Black black
 
--- where each side has one
-pub some_tables : (rules : RuleLines) (value : Board → Value)
-    → ((side : Colour) → (codes : List ℕ) × IsTableOf rules value side codes) → Tables rules value
-some_tables rules value there =
-    let white = there White in
-    let black = there Black in
+-- each side has one where no value gives more than 1,000 plies
+pub some_tables : (rules : RuleLines) (value : Board → Value) → HasSmallLags value
+    → Tables rules value
+some_tables rules value small =
+    let white = table_there rules value small White in
+    let black = table_there rules value small Black in
     record { white = white.0; black = black.0; white_is = white.1; black_is = black.1 }
 
 -- what was written of the file of two tables was written of the one file
@@ -45,3 +49,11 @@ builds magic text rules value name size result old new sized t written = record 
   };
   written = written;
 }
+
+-- where memory ran out before the file was created, nothing of the one file was written
+pub unbuilt : {T : Type 0} (magic text : List ℕ) (rules : RuleLines) (value : Board → Value)
+    (name : List ℕ) (old : StoreTold) → HasSmallLags value
+    → Builds {T = T} magic text rules value name (Err NoMemory) old old
+unbuilt {T} magic text rules value name old small =
+    builds {T = T} magic text rules value name (size_of rules.groups) (Err NoMemory) old old refl
+    (some_tables rules value small) (quiet_same old)

@@ -1,2 +1,3 @@
 -- The lemmas that the crates above cite.
+pub use Rattle.frz_build.proofs.AfterOpening.{builds_after, costs_added, costs_kept, quiet_same, still_held}
 pub use Rattle.frz_build.proofs.Parts.{all_written, black_failed, header_refused, white_failed}

@@ -1,3 +1,4 @@
 pub mod Parts
 pub mod Built
+pub mod AfterOpening
 pub mod Lemmas

@@ -143,7 +143,6 @@ pub fn build_table<S: Store, B: ExitBook, L: Ledger>(
     ensures cost { steps.new ≤ steps.old + 4 * size_of game.now.rules.now.groups }
     ensures later { steps.old ≤ steps.new }
 {
-    tables();
     match BothSides::new(alloc, game.set.size()) {
         Ok(mut sides) => write_table(game, file, &mut sides, store, steps),
         Err(_) => Err(StoreFault::NoMemory),

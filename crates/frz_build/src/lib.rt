@@ -3,7 +3,9 @@
 #![tactic(auto)]
 
 mod building;
+mod ruled;
 mod writing;
 
 pub use building::{NewTable, build_table};
+pub use ruled::build_ruled;
 pub use writing::{append_codes, begin_table};

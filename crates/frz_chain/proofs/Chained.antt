@@ -1,10 +1,5 @@
 -- How a table over a back table is built.
-use Rattle.std.proofs.Common.{◌≡◌, ◌≢◌, ◌⊎◌, inl, inr, refl, sym, ap, subst, ◌∙◌, ℕ, ◌+◌, ◌*◌, ◌≤◌, true, List, take, Option, None, Some, Result, Ok, Err, arith}
-use Rattle.std.specs.Prelude.{OnSome}
-use Rattle.std.specs.Option.{option_map}
-use Rattle.std.specs.Str.{bytes_eq}
-use Rattle.std.proofs.lemmas.Slice.Eq.{bytes_eq-Decides}
-use Rattle.std.proofs.lemmas.Bool.{false_from_ne_true}
+use Rattle.std.proofs.Common.{◌≡◌, ◌≢◌, inl, inr, refl, sym, ap, subst, ℕ, ◌+◌, ◌*◌, ◌≤◌, true, List, Option, Some, Result, Ok, Err, arith}
 use Rattle.frz_rules.specs.Text.{Fails, may_want_memory, rules_of}
 use Rattle.frz_rules.specs.declared.fault.RulesError.{RulesError}
 use Rattle.frz_rules.specs.declared.fault.RulesError.TheVariants as reading
@@ -12,21 +7,18 @@ use Rattle.frz_rules.specs.declared.fault.RulesFault.{RulesFault}
 use Rattle.frz_sets.specs.Sets.{size_of}
 use Rattle.frz_sets.specs.Sound.{IsSound}
 use Rattle.frz_sets.specs.Views.{RuleLines}
-use Rattle.frz_store.specs.Files.{Files, put}
 use Rattle.frz_store.specs.Outside.{Rose}
 use Rattle.frz_store.specs.Told.{StoreTold, StoreFine, StoreQuiet}
-use Rattle.frz_store.specs.Writes.{Wrote, WrotePart}
+use Rattle.frz_store.specs.Writes.{Written}
 use Rattle.frz_store.specs.declared.outside.StoreFault.{StoreFault}
 use Rattle.frz_store.specs.declared.outside.StoreFault.TheVariants as store
-use Rattle.frz_store.proofs.Lemmas.{later_store, put-off}
 use Rattle.frz_table.specs.declared.kind.FileKind.TheVariants.{Chained}
 use Rattle.frz_table.specs.Layout.{magic_of}
-use Rattle.frz_table.specs.Possible.{MayHold}
-use Rattle.frz_table.proofs.Lemmas.{fine_after, quiet_after}
 use Rattle.frz_game.proofs.Lemmas.{table_there}
 use Rattle.frz_check.proofs.Lemmas.{file_there}
 use Rattle.frz_check.specs.Kept.{WithinFile}
 use Rattle.frz_build.specs.Building.{Builds, writing_calls}
+use Rattle.frz_build.proofs.Lemmas.{builds_after, costs_added, costs_kept, quiet_same, still_held}
 use Rattle.frz_chain.specs.Backs.{IsRefusedBack, OpensBack, RefusesBack}
 use Rattle.frz_chain.specs.Books.{Back, chain_value}
 use Rattle.frz_chain.specs.Causes.{HasChainCause, fault_of, rules_fault}
@@ -47,71 +39,6 @@ file_on_there text rules back sound =
     (table_there rules (chain_value rules back) (chain_small rules back sound)) (magic_of Chained)
     text
 
--- where there was no memory, nothing was written
-pub no_memory : (text : List ℕ) (rules : RuleLines) (back : Back) → IsSound rules
-    → (T : Type 0) (name : List ℕ) (result : Result T StoreFault) (old new : StoreTold)
-    → result ≡ Err store.NoMemory → StoreQuiet old new
-    → Builds (magic_of Chained) text rules (chain_value rules back) name result old new
-no_memory text rules back sound T name result old new is quiet =
-    let file = file_on_there text rules back sound in
-    subst (λ (r : Result T StoreFault). Builds (magic_of Chained) text rules
-    (chain_value rules back) name r old new) (sym is)
-    (record { bytes = file.0; one_file = file.1; written = quiet })
-
--- by equal books
-pub moved_built : (text : List ℕ) (rules s : RuleLines) (a b : Back) (T : Type 0) (name : List ℕ)
-    (result : Result T StoreFault) (old new : StoreTold)
-    → s ≡ rules → a ≡ b → Builds {T = T} (magic_of Chained) text rules (chain_value s a) name result
-    old new
-    → Builds {T = T} (magic_of Chained) text rules (chain_value rules b) name result old new
-moved_built text rules s a b T name result old new same back h =
-    subst (λ (x : Back). Builds {T = T} (magic_of Chained) text rules (chain_value rules x) name
-    result old new) back
-    (subst (λ (x : RuleLines). Builds {T = T} (magic_of Chained) text rules (chain_value x a) name
-    result old new) same h)
-
--- no call, and nothing written
-pub quiet_same : (old : StoreTold) → StoreQuiet old old
-quiet_same old = record {
-  unwritten = record { files = refl; last = refl; room = refl };
-  later = record {
-    asked = omega arith;
-    calls = omega arith;
-    faults = omega arith;
-    wants = omega arith;
-  };
-}
-
--- calls that wrote nothing before
-wrote_later : (name bytes : List ℕ) (old mid new : StoreTold) → StoreQuiet old mid
-    → Wrote name bytes mid new → Wrote name bytes old new
-wrote_later name bytes old mid new quiet h = record {
-  files = h.files ∙ ap (option_map (λ m. put m name bytes)) quiet.unwritten.files;
-  last = subst (λ (o : Option Files). OnSome o (new.last ≡ Some name)) quiet.unwritten.files h.last;
-  later = later_store old mid new quiet.later h.later;
-}
-
-part_later : (name bytes : List ℕ) (old mid new : StoreTold) → StoreQuiet old mid
-    → WrotePart name bytes mid new → WrotePart name bytes old new
-part_later name bytes old mid new quiet h = record {
-  files = subst (λ (o : Option Files). (new.files ≡ o)
-      ⊎ ((k : ℕ) × (new.files ≡ option_map (λ m. put m name (take k bytes)) o)))
-      quiet.unwritten.files h.files;
-  later = later_store old mid new quiet.later h.later;
-}
-
--- another name may hold what it held
-still_held : (name other bytes held : List ℕ) → name ≢ other → (old new : Option Files)
-    → new ≡ option_map (λ m. put m name bytes) old
-    → MayHold old other (Some held) → MayHold new other (Some held)
-still_held name other bytes held differs None new e may =
-    subst (λ (o : Option Files). MayHold o other (Some held)) (sym e) may
-still_held name other bytes held differs (Some m) new e may =
-    subst (λ (o : Option Files). MayHold o other (Some held)) (sym e)
-    (put-off m name bytes other
-    (false_from_ne_true (bytes_eq name other)
-    (λ same. differs ((bytes_eq-Decides name other).0 same))) ∙ may)
-
 -- what was spent is within the costs where the text is accepted
 within_chaining : (text : List ℕ) (rules : RuleLines) (held : Option (List ℕ))
     (old mid new : StoreTold) (steps_before steps_then steps_now : ℕ) → rules_of text ≡ Ok rules
@@ -123,23 +50,15 @@ within_chaining text rules held old mid new steps_before steps_then steps_now ac
     calls =
     let size = size_of rules.groups in
     record {
-      steps = summed steps_before steps_then steps_now (steps_of_back held)
+      steps = costs_added steps_before steps_then steps_now (steps_of_back held)
           (if_exact held (4 * size)) _
           (ap (λ (x : Result RuleLines RulesFault). steps_to_chain x held) accepted) h.steps steps;
-      asked = same old.asked mid.asked new.asked (bytes_of_back held) _
-          (ap (λ (x : Result RuleLines RulesFault). bytes_to_chain x held) accepted) h.asked asked;
-      calls = summed old.calls mid.calls new.calls (calls_of_back held)
+      asked = subst (λ (x : Result RuleLines RulesFault). new.asked ≤ old.asked + bytes_to_chain x held)
+          (sym accepted) (costs_kept old.asked mid.asked new.asked (bytes_of_back held) h.asked asked);
+      calls = costs_added old.calls mid.calls new.calls (calls_of_back held)
           (if_exact held (writing_calls size)) _
           (ap (λ (x : Result RuleLines RulesFault). calls_to_chain x held) accepted) h.calls calls;
     }
-  where
-    summed : (start middle end back behind all : ℕ) → all ≡ back + behind
-        → middle ≤ start + back → end ≤ middle + behind → end ≤ start + all
-    summed start middle end back behind all is few more = omega (arith, is, few, more)
-
-    same : (start middle end back all : ℕ) → all ≡ back → middle ≤ start + back → end ≤ middle
-        → end ≤ start + all
-    same start middle end back all is few more = omega (arith, is, few, more)
 
 module _ (text back name : List ℕ) (rules : RuleLines) (accepted : rules_of text ≡ Ok rules)
     (loaded : Back) (old mid new : StoreTold) (steps_before steps_then steps_now : ℕ)
@@ -159,15 +78,20 @@ module _ (text back name : List ℕ) (rules : RuleLines) (accepted : rules_of te
       (omega (arith, asked))
       (subst (λ (n : ℕ). new.calls ≤ mid.calls + n) (all (writing_calls size)) calls)
 
-  due : (bytes : List ℕ) → IsFileOn text rules loaded bytes
-      → IsFileOn text rules (back_of opens.contents opens.bytes) bytes
-  due bytes h = subst (λ (b : Back). IsFileOn text rules b bytes) opens.keeps h
+  -- what was written since the back table was asked for is of the one file over it
+  over_bytes : (result : Result ℕ StoreFault)
+      → Builds (magic_of Chained) text rules (chain_value rules loaded) name result mid new
+      → Builds (magic_of Chained) text rules (chain_value rules (back_of opens.contents opens.bytes))
+      name result old new
+  over_bytes result h =
+      builds_after (magic_of Chained) text rules (chain_value rules loaded) _ name result old mid new
+      (ap (chain_value rules) opens.keeps) quiet fine h
 
   pub chained : name ≢ back → (size : ℕ) → size ≡ size_of rules.groups
       → Builds {T = ℕ} (magic_of Chained) text rules (chain_value rules loaded) name (Ok size) mid
       new → Chains text back name old new steps_before steps_now size
-  chained differs size sized h =
-      let wrote = wrote_later name h.bytes old mid new quiet h.written.0 in record {
+  chained differs size sized built =
+      let h = over_bytes (Ok size) built in record {
         rules = rules;
         accepted = accepted;
         back_bytes = opens.bytes;
@@ -176,21 +100,21 @@ module _ (text back name : List ℕ) (rules : RuleLines) (accepted : rules_of te
         back_contents = opens.contents;
         back_judged = opens.judged;
         bytes = h.bytes;
-        one_file = due h.bytes h.one_file;
-        written = wrote;
-        fine = fine_after old mid new fine h.written.1;
-        back_after = still_held name back h.bytes opens.bytes differs old.files new.files
-            wrote.files opens.may;
+        one_file = h.one_file;
+        written = h.written.0;
+        fine = h.written.1;
+        back_after = still_held name back h.bytes (Some opens.bytes) differs old.files new.files
+            h.written.0.files opens.may;
         sized = sized;
         within = within_exact;
       }
 
   not_written : (fault : StoreFault)
-      → Builds {T = ℕ} (magic_of Chained) text rules (chain_value rules loaded) name (Err fault) mid
-      new
+      → Builds {T = ℕ} (magic_of Chained) text rules
+      (chain_value rules (back_of opens.contents opens.bytes)) name (Err fault) old new
       → IsNotChained text name (Some opens.bytes) old new (fault_of fault)
   not_written store.Failed h = (
-    subst (λ (n : ℕ). Rose n new.faults) fine.faults h.written.1,
+    h.written.1,
     inr (record {
       rules = rules;
       accepted = accepted;
@@ -199,12 +123,11 @@ module _ (text back name : List ℕ) (rules : RuleLines) (accepted : rules_of te
       back_contents = opens.contents;
       back_judged = opens.judged;
       bytes = h.bytes;
-      one_file = due h.bytes h.one_file;
-      part = part_later name h.bytes old mid new quiet h.written.0;
+      one_file = h.one_file;
+      part = h.written.0;
     }),
   )
-  not_written store.NoMemory h =
-      (inr (rules, accepted), quiet_after old mid new quiet h.written)
+  not_written store.NoMemory h = (inr (rules, accepted), h.written)
 
   pub not_chained : (fault : StoreFault)
       → Builds {T = ℕ} (magic_of Chained) text rules (chain_value rules loaded) name (Err fault) mid
@@ -213,17 +136,17 @@ module _ (text back name : List ℕ) (rules : RuleLines) (accepted : rules_of te
   not_chained fault h = record {
     back_held = Some opens.bytes;
     back_may = opens.may;
-    refuses = not_written fault h;
+    refuses = not_written fault (over_bytes (Err fault) h);
     within = within_exact;
   }
 
-  -- the cause of a failure in writing, and of none
-  pub write_cause : (fault : StoreFault)
-      → Builds {T = ℕ} (magic_of Chained) text rules (chain_value rules loaded) name (Err fault) mid
-      new
-      → HasChainCause {T = ℕ} (Err (fault_of fault)) old new
-  write_cause store.Failed h = subst (λ (n : ℕ). Rose n new.faults) fine.faults h.written.1
-  write_cause store.NoMemory h = tt
+-- the cause of a failure in writing, and of none
+pub write_cause : (name bytes : List ℕ) (fault : StoreFault) (old mid new : StoreTold)
+    → StoreFine old mid → Written {T = ℕ} name bytes (Err fault) mid new
+    → HasChainCause {T = ℕ} (Err (fault_of fault)) old new
+write_cause name bytes store.Failed old mid new fine h =
+    subst (λ (n : ℕ). Rose n new.faults) fine.faults h.1
+write_cause name bytes store.NoMemory old mid new fine h = tt
 
 -- the text was not read
 pub not_read : (text back name : List ℕ) (old : StoreTold) (steps : ℕ) (fault : RulesError)

@@ -12,10 +12,7 @@ ghost use Rattle.frz_chain.specs.Chains.{Chains, RefusesToChain};
 ghost use Rattle.frz_chain.specs.FileOn.{loaded_back};
 
 use crate::{BackTable, ChainFault, open_back};
-use frz_build::{NewTable, build_table};
-use frz_game::Game;
-use frz_game::laws::tables::tables;
-use frz_index::Set;
+use frz_build::{NewTable, build_ruled};
 use frz_rules::read_rules;
 use frz_sets::Rules;
 use frz_steps::Steps;
@@ -54,21 +51,12 @@ pub fn build_over<S: Store, L: Ledger>(
     ensures cost { steps.new ≤ steps.old + 4 * size_of read.now.rules.now.groups }
     ensures later { steps.old ≤ steps.new }
 {
-    tables();
-    let Ok(set) = Set::new(alloc, read.rules) else {
-        return Err(StoreFault::NoMemory);
-    };
-    let game = Game {
-        set: &set,
-        rules: read.rules,
-        book: &back.behind(read.rules),
-    };
     let file = NewTable {
         name,
         kind: FileKind::Chained,
         text: read.text,
     };
-    build_table(alloc, &game, &file, store, steps)
+    build_ruled(alloc, read.rules, &back.behind(read.rules), &file, store, steps)
 }
 
 /// Reads the rules text, opens and checks the back table, and writes the table of the text over it

@@ -1,6 +1,6 @@
 use Rattle.std.specs.Prelude.{map}
 use Rattle.std.specs.String.{string_bytes}
-use Rattle.std.proofs.Common.{◌∙◌, ◌≤◌, ℕ, length, refl, sym, ap, subst, Result, Ok, Err, IfErr, arith}
+use Rattle.std.proofs.Common.{◌∙◌, ◌≤◌, ℕ, length, sym, ap, subst, Result, Err, IfErr, arith}
 use Rattle.std.proofs.lemmas.Result.{err_from_is_err_and}
 use Rattle.frz_rules.specs.declared.fault.RulesError.{RulesError}
 use Rattle.frz_sets.specs.Views.{RuleLines}
@@ -10,7 +10,7 @@ use Rattle.frz_chain.specs.FileOn.{loaded_back}
 use Rattle.frz_atlas.specs.Building.{RefusesToBuild}
 use Rattle.frz_atlas.specs.Causes.{HasAtlasCause}
 use Rattle.frz_atlas.specs.declared.fault.AtlasFault.{AtlasFault}
-use Rattle.frz_atlas.proofs.AtlasBuilt.{built, moved_built, not_built, not_read, write_cause}
+use Rattle.frz_atlas.proofs.AtlasBuilt.{built, not_built, not_read, write_cause}
 use Rattle.frz_atlas.proofs.building.build_atlas.Goals as goal
 
 pub build_over-requires-clause-text : goal.build_over-requires-clause-text
@@ -45,44 +45,29 @@ returns-in_err-build_over-clause-refused g c =
     (not_built c.args.text.now (map string_bytes c.args.behind.now) c.args.name.now
     c.in_ok-rules.rules c.in_ok-rules.ensures.exact (map loaded_back c.in_ok-backs.backs.items) old
     mid new c.args.steps.now c.open_behind.new.steps c.build_over.new.steps backs.quiet backs.cause
-    backs.opened over.cost over.asked over.calls c.in_err-build_over.field-0.0
-    (moved_built c.args.text.now c.in_ok-rules.rules c.in_ok-rules.rules
-    (map loaded_back c.deref.result.now) (map loaded_back c.in_ok-backs.backs.items) ℕ
-    c.args.name.now (Err c.in_err-build_over.field-0.0) mid new refl
-    (ap (map loaded_back) c.deref.ensures.value) over.built))
+    backs.opened over.cost over.asked over.calls c.in_err-build_over.field-0.0 _
+    (ap (map loaded_back) c.deref.ensures.value) over.built)
 
 pub returns-in_err-build_over-clause-cause : goal.returns-in_err-build_over-clause-cause
 returns-in_err-build_over-clause-cause g c =
     let old = store_of g.S.Store c.args.store.now in
-    let mid = store_of g.S.Store c.open_behind.new.store in
     let new = store_of g.S.Store c.build_over.new.store in
-    let backs = c.in_ok-backs.ensures in
-    let over = c.in_err-build_over.ensures in
     let err : AtlasFault → Result ℕ AtlasFault = λ f. Err f in
     let p = err_from_is_err_and c.from_residual-in_err-build_over.result
     c.from_residual-in_err-build_over.ensures.1 in
     subst (λ (r : Result ℕ AtlasFault). HasAtlasCause r old new) (sym (p.1 ∙ ap err p.2))
-    (write_cause c.args.text.now (map string_bytes c.args.behind.now) c.args.name.now
-    c.in_ok-rules.rules c.in_ok-rules.ensures.exact (map loaded_back c.in_ok-backs.backs.items) old
-    mid new c.args.steps.now c.open_behind.new.steps c.build_over.new.steps backs.quiet backs.cause
-    backs.opened over.cost over.asked over.calls c.in_err-build_over.field-0.0
-    (moved_built c.args.text.now c.in_ok-rules.rules c.in_ok-rules.rules
-    (map loaded_back c.deref.result.now) (map loaded_back c.in_ok-backs.backs.items) ℕ
-    c.args.name.now (Err c.in_err-build_over.field-0.0) mid new refl
-    (ap (map loaded_back) c.deref.ensures.value) over.built))
+    (write_cause _ _ c.in_err-build_over.field-0.0 old
+    (store_of g.S.Store c.open_behind.new.store) new c.in_ok-backs.ensures.cause
+    c.in_err-build_over.ensures.built.written)
 
 pub returns-clause-built : goal.returns-clause-built
 returns-clause-built g c =
-    let old = store_of g.S.Store c.args.store.now in
-    let mid = store_of g.S.Store c.open_behind.new.store in
-    let new = store_of g.S.Store c.build_over.new.store in
     let backs = c.in_ok-backs.ensures in
     let over = c.in_ok-build_over.ensures in
     built c.args.text.now (map string_bytes c.args.behind.now) c.args.name.now c.in_ok-rules.rules
-    c.in_ok-rules.ensures.exact (map loaded_back c.in_ok-backs.backs.items) old mid new
-    c.args.steps.now c.open_behind.new.steps c.build_over.new.steps backs.quiet backs.cause
-    backs.opened over.cost over.asked over.calls c.requires c.in_ok-build_over.field-0 over.size
-    (moved_built c.args.text.now c.in_ok-rules.rules c.in_ok-rules.rules
-    (map loaded_back c.deref.result.now) (map loaded_back c.in_ok-backs.backs.items) ℕ
-    c.args.name.now (Ok c.in_ok-build_over.field-0) mid new refl
-    (ap (map loaded_back) c.deref.ensures.value) over.built)
+    c.in_ok-rules.ensures.exact (map loaded_back c.in_ok-backs.backs.items)
+    (store_of g.S.Store c.args.store.now) (store_of g.S.Store c.open_behind.new.store)
+    (store_of g.S.Store c.build_over.new.store) c.args.steps.now c.open_behind.new.steps
+    c.build_over.new.steps backs.quiet backs.cause
+    backs.opened over.cost over.asked over.calls c.requires c.in_ok-build_over.field-0 over.size _
+    (ap (map loaded_back) c.deref.ensures.value) over.built

@@ -51,8 +51,8 @@ returns-in_err-begin_table-clause-built g c =
     let here = (goal.at.returns-in_err-begin_table-clause-built g c).After-begin_table in
     let rules = c.args.game.now.rules.now in
     let value = g.B.ExitBook.value_at c.args.game.now.book.now in
-    let t : Tables rules value = some_tables rules value
-    (c.tables.ensures.there rules value (g.met.B.ExitBook.small c.args.game.now.book.now)) in
+    let t : Tables rules value =
+    some_tables rules value (g.met.B.ExitBook.small c.args.game.now.book.now) in
     built g here t _ _
     (header_refused _ (header g here) (number_bytes t.white) (number_bytes t.black) _
     c.from_residual.result _ _ (p.1 ∙ ap failed_as p.2)

@@ -47,18 +47,13 @@ returns-in_err-build_over-clause-refused g c =
 pub returns-in_err-build_over-clause-cause : goal.returns-in_err-build_over-clause-cause
 returns-in_err-build_over-clause-cause g c =
     let old = store_of g.S.Store c.args.store.now in
-    let mid = store_of g.S.Store c.open_back.new.store in
     let new = store_of g.S.Store c.build_over.new.store in
-    let back = c.in_ok-back.ensures in
-    let over = c.in_err-build_over.ensures in
     let err : ChainFault → Result ℕ ChainFault = λ f. Err f in
     let p = err_from_is_err_and c.from_residual-in_err-build_over.result
     c.from_residual-in_err-build_over.ensures.1 in
     subst (λ (r : Result ℕ ChainFault). HasChainCause r old new) (sym (p.1 ∙ ap err p.2))
-    (write_cause c.args.text.now c.args.back.now c.args.name.now c.in_ok-rules.rules
-    c.in_ok-rules.ensures.exact (loaded_back c.in_ok-back.back) old mid new
-    c.args.steps.now c.open_back.new.steps c.build_over.new.steps back.quiet back.cause back.opened
-    over.cost over.asked over.calls c.in_err-build_over.field-0.0 over.built)
+    (write_cause _ _ c.in_err-build_over.field-0.0 old (store_of g.S.Store c.open_back.new.store)
+    new c.in_ok-back.ensures.cause c.in_err-build_over.ensures.built.written)
 
 pub returns-clause-built : goal.returns-clause-built
 returns-clause-built g c =

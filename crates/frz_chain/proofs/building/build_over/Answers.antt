@@ -1,26 +1,17 @@
-use Rattle.std.proofs.Common.{ℕ, Result, Err, refl}
+use Rattle.std.proofs.Common.{ap₂, subst}
+use Rattle.frz_board.specs.Boards.{Board}
+use Rattle.frz_sets.specs.declared.exit.Value.{Value}
 use Rattle.frz_store.specs.Told.{store_of}
-use Rattle.frz_store.specs.declared.outside.StoreFault.{StoreFault}
-use Rattle.frz_store.specs.declared.outside.StoreFault.TheVariants.{NoMemory}
-use Rattle.frz_chain.specs.Books.{back_with}
-use Rattle.frz_chain.specs.FileOn.{loaded_back}
-use Rattle.frz_chain.proofs.Chained.{moved_built, no_memory, quiet_same}
+use Rattle.frz_table.specs.declared.kind.FileKind.TheVariants.{Chained}
+use Rattle.frz_table.specs.Layout.{magic_of}
+use Rattle.frz_build.specs.Building.{Builds}
+use Rattle.frz_chain.specs.Books.{chain_value}
 use Rattle.frz_chain.proofs.building.build_over.Goals as goal
-
-pub returns-in_default-clause-built : goal.returns-in_default-clause-built
-returns-in_default-clause-built g c =
-    let read = c.args.read.now in
-    let old = store_of g.S.Store c.args.store.now in
-    let result : Result ℕ StoreFault = Err NoMemory in
-    no_memory read.text.now read.rules.now (loaded_back c.args.back.now) c.requires.sound ℕ
-    c.args.name.now result old old refl (quiet_same old)
 
 pub returns-clause-built : goal.returns-clause-built
 returns-clause-built g c =
     let read = c.args.read.now in
-    let book = c.behind.result in
-    moved_built read.text.now read.rules.now book.rules.now
-    (back_with book.back.now book.white.now book.black.now) (loaded_back c.args.back.now) ℕ
-    c.args.name.now c.build_table.result (store_of g.S.Store c.args.store.now)
-    (store_of g.S.Store c.build_table.new.store)
-    c.behind.ensures.rules c.behind.ensures.back c.build_table.ensures.built
+    subst (λ (value : Board → Value). Builds (magic_of Chained) read.text.now read.rules.now value
+    c.args.name.now c.build_ruled.result (store_of g.S.Store c.args.store.now)
+    (store_of g.S.Store c.build_ruled.new.store))
+    (ap₂ chain_value c.behind.ensures.rules c.behind.ensures.back) c.build_ruled.ensures.built
