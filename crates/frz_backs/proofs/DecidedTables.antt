@@ -1,17 +1,17 @@
 -- Several tables whose outcomes are those of chess decide the game in their sets.
-use Rattle.std.proofs.Common.{◌≡◌, ◌⊎◌, zero, suc, inl, inr, Bool, true, false, List, [], ◌∷◌, ◌++◌, All, Any, Some, None, refl, sym, ap, subst, ◌∙◌, arith}
+use Rattle.std.proofs.Common.{◌≡◌, ◌⊎◌, zero, suc, inl, inr, Bool, true, false, List, [], ◌∷◌, ◌++◌, All, Any, refl, sym, ap, subst, ◌∙◌, arith}
 use Rattle.std.proofs.lemmas.List.Elements.{All-head, All-tail}
 use Rattle.frz_board.specs.Boards.{Board}
 use Rattle.frz_sets.specs.declared.exit.Value.{Value}
-use Rattle.frz_sets.specs.Views.{GroupLine, RuleLines}
+use Rattle.frz_sets.specs.Views.{RuleLines}
 use Rattle.frz_exits.specs.Books.{value_by}
-use Rattle.frz_index.specs.Members.{Member, Num}
-use Rattle.frz_index.specs.Membership.{is_member, number_of}
-use Rattle.frz_index.proofs.Lemmas.{member_of, of_member, number_missing, number_there}
+use Rattle.frz_index.specs.Members.{Member}
+use Rattle.frz_index.specs.Membership.{is_member}
+use Rattle.frz_index.proofs.Lemmas.{member_of}
 use Rattle.frz_game.specs.ExactTables.{AreDecidedOutside, is_decided}
 use Rattle.frz_chain.specs.Books.{Back, back_value, or_else, told_at}
 use Rattle.frz_chain.specs.FileOn.{IsExactBack}
-use Rattle.frz_chain.proofs.Lemmas.{back_decides, first_decides}
+use Rattle.frz_chain.proofs.Lemmas.{back_decides, first_decides, number_inside, number_outside}
 use Rattle.frz_backs.specs.Decided.{AreLinesOrTables, HasBothOutcomes, IsBehind}
 use Rattle.frz_backs.specs.Links.{AreExact, AreExactOver, Link, backs_of, value_over}
 use Rattle.frz_backs.specs.Values.{atlas_value, first_value, told_or}
@@ -30,9 +30,7 @@ module _ (link : Link) (before backs : List Back)
   front_decides : Member link.rules.groups q →
       is_decided (first_value (link.back ∷ backs) q) ≡ true
   front_decides member =
-      let there : number_of link.back.groups q ≡ Some (Num link.rules.groups q) =
-      ap (λ (g : List GroupLine). number_of g q) exact.set
-      ∙ number_there link.rules.groups q (of_member link.rules.groups q member) in
+      let there = number_inside link.rules link.back exact.set q member in
       let told : first_value (link.back ∷ backs) q ≡ back_value link.back q =
       front_tells link.back backs q
       ∙ (ap (told_or link.back (first_value backs q)) there
@@ -46,11 +44,10 @@ module _ (link : Link) (before backs : List Back)
       is_decided (first_value (link.back ∷ backs) q) ≡ true
   rest_decides true e rest = front_decides (member_of link.rules.groups q e)
   rest_decides false e rest =
-      let none : number_of link.back.groups q ≡ None =
-      ap (λ (g : List GroupLine). number_of g q) exact.set
-      ∙ number_missing link.rules.groups q e in
       ap is_decided
-      (front_tells link.back backs q ∙ ap (told_or link.back (first_value backs q)) none)
+      (front_tells link.back backs q
+      ∙ ap (told_or link.back (first_value backs q))
+      (number_outside link.rules link.back exact.set q e))
       ∙ rest
 
 -- table by table

@@ -4,7 +4,6 @@ mod SmallLags
 mod FewTables
 mod TrueTables
 mod Transfer
-mod WinsTold
 mod TablePlies
 mod LinkPlies
 mod DecidedTables

@@ -11,13 +11,13 @@ use Rattle.frz_game.specs.Bounds.{IsBoundAt}
 use Rattle.frz_game.specs.Games.{chess}
 use Rattle.frz_game.specs.Values.{AreTrueExits}
 use Rattle.frz_chain.specs.Books.{Back, back_value}
-use Rattle.frz_chain.specs.ChainPlies.{WinsWithinPlies}
+use Rattle.frz_chain.specs.ChainPlies.{OwnWinsNumbered, WinsWithinPlies}
 use Rattle.frz_chain.specs.FileOn.{IsExactBack}
-use Rattle.frz_chain.proofs.Lemmas.{back_forced}
-use Rattle.frz_backs.specs.LinkPlies.{AreWithinPlies, OwnWinsNumbered, longest_over, plies_through}
+use Rattle.frz_chain.proofs.Lemmas.{back_forced, forced_later, table_forced, win_forced}
+use Rattle.frz_backs.specs.LinkPlies.{AreWithinPlies, longest_over, plies_through}
 use Rattle.frz_backs.specs.Links.{AreExact, AreExactOver, AreTrueLines, Link, backs_of, value_over}
 use Rattle.frz_backs.specs.Values.{atlas_value}
-use Rattle.frz_backs.proofs.TablePlies.{TellsWithin, forced_later, over_forced, table_forced, win_forced}
+use Rattle.frz_backs.proofs.TablePlies.{TellsWithin, over_forced}
 
 -- what is told within some plies is also told within more
 table_later : (side : Colour) (few many : ℕ) → few ≤ many → (back : Back) →

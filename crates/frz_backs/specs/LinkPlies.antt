@@ -1,24 +1,9 @@
 -- The plies within which a win over several tables mates.
-use Rattle.std.specs.Prelude.{◌≡◌, ◌+◌, max, ℕ, List, [], ◌∷◌, ◌++◌, Bool, true, false, ⊤}
+use Rattle.std.specs.Prelude.{◌+◌, max, ℕ, List, [], ◌∷◌, ◌++◌, Bool, true, false, ⊤}
 use Rattle.frz_board.specs.declared.man.Colour.{Colour}
-use Rattle.frz_board.specs.Boards.{Board}
-use Rattle.frz_sets.specs.declared.exit.Value.{Value}
-use Rattle.frz_sets.specs.Views.{RuleLines}
-use Rattle.frz_arena.specs.declared.class.Class.TheVariants.{Good}
-use Rattle.frz_arena.specs.Exits.{IsExit}
-use Rattle.frz_exits.specs.Books.{value_by}
-use Rattle.frz_exits.specs.Values.{class_of, is_numbered}
-use Rattle.frz_game.specs.Games.{game_of}
 use Rattle.frz_chain.specs.Books.{Back}
-use Rattle.frz_chain.specs.ChainPlies.{WinsWithinPlies}
+use Rattle.frz_chain.specs.ChainPlies.{OwnWinsNumbered, WinsWithinPlies}
 use Rattle.frz_backs.specs.Links.{Link, value_over}
-
--- each value just outside the set by which the side wins by the rules' own exit lines gives a
--- number of plies
-abbrev pub OwnWinsNumbered : RuleLines → (Board → Value) → Colour → Type 0
-OwnWinsNumbered rules value side =
-    (q : Board) → IsExit (game_of rules value) q →
-    class_of (value_by rules q) side ≡ Good → is_numbered (value_by rules q) ≡ true
 
 -- the plies to mate from a table whose longest win has `most` plies: where the table leans on
 -- others, those of the tables before it are added

@@ -12,9 +12,10 @@ ghost use Rattle.frz_game.specs.Games.{chess};
 ghost use Rattle.frz_game.specs.ExactTables.{AreDecidedOutside};
 ghost use Rattle.frz_game.specs.Values.{AreTrueExits, IsTrueValue};
 ghost use Rattle.frz_chain.specs.Books.{Back, back_value, chain_value};
+ghost use Rattle.frz_chain.specs.ChainPlies.{OwnWinsNumbered};
 ghost use Rattle.frz_chain.specs.Transfer.{TellsChess};
 ghost use Rattle.frz_backs.specs.Decided.{AreLinesOrTables, HasBothOutcomes};
-ghost use Rattle.frz_backs.specs.LinkPlies.{AreWithinPlies, OwnWinsNumbered, longest_over};
+ghost use Rattle.frz_backs.specs.LinkPlies.{AreWithinPlies, longest_over};
 ghost use Rattle.frz_backs.specs.Links.{AreExact, AreTrueLines, Link, backs_of};
 ghost use Rattle.frz_backs.specs.Values.{atlas_value};
 

@@ -6,11 +6,9 @@ use Rattle.frz_board.specs.Boards.{Board}
 use Rattle.frz_board.specs.declared.man.Colour.TheVariants.{White, Black}
 use Rattle.frz_sets.specs.declared.exit.Value.{Value}
 use Rattle.frz_sets.specs.declared.exit.Value.TheVariants.{WhiteWins, BlackWins, Draw, WhiteHolds, BlackHolds, Unknown, WhiteWinsIn, BlackWinsIn}
-use Rattle.frz_sets.specs.Views.{GroupLine, RuleLines}
+use Rattle.frz_sets.specs.Views.{RuleLines}
 use Rattle.frz_exits.specs.Books.{value_by}
 use Rattle.frz_index.specs.Members.{Member, Num}
-use Rattle.frz_index.specs.Membership.{number_of}
-use Rattle.frz_index.proofs.Lemmas.{of_member, number_there}
 use Rattle.frz_arena.specs.declared.bound.Bound.{Bound}
 use Rattle.frz_arena.specs.declared.bound.Bound.TheVariants.{Wins, Holds, Fails}
 use Rattle.frz_arena.specs.Codes.{code_of, is_win, is_failure}
@@ -21,6 +19,7 @@ use Rattle.frz_chain.specs.Books.{Back, back_value, chain_value, or_else, told_a
 use Rattle.frz_chain.specs.DecidedBacks.{AreLinesOrBehind}
 use Rattle.frz_chain.specs.FileOn.{IsExactBack}
 use Rattle.frz_chain.specs.PairValues.{pair_value}
+use Rattle.frz_chain.proofs.Told.{number_inside}
 
 -- the values of codes of which one wins where the other fails, or both hold
 decided_test : (test : Bool) (first rest : Value) → (test ≡ true → is_decided first ≡ true) →
@@ -85,11 +84,9 @@ module _ (backs : RuleLines) (value : Board → Value) (back : Back)
 
   pub back_decides : is_decided (back_value back q) ≡ true
   back_decides =
-      let there : number_of back.groups q ≡ Some (Num backs.groups q) =
-      ap (λ (g : List GroupLine). number_of g q) exact.set
-      ∙ number_there backs.groups q (of_member backs.groups q member) in
       let stored = stored_bound backs value White back.white exact.white q member in
-      subst (λ (o : Option ℕ). is_decided (told_at back o) ≡ true) (sym there)
+      subst (λ (o : Option ℕ). is_decided (told_at back o) ≡ true)
+      (sym (number_inside backs back exact.set q member))
       (codes_decide stored.0 stored.1)
 
 pub chain_decided : (rules backs : RuleLines) (value : Board → Value) (back : Back) →

@@ -1,5 +1,6 @@
 pub mod Lemmas
 mod Pairs
+mod Told
 mod TrueValues
 mod Transfer
 mod SmallLags
@@ -9,5 +10,6 @@ mod ExactBacks
 mod Backs
 mod Checked
 mod Chained
+mod TablePlies
 mod ChainPlies
 mod DecidedBacks

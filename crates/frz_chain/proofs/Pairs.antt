@@ -1,9 +1,16 @@
 -- What holds of the value that two codes tell, by the five pairs that tell something.
 use Rattle.std.proofs.Common.{◌≡◌, refl, ℕ, Bool, true, false, ◌&&◌, ◌==◌, if◌then◌else◌}
 use Rattle.std.proofs.lemmas.Bool.{and_parts, eqb-true}
+use Rattle.frz_board.specs.declared.man.Colour.{Colour}
+use Rattle.frz_board.specs.declared.man.Colour.TheVariants.{White, Black}
+use Rattle.frz_arena.specs.declared.class.Class.TheVariants.{Good}
 use Rattle.frz_arena.specs.Codes.{is_win, is_failure}
+use Rattle.frz_exits.specs.Values.{class_of}
 use Rattle.frz_sets.specs.declared.exit.Value.{Value}
 use Rattle.frz_sets.specs.declared.exit.Value.TheVariants.{WhiteWins, BlackWins, Draw, WhiteHolds, BlackHolds, Unknown}
+use Rattle.std.specs.Prelude.{slice_index, Some}
+use Rattle.frz_chain.specs.Books.{Back, told_at}
+use Rattle.frz_chain.specs.ChainPlies.{back_codes}
 use Rattle.frz_chain.specs.PairValues.{pair_value}
 
 -- the value of a test, or the rest
@@ -34,3 +41,18 @@ of_pairs P white black white_wins black_wins draw white_holds black_holds unknow
     (either P BlackHolds Unknown (is_failure white && (black == 1))
     (λ e. black_holds (eqb-true black 1 (and_parts (is_failure white) (black == 1) e).1))
     unknown))))
+
+-- where the two codes at a number tell that a side wins, its code is a win
+pub win_told : (back : Back) (side : Colour) (i : ℕ) → class_of (told_at back (Some i)) side ≡ Good
+    → is_win (slice_index (back_codes back side) i) ≡ true
+win_told back White i =
+    let white = slice_index back.white i in
+    of_pairs (λ (v : Value). class_of v White ≡ Good → is_win white ≡ true) white
+    (slice_index back.black i) (λ win good. win) (λ w good. absurd (cc)) (λ w b good. absurd (cc))
+    (λ w good. absurd (cc)) (λ b good. absurd (cc)) (λ good. absurd (cc))
+win_told back Black i =
+    let black = slice_index back.black i in
+    of_pairs (λ (v : Value). class_of v Black ≡ Good → is_win black ≡ true)
+    (slice_index back.white i) black (λ w good. absurd (cc)) (λ win good. win)
+    (λ w b good. absurd (cc)) (λ w good. absurd (cc)) (λ b good. absurd (cc))
+    (λ good. absurd (cc))

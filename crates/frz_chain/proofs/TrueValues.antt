@@ -1,5 +1,5 @@
 -- What an exact table tells is true where its own exits are, and so are the values of a chain.
-use Rattle.std.proofs.Common.{◌≡◌, refl, sym, ap, subst, ◌∙◌, ℕ, List, Bool, true, false, Option, Some, None}
+use Rattle.std.proofs.Common.{◌≡◌, refl, sym, subst, ◌∙◌, ℕ, true, Some}
 use Rattle.std.specs.Prelude.{slice_index}
 use Rattle.frz_board.specs.Boards.{Board}
 use Rattle.frz_board.specs.Men.{other_of}
@@ -7,12 +7,9 @@ use Rattle.frz_board.specs.declared.man.Colour.{Colour}
 use Rattle.frz_board.specs.declared.man.Colour.TheVariants.{White, Black}
 use Rattle.frz_fide.specs.Legal.{after}
 use Rattle.frz_sets.specs.declared.exit.Value.{Value}
-use Rattle.frz_sets.specs.declared.exit.Value.TheVariants.{WhiteWins, BlackWins, Draw, WhiteHolds, BlackHolds, Unknown, WhiteWinsIn, BlackWinsIn}
-use Rattle.frz_sets.specs.Views.{GroupLine, RuleLines}
+use Rattle.frz_sets.specs.Views.{RuleLines}
 use Rattle.frz_exits.specs.Books.{value_by}
 use Rattle.frz_index.specs.Members.{Member, Num}
-use Rattle.frz_index.specs.Membership.{is_member, number_of}
-use Rattle.frz_index.proofs.Lemmas.{member_of, number_there, number_missing}
 use Rattle.frz_arena.specs.declared.bound.Bound.{Bound}
 use Rattle.frz_arena.specs.declared.bound.Bound.TheVariants.{Wins, Holds, Fails}
 use Rattle.frz_arena.specs.Chess.{ForcesMate, NeverForcesMate}
@@ -22,9 +19,10 @@ use Rattle.frz_game.specs.Games.{chess}
 use Rattle.frz_game.specs.Meaning.{Means}
 use Rattle.frz_game.specs.Values.{AreTrueExits, IsTrueValue}
 use Rattle.frz_game.proofs.Lemmas.{bound_means, stored_bound}
-use Rattle.frz_chain.specs.Books.{Back, back_value, chain_value, or_else, told_at}
+use Rattle.frz_chain.specs.Books.{Back, back_value, chain_value, told_at}
 use Rattle.frz_chain.specs.FileOn.{IsExactBack}
 use Rattle.frz_chain.proofs.Pairs.{of_pairs}
+use Rattle.frz_chain.proofs.Told.{of_back, of_either}
 
 -- a bound whose code is a win is a win
 win_is : (b : Bound) (code : ℕ) → code ≡ code_of b → is_win code ≡ true → (n : ℕ) × (b ≡ Wins n)
@@ -79,38 +77,15 @@ module _ (rules : RuleLines) (value : Board → Value) (back : Back)
       black.1 b)
       tt
 
-  by_membership : (member : Bool) → is_member rules.groups q ≡ member
-      → IsTrueValue (back_value back q) q
-  by_membership true e =
-      let there : number_of back.groups q ≡ Some (Num rules.groups q) =
-      ap (λ (g : List GroupLine). number_of g q) exact.set ∙ number_there rules.groups q e in
-      subst (λ (o : Option ℕ). IsTrueValue (told_at back o) q) (sym there)
-      (in_set (member_of rules.groups q e))
-  by_membership false e =
-      let none : number_of back.groups q ≡ None =
-      ap (λ (g : List GroupLine). number_of g q) exact.set ∙ number_missing rules.groups q e in
-      subst (λ (o : Option ℕ). IsTrueValue (told_at back o) q) (sym none) tt
-
   pub back_true : IsTrueValue (back_value back q) q
-  back_true = by_membership (is_member rules.groups q) refl
-
--- the first value or the second
-pub either_true : (first second : Value) (q : Board) → IsTrueValue first q → IsTrueValue second q
-    → IsTrueValue (or_else first second) q
-either_true WhiteWins second q h k = h
-either_true BlackWins second q h k = h
-either_true Draw second q h k = h
-either_true WhiteHolds second q h k = h
-either_true BlackHolds second q h k = h
-either_true Unknown second q h k = k
-either_true (WhiteWinsIn n) second q h k = h
-either_true (BlackWinsIn n) second q h k = h
+  back_true = of_back rules back exact.set q (λ (v : Value). IsTrueValue v q) tt in_set
 
 pub chained_true : (rules backs : RuleLines) (value : Board → Value) (back : Back)
     → IsExactBack backs value back
     → AreTrueExits rules (value_by rules) → AreTrueExits backs value
     → AreTrueExits rules (chain_value rules back)
 chained_true rules backs value back exact own others p m member legal outside =
-    either_true (value_by rules (after p m)) (back_value back (after p m)) (after p m)
+    of_either (λ (v : Value). IsTrueValue v (after p m)) (value_by rules (after p m))
+    (back_value back (after p m))
     (own p m member legal outside)
     (back_true backs value back exact others (after p m))

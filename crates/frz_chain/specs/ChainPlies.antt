@@ -3,6 +3,7 @@ use Rattle.std.specs.Prelude.{◌≡◌, ◌≤◌, ◌+◌, ◌*◌, ℕ, true,
 use Rattle.frz_board.specs.declared.man.Colour.{Colour}
 use Rattle.frz_board.specs.declared.man.Colour.TheVariants.{White, Black}
 use Rattle.frz_board.specs.Boards.{Board}
+use Rattle.frz_sets.specs.declared.exit.Value.{Value}
 use Rattle.frz_sets.specs.Views.{RuleLines}
 use Rattle.frz_arena.specs.declared.class.Class.TheVariants.{Good}
 use Rattle.frz_arena.specs.Codes.{is_win}
@@ -10,7 +11,7 @@ use Rattle.frz_arena.specs.Exits.{IsExit}
 use Rattle.frz_exits.specs.Books.{value_by}
 use Rattle.frz_exits.specs.Values.{class_of, is_numbered}
 use Rattle.frz_game.specs.Games.{game_of}
-use Rattle.frz_chain.specs.Books.{Back, chain_value}
+use Rattle.frz_chain.specs.Books.{Back}
 
 -- the back table's codes of a side
 abbrev pub back_codes : Back → Colour → List ℕ
@@ -23,8 +24,9 @@ WinsWithinPlies back side most =
     (i : ℕ) → is_win (slice_index (back_codes back side) i) ≡ true
     → slice_index (back_codes back side) i ≤ 2 + 2 * most
 
--- each exit that the side wins by the exit lines of the rules has a value with a number of plies
-abbrev pub OwnWinsNumbered : RuleLines → Back → Colour → Type 0
-OwnWinsNumbered rules back side =
-    (q : Board) → IsExit (game_of rules (chain_value rules back)) q →
+-- each value just outside the set by which the side wins by the rules' own exit lines gives a
+-- number of plies
+abbrev pub OwnWinsNumbered : RuleLines → (Board → Value) → Colour → Type 0
+OwnWinsNumbered rules value side =
+    (q : Board) → IsExit (game_of rules value) q →
     class_of (value_by rules q) side ≡ Good → is_numbered (value_by rules q) ≡ true

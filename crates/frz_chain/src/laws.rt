@@ -69,7 +69,8 @@ pub fn exact_by_verdict()
 pub fn plies_over_a_chain()
     ensures { (rules backs : RuleLines) (value : Board → Value) (back : Back) →
         IsExactBack backs value back → AreTrueExits rules (value_by rules) →
-        AreTrueExits backs value → (side : Colour) → OwnWinsNumbered rules back side →
+        AreTrueExits backs value → (side : Colour) →
+        OwnWinsNumbered rules (chain_value rules back) side →
         AllNumbered (game_of backs value) side → (most : ℕ) → WinsWithinPlies back side most →
         (n : ℕ) (p : Board) → IsBoundAt rules (chain_value rules back) side p (Wins n) →
         ForcesMate chess side (n + most) p }

@@ -1,11 +1,10 @@
-use Rattle.std.proofs.Common.{◌≡◌, ◌<◌, ◌∙◌, ℕ, List, Option, Some, ap, ap₂, sym, subst, slice_index, length, arith}
+use Rattle.std.proofs.Common.{◌≡◌, ◌∙◌, ℕ, List, Option, Some, ap, ap₂, sym, slice_index, length, arith}
 use Rattle.std.proofs.lemmas.List.{get_or_read_under}
 use Rattle.frz_board.specs.Boards.{Board}
 use Rattle.frz_sets.specs.Views.{GroupLine}
-use Rattle.frz_sets.specs.Sets.{size_of}
 use Rattle.frz_index.specs.Membership.{number_of}
-use Rattle.frz_index.proofs.Lemmas.{Num_below, member_of, number_tells}
 use Rattle.frz_chain.specs.PairValues.{pair_value}
+use Rattle.frz_chain.proofs.Lemmas.{number_below}
 use Rattle.frz_backs.proofs.FirstValue.{none_left, table_has, table_lacks}
 use Rattle.frz_backs.proofs.book.first_told.Goals as goal
 
@@ -13,13 +12,6 @@ use Rattle.frz_backs.proofs.book.first_told.Goals as goal
 by_groups : (q : Board) (o : Option ℕ) (set groups : List GroupLine) → o ≡ number_of set q
     → set ≡ groups → o ≡ number_of groups q
 by_groups q o set groups e same = e ∙ ap (λ gs. number_of gs q) same
-
--- the number of a position is below the size
-number_below : (groups : List GroupLine) (q : Board) (i : ℕ) → Some i ≡ number_of groups q
-    → i < size_of groups
-number_below groups q i e =
-    let known = number_tells groups q i (sym e) in
-    subst (λ (n : ℕ). n < size_of groups) known.1 (Num_below groups q (member_of groups q known.0))
 
 pub index-requires : goal.index-requires
 index-requires c =
