@@ -8,5 +8,4 @@ mod Names
 mod ExactTables
 mod StillHeld
 mod AtlasBuilt
-mod MovedBooks
 mod AtlasChecked

@@ -1,9 +1,7 @@
--- Verdicts by equal rules, equal values and equal codes.
+-- Verdicts by the values of exits that a table of its kind has.
 use Rattle.std.proofs.Common.{◌≡◌, refl, subst, ℕ, List, map}
-use Rattle.frz_board.specs.Boards.{Board}
 use Rattle.frz_board.specs.declared.man.Colour.{Colour}
 use Rattle.frz_sets.specs.Views.{RuleLines}
-use Rattle.frz_sets.specs.declared.exit.Value.{Value}
 use Rattle.frz_exits.specs.Books.{value_by}
 use Rattle.frz_graph.specs.EntryCodes.{of_side}
 use Rattle.frz_table.specs.declared.kind.FileKind.{FileKind}
@@ -16,11 +14,6 @@ use Rattle.frz_chain.specs.declared.back.BackTable.{BackTable}
 use Rattle.frz_backs.specs.Links.{value_over}
 use Rattle.frz_backs.specs.Values.{atlas_value}
 use Rattle.frz_atlas.specs.Opening.{leans_as}
-
-pub moved_rules : (r s : RuleLines) (value : Board → Value) (codes : Colour → List ℕ) (v : Verdict)
-    → r ≡ s → IsVerdict r value codes v → IsVerdict s value codes v
-moved_rules r s value codes v same h =
-    subst (λ (x : RuleLines). IsVerdict x value codes v) same h
 
 -- by a book of tables, where the kind is one that leans on them
 pub moved_leaning : (kind : FileKind) (r s : RuleLines) (a b : List BackTable)
@@ -44,14 +37,3 @@ moved_plain Plain r s before codes v other rules h =
 moved_plain Chained r s before codes v other rules h =
     subst (λ (x : RuleLines). IsVerdict s (λ q. value_by x q) codes v) rules h
 moved_plain Atlas r s before codes v other rules h = absurd (other refl)
-
--- by equal lists
-pub moved_codes : (rules : RuleLines) (value : Board → Value)
-    (white black white_slice black_slice : List ℕ) (v : Verdict)
-    → white_slice ≡ white → black_slice ≡ black
-    → IsVerdict rules value (λ side. of_side side white_slice black_slice) v
-    → IsVerdict rules value (λ side. of_side side white black) v
-moved_codes rules value white black white_slice black_slice v white_is black_is h =
-    subst (λ (l : List ℕ). IsVerdict rules value (λ side. of_side side white l) v) black_is
-    (subst (λ (l : List ℕ). IsVerdict rules value (λ side. of_side side l black_slice) v) white_is
-    h)

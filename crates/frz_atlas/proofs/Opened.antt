@@ -1,13 +1,9 @@
 -- What is found of one table under its name, over those before it.
-use Rattle.std.proofs.Common.{◌≡◌, refl, sym, ap, subst, ◌∙◌, ℕ, ◌+◌, ◌*◌, ◌≤◌, List, length, Bool, true, false, Option, Some, Result, Ok, Err, IfOk, IfErr, IfSome, arith}
+use Rattle.std.proofs.Common.{◌≡◌, refl, sym, ap, subst, ◌∙◌, ℕ, ◌+◌, ◌*◌, ◌≤◌, List, length, Bool, Option, Some, Result, Ok, Err, IfOk, IfErr, IfSome, arith}
 use Rattle.frz_board.specs.declared.man.Colour.{Colour}
 use Rattle.frz_board.specs.declared.man.Colour.TheVariants.{White, Black}
 use Rattle.frz_sets.specs.Sets.{size_of}
-use Rattle.frz_sets.specs.Sound.{IsSound}
-use Rattle.frz_sets.specs.Views.{RuleLines}
-use Rattle.frz_exits.proofs.Lemmas.{small_values}
 use Rattle.frz_graph.specs.EntryCodes.{of_side}
-use Rattle.frz_game.specs.SmallLags.{HasSmallLags}
 use Rattle.frz_game.proofs.Lemmas.{plies_few, table_exact}
 use Rattle.frz_rules.specs.Text.{rules_of}
 use Rattle.frz_rules.proofs.Lemmas.{text_sound}
@@ -29,7 +25,7 @@ use Rattle.frz_chain.specs.Books.{Back, back_with}
 use Rattle.frz_chain.specs.FileOn.{back_of, loaded_back}
 use Rattle.frz_chain.specs.declared.back.BackTable.{BackTable}
 use Rattle.frz_backs.specs.Links.{value_over}
-use Rattle.frz_backs.proofs.Lemmas.{atlas_small}
+use Rattle.frz_backs.proofs.Lemmas.{over_small}
 use Rattle.frz_atlas.specs.Behind.{IsJudgedOver, TableBytes, kind_by, kind_held, kind_of, leans}
 use Rattle.frz_atlas.specs.Costs.{WithinOne, size_held}
 use Rattle.frz_atlas.specs.Opening.{GivesBack, IsOwnKind, MayBeRefused, MayOpenOwn, MayRefuseOwn, OpensOver, RefusesOver, leans_as}
@@ -125,12 +121,6 @@ pub record JudgedOver (before : List Back) (name : List ℕ) (back : Back) (v : 
   pub judged : IsJudgedOver before table v
   pub keeps : back ≡ back_of table.contents table.bytes
   pub within : WithinOne (Some table.bytes) old new steps_before steps_now
-
--- the values over other tables are small
-over_small : (b : Bool) (rules : RuleLines) (before : List Back) → IsSound rules
-    → HasSmallLags (value_over b rules before)
-over_small true rules before sound = atlas_small rules before sound
-over_small false rules before sound = λ q valid. small_values rules sound q
 
 -- the verdict on the lists is one on the file
 judged_as : (b : Bool) (before : List Back) (table : Table) (white black bytes : List ℕ) (v : Verdict)

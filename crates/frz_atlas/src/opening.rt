@@ -18,82 +18,23 @@ use crate::kinds::open_own;
 use crate::{AtlasFault, BackFault};
 use frz_backs::AtlasBook;
 use frz_chain::BackTable;
-use frz_check::{Verdict, check_entries};
-use frz_exits::{ExitBook, RuleBook};
-use frz_game::{Game, Pair};
+use frz_check::{CheckedCodes, Verdict, load_checked};
+use frz_exits::RuleBook;
 use frz_steps::Steps;
 use frz_store::Store;
 use frz_table::{FileKind, TableFault, TableFile};
 use std::alloc::Global;
 use std::sync::ledger::Ledger;
 
-/// The codes of a table with the verdict on them.
-#[derive(Drop)]
-struct Loaded {
-    white: Vec<u32>,
-    black: Vec<u32>,
-    verdict: Verdict,
-}
-
-/// The verdict on these codes of the table, where the exits have the values of the book.
-fn verdict_by<B: ExitBook, L: Ledger>(
-    table: &TableFile,
-    book: &B,
-    white: &[u32],
-    black: &[u32],
-    steps: &mut Steps<L>,
-) -> Verdict
-    requires white { length white.now ≡ table_size table.now }
-    requires black { length black.now ≡ table_size table.now }
-    ensures verdict { IsVerdict table.now.rules (B.value_at book.now)
-        (λ side. of_side side white.now black.now) result }
-    ensures steps { steps.new ≤ steps.old + table_size table.now }
-    ensures later { steps.old ≤ steps.new }
-{
-    let game = Game {
-        set: table.set(),
-        rules: table.rules(),
-        book,
-    };
-    let entries = Pair { white, black };
-    check_entries(&game, &entries, steps)
-}
-
-/// The verdict on these codes of the table, by its exit lines and, where it leans on others, by the
-/// tables before it where the lines say nothing.
-fn verdict_over<L: Ledger>(
-    table: &TableFile,
-    before: &[BackTable],
-    white: &[u32],
-    black: &[u32],
-    steps: &mut Steps<L>,
-) -> Verdict
-    requires white { length white.now ≡ table_size table.now }
-    requires black { length black.now ≡ table_size table.now }
-    ensures verdict { IsVerdict table.now.rules
-        (value_over (leans_as table.now.kind) table.now.rules (map loaded_back before.now))
-        (λ side. of_side side white.now black.now) result }
-    ensures steps { steps.new ≤ steps.old + table_size table.now }
-    ensures later { steps.old ≤ steps.new }
-{
-    match table.kind() {
-        FileKind::Atlas => {
-            let book = AtlasBook::new(table.rules(), before);
-            verdict_by(table, &book, white, black, steps)
-        }
-        _ => verdict_by(table, &RuleBook::new(table.rules()), white, black, steps),
-    }
-}
-
 /// Loads the codes of an open table and checks them, over the tables before it where it leans on
 /// them.
-fn load_checked<S: Store, L: Ledger>(
+fn load_over<S: Store, L: Ledger>(
     alloc: Global,
     table: &TableFile,
     before: &[BackTable],
     store: &mut S,
     steps: &mut Steps<L>,
-) -> Result<Loaded, TableFault>
+) -> Result<CheckedCodes, TableFault>
     requires { Carries (S.files store.old) table.now }
     ensures kept { IfOk result
         (λ l. MayKeep (S.files store.old) table.now l.white.items l.black.items) }
@@ -110,17 +51,17 @@ fn load_checked<S: Store, L: Ledger>(
     ensures later { steps.old ≤ steps.new }
     ensures cause { HasFileCause result (store_of S.Store store.old) (store_of S.Store store.new) }
 {
-    let (white, black) = table.load(alloc, store)?;
-    let verdict = verdict_over(table, before, &white, &black, steps);
-    Ok(Loaded {
-        white,
-        black,
-        verdict,
-    })
+    match table.kind() {
+        FileKind::Atlas => {
+            let book = AtlasBook::new(table.rules(), before);
+            load_checked(alloc, table, store, &book, steps)
+        }
+        _ => load_checked(alloc, table, store, &RuleBook::new(table.rules()), steps),
+    }
 }
 
 /// The table with its codes if these are exact, or its first wrong entry.
-fn exact_back(table: TableFile, loaded: Loaded) -> Result<BackTable, BackFault>
+fn exact_back(table: TableFile, loaded: CheckedCodes) -> Result<BackTable, BackFault>
     requires white { length loaded.white.items ≡ table_size table }
     requires black { length loaded.black.items ≡ table_size table }
     ensures { GivesBack (back_with table.rules.groups loaded.white.items loaded.black.items)
@@ -158,7 +99,7 @@ pub fn open_over<S: Store, L: Ledger>(
         Ok(table) => table,
         Err(fault) => return Err(BackFault::Refused(fault)),
     };
-    match load_checked(alloc, &table, before, store, steps) {
+    match load_over(alloc, &table, before, store, steps) {
         Ok(loaded) => exact_back(table, loaded),
         Err(fault) => Err(BackFault::Refused(fault)),
     }

@@ -4,7 +4,6 @@ mod Told
 mod TrueValues
 mod Transfer
 mod SmallLags
-mod Moved
 mod Causes
 mod ExactBacks
 mod Backs

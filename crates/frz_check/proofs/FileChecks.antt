@@ -62,18 +62,28 @@ file_opens kind table name bytes old now same is_kind named read may file = (
       (record { file = file; short = read_short table.text table.rules read; read = read })),
 )
 
+-- a verdict by equal rules, on equal lists
+pub moved_verdict : (rules same : RuleLines) (value : Board → Value)
+    (white black white_slice black_slice : List ℕ) (v : Verdict) → rules ≡ same →
+    white_slice ≡ white → black_slice ≡ black →
+    IsVerdict rules value (λ side. of_side side white_slice black_slice) v
+    → IsVerdict same value (λ side. of_side side white black) v
+moved_verdict rules same value white black white_slice black_slice v is white_is black_is h =
+    subst (λ (r : RuleLines). IsVerdict r value (λ side. of_side side white black) v) is
+    (subst (λ (l : List ℕ). IsVerdict rules value (λ side. of_side side white l) v) black_is
+    (subst (λ (l : List ℕ). IsVerdict rules value (λ side. of_side side l black_slice) v) white_is
+    h))
+
 -- the lists that were loaded are those in a file that the name may hold
 pub table_checked : (files : Option Files) (table : Table) (value : Board → Value)
-    (white black : List ℕ) (rules : RuleLines) (white_slice black_slice : List ℕ) (v : Verdict) →
+    (white black : List ℕ) (v : Verdict) →
     IfSome files HoldsBytes → TablesExact table.rules value →
     ((side : Colour) (codes : List ℕ) → IsTableOf table.rules value side codes → (i : ℕ) →
     slice_index codes i ≤ 3 + 2 * (size_of table.rules.groups + 1000)) →
-    rules_of table.text ≡ Ok table.rules → MayKeep files table white black → rules ≡ table.rules →
-    white_slice ≡ white → black_slice ≡ black →
-    IsVerdict rules value (λ side. of_side side white_slice black_slice) v
+    rules_of table.text ≡ Ok table.rules → MayKeep files table white black →
+    IsVerdict table.rules value (λ side. of_side side white black) v
     → ChecksTable files table value v
-table_checked files table value white black rules white_slice black_slice v are exact plies read
-    kept same_rules white_is black_is h =
+table_checked files table value white black v are exact plies read kept h =
     let opens = (file_opens table.kind table table.name kept.bytes files files refl refl refl read
     kept.may kept.file).1 in
     record {
@@ -83,16 +93,14 @@ table_checked files table value white black rules white_slice black_slice v are 
       told =
           verdict_on table.kind value (contents_of table) kept.bytes v
           (held_bytes files table.name (Some kept.bytes) are kept.may) exact plies read opens
-          (same_verdict table.rules value (λ side. of_side side white_slice black_slice)
-          (kept_codes (contents_of table) kept.bytes) v same
-          (subst (λ (r : RuleLines). IsVerdict r value
-          (λ side. of_side side white_slice black_slice) v) same_rules h));
+          (same_verdict table.rules value (λ side. of_side side white black)
+          (kept_codes (contents_of table) kept.bytes) v kept_side h);
     }
   where
-    same : (side : Colour) → of_side side white_slice black_slice ≡ kept_codes (contents_of table)
-        kept.bytes side
-    same White = white_is ∙ sym kept.white_is
-    same Black = black_is ∙ sym kept.black_is
+    kept_side : (side : Colour) → of_side side white black
+        ≡ kept_codes (contents_of table) kept.bytes side
+    kept_side White = sym kept.white_is
+    kept_side Black = sym kept.black_is
 
 -- what opening and loading ask for is within what the file asks for
 pub within_file : (bytes : List ℕ) (contents : Contents) (old mid new : StoreTold)

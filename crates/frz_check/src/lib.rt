@@ -4,9 +4,11 @@
 
 mod entries;
 pub mod laws;
+mod loading;
 mod tables;
 mod verdict;
 
 pub use entries::check_entries;
+pub use loading::{CheckedCodes, load_checked};
 pub use tables::{check_kept, check_table};
 pub use verdict::Verdict;

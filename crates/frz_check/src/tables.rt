@@ -6,10 +6,8 @@ ghost use Rattle.frz_table.specs.Layout.{pieces_of};
 ghost use Rattle.frz_table.specs.Tables.{Carries, table_size};
 ghost use Rattle.frz_check.specs.Kept.{ChecksFile, ChecksTable, RefusesFile};
 
-use crate::{Verdict, check_entries};
+use crate::{Verdict, load_checked};
 use frz_exits::{ExitBook, RuleBook};
-use frz_game::laws::tables::tables;
-use frz_game::{Game, Pair};
 use frz_steps::Steps;
 use frz_store::Store;
 use frz_table::{TableFault, TableFile, open_table};
@@ -38,18 +36,8 @@ pub fn check_kept<B: ExitBook, S: Store, L: Ledger>(
     ensures causes { TableCauses (S.faults store.old) (S.faults store.new)
         (S.wants store.old) (S.wants store.new) result }
 {
-    tables();
-    let (white, black) = table.load(alloc, store)?;
-    let game = Game {
-        set: table.set(),
-        rules: table.rules(),
-        book,
-    };
-    let entries = Pair {
-        white: white.as_slice(),
-        black: black.as_slice(),
-    };
-    Ok(check_entries(&game, &entries, steps))
+    let loaded = load_checked(alloc, table, store, book, steps)?;
+    Ok(loaded.verdict)
 }
 
 /// Opens a plain table and checks its codes, with exits valued by its own exit lines. The calls of

@@ -1,20 +1,23 @@
 use Rattle.std.specs.Prelude.{map}
 use Rattle.std.specs.String.{string_bytes}
-use Rattle.std.proofs.Common.{◌≡◌, ◌∙◌, ℕ, sym, ap, subst, Result, Err, IfErr, arith, rules}
+use Rattle.std.proofs.Common.{◌≡◌, ◌∙◌, ℕ, sym, ap, ap₂, subst, Result, Err, IfErr, arith, rules}
 use Rattle.std.proofs.lemmas.Result.{err_from_is_err_and}
 use Rattle.std.proofs.lemmas.Simd.{map-map}
+use Rattle.frz_board.specs.Boards.{Board}
+use Rattle.frz_sets.specs.declared.exit.Value.{Value}
 use Rattle.frz_sets.specs.Sets.{size_of}
 use Rattle.frz_store.specs.Told.{store_of}
 use Rattle.frz_table.specs.Tables.{table_size}
 use Rattle.frz_table.specs.declared.fault.TableFault.TheVariants.{NoMemory}
+use Rattle.frz_check.specs.Kept.{ChecksTable}
 use Rattle.frz_chain.specs.Books.{Back}
 use Rattle.frz_chain.specs.FileOn.{loaded_back}
 use Rattle.frz_chain.specs.declared.back.BackTable.{BackTable}
+use Rattle.frz_backs.specs.Values.{atlas_value}
 use Rattle.frz_atlas.specs.Checking.{RefusesAtlas}
 use Rattle.frz_atlas.specs.declared.checking.Checked.{Checked}
 use Rattle.frz_atlas.specs.declared.fault.AtlasFault.{AtlasFault}
 use Rattle.frz_atlas.proofs.AtlasChecked.{back_refused, checked, not_loaded, not_opened}
-use Rattle.frz_atlas.proofs.MovedBooks.{moved_check}
 use Rattle.frz_atlas.proofs.checking.check_atlas.Goals as goal
 
 pub returns-in-Err-clause-refused : goal.returns-in-Err-clause-refused
@@ -76,7 +79,6 @@ returns-in-Ok-check_kept-clause-verdict g c =
     let e = c.in-Ok.ensures in
     let b = c.in_ok-backs.ensures in
     let k = c.in-Ok-check_kept.ensures in
-    let book = c.new-book.result in
     let size : c.size.result ≡ table_size table = search rules in
     let of_back : Back → ℕ = λ back. size_of back.groups in
     let sizes : c.in_ok-sizes.sizes.items ≡ map of_back loaded =
@@ -87,10 +89,10 @@ returns-in-Ok-check_kept-clause-verdict g c =
     e.may_open e.quiet.unwritten.files e.asked e.calls loaded
     then new c.open_behind.new.steps c.check_kept.new.steps b.opened k.asked k.calls k.steps
     b.quiet.unwritten.files e.kind e.name _ size sizes
-    (moved_check (g.S.Store.files c.open_behind.new.store) table book.rules.now table.rules
-    (map loaded_back book.backs.now) loaded c.in-Ok-check_kept.verdict
-    (c.new-book.ensures.rules ∙ c.rules.ensures.rules)
-    (ap (map loaded_back) (c.new-book.ensures.backs ∙ c.deref-2.ensures.value)) k.verdict)
+    (subst (λ (value : Board → Value). ChecksTable (g.S.Store.files c.open_behind.new.store) table
+    value c.in-Ok-check_kept.verdict)
+    (ap₂ atlas_value (c.new-book.ensures.rules ∙ c.rules.ensures.rules)
+    (ap (map loaded_back) (c.new-book.ensures.backs ∙ c.deref-2.ensures.value))) k.verdict)
 
 pub returns-clause-refused : goal.returns-clause-refused
 returns-clause-refused g c =

@@ -2,10 +2,10 @@ use Rattle.std.proofs.Common.{map}
 use Rattle.frz_store.specs.Told.{store_of}
 use Rattle.frz_table.specs.Tables.{Table}
 use Rattle.frz_table.proofs.Lemmas.{fine_after}
+use Rattle.frz_check.specs.declared.loading.CheckedCodes.{CheckedCodes}
 use Rattle.frz_chain.specs.Books.{back_with}
 use Rattle.frz_chain.specs.FileOn.{loaded_back}
 use Rattle.frz_chain.specs.declared.back.BackTable.{BackTable}
-use Rattle.frz_atlas.specs.declared.opening.Loaded.{Loaded}
 use Rattle.frz_atlas.proofs.Causes.{given_cause, one_cause, one_later}
 use Rattle.frz_atlas.proofs.Opened.{JudgedOver, back_given, back_wrong, judged_over, not_loaded, not_opened}
 use Rattle.frz_atlas.proofs.opening.open_over.Given.{Over}
@@ -15,18 +15,18 @@ use Rattle.frz_atlas.proofs.opening.open_over.Goals.{After-exact_back}
 -- the verdict on what the name may hold
 judged : (g : Over) (c : After-exact_back g)
     → JudgedOver (map loaded_back c.args.before.now) c.args.name.now
-    (back_with c.in-Ok.table.rules.groups c.in-Ok-load_checked.loaded.white.items
-    c.in-Ok-load_checked.loaded.black.items)
-    c.in-Ok-load_checked.loaded.verdict (store_of g.S.Store c.args.store.now)
-    (store_of g.S.Store c.load_checked.new.store) c.args.steps.now c.load_checked.new.steps
+    (back_with c.in-Ok.table.rules.groups c.in-Ok-load_over.loaded.white.items
+    c.in-Ok-load_over.loaded.black.items)
+    c.in-Ok-load_over.loaded.verdict (store_of g.S.Store c.args.store.now)
+    (store_of g.S.Store c.load_over.new.store) c.args.steps.now c.load_over.new.steps
 judged g c =
-    let loaded = c.in-Ok-load_checked.loaded in
+    let loaded = c.in-Ok-load_over.loaded in
     let opened = c.in-Ok.ensures in
-    let e = c.in-Ok-load_checked.ensures in
+    let e = c.in-Ok-load_over.ensures in
     judged_over (map loaded_back c.args.before.now) c.in-Ok.table c.args.name.now
     loaded.white.items loaded.black.items loaded.verdict (store_of g.S.Store c.args.store.now)
-    (store_of g.S.Store c.open_own.new.store) (store_of g.S.Store c.load_checked.new.store)
-    c.args.steps.now c.load_checked.new.steps
+    (store_of g.S.Store c.open_own.new.store) (store_of g.S.Store c.load_over.new.store)
+    c.args.steps.now c.load_over.new.steps
     (g.met.S.Store.holds_bytes c.open_own.new.store) e.kept opened.quiet.unwritten.files
     opened.kind opened.name opened.opened opened.asked opened.calls e.asked e.calls
     e.steps e.verdict
@@ -42,33 +42,33 @@ returns-in-Err-clause-cause g c =
     one_cause Table BackTable c.in-Err.fault (store_of g.S.Store c.args.store.now)
     (store_of g.S.Store c.open_own.new.store) c.in-Err.ensures.cause
 
-pub returns-in-Ok-load_checked-clause-opened : goal.returns-in-Ok-load_checked-clause-opened
-returns-in-Ok-load_checked-clause-opened g c =
+pub returns-in-Ok-load_over-clause-opened : goal.returns-in-Ok-load_over-clause-opened
+returns-in-Ok-load_over-clause-opened g c =
     back_given _ _ _ _ _ _ _ _ (judged g c) c.exact_back.result c.exact_back.ensures
 
-pub returns-in-Ok-load_checked-clause-refused : goal.returns-in-Ok-load_checked-clause-refused
-returns-in-Ok-load_checked-clause-refused g c =
+pub returns-in-Ok-load_over-clause-refused : goal.returns-in-Ok-load_over-clause-refused
+returns-in-Ok-load_over-clause-refused g c =
     back_wrong _ _ _ _ _ _ _ _ (judged g c) c.exact_back.result c.exact_back.ensures
 
-pub returns-in-Ok-load_checked-clause-cause : goal.returns-in-Ok-load_checked-clause-cause
-returns-in-Ok-load_checked-clause-cause g c =
+pub returns-in-Ok-load_over-clause-cause : goal.returns-in-Ok-load_over-clause-cause
+returns-in-Ok-load_over-clause-cause g c =
     given_cause _ _ c.exact_back.result (store_of g.S.Store c.args.store.now)
-    (store_of g.S.Store c.load_checked.new.store) c.exact_back.ensures
+    (store_of g.S.Store c.load_over.new.store) c.exact_back.ensures
     (fine_after (store_of g.S.Store c.args.store.now) (store_of g.S.Store c.open_own.new.store)
-    (store_of g.S.Store c.load_checked.new.store) c.in-Ok.ensures.cause
-    c.in-Ok-load_checked.ensures.cause)
+    (store_of g.S.Store c.load_over.new.store) c.in-Ok.ensures.cause
+    c.in-Ok-load_over.ensures.cause)
 
-pub returns-in-Err-load_checked-clause-refused : goal.returns-in-Err-load_checked-clause-refused
-returns-in-Err-load_checked-clause-refused g c =
-    let e = c.in-Err-load_checked.ensures in
+pub returns-in-Err-load_over-clause-refused : goal.returns-in-Err-load_over-clause-refused
+returns-in-Err-load_over-clause-refused g c =
+    let e = c.in-Err-load_over.ensures in
     not_loaded (map loaded_back c.args.before.now) c.in-Ok.table c.args.name.now
     (store_of g.S.Store c.args.store.now) (store_of g.S.Store c.open_own.new.store)
-    (store_of g.S.Store c.load_checked.new.store) c.args.steps.now c.load_checked.new.steps
-    c.in-Err-load_checked.fault c.in-Ok.ensures.opened
+    (store_of g.S.Store c.load_over.new.store) c.args.steps.now c.load_over.new.steps
+    c.in-Err-load_over.fault c.in-Ok.ensures.opened
     c.in-Ok.ensures.asked c.in-Ok.ensures.calls e.asked e.calls e.steps e.outside
 
-pub returns-in-Err-load_checked-clause-cause : goal.returns-in-Err-load_checked-clause-cause
-returns-in-Err-load_checked-clause-cause g c =
-    one_later Loaded BackTable c.in-Err-load_checked.fault (store_of g.S.Store c.args.store.now)
-    (store_of g.S.Store c.open_own.new.store) (store_of g.S.Store c.load_checked.new.store)
-    c.in-Ok.ensures.cause c.in-Err-load_checked.ensures.cause
+pub returns-in-Err-load_over-clause-cause : goal.returns-in-Err-load_over-clause-cause
+returns-in-Err-load_over-clause-cause g c =
+    one_later CheckedCodes BackTable c.in-Err-load_over.fault (store_of g.S.Store c.args.store.now)
+    (store_of g.S.Store c.open_own.new.store) (store_of g.S.Store c.load_over.new.store)
+    c.in-Ok.ensures.cause c.in-Err-load_over.ensures.cause

@@ -1,26 +1,24 @@
-use Rattle.std.proofs.Common.{◌∙◌}
+use Rattle.std.proofs.Common.{◌≡◌, ◌∙◌, ap₂, subst}
+use Rattle.frz_board.specs.Boards.{Board}
+use Rattle.frz_sets.specs.declared.exit.Value.{Value}
 use Rattle.frz_check.specs.declared.verdict.Verdict.TheVariants.{Exact, Wrong}
-use Rattle.frz_chain.specs.Books.{back_with}
+use Rattle.frz_check.specs.Kept.{ChecksTable}
+use Rattle.frz_chain.specs.Books.{chain_value}
 use Rattle.frz_chain.specs.FileOn.{loaded_back}
-use Rattle.frz_chain.proofs.Moved.{moved_check}
 use Rattle.frz_chain.proofs.checking.check_over.Goals as goal
 
 pub returns-in-Ok-Exact-clause-verdict : goal.returns-in-Ok-Exact-clause-verdict
 returns-in-Ok-Exact-clause-verdict g c =
-    let book = c.behind-book.result in
-    moved_check (g.S.Store.files c.args.store.now) c.args.table.now book.rules.now
-    c.args.table.now.rules
-    (back_with book.back.now book.white.now book.black.now) (loaded_back c.args.back.now)
-    c.in-Ok-Exact.field-0 Exact
-    (c.behind-book.ensures.rules ∙ c.rules.ensures.rules) c.behind-book.ensures.back
-    c.in-Ok-Exact.field-0-is c.in-Ok-Exact.ensures.verdict
+    subst (λ (value : Board → Value). ChecksTable (g.S.Store.files c.args.store.now)
+    c.args.table.now value Exact)
+    (ap₂ chain_value (c.behind-book.ensures.rules ∙ c.rules.ensures.rules)
+    c.behind-book.ensures.back)
+    (rw c.in-Ok-Exact.field-0-is at c.in-Ok-Exact.ensures.verdict)
 
 pub returns-in-Ok-Wrong-clause-verdict : goal.returns-in-Ok-Wrong-clause-verdict
 returns-in-Ok-Wrong-clause-verdict g c =
-    let book = c.behind-book.result in
-    moved_check (g.S.Store.files c.args.store.now) c.args.table.now book.rules.now
-    c.args.table.now.rules
-    (back_with book.back.now book.white.now book.black.now) (loaded_back c.args.back.now)
-    c.in-Ok-Wrong.field-0 (Wrong c.in-Ok-Wrong.wrong)
-    (c.behind-book.ensures.rules ∙ c.rules.ensures.rules) c.behind-book.ensures.back
-    c.in-Ok-Wrong.field-0-is c.in-Ok-Wrong.ensures.verdict
+    subst (λ (value : Board → Value). ChecksTable (g.S.Store.files c.args.store.now)
+    c.args.table.now value (Wrong c.in-Ok-Wrong.wrong))
+    (ap₂ chain_value (c.behind-book.ensures.rules ∙ c.rules.ensures.rules)
+    c.behind-book.ensures.back)
+    (rw c.in-Ok-Wrong.field-0-is at c.in-Ok-Wrong.ensures.verdict)

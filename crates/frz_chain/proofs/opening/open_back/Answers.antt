@@ -1,6 +1,10 @@
-use Rattle.std.proofs.Common.{sym, subst}
+use Rattle.std.proofs.Common.{◌∙◌, sym, subst}
+use Rattle.frz_exits.specs.Books.{value_by}
+use Rattle.frz_graph.specs.EntryCodes.{of_side}
+use Rattle.frz_sets.specs.Views.{RuleLines}
 use Rattle.frz_store.specs.Told.{store_of}
 use Rattle.frz_table.specs.Opening.{contents_of}
+use Rattle.frz_check.specs.Verdicts.{IsVerdict}
 use Rattle.frz_chain.specs.Backs.{RefusesBack}
 use Rattle.frz_chain.specs.Books.{back_with}
 use Rattle.frz_chain.specs.declared.fault.ChainFault.{ChainFault}
@@ -26,7 +30,10 @@ judged g c =
     c.args.steps.now c.load_checked.new.steps
     (g.met.S.Store.holds_bytes c.open_table.new.store) e.kept opened.quiet.unwritten.files
     opened.kind opened.name opened.may_open opened.asked opened.calls e.asked e.calls
-    e.steps e.verdict
+    e.steps
+    (subst (λ (r : RuleLines). IsVerdict c.in-Ok.table.rules (value_by r)
+    (λ side. of_side side loaded.white.items loaded.black.items) loaded.verdict)
+    (c.new-book.ensures ∙ c.rules.ensures.rules) e.verdict)
 
 pub returns-in-Ok-load_checked-clause-opened : goal.returns-in-Ok-load_checked-clause-opened
 returns-in-Ok-load_checked-clause-opened g c =
