@@ -7,4 +7,3 @@ mod Transfer
 mod TablePlies
 mod LinkPlies
 mod DecidedTables
-mod ExactTables
