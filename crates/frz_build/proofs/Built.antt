@@ -1,6 +1,5 @@
 -- The file of two tables is the one file of its text.
 use Rattle.std.proofs.Common.{◌≡◌, refl, ap, ℕ, List, Result, Err}
-use Rattle.frz_board.specs.declared.man.Colour.{Colour}
 use Rattle.frz_board.specs.declared.man.Colour.TheVariants.{White, Black}
 use Rattle.frz_board.specs.Boards.{Board}
 use Rattle.frz_sets.specs.declared.exit.Value.{Value}

@@ -1,5 +1,5 @@
 -- From an open table to the file under its name.
-use Rattle.std.proofs.Common.{◌≡◌, refl, sym, ap, subst, ◌∙◌, ℕ, ◌+◌, ◌*◌, ◌≤◌, List, drop, length, Option, Some, Result, Ok, Err, IfOk, IfErr, IfSome, arith}
+use Rattle.std.proofs.Common.{◌≡◌, refl, sym, ap, subst, ℕ, ◌+◌, ◌*◌, ◌≤◌, List, drop, length, Option, Some, Result, Ok, Err, IfOk, IfErr, IfSome, arith}
 use Rattle.std.specs.Prelude.{slice_index}
 use Rattle.frz_board.specs.Boards.{Board}
 use Rattle.frz_board.specs.declared.man.Colour.{Colour}

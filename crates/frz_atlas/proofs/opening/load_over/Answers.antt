@@ -3,7 +3,6 @@ use Rattle.std.proofs.lemmas.Result.{IfOk-weaker}
 use Rattle.frz_store.specs.Told.{store_of}
 use Rattle.frz_graph.specs.EntryCodes.{of_side}
 use Rattle.frz_check.specs.declared.loading.CheckedCodes.{CheckedCodes}
-use Rattle.frz_check.specs.Verdicts.{IsVerdict}
 use Rattle.frz_chain.specs.FileOn.{loaded_back}
 use Rattle.frz_atlas.proofs.Causes.{file_cause}
 use Rattle.frz_atlas.proofs.Moved.{moved_leaning, moved_plain}

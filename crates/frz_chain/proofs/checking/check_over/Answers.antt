@@ -1,10 +1,9 @@
-use Rattle.std.proofs.Common.{◌≡◌, ◌∙◌, ap₂, subst}
+use Rattle.std.proofs.Common.{◌∙◌, ap₂, subst}
 use Rattle.frz_board.specs.Boards.{Board}
 use Rattle.frz_sets.specs.declared.exit.Value.{Value}
 use Rattle.frz_check.specs.declared.verdict.Verdict.TheVariants.{Exact, Wrong}
 use Rattle.frz_check.specs.Kept.{ChecksTable}
 use Rattle.frz_chain.specs.Books.{chain_value}
-use Rattle.frz_chain.specs.FileOn.{loaded_back}
 use Rattle.frz_chain.proofs.checking.check_over.Goals as goal
 
 pub returns-in-Ok-Exact-clause-verdict : goal.returns-in-Ok-Exact-clause-verdict
