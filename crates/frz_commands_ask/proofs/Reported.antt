@@ -37,10 +37,11 @@ use Rattle.frz_prelude.proofs.Lemmas.{StopsWith, found_where, holding, refusal_s
 use Rattle.frz_report.specs.declared.fault.ReportFault.{ReportFault}
 use Rattle.frz_report.specs.declared.fault.ReportFault.TheVariants as faults
 use Rattle.frz_report.specs.declared.fault.Totals.{Totals}
-use Rattle.frz_report.specs.Reports.{StoreCause, WritesOfFile, WritesOfTable, WritesReport}
-use Rattle.frz_report.proofs.Lemmas.{report_said}
+use Rattle.frz_report.specs.Reports.{StoreCause, WritesOfFile, WritesOfTable}
+use Rattle.frz_report.specs.Ending.{end_by}
+use Rattle.frz_report.proofs.Lemmas.{MayReport, report_ended, report_said, unreported}
 use Rattle.frz_commands_ask.proofs.ReportMeans.{report_means}
-use Rattle.frz_commands_ask.specs.Reporting.{end_by, report_at, report_by, report_of, reporting_at, reporting_costs, report_words}
+use Rattle.frz_commands_ask.specs.Reporting.{report_at, report_by, report_of, reporting_at, reporting_costs, report_words}
 
 -- a file that the name may hold, and what was spent on it
 pub record FileSeen (name : List ℕ) (old new : StoreTold) (before now : ℕ) (contents : Contents)
@@ -68,18 +69,12 @@ some_at table files = record {
   text = some_report (opened (table_format Plain) (files table)) (unwrap_or (files table) []) files;
 }
 
--- an answer of a file that the name may hold
-pub record GivenBy (name : List ℕ) (contents : Contents) (bytes : List ℕ) (files : Files)
-    (input : List ℕ) (old new : World) : Type 0 where
-  pub found : Found (reporting_at name) files input old
-  pub answer : says Success (report_of contents bytes) found.files ≡ report_at name found.files
-  pub costs : WithinCosts (reporting_costs (found.files name)) (spent old) (spent new)
-
-given_by : (name : List ℕ) (contents : Contents) (bytes : List ℕ) (files : Files) (input : List ℕ)
-    (old new : World) → Agrees old files input
+-- the report is an answer over what was found
+given_answer : (name : List ℕ) (contents : Contents) (bytes : List ℕ) (files : Files)
+    (input : List ℕ) (old new : World) → Agrees old files input
     → FileSeen name old.store new.store old.steps new.steps contents bytes
-    → GivenBy name contents bytes files input old new
-given_by name contents bytes files input old new agrees seen =
+    → SaysAll (reporting_at name) Success (report_of contents bytes) files input old new
+given_answer name contents bytes files input old new agrees seen =
     let at = holding old.store.files name (Some bytes) seen.may in record {
       found = found_where (reporting_at name) at.files files input old (λ e. cc) at.agrees agrees;
       answer = sym
@@ -90,107 +85,9 @@ given_by name contents bytes files input old new agrees seen =
           (spent new)) (sym at.holds) (within_costs (Some bytes) old new seen.within);
     }
 
-module _ (name : List ℕ) (contents : Contents) (bytes : List ℕ) (old new : StoreTold)
-    (input : SourceTold) (out_old out_new : SinkTold) (before now : ℕ)
-    (quiet : StoreQuiet old new) (later : before ≤ now)
-    (seen : FileSeen name old new before now contents bytes) where
-  abbrev start : World
-  start = world old input out_old before
-
-  abbrev finish : World
-  finish = world new input out_new now
-
-  -- the report was written, or the sink failed within it
-  told_so : (end : End) → StoreFine old new
-      → Said Success (report_of contents bytes) end out_old out_new
-      → Ran (reporting_at name) end start finish
-  told_so end fine says_it =
-      said (reporting_at name) Success (report_of contents bytes) end start
-      (world new input out_old now) out_new
-      (quiet_both old new input out_old before now quiet later)
-      (fine_store old new input out_old before now fine) refl says_it
-      (λ files left agrees.
-      let here = given_by name contents bytes files left start (world new input out_old now) agrees
-      seen in
-      record { found = here.found; answer = here.answer; costs = here.costs })
-
-  -- a fault stopped it behind whole lines
-  halted_so : (fault : Fault) (text rest : List ℕ) → MayMeet (reporting_at name) fault start finish
-      → IsLines text → TookText text out_old out_new
-      → text ++ rest ≡ report_of contents bytes → (rest ≡ [] → ⊥)
-      → Ran (reporting_at name) (Stopped fault) start finish
-  halted_so fault text rest meets lines took begins more =
-      let written : out_new.taken ≡ append_known out_old.taken (text ++ []) = took.taken
-      ∙ ap (append_known out_old.taken) (sym (append-nil text)) in
-      let none_less = took.faults in
-      record {
-        later = record {
-          store = quiet.later;
-          input = omega arith;
-          out = omega (arith, none_less);
-          steps = later;
-        };
-        may = meets;
-        lines = (record { lines = text; whole = lines; text = written }, λ silent. cc);
-        only = quiet.unwritten;
-        unwritten = λ none. quiet.unwritten;
-        room = tt;
-        answered = λ files left agrees.
-            let here = given_by name contents bytes files left start finish agrees seen in
-            answered_over here.found (says Success (report_of contents bytes) here.found.files)
-            here.answer
-            (record {
-              lines = text;
-              rest = rest;
-              whole = lines;
-              begins = begins;
-              more = more;
-              text = written;
-              others = record {
-                files = λ q. inl (ap (λ (o : Option Files). held o q) quiet.unwritten.files);
-                left = (0, omega arith, drop_none input.left);
-              };
-            })
-            (record {
-              steps = here.costs.steps;
-              calls = here.costs.calls;
-              asked = here.costs.asked;
-            });
-      }
-
-  -- by what was written of the report
-  by_text : (result : Result Totals ReportFault) → StoreCause result old new
-      → WritesReport contents.rules (value_by contents.rules) (kept_codes contents bytes) result
-      out_old out_new → Ran (reporting_at name) (end_by result) start finish
-  by_text (Ok totals) fine h =
-      let whole : h.text ≡ report_of contents bytes = sym (append-nil h.text)
-      ∙ ap (λ (l : List ℕ). h.text ++ l) (sym h.finishes.1) ∙ h.begins in
-      told_so (Done Success) fine
-      (record {
-        says = inl
-            (refl, subst (λ (l : List ℕ). TookText l out_old out_new) whole h.wrote);
-      })
-  by_text (Err faults.Store) rose h =
-      halted_so stops.Store h.text h.rest (refl, rose) h.lines h.wrote h.begins h.finishes
-  by_text (Err faults.Output) fine h =
-      told_so SinkFault fine
-      (record {
-        says = inr (
-          refl,
-          failed_before h.text h.rest (report_of contents bytes) out_old out_new h.wrote
-              h.begins,
-        );
-      })
-  by_text (Err faults.NoMemory) free h =
-      halted_so stops.NoMemory h.text h.rest refl h.lines h.wrote h.begins h.finishes
-
-  -- a fault before anything was written
-  unread_so : (fault : Fault) → MayMeet (reporting_at name) fault start finish → out_new ≡ out_old
-      → Ran (reporting_at name) (Stopped fault) start finish
-  unread_so fault meets same =
-      halted_so fault [] (report_of contents bytes) meets (inl refl)
-      (subst (λ (o : SinkTold). TookText [] out_old o) (sym same) (took_nothing out_old)) refl
-      (report_said contents.rules (value_by contents.rules) (kept_codes contents bytes))
+may_report : (name : List ℕ) → MayReport (reporting_at name)
+may_report name =
+    record { store = refl; memory = refl; speaks = refl; writes = refl; own = refl }
 
 -- a table was opened, and its report was begun
 pub record Begins (name : List ℕ) (table : Table) (old mid new : StoreTold)
@@ -249,16 +146,24 @@ module _ (name : List ℕ) (table : Table) (old mid new : StoreTold) (input : So
       → Ran (reporting_at name) (end_by result) (world old input out_old before)
       (world new input out_new now)
   of_file result cause h =
-      by_text name (contents_of table) h.bytes old new input out_old out_new before now quiet_all
-      begun.later (loaded_seen h.bytes h.may h.file) result (cause_all result cause) h.wrote
+      report_ended (reporting_at name) (may_report name) table.rules (value_by table.rules)
+      (kept_codes (contents_of table) h.bytes) old new input out_old out_new before now quiet_all
+      begun.later
+      (λ files left agrees. given_answer name (contents_of table) h.bytes files left
+      (world old input out_old before) (world new input out_old now) agrees
+      (loaded_seen h.bytes h.may h.file)) result (cause_all result cause) h.wrote
 
   unread : (fault : Fault) → MayMeet (reporting_at name) fault (world old input out_old before)
       (world new input out_new now) → out_new ≡ out_old
       → Ran (reporting_at name) (Stopped fault) (world old input out_old before)
       (world new input out_new now)
   unread fault meets same =
-      unread_so name (contents_of table) begun.opens.bytes old new input out_old out_new before now
-      quiet_all begun.later first_seen fault meets same
+      unreported (reporting_at name) (may_report name) table.rules (value_by table.rules)
+      (kept_codes (contents_of table) begun.opens.bytes) old new input out_old out_new before now
+      quiet_all begun.later
+      (λ files left agrees. given_answer name (contents_of table) begun.opens.bytes files left
+      (world old input out_old before) (world new input out_old now) agrees first_seen) fault
+      meets same
 
   -- the report of an open table ends the command
   pub reported : (result : Result Totals ReportFault) → StoreCause result mid new

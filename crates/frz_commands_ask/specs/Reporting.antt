@@ -13,12 +13,6 @@ use Rattle.frz_table.specs.Possible.{held_text}
 use Rattle.frz_check.specs.Kept.{kept_codes, opened_size}
 use Rattle.frz_check.specs.KeptTables.{KeepsBound, KeepsTables}
 use Rattle.frz_report.specs.Reports.{report_text}
-use Rattle.frz_report.specs.declared.fault.ReportFault.{ReportFault}
-use Rattle.frz_report.specs.declared.fault.ReportFault.TheVariants as faults
-use Rattle.frz_report.specs.declared.fault.Totals.{Totals}
-use Rattle.frz_answer.specs.declared.end.End.{End}
-use Rattle.frz_answer.specs.declared.end.End.TheVariants.{Done, SinkFault, Stopped}
-use Rattle.frz_answer.specs.declared.fault.Fault.TheVariants as stops
 use Rattle.frz_answer.specs.declared.status.Status.{Status}
 use Rattle.frz_answer.specs.declared.status.Status.TheVariants.{Success, Table, Missing}
 use Rattle.frz_answer.specs.Answers.{Answer, says}
@@ -42,13 +36,6 @@ report_by (Err fault) bytes files = says (table_status fault) (table_line fault)
 abbrev pub report_at : List ℕ → Files → Answer
 report_at table files =
     report_by (opened (table_format Plain) (files table)) (bytes_at files table) files
-
--- how a report ends the command
-abbrev pub end_by : Result Totals ReportFault → End
-end_by (Ok totals) = Done Success
-end_by (Err faults.Store) = Stopped stops.Store
-end_by (Err faults.Output) = SinkFault
-end_by (Err faults.NoMemory) = Stopped stops.NoMemory
 
 -- the text is the report of the file. Where the codes in it are the tables of both sides, each code
 -- that the report uses is that of the bound at its position, and holds in chess

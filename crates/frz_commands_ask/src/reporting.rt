@@ -5,28 +5,16 @@ ghost use Rattle.std.specs.String.{string_bytes};
 ghost use Rattle.frz_store.specs.Told.{SourceTold, store_of, sink_of};
 ghost use Rattle.frz_answer.specs.World.{world};
 ghost use Rattle.frz_answer.specs.Ends.{Ran};
-ghost use Rattle.frz_commands_ask.specs.Reporting.{end_by, reporting_at, report_words};
+ghost use Rattle.frz_commands_ask.specs.Reporting.{reporting_at, report_words};
 
-use frz_answer::{End, Fault, Refusal, Status, one_word, refuse};
+use frz_answer::{End, Refusal, one_word, refuse};
 use frz_prelude::Stop;
-use frz_report::{ReportFault, Totals, report};
+use frz_report::{end_of, report};
 use frz_steps::Steps;
 use frz_store::{Sink, Store};
 use frz_table::open_table;
 use std::alloc::Global;
 use std::sync::ledger::Ledger;
-
-/// How the command ends after a report.
-fn end_of(written: Result<Totals, ReportFault>) -> End
-    ensures { result ≡ end_by written }
-{
-    match written {
-        Ok(_) => End::Done(Status::Success),
-        Err(ReportFault::Store) => End::Stopped(Fault::Store),
-        Err(ReportFault::Output) => End::SinkFault,
-        Err(ReportFault::NoMemory) => End::Stopped(Fault::NoMemory),
-    }
-}
 
 /// Reports on the table file of this name, or refuses it.
 fn report_named<S: Store, O: Sink, L: Ledger>(

@@ -5,3 +5,4 @@ pub mod Lines
 pub mod Reports
 pub mod Walks
 pub mod Zugzwangs
+pub mod Ending

@@ -3,6 +3,7 @@
 
 mod census;
 mod class;
+mod ending;
 mod fault;
 pub mod laws;
 mod reporting;
@@ -10,5 +11,6 @@ mod squeeze;
 mod texts;
 mod walk;
 
+pub use ending::end_of;
 pub use fault::{ReportFault, Totals};
-pub use reporting::report;
+pub use reporting::{report, write_report};

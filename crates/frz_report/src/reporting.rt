@@ -39,8 +39,11 @@ fn write_classes<O: Sink>(classes: &IndexMap<Class, u64>, out: &mut O) -> Result
     Ok(())
 }
 
-/// Writes the report of a set by the codes of both sides. The moves of each number are listed once.
-fn write_report<B: ExitBook, E: Entries, O: Sink, L: Ledger>(
+/// Writes the report of a set by the codes of both sides, with its exits valued by the book of the
+/// game: a line for each mutual zugzwang as it is met, a line for each class of open exits, and a
+/// line with the totals, which are also the answer. With a fault, whole lines were written, or the
+/// sink failed within one. The moves of each number are listed once.
+pub fn write_report<B: ExitBook, E: Entries, O: Sink, L: Ledger>(
     alloc: Global,
     game: &Game<'_, B>,
     entries: &E,
@@ -106,9 +109,8 @@ fn report_codes<O: Sink, L: Ledger>(
     write_report(alloc, &game, &entries, out, steps)
 }
 
-/// Writes the report of a table by the codes in its file: a line for each mutual zugzwang as it is
-/// met, a line for each class of open exits, and a line with the totals, which are also the answer.
-/// With a fault, whole lines were written, or the sink failed within one.
+/// Writes the report of a table by the codes in its file and the values of its own exit lines, as
+/// `write_report` does.
 pub fn report<S: Store, O: Sink, L: Ledger>(
     alloc: Global,
     table: &TableFile,
