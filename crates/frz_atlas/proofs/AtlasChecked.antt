@@ -62,7 +62,7 @@ not_opened table behind old new steps fault h =
     }
 
 -- what was spent is within the costs of all files
-within_all : (bytes : List ℕ) (contents : Contents) (helds : List (Option (List ℕ)))
+pub within_all : (bytes : List ℕ) (contents : Contents) (helds : List (Option (List ℕ)))
     (old mid then new : StoreTold) (steps_before steps_then steps_now : ℕ)
     → opened (table_format Atlas) (Some bytes) ≡ Ok contents
     → mid.asked ≤ old.asked + (16 + length contents.text) → mid.calls ≤ old.calls + 5
@@ -112,7 +112,7 @@ behind_refused bytes contents helds (atlas.Rules fault) opens h = absurd h
 behind_refused bytes contents helds (atlas.Table fault) opens h = absurd h
 
 -- all were opened, and the codes of the table were not loaded
-outside_refused : (held : Option (List ℕ)) (behind : List (Option (List ℕ))) (fault : TableFault)
+pub outside_refused : (held : Option (List ℕ)) (behind : List (Option (List ℕ))) (fault : TableFault)
     → IsOutside fault → IsRefusedAtlas held behind (table_fault fault)
 outside_refused held behind Failed h = tt
 outside_refused held behind NoMemory h = tt

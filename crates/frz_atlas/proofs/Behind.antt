@@ -32,7 +32,7 @@ may_hold_both files (name ∷ names) more [] others h k = absurd h
 may_hold_both files (name ∷ names) more (held ∷ helds) others h k =
     (h.0, may_hold_both files names more helds others h.1 k)
 
-may_hold_one : (files : Option Files) (name : List ℕ) (held : Option (List ℕ))
+pub may_hold_one : (files : Option Files) (name : List ℕ) (held : Option (List ℕ))
     → MayHold files name held → MayHoldAll files (name ∷ []) (held ∷ [])
 unfolding MayHoldAll
 may_hold_one files name held h = (h, tt)
@@ -83,7 +83,7 @@ refused_behind before (t ∷ tables) held rest fault h refused =
     )
 
 -- the costs of one more
-sum_one : (f : Option (List ℕ) → ℕ) (helds : List (Option (List ℕ))) (held : Option (List ℕ))
+pub sum_one : (f : Option (List ℕ) → ℕ) (helds : List (Option (List ℕ))) (held : Option (List ℕ))
     (rest : List (Option (List ℕ)))
     → sum_by f helds + f held ≤ sum_by f (helds ++ (held ∷ rest))
 sum_one f helds held rest =

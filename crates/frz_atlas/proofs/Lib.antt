@@ -9,3 +9,6 @@ mod ExactTables
 mod StillHeld
 mod AtlasBuilt
 mod AtlasChecked
+mod Loaded
+mod LoadedAll
+mod AtlasLoaded

@@ -61,7 +61,7 @@ not_opened before name old new steps fault calls h = record {
 }
 
 -- what opening and loading ask for is within what the file asks for
-within_one : (bytes : List ℕ) (contents : Contents) (old mid new : StoreTold)
+pub within_one : (bytes : List ℕ) (contents : Contents) (old mid new : StoreTold)
     (steps_before steps_now : ℕ)
     → opened (table_format (kind_of bytes)) (Some bytes) ≡ Ok contents
     → mid.asked ≤ old.asked + (24 + length contents.text) → mid.calls ≤ old.calls + 7

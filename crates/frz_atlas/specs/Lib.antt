@@ -6,3 +6,5 @@ pub mod Causes
 pub mod FileOver
 pub mod Checking
 pub mod Building
+pub mod Loading
+pub mod Reading

@@ -8,9 +8,13 @@ mod checking;
 mod fault;
 mod kinds;
 pub mod laws;
+mod loading;
 mod opening;
+mod reading;
 
 pub use building::{build_atlas, build_over};
 pub use checking::{Checked, check_atlas};
 pub use fault::{AtlasFault, BackFault};
+pub use loading::load_behind;
 pub use opening::{open_behind, open_over};
+pub use reading::{LoadedAtlas, load_atlas};

@@ -1,0 +1,157 @@
+-- A table over several others that was loaded with them, or was not.
+use Rattle.std.proofs.Common.{◌≡◌, ap, subst, sym, ◌∙◌, ℕ, ◌+◌, ◌*◌, ◌≤◌, List, length, map, Option, Some, Ok, arith}
+use Rattle.frz_board.specs.declared.man.Colour.TheVariants.{White, Black}
+use Rattle.frz_rules.specs.Text.{rules_of}
+use Rattle.frz_sets.specs.Sets.{size_of}
+use Rattle.frz_store.specs.Files.{Files}
+use Rattle.frz_store.specs.Told.{StoreTold}
+use Rattle.frz_table.specs.declared.fault.TableFault.{TableFault}
+use Rattle.frz_table.specs.declared.fault.TableFault.TheVariants.{Missing, Magic, Truncated, Extra, Rules, Size, Failed, NoMemory}
+use Rattle.frz_table.specs.declared.kind.FileKind.TheVariants.{Atlas}
+use Rattle.frz_table.specs.Faults.{IsOutside}
+use Rattle.frz_table.specs.Layout.{pieces_of}
+use Rattle.frz_table.specs.Opening.{Contents, contents_of, opened, table_format}
+use Rattle.frz_table.specs.Possible.{MayKeep, MayOpen, MayRefuse}
+use Rattle.frz_table.specs.Tables.{Table, table_size}
+use Rattle.frz_table.proofs.Lemmas.{belongs}
+use Rattle.frz_check.specs.Kept.{kept_codes}
+use Rattle.frz_check.proofs.Lemmas.{file_opens}
+use Rattle.frz_chain.specs.Books.{Back, back_with}
+use Rattle.frz_chain.specs.FileOn.{loaded_back}
+use Rattle.frz_atlas.specs.Causes.{table_fault}
+use Rattle.frz_atlas.specs.Checking.{IsRefusedAtlas}
+use Rattle.frz_atlas.specs.Held.{MayHoldAll, all_held}
+use Rattle.frz_atlas.specs.Loading.{IsOneUnopened, LoadsAll, RefusesToLoad, WithinLoading}
+use Rattle.frz_atlas.specs.Reading.{IsUnopenedAtlas, LoadsAtlas, RefusesToRead, WithinReading}
+use Rattle.frz_atlas.specs.declared.fault.AtlasFault.{AtlasFault}
+use Rattle.frz_atlas.specs.declared.fault.AtlasFault.TheVariants as atlas
+use Rattle.frz_atlas.specs.declared.fault.BackFault.TheVariants.{Refused, Wrong}
+use Rattle.frz_atlas.specs.declared.reading.LoadedAtlas.{LoadedAtlas}
+use Rattle.frz_atlas.proofs.AtlasChecked as checks
+
+-- what refuses the table's own file to a check refuses it here
+own_refused : (held : Option (List ℕ)) (behind : List (Option (List ℕ))) (fault : TableFault)
+    → IsRefusedAtlas held behind (table_fault fault)
+    → IsUnopenedAtlas held behind (table_fault fault)
+own_refused held behind Missing h = h
+own_refused held behind Magic h = h
+own_refused held behind (Truncated length due) h = h
+own_refused held behind (Extra length due) h = h
+own_refused held behind (Rules fault) h = h
+own_refused held behind (Size kept due) h = h
+own_refused held behind Failed h = tt
+own_refused held behind NoMemory h = tt
+
+-- the table was not opened
+pub not_opened : (table : List ℕ) (behind : List (List ℕ)) (old new : StoreTold)
+    (fault : TableFault) → MayRefuse (table_format Atlas) table old new fault
+    → RefusesToRead table behind old new (table_fault fault)
+not_opened table behind old new fault h =
+    let r = checks.not_opened table behind old new 0 fault h in record {
+      held = r.held;
+      may = r.may;
+      helds = r.helds;
+      may_all = r.may_all;
+      refuses = own_refused r.held r.helds fault r.refuses;
+      within = record { asked = r.within.asked; calls = r.within.calls };
+    }
+
+-- what was asked for is within the costs of all files
+within_all : (bytes : List ℕ) (contents : Contents) (helds : List (Option (List ℕ)))
+    (old mid then new : StoreTold) → opened (table_format Atlas) (Some bytes) ≡ Ok contents
+    → mid.asked ≤ old.asked + (16 + length contents.text) → mid.calls ≤ old.calls + 5
+    → WithinLoading helds mid then
+    → new.asked ≤ then.asked + 8 * size_of contents.rules.groups
+    → new.calls ≤ then.calls + 2 * pieces_of (size_of contents.rules.groups)
+    → WithinReading (Some bytes) helds old new
+within_all bytes contents helds old mid then new opens asked calls h more_asked more_calls =
+    let within = checks.within_all bytes contents helds old mid then new 0 0 0 opens asked calls
+    (record { steps = omega arith; asked = h.asked; calls = h.calls }) more_asked more_calls
+    (omega arith) in
+    record { asked = within.asked; calls = within.calls }
+
+-- the table was opened, and one of those behind it refused
+behind_refused : (bytes : List ℕ) (contents : Contents) (helds : List (Option (List ℕ)))
+    (fault : AtlasFault) → opened (table_format Atlas) (Some bytes) ≡ Ok contents
+    → IsOneUnopened helds fault → IsUnopenedAtlas (Some bytes) helds fault
+behind_refused bytes contents helds (atlas.Back place (Refused fault)) opens h =
+    ((contents, opens), h)
+behind_refused bytes contents helds (atlas.Back place (Wrong wrong)) opens h = absurd h
+behind_refused bytes contents helds atlas.Failed opens h = tt
+behind_refused bytes contents helds atlas.NoMemory opens h = tt
+behind_refused bytes contents helds (atlas.Rules fault) opens h = absurd h
+behind_refused bytes contents helds (atlas.Table fault) opens h = absurd h
+
+-- the table was opened
+module _ (table : Table) (name : List ℕ) (behind : List (List ℕ)) (old mid : StoreTold)
+    (opens : MayOpen (table_format Atlas) old.files name (contents_of table))
+    (same : mid.files ≡ old.files) (asked : mid.asked ≤ old.asked + (16 + length table.text))
+    (calls : mid.calls ≤ old.calls + 5) where
+  pub back_refused : (new : StoreTold) (fault : AtlasFault) → RefusesToLoad behind mid new fault
+      → RefusesToRead name behind old new fault
+  back_refused new fault h = record {
+    held = Some opens.bytes;
+    may = opens.may;
+    helds = h.helds;
+    may_all = subst (λ (o : Option Files). MayHoldAll o behind h.helds) same h.may;
+    refuses = behind_refused opens.bytes (contents_of table) h.helds fault opens.opens h.refuses;
+    within =
+        within_all opens.bytes (contents_of table) h.helds old mid new new opens.opens asked calls
+        h.within (omega arith) (omega arith);
+  }
+
+  -- all of those behind it were loaded, and its own codes were not
+  pub not_loaded : (backs : List Back) (then new : StoreTold) (fault : TableFault)
+      → LoadsAll behind backs mid then → new.asked ≤ then.asked + 8 * table_size table
+      → new.calls ≤ then.calls + 2 * pieces_of (table_size table) → IsOutside fault
+      → RefusesToRead name behind old new (table_fault fault)
+  not_loaded backs then new fault h more_asked more_calls outside =
+      let helds = all_held h.tables in
+      record {
+        held = Some opens.bytes;
+        may = opens.may;
+        helds = helds;
+        may_all = subst (λ (o : Option Files). MayHoldAll o behind helds) same h.may;
+        refuses = own_refused (Some opens.bytes) helds fault
+            (checks.outside_refused (Some opens.bytes) helds fault outside);
+        within =
+            within_all opens.bytes (contents_of table) helds old mid then new opens.opens asked
+            calls h.within more_asked more_calls;
+      }
+
+-- all of them were loaded
+pub loaded : (given : LoadedAtlas) (name : List ℕ) (behind : List (List ℕ))
+    (old mid then new : StoreTold)
+    → MayOpen (table_format Atlas) old.files name (contents_of given.table.table)
+    → mid.files ≡ old.files → then.files ≡ mid.files
+    → mid.asked ≤ old.asked + (16 + length given.table.table.text)
+    → mid.calls ≤ old.calls + 5 → given.table.table.kind ≡ Atlas → given.table.table.name ≡ name
+    → LoadsAll behind (map loaded_back given.backs.items) mid then
+    → MayKeep then.files given.table.table given.table.white.items given.table.black.items
+    → new.asked ≤ then.asked + 8 * table_size given.table.table
+    → new.calls ≤ then.calls + 2 * pieces_of (table_size given.table.table)
+    → LoadsAtlas name behind old new given
+loaded given name behind old mid then new opens same then_same asked calls kind named h kept
+    more_asked more_calls =
+    let table : Table = given.table.table in
+    let contents : Contents = contents_of table in
+    let read : rules_of table.text ≡ Ok table.rules =
+    (belongs (table_format Atlas) opens.bytes contents opens.opens).read in
+    let there = file_opens Atlas table name kept.bytes old.files then.files (then_same ∙ same) kind
+    named read kept.may kept.file in
+    record {
+      bytes = kept.bytes;
+      may = there.0;
+      opens = there.1;
+      keeps =
+          ap (λ (l : List ℕ). back_with table.rules.groups l given.table.black.items)
+          (sym kept.white_is)
+          ∙ ap (λ (l : List ℕ). back_with table.rules.groups (kept_codes contents kept.bytes White)
+          l) (sym kept.black_is);
+      tables = h.tables;
+      may_all = subst (λ (o : Option Files). MayHoldAll o behind (all_held h.tables)) same h.may;
+      all_open = h.opens;
+      all_keep = h.keeps;
+      within = within_all kept.bytes contents (all_held h.tables) old mid then new there.1 asked
+          calls h.within more_asked more_calls;
+    }

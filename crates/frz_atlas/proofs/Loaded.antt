@@ -1,0 +1,94 @@
+-- One table that was opened as its own kind and loaded, and one that was not.
+use Rattle.std.proofs.Common.{◌≡◌, sym, ap, ◌∙◌, ℕ, ◌+◌, ◌*◌, ◌≤◌, List, length, Bool, Some, Ok, IfSome, arith}
+use Rattle.frz_board.specs.declared.man.Colour.TheVariants.{White, Black}
+use Rattle.frz_rules.specs.Text.{rules_of}
+use Rattle.frz_sets.specs.Sets.{size_of}
+use Rattle.frz_store.specs.Bytes.{HoldsBytes}
+use Rattle.frz_store.specs.Told.{StoreTold}
+use Rattle.frz_table.specs.declared.fault.TableFault.{TableFault}
+use Rattle.frz_table.specs.Faults.{IsOutside}
+use Rattle.frz_table.specs.Layout.{pieces_of}
+use Rattle.frz_table.specs.Opening.{Contents, contents_of, table_format}
+use Rattle.frz_table.specs.Possible.{MayKeep}
+use Rattle.frz_table.specs.Tables.{Table, table_size}
+use Rattle.frz_table.proofs.Lemmas.{belongs, held_bytes, outside_refuses}
+use Rattle.frz_check.specs.Kept.{kept_codes}
+use Rattle.frz_check.proofs.Lemmas.{file_opens}
+use Rattle.frz_chain.specs.Books.{back_with}
+use Rattle.frz_chain.specs.FileOn.{loaded_back}
+use Rattle.frz_chain.specs.declared.back.BackTable.{BackTable}
+use Rattle.frz_atlas.specs.Behind.{kind_by, kind_of}
+use Rattle.frz_atlas.specs.Loading.{LoadsOne, RefusesOne, WithinLoadingOne, opened_own}
+use Rattle.frz_atlas.specs.Opening.{IsOwnKind, MayOpenOwn, MayRefuseOwn, leans_as}
+use Rattle.frz_atlas.proofs.Opened.{within_one}
+use Rattle.frz_atlas.proofs.OwnKinds.{leans_by, opens_own}
+
+pub not_opened : (name : List ℕ) (old new : StoreTold) (fault : TableFault)
+    → new.calls ≤ old.calls + 7 → MayRefuseOwn name old new fault → RefusesOne name old new fault
+not_opened name old new fault calls h = record {
+  held = h.held;
+  may = h.may;
+  refuses = h.refuses;
+  within = record { asked = omega (arith, h.asked); calls = omega (arith, calls) };
+}
+
+-- what opening and loading ask for is within what the file asks for
+within_loading : (bytes : List ℕ) (contents : Contents) (old mid new : StoreTold)
+    → opened_own (Some bytes) ≡ Ok contents
+    → mid.asked ≤ old.asked + (24 + length contents.text) → mid.calls ≤ old.calls + 7
+    → new.asked ≤ mid.asked + 8 * size_of contents.rules.groups
+    → new.calls ≤ mid.calls + 2 * pieces_of (size_of contents.rules.groups)
+    → WithinLoadingOne (Some bytes) old new
+within_loading bytes contents old mid new opens asked calls more_asked more_calls =
+    let within = within_one bytes contents old mid new 0 0 opens asked calls more_asked more_calls
+    (omega arith) in record { asked = within.asked; calls = within.calls }
+
+-- it was opened, and the lists of its codes were not loaded
+pub not_loaded : (table : Table) (name : List ℕ) (old mid new : StoreTold) (fault : TableFault)
+    → MayOpenOwn old.files name (contents_of table)
+    → mid.asked ≤ old.asked + (24 + length table.text) → mid.calls ≤ old.calls + 7
+    → new.asked ≤ mid.asked + 8 * table_size table
+    → new.calls ≤ mid.calls + 2 * pieces_of (table_size table) → IsOutside fault
+    → RefusesOne name old new fault
+not_loaded table name old mid new fault opens asked calls more_asked more_calls outside = record {
+  held = Some opens.bytes;
+  may = opens.may;
+  refuses = outside_refuses (opened_own (Some opens.bytes)) fault outside;
+  within = within_loading opens.bytes (contents_of table) old mid new opens.opens asked calls
+      more_asked more_calls;
+}
+
+-- the file whose codes were loaded is one of the table
+pub loaded_one : (given : BackTable) (name : List ℕ) (old mid new : StoreTold)
+    → IfSome mid.files HoldsBytes
+    → MayKeep mid.files given.table given.white.items given.black.items → mid.files ≡ old.files
+    → IsOwnKind given.table.kind → given.table.name ≡ name
+    → MayOpenOwn old.files name (contents_of given.table)
+    → mid.asked ≤ old.asked + (24 + length given.table.text) → mid.calls ≤ old.calls + 7
+    → new.asked ≤ mid.asked + 8 * table_size given.table
+    → new.calls ≤ mid.calls + 2 * pieces_of (table_size given.table)
+    → LoadsOne name old new given
+loaded_one given name old mid new are kept same kind named may asked calls more_asked more_calls =
+    let table : Table = given.table in
+    let b : Bool = leans_as table.kind in
+    let contents : Contents = contents_of table in
+    let read : rules_of table.text ≡ Ok table.rules =
+    (belongs (table_format (kind_of may.bytes)) may.bytes contents may.opens).read in
+    let there = file_opens (kind_by b) table name kept.bytes old.files mid.files same kind named
+    read kept.may kept.file in
+    let begins = (belongs (table_format (kind_by b)) kept.bytes contents there.1).file.begins in
+    let opens = opens_own b kept.bytes contents there.1 in
+    record {
+      bytes = kept.bytes;
+      may = there.0;
+      are_bytes = held_bytes mid.files table.name (Some kept.bytes) are kept.may;
+      opens = opens;
+      leaning = leans_by b kept.bytes begins;
+      keeps =
+          ap (λ (l : List ℕ). back_with table.rules.groups l given.black.items)
+          (sym kept.white_is)
+          ∙ ap (λ (l : List ℕ). back_with table.rules.groups (kept_codes contents kept.bytes White)
+          l) (sym kept.black_is);
+      within = within_loading kept.bytes contents old mid new opens asked calls more_asked
+          more_calls;
+    }

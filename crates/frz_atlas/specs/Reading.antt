@@ -1,0 +1,61 @@
+-- A table over several others, loaded with all of them, and not checked.
+use Rattle.std.specs.Prelude.{◌≡◌, ◌≤◌, ◌+◌, ◌*◌, ℕ, List, length, map, sum_by, Option, Some, Ok, Err, ⊤}
+use Rattle.frz_store.specs.Told.{StoreTold}
+use Rattle.frz_table.specs.declared.kind.FileKind.TheVariants.{Atlas}
+use Rattle.frz_table.specs.Layout.{pieces_of}
+use Rattle.frz_table.specs.Opening.{contents_of, opened, opening_calls, table_format}
+use Rattle.frz_table.specs.Possible.{MayHold, held_text}
+use Rattle.frz_chain.specs.FileOn.{back_of, loaded_back}
+use Rattle.frz_atlas.specs.Behind.{TableBytes, backs_in}
+use Rattle.frz_atlas.specs.Checking.{OpensAtlas, own_size}
+use Rattle.frz_atlas.specs.Costs.{bytes_of, calls_of}
+use Rattle.frz_atlas.specs.Held.{MayHoldAll, all_held}
+use Rattle.frz_atlas.specs.Loading.{opened_all}
+use Rattle.frz_atlas.specs.declared.fault.AtlasFault.{AtlasFault}
+use Rattle.frz_atlas.specs.declared.fault.AtlasFault.TheVariants.{Rules, Table, Back, Failed, NoMemory}
+use Rattle.frz_atlas.specs.declared.fault.BackFault.TheVariants.{Refused, Wrong}
+use Rattle.frz_atlas.specs.declared.reading.LoadedAtlas.{LoadedAtlas}
+
+-- no more is asked of the store than opening and loading the table and all tables behind it costs
+pub record WithinReading (held : Option (List ℕ)) (behind : List (Option (List ℕ)))
+    (old new : StoreTold) : Type 0 where
+  pub asked : new.asked ≤
+      old.asked + (16 + length (held_text held) + 8 * own_size held + sum_by bytes_of behind)
+  pub calls : new.calls ≤
+      old.calls + (opening_calls (table_format Atlas) held + 2 * pieces_of (own_size held)
+      + sum_by calls_of behind)
+
+-- the name may hold a table that leans on others, the names behind may hold tables, and these are
+-- they, with their codes
+pub record LoadsAtlas (table : List ℕ) (behind : List (List ℕ)) (old new : StoreTold)
+    (loaded : LoadedAtlas) : Type 0 where
+  pub bytes : List ℕ
+  pub may : MayHold old.files table (Some bytes)
+  pub opens : opened (table_format Atlas) (Some bytes) ≡ Ok (contents_of loaded.table.table)
+  pub keeps : loaded_back loaded.table ≡ back_of (contents_of loaded.table.table) bytes
+  pub tables : List TableBytes
+  pub may_all : MayHoldAll old.files behind (all_held tables)
+  pub all_open : opened_all (all_held tables) ≡ Ok tables
+  pub all_keep : map loaded_back loaded.backs.items ≡ backs_in tables
+  pub within : WithinReading (Some bytes) (all_held tables) old new
+
+-- the table's file is refused for this reason, or it opens and the first of those behind it that is
+-- refused is so
+abbrev pub IsUnopenedAtlas : Option (List ℕ) → List (Option (List ℕ)) → AtlasFault → Type 0
+IsUnopenedAtlas held behind (Table fault) = opened (table_format Atlas) held ≡ Err fault
+IsUnopenedAtlas held behind (Back place (Refused fault)) =
+    OpensAtlas held × (opened_all behind ≡ Err (place, fault))
+IsUnopenedAtlas held behind (Back place (Wrong wrong)) = ⊥
+IsUnopenedAtlas held behind Failed = ⊤
+IsUnopenedAtlas held behind NoMemory = ⊤
+IsUnopenedAtlas held behind (Rules fault) = ⊥
+
+-- the names may hold what is refused for this reason
+pub record RefusesToRead (table : List ℕ) (behind : List (List ℕ)) (old new : StoreTold)
+    (fault : AtlasFault) : Type 0 where
+  pub held : Option (List ℕ)
+  pub may : MayHold old.files table held
+  pub helds : List (Option (List ℕ))
+  pub may_all : MayHoldAll old.files behind helds
+  pub refuses : IsUnopenedAtlas held helds fault
+  pub within : WithinReading held helds old new

@@ -1,0 +1,53 @@
+//! Loads a table over several others with all of them.
+ghost use Rattle.std.specs.Prelude.{◌≡◌, map, IfOk, IfErr};
+ghost use Rattle.std.specs.String.{string_bytes};
+ghost use Rattle.frz_store.specs.Told.{store_of, StoreQuiet};
+ghost use Rattle.frz_atlas.specs.Causes.{HasAtlasCause};
+ghost use Rattle.frz_atlas.specs.Reading.{LoadsAtlas, RefusesToRead};
+
+use crate::loading::load_behind;
+use crate::AtlasFault;
+use frz_chain::BackTable;
+use frz_store::Store;
+use frz_table::{FileKind, open_kind};
+use std::alloc::Global;
+
+/// A table over several others, and these, from the left, each with its codes.
+#[derive(Drop)]
+pub struct LoadedAtlas {
+    pub table: BackTable,
+    pub backs: Vec<BackTable>,
+}
+
+/// Opens the table, then opens and loads the tables behind it from the left, each as its own kind,
+/// and at last loads the table's codes. No code is checked. Names may be equal.
+pub fn load_atlas<S: Store>(
+    alloc: Global,
+    store: &mut S,
+    table: &str,
+    behind: &[String],
+) -> Result<LoadedAtlas, AtlasFault>
+    ensures loaded { IfOk result (LoadsAtlas table.now (map string_bytes behind.now)
+        (store_of S.Store store.old) (store_of S.Store store.new)) }
+    ensures refused { IfErr result (RefusesToRead table.now (map string_bytes behind.now)
+        (store_of S.Store store.old) (store_of S.Store store.new)) }
+    ensures quiet { StoreQuiet (store_of S.Store store.old) (store_of S.Store store.new) }
+    ensures cause { HasAtlasCause result (store_of S.Store store.old) (store_of S.Store store.new) }
+{
+    let opened = match open_kind(alloc, store, table, FileKind::Atlas) {
+        Ok(opened) => opened,
+        Err(fault) => return Err(AtlasFault::of_table(fault)),
+    };
+    let backs = load_behind(alloc, store, behind)?;
+    match opened.load(alloc, store) {
+        Ok((white, black)) => Ok(LoadedAtlas {
+            table: BackTable {
+                table: opened,
+                white,
+                black,
+            },
+            backs,
+        }),
+        Err(fault) => Err(AtlasFault::of_table(fault)),
+    }
+}
