@@ -33,7 +33,8 @@ use Rattle.frz_commands_atlas.specs.Ending.{EndsAt, HasSmallPlace}
 use Rattle.frz_commands_atlas.specs.Names.{has_twice}
 use Rattle.frz_commands_atlas.proofs.CheckOnce.{some_check}
 use Rattle.frz_commands_atlas.proofs.Ended.{AnswersAt, MayEndAt, ended_at}
-use Rattle.frz_commands_atlas.proofs.HeldNames.{HoldingAll, as_many, holding_all, judged_exact, may_hold_first, place_below, same_first, same_rest}
+use Rattle.frz_commands_atlas.proofs.HeldNames.{as_many, judged_exact, place_below}
+use Rattle.frz_commands_atlas.proofs.HeldTable.{Holds, holds}
 
 -- each end has a status of `check`
 own_verdict : (v : Verdict) (table : List ℕ) (behind : List (List ℕ))
@@ -48,21 +49,6 @@ own_back (Wrong wrong) table behind = refl
 
 module _ (table : List ℕ) (behind : List (List ℕ)) (apart : has_twice (table ∷ behind) ≡ false)
     (old new : StoreTold) (before now : ℕ) (quiet : StoreQuiet old new) (later : before ≤ now) where
-  -- files that hold what the names may hold
-  record Holds (held : Option (List ℕ)) (helds : List (Option (List ℕ))) : Type 0 where
-    pub all : HoldingAll old.files (table ∷ behind) (held ∷ helds)
-    pub here : all.files table ≡ held
-    pub others : map all.files behind ≡ helds
-
-  holds : (held : Option (List ℕ)) (helds : List (Option (List ℕ)))
-      → MayHoldAll old.files (table ∷ behind) (held ∷ helds) → Holds held helds
-  holds held helds may =
-      let all = holding_all old.files (table ∷ behind) (held ∷ helds) apart may in record {
-        all = all;
-        here = same_first (all.files table) held (map all.files behind) helds all.hold;
-        others = same_rest (all.files table) held (map all.files behind) helds all.hold;
-      }
-
   module _ (input : SourceTold) (out after : SinkTold) (end : End) where
     abbrev start : World
     start = world old input out before
@@ -73,7 +59,8 @@ module _ (table : List ℕ) (behind : List (List ℕ)) (apart : has_twice (table
     abbrev finish : World
     finish = world new input after now
 
-    spends : (held : Option (List ℕ)) (helds : List (Option (List ℕ))) (h : Holds held helds)
+    spends : (held : Option (List ℕ)) (helds : List (Option (List ℕ)))
+        (h : Holds old.files table behind held helds)
         → WithinChecking held helds old new before now
         → WithinCosts (check_costs (h.all.files table) (map h.all.files behind)) (spent start)
         (spent mid)
@@ -96,8 +83,8 @@ module _ (table : List ℕ) (behind : List (List ℕ)) (apart : has_twice (table
         (fine_store old new input out before now fine)
         (own_verdict checked.verdict table behind) told
         (λ files left agrees.
-        let h = holds (Some c.bytes) (all_held c.tables)
-        (may_hold_first old.files table (Some c.bytes) behind (all_held c.tables) c.may c.may_all) in
+        let h = holds old.files table behind apart (Some c.bytes) (all_held c.tables) c.may
+        c.may_all in
         record {
           found = found_where (checking_at table behind) h.all.files files left start (λ e. cc)
               h.all.agrees agrees;
@@ -120,9 +107,8 @@ module _ (table : List ℕ) (behind : List (List ℕ)) (apart : has_twice (table
         })
 
     module _ (fault : AtlasFault) (r : RefusesAtlas table behind old new before now fault) where
-      abbrev h : Holds r.held r.helds
-      h = holds r.held r.helds
-          (may_hold_first old.files table r.held behind r.helds r.may r.may_all)
+      abbrev h : Holds old.files table behind r.held r.helds
+      h = holds old.files table behind apart r.held r.helds r.may r.may_all
 
       some : (files : Files) (left : List ℕ) → Agrees start files left
           → Begun (checking_at table behind) files left start mid

@@ -12,3 +12,6 @@ mod Ended
 mod Checked
 mod Built
 mod Taken
+mod HeldTable
+mod ReportMeaning
+mod Reported

@@ -7,3 +7,4 @@ pub mod Building
 pub mod Checking
 pub mod AtlasHeadline
 pub mod CheckMeans
+pub mod Reporting

@@ -1,0 +1,104 @@
+//! The command `report TABLE BACK ..`: the mutual zugzwangs of a table over the tables of the names
+//! BACK, and the exits to which neither its exit lines nor these tables give a value.
+ghost use Rattle.std.specs.Prelude.{◌≡◌, ◌≤◌, ◌+◌, ◌∷◌, length, map, false, Err};
+ghost use Rattle.std.specs.String.{string_bytes};
+ghost use Rattle.frz_graph.specs.EntryCodes.{of_side};
+ghost use Rattle.frz_store.specs.Told.{SourceTold, store_of, sink_of};
+ghost use Rattle.frz_table.specs.Tables.{table_size};
+ghost use Rattle.frz_chain.specs.FileOn.{loaded_back};
+ghost use Rattle.frz_backs.specs.Values.{atlas_value};
+ghost use Rattle.frz_report.specs.Reports.{WritesReport};
+ghost use Rattle.frz_answer.specs.World.{world};
+ghost use Rattle.frz_answer.specs.Ends.{Ran};
+ghost use Rattle.frz_commands_atlas.specs.Names.{has_twice as is_twice};
+ghost use Rattle.frz_commands_atlas.specs.Reporting.{reporting_at, report_words};
+ghost use Rattle.frz_commands_atlas.specs.declared.names.TheConstants.{MOST_BACKS};
+
+use crate::ending::end_at;
+use crate::names::{has_twice, table_names};
+use frz_answer::{End, Refusal, refuse};
+use frz_atlas::{LoadedAtlas, load_atlas};
+use frz_backs::AtlasBook;
+use frz_game::{Game, Pair};
+use frz_report::{ReportFault, Totals, end_of, write_report};
+use frz_steps::Steps;
+use frz_store::{Sink, Store};
+use std::alloc::Global;
+use std::sync::ledger::Ledger;
+
+/// Writes the report of a loaded table over those behind it, by its codes as they were loaded.
+fn report_loaded<O: Sink, L: Ledger>(
+    alloc: Global,
+    loaded: &LoadedAtlas,
+    out: &mut O,
+    steps: &mut Steps<L>,
+) -> Result<Totals, ReportFault>
+    ensures wrote { WritesReport loaded.now.table.table.rules
+        (atlas_value loaded.now.table.table.rules (map loaded_back loaded.now.backs.items))
+        (λ side. of_side side loaded.now.table.white.items loaded.now.table.black.items) result
+        (sink_of O.Sink out.old) (sink_of O.Sink out.new) }
+    ensures stored { result ≡ Err ReportFault.Store → ⊥ }
+    ensures steps { steps.new ≤ steps.old + table_size loaded.now.table.table }
+    ensures later { steps.old ≤ steps.new }
+{
+    let table = &loaded.table;
+    let rules = table.table.rules();
+    let game = Game {
+        set: table.table.set(),
+        rules,
+        book: &AtlasBook::new(rules, &loaded.backs),
+    };
+    let entries = Pair {
+        white: &table.white,
+        black: &table.black,
+    };
+    write_report(alloc, &game, &entries, out, steps)
+}
+
+/// Reports on the table of this name over those behind it, by names no two of which are the same.
+fn report_named<S: Store, O: Sink, L: Ledger>(
+    alloc: Global,
+    table: &str,
+    behind: &[String],
+    store: &mut S,
+    out: &mut O,
+    steps: &mut Steps<L>,
+) -> End
+    requires apart { is_twice (table.now ∷ map string_bytes behind.now) ≡ false }
+    requires few { length (map string_bytes behind.now) ≤ MOST_BACKS }
+    ensures { (input : SourceTold)
+        → Ran (reporting_at table.now (map string_bytes behind.now)) result
+        (world (store_of S.Store store.old) input (sink_of O.Sink out.old) steps.old)
+        (world (store_of S.Store store.new) input (sink_of O.Sink out.new) steps.new) }
+{
+    match load_atlas(alloc, store, table, behind) {
+        Ok(loaded) => end_of(report_loaded(alloc, &loaded, out, steps)),
+        Err(fault) => end_at(fault, out),
+    }
+}
+
+/// Runs the command `report`; `words` are the words behind its name, TABLE and 1 to 16 BACKs.
+/// Refuses a name that stands twice, before it reads a file. No code is checked.
+pub fn run_report<S: Store, O: Sink, L: Ledger>(
+    alloc: Global,
+    words: &[String],
+    store: &mut S,
+    out: &mut O,
+    steps: &mut Steps<L>,
+) -> End
+    ensures ran { (input : SourceTold) → Ran (report_words (map string_bytes words.now)) result
+        (world (store_of S.Store store.old) input (sink_of O.Sink out.old) steps.old)
+        (world (store_of S.Store store.new) input (sink_of O.Sink out.new) steps.new) }
+    ensures store_unused { (report_words (map string_bytes words.now)).needs.store ≡ false
+        → store.new ≡ store.old }
+{
+    match table_names(words) {
+        Some((table, behind)) => {
+            if has_twice(words) {
+                return refuse(Refusal::SameName, out);
+            }
+            report_named(alloc, table, behind, store, out, steps)
+        }
+        None => refuse(Refusal::Count, out),
+    }
+}

@@ -1,0 +1,178 @@
+//! Reports of a pawn's table over tables of what it leaves behind, all made by hand.
+ghost use Rattle.std.specs.Prelude.{◌≡◌, ◌<◌};
+
+use crate::stores::check_bytes;
+use frz_answer::{End, Fault, Status};
+use frz_commands_atlas::run_report;
+use frz_steps::Steps;
+use frz_store::{Fail as Failing, FailOn, MemSink, MemStore};
+use std::alloc::Global;
+use std::marker::Brand;
+use std::process::Abort;
+use std::sync::ledger::{Blank, Ledger};
+use std::test::Fail;
+use test_tables::{plain_file, store_with, table_file};
+
+/// A pawn that may promote on h8, or be captured by the black king. 4 numbers; with the king on g8
+/// and White to move there is no position.
+const PAWN: &str = "freezer 1
+group white 1 K:a1
+group white 1 P:h7
+group black 1 K:g7,g8
+";
+
+/// With the king on g7, White holds if it is to move and wins if Black is.
+const PAWN_CODES: &[u32] = &[1, 0, 4, 1, 1, 0, 5, 1];
+
+/// A queen on h8, beside the black king. 2 numbers, the first with no position.
+const QUEEN: &str = "freezer 1
+group white 1 K:a1
+group white 1 Q:h8
+group black 1 K:g7
+";
+
+/// White wins, and its two codes that tell nothing together.
+const WON: &[u32] = &[0, 4, 0, 5];
+
+const UNTOLD: &[u32] = &[0, 4, 0, 4];
+
+/// The bare kings, after the pawn was captured: 2 numbers.
+const KINGS: &str = "freezer 1
+group white 1 K:a1
+group black 1 K:h7
+";
+
+const DRAWN: &[u32] = &[1, 1, 1, 1];
+
+/// A store whose calls fail so, with the pawn's table and those behind it.
+fn filled(alloc: Global, fails: &[Failing]) -> Result<MemStore, Fail> {
+    let pawn = table_file(alloc, b"FREEZERA", PAWN.as_bytes(), 4, PAWN_CODES)?;
+    let plain = plain_file(alloc, PAWN.as_bytes(), PAWN_CODES)?;
+    let won = plain_file(alloc, QUEEN.as_bytes(), WON)?;
+    let untold = plain_file(alloc, QUEEN.as_bytes(), UNTOLD)?;
+    let kings = table_file(alloc, b"FREEZERA", KINGS.as_bytes(), 2, DRAWN)?;
+    let files = [
+        ("pawn", pawn.as_slice()),
+        ("plain", &plain),
+        ("won", &won),
+        ("untold", &untold),
+        ("kings", &kings),
+        ("empty", b""),
+    ];
+    store_with(alloc, fails.to_vec(alloc)?, &files)
+}
+
+fn words_of(alloc: Global, line: &[&str]) -> Result<Vec<String>, Fail> {
+    let mut words = Vec::new(alloc);
+    for word in line {
+        words.push(String::from_str(alloc, word)?)?;
+    }
+    Ok(words)
+}
+
+/// How a report of these words ends.
+fn reported<L: Ledger>(
+    alloc: Global,
+    blank: Blank,
+    line: &[&str],
+    store: &mut MemStore,
+    out: &mut MemSink,
+) -> Result<End, Fail>
+    requires name { blank.name ≡ L.name }
+    requires parts { blank.parts ≡ L.parts }
+    requires some { 0 < blank.parts }
+{
+    let words = words_of(alloc, line)?;
+    let mut steps = Steps::<L>::new(blank);
+    Ok(run_report(alloc, &words, store, out, &mut steps))
+}
+
+/// The words of a report, its end and its text.
+#[derive(Drop)]
+struct Row(&'static [&'static str], End, &'static [u8]);
+
+/// A report over this store ends so, with this text.
+fn check_row(rt: &impl Abort, alloc: Global, row: &Row, store: &mut MemStore) -> Result<(), Fail> {
+    let Row(line, wanted, text) = row;
+    let mut out = MemSink::new(alloc, 300, Vec::new(alloc)).or(Err("sink"))?;
+    let blank = Blank::new(1);
+    let end = reported::<Brand>(alloc, blank, line, store, &mut out)?;
+    check_bytes(rt, out.taken(), text, "report");
+    assert_eq!(rt; end, *wanted);
+    Ok(())
+}
+
+const ROWS: &[Row] = &[
+    // The queen and the bare kings are told by the tables; the other three men are not.
+    Row(
+        &["pawn", "won", "kings"],
+        End::Done(Status::Success),
+        b"squeeze 0 2 8/6kP/8/8/8/8/8/K7 w - - 0 1\n\
+            exits 12 KPk\nexits 1 KRk\nexits 1 KBk\nexits 1 KNk\nsqueezes 1 unassigned 15\n",
+    ),
+    // The first table whose set holds the position counts, though it tells nothing.
+    Row(
+        &["pawn", "untold", "won"],
+        End::Done(Status::Success),
+        b"squeeze 0 2 8/6kP/8/8/8/8/8/K7 w - - 0 1\n\
+            exits 12 KPk\nexits 1 KQk\nexits 1 KRk\nexits 1 KBk\nexits 1 KNk\nexits 2 Kk\n\
+            squeezes 1 unassigned 18\n",
+    ),
+    Row(
+        &["pawn", "won", "untold"],
+        End::Done(Status::Success),
+        b"squeeze 0 2 8/6kP/8/8/8/8/8/K7 w - - 0 1\n\
+            exits 12 KPk\nexits 1 KRk\nexits 1 KBk\nexits 1 KNk\nexits 2 Kk\n\
+            squeezes 1 unassigned 17\n",
+    ),
+    Row(&["pawn"], End::Done(Status::Words), b"words: count\n"),
+    Row(
+        &["pawn", "won", "pawn"],
+        End::Done(Status::Words),
+        b"words: same name\n",
+    ),
+    // The table is opened before those behind it, and these from the left.
+    Row(
+        &["plain", "empty"],
+        End::Done(Status::Table),
+        b"table: magic\n",
+    ),
+    Row(
+        &["pawn", "kings", "empty", "none"],
+        End::Done(Status::Table),
+        b"back 2: truncated 0 due 16\n",
+    ),
+    Row(
+        &["pawn", "none", "empty"],
+        End::Done(Status::Missing),
+        b"missing back 1\n",
+    ),
+];
+
+#[test]
+fn reports_over_tables_behind(rt: HostRuntime) -> Result<(), Fail> {
+    for row in ROWS {
+        let mut store = filled(rt.alloc(), &[])?;
+        check_row(&rt, rt.alloc(), row, &mut store)?;
+    }
+    Ok(())
+}
+
+/// Opening the table takes five calls; opening the two behind it as their own kinds, seven each, and
+/// loading the codes of the three, two each. Where one fails, nothing is written.
+const CALLS: u64 = 25;
+
+#[test]
+fn each_call_may_fail_before_anything_is_written(rt: HostRuntime) -> Result<(), Fail> {
+    for nth in 1..CALLS + 1 {
+        let call = Failing {
+            on: FailOn::Call,
+            nth,
+            keep: 0,
+        };
+        let mut store = filled(rt.alloc(), &[call])?;
+        let row = Row(&["pawn", "won", "kings"], End::Stopped(Fault::Store), b"");
+        check_row(&rt, rt.alloc(), &row, &mut store)?;
+    }
+    Ok(())
+}
