@@ -12,7 +12,7 @@ use Rattle.frz_table.specs.Possible.{MayHold}
 use Rattle.frz_chain.specs.Books.{Back}
 use Rattle.frz_chain.specs.FileOn.{back_of, loaded_back}
 use Rattle.frz_chain.specs.declared.back.BackTable.{BackTable}
-use Rattle.frz_atlas.specs.Behind.{TableBytes, backs_in}
+use Rattle.frz_atlas.specs.Behind.{AreJudgedOver, TableBytes, backs_in}
 use Rattle.frz_atlas.specs.Causes.{back_fault}
 use Rattle.frz_atlas.specs.Costs.{bytes_of, calls_of}
 use Rattle.frz_atlas.specs.Held.{MayHoldAll, all_held}
@@ -57,6 +57,15 @@ opens_first table helds others opens are =
     opens
     ∙ ap (λ (x : Opened). in_front table x) are
 
+-- exact tables open
+pub judged_open : (before : List Back) (tables : List TableBytes) → AreJudgedOver before tables
+    → opened_all (all_held tables) ≡ Ok tables
+unfolding AreJudgedOver opened_all
+judged_open before [] h = refl
+judged_open before (table ∷ tables) h =
+    opens_first table (all_held tables) (Ok tables) h.1.opens
+    (judged_open (before ++ (back_of table.contents table.bytes ∷ [])) tables h.2)
+
 -- one more opens behind those that do
 opens_last : (tables : List TableBytes) (table : TableBytes)
     → opened_all (all_held tables) ≡ Ok tables
@@ -88,10 +97,12 @@ refused_below : (held : Option (List ℕ)) (x : Result Contents TableFault) (oth
     → ((at : ℕ) (f : TableFault) → others ≡ Err (at, f) → at < many)
     → opened_before held x others ≡ Err (place, fault) → place < suc many
 refused_below held (Err f) others many place fault below e =
-    let here : 0 ≡ place = cc in omega (arith, here)
+    let same : ◌≡◌ {A = ℕ × TableFault} (0, f) (place, fault) = cc in
+    let here = ap (λ (p : ℕ × TableFault). p.0) same in omega (arith, here)
 refused_below held (Ok contents) (Ok tables) many place fault below e = cc
 refused_below held (Ok contents) (Err refused) many place fault below e =
-    let here : suc refused.0 ≡ place = cc in
+    let same : ◌≡◌ {A = ℕ × TableFault} (suc refused.0, refused.1) (place, fault) = cc in
+    let here = ap (λ (p : ℕ × TableFault). p.0) same in
     let first = below refused.0 refused.1 refl in omega (arith, here, first)
 
 pub unopened_below : (helds : List (Option (List ℕ))) (place : ℕ) (fault : TableFault)

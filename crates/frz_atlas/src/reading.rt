@@ -5,8 +5,8 @@ ghost use Rattle.frz_store.specs.Told.{store_of, StoreQuiet};
 ghost use Rattle.frz_atlas.specs.Causes.{HasAtlasCause};
 ghost use Rattle.frz_atlas.specs.Reading.{LoadsAtlas, RefusesToRead};
 
-use crate::loading::load_behind;
 use crate::AtlasFault;
+use crate::loading::load_behind;
 use frz_chain::BackTable;
 use frz_store::Store;
 use frz_table::{FileKind, open_kind};
