@@ -52,7 +52,14 @@ pub fn build_over<S: Store, L: Ledger>(
         kind: FileKind::Atlas,
         text: read.text,
     };
-    build_ruled(alloc, read.rules, &AtlasBook::new(read.rules, backs), &file, store, steps)
+    build_ruled(
+        alloc,
+        read.rules,
+        &AtlasBook::new(read.rules, backs),
+        &file,
+        store,
+        steps,
+    )
 }
 
 /// Reads the rules of the text, then opens and checks the tables behind from the left, and writes

@@ -56,7 +56,14 @@ pub fn build_over<S: Store, L: Ledger>(
         kind: FileKind::Chained,
         text: read.text,
     };
-    build_ruled(alloc, read.rules, &back.behind(read.rules), &file, store, steps)
+    build_ruled(
+        alloc,
+        read.rules,
+        &back.behind(read.rules),
+        &file,
+        store,
+        steps,
+    )
 }
 
 /// Reads the rules text, opens and checks the back table, and writes the table of the text over it

@@ -39,7 +39,7 @@ file_as text other r b bytes e f one =
     (subst (λ (s : RuleLines). IsOneFile (magic_of Plain) text r (value_by s) bytes) f one)
 
 -- there is an answer at each stage
-pub some_built_by : (text : List ℕ) (r : RuleLines) → IsSound r → (table : List ℕ) (m : Files)
+some_built_by : (text : List ℕ) (r : RuleLines) → IsSound r → (table : List ℕ) (m : Files)
     → SomeAnswer (λ a. IsBuiltBy text r table m a)
 some_built_by text r sound table m =
     let file = one_file_there text r sound in record {

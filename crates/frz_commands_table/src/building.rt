@@ -9,10 +9,8 @@ ghost use Rattle.frz_commands_table.specs.Building.{building_by};
 ghost use Rattle.frz_commands_table.specs.BuildMeaning.{build_words};
 
 use frz_answer::Refusal;
-use frz_build::{NewTable, build_table};
+use frz_build::{NewTable, build_ruled};
 use frz_exits::RuleBook;
-use frz_game::Game;
-use frz_index::Set;
 use frz_prelude::{Refused, Reply, RulesText, Stop, read_rules_text, take_two};
 use frz_steps::Steps;
 use frz_store::Store;
@@ -34,18 +32,12 @@ fn build_by<S: Store, L: Ledger>(
         (store_of S.Store store.old) (store_of S.Store store.new) steps.old steps.new }
 {
     let rules = &read.rules;
-    let set = Set::new(alloc, rules)?;
-    let game = Game {
-        set: &set,
-        rules,
-        book: &RuleBook::new(rules),
-    };
     let file = NewTable {
         name: table,
         kind: FileKind::Plain,
         text: &read.text,
     };
-    let size = build_table(alloc, &game, &file, store, steps)?;
+    let size = build_ruled(alloc, rules, &RuleBook::new(rules), &file, store, steps)?;
     Ok(Reply::Built(size))
 }
 

@@ -56,9 +56,9 @@ returns-in_err-build_over-clause-cause g c =
     let p = err_from_is_err_and c.from_residual-in_err-build_over.result
     c.from_residual-in_err-build_over.ensures.1 in
     subst (λ (r : Result ℕ AtlasFault). HasAtlasCause r old new) (sym (p.1 ∙ ap err p.2))
-    (write_cause _ _ c.in_err-build_over.field-0.0 old
-    (store_of g.S.Store c.open_behind.new.store) new c.in_ok-backs.ensures.cause
-    c.in_err-build_over.ensures.built.written)
+    (write_cause c.args.name.now c.in_err-build_over.ensures.built.bytes
+    c.in_err-build_over.field-0.0 old (store_of g.S.Store c.open_behind.new.store) new
+    c.in_ok-backs.ensures.cause c.in_err-build_over.ensures.built.written)
 
 pub returns-clause-built : goal.returns-clause-built
 returns-clause-built g c =

@@ -7,32 +7,20 @@ use Rattle.frz_answer.specs.Answers.{says}
 use Rattle.frz_answer.proofs.Lemmas.{as_given}
 use Rattle.frz_prelude.specs.Replies.{built_line}
 use Rattle.frz_prelude.specs.declared.reply.Reply.TheVariants.{Built}
-use Rattle.frz_prelude.proofs.Lemmas.{no_memory_reply, not_written_reply, wrote_reply}
+use Rattle.frz_prelude.proofs.Lemmas.{not_written_reply, wrote_reply}
 use Rattle.frz_commands_table.specs.Building.{building_by}
-use Rattle.frz_commands_table.proofs.Built.{file_as, some_built_by}
+use Rattle.frz_commands_table.proofs.Built.{file_as}
 use Rattle.frz_commands_table.proofs.building.build_by.Goals as goal
-
-pub returns-in_err-set : goal.returns-in_err-set
-returns-in_err-set g c =
-    let p = err_from_is_err_and c.from_residual.result c.from_residual.ensures.1 in
-    let read = c.args.read.now in
-    rw (p.1, p.2)
-    (no_memory_reply (building_by read.text.items read.rules c.args.table.now) _ _ refl
-    (λ files left input out agrees. record {
-      found = as_given _ files left _ agrees;
-      some = some_built_by read.text.items read.rules c.requires.sound c.args.table.now files;
-      costs = record { steps = omega arith; calls = omega arith; asked = omega arith };
-    }))
 
 pub returns-in_err-size : goal.returns-in_err-size
 returns-in_err-size g c =
-    let p = err_from_is_err_and c.from_residual-in_err-size.result
-    c.from_residual-in_err-size.ensures.1 in
+    let p = err_from_is_err_and c.from_residual.result
+    c.from_residual.ensures.1 in
     let read = c.args.read.now in
     let table = c.args.table.now in
     let e = c.in_err-size.ensures in
     let bytes = e.built.bytes in
-    let one = file_as _ read.text.items read.rules _ bytes c.deref.ensures.value c.new-2.ensures
+    let one = file_as _ read.text.items read.rules _ bytes c.deref.ensures.value c.new.ensures
     e.built.one_file in
     rw (p.1, p.2)
     (not_written_reply ℕ (building_by read.text.items read.rules table) c.in_err-size.field-0.0
@@ -58,7 +46,7 @@ returns g c =
     let table = c.args.table.now in
     let e = c.in_ok-size.ensures in
     let bytes = e.built.bytes in
-    let one = file_as _ read.text.items read.rules _ bytes c.deref.ensures.value c.new-2.ensures
+    let one = file_as _ read.text.items read.rules _ bytes c.deref.ensures.value c.new.ensures
     e.built.one_file in
     wrote_reply (building_by read.text.items read.rules table) (Built c.in_ok-size.size) table bytes
     _ _ _ _ refl e.later refl refl refl e.built.written.0 e.built.written.1 e.room
