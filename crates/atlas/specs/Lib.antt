@@ -1,4 +1,3 @@
 pub mod Verbs
 pub mod Commands
-pub mod NoWords
 pub mod Calls

@@ -1,5 +1,4 @@
 pub mod Answering
 pub mod Calling
-pub mod Never
 mod CallsInTurn
 mod CallsAfterWriting

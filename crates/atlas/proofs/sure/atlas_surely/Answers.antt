@@ -3,8 +3,8 @@ use Rattle.std.specs.String.{string_bytes}
 use Rattle.frz_answer.specs.Statuses.{fault_code, sink_code}
 use Rattle.frz_answer.specs.declared.fault.Fault.TheVariants.{Store, Input}
 use Rattle.frz_answer.specs.World.{world}
+use Rattle.frz_program.proofs.Lemmas.{not_given}
 use Rattle.atlas.specs.Commands.{job_of}
-use Rattle.atlas.proofs.Never.{not_given}
 use Rattle.atlas.proofs.sure.atlas_surely.Goals as goal
 
 pub returns-clause-no_store_fault : goal.returns-clause-no_store_fault

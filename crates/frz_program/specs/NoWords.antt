@@ -5,8 +5,8 @@ use Rattle.std.specs.declared.io.ErrorKind.TheVariants.{OutOfMemory}
 use Rattle.frz_answer.specs.declared.status.Status.TheVariants.{Words}
 use Rattle.frz_answer.specs.declared.fault.Fault.TheVariants as faults
 use Rattle.frz_answer.specs.Statuses.{code_of, fault_code}
-use Rattle.atlas.specs.declared.NoWords.{NoWords}
-use Rattle.atlas.specs.declared.NoWords.TheVariants.{NotText, NoMemory}
+use Rattle.frz_program.specs.declared.words.NoWords.{NoWords}
+use Rattle.frz_program.specs.declared.words.NoWords.TheVariants.{NotText, NoMemory}
 
 abbrev pub no_words_code : NoWords → ℕ
 no_words_code NotText = code_of Words

@@ -1,0 +1,2 @@
+mod Never
+pub mod Lemmas
