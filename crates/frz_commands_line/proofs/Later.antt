@@ -31,18 +31,6 @@ as_opened later files e = λ i k. by_ply k i
     by_ply zero = sym e
     by_ply (suc k) = refl
 
--- something that it may have held, and in which the table opens at the start
-pub opening_later : (told : Option Files) (table : Table)
-    → MayOpen (table_format Plain) told table.name (contents_of table)
-    → (later : ℕ → Files) × MayBeLater told later × OpensAtStart later table
-opening_later None table may = (
-  λ k. put no_files table.name may.bytes,
-  λ k. put_bytes no_files table.name may.bytes (λ q. tt) may.may,
-  ap (opened (table_format Plain)) (put-same no_files table.name may.bytes) ∙ may.opens,
-)
-opening_later (Some m) table may =
-    (λ k. m, λ k. refl, ap (opened (table_format Plain)) may.may ∙ may.opens)
-
 -- the same files are told
 pub later_before : {told now : Option Files} (later : ℕ → Files) → now ≡ told
     → MayBeLater now later → MayBeLater told later

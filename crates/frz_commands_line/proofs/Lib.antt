@@ -6,6 +6,7 @@ mod LineMeans
 mod LineOpened
 mod Meaning
 mod OpeningCosts
+mod OutsideSet
 mod Opened
 mod Played
 mod Seen

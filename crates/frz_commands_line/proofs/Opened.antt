@@ -9,7 +9,7 @@ use Rattle.frz_table.specs.declared.fault.TableFault.TheVariants.{Missing}
 use Rattle.frz_table.specs.declared.kind.FileKind.TheVariants.{Plain}
 use Rattle.frz_table.specs.Faults.{TableCauses}
 use Rattle.frz_table.specs.Opening.{Contents, contents_of, opened, Refuses, table_format, opening_calls}
-use Rattle.frz_table.specs.Possible.{MayRefuse, held_text}
+use Rattle.frz_table.specs.Possible.{MayOpen, MayRefuse, held_text}
 use Rattle.frz_table.specs.Tables.{Table}
 use Rattle.frz_table.proofs.Lemmas.{belongs, opened_missing, text_kept}
 use Rattle.frz_answer.specs.declared.end.End.{End}
@@ -38,6 +38,12 @@ opened_text None contents opens =
     (let no : Err Missing ≡ Ok contents = sym (opened_missing (table_format Plain)) ∙ opens in cc)
 opened_text (Some bytes) contents opens =
     text_kept _ _ _ bytes (belongs (table_format Plain) bytes contents opens).file
+
+-- what opened opens still, where nothing was written
+pub opens_still : {told now : Option Files} {name : List ℕ} (table : Table) → now ≡ told
+    → table.name ≡ name → MayOpen (table_format Plain) told name (contents_of table)
+    → MayOpen (table_format Plain) now table.name (contents_of table)
+opens_still table unwritten named may = rw (unwritten, named) may
 
 once_is_not : {A : Type 0} (reads : Reads) → reads ≡ Once → reads ≡ Never → A
 once_is_not reads once never = let no : Once ≡ Never = sym once ∙ never in cc

@@ -41,10 +41,11 @@ module _ (contents : Contents) (p : Board) (comes : List ℕ → Type 0) where
       record { steps = steps; calls = omega (arith, calls); asked = omega (arith, asked) })
 
   -- nothing, where it is not
-  pub costs_outside : (before now : Spent) → (Member contents.rules.groups p → ⊥)
-      → WithinCosts (opening_costs 0 0) before now → CostsIn contents p comes 0 0 before now
-  costs_outside before now none costs =
-      subst (λ b. CostsWhere b 0 0 before now) (sym (not_member contents.rules.groups p none)) costs
+  pub costs_nothing : (now : Spent) → (Member contents.rules.groups p → ⊥)
+      → CostsIn contents p comes 0 0 now now
+  costs_nothing now none =
+      subst (λ b. CostsWhere b 0 0 now now) (sym (not_member contents.rules.groups p none))
+      (record { steps = omega arith; calls = omega arith; asked = omega arith })
 
   module _ (calls asked : ℕ) (old mid : Spent) (steps : mid.steps ≡ old.steps)
       (few : mid.calls ≤ old.calls + calls) (bytes : mid.asked ≤ old.asked + asked) where

@@ -33,7 +33,8 @@ use Rattle.frz_commands_line.specs.LineOf.{code_at, codes_later, LineComes, told
 use Rattle.frz_commands_line.specs.Lining.{lining_in}
 use Rattle.frz_commands_line.proofs.Behind.{rest_of, behind_lines, cut_within}
 use Rattle.frz_commands_line.proofs.Counting.{unfinished_said}
-use Rattle.frz_commands_line.proofs.OpeningCosts.{costs_inside, costs_outside}
+use Rattle.frz_commands_line.proofs.OpeningCosts.{costs_inside, costs_nothing}
+use Rattle.frz_commands_line.proofs.OutsideSet.{outside_ran}
 use Rattle.frz_commands_line.proofs.Seen.{LineThere, LineSo, by_member, lined_inside, lined_outside, line_so}
 
 -- what was written of the line, by the codes that were read
@@ -198,36 +199,16 @@ module _ (there : LineThere) (later_files : ℕ → Files) (table : Table) (side
           costs = line_costs inside text (Err faults.Output) m i so a;
         })
 
-  -- the position is not in the set: neither object was touched
-  outside_told : (end : End) → (Member table.rules.groups p → ⊥) → left ≡ store → mid ≡ out
-      → now ≡ before → Said (status_of refusals.Outside) (refusal_line refusals.Outside) end mid
-      taken
+  -- the position is not in the set
+  told_outside : (result : Result LineEnd LineFault) (end : End) → (Member table.rules.groups p → ⊥)
+      → result ≡ Err faults.Outside → played ≡ old → EndsLine result end mid taken
       → Ran job end old (world left input taken now)
-  outside_told end none same unwritten unstepped said_it =
-      said job (status_of refusals.Outside) (refusal_line refusals.Outside) end old
-      (world left input out now) taken (quiet_with out)
-      (fine_store store left input out before now
-      (subst (λ (s : StoreTold). StoreFine store s) (sym same)
-      (record { faults = refl; wants = refl }))) refl
-      (subst (λ (o : SinkTold). Said (status_of refusals.Outside) (refusal_line refusals.Outside)
-      end o taken) unwritten said_it)
-      (λ m i agrees. record {
-        found = as_given job m i old agrees;
-        answer = lined_outside (contents_of table) held side p m
-            (says (status_of refusals.Outside) (refusal_line refusals.Outside) m) none refl;
-        costs = costs_outside (contents_of table) p Comes (spent old) (spent played) none
-            (record {
-              steps = omega (arith, unstepped);
-              calls = (let e = ap (λ (s : StoreTold). s.calls) same in omega (arith, e));
-              asked = (let e = ap (λ (s : StoreTold). s.asked) same in omega (arith, e));
-            });
-      })
-
-  is_inside : (result : Result LineEnd LineFault)
-      → ((result ≡ Err faults.Outside) ↔ (Member table.rules.groups p → ⊥))
-      → (result ≡ Err faults.Outside → ⊥) → Member table.rules.groups p
-  is_inside result outside other =
-      by_member table.rules.groups p (λ inside. inside) (λ none. absurd (other (outside.1 none)))
+  told_outside result end none is same ends =
+      outside_ran job old played end taken same refl
+      (λ m i. lined_outside (contents_of table) held side p m
+      (says (status_of refusals.Outside) (refusal_line refusals.Outside) m) none refl)
+      (λ m i a. costs_nothing (contents_of table) p Comes (spent old) none)
+      (subst (λ (r : Result LineEnd LineFault). EndsLine r end mid taken) is ends)
 
   -- a fault ended the command, and nothing more was written
   ended_as : (end wanted : End) → (end ≡ wanted) × (taken ≡ mid) → Ran job wanted old played
@@ -236,32 +217,41 @@ module _ (there : LineThere) (later_files : ℕ → Files) (table : Table) (side
       subst (λ (o : SinkTold). Ran job end old (world left input o now)) (sym ends.1)
       (subst (λ (e : End). Ran job e old played) (sym ends.0) ran)
 
-  -- the line was played, and its end told
-  pub line_ran : (result : Result LineEnd LineFault) (end : End)
+  -- the position is in the set: the line was played, and its end told
+  told_inside : Member table.rules.groups p → (result : Result LineEnd LineFault) (end : End)
       → ((result ≡ Err faults.Outside) ↔ (Member table.rules.groups p → ⊥))
-      → (result ≡ Err faults.Outside → (left ≡ store) × (mid ≡ out) × (now ≡ before))
       → StoreCause result store left → EndsLine result end mid taken
       → Wrote table later_files side p result out mid (spent_by store before) (spent_by left now)
       → Ran job end old (world left input taken now)
-  line_ran (Ok last) end outside touched cause ends wrote =
-      all_told (is_inside (Ok last) outside (λ e. cc)) wrote.0 wrote.1 (Ok last) end wrote.3 wrote.2
-      cause refl ends (λ answer rest h. h)
-  line_ran (Err faults.Outside) end outside touched cause ends wrote =
-      let same = touched refl in outside_told end (outside.0 refl) same.0 same.1 same.2 ends
-  line_ran (Err faults.NoBound) end outside touched cause ends wrote =
-      all_told (is_inside (Err faults.NoBound) outside (λ e. cc)) wrote.0 wrote.1
-      (Err faults.NoBound) end wrote.3 wrote.2 cause refl ends (λ answer rest h. h)
-  line_ran (Err (faults.Wrong w)) end outside touched cause ends wrote =
-      all_told (is_inside (Err (faults.Wrong w)) outside (λ e. cc)) wrote.0 wrote.1
-      (Err (faults.Wrong w)) end wrote.3 wrote.2 cause refl ends (λ answer rest h. h)
-  line_ran (Err faults.Store) end outside touched cause ends wrote =
+  told_inside inside (Ok last) end outside cause ends wrote =
+      all_told inside wrote.0 wrote.1 (Ok last) end wrote.3 wrote.2 cause refl ends
+      (λ answer rest h. h)
+  told_inside inside (Err faults.Outside) end outside cause ends wrote =
+      absurd (outside.0 refl inside)
+  told_inside inside (Err faults.NoBound) end outside cause ends wrote =
+      all_told inside wrote.0 wrote.1 (Err faults.NoBound) end wrote.3 wrote.2 cause refl ends
+      (λ answer rest h. h)
+  told_inside inside (Err (faults.Wrong w)) end outside cause ends wrote =
+      all_told inside wrote.0 wrote.1 (Err (faults.Wrong w)) end wrote.3 wrote.2 cause refl ends
+      (λ answer rest h. h)
+  told_inside inside (Err faults.Store) end outside cause ends wrote =
       ended_as end (Stopped Store) ends
-      (stopped_short (is_inside (Err faults.Store) outside (λ e. cc)) wrote.0 wrote.1
-      (Err faults.Store) Store wrote.3 wrote.2 (refl, cause) (λ answer rest h. h))
-  line_ran (Err faults.NoMemory) end outside touched cause ends wrote =
+      (stopped_short inside wrote.0 wrote.1 (Err faults.Store) Store wrote.3 wrote.2 (refl, cause)
+      (λ answer rest h. h))
+  told_inside inside (Err faults.NoMemory) end outside cause ends wrote =
       ended_as end (Stopped NoMemory) ends
-      (stopped_short (is_inside (Err faults.NoMemory) outside (λ e. cc)) wrote.0 wrote.1
-      (Err faults.NoMemory) NoMemory wrote.3 wrote.2 refl (λ answer rest h. h))
-  line_ran (Err faults.Output) end outside touched cause ends wrote =
-      ended_as end SinkFault ends
-      (cut_short (is_inside (Err faults.Output) outside (λ e. cc)) wrote.0 wrote.1 wrote.3 wrote.2)
+      (stopped_short inside wrote.0 wrote.1 (Err faults.NoMemory) NoMemory wrote.3 wrote.2 refl
+      (λ answer rest h. h))
+  told_inside inside (Err faults.Output) end outside cause ends wrote =
+      ended_as end SinkFault ends (cut_short inside wrote.0 wrote.1 wrote.3 wrote.2)
+
+  pub line_ran : (result : Result LineEnd LineFault) (end : End)
+      → ((result ≡ Err faults.Outside) ↔ (Member table.rules.groups p → ⊥))
+      → (result ≡ Err faults.Outside → played ≡ old)
+      → StoreCause result store left → EndsLine result end mid taken
+      → Wrote table later_files side p result out mid (spent_by store before) (spent_by left now)
+      → Ran job end old (world left input taken now)
+  line_ran result end outside untouched cause ends wrote =
+      by_member table.rules.groups p
+      (λ inside. told_inside inside result end outside cause ends wrote)
+      (λ none. let is = outside.1 none in told_outside result end none is (untouched is) ends)

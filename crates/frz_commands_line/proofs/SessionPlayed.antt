@@ -18,7 +18,7 @@ use Rattle.frz_answer.specs.World.{World, world, Quiet, Came, Spent, spent, spen
 use Rattle.frz_answer.specs.Answers.{Answer, says, behind, IsLines}
 use Rattle.frz_answer.specs.Jobs.{Job}
 use Rattle.frz_answer.specs.Ends.{MayMeet, Ran, Said}
-use Rattle.frz_answer.proofs.Lemmas.{as_given, fine_same, quiet_same, said, stopped}
+use Rattle.frz_answer.proofs.Lemmas.{said, stopped}
 use Rattle.frz_prelude.specs.Refusals.{status_of, refusal_line}
 use Rattle.frz_prelude.specs.declared.refused.Refused.TheVariants as refusals
 use Rattle.frz_ways.specs.declared.end.LineFault.TheVariants as faults
@@ -39,7 +39,9 @@ use Rattle.frz_exits.specs.Books.{value_by}
 use Rattle.frz_index.specs.Members.{Num}
 use Rattle.frz_ways.specs.Reading.{opened}
 use Rattle.frz_commands_line.proofs.Behind.{cut_within}
-use Rattle.frz_commands_line.proofs.OpeningCosts.{costs_inside, costs_outside}
+use Rattle.frz_commands_line.proofs.OpeningCosts.{costs_inside, costs_nothing}
+use Rattle.frz_commands_line.proofs.OutsideSet.{outside_ran}
+use Rattle.frz_commands_line.proofs.Seen.{by_member}
 use Rattle.frz_commands_line.proofs.SessionSeen.{SessionThere, SessionSo, played_inside, played_outside, session_so}
 use Rattle.frz_commands_line.proofs.SessionTexts.{Answered, answered_at, never_cut}
 use Rattle.frz_commands_line.proofs.Taken.{rest_after, Split, found_in, after_lines, rest_left}
@@ -336,70 +338,70 @@ module _ (there : SessionThere) (later_files : ℕ → Files) (table : Table) (s
       subst (λ (o : SinkTold). Ran job end old (world left gone o now)) (sym ends.1)
       (subst (λ (e : End). Ran job e old played) (sym ends.0) ran)
 
-  -- the session was played from a position of the set, and its end told
-  pub session_ran : Member table.rules.groups p → (result : Result SessionEnd PlayFault) (end : End)
+  -- the position is not in the set
+  told_outside : (result : Result SessionEnd PlayFault) (end : End)
+      → (Member table.rules.groups p → ⊥) → result ≡ Err (plays.Line faults.Outside)
+      → played ≡ old → EndsSession result end mid taken
+      → Ran job end old (world left gone taken now)
+  told_outside result end none is same ends =
+      outside_ran job old played end taken same refl
+      (λ m i. played_outside (contents_of table) held side p m i
+      (says (status_of refusals.Outside) (refusal_line refusals.Outside) m) none refl)
+      (λ m i a. costs_nothing (contents_of table) p
+      (SessionComes held side p i (contents_of table)) (spent old) none)
+      (subst (λ (r : Result SessionEnd PlayFault). EndsSession r end mid taken) is ends)
+
+  -- the position is in the set: the session was played, and its end told
+  told_inside : Member table.rules.groups p → (result : Result SessionEnd PlayFault) (end : End)
       → ((result ≡ Err (plays.Line faults.Outside)) ↔ (Member table.rules.groups p → ⊥))
       → StoreCause result store left → InputCause result source gone
       → EndsSession result end mid taken
       → Played table later_files side p result source gone out mid (spent_by store before)
       (spent_by left now) → Ran job end old (world left gone taken now)
-  session_ran inside (Ok last) end outside cause input ends w =
+  told_inside inside (Ok last) end outside cause input ends w =
       all_told inside w.0 w.1 w.2 w.4 (input_later (Ok last) source gone input) (Ok last) end w.5
       w.3 cause input refl ends (λ final rest unread h. h)
-  session_ran inside (Err (plays.Limit limit)) end outside cause input ends w =
+  told_inside inside (Err (plays.Limit limit)) end outside cause input ends w =
       all_told inside w.0 w.1 w.2 w.4 (input_later (Err (plays.Limit limit)) source gone input)
       (Err (plays.Limit limit)) end w.5 w.3 cause input refl ends (λ final rest unread h. h)
-  session_ran inside (Err (plays.Line faults.NoBound)) end outside cause input ends w =
+  told_inside inside (Err (plays.Line faults.NoBound)) end outside cause input ends w =
       all_told inside w.0 w.1 w.2 w.4
       (input_later (Err (plays.Line faults.NoBound)) source gone input)
       (Err (plays.Line faults.NoBound)) end w.5 w.3 cause input refl ends (λ final rest unread h. h)
-  session_ran inside (Err (plays.Line (faults.Wrong x))) end outside cause input ends w =
+  told_inside inside (Err (plays.Line (faults.Wrong x))) end outside cause input ends w =
       all_told inside w.0 w.1 w.2 w.4
       (input_later (Err (plays.Line (faults.Wrong x))) source gone input)
       (Err (plays.Line (faults.Wrong x))) end w.5 w.3 cause input refl ends
       (λ final rest unread h. h)
-  session_ran inside (Err (plays.Line faults.Outside)) end outside cause input ends w =
+  told_inside inside (Err (plays.Line faults.Outside)) end outside cause input ends w =
       absurd (outside.0 refl inside)
-  session_ran inside (Err (plays.Line faults.Store)) end outside cause input ends w =
+  told_inside inside (Err (plays.Line faults.Store)) end outside cause input ends w =
       ended_as end (Stopped stops.Store) ends
       (stopped_short inside w.0 w.1 w.2 w.4
       (input_later (Err (plays.Line faults.Store)) source gone input)
       (Err (plays.Line faults.Store)) stops.Store w.5 w.3 (refl, cause) (λ final rest unread h. h))
-  session_ran inside (Err (plays.Line faults.NoMemory)) end outside cause input ends w =
+  told_inside inside (Err (plays.Line faults.NoMemory)) end outside cause input ends w =
       ended_as end (Stopped stops.NoMemory) ends
       (stopped_short inside w.0 w.1 w.2 w.4
       (input_later (Err (plays.Line faults.NoMemory)) source gone input)
       (Err (plays.Line faults.NoMemory)) stops.NoMemory w.5 w.3 refl (λ final rest unread h. h))
-  session_ran inside (Err plays.Input) end outside cause input ends w =
+  told_inside inside (Err plays.Input) end outside cause input ends w =
       ended_as end (Stopped stops.Input) ends
       (stopped_short inside w.0 w.1 w.2 w.4 (input_later (Err plays.Input) source gone input)
       (Err plays.Input) stops.Input w.5 w.3 (refl, input.rose) (λ final rest unread h. h))
-  session_ran inside (Err (plays.Line faults.Output)) end outside cause input ends w =
+  told_inside inside (Err (plays.Line faults.Output)) end outside cause input ends w =
       ended_as end SinkFault ends
       (cut_short inside w.0 w.1 w.2 w.4
       (input_later (Err (plays.Line faults.Output)) source gone input) w.5 w.3)
 
--- the position is not in the set
-pub outside_ran : (later : ℕ → Files) (table : Table) (side : Colour) (p : Board)
-    (store : StoreTold)
-    (source : SourceTold) (out taken : SinkTold) (steps : ℕ) (end : End)
-    → (Member table.rules.groups p → ⊥)
-    → Said (status_of refusals.Outside) (refusal_line refusals.Outside) end out taken
-    → Ran (playing_in later table side p) end (world store source out steps)
-    (world store source taken steps)
-outside_ran later table side p store source out taken steps end none said_it =
-    let held = held_later later table.name in
-    said (playing_in later table side p) (status_of refusals.Outside)
-    (refusal_line refusals.Outside) end
-    (world store source out steps) (world store source out steps) taken
-    (quiet_same (world store source out steps)) (fine_same (world store source out steps)) refl
-    said_it
-    (λ m i agrees. record {
-      found = as_given (playing_in later table side p) m i (world store source out steps) agrees;
-      answer = played_outside (contents_of table) held side p m i
-          (says (status_of refusals.Outside) (refusal_line refusals.Outside) m) none refl;
-      costs = costs_outside (contents_of table) p
-          (SessionComes held side p i (contents_of table)) (spent_by store steps)
-          (spent_by store steps) none
-          (record { steps = omega arith; calls = omega arith; asked = omega arith });
-    })
+  pub session_ran : (result : Result SessionEnd PlayFault) (end : End)
+      → ((result ≡ Err (plays.Line faults.Outside)) ↔ (Member table.rules.groups p → ⊥))
+      → (result ≡ Err (plays.Line faults.Outside) → played ≡ old)
+      → StoreCause result store left → InputCause result source gone
+      → EndsSession result end mid taken
+      → Played table later_files side p result source gone out mid (spent_by store before)
+      (spent_by left now) → Ran job end old (world left gone taken now)
+  session_ran result end outside untouched cause input ends w =
+      by_member table.rules.groups p
+      (λ inside. told_inside inside result end outside cause input ends w)
+      (λ none. let is = outside.1 none in told_outside result end none is (untouched is) ends)

@@ -22,7 +22,7 @@ use crate::side::{read_side, refuse_side};
 use frz_answer::{End, Fault, Refusal, Status, refuse, say, three_words};
 use frz_board::{Colour, Position};
 use frz_fen::read_fen;
-use frz_prelude::{Refused, Stop, number_in, refuse_named};
+use frz_prelude::{Refused, Stop, refuse_named};
 use frz_steps::Steps;
 use frz_store::{Sink, Source, Store};
 use frz_table::{TableFile, open_table};
@@ -47,7 +47,7 @@ fn end_of_session<O: Sink>(session: Result<SessionEnd, PlayFault>, out: &mut O) 
     }
 }
 
-/// Plays the session of the side by an open table; a position outside its set is refused.
+/// Plays the session of the side by an open table.
 fn play_in<S: Store, I: Source, O: Sink, L: Ledger>(
     table: &TableFile,
     side: Colour,
@@ -67,13 +67,8 @@ fn play_in<S: Store, I: Source, O: Sink, L: Ledger>(
         (world_of S.Store I.Source O.Sink store.new input.new out.new steps.new)) }
 {
     one_session();
-    match number_in(table.set(), p) {
-        Ok(_) => {
-            let session = play_session(table, store, p, side, input, out, steps);
-            end_of_session(session, out)
-        }
-        Err(why) => Stop::Refused(why).end(out),
-    }
+    let session = play_session(table, store, p, side, input, out, steps);
+    end_of_session(session, out)
 }
 
 /// Opens the table of this name and plays the session of the side by it.

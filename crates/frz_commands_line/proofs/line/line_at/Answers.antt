@@ -1,23 +1,15 @@
-use Rattle.std.proofs.Common.{refl, sym, subst, ℕ, List, Option}
-use Rattle.frz_store.specs.Files.{Files}
-use Rattle.frz_table.specs.declared.kind.FileKind.TheVariants.{Plain}
-use Rattle.frz_table.specs.Opening.{contents_of, table_format}
-use Rattle.frz_table.specs.Possible.{MayOpen}
+use Rattle.std.proofs.Common.{refl}
 use Rattle.frz_commands_line.specs.Later.{from_opening}
 use Rattle.frz_commands_line.specs.Lining.{lining_at}
 use Rattle.frz_commands_line.proofs.Later.{any_later, later_before}
 use Rattle.frz_commands_line.proofs.LineOpened.{line_comes, lined_by, some_at}
-use Rattle.frz_commands_line.proofs.Opened.{opened_ran, refused_ran}
+use Rattle.frz_commands_line.proofs.Opened.{opened_ran, opens_still, refused_ran}
 use Rattle.frz_commands_line.proofs.line.line_at.Goals as goal
 
 pub line_in-requires-clause-opens : goal.line_in-requires-clause-opens
 line_in-requires-clause-opens g c =
     let e = c.in-Ok.ensures in
-    let t = c.in-Ok.table in
-    subst (λ (o : Option Files). MayOpen (table_format Plain) o t.name (contents_of t))
-    (sym e.quiet.unwritten.files)
-    (subst (λ (n : List ℕ). MayOpen (table_format Plain) (g.S.Store.files c.args.store.now) n
-    (contents_of t)) (sym e.name) e.may_open)
+    opens_still c.in-Ok.table e.quiet.unwritten.files e.name e.may_open
 
 pub returns-in-Ok : goal.returns-in-Ok
 returns-in-Ok g c =

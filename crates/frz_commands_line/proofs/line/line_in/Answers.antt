@@ -1,4 +1,4 @@
-use Rattle.std.proofs.Common.{ap}
+use Rattle.std.proofs.Common.{refl}
 use Rattle.frz_store.specs.Told.{store_of, sink_of}
 use Rattle.frz_table.specs.Opening.{contents_of}
 use Rattle.frz_commands_line.specs.Later.{held_later}
@@ -24,8 +24,7 @@ returns g c =
           (sink_of g.O.Sink c.args.out.now) (sink_of g.O.Sink c.best_line-line.new.out)
           (sink_of g.O.Sink c.end_of_line.new.out) c.args.steps.now c.best_line-line.new.steps
           e.quiet e.later c.best_line-line.result c.end_of_line.result e.outside
-          (λ is. let same = e.untouched is in
-          (ap (store_of g.S.Store) same.0, ap (sink_of g.O.Sink) same.1, same.2)) e.cause
+          (λ is. let same = e.untouched is in rw (same.0, same.1, same.2) refl) e.cause
           c.end_of_line.ensures (
             w.0,
             w.2,
