@@ -26,6 +26,7 @@ const RULES: &[u8] =
 const MATE_IN_ONE: &str = "k7/8/1K6/8/8/8/8/7R w - - 0 1";
 
 /// A call over a store in which `A` holds the rules, and the status and the text that it gives.
+#[derive(Drop)]
 struct Row<'a>(&'a [u8], &'a [&'a str], u8, &'a str);
 
 const WITH_EXIT: &[u8] = b"freezer 1
@@ -60,79 +61,26 @@ const CORNER: &str = "k7/8/1K6/8/8/8/8/7R b - - 0 1";
 
 const NEXT_TO_IT: &str = "1k6/8/1K6/8/8/8/8/7R b - - 0 1";
 
-const SOLVED: &[Row] = &[
-    Row(
-        RULES,
-        &["solve", "A", MATE_IN_ONE],
-        0,
-        "white wins within 1\nblack none\n",
-    ),
-    Row(
-        RULES,
-        &["solve", "A", CORNER],
-        0,
-        "white wins within 2\nblack none\n",
-    ),
-    Row(
-        RULES,
-        &["solve", "A", NEXT_TO_IT],
-        0,
-        "white none\nblack none\n",
-    ),
-    Row(
-        WITH_EXIT,
-        &["solve", "A", NEXT_TO_IT],
-        0,
-        "white wins within 2\nblack none\n",
-    ),
-    Row(
-        COUNTED,
-        &["solve", "A", NEXT_TO_IT],
-        0,
-        "white wins within 8\nblack none\n",
-    ),
-    Row(
-        RENOUNCED,
-        &["solve", "A", MATE_IN_ONE],
-        0,
-        "white none\nblack none\n",
-    ),
-    Row(
-        DRAWN,
-        &["solve", "A", "7k/8/8/8/8/8/8/K7 w - - 0 1"],
-        0,
-        "white holds\nblack holds\n",
-    ),
-    Row(
-        STALEMATE,
-        &["solve", "A", "k7/2Q5/1K6/8/8/8/8/8 b - - 0 1"],
-        0,
-        "white holds\nblack holds\n",
-    ),
-    Row(
-        RULES,
-        &["solve", "A", "k7/8/1K6/8/8/8/8/2Q4R w - - 0 1"],
-        7,
-        "outside\n",
-    ),
-    Row(
-        RULES,
-        &["solve", "A", "k7/8/1K6/8/8/8/8/6R1 w - - 0 1"],
-        7,
-        "outside\n",
-    ),
-    Row(
-        RULES,
-        &["solve", "missing", MATE_IN_ONE],
-        12,
-        "missing rules\n",
-    ),
-    Row(
-        RULES,
-        &["solve", "missing", "k7/8/1K6/8/8/8/8/7R w - - 0"],
-        4,
-        "fen: fields\n",
-    ),
+const KINGS_APART: &str = "7k/8/8/8/8/8/8/K7 w - - 0 1";
+
+const STALEMATED: &str = "k7/2Q5/1K6/8/8/8/8/8 b - - 0 1";
+
+/// Rules, a position, and the text of the bounds that `solve` finds there.
+const SOLVED: &[(&[u8], &str, &str)] = &[
+    (RULES, MATE_IN_ONE, "white wins within 1\nblack none\n"),
+    (RULES, CORNER, "white wins within 2\nblack none\n"),
+    (RULES, NEXT_TO_IT, "white none\nblack none\n"),
+    (WITH_EXIT, NEXT_TO_IT, "white wins within 2\nblack none\n"),
+    (COUNTED, NEXT_TO_IT, "white wins within 8\nblack none\n"),
+    (RENOUNCED, MATE_IN_ONE, "white none\nblack none\n"),
+    (DRAWN, KINGS_APART, "white holds\nblack holds\n"),
+    (STALEMATE, STALEMATED, "white holds\nblack holds\n"),
+];
+
+/// Positions outside the set: with a queen beside the rook, and with the rook on another square.
+const OUTSIDE: &[&str] = &[
+    "k7/8/1K6/8/8/8/8/2Q4R w - - 0 1",
+    "k7/8/1K6/8/8/8/8/6R1 w - - 0 1",
 ];
 
 const NO_BLACK_KING: &[u8] = b"freezer 1\ngroup white 1 K:b6\ngroup white 1 R:h1,h8\n";
@@ -154,30 +102,26 @@ group white 2 N:b1
 const NO_PLACE: &[u8] =
     b"freezer 1\ngroup white 1 K:b6\ngroup white 1 R:h1,h8\ngroup black 1 K:a8,b8\ngroup white 1\n";
 
+/// Rules, and the text with which they are refused.
+const REFUSED_RULES: &[(&[u8], &str)] = &[
+    (NO_BLACK_KING, "rules 0: king group\n"),
+    (WITH_PAWNS, "rules 5: pawn square\n"),
+    (TWO_ON_ONE, "rules 5: count\n"),
+    (NO_PLACE, "rules 5: word 4\n"),
+];
+
 const REFUSED: &[Row] = &[
     Row(
-        NO_BLACK_KING,
-        &["solve", "A", MATE_IN_ONE],
-        3,
-        "rules 0: king group\n",
+        RULES,
+        &["solve", "missing", MATE_IN_ONE],
+        12,
+        "missing rules\n",
     ),
     Row(
-        WITH_PAWNS,
-        &["solve", "A", MATE_IN_ONE],
-        3,
-        "rules 5: pawn square\n",
-    ),
-    Row(
-        TWO_ON_ONE,
-        &["solve", "A", MATE_IN_ONE],
-        3,
-        "rules 5: count\n",
-    ),
-    Row(
-        NO_PLACE,
-        &["solve", "A", MATE_IN_ONE],
-        3,
-        "rules 5: word 4\n",
+        RULES,
+        &["solve", "missing", "k7/8/1K6/8/8/8/8/7R w - - 0"],
+        4,
+        "fen: fields\n",
     ),
     Row(RULES, &[], 2, "words: command\n"),
     Row(RULES, &["--help"], 2, "words: command\n"),
@@ -395,13 +339,44 @@ fn expect_all(rt: &impl Abort, alloc: Global, rows: &[Row<'_>]) -> Result<(), Te
     Ok(())
 }
 
-#[test]
-fn solves(rt: HostRuntime) -> Result<(), TestFail> {
-    expect_all(&rt, rt.alloc(), SOLVED)
+/// Calls `solve` at the position over a store in which `A` holds the rules.
+fn expect_solve(
+    rt: &impl Abort,
+    alloc: Global,
+    rules: &[u8],
+    fen: &str,
+    status: u8,
+    text: &str,
+) -> Result<(), TestFail> {
+    expect(rt, alloc, &Row(rules, &["solve", "A", fen], status, text))
 }
 
 #[test]
-fn refuses_words_and_rules(rt: HostRuntime) -> Result<(), TestFail> {
+fn solves(rt: HostRuntime) -> Result<(), TestFail> {
+    for (rules, fen, text) in SOLVED {
+        expect_solve(&rt, rt.alloc(), rules, fen, 0, text)?;
+    }
+    Ok(())
+}
+
+#[test]
+fn a_position_outside_the_set_is_not_solved(rt: HostRuntime) -> Result<(), TestFail> {
+    for fen in OUTSIDE {
+        expect_solve(&rt, rt.alloc(), RULES, fen, 7, "outside\n")?;
+    }
+    Ok(())
+}
+
+#[test]
+fn refuses_rules(rt: HostRuntime) -> Result<(), TestFail> {
+    for (rules, text) in REFUSED_RULES {
+        expect_solve(&rt, rt.alloc(), rules, MATE_IN_ONE, 3, text)?;
+    }
+    Ok(())
+}
+
+#[test]
+fn refuses_words(rt: HostRuntime) -> Result<(), TestFail> {
     expect_all(&rt, rt.alloc(), REFUSED)
 }
 
