@@ -15,6 +15,7 @@ mod reading;
 pub use building::{build_atlas, build_over};
 pub use checking::{Checked, check_atlas};
 pub use fault::{AtlasFault, BackFault};
+pub use kinds::open_own;
 pub use loading::load_behind;
 pub use opening::{open_behind, open_over};
 pub use reading::{LoadedAtlas, load_atlas};

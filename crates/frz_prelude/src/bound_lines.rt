@@ -49,7 +49,8 @@ pub fn write_bounds<O: Sink>(white: Bound, black: Bound, out: &mut O) -> Result<
     write_bound_line(Colour::Black, black, out)
 }
 
-fn write_kept_words<O: Sink>(code: u32, out: &mut O) -> Result<(), Failed>
+/// Writes the words of a table's code: ` wins within 5` (in plies), ` holds` or ` none`.
+pub fn write_kept_words<O: Sink>(code: u32, out: &mut O) -> Result<(), Failed>
     ensures { WroteText (kept_words code) result (sink_of O.Sink out.old) (sink_of O.Sink out.new) }
 {
     match bound_of(code) {

@@ -16,7 +16,7 @@ mod table_causes;
 mod taken;
 mod wrong_lines;
 
-pub use bound_lines::{write_kept_line, write_side_name};
+pub use bound_lines::{write_kept_line, write_kept_words, write_side_name};
 pub use place::number_in;
 pub use refused::Refused;
 pub use refusing::refuse_named;

@@ -1,3 +1,4 @@
+pub mod Lemmas
 mod Choices
 mod Stages
 mod Chosen

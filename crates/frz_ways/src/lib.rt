@@ -23,5 +23,7 @@ mod way_end;
 
 pub use best::best_line;
 pub use end::{LineEnd, LineFault, MOST_PLIES};
+pub use reading::read_codes;
 pub use session::play_session;
 pub use session_end::{MOST_LENGTH, MOST_LINES, PlayFault, PlayLimit, SessionEnd};
+pub use texts::write_value;

@@ -13,7 +13,7 @@ use frz_sets::Value;
 use frz_store::{Failed, Sink};
 
 /// Writes a value in the words of a rules text.
-fn write_value<O: Sink>(value: Value, out: &mut O) -> Result<(), Failed>
+pub fn write_value<O: Sink>(value: Value, out: &mut O) -> Result<(), Failed>
     ensures { WroteText (value_text value) result
         (sink_of O.Sink out.old) (sink_of O.Sink out.new) }
 {
