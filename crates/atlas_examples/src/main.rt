@@ -7,7 +7,7 @@ ghost use Rattle.std.specs.Prelude.{◌≡◌, ◌<◌};
 
 use frz_answer::{End, Refusal, finish, refuse, write_numbered_line};
 use frz_commands_ask::query_kind;
-use frz_commands_atlas::{run_build, run_check};
+use frz_commands_atlas::{run_build, run_check, run_each};
 use frz_commands_table::build;
 use frz_prelude::tell;
 use frz_steps::Steps;
@@ -50,6 +50,7 @@ fn run_command<S: Store, O: Sink, L: Ledger>(
         "plain" => tell(build(alloc, rest, store, steps), out),
         "build" => run_build(alloc, rest, store, out, steps),
         "check" => run_check(alloc, rest, store, out, steps),
+        "each" => run_each(alloc, rest, store, out, steps),
         "query" => tell(query_kind(alloc, FileKind::Atlas, rest, store), out),
         _ => refuse(Refusal::NoCommand, out),
     }

@@ -8,3 +8,8 @@ pub mod Checking
 pub mod AtlasHeadline
 pub mod CheckMeans
 pub mod Reporting
+pub mod Ranked
+pub mod MoveRows
+pub mod RowLines
+pub mod Each
+pub mod EachMeans

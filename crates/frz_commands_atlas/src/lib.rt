@@ -1,18 +1,23 @@
-//! The commands of the program `atlas`, on tables over several others: `build`, `check`, `report`
-//! and `size`.
+//! The commands of the program `atlas`, on tables over several others: `build`, `check`, `each`,
+//! `report` and `size`.
 #![tactic(auto)]
 
 mod back_lines;
 mod building;
 mod checking;
+mod each;
 mod ending;
 mod names;
+mod ranking;
 mod reporting;
+mod row_lines;
+mod rows;
 mod size_lines;
 mod sizing;
 mod verdict_lines;
 
 pub use building::run_build;
 pub use checking::run_check;
+pub use each::run_each;
 pub use reporting::run_report;
 pub use sizing::run_size;
