@@ -15,3 +15,10 @@ mod Taken
 mod HeldTable
 mod ReportMeaning
 mod Reported
+mod OneOrder
+mod MovesBehind
+mod ReadFile
+mod EachOnce
+mod RowsWith
+mod RowsRead
+mod EachRun

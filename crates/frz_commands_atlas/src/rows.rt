@@ -15,7 +15,7 @@ ghost use Rattle.frz_commands_atlas.specs.MoveRows.{row_by};
 use frz_answer::Fault;
 use frz_board::Colour;
 use frz_exits::RuleBook;
-use frz_game::laws::numbers::{different_arms, numbered};
+use frz_game::laws::numbers::different_arms;
 use frz_game::{Arm, CodeList, Game, Lists, NextList, NumberedGame};
 use frz_graph::laws::within;
 use frz_prelude::Stop;
@@ -48,8 +48,9 @@ fn rows_with(
         → black.now.items ≡ map (arm_code Black b) nexts.now.items
         → rows.items ≡ map (row_by w b) nexts.now.items) }
 {
+    let arms = nexts.as_slice();
     let mut rows = Vec::new(alloc);
-    for (i, arm) in nexts.as_slice().iter().enumerate() {
+    for (i, arm) in arms.iter().enumerate() {
         rows.push(Row {
             arm: *arm,
             white: white[i],
@@ -123,7 +124,6 @@ pub fn read_rows<S: Store, L: Ledger>(
     ensures step { steps.new ≤ steps.old + 1 }
     ensures later { steps.old ≤ steps.new }
 {
-    numbered();
     different_arms();
     let rules = table.rules();
     let book = RuleBook::new(rules);
