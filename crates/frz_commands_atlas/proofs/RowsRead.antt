@@ -47,7 +47,7 @@ use Rattle.frz_commands_atlas.proofs.ReadFile.{HoldsRead, holds_read}
 -- the position was found in the set of an open table
 module _ (rules : RuleLines) (groups : List GroupLine) (same : groups ≡ rules.groups) (p : Board)
     (i : ℕ) (placed : Member groups p × (i ≡ Num groups p)) where
-  pub inside_set : Member rules.groups p
+  inside_set : Member rules.groups p
   inside_set = subst (λ (g : List GroupLine). Member g p) same placed.0
 
   number_is : i ≡ Num rules.groups p
@@ -59,16 +59,25 @@ module _ (rules : RuleLines) (groups : List GroupLine) (same : groups ≡ rules.
       (Num_below rules.groups p inside_set)
 
   -- the moves at the number are those of the position
-  pub moves_there : (graph_by rules (value_by rules)).arms i ≡ arms_of rules p
+  moves_there : (graph_by rules (value_by rules)).arms i ≡ arms_of rules p
   moves_there =
       arms_there rules (value_by rules) i p
       (position_of rules.groups i p (record { member = inside_set; number = sym number_is }))
 
-pub staying_inside : (contents : Contents) (p : Board) → Member contents.rules.groups p
+staying_inside : (contents : Contents) (p : Board) → Member contents.rules.groups p
     → staying_in contents p ≡ arms_reads (arms_of contents.rules p)
 staying_inside contents p inside =
     ap (λ (b : Bool). if b then arms_reads (arms_of contents.rules p) else 0)
     (of_member contents.rules.groups p inside)
+
+-- which of the moves there stay in the set
+pub staying_there : (table : Table) (groups : List GroupLine)
+    (same : groups ≡ table.rules.groups) (p : Board) (i : ℕ)
+    → Member groups p × (i ≡ Num groups p) → staying_in (contents_of table) p
+    ≡ arms_reads ((graph_by table.rules (value_by table.rules)).arms i)
+staying_there table groups same p i placed =
+    staying_inside (contents_of table) p (inside_set table.rules groups same p i placed)
+    ∙ ap arms_reads (sym (moves_there table.rules groups same p i placed))
 
 -- the rows that were read, ranked
 pub rows_read : (table : Table) (p : Board) (told : Option Files) (groups : List GroupLine)

@@ -31,10 +31,13 @@ abbrev pub freedom_text : (free : Bool) → List ℕ
 freedom_text true = []
 freedom_text false = codes ", renounced"
 
+-- what stands behind the move on its line
+abbrev pub behind_text : Row → List ℕ
+behind_text row =
+    reached_text row.arm.next row.white row.black ++ (freedom_text row.arm.free ++ codes "\n")
+
 abbrev pub row_line : Board → Row → List ℕ
-row_line p row =
-    san_of p row.arm.mv ++ (reached_text row.arm.next row.white row.black
-    ++ (freedom_text row.arm.free ++ codes "\n"))
+row_line p row = san_of p row.arm.mv ++ behind_text row
 
 abbrev pub rows_text : Board → List Row → List ℕ
 rows_text p [] = []

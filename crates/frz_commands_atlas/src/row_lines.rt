@@ -3,9 +3,10 @@ ghost use Rattle.std.specs.Prelude.{◌≡◌, ◌≤◌, ◌+◌, All, length, 
 ghost use Rattle.frz_fide.specs.Legal.{is_legal};
 ghost use Rattle.frz_fide.specs.Listing.{legal_moves_of};
 ghost use Rattle.frz_fide.specs.Valid.{IsValid};
+ghost use Rattle.frz_san.specs.Notation.{san_of};
 ghost use Rattle.frz_store.specs.Told.{sink_of};
 ghost use Rattle.frz_answer.specs.Texts.{WroteText};
-ghost use Rattle.frz_commands_atlas.specs.RowLines.{each_text, freedom_text, reached_text, row_line, rows_text, both_words, side_words};
+ghost use Rattle.frz_commands_atlas.specs.RowLines.{behind_text, each_text, freedom_text, reached_text, row_line, rows_text, both_words, side_words};
 
 use crate::rows::Row;
 use frz_answer::write_piece;
@@ -65,6 +66,36 @@ fn write_freedom<O: Sink>(free: bool, out: &mut O) -> Result<(), Failed>
     }
 }
 
+/// Writes what stands behind the move on its line, and ends the line.
+fn write_behind<O: Sink>(row: Row, out: &mut O) -> Result<(), Failed>
+    ensures { WroteText (behind_text row) result
+        (sink_of O.Sink out.old) (sink_of O.Sink out.new) }
+{
+    let arm = row.arm;
+    write_reached(row, out)?;
+    write_freedom(arm.free, out)?;
+    write_piece(b"\n", out)
+}
+
+/// Writes a legal move in algebraic notation; `moves` are all legal moves of the position.
+fn write_move<O: Sink, L: Ledger>(
+    p: &Position,
+    moves: &[Move],
+    m: Move,
+    out: &mut O,
+    steps: &mut Steps<L>,
+) -> Result<(), Failed>
+    requires valid { IsValid p.now }
+    requires moves { moves.now ≡ legal_moves_of p.now }
+    requires legal { is_legal p.now m ≡ true }
+    ensures wrote { WroteText (san_of p.now m) result
+        (sink_of O.Sink out.old) (sink_of O.Sink out.new) }
+    ensures later { steps.old ≤ steps.new }
+    ensures few { steps.new ≤ steps.old + 1 }
+{
+    write_piece(san_among(p, moves, m, steps).as_bytes(), out)
+}
+
 /// Writes the line of a legal move; `moves` are all legal moves of the position.
 fn write_row<O: Sink, L: Ledger>(
     p: &Position,
@@ -81,10 +112,9 @@ fn write_row<O: Sink, L: Ledger>(
     ensures later { steps.old ≤ steps.new }
     ensures few { steps.new ≤ steps.old + 1 }
 {
-    write_piece(san_among(p, moves, row.arm.mv, steps).as_bytes(), out)?;
-    write_reached(row, out)?;
-    write_freedom(row.arm.free, out)?;
-    write_piece(b"\n", out)
+    let arm = row.arm;
+    write_move(p, moves, arm.mv, out, steps)?;
+    write_behind(row, out)
 }
 
 /// Writes a line for each of these legal moves; `moves` are all legal moves of the position.

@@ -5,7 +5,7 @@ use Rattle.frz_commands_atlas.specs.Ranked.{rank_for}
 use Rattle.frz_commands_atlas.proofs.ranking.rank_rows.Goals as goal
 
 pub returns-in-Ok : goal.returns-in-Ok
-returns-in-Ok g c = record {
+returns-in-Ok c = record {
   same = c.sort_by_key.ensures.permutation;
   rising = IsNonDecreasingBy-from_sort_by_key (rank_for c.args.mover) _ c.in-Ok.ensures.sorted
       (λ a r q k. search rules);

@@ -6,6 +6,6 @@ use Rattle.frz_commands_atlas.proofs.RowsWith.{row_more}
 use Rattle.frz_commands_atlas.proofs.rows.rows_with.Goals as goal
 
 pub returns : goal.returns
-returns g c = λ w b whites blacks.
+returns c = λ w b whites blacks.
     c.loop-i.invariant w b whites blacks
     ∙ ap (map (row_by w b)) (take_all c.loop-i.i _ c.loop-i-test.false)
