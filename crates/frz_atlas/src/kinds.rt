@@ -67,11 +67,7 @@ fn does_lean<S: Store>(store: &mut S, name: &str) -> Result<bool, StoreFault>
 
 /// Opens the file of this name as the kind that its first bytes tell. It asks for at most 24 bytes
 /// and the text, in at most seven calls.
-pub fn open_own<S: Store>(
-    alloc: Global,
-    store: &mut S,
-    name: &str,
-) -> Result<TableFile, TableFault>
+pub fn open_own<S: Store>(alloc: Global, store: &mut S, name: &str) -> Result<TableFile, TableFault>
     ensures opened { IfOk result
         (λ t. MayOpenOwn (S.files store.old) name.now (contents_of t)) }
     ensures refused { IfErr result (MayRefuseOwn name.now

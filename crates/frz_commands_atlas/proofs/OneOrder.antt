@@ -140,11 +140,11 @@ module _ {X : Type 0} (rank : X → ℕ) where
               | inl with ↦
                   elim (cases_Bool (p c)) [
                     | inl both ↦ absurd (omega (
-                        arith,
-                        ltb-true (rank d) (rank c) pass,
-                        one_rank x c both,
-                        one_rank x d with,
-                      ))
+                      arith,
+                      ltb-true (rank d) (rank c) pass,
+                      one_rank x c both,
+                      one_rank x d with,
+                    ))
                     | inr only ↦
                         kept p d (put_in c ds) with
                         ∙ ap (λ (l : List X). d ∷ l) (put_level x c ds ∙ dropped p c ds only)
