@@ -1,5 +1,5 @@
 -- How much a way may still do, and how many plies it may have.
-use Rattle.std.proofs.Common.{◌≡◌, ◌≤◌, ◌<◌, ◌+◌, ◌*◌, ℕ, suc, ◌⊎◌, inl, inr, true, false, refl, subst, arith}
+use Rattle.std.proofs.Common.{◌≡◌, ◌≤◌, ◌<◌, ◌+◌, ◌*◌, ℕ, suc, ◌⊎◌, inl, inr, true, refl, subst, arith}
 use Rattle.frz_board.specs.declared.man.Colour.{Colour}
 use Rattle.frz_board.specs.Moving.{Step}
 use Rattle.frz_sets.specs.declared.exit.Value.{Value}
@@ -41,13 +41,12 @@ HasFew opponents.Input arena side reader cursor =
     cursor.played + session_left arena side reader.more cursor.number ≤ 2 * MOST_LINES + 1
 
 pub few_at_start : (opponent : Opponent) (arena : Arena Step ℕ Value) (side : Colour)
-    (start code : ℕ) → code < 4294967296
-    → HasFew opponent arena side (record { more = MOST_LINES; ended = false })
-    (record { number = start; code = code; played = 0 })
-few_at_start opponents.Codes arena side start code l =
+    (start code : ℕ) (first : Reader) → code < 4294967296 → first.more ≤ MOST_LINES
+    → HasFew opponent arena side first (record { number = start; code = code; played = 0 })
+few_at_start opponents.Codes arena side start code first l few =
     record { won = λ w. omega (arith, l); held = λ h. omega arith }
-few_at_start opponents.Input arena side start code l =
-    (let h = own_most side (arena.node start) in omega (arith, h))
+few_at_start opponents.Input arena side start code first l few =
+    (let h = own_most side (arena.node start) in omega (arith, h, few))
 
 next_of : (cursor : Cursor) (code : ℕ) → IsNextCode cursor.code code
     → (cursor.code ≡ 1 → cursor.played < MOST_PLIES)

@@ -1,5 +1,5 @@
 -- A way over the numbers of a set is a game of chess.
-use Rattle.std.proofs.Common.{◌≡◌, ℕ, suc, zero, inl, inr, Bool, true, false, List, [], ◌∷◌, Option, Some, None, map, refl, sym, subst, ap, ◌∙◌}
+use Rattle.std.proofs.Common.{◌≡◌, ℕ, suc, zero, length, inl, inr, Bool, true, false, List, [], ◌∷◌, Option, Some, None, map, refl, sym, subst, ap, ◌∙◌, arith}
 use Rattle.std.specs.Prelude.{slice_get, MatchOption}
 use Rattle.std.specs.List.{Contains}
 use Rattle.std.proofs.lemmas.Bool.{cases_Bool}
@@ -16,18 +16,18 @@ use Rattle.frz_exits.specs.Forbidding.{is_free}
 use Rattle.frz_index.specs.Members.{Num}
 use Rattle.frz_index.proofs.Lemmas.{member_of, number_there, position_of}
 use Rattle.frz_arena.specs.declared.arm.Arm.{Arm}
-use Rattle.frz_arena.specs.declared.arm.Next.TheVariants.{Inside}
+use Rattle.frz_arena.specs.declared.arm.Next.TheVariants.{Inside, Outside}
 use Rattle.frz_arena.specs.declared.node.Node.TheVariants.{Going}
 use Rattle.frz_arena.specs.Counted.{after as later, reader}
 use Rattle.frz_arena.specs.Games.{next_by, node_by}
 use Rattle.frz_arena.specs.Names.{named, named_next, name_in, node_at}
-use Rattle.frz_arena.specs.WayEnds.{End}
+use Rattle.frz_arena.specs.WayEnds.{End, Exit}
 use Rattle.frz_arena.specs.Ways.{Player, Opponent, IsPlyOf, IsWay}
 use Rattle.frz_arena.proofs.Lemmas.{reader_moves}
 use Rattle.frz_game.specs.Games.{game_of, arena_by, graph_by, arm_at}
 use Rattle.frz_game.specs.Numbers.{is_member, position_at, numbers_by}
 use Rattle.frz_game.proofs.Lemmas.{arms_there}
-use Rattle.frz_ways.specs.ChessGames.{IsPlyFrom, IsGame}
+use Rattle.frz_ways.specs.ChessGames.{IsPlyFrom, IsGame, after_plies}
 use Rattle.frz_ways.specs.Lines.{LinePly}
 use Rattle.frz_ways.proofs.Chosen.{at_in}
 
@@ -60,6 +60,23 @@ next_there groups k q v to e = elim (cases_Bool (is_member groups q)) [
       (next_by false q v)) ≡ Inside to =
       subst (λ b. named_next (later k) (named_next (name_in (numbers_by groups))
       (next_by b q v)) ≡ Inside to) f e in cc)
+]
+
+-- where a move leads that leaves the set
+next_outside : (groups : List GroupLine) (k : ℕ) (q : Board) (w v : Value)
+    → named_next (later k) (named_next (name_in (numbers_by groups))
+    (next_by (is_member groups q) q w)) ≡ Outside v → v ≡ w
+next_outside groups k q w v e = elim (cases_Bool (is_member groups q)) [
+  | inl t ↦ absurd (
+      let leads : named_next (later k) (named_next (name_in (numbers_by groups))
+      (next_by true q w)) ≡ Outside v =
+      subst (λ b. named_next (later k) (named_next (name_in (numbers_by groups))
+      (next_by b q w)) ≡ Outside v) t e in cc)
+  | inr f ↦ (
+      let leads : named_next (later k) (named_next (name_in (numbers_by groups))
+      (next_by false q w)) ≡ Outside v =
+      subst (λ b. named_next (later k) (named_next (name_in (numbers_by groups))
+      (next_by b q w)) ≡ Outside v) f e in cc)
 ]
 
 module _ {S R : Type 0} (rules : RuleLines) (value : Board → Value) (side : Colour)
@@ -144,6 +161,46 @@ module _ {S R : Type 0} (rules : RuleLines) (value : Board → Value) (side : Co
       next_made p x made.move to arm leads
       ∙ ap (λ m. Some (after p m)) (sym (mv_made p x made.move arm))
 
+  outside_made : (p : Board) (x : LinePly) (m : Step) (v : Value)
+      → x.arm ≡ named (later (suc x.from.0)) (arm_at rules value p m) → x.arm.next ≡ Outside v
+      → v ≡ value (after p m)
+  unfolding arm_at
+  outside_made p x m v e leads =
+      next_outside rules.groups (suc x.from.0) (after p m) (value (after p m)) v
+      (sym (ap (λ (a : Arm Step (ℕ × ℕ) Value). a.next) e) ∙ leads)
+
+  value_from : (p : Board) (x : LinePly) (v : Value) → position_at rules.groups x.from.1 ≡ Some p
+      → IsMade x → x.arm.next ≡ Outside v → v ≡ value (after p x.arm.mv)
+  value_from p x v here made leads =
+      let there = move_made p x here made in
+      let arm = arm_made p x made.move here there.1 made.keeps in
+      outside_made p x made.move v arm leads
+      ∙ ap (λ m. value (after p m)) (sym (mv_made p x made.move arm))
+
+  -- where the last of these plies leads outside
+  exit_on : (plies : List LinePly) (p : Board) (v : Value)
+      → ((i : ℕ) (x : LinePly) → slice_get plies i ≡ Some x → IsMade x)
+      → ((i : ℕ) (x y : LinePly) → slice_get plies i ≡ Some x → slice_get plies (suc i) ≡ Some y
+      → x.arm.next ≡ Inside y.from)
+      → ((x : LinePly) → slice_get plies 0 ≡ Some x → position_at rules.groups x.from.1 ≡ Some p)
+      → (last : LinePly) (i : ℕ) → suc i ≡ length plies → slice_get plies i ≡ Some last
+      → last.arm.next ≡ Outside v → v ≡ value (after_plies p plies)
+  exit_on [] p v each follows first last i long there out = absurd (omega (arith, long))
+  exit_on (x ∷ []) p v each follows first last zero long there out =
+      value_from p x v (first x refl) (each zero x refl)
+      (let same : x ≡ last = cc in ap (λ (z : LinePly). z.arm.next) same ∙ out)
+  exit_on (x ∷ []) p v each follows first last (suc i) long there out =
+      absurd (omega (arith, long))
+  exit_on (x ∷ y ∷ plies) p v each follows first last zero long there out =
+      absurd (omega (arith, long))
+  exit_on (x ∷ y ∷ plies) p v each follows first last (suc i) long there out =
+      let here = first x refl in
+      let made = each zero x refl in
+      exit_on (y ∷ plies) (after p x.arm.mv) v (λ i z e. each (suc i) z e)
+      (λ i z w e f. follows (suc i) z w e f)
+      (λ z e. next_from p x z.from here made (follows zero x z refl e)) last i
+      (omega (arith, long)) there out
+
   game_on : (plies : List LinePly) (p : Board)
       → ((i : ℕ) (x : LinePly) → slice_get plies i ≡ Some x → IsMade x)
       → ((i : ℕ) (x y : LinePly) → slice_get plies i ≡ Some x → slice_get plies (suc i) ≡ Some y
@@ -176,17 +233,11 @@ module _ {S R : Type 0} (rules : RuleLines) (value : Board → Value) (side : Co
       game_on plies p each follows
       (λ x e. ap (λ (z : ℕ × ℕ). position_at rules.groups z.1) (first x e) ∙ at)
 
-  -- by what holds of each ply of a way, and of those that follow each other
-  pub way_is_game : (start : ℕ) (s t : S) (plies : List LinePly) (end : End (ℕ × ℕ) Value R)
+  each_made : (start : ℕ) (s t : S) (plies : List LinePly) (end : End (ℕ × ℕ) Value R)
       → IsWay player 0 s (0, start) plies end t
       → ((x : LinePly) → Contains plies x → IsPlyOf player x)
-      → ((i : ℕ) (x y : LinePly) → slice_get plies i ≡ Some x → slice_get plies (suc i) ≡ Some y
-      → x.arm.next ≡ Inside y.from)
-      → ((x : LinePly) → slice_get plies 0 ≡ Some x → x.from ≡ (zero, start))
-      → MatchOption (position_at rules.groups start) (plies ≡ []) (λ p. IsGame rules side p plies)
-  way_is_game start s t plies end way keeps follows first =
-      game_from start plies (position_at rules.groups start) refl
-      (λ i x e.
+      → (i : ℕ) (x : LinePly) → slice_get plies i ≡ Some x → IsMade x
+  each_made start s t plies end way keeps i x e =
       let in_it = at_in plies i x e in
       let r = reader_moves (game_of rules value) (numbers_by rules.groups) side codes opponent s t
       (0, start) plies end way x in_it in
@@ -197,5 +248,31 @@ module _ {S R : Type 0} (rules : RuleLines) (value : Board → Value) (side : Co
         at = r.2;
         legal = r.3;
         free = r.4;
-      })
-      follows first
+      }
+
+  -- by what holds of each ply of a way, and of those that follow each other
+  pub way_is_game : (start : ℕ) (s t : S) (plies : List LinePly) (end : End (ℕ × ℕ) Value R)
+      → IsWay player 0 s (0, start) plies end t
+      → ((x : LinePly) → Contains plies x → IsPlyOf player x)
+      → ((i : ℕ) (x y : LinePly) → slice_get plies i ≡ Some x → slice_get plies (suc i) ≡ Some y
+      → x.arm.next ≡ Inside y.from)
+      → ((x : LinePly) → slice_get plies 0 ≡ Some x → x.from ≡ (zero, start))
+      → MatchOption (position_at rules.groups start) (plies ≡ []) (λ p. IsGame rules side p plies)
+  way_is_game start s t plies end way keeps follows first =
+      game_from start plies (position_at rules.groups start) refl
+      (each_made start s t plies end way keeps) follows first
+
+  -- the value at its exit is that of the position behind its plies
+  pub exit_told : (start : ℕ) (s t : S) (plies : List LinePly) (v : Value) (p : Board)
+      → position_at rules.groups start ≡ Some p
+      → IsWay player 0 s (0, start) plies (Exit v) t
+      → ((x : LinePly) → Contains plies x → IsPlyOf player x)
+      → ((i : ℕ) (x y : LinePly) → slice_get plies i ≡ Some x → slice_get plies (suc i) ≡ Some y
+      → x.arm.next ≡ Inside y.from)
+      → ((x : LinePly) → slice_get plies 0 ≡ Some x → x.from ≡ (zero, start))
+      → (x : LinePly) × ((i : ℕ) × (suc i ≡ length plies) × (slice_get plies i ≡ Some x))
+      × (x.arm.next ≡ Outside v) → v ≡ value (after_plies p plies)
+  exit_told start s t plies v p at way keeps follows first out =
+      exit_on plies p v (each_made start s t plies (Exit v) way keeps) follows
+      (λ x e. ap (λ (z : ℕ × ℕ). position_at rules.groups z.1) (first x e) ∙ at)
+      out.0 out.1.0 out.1.1 out.1.2 out.2

@@ -1,12 +1,14 @@
 -- Codes that were read for the moves of a number, as the codes of a side.
 use Rattle.std.proofs.Common.{◌≡◌, ◌<◌, ◌+◌, ◌^◌, ◌++◌, ℕ, zero, suc, inl, inr, List, [], ◌∷◌, length, map, replicate, take, Option, Some, None, IfSome, refl, sym, subst, ap, ◌∙◌, arith, lit<, slice_index, slice_set, get_or, get_or-set_same, get_or-set_other, length-set}
 use Rattle.std.specs.List.{All}
+use Rattle.std.specs.Prelude.{Result, Ok, Err, OnOk}
 use Rattle.std.proofs.lemmas.Bool.Decides.{eqb_tells}
 use Rattle.std.proofs.lemmas.List.{length-replicate, get_or-replicate, take_more}
 use Rattle.std.proofs.lemmas.List.Elements.{All-head, All-tail}
 use Rattle.frz_board.specs.declared.man.Colour.{Colour}
 use Rattle.frz_board.specs.Moving.{Step}
 use Rattle.frz_sets.specs.declared.exit.Value.{Value}
+use Rattle.frz_store.specs.declared.outside.StoreFault.{StoreFault}
 use Rattle.frz_arena.specs.declared.arm.Arm.{Arm}
 use Rattle.frz_arena.specs.declared.arm.Next.{Next}
 use Rattle.frz_arena.specs.declared.arm.Next.TheVariants.{Inside, Outside}
@@ -139,6 +141,18 @@ gather None side size arms cs all apart for h = (
   gathered_is side size arms cs all apart for,
 )
 gather (Some told) side size arms cs all apart for h = (told, refl, h)
+
+-- the same where they were read
+pub gather_read : {T : Type 0} (result : Result T StoreFault) (known : Option (List ℕ))
+    (side : Colour) (size : ℕ) (arms : List (Arm Step ℕ Value)) (cs : List ℕ)
+    → All (λ a. IsWithin size a.next) arms → AreApart arms
+    → OnOk result (AreCodesFor side arms cs)
+    → OnOk result (IfSome known (λ kept. cs ≡ map (arm_code side kept) arms))
+    → OnOk result ((kept : List ℕ) × MayRead known size kept
+    × (cs ≡ map (arm_code side kept) arms))
+gather_read (Ok x) known side size arms cs all apart for h =
+    gather known side size arms cs all apart for h
+gather_read (Err fault) known side size arms cs all apart for h = tt
 
 -- one move more
 pub codes_more : (side : Colour) (arms : List (Arm Step ℕ Value)) (cs : List ℕ)

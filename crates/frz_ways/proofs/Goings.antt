@@ -26,11 +26,12 @@ use Rattle.frz_ways.proofs.Taking.{ends_itself, ends_on}
 
 -- the first ply of a way, and what follows it
 pub record GoesTo (arena : Arena Step ℕ Value) (opponent : Opponent) (side : Colour)
-    (kept : ℕ → List ℕ) (k : ℕ) (u t : Input) (ys : List WayPly) (e : EndOfWay)
+    (kept : ℕ → List ℕ) (k q : ℕ) (u t : Input) (ys : List WayPly) (e : EndOfWay)
     (mover : Colour) : Type 0 where
   pub first : WayPly
   pub others : List WayPly
   pub are : ys ≡ first ∷ others
+  pub from : first.from ≡ (k, q)
   pub moves : first.mover ≡ mover
   pub leads : LeadsTo (λ p. IsWay (way_player arena opponent side kept) (suc k) u p others e t)
       (λ v. (others ≡ []) × (e ≡ Exit v) × (t ≡ u)) first.arm.next
@@ -39,7 +40,7 @@ pub record GoesTo (arena : Arena Step ℕ Value) (opponent : Opponent) (side : C
 pub record Replied (arena : Arena Step ℕ Value) (opponent : Opponent) (side : Colour)
     (kept : ℕ → List ℕ) (k : ℕ) (u t : Input) (q refused place : ℕ) (ys : List WayPly)
     (e : EndOfWay) (mover : Colour) : Type 0 where
-  pub on : GoesTo arena opponent side kept k u t ys e mover
+  pub on : GoesTo arena opponent side kept k q u t ys e mover
   pub refused_is : on.first.refused ≡ refused
   pub there : slice_get ((counted arena).arms (k, q)) place ≡ Some on.first.arm
 
@@ -90,7 +91,7 @@ module _ (arena : Arena Step ℕ Value) (opponent : Opponent) (side : Colour)
       (mover : Colour) → by_codes opponent (same_colour mover side) ≡ true
       → GoesOn arena opponent side kept k s q ys e t
       → stage (way_player arena opponent side kept) k (k, q) ≡ Moves mover
-      → (g : GoesTo arena opponent side kept k s t ys e mover)
+      → (g : GoesTo arena opponent side kept k q s t ys e mover)
       × IsChosen (counted arena) side (known kept) mover (k, q) g.first.place g.first.arm
   moves_by_codes k s t q [] e mover own (inl w) due = absurd (let h = w.0 in cc)
   moves_by_codes k s t q [] e mover own (inr w) due =
@@ -107,6 +108,7 @@ module _ (arena : Arena Step ℕ Value) (opponent : Opponent) (side : Colour)
           first = x;
           others = ys;
           are = refl;
+          from = w.0;
           moves = same;
           leads = subst
               (λ (u : Input). LeadsTo
@@ -169,6 +171,7 @@ module _ (arena : Arena Step ℕ Value) (opponent : Opponent) (side : Colour)
           first = x;
           others = ys;
           are = refl;
+          from = w.0;
           moves = same;
           leads = subst
               (λ (v : Input). LeadsTo

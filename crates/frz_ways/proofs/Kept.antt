@@ -31,11 +31,11 @@ code_kept table side (Some m) start code h =
     code_in (codes_at side table.text (table_size table)) start code (m table.name) h
 
 -- the codes that may be read are those that might be read before, with the same files
-pub may_before : (table : Table) (side : Colour) {files now : Option Files} (size : ℕ)
-    (codes : List ℕ) → now ≡ files → MayRead (told_codes table side now) size codes
-    → MayRead (told_codes table side files) size codes
-may_before table side size codes same h =
-    subst (λ (f : Option Files). MayRead (told_codes table side f) size codes) same h
+pub may_before : (known : Option Files → Option (List ℕ)) {files now : Option Files} (size : ℕ)
+    (codes : List ℕ) → now ≡ files → MayRead (known now) size codes
+    → MayRead (known files) size codes
+may_before known size codes same h =
+    subst (λ (f : Option Files). MayRead (known f) size codes) same h
 
 -- what holds in the game by the rules that were read, with their book, holds in the game by the
 -- table's rules

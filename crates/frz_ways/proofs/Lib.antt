@@ -19,6 +19,8 @@ mod Faulted
 mod Turning
 mod Settled
 mod Written
+mod Finished
+mod InMemory
 mod Played
 mod Counting
 mod Starting
@@ -28,3 +30,4 @@ mod GamesOfChess
 mod Alternating
 mod Ending
 mod FewBytes
+pub mod Lemmas

@@ -1,6 +1,6 @@
 -- A way as far as it was played.
-use Rattle.std.proofs.Common.{◌≡◌, ◌==◌, ◌++◌, ℕ, suc, inl, Bool, true, false, List, [], ◌∷◌, Option, refl, sym, subst, ap, ◌∙◌, arith, if◌then◌else◌, Result, Ok, Err, append_assoc, ◌<◌, ◌+◌}
-use Rattle.std.specs.Prelude.{slice_index}
+use Rattle.std.proofs.Common.{◌≡◌, ◌==◌, ◌++◌, ℕ, suc, inl, Bool, false, List, [], ◌∷◌, Option, refl, sym, subst, ap, ◌∙◌, arith, if◌then◌else◌, Result, Ok, Err, append_assoc, ◌<◌, ◌+◌}
+use Rattle.std.specs.Prelude.{slice_index, ⊤}
 use Rattle.std.specs.Result.{IsErrAnd}
 use Rattle.std.proofs.lemmas.Bool.Decides.{nat_tests}
 use Rattle.frz_board.specs.declared.man.Colour.{Colour}
@@ -18,25 +18,25 @@ use Rattle.frz_ways.specs.Kept.{MayRead}
 use Rattle.frz_ways.proofs.Gathered.{any_read}
 use Rattle.frz_ways.proofs.ReadBefore.{and_now, before_is, now_is, now_may}
 use Rattle.frz_ways.proofs.Spending.{came_on, nothing_spent, spends_last, spends_on}
+use Rattle.frz_ways.specs.declared.way_end.Finish.{Finish}
+use Rattle.frz_ways.specs.declared.way_end.Finish.TheVariants.{Here, Left}
 use Rattle.frz_ways.specs.declared.way_end.WayEnd.{WayEnd}
 use Rattle.frz_ways.specs.declared.session_end.PlayFault.{PlayFault}
-use Rattle.frz_ways.specs.declared.session_end.TheConstants.{MOST_LINES}
 use Rattle.frz_ways.specs.declared.hearing.Reader.{Reader}
 use Rattle.frz_ways.specs.declared.playing.Cursor.{Cursor}
 use Rattle.frz_ways.specs.declared.playing.Turn.{Turn}
-use Rattle.frz_ways.specs.declared.playing.Turn.TheVariants.{Over, On}
+use Rattle.frz_ways.specs.declared.playing.Turn.TheVariants.{Over, Out, On}
 use Rattle.frz_ways.specs.declared.opponent.Opponent.{Opponent}
-use Rattle.frz_ways.specs.PlayWay.{Plays}
-use Rattle.frz_ways.specs.WayEnds.{told, Finishes}
+use Rattle.frz_ways.specs.PlayWay.{LeftBy, Plays}
+use Rattle.frz_ways.specs.WayEnds.{ended, told, Finishes}
 use Rattle.frz_ways.specs.SessionFaults.{WroteBy, TookBytes}
-use Rattle.frz_ways.specs.Hearing.{HasEnded, MayFollow, StaysEnded}
-use Rattle.frz_ways.specs.Reading.{Input, opened}
+use Rattle.frz_ways.specs.Hearing.{MayFollow, StaysEnded}
+use Rattle.frz_ways.specs.Reading.{Input}
 use Rattle.frz_ways.specs.Ways.{WayPly, EndOfWay, GoesOn}
 use Rattle.frz_ways.specs.SessionTexts.{end_text, start_line}
 use Rattle.frz_ways.specs.WayTexts.{plies_text, way_text}
 use Rattle.frz_ways.specs.Turns.{rest_text, Leaves, GoesBy}
-use Rattle.frz_ways.proofs.Taking.{took_none, took_on, held_whole, some_rest}
-use Rattle.frz_ways.proofs.Turned.{turn_over}
+use Rattle.frz_ways.proofs.Taking.{took_none, took_on}
 use Rattle.frz_ways.proofs.Written.{wrote_after, same_wrote}
 
 -- what is left of a way from the start, behind the text that was written and the numbers that it
@@ -45,57 +45,69 @@ pub record IsLeft (arena : Arena Step ℕ Value) (opponent : Opponent) (side : C
     (kept : ℕ → List ℕ) (start code : ℕ) (cursor : Cursor) (input : Input) (numbers text : List ℕ)
     (plies : List WayPly) (end : EndOfWay) (last : Input) : Type 0 where
   pub agrees : slice_index (kept cursor.played) cursor.number ≡ cursor.code
+  pub front : List WayPly
   pub others : List WayPly
+  pub whole : plies ≡ front ++ others
   pub way : GoesOn arena opponent side kept cursor.played input cursor.number others end last
   pub is : text ++ rest_text opponent side cursor others end ≡ way_text opponent side code plies end
   pub came : numbers ++ way_numbers (Inside (cursor.played, cursor.number)) others
       ≡ way_numbers (Inside (0, start)) plies
 
--- each way from the start against these bytes comes by here
-abbrev pub ComeBy : Arena Step ℕ Value → Opponent → Colour → (ℕ → List ℕ) → (start code : ℕ) → Cursor
-    → Reader → (numbers bytes text : List ℕ) → Type 0
-ComeBy arena opponent side kept start code cursor reader numbers bytes text =
+-- each way from the start against these bytes, with so many lines to read, comes by here
+abbrev pub ComeBy : Arena Step ℕ Value → Opponent → Colour → (ℕ → List ℕ) → (start code : ℕ)
+    → (more : ℕ) → Cursor → Reader → (numbers bytes text : List ℕ) → Type 0
+ComeBy arena opponent side kept start code more cursor reader numbers bytes text =
     slice_index (kept 0) start ≡ code → (left : List ℕ) → MayFollow reader left →
     (plies : List WayPly) (end : EndOfWay) (last : Input) →
-    GoesOn arena opponent side kept 0 (opened (bytes ++ left)) start plies end last →
+    GoesOn arena opponent side kept 0 (record { left = bytes ++ left; more = more }) start plies end
+    last →
     IsLeft arena opponent side kept start code cursor (record { left = left; more = reader.more })
     numbers text plies end last
 
 pub record SoFar (known : Option (List ℕ)) (size : ℕ) (arena : Arena Step ℕ Value)
     (opponent : Opponent) (side : Colour)
-    (start code : ℕ) (cursor : Cursor) (reader : Reader) (source left : SourceTold)
-    (out taken : SinkTold) (before now : Spent) : Type 0 where
+    (start code : ℕ) (first : Reader) (cursor : Cursor) (reader : Reader)
+    (source left : SourceTold) (out taken : SinkTold) (before now : Spent) : Type 0 where
   pub text : List ℕ
   pub bytes : List ℕ
   pub lines : IsLines text
   pub wrote : TookText text out taken
   pub took : TookBytes bytes source left
+  pub stays : StaysEnded first reader bytes
   pub numbers : List ℕ
   pub spent : SpendsAt arena 0 numbers before now
   -- what was read after each ply
   pub read : ℕ → List ℕ
   pub may : (k : ℕ) → MayRead known size (read k)
   pub comes : (kept : ℕ → List ℕ) → ((k : ℕ) → k < cursor.played → kept (suc k) ≡ read k) →
-      ComeBy arena opponent side kept start code cursor reader numbers bytes text
+      ComeBy arena opponent side kept start code first.more cursor reader numbers bytes text
 
 pub at_start : (known : Option (List ℕ)) (size : ℕ) (arena : Arena Step ℕ Value)
     (opponent : Opponent) (side : Colour)
-    (start code : ℕ) (source : SourceTold) (out : SinkTold) (now : Spent)
-    → SoFar known size arena opponent side start code
-    (record { number = start; code = code; played = 0 })
-    (record { more = MOST_LINES; ended = false }) source source out out now now
-at_start known size arena opponent side start code source out now = record {
+    (start code : ℕ) (first : Reader) (source : SourceTold) (out : SinkTold) (now : Spent)
+    → SoFar known size arena opponent side start code first
+    (record { number = start; code = code; played = 0 }) first source source out out now now
+at_start known size arena opponent side start code first source out now = record {
   text = [];
   bytes = [];
   lines = inl refl;
   wrote = took_nothing out;
   took = took_none source source refl;
+  stays = λ e. (refl, e);
   numbers = [];
   spent = nothing_spent arena now;
   read = λ k. (any_read known size).0;
   may = λ k. (any_read known size).1;
   comes = λ kept same agrees left may plies end last w.
-      record { agrees = agrees; others = plies; way = w; is = refl; came = refl };
+      record {
+        agrees = agrees;
+        front = [];
+        others = plies;
+        whole = refl;
+        way = w;
+        is = refl;
+        came = refl;
+      };
 }
 
 more_is : (k : ℕ) → (k + 1 == 0) ≡ false
@@ -108,17 +120,17 @@ follows_both old new bytes left stays may = λ e.
 
 -- a ply was played
 after_ply : (arena : Arena Step ℕ Value) (opponent : Opponent) (side : Colour) (kept : ℕ → List ℕ)
-    (start code : ℕ) (cursor next : Cursor) (old new : Reader)
+    (start code lines : ℕ) (cursor next : Cursor) (old new : Reader)
     (numbers bytes more text written : List ℕ)
     → next.played ≡ cursor.played + 1 → StaysEnded old new more
-    → ComeBy arena opponent side kept start code cursor old numbers bytes text
+    → ComeBy arena opponent side kept start code lines cursor old numbers bytes text
     → GoesBy arena opponent side kept cursor old new more written (Ok (On next.number next.code))
-    → ComeBy arena opponent side kept start code next new (numbers ++ cursor.number ∷ [])
+    → ComeBy arena opponent side kept start code lines next new (numbers ++ cursor.number ∷ [])
     (bytes ++ more) (text ++ written)
-after_ply arena opponent side kept start code cursor next old new numbers bytes more text written e
-    stays comes goes = λ agrees left may plies end last w.
-    let v = subst (λ (l : List ℕ). GoesOn arena opponent side kept 0 (opened l) start plies end
-    last) (append_assoc bytes more left) w in
+after_ply arena opponent side kept start code lines cursor next old new numbers bytes more text
+    written e stays comes goes = λ agrees left may plies end last w.
+    let v = subst (λ (l : List ℕ). GoesOn arena opponent side kept 0
+    (record { left = l; more = lines }) start plies end last) (append_assoc bytes more left) w in
     let l = comes agrees (more ++ left) (follows_both old new more left stays may) plies end last
     v in
     let g = goes l.agrees left may l.others end last l.way in
@@ -132,7 +144,10 @@ after_ply arena opponent side kept start code cursor next old new numbers bytes 
     ++ (plies_text opponent side others ++ end_text end)) later ∙ sym g.2.1.5 in
     record {
       agrees = subst (λ k. slice_index (kept k) next.number ≡ next.code) played g.2.0;
+      front = l.front ++ g.2.1.0 ∷ [];
       others = others;
+      whole = l.whole ∙ (ap (λ (ys : List WayPly). l.front ++ ys) g.2.1.2
+          ∙ sym (append_assoc l.front (g.2.1.0 ∷ []) others));
       way = subst (λ k. GoesOn arena opponent side kept k here next.number others end last) played
           g.2.1.4;
       is = ap (λ (z : List ℕ). (text ++ written) ++ z) rest
@@ -144,65 +159,101 @@ after_ply arena opponent side kept start code cursor next old new numbers bytes 
           g.2.1.0 (way_numbers (Inside (0, start)) plies) l.came g.2.1.2 g.2.1.3);
     }
 
-left_over : (arena : Arena Step ℕ Value) (opponent : Opponent) (side : Colour) (kept : ℕ → List ℕ)
-    (cursor : Cursor) (left : Input) (plies : List WayPly) (end : EndOfWay) (last : Input)
-    (rest : List ℕ) (answer : Result WayEnd PlayFault)
-    → Leaves arena opponent side kept cursor left plies end last rest (turn_over answer)
-    → (unread : List ℕ) × (unread ++ last.left ≡ left.left)
-    × Finishes answer (told side end) rest unread
-left_over arena opponent side kept cursor left plies end last rest (Ok answer) h = h
-left_over arena opponent side kept cursor left plies end last rest (Err fault) h = h
+-- the turn by which a way finishes so
+abbrev turn_at : Finish → Turn
+turn_at (Here end) = Over end
+turn_at (Left number move v) = Out move v
+
+abbrev finishes_by : Result Finish PlayFault → Result Turn PlayFault
+finishes_by (Ok finish) = Ok (turn_at finish)
+finishes_by (Err fault) = Err fault
+
+-- what leaves the set does so from this number
+abbrev IsFrom : (number : ℕ) → Result Finish PlayFault → Type 0
+IsFrom number (Ok (Left from move v)) = number ≡ from
+IsFrom number result = ⊤
+
+module _ (arena : Arena Step ℕ Value) (opponent : Opponent) (side : Colour) (kept : ℕ → List ℕ)
+    (cursor : Cursor) (left : Input) (end : EndOfWay) (last : Input) (rest : List ℕ) where
+  left_over : (plies : List WayPly) (answer : Result Finish PlayFault)
+      → Leaves arena opponent side kept cursor left plies end last rest (finishes_by answer)
+      → (unread : List ℕ) × (unread ++ last.left ≡ left.left)
+      × Finishes (ended answer) (told side end) rest unread
+  left_over plies (Ok (Here answer)) h = h
+  left_over plies (Ok (Left number move v)) h = (
+    [],
+    ap (λ (z : Input). z.left) h.1.1,
+    (ap (told side) (sym h.1.0), h.0, refl),
+  )
+  left_over plies (Err fault) h = h
+
+  left_by : (front others plies : List WayPly) (answer : Result Finish PlayFault)
+      → plies ≡ front ++ others → IsFrom cursor.number answer
+      → Leaves arena opponent side kept cursor left others end last rest (finishes_by answer)
+      → LeftBy answer left plies end last
+  left_by front others plies (Ok (Here answer)) whole from h = tt
+  left_by front others plies (Ok (Left number move v)) whole from h =
+      let on = h.1.2 in (
+        h.1.0,
+        h.1.1,
+        (
+          front,
+          on.0,
+          whole ∙ ap (λ (ys : List WayPly). front ++ ys) on.1,
+          ap (λ (p : ℕ × ℕ). p.1) on.2 ∙ from,
+          on.3,
+        ),
+      )
+  left_by front others plies (Err fault) whole from h = tt
 
 -- the last turn
 played_out : (arena : Arena Step ℕ Value) (opponent : Opponent) (side : Colour) (kept : ℕ → List ℕ)
-    (start code : ℕ) (cursor : Cursor) (old new : Reader) (numbers bytes more text next : List ℕ)
-    (answer : Result WayEnd PlayFault) (before now after : Spent) (source left : SourceTold)
+    (start code : ℕ) (cursor : Cursor) (first old new : Reader)
+    (numbers bytes more text next : List ℕ)
+    (answer : Result Finish PlayFault) (before now after : Spent)
     → SpendsAt arena 0 numbers before now
     → SpendsAt arena 0 (cursor.number ∷ []) now after → StaysEnded old new more
-    → TookBytes (bytes ++ more) source left → (new.ended ≡ true → HasEnded left)
-    → ComeBy arena opponent side kept start code cursor old numbers bytes text
-    → GoesBy arena opponent side kept cursor old new more next (turn_over answer)
-    → Plays arena opponent side kept start code source (bytes ++ more) (text ++ next) answer before
-    after
-played_out arena opponent side kept start code cursor old new numbers bytes more text next answer
-    before now after source left b n stays took has comes goes =
-    let r = some_rest left (new.ended ≡ true) has in
-    let rest = r.0 in (
-      (bytes ++ more) ++ rest,
-      held_whole (bytes ++ more) source left took rest r.1,
-      λ agrees plies end last w.
-          let v = subst
-          (λ (l : List ℕ). GoesOn arena opponent side kept 0 (opened l) start plies end last)
-          (append_assoc bytes more rest) w in
-          let l = comes agrees (more ++ rest) (follows_both old new more rest stays r.2) plies end
-          last v in
-          let g = goes l.agrees rest r.2 l.others end last l.way in
-          let o = left_over arena opponent side kept cursor (record { left = rest; more = new.more })
-          l.others end last g.0 answer g.2 in
-          let spent = spends_last arena numbers cursor.played cursor.number l.others
-          (way_numbers (Inside (0, start)) plies) before now after l.came b n in (
-            record {
-              rest = g.0;
-              unread = o.0;
-              begins = append_assoc text next g.0 ∙ (ap (λ (z : List ℕ). text ++ z) g.1 ∙ l.is);
-              takes = ap (λ (z : List ℕ). (bytes ++ more) ++ z) o.1;
-              finishes = o.2;
-            },
-            spent,
-          ),
+    → IsFrom cursor.number answer
+    → ComeBy arena opponent side kept start code first.more cursor old numbers bytes text
+    → GoesBy arena opponent side kept cursor old new more next (finishes_by answer)
+    → Plays arena opponent side kept start code first new (bytes ++ more) (text ++ next) answer
+    before after
+played_out arena opponent side kept start code cursor first old new numbers bytes more text next
+    answer before now after b n stays from comes goes =
+    λ agrees rest may plies end last w.
+    let v = subst (λ (l : List ℕ). GoesOn arena opponent side kept 0
+    (record { left = l; more = first.more }) start plies end last)
+    (append_assoc bytes more rest) w in
+    let l = comes agrees (more ++ rest) (follows_both old new more rest stays may) plies end last v
+    in
+    let g = goes l.agrees rest may l.others end last l.way in
+    let here : Input = record { left = rest; more = new.more } in
+    let o = left_over arena opponent side kept cursor here end last g.0 l.others answer g.2 in (
+      record {
+        rest = g.0;
+        unread = o.0;
+        begins = append_assoc text next g.0 ∙ (ap (λ (z : List ℕ). text ++ z) g.1 ∙ l.is);
+        takes = ap (λ (z : List ℕ). (bytes ++ more) ++ z) o.1;
+        finishes = o.2;
+      },
+      spends_last arena numbers cursor.played cursor.number l.others
+          (way_numbers (Inside (0, start)) plies) before now after l.came b n,
+      left_by arena opponent side kept cursor here end last g.0 l.front l.others plies answer l.whole
+          from g.2,
     )
 
 -- what a way wrote and took
 abbrev pub WayWrote : Option (List ℕ) → (size : ℕ) → Arena Step ℕ Value → Opponent → Colour
-    → (start code : ℕ)
-    → Result WayEnd PlayFault → (source left : SourceTold) → (out taken : SinkTold)
+    → (start code : ℕ) → (first last : Reader)
+    → Result Finish PlayFault → (source left : SourceTold) → (out taken : SinkTold)
     → (before now : Spent) → Type 0
-WayWrote known size arena opponent side start code result source left out taken before now =
+WayWrote known size arena opponent side start code first last result source left out taken before
+    now =
     (text bytes : List ℕ) × IsLines text × WroteBy result text out taken
-    × TookBytes bytes source left
+    × TookBytes bytes source left × StaysEnded first last bytes
     × ((read : ℕ → List ℕ) × ((k : ℕ) → MayRead known size (read k))
     × ((kept : ℕ → List ℕ) → ((k : ℕ) → kept (suc k) ≡ read k)
-    → Plays arena opponent side kept start code source bytes text result before now))
+    → Plays arena opponent side kept start code first last bytes text result before now))
 
 -- what was read in a turn
 abbrev pub TurnRead : Option (List ℕ) → (size : ℕ) → Arena Step ℕ Value → Opponent → Colour → Cursor
@@ -212,40 +263,48 @@ TurnRead known size arena opponent side cursor old new more next result =
     × ((kept : ℕ → List ℕ) → kept (suc cursor.played) ≡ now
     → GoesBy arena opponent side kept cursor old new more next result)
 
-over_wrote : (answer : Result WayEnd PlayFault) (text : List ℕ) (old new : SinkTold)
-    → WroteBy (turn_over answer) text old new → WroteBy answer text old new
+over_wrote : (answer : Result Finish PlayFault) (text : List ℕ) (old new : SinkTold)
+    → WroteBy (finishes_by answer) text old new → WroteBy answer text old new
 over_wrote (Ok answer) text old new w = w
-over_wrote (Err fault) text old new w = same_wrote Turn WayEnd fault text old new w
+over_wrote (Err fault) text old new w = same_wrote Turn Finish fault text old new w
 
 -- a fault that was answered
 fault_wrote : (known : Option (List ℕ)) (size : ℕ) (arena : Arena Step ℕ Value)
-    (opponent : Opponent) (side : Colour)
-    (start code : ℕ) (source left : SourceTold) (out taken : SinkTold) (before now : Spent)
-    (fault : PlayFault) (result : Result WayEnd PlayFault) → IsErrAnd result (λ e. e ≡ fault)
-    → WayWrote known size arena opponent side start code (Err fault) source left out taken before
-    now
-    → WayWrote known size arena opponent side start code result source left out taken before now
-fault_wrote known size arena opponent side start code source left out taken before now fault (Ok
-    end) h w =
+    (opponent : Opponent) (side : Colour) (start code : ℕ) (first last : Reader)
+    (source left : SourceTold) (out taken : SinkTold) (before now : Spent)
+    (fault : PlayFault) (result : Result Finish PlayFault) → IsErrAnd result (λ e. e ≡ fault)
+    → WayWrote known size arena opponent side start code first last (Err fault) source left out
+    taken before now
+    → WayWrote known size arena opponent side start code first last result source left out taken
+    before now
+fault_wrote known size arena opponent side start code first last source left out taken before now
+    fault (Ok end) h w =
     absurd h
-fault_wrote known size arena opponent side start code source left out taken before now fault (Err e)
-    h w =
-    subst (λ (f : PlayFault). WayWrote known size arena opponent side start code (Err f) source left
-    out taken before now) (sym h) w
+fault_wrote known size arena opponent side start code first last source left out taken before now
+    fault (Err e) h w =
+    subst (λ (f : PlayFault). WayWrote known size arena opponent side start code first last (Err f)
+    source left out taken before now) (sym h) w
+
+pub stays_on : (first old new : Reader) (bytes more : List ℕ) → StaysEnded first old bytes
+    → StaysEnded old new more → StaysEnded first new (bytes ++ more)
+stays_on first old new bytes more before now = λ e.
+    let b = before e in
+    let n = now b.1 in
+    (ap (λ (l : List ℕ). l ++ more) b.0 ∙ n.0, n.1)
 
 -- one turn more, which left the reader so
 module _ {known : Option (List ℕ)} {size : ℕ} {arena : Arena Step ℕ Value} {opponent : Opponent}
-    {side : Colour} {start code : ℕ}
+    {side : Colour} {start code : ℕ} {first : Reader}
     {cursor : Cursor} {old : Reader} (new : Reader) {source mid left : SourceTold}
     {out between : SinkTold} (taken : SinkTold) {before now after : Spent}
-    (far : SoFar known size arena opponent side start code cursor old source mid out between before
-    now) (few : SpendsAt arena 0 (cursor.number ∷ []) now after) (next more : List ℕ)
+    (far : SoFar known size arena opponent side start code first cursor old source mid out between
+    before now) (few : SpendsAt arena 0 (cursor.number ∷ []) now after) (next more : List ℕ)
     (lines : IsLines next) (took : TookBytes more mid left) (stays : StaysEnded old new more) where
   -- a ply was played
   pub next_far : {turn : Turn} {number read : ℕ} → turn ≡ On number read
       → TookText next between taken
       → TurnRead known size arena opponent side cursor old new more next (Ok turn)
-      → SoFar known size arena opponent side start code
+      → SoFar known size arena opponent side start code first
       (record { number = number; code = read; played = cursor.played + 1 }) new source left out taken
       before after
   next_far {turn} {number} {read} on wrote goes =
@@ -256,59 +315,73 @@ module _ {known : Option (List ℕ)} {size : ℕ} {arena : Arena Step ℕ Value}
         lines = lines_behind far.text next far.lines lines;
         wrote = took_behind far.text next (far.text ++ next) out between taken far.wrote refl wrote;
         took = took_on far.bytes more source mid left far.took took;
+        stays = stays_on first old new far.bytes more far.stays stays;
         numbers = far.numbers ++ cursor.number ∷ [];
         spent = spends_on arena far.numbers (cursor.number ∷ []) before now after far.spent few;
         read = and_now far.read cursor.played goes.0;
         may = now_may known size far.read cursor.played goes.0 far.may goes.1;
         comes = λ kept same.
-            after_ply arena opponent side kept start code cursor there old new far.numbers far.bytes
-            more far.text next refl stays (far.comes kept (λ k l. same k (omega (arith, l))
+            after_ply arena opponent side kept start code first.more cursor there old new far.numbers
+            far.bytes more far.text next refl stays (far.comes kept (λ k l. same k (omega (arith, l))
             ∙ before_is far.read cursor.played goes.0 k l))
             (subst (λ (t : Turn). GoesBy arena opponent side kept cursor old new more next (Ok t)) on
             (goes.2 kept (same cursor.played (omega arith)
             ∙ now_is far.read cursor.played goes.0)));
       }
 
-  last_far : (answer : Result WayEnd PlayFault) → (new.ended ≡ true → HasEnded left)
-      → WroteBy (turn_over answer) next between taken
-      → TurnRead known size arena opponent side cursor old new more next (turn_over answer)
-      → WayWrote known size arena opponent side start code answer source left out taken before after
-  last_far answer has wrote goes =
-      let all = took_on far.bytes more source mid left far.took took in (
-        far.text ++ next,
-        far.bytes ++ more,
-        lines_behind far.text next far.lines lines,
-        wrote_after far.text next answer out between taken far.wrote
-            (over_wrote answer next between taken wrote),
-        all,
-        (
-          and_now far.read cursor.played goes.0,
-          now_may known size far.read cursor.played goes.0 far.may goes.1,
-          λ kept same.
-              played_out arena opponent side kept start code cursor old new far.numbers far.bytes
-              more far.text next answer before now after source left far.spent few stays all has
-              (far.comes kept (λ k l. same k ∙ before_is far.read cursor.played goes.0 k l))
-              (goes.2 kept (same cursor.played ∙ now_is far.read cursor.played goes.0)),
-        ),
-      )
+  last_far : (answer : Result Finish PlayFault) → IsFrom cursor.number answer
+      → WroteBy (finishes_by answer) next between taken
+      → TurnRead known size arena opponent side cursor old new more next (finishes_by answer)
+      → WayWrote known size arena opponent side start code first new answer source left out taken
+      before after
+  last_far answer from wrote goes = (
+    far.text ++ next,
+    far.bytes ++ more,
+    lines_behind far.text next far.lines lines,
+    wrote_after far.text next answer out between taken far.wrote
+        (over_wrote answer next between taken wrote),
+    took_on far.bytes more source mid left far.took took,
+    stays_on first old new far.bytes more far.stays stays,
+    (
+      and_now far.read cursor.played goes.0,
+      now_may known size far.read cursor.played goes.0 far.may goes.1,
+      λ kept same.
+          played_out arena opponent side kept start code cursor first old new far.numbers far.bytes
+          more far.text next answer before now after far.spent few stays from
+          (far.comes kept (λ k l. same k ∙ before_is far.read cursor.played goes.0 k l))
+          (goes.2 kept (same cursor.played ∙ now_is far.read cursor.played goes.0)),
+    ),
+  )
 
-  -- the way's end
+  -- the way's end within the set
   pub over_far : {turn : Turn} {end : WayEnd} → turn ≡ Over end
-      → (new.ended ≡ true → HasEnded left) → TookText next between taken
+      → TookText next between taken
       → TurnRead known size arena opponent side cursor old new more next (Ok turn)
-      → WayWrote known size arena opponent side start code (Ok end) source left out taken before
-      after
-  over_far {turn} {end} over has wrote goes =
-      last_far (Ok end) has wrote
+      → WayWrote known size arena opponent side start code first new (Ok (Here end)) source left out
+      taken before after
+  over_far {turn} {end} over wrote goes =
+      last_far (Ok (Here end)) tt wrote
       (subst (λ (t : Turn). TurnRead known size arena opponent side cursor old new more next (Ok t))
       over goes)
 
+  -- its end outside
+  pub out_far : {turn : Turn} {move : Step} {v : Value} → turn ≡ Out move v
+      → TookText next between taken
+      → TurnRead known size arena opponent side cursor old new more next (Ok turn)
+      → WayWrote known size arena opponent side start code first new
+      (Ok (Left cursor.number move v)) source left out taken before after
+  out_far {turn} {move} {v} out wrote goes =
+      last_far (Ok (Left cursor.number move v)) refl wrote
+      (subst (λ (t : Turn). TurnRead known size arena opponent side cursor old new more next (Ok t))
+      out goes)
+
   -- a fault on its way
-  pub fault_far : (fault : PlayFault) (result : Result WayEnd PlayFault)
-      → IsErrAnd result (λ e. e ≡ fault) → (new.ended ≡ true → HasEnded left)
+  pub fault_far : (fault : PlayFault) (result : Result Finish PlayFault)
+      → IsErrAnd result (λ e. e ≡ fault)
       → WroteBy {T = Turn} (Err fault) next between taken
       → TurnRead known size arena opponent side cursor old new more next (Err fault)
-      → WayWrote known size arena opponent side start code result source left out taken before after
-  fault_far fault result is has wrote goes =
-      fault_wrote known size arena opponent side start code source left out taken before after fault
-      result is (last_far (Err fault) has wrote goes)
+      → WayWrote known size arena opponent side start code first new result source left out taken
+      before after
+  fault_far fault result is wrote goes =
+      fault_wrote known size arena opponent side start code first new source left out taken before
+      after fault result is (last_far (Err fault) tt wrote goes)

@@ -29,6 +29,7 @@ use Rattle.frz_ways.specs.WayEnds as way_ends
 use Rattle.frz_ways.specs.WayEnds.{of_session, told_why}
 use Rattle.frz_ways.specs.WayTexts as way_texts
 use Rattle.frz_ways.specs.Ways.{EndOfWay, WayPly}
+use Rattle.frz_ways.proofs.Finished.{same_cause, same_input}
 use Rattle.frz_ways.proofs.Starting.{WroteWay}
 use Rattle.frz_ways.proofs.Written.{same_wrote}
 
@@ -138,14 +139,8 @@ wrote_session (Err fault) text old new w = same_wrote WayEnd SessionEnd fault te
 cause_by : (r : Result SessionEnd PlayFault) (old new : StoreTold)
     → StoreCause (of_session r) old new → StoreCause r old new
 cause_by (Ok last) old new h = h
-cause_by (Err (plays.Line faults.Outside)) old new h = h
-cause_by (Err (plays.Line faults.NoBound)) old new h = h
-cause_by (Err (plays.Line (faults.Wrong x))) old new h = h
-cause_by (Err (plays.Line faults.Store)) old new h = h
-cause_by (Err (plays.Line faults.Output)) old new h = h
-cause_by (Err (plays.Line faults.NoMemory)) old new h = h
-cause_by (Err plays.Input) old new h = h
-cause_by (Err (plays.Limit limit)) old new h = h
+cause_by (Err fault) old new h =
+    same_cause WayEnd SessionEnd fault old old new (record { faults = refl; wants = refl }) h
 
 pub session_cause : {answer : Result WayEnd PlayFault} (r : Result SessionEnd PlayFault)
     (old new : StoreTold) → answer ≡ of_session r → StoreCause answer old new
@@ -156,9 +151,7 @@ session_cause r old new is h =
 input_by : (r : Result SessionEnd PlayFault) (old new : SourceTold)
     → InputCause (of_session r) old new → InputCause r old new
 input_by (Ok last) old new h = h
-input_by (Err (plays.Line fault)) old new h = h
-input_by (Err plays.Input) old new h = h
-input_by (Err (plays.Limit limit)) old new h = h
+input_by (Err fault) old new h = same_input WayEnd SessionEnd fault old new h
 
 pub session_input : {answer : Result WayEnd PlayFault} (r : Result SessionEnd PlayFault)
     (old new : SourceTold) → answer ≡ of_session r → InputCause answer old new

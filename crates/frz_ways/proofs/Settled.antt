@@ -1,6 +1,6 @@
 -- What a turn never answers, and what it leaves of its input's end.
-use Rattle.std.proofs.Common.{◌≡◌, inl, inr, ℕ, Bool, true, false, List, refl, sym, subst, ap, ◌∙◌, get_or, Result, Ok, Err}
-use Rattle.std.specs.Prelude.{codes, ⊤}
+use Rattle.std.proofs.Common.{◌≡◌, ◌≤◌, inl, inr, ℕ, Bool, true, false, List, refl, sym, subst, ap, ◌∙◌, get_or, Result, Ok, Err, arith}
+use Rattle.std.specs.Prelude.{codes}
 use Rattle.std.specs.Result.{IsErrAnd}
 use Rattle.frz_board.specs.declared.man.Colour.{Colour}
 use Rattle.frz_board.specs.Men.{same_colour}
@@ -25,16 +25,10 @@ use Rattle.frz_ways.specs.declared.hearing.Why.TheVariants.{Ended, Limit}
 use Rattle.frz_ways.specs.declared.playing.Cursor.{Cursor}
 use Rattle.frz_ways.specs.declared.playing.Turn.{Turn}
 use Rattle.frz_ways.specs.SessionFaults.{StoreCause}
-use Rattle.frz_ways.specs.Hearing.{HasEnded, MayFail, Hears}
+use Rattle.frz_ways.specs.Hearing.{HasEnded, LeavesFewer, MayFail, Hears}
+use Rattle.frz_ways.specs.PlayLoaded.{IsSettled}
 use Rattle.frz_ways.specs.Turns.{turn_of, by_codes, own_word, Answers, PlaysAt, PlaysPly, AfterHeard, Unread, IsPlayed, IsTurnOf}
 use Rattle.frz_ways.specs.WayEnds.{IsFaultOf}
-
--- no fault of the store, and no position outside
-abbrev pub IsSettled : {T : Type 0} → Result T PlayFault → Type 0
-IsSettled (Err (plays.Line faults.Store)) = ⊥
-IsSettled (Err (plays.Line faults.NoMemory)) = ⊥
-IsSettled (Err (plays.Line faults.Outside)) = ⊥
-IsSettled result = ⊤
 
 pub settled_cause : (result : Result Turn PlayFault) (old new : StoreTold) → IsSettled result
     → StoreFine old new → StoreCause result old new
@@ -128,7 +122,8 @@ module _ (opponent : Opponent) (side : Colour) (cursor : Cursor) (arms : List (A
   moved_kind : (place : ℕ) (word : List ℕ) (out taken : SinkTold)
       → PlaysAt word place arms cs result out taken → IsTurnOf result opponent
   moved_kind place word out taken h = answers_kind _ _ out taken (next_kind h.0.next) h.2 where
-    next_kind : (next : Next ℕ Value) → IsTurnOf (Ok (turn_of next (get_or cs place 0))) opponent
+    next_kind : (next : Next ℕ Value)
+        → IsTurnOf (Ok (turn_of h.0.mv next (get_or cs place 0))) opponent
     next_kind (Inside n) = tt
     next_kind (Outside v) = tt
 
@@ -187,3 +182,30 @@ module _ (opponent : Opponent) (side : Colour) (cursor : Cursor) (arms : List (A
   still_ended dues.Cut out taken h has = still_unread h.0 has
   still_ended (dues.Ply m) out taken h has =
       ply_ended (by_codes opponent (same_colour m side)) (same_colour m side) out taken h has
+
+  heard_no_more : (heard_is : Result Heard PlayFault) → LeavesFewer heard_is old.more new.more
+      → new.more ≤ old.more
+  heard_no_more (Ok (heard.Reply place)) fewer = omega arith
+  heard_no_more (Ok (heard.Stop why)) fewer = fewer
+  heard_no_more (Err fault) fewer = fewer
+
+  same_more : Unread old new source left → new.more ≤ old.more
+  same_more unread = (let same = ap (λ (r : Reader). r.more) unread.0 in omega (arith, same))
+
+  ply_no_more : (found own : Bool) (out taken : SinkTold)
+      → PlaysPly found opponent own cursor arms cs old new result source left out taken
+      → new.more ≤ old.more
+  ply_no_more true own out taken h = same_more h.0
+  ply_no_more false own out taken h = heard_no_more h.heard h.hears.fewer
+
+  -- no more lines may be read than before
+  pub still_no_more : (due : Due) (out taken : SinkTold)
+      → IsPlayed opponent side cursor due arms cs old new result source left out taken
+      → new.more ≤ old.more
+  still_no_more (dues.Wrong given) out taken h = same_more h.0
+  still_no_more dues.NoBound out taken h = same_more h.0
+  still_no_more (dues.Mate m) out taken h = same_more h.0
+  still_no_more (dues.Stalemate m) out taken h = same_more h.0
+  still_no_more dues.Cut out taken h = same_more h.0
+  still_no_more (dues.Ply m) out taken h =
+      ply_no_more (by_codes opponent (same_colour m side)) (same_colour m side) out taken h

@@ -1,5 +1,5 @@
 -- A way from the number of a position.
-use Rattle.std.proofs.Common.{◌≡◌, ◌<◌, ◌^◌, ℕ, zero, suc, inl, List, [], Option, Some, None, IfSome, Result, Ok, Err, refl, sym, subst, ap, ◌∙◌}
+use Rattle.std.proofs.Common.{◌≡◌, ◌<◌, ◌^◌, ◌++◌, ℕ, zero, suc, inl, true, List, [], Option, Some, None, IfSome, Result, Ok, Err, refl, sym, subst, ap, ◌∙◌}
 use Rattle.std.specs.Prelude.{slice_index, ◌↔◌, IsSome}
 use Rattle.std.specs.Result.{IsErrAnd}
 use Rattle.frz_board.specs.declared.man.Colour.{Colour}
@@ -24,20 +24,25 @@ use Rattle.frz_ways.proofs.Gathered.{any_read, start_read}
 use Rattle.frz_ways.proofs.Spending.{read_alone, read_first}
 use Rattle.frz_ways.specs.Kept.{MayRead}
 use Rattle.frz_ways.specs.declared.end.LineFault.TheVariants as faults
+use Rattle.frz_ways.specs.declared.hearing.Reader.{Reader}
+use Rattle.frz_ways.specs.declared.session_end.TheConstants.{MOST_LINES}
+use Rattle.frz_ways.specs.declared.way_end.Finish.{Finish}
 use Rattle.frz_ways.specs.declared.way_end.WayEnd.{WayEnd}
 use Rattle.frz_ways.specs.declared.session_end.PlayFault.{PlayFault}
 use Rattle.frz_ways.specs.declared.session_end.PlayFault.TheVariants as plays
 use Rattle.frz_ways.specs.SessionFaults.{WroteBy, TookBytes, MayHold}
 use Rattle.frz_ways.specs.declared.opponent.Opponent.{Opponent}
 use Rattle.frz_ways.specs.PlayWay.{Plays, WayPlayed, TellsWay}
-use Rattle.frz_ways.specs.WayEnds.{told}
+use Rattle.frz_ways.specs.WayEnds.{ended, told}
+use Rattle.frz_ways.specs.Hearing.{HasEnded}
 use Rattle.frz_ways.specs.Reading.{opened}
 use Rattle.frz_ways.specs.Ways.{GoesOn}
 use Rattle.frz_ways.specs.SessionTexts.{start_line}
 use Rattle.frz_ways.specs.WayTexts.{plies_text, way_text}
 use Rattle.frz_ways.proofs.Faulted.{IsStoreFault, short_of, short_text}
+use Rattle.frz_ways.proofs.Finished.{ended_wrote}
 use Rattle.frz_ways.proofs.Goings.{way_front}
-use Rattle.frz_ways.proofs.Taking.{took_none, some_rest}
+use Rattle.frz_ways.proofs.Taking.{held_whole, took_none, some_rest}
 use Rattle.frz_ways.proofs.Written.{store_fault}
 
 -- the number of a position is within the size of its set
@@ -146,52 +151,63 @@ module _ (known : Option (List ℕ)) (size : ℕ) (opponent : Opponent) (rules :
       (unread source out before now few (plays.Line (fault_of fault)) (store_fault fault)
       (store_wrote fault out))
 
-  tells : (codes : ℕ → List ℕ) (source : SourceTold) (bytes text : List ℕ)
-      (result : Result WayEnd PlayFault) (before mid now : Spent) (start code : ℕ)
-      → start ≡ Num rules.groups p → Spends 1 0 before mid → slice_index (codes 0) start ≡ code
-      → Plays (graph_by rules (value_by rules)) opponent side codes start code source bytes text
-      result mid now → (whole : List ℕ) × MayHold source whole
-      × TellsWay opponent rules side codes p whole bytes text result before now
-  tells codes source bytes text result before mid now start code is few agrees plays = (
-    plays.0,
-    plays.1,
-    λ member plies end last w.
-        let h = plays.2 agrees plies end last
-        (subst (λ i. GoesOn (graph_by rules (value_by rules)) opponent side codes 0
-        (opened plays.0) i plies end last) (sym is) w) in
-        let same : code ≡ slice_index (codes 0) (Num rules.groups p) = sym agrees
-        ∙ ap (slice_index (codes 0)) is in
-        let at_it = subst (λ i. SpendsAt (graph_by rules (value_by rules)) 0
-        (way_numbers (Inside (0, i)) plies) mid now) is h.1 in (
-          subst (λ c. WayPlayed opponent side c plays.0 bytes text result plies end last) same h.0,
-          read_first (graph_by rules (value_by rules))
-              (way_numbers (Inside (0, Num rules.groups p)) plies) before mid now few at_it,
-        ),
-  )
+  tells : (codes : ℕ → List ℕ) (source left : SourceTold) (first last : Reader)
+      (bytes text : List ℕ) (finish : Result Finish PlayFault) (before mid now : Spent)
+      (start code : ℕ) → start ≡ Num rules.groups p → Spends 1 0 before mid
+      → slice_index (codes 0) start ≡ code → first.more ≡ MOST_LINES → TookBytes bytes source left
+      → (last.ended ≡ true → HasEnded left)
+      → Plays (graph_by rules (value_by rules)) opponent side codes start code first last bytes text
+      finish mid now → (whole : List ℕ) × MayHold source whole
+      × TellsWay opponent rules side codes p whole bytes text (ended finish) before now
+  tells codes source left first last bytes text finish before mid now start code is few agrees fresh
+      took has plays =
+      let r = some_rest left (last.ended ≡ true) has in
+      let whole = bytes ++ r.0 in (
+        whole,
+        held_whole bytes source left took r.0 r.1,
+        λ member plies end rest w.
+            let h = plays agrees r.0 r.2 plies end rest
+            (subst (λ k. GoesOn (graph_by rules (value_by rules)) opponent side codes 0
+            (record { left = whole; more = k }) start plies end rest) (sym fresh)
+            (subst (λ i. GoesOn (graph_by rules (value_by rules)) opponent side codes 0
+            (opened whole) i plies end rest) (sym is) w)) in
+            let same : code ≡ slice_index (codes 0) (Num rules.groups p) = sym agrees
+            ∙ ap (slice_index (codes 0)) is in
+            let at_it = subst (λ i. SpendsAt (graph_by rules (value_by rules)) 0
+            (way_numbers (Inside (0, i)) plies) mid now) is h.1 in (
+              subst (λ c. WayPlayed opponent side c whole bytes text (ended finish) plies end rest)
+                  same h.0,
+              read_first (graph_by rules (value_by rules))
+                  (way_numbers (Inside (0, Num rules.groups p)) plies) before mid now few at_it,
+            ),
+      )
 
-  pub way_told : (result : Result WayEnd PlayFault) (source left : SourceTold)
+  pub way_told : (finish : Result Finish PlayFault) (result : Result WayEnd PlayFault)
+      → result ≡ ended finish → (source left : SourceTold) (first last : Reader)
       (out taken : SinkTold) {before mid : Spent} (now : Spent) (start code : ℕ)
       → start ≡ Num rules.groups p → Spends 1 0 before mid → start < size → code < 2 ^ 32
-      → IfSome known (λ codes. slice_index codes start ≡ code)
-      → (text bytes : List ℕ) → IsLines text → WroteBy result text out taken
+      → IfSome known (λ codes. slice_index codes start ≡ code) → first.more ≡ MOST_LINES
+      → (last.ended ≡ true → HasEnded left)
+      → (text bytes : List ℕ) → IsLines text → WroteBy finish text out taken
       → TookBytes bytes source left
       → (read : ℕ → List ℕ) → ((k : ℕ) → MayRead known size (read k))
       → ((codes : ℕ → List ℕ) → ((k : ℕ) → codes (suc k) ≡ read k)
-      → Plays (graph_by rules (value_by rules)) opponent side codes start code source bytes text
-      result mid now) → WroteWay result source left out taken before now
-  way_told result source left out taken {before} {mid} now start code is few inside small agrees
-      text bytes lines wrote took read may plays =
-      let first = start_read known size start code inside small agrees in (
+      → Plays (graph_by rules (value_by rules)) opponent side codes start code first last bytes text
+      finish mid now) → WroteWay result source left out taken before now
+  way_told finish result ends source left first last out taken {before} {mid} now start code is few
+      inside small agrees fresh has text bytes lines wrote took read may plays =
+      let at_it = start_read known size start code inside small agrees in
+      subst (λ (r : Result WayEnd PlayFault). WroteWay r source left out taken before now) (sym ends) (
         text,
         bytes,
         lines,
-        wrote,
+        ended_wrote finish text out taken wrote,
         took,
         (
-          from_start first.0 read,
-          from_start_may known size first.0 read first.1 may,
-          λ codes same. tells codes source bytes text result before mid now start code is few
-              (ap (λ (l : List ℕ). slice_index l start) (same 0) ∙ first.2)
+          from_start at_it.0 read,
+          from_start_may known size at_it.0 read at_it.1 may,
+          λ codes same. tells codes source left first last bytes text finish before mid now start
+              code is few (ap (λ (l : List ℕ). slice_index l start) (same 0) ∙ at_it.2) fresh took has
               (plays codes (λ k. same (suc k))),
         ),
       )

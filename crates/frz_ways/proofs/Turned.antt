@@ -27,22 +27,18 @@ use Rattle.frz_graph.specs.EntryCodes.{arm_code}
 use Rattle.frz_graph.specs.Finite.{IsFinite}
 use Rattle.frz_graph.specs.FreeCodes.{free_among}
 use Rattle.frz_ways.specs.declared.due.Due.{Due}
-use Rattle.frz_ways.specs.declared.end.LineFault.TheVariants as faults
-use Rattle.frz_ways.specs.Dues.{due_by}
 use Rattle.frz_ways.specs.SeenMoves.{choices_by}
 use Rattle.frz_ways.specs.Texts.{exit_line, move_line, next_line}
 use Rattle.frz_ways.proofs.Chosen.{AsksForOne, FillsLocal, arm_found, known, local_code_of}
 use Rattle.frz_ways.proofs.Stages.{stage_told, stage_due}
 use Rattle.frz_ways.specs.declared.way_end.WayEnd.{WayEnd}
-use Rattle.frz_ways.specs.declared.way_end.WayEnd.TheVariants as ends
 use Rattle.frz_ways.specs.declared.session_end.PlayFault.{PlayFault}
-use Rattle.frz_ways.specs.declared.session_end.PlayFault.TheVariants as plays
 use Rattle.frz_ways.specs.declared.hearing.Heard.TheVariants as heard
 use Rattle.frz_ways.specs.declared.hearing.Reader.{Reader}
 use Rattle.frz_ways.specs.declared.hearing.Why.{Why}
 use Rattle.frz_ways.specs.declared.playing.Cursor.{Cursor}
 use Rattle.frz_ways.specs.declared.playing.Turn.{Turn}
-use Rattle.frz_ways.specs.declared.playing.Turn.TheVariants.{Over}
+use Rattle.frz_ways.specs.declared.playing.Turn.TheVariants.{Over, Out}
 use Rattle.frz_ways.specs.declared.end.TheConstants.{MOST_PLIES}
 use Rattle.frz_ways.specs.declared.opponent.Opponent.{Opponent}
 use Rattle.frz_ways.specs.declared.opponent.Opponent.TheVariants as opponents
@@ -52,7 +48,7 @@ use Rattle.frz_ways.specs.Reading.{Input, Halt, reads}
 use Rattle.frz_ways.specs.Ways.{WayPly, EndOfWay, finder, way_player, GoesOn}
 use Rattle.frz_ways.specs.SessionTexts.{refused_text, why_line, end_text}
 use Rattle.frz_ways.specs.WayTexts.{ply_text, plies_text}
-use Rattle.frz_ways.specs.Turns.{moved_text, turn_of, by_codes, own_word, late_by, Answers, Leaves}
+use Rattle.frz_ways.specs.Turns.{moved_text, turn_of, by_codes, own_word, due_at, late_by, Answers, Leaves}
 use Rattle.frz_ways.proofs.OtherStands.{code_inside}
 use Rattle.frz_ways.proofs.Goings.{over_here, moves_by_codes, stops_here, replies_here, leads_front, way_front}
 
@@ -92,8 +88,7 @@ pub way_stage : FillsLocal → (arena : Arena Step ℕ Value) (size : ℕ) → I
     (cs : List ℕ) (kept : ℕ → List ℕ)
     → arms ≡ arena.arms cursor.number → cs ≡ map (arm_code side (kept (suc cursor.played))) arms
     → (due : Due)
-    → due ≡ due_by (cursor.played == 0) (late_by opponent cursor.played) cursor.code
-    (node_code side (arena.node cursor.number) (free_among arms cs) cs) (arena.node cursor.number)
+    → due ≡ due_at arena opponent side cursor arms cs
     → Stands arena opponent side kept cursor (stage_told (cursor.played, cursor.number) cursor.code due)
 way_stage fills arena size finite opponent side cursor arms cs kept are same due e = λ agrees.
     let local =
@@ -156,29 +151,30 @@ module _ (arena : Arena Step ℕ Value) (opponent : Opponent) (side : Colour) (k
       (first : WayPly) (others : List WayPly) (end : EndOfWay)
       → ((n : ℕ) → next ≡ Inside n → slice_index (kept (suc cursor.played)) n ≡ code)
       → ply_text opponent side first ≡ front ++ move_line move
+      → first.from ≡ (cursor.played, cursor.number) → first.arm.mv ≡ move
       → first.arm.next ≡ named_next (after (suc cursor.played)) next
       → LeadsTo
       (λ p. IsWay (way_player arena opponent side kept) (suc cursor.played) u p others end last)
       (λ v. (others ≡ []) × (end ≡ Exit v) × (last ≡ u))
       (named_next (after (suc cursor.played)) next)
       → LeavesText arena opponent side kept cursor u (first ∷ others) end last
-      (front ++ (move_line move ++ next_line next)) (Ok (turn_of next code))
-  ply_leaves u last front move (Inside n) code first others end is same to leads = (
+      (front ++ (move_line move ++ next_line next)) (Ok (turn_of move next code))
+  ply_leaves u last front move (Inside n) code first others end is same from moved to leads = (
     plies_text opponent side others ++ end_text end,
     joined front (move_line move) (plies_text opponent side others) (end_text end)
         ∙ ap (λ (l : List ℕ). (l ++ plies_text opponent side others) ++ end_text end) (sym same),
     (is n refl, (first, others, refl, to, leads, refl)),
   )
-  ply_leaves u last front move (Outside v) code first others end is same to leads =
+  ply_leaves u last front move (Outside v) code first others end is same from moved to leads =
       let text = front ++ (move_line move ++ exit_line v) in
       let whole : text ++ [] ≡ (ply_text opponent side first ++ []) ++ exit_line v = (
       joined_exit front (move_line move) (exit_line v)
       ∙ ap (λ (l : List ℕ). (l ++ []) ++ exit_line v) (sym same)) in
       subst (λ (e : EndOfWay). LeavesText arena opponent side kept cursor u (first ∷ others) e last
-      text (Ok (Over (ends.Exit v)))) (sym leads.1)
+      text (Ok (Out move v))) (sym leads.1)
       (subst (λ (ys : List WayPly). LeavesText arena opponent side kept cursor u (first ∷ ys)
-      (Exit v) last text (Ok (Over (ends.Exit v)))) (sym leads.0)
-      ([], whole, ([], ap (λ (z : Input). z.left) leads.2, (refl, refl, refl))))
+      (Exit v) last text (Ok (Out move v))) (sym leads.0)
+      ([], whole, (refl, (refl, leads.2, (first, refl, from, moved)))))
 
   -- the same where the sink failed, with the same text
   answered_leaves : (u last : Input) (plies : List WayPly) (end : EndOfWay) (text written : List ℕ)
@@ -223,7 +219,7 @@ pub own_tail : AsksForOne → (arena : Arena Step ℕ Value) (size : ℕ) → Is
     → IsFound has_code (is_win cursor.code) cursor.code (choices_by (same_colour mover side) arms cs)
     place x
     → slice_get arms place ≡ Some a → (result : Result Turn PlayFault) (old new : SinkTold)
-    → Answers (turn_of a.next (get_or cs place 0)) (moved_text (own_word opponent) a) result old new
+    → Answers (turn_of a.mv a.next (get_or cs place 0)) (moved_text (own_word opponent) a) result old new
     → TailBy arena opponent side kept cursor reader reader [] (moved_text (own_word opponent) a)
     result
 own_tail one arena size finite opponent side mover cursor reader arms cs kept own are same stands
@@ -247,12 +243,13 @@ own_tail one arena size finite opponent side mover cursor reader arms cs kept ow
     subst (λ (ys : List WayPly). LeavesText arena opponent side kept cursor here ys end last written
     result) (sym g.0.are)
     (answered_leaves arena opponent side kept cursor here last (g.0.first ∷ g.0.others) end
-    written written (turn_of a.next (get_or cs place 0)) result old new
+    written written (turn_of a.mv a.next (get_or cs place 0)) result old new
     (way_front arena opponent side kept cursor.played here last (cursor.played, cursor.number) plies end
     w)
     (ply_leaves arena opponent side kept cursor here last (own_word opponent) a.mv a.next
     (get_or cs place 0) g.0.first g.0.others end
-    (code_inside side (kept (suc cursor.played)) arms cs same place a there) text
+    (code_inside side (kept (suc cursor.played)) arms cs same place a there) text g.0.from
+    (ap (λ (z : Arm Step (ℕ × ℕ) Value). z.mv) arm)
     (ap (λ (z : Arm Step (ℕ × ℕ) Value). z.next) arm) leads) answers)
 
 module _ (arena : Arena Step ℕ Value) (opponent : Opponent) (side mover : Colour)
@@ -265,7 +262,7 @@ module _ (arena : Arena Step ℕ Value) (opponent : Opponent) (side mover : Colo
       → (source left : SourceTold) (out between taken : SinkTold) (place : ℕ)
       → (hears : Hears arms old new (Ok (heard.Reply place)) source left out between)
       → (a : Arm Step ℕ Value) → slice_get arms place ≡ Some a → (result : Result Turn PlayFault)
-      → Answers (turn_of a.next (get_or cs place 0)) (moved_text (codes "reply ") a) result between
+      → Answers (turn_of a.mv a.next (get_or cs place 0)) (moved_text (codes "reply ") a) result between
       taken → TailBy arena opponent side kept cursor old new hears.bytes
       (refused_text hears.refused ++ moved_text (codes "reply ") a) result
   reply_tail arms cs are same source left out between taken place hears a there result answers =
@@ -304,10 +301,11 @@ module _ (arena : Arena Step ℕ Value) (opponent : Opponent) (side mover : Colo
       (r.on.first ∷ r.on.others) end last t result) behind
       (answered_leaves arena opponent side kept cursor u last (r.on.first ∷ r.on.others) end
       (front ++ (move_line a.mv ++ next_line a.next)) (moved_text (codes "reply ") a)
-      (turn_of a.next (get_or cs place 0)) result between taken ends
+      (turn_of a.mv a.next (get_or cs place 0)) result between taken ends
       (ply_leaves arena opponent side kept cursor u last front a.mv a.next (get_or cs place 0)
       r.on.first r.on.others end
-      (code_inside side (kept (suc cursor.played)) arms cs same place a there) text
+      (code_inside side (kept (suc cursor.played)) arms cs same place a there) text r.on.from
+      (ap (λ (z : Arm Step (ℕ × ℕ) Value). z.mv) arm)
       (ap (λ (z : Arm Step (ℕ × ℕ) Value). z.next) arm) leads) answers))
 
   -- the input stops, behind them

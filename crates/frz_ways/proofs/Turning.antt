@@ -48,7 +48,7 @@ use Rattle.frz_ways.specs.declared.playing.Cursor.{Cursor}
 use Rattle.frz_ways.specs.declared.playing.Turn.{Turn}
 use Rattle.frz_ways.specs.declared.playing.Turn.TheVariants.{Over}
 use Rattle.frz_ways.specs.Hearing.{Hears}
-use Rattle.frz_ways.specs.Turns.{turn_of, by_codes, late_by, Answers, AfterHeard, PlaysPly, IsPlayed, own_turn, session_left, LeavesLess, TurnsTo}
+use Rattle.frz_ways.specs.Turns.{turn_of, by_codes, due_at, late_by, Answers, AfterHeard, PlaysPly, IsPlayed, own_turn, session_left, LeavesLess, TurnsTo}
 use Rattle.frz_ways.proofs.OtherStands.{other_stands}
 
 if_is : (b : Bool) (x y z : Due) → (if b then x else y) ≡ z → (x ≡ z) ⊎ (y ≡ z)
@@ -65,17 +65,6 @@ on_cut code (nodes.Going m) h =
     absurd (cc)
 
 -- what is due at a cursor, where it is told whether its way is late
-pub by_late : (arena : Arena Step ℕ Value) (opponent : Opponent) (side : Colour) (cursor : Cursor)
-    (arms : List (Arm Step ℕ Value)) (cs : List ℕ) (late : Bool) (due : Due)
-    → late ≡ late_by opponent cursor.played
-    → due ≡ due_by (cursor.played == 0) late cursor.code
-    (node_code side (arena.node cursor.number) (free_among arms cs) cs) (arena.node cursor.number)
-    → due ≡ due_by (cursor.played == 0) (late_by opponent cursor.played) cursor.code
-    (node_code side (arena.node cursor.number) (free_among arms cs) cs) (arena.node cursor.number)
-by_late arena opponent side cursor arms cs late due same e =
-    e ∙ ap (λ (z : Bool). due_by (cursor.played == 0) z cursor.code
-    (node_code side (arena.node cursor.number) (free_among arms cs) cs) (arena.node cursor.number)) same
-
 -- no session is cut
 never_cut : (is_start : Bool) (code given : ℕ) (node : Node) (due : Due)
     → due ≡ due_by is_start false code given node → due ≡ dues.Cut → ⊥
@@ -115,9 +104,7 @@ module _ {arena : Arena Step ℕ Value} {size : ℕ} (finite : IsFinite arena si
     (are : arms ≡ arena.arms cursor.number) (many : length cs ≡ length arms)
     (stands : (cursor.played ≡ 0) ⊎ (is_failure cursor.code ≡ false)) where
   abbrev IsDue : Due → Type 0
-  IsDue due =
-      due ≡ due_by (cursor.played == 0) (late_by opponent cursor.played) cursor.code
-      (node_code side (arena.node cursor.number) (free_among arms cs) cs) (arena.node cursor.number)
+  IsDue due = due ≡ due_at arena opponent side cursor arms cs
 
   facts : (m : Colour) → IsDue (dues.Ply m)
       → PlyDue (cursor.played == 0) (late_by opponent cursor.played) cursor.code
@@ -231,12 +218,12 @@ module _ {arena : Arena Step ℕ Value} {size : ℕ} (finite : IsFinite arena si
   less_by_reply opponents.Input own found old new less n code =
       left_reply old.more new.more less n
 
-  to_next : (old new : Reader) (next : Next ℕ Value) (code : ℕ)
+  to_next : (old new : Reader) (move : Step) (next : Next ℕ Value) (code : ℕ)
       → ((n : ℕ) → next ≡ Inside n → (n < size) × (is_failure code ≡ false)
       × LeavesLess opponent arena side cursor old new n code)
-      → TurnsTo arena size opponent side cursor old new (turn_of next code)
-  to_next old new (Inside n) code h = h n refl
-  to_next old new (Outside v) code h = tt
+      → TurnsTo arena size opponent side cursor old new (turn_of move next code)
+  to_next old new move (Inside n) code h = h n refl
+  to_next old new move (Outside v) code h = tt
 
   if_answers : (P : Turn → Type 0) (turn : Turn) (text : List ℕ) (result : Result Turn PlayFault)
       (out taken : SinkTold) → P turn → Answers turn text result out taken → IfOk result P
@@ -255,8 +242,9 @@ module _ {arena : Arena Step ℕ Value} {size : ℕ} (finite : IsFinite arena si
       → (result : Result Turn PlayFault) → AfterHeard arms cs heard_is result between taken
       → IfOk result (TurnsTo arena size opponent side cursor old new)
   after_next m e own old new (Ok (heard.Reply place)) source left out between taken hears result h =
-      if_answers (TurnsTo arena size opponent side cursor old new) (turn_of h.0.next (get_or cs place
-      0)) _ result between taken (to_next old new h.0.next (get_or cs place 0)
+      if_answers (TurnsTo arena size opponent side cursor old new) (turn_of h.0.mv h.0.next
+      (get_or cs place 0)) _ result between taken (to_next old new h.0.mv h.0.next
+      (get_or cs place 0)
       (λ n leads. (
         inside_size place h.0 h.1 n leads,
         reply_code_stands m e own place h.0 h.1,
@@ -284,8 +272,8 @@ module _ {arena : Arena Step ℕ Value} {size : ℕ} (finite : IsFinite arena si
       let same : new.more ≡ old.more = ap (λ (r : Reader). r.more) h.0.0 in
       let next = next_code m e place plays.1 plays.2 in
       if_answers (TurnsTo arena size opponent side cursor old new)
-      (turn_of a.next (get_or cs place 0)) _ result out taken
-      (to_next old new a.next (get_or cs place 0) (λ n leads. (
+      (turn_of a.mv a.next (get_or cs place 0)) _ result out taken
+      (to_next old new a.mv a.next (get_or cs place 0) (λ n leads. (
         inside_size place a there n leads,
         no_failure cursor.code (get_or cs place 0) next,
         less_by_codes alternates opponent refl m e own old new same place a there next n leads,

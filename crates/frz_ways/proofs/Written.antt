@@ -1,5 +1,5 @@
 -- What a turn of a way wrote and took, by what was due.
-use Rattle.std.proofs.Common.{◌≡◌, ◌==◌, ◌++◌, ℕ, zero, suc, inl, inr, Bool, true, false, List, [], map, refl, sym, subst, ap, ◌∙◌, get_or, if◌then◌else◌, Result, Ok, Err, append-nil}
+use Rattle.std.proofs.Common.{◌≡◌, ◌==◌, ◌++◌, ℕ, zero, suc, inl, inr, Bool, true, false, List, [], map, Option, refl, sym, subst, ap, ◌∙◌, get_or, if◌then◌else◌, Result, Ok, Err, append-nil}
 use Rattle.std.specs.Prelude.{codes}
 use Rattle.std.specs.Result.{IsErrAnd}
 use Rattle.frz_board.specs.declared.man.Colour.{Colour}
@@ -14,18 +14,17 @@ use Rattle.frz_answer.specs.Texts.{TookText, FailedWithin}
 use Rattle.frz_answer.proofs.Lemmas.{took_nothing, took_behind, failed_behind, lines_behind}
 use Rattle.frz_arena.specs.declared.arm.Arm.{Arm}
 use Rattle.frz_arena.specs.Arena.{Arena}
-use Rattle.frz_arena.specs.LocalCodes.{node_code}
 use Rattle.frz_arena.specs.WayEnds.{Wrong, NoBound, Mated, Stalemated, Cut, Stopped}
 use Rattle.frz_arena.specs.Ways.{Over as OverWay}
 use Rattle.frz_graph.specs.EntryCodes.{arm_code}
 use Rattle.frz_graph.specs.Finite.{IsFinite}
-use Rattle.frz_graph.specs.FreeCodes.{free_among}
 use Rattle.frz_prelude.specs.BoundLines.{side_name, kept_words, kept_line}
 use Rattle.frz_ways.specs.declared.due.Due.{Due}
 use Rattle.frz_ways.specs.declared.due.Due.TheVariants as dues
 use Rattle.frz_ways.specs.declared.end.LineFault.TheVariants as faults
-use Rattle.frz_ways.specs.Dues.{due_by}
 use Rattle.frz_ways.specs.Faults.{fault_of}
+use Rattle.frz_ways.specs.Kept.{MayRead}
+use Rattle.frz_ways.proofs.Gathered.{any_read}
 use Rattle.frz_ways.specs.Texts.{arm_text}
 use Rattle.frz_ways.proofs.Chosen.{AsksForOne, FillsLocal}
 use Rattle.frz_ways.proofs.Stages.{stage_told}
@@ -47,7 +46,7 @@ use Rattle.frz_ways.specs.SessionFaults.{WroteBy, TookBytes}
 use Rattle.frz_ways.specs.Hearing.{StaysEnded, Hears}
 use Rattle.frz_ways.specs.Ways.{EndOfWay}
 use Rattle.frz_ways.specs.SessionTexts.{refused_text, end_text}
-use Rattle.frz_ways.specs.Turns.{moved_text, opening, turn_of, by_codes, own_word, late_by, Answers, PlaysByCodes, PlaysPly, AfterHeard, Unread, IsPlayed, GoesBy, wrong_at}
+use Rattle.frz_ways.specs.Turns.{moved_text, opening, turn_of, by_codes, due_at, own_word, Answers, PlaysByCodes, PlaysPly, AfterHeard, Unread, IsPlayed, GoesBy, wrong_at}
 use Rattle.frz_ways.proofs.Faulted.{IsStoreFault, store_goes, opening_failed, opened_tail, fault_tail}
 use Rattle.frz_ways.proofs.Taking.{took_none}
 use Rattle.frz_ways.proofs.Turned.{Stands, TailBy, turn_over, way_stage, over_tail, own_tail, reply_tail, stop_tail}
@@ -122,15 +121,16 @@ by_answers turn text result old new (inr a) =
     subst (λ (z : Result Turn PlayFault). WroteBy z text old new) (sym a.0) a.1
 
 -- what a turn wrote and took
-abbrev pub TurnWrote : ((ℕ → List ℕ) → Type 0) → Arena Step ℕ Value → Opponent → Colour → Cursor
-    → (old new : Reader)
+abbrev pub TurnWrote : Option (List ℕ) → (size : ℕ) → Arena Step ℕ Value → Opponent → Colour
+    → Cursor → (old new : Reader)
     → Result Turn PlayFault → (source left : SourceTold) → (out taken : SinkTold) → Type 0
-TurnWrote is arena opponent side cursor old new result source left out taken =
+TurnWrote known size arena opponent side cursor old new result source left out taken =
     (text bytes : List ℕ) × IsLines text × WroteBy result text out taken
     × TookBytes bytes source left
     × StaysEnded old new bytes
-    × ((kept : ℕ → List ℕ) → is kept
-    → GoesBy arena opponent side kept cursor old new bytes text result)
+    × ((read : List ℕ) × MayRead known size read
+    × ((kept : ℕ → List ℕ) → kept (suc cursor.played) ≡ read
+    → GoesBy arena opponent side kept cursor old new bytes text result))
 
 -- the same behind the opening
 record Tail (is : (ℕ → List ℕ) → Type 0) (arena : Arena Step ℕ Value) (opponent : Opponent)
@@ -156,23 +156,28 @@ store_wrote Failed out = took_nothing out
 store_wrote NoMemory out = took_nothing out
 
 -- the store failed before anything was written
-pub stopped_by : (is : (ℕ → List ℕ) → Type 0) (arena : Arena Step ℕ Value)
+pub stopped_by : (known : Option (List ℕ)) (size : ℕ) (arena : Arena Step ℕ Value)
     (opponent : Opponent) (side : Colour) (cursor : Cursor)
     (reader : Reader) (fault : StoreFault) (result : Result Turn PlayFault) (source : SourceTold)
     (out : SinkTold) → IsErrAnd result (λ e. e ≡ plays.Line (fault_of fault))
-    → TurnWrote is arena opponent side cursor reader reader result source source out out
-stopped_by is arena opponent side cursor reader fault (Ok turn) source out h = absurd h
-stopped_by is arena opponent side cursor reader fault (Err e) source out h =
-    subst (λ (f : PlayFault). TurnWrote is arena opponent side cursor reader reader (Err f) source
-    source out out) (sym h) (
+    → TurnWrote known size arena opponent side cursor reader reader result source source out out
+stopped_by known size arena opponent side cursor reader fault (Ok turn) source out h = absurd h
+stopped_by known size arena opponent side cursor reader fault (Err e) source out h =
+    let any = any_read known size in
+    subst (λ (f : PlayFault). TurnWrote known size arena opponent side cursor reader reader (Err f)
+    source source out out) (sym h) (
       [],
       [],
       inl refl,
       store_wrote fault out,
       took_none source source refl,
       λ e. (refl, e),
-      λ kept any. store_goes arena opponent side kept cursor reader
-          (plays.Line (fault_of fault)) (store_fault fault),
+      (
+        any.0,
+        any.1,
+        λ kept same. store_goes arena opponent side kept cursor reader
+            (plays.Line (fault_of fault)) (store_fault fault),
+      ),
     )
 
 module _ (one : AsksForOne) (fills : FillsLocal)
@@ -183,10 +188,18 @@ module _ (one : AsksForOne) (fills : FillsLocal)
   abbrev pub IsReadBy : (ℕ → List ℕ) → Type 0
   IsReadBy kept = cs ≡ map (arm_code side (kept (suc cursor.played))) arms
 
+  -- they are some codes that may be read
+  abbrev pub AreRead : Option (List ℕ) → (many : ℕ) → Type 0
+  AreRead known many =
+      (codes : List ℕ) × MayRead known many codes × (cs ≡ map (arm_code side codes) arms)
+
+  read_by : (known : Option (List ℕ)) (many : ℕ) (read : AreRead known many) (kept : ℕ → List ℕ)
+      → kept (suc cursor.played) ≡ read.0 → IsReadBy kept
+  read_by known many read kept same =
+      subst (λ (z : List ℕ). cs ≡ map (arm_code side z) arms) (sym same) read.2
+
   abbrev IsDue : Due → Type 0
-  IsDue due =
-      due ≡ due_by (cursor.played == 0) (late_by opponent cursor.played) cursor.code
-      (node_code side (arena.node cursor.number) (free_among arms cs) cs) (arena.node cursor.number)
+  IsDue due = due ≡ due_at arena opponent side cursor arms cs
 
   standing : (due : Due) → IsDue due → (kept : ℕ → List ℕ) → IsReadBy kept
       → Stands arena opponent side kept cursor (stage_told (cursor.played, cursor.number) cursor.code due)
@@ -194,14 +207,15 @@ module _ (one : AsksForOne) (fills : FillsLocal)
       way_stage fills arena size finite opponent side cursor arms cs kept are same due e
 
   -- the sink failed within the opening
-  pub opening_wrote : (due : Due) → IsDue due → (reader : Reader) (result : Result Turn PlayFault)
+  pub opening_wrote : (known : Option (List ℕ)) (many : ℕ) → AreRead known many
+      → (due : Due) → IsDue due → (reader : Reader) (result : Result Turn PlayFault)
       (source : SourceTold) (out taken : SinkTold)
       → IsErrAnd result (λ e. e ≡ plays.Line faults.Output)
       → FailedWithin (opening side cursor due) out taken
-      → TurnWrote IsReadBy arena opponent side cursor reader reader result source source out taken
-  opening_wrote due e reader (Ok turn) source out taken h failed = absurd h
-  opening_wrote due e reader (Err f) source out taken h failed =
-      subst (λ (z : PlayFault). TurnWrote IsReadBy arena opponent side cursor reader reader (Err z)
+      → TurnWrote known many arena opponent side cursor reader reader result source source out taken
+  opening_wrote known many read due e reader (Ok turn) source out taken h failed = absurd h
+  opening_wrote known many read due e reader (Err f) source out taken h failed =
+      subst (λ (z : PlayFault). TurnWrote known many arena opponent side cursor reader reader (Err z)
       source source out taken) (sym h) (
         opening side cursor due,
         [],
@@ -209,8 +223,13 @@ module _ (one : AsksForOne) (fills : FillsLocal)
         failed,
         took_none source source refl,
         λ x. (refl, x),
-        λ kept same.
-            opening_failed arena opponent side kept cursor due reader (standing due e kept same),
+        (
+          read.0,
+          read.1,
+          λ kept same.
+              opening_failed arena opponent side kept cursor due reader
+              (standing due e kept (read_by known many read kept same)),
+        ),
       )
 
   -- a way that is over here: its text is that of its end
@@ -352,7 +371,7 @@ module _ (one : AsksForOne) (fills : FillsLocal)
       (refused_lines hears.refused) (moved_lines (codes "reply ") h.0))
       (wrote_after (refused_text hears.refused) (moved_text (codes "reply ") h.0) result out between
       taken hears.wrote
-      (by_answers (turn_of h.0.next (get_or cs place 0)) (moved_text (codes "reply ") h.0) result
+      (by_answers (turn_of h.0.mv h.0.next (get_or cs place 0)) (moved_text (codes "reply ") h.0) result
       between taken h.2)) (λ kept same.
       reply_tail arena opponent side m kept cursor old new own
       (standing (dues.Ply m) e kept same) arms cs are
@@ -398,7 +417,7 @@ module _ (one : AsksForOne) (fills : FillsLocal)
         text = text;
         bytes = [];
         lines = moved_lines (own_word opponent) a;
-        wrote = by_answers (turn_of a.next (get_or cs place 0)) text result out taken h.3.2;
+        wrote = by_answers (turn_of a.mv a.next (get_or cs place 0)) text result out taken h.3.2;
         took = took_none source left (ap (λ (z : SourceTold). z.left) unread.1);
         stays = λ x. (refl, ap (λ (z : Reader). z.ended) unread.0 ∙ x);
         goes = λ kept same.
@@ -445,12 +464,13 @@ module _ (one : AsksForOne) (fills : FillsLocal)
       taken h
 
   -- what a turn wrote and took
-  pub turn_wrote : (due : Due) → IsDue due → (old new : Reader) (result : Result Turn PlayFault)
+  pub turn_wrote : (known : Option (List ℕ)) (many : ℕ) → AreRead known many
+      → (due : Due) → IsDue due → (old new : Reader) (result : Result Turn PlayFault)
       (source left : SourceTold) (out mid taken : SinkTold)
       → TookText (opening side cursor due) out mid
       → IsPlayed opponent side cursor due arms cs old new result source left mid taken
-      → TurnWrote IsReadBy arena opponent side cursor old new result source left out taken
-  turn_wrote due e old new result source left out mid taken opened h =
+      → TurnWrote known many arena opponent side cursor old new result source left out taken
+  turn_wrote known many read due e old new result source left out mid taken opened h =
       let t = tail_wrote due e old new result source left mid taken h in (
         opening side cursor due ++ t.text,
         t.bytes,
@@ -458,7 +478,11 @@ module _ (one : AsksForOne) (fills : FillsLocal)
         wrote_after (opening side cursor due) t.text result out mid taken opened t.wrote,
         t.took,
         t.stays,
-        λ kept same.
-            opened_tail arena opponent side kept cursor due old new t.bytes t.text result
-            (standing due e kept same) (t.goes kept same),
+        (
+          read.0,
+          read.1,
+          λ kept same.
+              opened_tail arena opponent side kept cursor due old new t.bytes t.text result
+              (standing due e kept (read_by known many read kept same)) (t.goes kept (read_by known many read kept same)),
+        ),
       )

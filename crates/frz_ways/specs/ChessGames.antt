@@ -22,3 +22,8 @@ abbrev pub IsGame : RuleLines → Colour → Board → List LinePly → Type 0
 IsGame rules side p [] = ⊤
 IsGame rules side p (x ∷ plies) =
     IsPlyFrom rules side p x × IsGame rules side (after p x.arm.mv) plies
+
+-- the position behind these plies
+abbrev pub after_plies : Board → List LinePly → Board
+after_plies p [] = p
+after_plies p (x ∷ plies) = after_plies (after p x.arm.mv) plies

@@ -3,6 +3,7 @@ use Rattle.std.specs.Prelude.{◌≡◌, ℕ, List, length, Option, Some, None}
 use Rattle.std.specs.Option.{option_and_then, option_map}
 use Rattle.frz_board.specs.declared.man.Colour.{Colour}
 use Rattle.frz_store.specs.Files.{Files}
+use Rattle.frz_store.specs.Told.{StoreTold}
 use Rattle.frz_table.specs.Layout.{codes_at}
 use Rattle.frz_table.specs.Numbers.{AreNumbers}
 use Rattle.frz_table.specs.Tables.{Table, table_size}
@@ -19,3 +20,15 @@ told_codes table side files =
 abbrev pub MayRead : Option (List ℕ) → (size : ℕ) → List ℕ → Type 0
 MayRead None size codes = (length codes ≡ size) × AreNumbers codes
 MayRead (Some told) size codes = codes ≡ told
+
+-- what a store tells that holds nothing and is never called
+abbrev pub uncalled : StoreTold
+uncalled = record {
+  files = None;
+  last = None;
+  room = 0;
+  asked = 0;
+  calls = 0;
+  faults = 0;
+  wants = 0;
+}

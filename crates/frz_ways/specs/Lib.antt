@@ -21,3 +21,4 @@ pub mod WayTexts
 pub mod WayEnds
 pub mod Turns
 pub mod PlayWay
+pub mod PlayLoaded

@@ -16,6 +16,9 @@ use Rattle.frz_arena.specs.Arena.{Arena}
 use Rattle.frz_arena.specs.Chosen.{IsFound}
 use Rattle.frz_arena.specs.Choices.{has_code}
 use Rattle.frz_arena.specs.Codes.{is_win, is_failure}
+use Rattle.frz_arena.specs.LocalCodes.{node_code}
+use Rattle.frz_arena.specs.WayEnds.{Exit}
+use Rattle.frz_graph.specs.FreeCodes.{free_among}
 use Rattle.frz_prelude.specs.BoundLines.{kept_line}
 use Rattle.frz_ways.specs.declared.due.Due.{Due}
 use Rattle.frz_ways.specs.declared.due.Due.TheVariants as dues
@@ -29,16 +32,17 @@ use Rattle.frz_ways.specs.declared.opponent.Opponent.{Opponent}
 use Rattle.frz_ways.specs.declared.opponent.Opponent.TheVariants as opponents
 use Rattle.frz_ways.specs.declared.playing.Cursor.{Cursor}
 use Rattle.frz_ways.specs.declared.playing.Turn.{Turn}
-use Rattle.frz_ways.specs.declared.playing.Turn.TheVariants.{Over, On}
+use Rattle.frz_ways.specs.declared.playing.Turn.TheVariants.{Over, Out, On}
 use Rattle.frz_ways.specs.declared.session_end.PlayFault.{PlayFault}
 use Rattle.frz_ways.specs.declared.session_end.PlayFault.TheVariants as plays
 use Rattle.frz_ways.specs.declared.way_end.WayEnd.TheVariants as ends
+use Rattle.frz_ways.specs.Dues.{due_by}
 use Rattle.frz_ways.specs.Hearing.{Hears, MayFollow}
 use Rattle.frz_ways.specs.Reading.{Input}
 use Rattle.frz_ways.specs.SessionTexts.{end_text, start_line}
 use Rattle.frz_ways.specs.SeenMoves.{choices_by, IsNextCode}
 use Rattle.frz_ways.specs.Texts.{arm_text}
-use Rattle.frz_ways.specs.WayEnds.{told, Finishes, IsEndOf, IsFaultOf}
+use Rattle.frz_ways.specs.WayEnds.{told, Finishes, IsEndHere, IsFaultOf}
 use Rattle.frz_ways.specs.Ways.{WayPly, EndOfWay, GoesOn}
 use Rattle.frz_ways.specs.WayTexts.{plies_text}
 
@@ -52,9 +56,9 @@ opening side cursor dues.NoBound = []
 opening side cursor due = if cursor.played == 0 then kept_line side cursor.code else []
 
 -- where the move leads, with the code that was read for it
-abbrev pub turn_of : Next ℕ Value → (code : ℕ) → Turn
-turn_of (Inside number) code = On number code
-turn_of (Outside v) code = Over (ends.Exit v)
+abbrev pub turn_of : Step → Next ℕ Value → (code : ℕ) → Turn
+turn_of move (Inside number) code = On number code
+turn_of move (Outside v) code = Out move v
 
 -- the text was written and this turn answered, or the sink failed within the text
 abbrev pub Answers : Turn → List ℕ → Result Turn PlayFault → SinkTold → SinkTold → Type 0
@@ -68,7 +72,7 @@ abbrev pub PlaysAt : (word : List ℕ) → (place : ℕ) → List (Arm Step ℕ 
     SinkTold → SinkTold → Type 0
 PlaysAt word place arms cs result old new =
     (a : Arm Step ℕ Value) × (slice_get arms place ≡ Some a)
-    × Answers (turn_of a.next (get_or cs place 0)) (moved_text word a) result old new
+    × Answers (turn_of a.mv a.next (get_or cs place 0)) (moved_text word a) result old new
 
 -- whether the codes find the ply, `own` being whether the side itself moves
 abbrev pub by_codes : Opponent → (own : Bool) → Bool
@@ -176,6 +180,13 @@ abbrev pub late_by : Opponent → (played : ℕ) → Bool
 late_by opponents.Codes played = nat_le MOST_PLIES played
 late_by opponents.Input played = false
 
+-- what is due at the cursor, by the moves there and their codes
+abbrev pub due_at : Arena Step ℕ Value → Opponent → Colour → Cursor → List (Arm Step ℕ Value)
+    → List ℕ → Due
+due_at arena opponent side cursor arms cs =
+    due_by (cursor.played == 0) (late_by opponent cursor.played) cursor.code
+    (node_code side (arena.node cursor.number) (free_among arms cs) cs) (arena.node cursor.number)
+
 -- a ply leaves less to do, so that the way ends: in a line the next code is the one that the kept
 -- code asks for, and no hold is played beyond MOST_PLIES; in a session fewer lines are left, or the
 -- side has made its move
@@ -190,13 +201,15 @@ LeavesLess opponents.Input arena side cursor old new number code =
 abbrev pub TurnsTo : Arena Step ℕ Value → (size : ℕ) → Opponent → Colour → Cursor → Reader → Reader
     → Turn → Type 0
 TurnsTo arena size opponent side cursor old new (Over end) = ⊤
+TurnsTo arena size opponent side cursor old new (Out move v) = ⊤
 TurnsTo arena size opponent side cursor old new (On number code) =
     (number < size) × (is_failure code ≡ false)
     × LeavesLess opponent arena side cursor old new number code
 
 -- the turn's answer is one that a way against this opponent can give
 abbrev pub IsTurnOf : Result Turn PlayFault → Opponent → Type 0
-IsTurnOf (Ok (Over end)) opponent = IsEndOf end opponent
+IsTurnOf (Ok (Over end)) opponent = IsEndHere end opponent
+IsTurnOf (Ok (Out move v)) opponent = ⊤
 IsTurnOf (Ok (On number code)) opponent = ⊤
 IsTurnOf (Err fault) opponent = IsFaultOf fault opponent
 
@@ -206,8 +219,16 @@ rest_text opponent side cursor plies end =
     (if cursor.played == 0 then start_line side cursor.code plies end else [])
     ++ (plies_text opponent side plies ++ end_text end)
 
+-- the way has one ply more, which is this move from the cursor, and ends outside with this value
+abbrev pub LeavesSet : Cursor → (here : Input) → Step → Value → List WayPly → EndOfWay →
+    (last : Input) → Type 0
+LeavesSet cursor here move v plies end last =
+    (end ≡ Exit v) × (last ≡ here)
+    × ((x : WayPly) × (plies ≡ x ∷ []) × (x.from ≡ (cursor.played, cursor.number))
+    × (x.arm.mv ≡ move))
+
 -- how a turn leaves a way: the way goes on behind its first ply, which leads to this number, or it
--- has finished
+-- has finished, within its set or by a ply that leaves it
 abbrev pub Leaves : Arena Step ℕ Value → Opponent → Colour → (ℕ → List ℕ) → Cursor → Input →
     List WayPly → EndOfWay → (last : Input) → (rest : List ℕ) → Result Turn PlayFault → Type 0
 Leaves arena opponent side kept cursor left plies end last rest (Ok (On number code)) =
@@ -219,6 +240,8 @@ Leaves arena opponent side kept cursor left plies end last rest (Ok (On number c
 Leaves arena opponent side kept cursor left plies end last rest (Ok (Over answer)) =
     (unread : List ℕ) × (unread ++ last.left ≡ left.left)
     × Finishes (Ok answer) (told side end) rest unread
+Leaves arena opponent side kept cursor left plies end last rest (Ok (Out move v)) =
+    (rest ≡ []) × LeavesSet cursor left move v plies end last
 Leaves arena opponent side kept cursor left plies end last rest (Err fault) =
     (unread : List ℕ) × (unread ++ last.left ≡ left.left)
     × Finishes (Err fault) (told side end) rest unread

@@ -14,6 +14,8 @@ use Rattle.frz_ways.specs.declared.session_end.PlayFault.{PlayFault}
 use Rattle.frz_ways.specs.declared.session_end.PlayFault.TheVariants as plays
 use Rattle.frz_ways.specs.declared.session_end.SessionEnd.{SessionEnd}
 use Rattle.frz_ways.specs.declared.session_end.SessionEnd.TheVariants as sessions
+use Rattle.frz_ways.specs.declared.way_end.Finish.{Finish}
+use Rattle.frz_ways.specs.declared.way_end.Finish.TheVariants.{Here, Left}
 use Rattle.frz_ways.specs.declared.way_end.WayEnd.{WayEnd}
 use Rattle.frz_ways.specs.declared.way_end.WayEnd.TheVariants as ends
 use Rattle.frz_ways.specs.Ways.{EndOfWay}
@@ -53,6 +55,11 @@ IsEndOf ends.Cut opponent = opponent ≡ opponents.Codes
 IsEndOf ends.InputEnded opponent = opponent ≡ opponents.Input
 IsEndOf end opponent = ⊤
 
+-- the same of an end within the set, which is no exit
+abbrev pub IsEndHere : WayEnd → Opponent → Type 0
+IsEndHere (ends.Exit v) opponent = ⊥
+IsEndHere end opponent = IsEndOf end opponent
+
 -- the faults that a way can have: only a session meets a fault or a limit of an input
 abbrev pub IsFaultOf : PlayFault → Opponent → Type 0
 IsFaultOf (plays.Line fault) opponent = ⊤
@@ -62,6 +69,21 @@ IsFaultOf (plays.Limit limit) opponent = opponent ≡ opponents.Input
 abbrev pub IsAnswerOf : Result WayEnd PlayFault → Opponent → Type 0
 IsAnswerOf (Ok end) opponent = IsEndOf end opponent
 IsAnswerOf (Err fault) opponent = IsFaultOf fault opponent
+
+-- the way finished as one against this opponent can
+abbrev pub IsFinishOf : Result Finish PlayFault → Opponent → Type 0
+IsFinishOf (Ok (Here end)) opponent = IsEndHere end opponent
+IsFinishOf (Ok (Left number move v)) opponent = ⊤
+IsFinishOf (Err fault) opponent = IsFaultOf fault opponent
+
+-- the end of a way that finished so
+abbrev pub end_of : Finish → WayEnd
+end_of (Here end) = end
+end_of (Left number move v) = ends.Exit v
+
+abbrev pub ended : Result Finish PlayFault → Result WayEnd PlayFault
+ended (Ok finish) = Ok (end_of finish)
+ended (Err fault) = Err fault
 
 -- the way's end where the line has this end
 abbrev pub end_of_line : LineEnd → WayEnd

@@ -1,14 +1,15 @@
 //! The reply of the opponent: the first line of the input that says a legal move.
-ghost use Rattle.std.specs.Prelude.{◌≡◌, ◌<◌, codes, length, true, IfOk};
+ghost use Rattle.std.specs.Prelude.{◌≡◌, ◌<◌, codes, length, true, false, IfOk};
 ghost use Rattle.frz_store.specs.Outside.{HasCause};
 ghost use Rattle.frz_store.specs.Told.{source_of, sink_of};
 ghost use Rattle.frz_answer.specs.Texts.{WroteText};
 ghost use Rattle.frz_ways.specs.Hearing.{HasEnded, HearsLine, Hears, IsThere, after_line, no_line};
 ghost use Rattle.frz_ways.specs.SessionFaults.{InputCause};
+ghost use Rattle.frz_ways.specs.declared.session_end.TheConstants.{MOST_LINES};
 
 use crate::input_line::{LineBytes, NextLine, read_line};
 use crate::naming::place_of;
-use crate::session_end::{PlayFault, PlayLimit};
+use crate::session_end::{MOST_LINES, PlayFault, PlayLimit};
 use frz_answer::write_piece;
 use frz_graph::NextList;
 use frz_store::{Failed, Sink, Source};
@@ -34,6 +35,19 @@ pub enum Heard {
 pub struct Reader {
     pub more: u32,
     pub ended: bool,
+}
+
+impl Reader {
+    /// A reader that has read nothing yet.
+    pub fn new() -> Reader
+        ensures more { result.more ≡ MOST_LINES }
+        ensures ended { result.ended ≡ false }
+    {
+        Reader {
+            more: MOST_LINES,
+            ended: false,
+        }
+    }
 }
 
 fn write_refused<O: Sink>(out: &mut O) -> Result<(), Failed>

@@ -1,4 +1,5 @@
-//! The laws, of lines and of sessions.
+//! The laws, of lines and of sessions, and of all ways.
 
 pub mod lines;
 pub mod sessions;
+pub mod ways;

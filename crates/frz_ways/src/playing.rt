@@ -21,10 +21,11 @@ use crate::session_end::PlayFault;
 use crate::texts::write_moved;
 use crate::way_end::WayEnd;
 use frz_answer::write_piece;
-use frz_board::Colour;
+use frz_board::{Colour, Move};
 use frz_game::Wrong;
 use frz_graph::{Lists, Next};
 use frz_prelude::write_kept_line;
+use frz_sets::Value;
 use frz_store::{Failed, Sink, Source};
 
 /// Where a way has come to: a number, the code that the table file keeps for the side there, and
@@ -40,6 +41,8 @@ pub struct Cursor {
 #[derive(Clone, Copy)]
 pub enum Turn {
     Over(WayEnd),
+    /// A move left the set, to a position with this value.
+    Out(Move, Value),
     /// At this number, with the code that was read for it.
     On(u32, u32),
 }
@@ -76,12 +79,12 @@ fn answered(turn: Turn, written: Result<(), Failed>) -> Result<Turn, PlayFault>
     }
 }
 
-fn turn_to(next: Next, code: u32) -> Turn
-    ensures { result ≡ turn_of next code }
+fn turn_to(mv: Move, next: Next, code: u32) -> Turn
+    ensures { result ≡ turn_of mv next code }
 {
     match next {
         Next::Inside(number) => Turn::On(number, code),
-        Next::Outside(value) => Turn::Over(WayEnd::Exit(value)),
+        Next::Outside(value) => Turn::Out(mv, value),
     }
 }
 
@@ -99,7 +102,7 @@ fn play_at<O: Sink>(
 {
     let arm = lists.nexts[place];
     answered(
-        turn_to(arm.next, lists.codes[place]),
+        turn_to(arm.mv, arm.next, lists.codes[place]),
         write_moved(word, arm, out),
     )
 }

@@ -15,10 +15,11 @@ ghost use Rattle.frz_ways.specs.PlayWay.{TellsWay};
 ghost use Rattle.frz_ways.specs.WayEnds.{IsAnswerOf};
 
 use crate::end::LineFault;
+use crate::hearing::Reader;
 use crate::opponent::Player;
 use crate::session_end::PlayFault;
 use crate::way::play_way;
-use crate::way_end::WayEnd;
+use crate::way_end::{WayEnd, end_answer};
 use frz_arena::laws::sessions::sides_move_in_turn;
 use frz_board::{Move, Position};
 use frz_exits::RuleBook;
@@ -83,5 +84,18 @@ pub fn play_from<S: Store, I: Source, O: Sink, L: Ledger>(
         book: &book,
     };
     let code = table.entry(store, player.side, start)?;
-    play_way(&game, table, store, player, start, code, input, out, steps)
+    let mut reader = Reader::new();
+    let finish = play_way(
+        &game,
+        table,
+        store,
+        player,
+        start,
+        code,
+        &mut reader,
+        input,
+        out,
+        steps,
+    );
+    end_answer(finish)
 }

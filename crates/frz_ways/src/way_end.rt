@@ -1,10 +1,11 @@
 //! How a way ends, and how its answer becomes that of a line or of a session.
 ghost use Rattle.std.specs.Prelude.{◌≡◌};
 ghost use Rattle.frz_ways.specs.declared.opponent.Opponent.TheVariants as opponents;
-ghost use Rattle.frz_ways.specs.WayEnds.{IsAnswerOf, of_line, of_session};
+ghost use Rattle.frz_ways.specs.WayEnds.{IsAnswerOf, ended, of_line, of_session};
 
 use crate::end::{LineEnd, LineFault};
 use crate::session_end::{PlayFault, SessionEnd};
+use frz_board::Move;
 use frz_sets::Value;
 
 /// How a way ends, whether it is a line or a session.
@@ -18,6 +19,25 @@ pub enum WayEnd {
     Cut,
     /// Only in a session: the opponent was to move, and the input had no byte left.
     InputEnded,
+}
+
+/// How a way finished: with an end within its set, or out of it.
+#[derive(Clone, Copy)]
+pub enum Finish {
+    /// Any end but an exit.
+    Here(WayEnd),
+    /// From this number, by this move, to a position with this value.
+    Left(u32, Move, Value),
+}
+
+/// The end of a way, wherever it finished.
+pub fn end_answer(finish: Result<Finish, PlayFault>) -> Result<WayEnd, PlayFault>
+    ensures { result ≡ ended finish }
+{
+    match finish? {
+        Finish::Here(end) => Ok(end),
+        Finish::Left(_, _, value) => Ok(WayEnd::Exit(value)),
+    }
 }
 
 /// What a line answers where its way answers this.

@@ -33,7 +33,7 @@ use frz_sets::Value as ExitValue;
 use std::marker::Model;
 
 /// Stands for what is left of an input.
-struct LeftInput;
+pub(crate) struct LeftInput;
 
 impl Model for LeftInput {
     ghost use Rattle.std.specs.Prelude.{[]};
@@ -45,7 +45,7 @@ impl Model for LeftInput {
 }
 
 /// Stands for why an input gives no reply.
-struct HaltedInput;
+pub(crate) struct HaltedInput;
 
 impl Model for HaltedInput {
     ghost use Rattle.frz_ways.specs.declared.hearing.Why.TheVariants.{Ended};

@@ -1,15 +1,13 @@
 use Rattle.std.proofs.Common.{inl, inr, refl, subst, ◌∙◌, arith}
-use Rattle.frz_store.specs.Told.{store_of, source_of, sink_of}
+use Rattle.frz_store.specs.Told.{source_of, sink_of}
 use Rattle.frz_answer.specs.World.{spent_by}
 use Rattle.frz_table.proofs.Lemmas.{fine_after, quiet_after}
 use Rattle.frz_ways.specs.declared.playing.Turn.{Turn}
 use Rattle.frz_ways.specs.declared.playing.Turn.TheVariants.{On}
-use Rattle.frz_ways.specs.Kept.{told_codes}
 use Rattle.frz_ways.specs.Turns.{TurnsTo}
 use Rattle.frz_ways.proofs.Counting.{few_at_start, few_on, left_on, quiet_here}
 use Rattle.frz_ways.proofs.Kept.{may_before}
-use Rattle.frz_table.specs.Tables.{table_size}
-use Rattle.frz_ways.proofs.Played.{at_start, next_far, over_far, fault_far}
+use Rattle.frz_ways.proofs.Played.{at_start, next_far, out_far, over_far, fault_far}
 use Rattle.frz_ways.proofs.Spending.{at_one}
 use Rattle.frz_ways.proofs.way.play_way.Goals as goal
 
@@ -17,17 +15,19 @@ pub plies-init : goal.plies-init
 plies-init g c = record {
   inside = c.requires.inside;
   stands = inl refl;
-  ended = λ e. absurd (cc);
+  ended = c.requires.ended;
   few = few_at_start c.args.player.opponent (g.G.NumberedGame.arena c.args.game.now)
-      c.args.player.side c.args.start c.args.code c.ranges.code.fits;
-  far = at_start (told_codes c.args.table.now c.args.player.side
-      (g.S.Store.files c.args.store.now)) (table_size c.args.table.now)
+      c.args.player.side c.args.start c.args.code c.args.reader.now c.ranges.code.fits
+      c.requires.few;
+  no_more = omega arith;
+  far = at_start (g.T.KeptCodes.known c.args.table.now (g.T.KeptCodes.told c.args.store.now).files
+      c.args.player.side) (g.T.KeptCodes.size c.args.table.now)
       (g.G.NumberedGame.arena c.args.game.now) c.args.player.opponent c.args.player.side
-      c.args.start c.args.code
+      c.args.start c.args.code c.args.reader.now
       (source_of g.I.Source c.args.input.now) (sink_of g.O.Sink c.args.out.now)
-      (spent_by (store_of g.S.Store c.args.store.now) c.args.steps.now);
+      (spent_by (g.T.KeptCodes.told c.args.store.now) c.args.steps.now);
   unread = λ by. refl;
-  quiet = quiet_here (store_of g.S.Store c.args.store.now);
+  quiet = quiet_here (g.T.KeptCodes.told c.args.store.now);
   fine = record { faults = refl; wants = refl };
   heard = refl;
   later = omega arith;
@@ -40,10 +40,10 @@ returns-in_err-end-clause-wrote g c =
     let w = e.wrote in
     fault_far c.turn.new.reader _ c.plies.invariant.far
     (at_one arena c.plies.cursor.number e.asked e.calls e.step) w.0 w.1 w.2 w.4 w.5
-    c.in_err-end.field-0.0 c.from_residual.result c.from_residual.ensures.1 e.still_ended w.3 (
+    c.in_err-end.field-0.0 c.from_residual.result c.from_residual.ensures.1 w.3 (
       w.6.0,
-      may_before c.args.table.now c.args.player.side (table_size c.args.table.now) w.6.0
-          c.plies.invariant.quiet.unwritten.files w.6.1,
+      may_before (λ f. g.T.KeptCodes.known c.args.table.now f c.args.player.side)
+          (g.T.KeptCodes.size c.args.table.now) w.6.0 c.plies.invariant.quiet.unwritten.files w.6.1,
       w.6.2,
     )
 
@@ -53,11 +53,25 @@ returns-in-Over-clause-wrote g c =
     let e = c.in_ok-end.ensures in
     let w = e.wrote in
     over_far c.turn.new.reader _ c.plies.invariant.far
-    (at_one arena c.plies.cursor.number e.asked e.calls e.step) w.0 w.1 w.2 w.4 w.5 c.in-Over.is
-    e.still_ended w.3 (
+    (at_one arena c.plies.cursor.number e.asked e.calls e.step) w.0 w.1 w.2 w.4 w.5
+    c.in-Over.is w.3 (
       w.6.0,
-      may_before c.args.table.now c.args.player.side (table_size c.args.table.now) w.6.0
-          c.plies.invariant.quiet.unwritten.files w.6.1,
+      may_before (λ f. g.T.KeptCodes.known c.args.table.now f c.args.player.side)
+          (g.T.KeptCodes.size c.args.table.now) w.6.0 c.plies.invariant.quiet.unwritten.files w.6.1,
+      w.6.2,
+    )
+
+pub returns-in-Out-clause-wrote : goal.returns-in-Out-clause-wrote
+returns-in-Out-clause-wrote g c =
+    let arena = g.G.NumberedGame.arena c.args.game.now in
+    let e = c.in_ok-end.ensures in
+    let w = e.wrote in
+    out_far c.turn.new.reader _ c.plies.invariant.far
+    (at_one arena c.plies.cursor.number e.asked e.calls e.step) w.0 w.1 w.2 w.4 w.5
+    c.in-Out.is w.3 (
+      w.6.0,
+      may_before (λ f. g.T.KeptCodes.known c.args.table.now f c.args.player.side)
+          (g.T.KeptCodes.size c.args.table.now) w.6.0 c.plies.invariant.quiet.unwritten.files w.6.1,
       w.6.2,
     )
 
@@ -67,6 +81,7 @@ plies-preserved g c =
     let size = g.G.NumberedGame.count c.args.game.now in
     let opponent = c.args.player.opponent in
     let side = c.args.player.side in
+    let told = g.T.KeptCodes.told in
     let e = c.in_ok-end.ensures in
     let w = e.wrote in
     let to : TurnsTo arena size opponent side c.plies.cursor c.plies.reader c.turn.new.reader
@@ -79,19 +94,21 @@ plies-preserved g c =
       ended = e.still_ended;
       few = few_on arena side c.plies.cursor c.plies.reader c.turn.new.reader c.in-On.number
           c.in-On.code opponent to.2 c.plies.invariant.few;
+      no_more = (let a = c.plies.invariant.no_more in let b = e.no_more in omega (arith, a, b));
       far = next_far c.turn.new.reader _ c.plies.invariant.far
           (at_one arena c.plies.cursor.number e.asked e.calls e.step) w.0 w.1 w.2 w.4 w.5 c.in-On.is
           w.3 (
             w.6.0,
-            may_before c.args.table.now side (table_size c.args.table.now) w.6.0
-                c.plies.invariant.quiet.unwritten.files w.6.1,
+            may_before (λ f. g.T.KeptCodes.known c.args.table.now f side)
+                (g.T.KeptCodes.size c.args.table.now) w.6.0 c.plies.invariant.quiet.unwritten.files
+                w.6.1,
             w.6.2,
           );
       unread = λ by. e.unread by ∙ c.plies.invariant.unread by;
-      quiet = quiet_after (store_of g.S.Store c.args.store.now) (store_of g.S.Store c.plies.store)
-          (store_of g.S.Store c.turn.new.store) c.plies.invariant.quiet e.quiet;
-      fine = fine_after (store_of g.S.Store c.args.store.now) (store_of g.S.Store c.plies.store)
-          (store_of g.S.Store c.turn.new.store) c.plies.invariant.fine e.cause;
+      quiet = quiet_after (told c.args.store.now) (told c.plies.store) (told c.turn.new.store)
+          c.plies.invariant.quiet e.quiet;
+      fine = fine_after (told c.args.store.now) (told c.plies.store) (told c.turn.new.store)
+          c.plies.invariant.fine e.cause;
       heard = e.input ∙ c.plies.invariant.heard;
       later = (let a = c.plies.invariant.later in let b = e.later in omega (arith, a, b));
     }

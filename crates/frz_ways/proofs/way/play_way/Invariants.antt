@@ -1,10 +1,8 @@
 use Rattle.std.proofs.Common.{◌≡◌, ◌≤◌, ◌<◌, ◌⊎◌, true, false}
-use Rattle.frz_store.specs.Told.{store_of, source_of, sink_of, StoreQuiet, StoreFine}
+use Rattle.frz_store.specs.Told.{source_of, sink_of, StoreQuiet, StoreFine}
 use Rattle.frz_arena.specs.Codes.{is_failure}
 use Rattle.frz_answer.specs.World.{spent_by}
-use Rattle.frz_table.specs.Tables.{table_size}
 use Rattle.frz_ways.specs.declared.opponent.Opponent.TheVariants as opponents
-use Rattle.frz_ways.specs.Kept.{told_codes}
 use Rattle.frz_ways.specs.Hearing.{HasEnded}
 use Rattle.frz_ways.proofs.Counting.{HasFew, way_left}
 use Rattle.frz_ways.proofs.Played.{SoFar}
@@ -16,16 +14,17 @@ invariant-plies g l = record {
   stands : (l.cursor.played ≡ 0) ⊎ (is_failure l.cursor.code ≡ false);
   ended : l.reader.ended ≡ true → HasEnded (source_of g.I.Source l.input);
   few : HasFew l.player.opponent (g.G.NumberedGame.arena l.game) l.player.side l.reader l.cursor;
-  far : SoFar (told_codes l.table l.player.side (g.S.Store.files l.initial.store))
-      (table_size l.table)
-      (g.G.NumberedGame.arena l.game) l.player.opponent l.player.side l.start l.code l.cursor l.reader
-      (source_of g.I.Source l.initial.input) (source_of g.I.Source l.input)
+  no_more : l.reader.more ≤ l.initial.reader.more;
+  far : SoFar (g.T.KeptCodes.known l.table (g.T.KeptCodes.told l.initial.store).files
+      l.player.side) (g.T.KeptCodes.size l.table)
+      (g.G.NumberedGame.arena l.game) l.player.opponent l.player.side l.start l.code l.initial.reader
+      l.cursor l.reader (source_of g.I.Source l.initial.input) (source_of g.I.Source l.input)
       (sink_of g.O.Sink l.initial.out) (sink_of g.O.Sink l.out)
-      (spent_by (store_of g.S.Store l.initial.store) l.initial.steps)
-      (spent_by (store_of g.S.Store l.store) l.steps);
+      (spent_by (g.T.KeptCodes.told l.initial.store) l.initial.steps)
+      (spent_by (g.T.KeptCodes.told l.store) l.steps);
   unread : l.player.opponent ≡ opponents.Codes → l.input ≡ l.initial.input;
-  quiet : StoreQuiet (store_of g.S.Store l.initial.store) (store_of g.S.Store l.store);
-  fine : StoreFine (store_of g.S.Store l.initial.store) (store_of g.S.Store l.store);
+  quiet : StoreQuiet (g.T.KeptCodes.told l.initial.store) (g.T.KeptCodes.told l.store);
+  fine : StoreFine (g.T.KeptCodes.told l.initial.store) (g.T.KeptCodes.told l.store);
   heard : g.I.Source.faults l.input ≡ g.I.Source.faults l.initial.input;
   later : l.initial.steps ≤ l.steps;
 }

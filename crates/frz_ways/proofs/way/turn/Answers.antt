@@ -1,136 +1,100 @@
-use Rattle.std.proofs.Common.{◌≡◌, ℕ, List, map, sym, subst}
-use Rattle.std.specs.Prelude.{⊤}
 use Rattle.frz_arena.proofs.Lemmas.{one_chosen}
-use Rattle.frz_graph.specs.EntryCodes.{arm_code}
-use Rattle.frz_table.specs.Tables.{table_size}
 use Rattle.frz_ways.specs.Turns.{late_by}
-use Rattle.frz_ways.proofs.Gathered.{any_read}
 use Rattle.frz_ways.proofs.PlyDues.{has_move}
-use Rattle.frz_store.specs.Told.{store_of, source_of, sink_of}
-use Rattle.frz_ways.specs.Kept.{told_codes}
-use Rattle.frz_ways.proofs.Settled.{played_kind, played_settled, settled_cause, settled_placed, still_ended, store_kind}
-use Rattle.frz_ways.proofs.Turning.{by_late, cut_is_line, turn_next}
+use Rattle.frz_store.specs.Told.{source_of, sink_of}
+use Rattle.frz_ways.proofs.Settled.{played_kind, played_settled, settled_cause, settled_placed, still_ended, still_no_more, store_kind}
+use Rattle.frz_ways.proofs.Turning.{cut_is_line, turn_next}
 use Rattle.frz_ways.proofs.Written.{stopped_by, opening_wrote, turn_wrote}
 use Rattle.frz_ways.proofs.way.turn.Goals as goal
 
 pub returns-in_err-due-clause-wrote : goal.returns-in_err-due-clause-wrote
 returns-in_err-due-clause-wrote g c =
-    let known = told_codes c.args.table.now c.args.player.side (g.S.Store.files c.args.store.now) in
-    let any = any_read known (table_size c.args.table.now) in
-    let h = stopped_by (λ codes. ⊤)
+    stopped_by (g.T.KeptCodes.known c.args.table.now (g.T.KeptCodes.told c.args.store.now).files
+    c.args.player.side) (g.T.KeptCodes.size c.args.table.now)
     (g.G.NumberedGame.arena c.args.game.now) c.args.player.opponent c.args.player.side c.args.cursor
-    c.args.reader.now
-    c.in_err-due.field-0.0 c.from_residual.result (source_of g.I.Source c.args.input.now)
-    (sink_of g.O.Sink c.args.out.now) c.from_residual.ensures.1 in
-    (h.0, h.1, h.2, h.3, h.4, h.5, (any.0, any.1, λ codes same. h.6 codes tt))
+    c.args.reader.now c.in_err-due.field-0.0 c.from_residual.result
+    (source_of g.I.Source c.args.input.now) (sink_of g.O.Sink c.args.out.now)
+    c.from_residual.ensures.1
 
 pub returns-in_err-write_opening-clause-wrote : goal.returns-in_err-write_opening-clause-wrote
 returns-in_err-write_opening-clause-wrote g c =
-    let read = c.in_ok-due.ensures.codes in
-    let cs = c.inspect.new.lists.codes.items in
-    let arms = c.inspect.new.lists.nexts.items in
-    let h = opening_wrote one_chosen c.filled.ensures
+    opening_wrote one_chosen c.filled.ensures
     (g.met.G.NumberedGame.finite c.args.game.now c.requires.sound) c.args.player.opponent
-    c.args.player.side c.args.cursor cs c.in_ok-due.ensures.arms c.in_ok-due.due
-    (by_late (g.G.NumberedGame.arena c.args.game.now) c.args.player.opponent c.args.player.side
-    c.args.cursor c.inspect.new.lists.nexts.items c.inspect.new.lists.codes.items c.is_late.result
-    c.in_ok-due.due c.is_late.ensures c.in_ok-due.ensures.due) c.args.reader.now
+    c.args.player.side c.args.cursor c.inspect.new.lists.codes.items c.in_ok-due.ensures.arms
+    (g.T.KeptCodes.known c.args.table.now (g.T.KeptCodes.told c.args.store.now).files
+    c.args.player.side) (g.T.KeptCodes.size c.args.table.now)
+    c.in_ok-due.ensures.codes c.in_ok-due.due c.in_ok-due.ensures.due c.args.reader.now
     c.from_residual-in_err-write_opening.result
     (source_of g.I.Source c.args.input.now) (sink_of g.O.Sink c.args.out.now)
     (sink_of g.O.Sink c.write_opening.new.out) c.from_residual-in_err-write_opening.ensures.1
-    c.in_err-write_opening.ensures.failed in (
-      h.0,
-      h.1,
-      h.2,
-      h.3,
-      h.4,
-      h.5,
-      (
-        read.0,
-        read.1,
-        λ codes same. h.6 codes
-            (subst (λ (z : List ℕ). cs ≡ map (arm_code c.args.player.side z) arms) (sym same)
-            read.2),
-      ),
-    )
+    c.in_err-write_opening.ensures.failed
 
 pub play-requires-clause-there : goal.play-requires-clause-there
 play-requires-clause-there g c =
     has_move (g.met.G.NumberedGame.finite c.args.game.now c.requires.sound) c.args.player.side
     c.args.cursor c.inspect.new.lists.codes.items c.in_ok-due.ensures.arms c.in_ok-due.ensures.read
     c.requires.stands (late_by c.args.player.opponent c.args.cursor.played) c.in_ok-due.due
-    (by_late (g.G.NumberedGame.arena c.args.game.now) c.args.player.opponent c.args.player.side
-    c.args.cursor c.inspect.new.lists.nexts.items c.inspect.new.lists.codes.items c.is_late.result
-    c.in_ok-due.due c.is_late.ensures c.in_ok-due.ensures.due)
+    c.in_ok-due.ensures.due
 
 pub returns-clause-next : goal.returns-clause-next
 returns-clause-next g c =
     turn_next (g.met.G.NumberedGame.finite c.args.game.now c.requires.sound) c.args.player.opponent
     c.args.player.side c.args.cursor c.inspect.new.lists.codes.items c.in_ok-due.ensures.arms
     c.in_ok-due.ensures.read c.requires.stands c.requires.turns c.in_ok-due.due
-    (by_late (g.G.NumberedGame.arena c.args.game.now) c.args.player.opponent c.args.player.side
-    c.args.cursor c.inspect.new.lists.nexts.items c.inspect.new.lists.codes.items c.is_late.result
-    c.in_ok-due.due c.is_late.ensures c.in_ok-due.ensures.due) c.args.reader.now
+    c.in_ok-due.ensures.due c.args.reader.now
     c.play.new.reader c.play.result (source_of g.I.Source c.args.input.now)
-    (source_of g.I.Source c.play.new.input) (sink_of g.O.Sink c.write_opening.new.out)
-    (sink_of g.O.Sink c.play.new.out) c.play.ensures.played
+    (source_of g.I.Source c.play.new.input) (sink_of g.O.Sink c.write_opening.new.out) (sink_of g.O.Sink c.play.new.out)
+    c.play.ensures.played
 
 pub returns-clause-wrote : goal.returns-clause-wrote
 returns-clause-wrote g c =
-    let read = c.in_ok-due.ensures.codes in
-    let cs = c.inspect.new.lists.codes.items in
-    let arms = c.inspect.new.lists.nexts.items in
-    let h = turn_wrote one_chosen c.filled.ensures
+    turn_wrote one_chosen c.filled.ensures
     (g.met.G.NumberedGame.finite c.args.game.now c.requires.sound) c.args.player.opponent
-    c.args.player.side c.args.cursor cs c.in_ok-due.ensures.arms c.in_ok-due.due
-    (by_late (g.G.NumberedGame.arena c.args.game.now) c.args.player.opponent c.args.player.side
-    c.args.cursor c.inspect.new.lists.nexts.items c.inspect.new.lists.codes.items c.is_late.result
-    c.in_ok-due.due c.is_late.ensures c.in_ok-due.ensures.due) c.args.reader.now c.play.new.reader
+    c.args.player.side c.args.cursor c.inspect.new.lists.codes.items c.in_ok-due.ensures.arms
+    (g.T.KeptCodes.known c.args.table.now (g.T.KeptCodes.told c.args.store.now).files
+    c.args.player.side) (g.T.KeptCodes.size c.args.table.now)
+    c.in_ok-due.ensures.codes c.in_ok-due.due c.in_ok-due.ensures.due c.args.reader.now
+    c.play.new.reader
     c.play.result (source_of g.I.Source c.args.input.now) (source_of g.I.Source c.play.new.input)
     (sink_of g.O.Sink c.args.out.now) (sink_of g.O.Sink c.write_opening.new.out)
-    (sink_of g.O.Sink c.play.new.out) c.in_ok-write_opening.ensures.ok c.play.ensures.played in (
-      h.0,
-      h.1,
-      h.2,
-      h.3,
-      h.4,
-      h.5,
-      (
-        read.0,
-        read.1,
-        λ codes same. h.6 codes
-            (subst (λ (z : List ℕ). cs ≡ map (arm_code c.args.player.side z) arms) (sym same)
-            read.2),
-      ),
-    )
+    (sink_of g.O.Sink c.play.new.out) c.in_ok-write_opening.ensures.ok c.play.ensures.played
 
 pub returns-clause-still_ended : goal.returns-clause-still_ended
 returns-clause-still_ended g c =
-    still_ended c.args.player.opponent c.args.player.side c.args.cursor c.inspect.new.lists.nexts.items
-    c.inspect.new.lists.codes.items
-    c.args.reader.now c.play.new.reader c.play.result (source_of g.I.Source c.args.input.now)
+    still_ended c.args.player.opponent c.args.player.side c.args.cursor
+    c.inspect.new.lists.nexts.items c.inspect.new.lists.codes.items c.args.reader.now
+    c.play.new.reader c.play.result (source_of g.I.Source c.args.input.now)
     (source_of g.I.Source c.play.new.input) c.in_ok-due.due
     (sink_of g.O.Sink c.write_opening.new.out) (sink_of g.O.Sink c.play.new.out)
     c.play.ensures.played c.requires.ended
+
+pub returns-clause-no_more : goal.returns-clause-no_more
+returns-clause-no_more g c =
+    still_no_more c.args.player.opponent c.args.player.side c.args.cursor
+    c.inspect.new.lists.nexts.items c.inspect.new.lists.codes.items c.args.reader.now
+    c.play.new.reader c.play.result (source_of g.I.Source c.args.input.now)
+    (source_of g.I.Source c.play.new.input) c.in_ok-due.due
+    (sink_of g.O.Sink c.write_opening.new.out) (sink_of g.O.Sink c.play.new.out)
+    c.play.ensures.played
 
 pub returns-clause-placed : goal.returns-clause-placed
 returns-clause-placed g c =
     settled_placed c.play.result
     (played_settled c.args.player.opponent c.args.player.side c.args.cursor
-    c.inspect.new.lists.nexts.items
-    c.inspect.new.lists.codes.items c.args.reader.now c.play.new.reader c.play.result
-    (source_of g.I.Source c.args.input.now) (source_of g.I.Source c.play.new.input) c.in_ok-due.due
+    c.inspect.new.lists.nexts.items c.inspect.new.lists.codes.items c.args.reader.now
+    c.play.new.reader c.play.result (source_of g.I.Source c.args.input.now)
+    (source_of g.I.Source c.play.new.input) c.in_ok-due.due
     (sink_of g.O.Sink c.write_opening.new.out) (sink_of g.O.Sink c.play.new.out)
     c.play.ensures.played)
 
 pub returns-clause-cause : goal.returns-clause-cause
 returns-clause-cause g c =
-    settled_cause c.play.result (store_of g.S.Store c.args.store.now)
-    (store_of g.S.Store c.inspect.new.store)
+    settled_cause c.play.result (g.T.KeptCodes.told c.args.store.now)
+    (g.T.KeptCodes.told c.inspect.new.store)
     (played_settled c.args.player.opponent c.args.player.side c.args.cursor
-    c.inspect.new.lists.nexts.items
-    c.inspect.new.lists.codes.items c.args.reader.now c.play.new.reader c.play.result
-    (source_of g.I.Source c.args.input.now) (source_of g.I.Source c.play.new.input) c.in_ok-due.due
+    c.inspect.new.lists.nexts.items c.inspect.new.lists.codes.items c.args.reader.now
+    c.play.new.reader c.play.result (source_of g.I.Source c.args.input.now)
+    (source_of g.I.Source c.play.new.input) c.in_ok-due.due
     (sink_of g.O.Sink c.write_opening.new.out) (sink_of g.O.Sink c.play.new.out)
     c.play.ensures.played)
     (record {
@@ -156,8 +120,6 @@ returns-clause-kind g c =
     (cut_is_line (g.met.G.NumberedGame.finite c.args.game.now c.requires.sound)
     c.args.player.opponent c.args.player.side c.args.cursor c.inspect.new.lists.codes.items
     c.in_ok-due.ensures.arms c.in_ok-due.ensures.read c.requires.stands c.in_ok-due.due
-    (by_late (g.G.NumberedGame.arena c.args.game.now) c.args.player.opponent c.args.player.side
-    c.args.cursor c.inspect.new.lists.nexts.items c.inspect.new.lists.codes.items c.is_late.result
-    c.in_ok-due.due c.is_late.ensures c.in_ok-due.ensures.due))
+    c.in_ok-due.ensures.due)
     (sink_of g.O.Sink c.write_opening.new.out) (sink_of g.O.Sink c.play.new.out)
     c.play.ensures.played
