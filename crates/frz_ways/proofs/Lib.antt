@@ -1,4 +1,3 @@
-pub mod Lemmas
 mod Choices
 mod Stages
 mod Chosen
