@@ -24,8 +24,8 @@ most_backs=16
 find_names_of_atlas() {
     case "${1-}" in
         build) [ $# -lt 4 ] || [ $# -gt $((3 + most_backs)) ] || mapfile -t reads < <(echo 1 && seq 3 $(($# - 1))) ;;
-        check) [ $# -lt 3 ] || [ $# -gt $((2 + most_backs)) ] || mapfile -t reads < <(seq 1 $(($# - 1))) ;;
-        query) [ $# -ne 3 ] || reads=(1) ;;
+        check | report) [ $# -lt 3 ] || [ $# -gt $((2 + most_backs)) ] || mapfile -t reads < <(seq 1 $(($# - 1))) ;;
+        query | each) [ $# -ne 3 ] || reads=(1) ;;
         size) [ $# -ne 2 ] || reads=(1) ;;
     esac
     [ "${1-}" != build ] || [ "${#reads[@]}" -eq 0 ] || makes=2

@@ -3,9 +3,9 @@ use Rattle.std.proofs.Common.{ℕ, List, Option, Some, None}
 use Rattle.frz_answer.specs.declared.words.Refusal.TheVariants.{NoCommand}
 use Rattle.frz_answer.specs.Lawful.{IsLawful}
 use Rattle.frz_answer.proofs.Lemmas.{refused_lawful}
-use Rattle.frz_commands_atlas.proofs.Lemmas.{build_lawful, check_lawful, size_lawful}
+use Rattle.frz_commands_atlas.proofs.Lemmas.{build_lawful, check_lawful, each_lawful, report_lawful, size_lawful}
 use Rattle.atlas.specs.declared.verb.Verb.{Verb}
-use Rattle.atlas.specs.declared.verb.Verb.TheVariants.{Build, Check, Query, Size}
+use Rattle.atlas.specs.declared.verb.Verb.TheVariants.{Build, Check, Query, Each, Report, Size}
 use Rattle.atlas.specs.Verbs.{command_of}
 use Rattle.atlas.specs.Commands.{job_by, job_of}
 use Rattle.atlas.proofs.Queried.{query_lawful}
@@ -14,6 +14,8 @@ by_command : (command : Option (Verb × List (List ℕ))) → IsLawful (job_by c
 by_command (Some (Build, words)) = build_lawful words
 by_command (Some (Check, words)) = check_lawful words
 by_command (Some (Query, words)) = query_lawful words
+by_command (Some (Each, words)) = each_lawful words
+by_command (Some (Report, words)) = report_lawful words
 by_command (Some (Size, words)) = size_lawful words
 by_command None = refused_lawful NoCommand
 

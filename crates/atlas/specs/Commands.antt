@@ -7,9 +7,11 @@ use Rattle.frz_answer.specs.Words.{refusing}
 use Rattle.frz_commands_ask.specs.Querying.{querying_words}
 use Rattle.frz_commands_atlas.specs.Building.{build_words}
 use Rattle.frz_commands_atlas.specs.CheckMeans.{check_words}
+use Rattle.frz_commands_atlas.specs.EachMeans.{each_words}
+use Rattle.frz_commands_atlas.specs.Reporting.{report_words}
 use Rattle.frz_commands_atlas.specs.Sizing.{size_words}
 use Rattle.atlas.specs.declared.verb.Verb.{Verb}
-use Rattle.atlas.specs.declared.verb.Verb.TheVariants.{Build, Check, Query, Size}
+use Rattle.atlas.specs.declared.verb.Verb.TheVariants.{Build, Check, Query, Each, Report, Size}
 use Rattle.atlas.specs.Verbs.{command_of}
 
 -- the job of a command and the words behind it
@@ -17,6 +19,8 @@ abbrev pub job_by : Option (Verb × List (List ℕ)) → Job
 job_by (Some (Build, words)) = build_words words
 job_by (Some (Check, words)) = check_words words
 job_by (Some (Query, words)) = querying_words Atlas words
+job_by (Some (Each, words)) = each_words words
+job_by (Some (Report, words)) = report_words words
 job_by (Some (Size, words)) = size_words words
 job_by None = refusing NoCommand
 

@@ -3,14 +3,16 @@ use Rattle.std.specs.Prelude.{ℕ, List, [], ◌∷◌, Option, Some, None, if�
 use Rattle.std.specs.Option.{option_map}
 use Rattle.std.specs.Str.{bytes_eq}
 use Rattle.atlas.specs.declared.verb.Verb.{Verb}
-use Rattle.atlas.specs.declared.verb.Verb.TheVariants.{Build, Check, Query, Size}
+use Rattle.atlas.specs.declared.verb.Verb.TheVariants.{Build, Check, Query, Each, Report, Size}
 
 abbrev pub verb_of : List ℕ → Option Verb
 verb_of word =
     if bytes_eq word (codes "build") then Some Build else
     (if bytes_eq word (codes "check") then Some Check else
     (if bytes_eq word (codes "query") then Some Query else
-    (if bytes_eq word (codes "size") then Some Size else None)))
+    (if bytes_eq word (codes "each") then Some Each else
+    (if bytes_eq word (codes "report") then Some Report else
+    (if bytes_eq word (codes "size") then Some Size else None)))))
 
 -- the command that the first word names, and the words behind it
 abbrev pub command_of : List (List ℕ) → Option (Verb × List (List ℕ))

@@ -9,7 +9,7 @@ ghost use Rattle.atlas.specs.Commands.{job_of};
 use crate::verb::{Verb, read_command};
 use frz_answer::{End, Refusal, finish, refuse};
 use frz_commands_ask::query_kind;
-use frz_commands_atlas::{run_build, run_check, run_size};
+use frz_commands_atlas::{run_build, run_check, run_each, run_report, run_size};
 use frz_prelude::tell;
 use frz_steps::Steps;
 use frz_store::{Sink, Source, Store};
@@ -38,6 +38,8 @@ fn run<S: Store, I: Source, O: Sink, L: Ledger>(
         Some((Verb::Build, rest)) => run_build(alloc, rest, store, out, steps),
         Some((Verb::Check, rest)) => run_check(alloc, rest, store, out, steps),
         Some((Verb::Query, rest)) => tell(query_kind(alloc, FileKind::Atlas, rest, store), out),
+        Some((Verb::Each, rest)) => run_each(alloc, rest, store, out, steps),
+        Some((Verb::Report, rest)) => run_report(alloc, rest, store, out, steps),
         Some((Verb::Size, rest)) => run_size(alloc, rest, store, out),
         None => refuse(Refusal::NoCommand, out),
     }

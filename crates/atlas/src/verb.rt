@@ -10,6 +10,8 @@ pub enum Verb {
     Build,
     Check,
     Query,
+    Each,
+    Report,
     Size,
 }
 
@@ -21,6 +23,8 @@ fn read_verb(word: &str) -> Option<Verb>
         "build" => Some(Verb::Build),
         "check" => Some(Verb::Check),
         "query" => Some(Verb::Query),
+        "each" => Some(Verb::Each),
+        "report" => Some(Verb::Report),
         "size" => Some(Verb::Size),
         _ => None,
     }

@@ -24,6 +24,20 @@ returns-in-Some-Query-default-clause-ran g c =
     ((c.query_kind.ensures.replies c.args.steps.now).ran
     (source_of g.I.Source c.args.input.now) _ _ _ c.tell.ensures)
 
+pub returns-in-Some-Each-default-clause-ran :
+    goal.returns-in-Some-Each-default-clause-ran
+returns-in-Some-Each-default-clause-ran g c =
+    as_command _ _ _ _ _ (rw c.in-Some-Each-default.field-0-0-is at
+    c.in-Some-Each-default.ensures)
+    (c.run_each.ensures.ran (source_of g.I.Source c.args.input.now))
+
+pub returns-in-Some-Report-default-clause-ran :
+    goal.returns-in-Some-Report-default-clause-ran
+returns-in-Some-Report-default-clause-ran g c =
+    as_command _ _ _ _ _ (rw c.in-Some-Report-default.field-0-0-is at
+    c.in-Some-Report-default.ensures)
+    (c.run_report.ensures.ran (source_of g.I.Source c.args.input.now))
+
 pub returns-in-Some-Size-default-clause-ran :
     goal.returns-in-Some-Size-default-clause-ran
 returns-in-Some-Size-default-clause-ran g c =
