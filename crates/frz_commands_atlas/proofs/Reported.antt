@@ -6,6 +6,7 @@ use Rattle.frz_board.specs.Boards.{Board}
 use Rattle.frz_board.specs.declared.man.Colour.{Colour}
 use Rattle.frz_board.specs.declared.man.Colour.TheVariants.{White, Black}
 use Rattle.frz_graph.specs.EntryCodes.{of_side}
+use Rattle.frz_sets.specs.Views.{RuleLines}
 use Rattle.frz_sets.specs.declared.exit.Value.{Value}
 use Rattle.frz_store.specs.Files.{Files}
 use Rattle.frz_store.specs.Told.{StoreTold, SourceTold, SinkTold, StoreQuiet}
@@ -54,6 +55,26 @@ use Rattle.frz_commands_atlas.proofs.ReportMeaning.{some_at}
 may_report : (table : List ℕ) (behind : List (List ℕ)) → MayReport (reporting_at table behind)
 may_report table behind =
     record { store = refl; memory = refl; speaks = refl; writes = refl; own = refl }
+
+-- by equal rules, equal tables and equal codes
+pub moved_report : (r s book : RuleLines) (a b : List Back)
+    (white black white_slice black_slice : List ℕ) (result : Result Totals ReportFault)
+    (out after : SinkTold) → r ≡ s → book ≡ s → a ≡ b → white_slice ≡ white → black_slice ≡ black
+    → WritesReport r (λ q. atlas_value book a q) (λ side. of_side side white_slice black_slice)
+    result out after
+    → WritesReport s (atlas_value s b) (λ side. of_side side white black) result out after
+moved_report r s book a b white black white_slice black_slice result out after rules books backs
+    white_is black_is h =
+    subst (λ (l : List ℕ). WritesReport s (atlas_value s b) (λ side. of_side side white l) result
+    out after) black_is
+    (subst (λ (l : List ℕ). WritesReport s (atlas_value s b)
+    (λ side. of_side side l black_slice) result out after) white_is
+    (subst (λ (l : List Back). WritesReport s (λ q. atlas_value s l q)
+    (λ side. of_side side white_slice black_slice) result out after) backs
+    (subst (λ (x : RuleLines). WritesReport s (λ q. atlas_value x a q)
+    (λ side. of_side side white_slice black_slice) result out after) books
+    (subst (λ (x : RuleLines). WritesReport x (λ q. atlas_value book a q)
+    (λ side. of_side side white_slice black_slice) result out after) rules h))))
 
 -- the answer by what the names hold
 module _ (table : List ℕ) (behind : List (List ℕ)) (files : Files) (held : Option (List ℕ))
