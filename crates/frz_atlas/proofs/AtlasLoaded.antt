@@ -1,6 +1,6 @@
 -- A table over several others that was loaded with them, or was not.
 use Rattle.std.proofs.Common.{◌≡◌, ap, subst, sym, ◌∙◌, ℕ, ◌+◌, ◌*◌, ◌≤◌, List, length, map, Option, Some, Ok, arith}
-use Rattle.frz_board.specs.declared.man.Colour.TheVariants.{White, Black}
+use Rattle.frz_board.specs.declared.man.Colour.TheVariants.{White}
 use Rattle.frz_rules.specs.Text.{rules_of}
 use Rattle.frz_sets.specs.Sets.{size_of}
 use Rattle.frz_store.specs.Files.{Files}

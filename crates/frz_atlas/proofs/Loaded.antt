@@ -1,6 +1,6 @@
 -- One table that was opened as its own kind and loaded, and one that was not.
 use Rattle.std.proofs.Common.{◌≡◌, sym, ap, ◌∙◌, ℕ, ◌+◌, ◌*◌, ◌≤◌, List, length, Bool, Some, Ok, IfSome, arith}
-use Rattle.frz_board.specs.declared.man.Colour.TheVariants.{White, Black}
+use Rattle.frz_board.specs.declared.man.Colour.TheVariants.{White}
 use Rattle.frz_rules.specs.Text.{rules_of}
 use Rattle.frz_sets.specs.Sets.{size_of}
 use Rattle.frz_store.specs.Bytes.{HoldsBytes}
@@ -15,7 +15,6 @@ use Rattle.frz_table.proofs.Lemmas.{belongs, held_bytes, outside_refuses}
 use Rattle.frz_check.specs.Kept.{kept_codes}
 use Rattle.frz_check.proofs.Lemmas.{file_opens}
 use Rattle.frz_chain.specs.Books.{back_with}
-use Rattle.frz_chain.specs.FileOn.{loaded_back}
 use Rattle.frz_chain.specs.declared.back.BackTable.{BackTable}
 use Rattle.frz_atlas.specs.Behind.{kind_by, kind_of}
 use Rattle.frz_atlas.specs.Loading.{LoadsOne, RefusesOne, WithinLoadingOne, opened_own}

@@ -1,7 +1,6 @@
 -- How `report` ends, and that it has one answer.
-use Rattle.std.proofs.Common.{◌≡◌, inl, inr, refl, sym, ap, subst, ◌∙◌, ℕ, ◌+◌, ◌*◌, ◌≤◌, List, [], ◌++◌, length, Option, Some, Result, Ok, Err, append-nil, arith}
+use Rattle.std.proofs.Common.{◌≡◌, inl, inr, refl, sym, ap, subst, ◌∙◌, ℕ, ◌+◌, ◌*◌, ◌≤◌, List, [], ◌++◌, length, Option, Some, Result, Ok, Err, arith}
 use Rattle.std.specs.Option.{unwrap_or}
-use Rattle.std.specs.Io.KnownBytes.{append_known}
 use Rattle.frz_exits.specs.Books.{value_by}
 use Rattle.frz_store.specs.Files.{Files}
 use Rattle.frz_store.specs.Outside.{Rose}
@@ -19,16 +18,14 @@ use Rattle.frz_check.proofs.Lemmas.{file_opens, within_file}
 use Rattle.frz_answer.specs.declared.status.Status.TheVariants.{Success}
 use Rattle.frz_answer.specs.declared.fault.Fault.{Fault}
 use Rattle.frz_answer.specs.declared.fault.Fault.TheVariants as stops
-use Rattle.frz_answer.specs.declared.end.End.{End}
-use Rattle.frz_answer.specs.declared.end.End.TheVariants.{Done, SinkFault, Stopped}
-use Rattle.frz_answer.specs.Answers.{says, SomeAnswer, IsLines, held}
-use Rattle.frz_answer.specs.Ends.{MayMeet, Ran, Said}
+use Rattle.frz_answer.specs.declared.end.End.TheVariants.{Stopped}
+use Rattle.frz_answer.specs.Answers.{SomeAnswer, held}
+use Rattle.frz_answer.specs.Ends.{MayMeet, Ran}
 use Rattle.frz_answer.specs.Jobs.{WithinCosts}
 use Rattle.frz_answer.specs.Lawful.{IsLawful}
-use Rattle.frz_answer.specs.Texts.{TookText}
 use Rattle.frz_answer.specs.Words.{one_word_of}
 use Rattle.frz_answer.specs.World.{World, world, Agrees, spent}
-use Rattle.frz_answer.proofs.Lemmas.{answered_over, drop_none, Begun, Found, SaysAll, failed_before, fine_store, one_answer, quiet_both, said, taking_lawful, took_nothing}
+use Rattle.frz_answer.proofs.Lemmas.{Begun, SaysAll, one_answer, taking_lawful}
 use Rattle.frz_prelude.specs.Refusals.{table_status}
 use Rattle.frz_prelude.specs.Stops.{stop_of_table}
 use Rattle.frz_prelude.specs.TableCauses.{table_line}

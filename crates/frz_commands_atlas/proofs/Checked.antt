@@ -19,7 +19,7 @@ use Rattle.frz_prelude.proofs.Lemmas.{found_where, table_own}
 use Rattle.frz_atlas.specs.Behind.{IsRefusedAt}
 use Rattle.frz_atlas.specs.Causes.{HasAtlasCause}
 use Rattle.frz_atlas.specs.Checking.{ChecksAtlas, IsRefusedAtlas, RefusesAtlas, WithinChecking}
-use Rattle.frz_atlas.specs.Held.{MayHoldAll, all_held}
+use Rattle.frz_atlas.specs.Held.{all_held}
 use Rattle.frz_atlas.specs.declared.checking.Checked.{Checked}
 use Rattle.frz_atlas.specs.declared.fault.AtlasFault.{AtlasFault}
 use Rattle.frz_atlas.specs.declared.fault.AtlasFault.TheVariants.{Rules, Table, Back, Failed, NoMemory}

@@ -2,7 +2,6 @@
 use Rattle.std.proofs.Common.{◌≡◌, refl, sym, ap, subst, ◌∙◌, ℕ, List, [], Option, Some, None, Result, Ok, Err}
 use Rattle.std.specs.Prelude.{map}
 use Rattle.std.specs.Option.{unwrap_or}
-use Rattle.frz_board.specs.Boards.{Board}
 use Rattle.frz_exits.specs.Books.{value_by}
 use Rattle.frz_game.specs.Values.{AreTrueExits}
 use Rattle.frz_store.specs.Files.{Files}
@@ -27,11 +26,8 @@ use Rattle.frz_answer.specs.Answers.{Answer, SomeAnswer, says}
 use Rattle.frz_answer.specs.Lawful.{IsLawful}
 use Rattle.frz_answer.specs.Words.{unless}
 use Rattle.frz_answer.proofs.Lemmas.{one_answer, taking_lawful, unless_lawful}
-use Rattle.frz_prelude.specs.Refusals.{table_status}
-use Rattle.frz_prelude.specs.TableCauses.{table_line}
 use Rattle.frz_prelude.specs.declared.refused.Refused.TheVariants as refusals
 use Rattle.frz_prelude.proofs.Lemmas.{by_table_status, refusal_said}
-use Rattle.frz_commands_atlas.specs.BackLines.{back_line}
 use Rattle.frz_commands_atlas.specs.Names.{has_twice, table_names_of}
 use Rattle.frz_commands_atlas.specs.Reporting.{MeansReport, MeansStatus, of_back, of_table, report_at, report_behind, report_by, report_words, reporting_at, value_behind}
 use Rattle.frz_commands_atlas.proofs.CheckOnce.{back_said, not_both}

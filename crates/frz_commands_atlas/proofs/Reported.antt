@@ -18,7 +18,7 @@ use Rattle.frz_check.specs.Kept.{kept_codes, opened_size}
 use Rattle.frz_chain.specs.Books.{Back}
 use Rattle.frz_chain.specs.FileOn.{loaded_back}
 use Rattle.frz_backs.specs.Values.{atlas_value}
-use Rattle.frz_atlas.specs.Behind.{TableBytes, backs_in}
+use Rattle.frz_atlas.specs.Behind.{TableBytes}
 use Rattle.frz_atlas.specs.Causes.{HasAtlasCause}
 use Rattle.frz_atlas.specs.Checking.{own_size}
 use Rattle.frz_atlas.specs.Held.{all_held}
@@ -37,7 +37,6 @@ use Rattle.frz_report.specs.Reports.{WritesReport}
 use Rattle.frz_report.proofs.Lemmas.{MayReport, loaded_cause, report_ended}
 use Rattle.frz_answer.specs.declared.end.End.{End}
 use Rattle.frz_answer.specs.declared.status.Status.TheVariants.{Success}
-use Rattle.frz_answer.specs.Answers.{Answer, says}
 use Rattle.frz_answer.specs.Ends.{Ran}
 use Rattle.frz_answer.specs.Jobs.{WithinCosts}
 use Rattle.frz_answer.specs.World.{World, world, Agrees, spent}
@@ -46,7 +45,7 @@ use Rattle.frz_prelude.proofs.Lemmas.{found_where, table_own}
 use Rattle.frz_commands_atlas.specs.declared.names.TheConstants.{MOST_BACKS}
 use Rattle.frz_commands_atlas.specs.Ending.{EndsAt, HasSmallPlace}
 use Rattle.frz_commands_atlas.specs.Names.{has_twice}
-use Rattle.frz_commands_atlas.specs.Reporting.{report_at, report_behind, report_by, report_costs, report_over, reporting_at, value_behind}
+use Rattle.frz_commands_atlas.specs.Reporting.{report_at, report_by, report_costs, report_over, reporting_at, value_behind}
 use Rattle.frz_commands_atlas.proofs.Ended.{AnswersAt, MayEndAt, ended_at}
 use Rattle.frz_commands_atlas.proofs.HeldNames.{as_many}
 use Rattle.frz_commands_atlas.proofs.HeldTable.{Holds, holds}

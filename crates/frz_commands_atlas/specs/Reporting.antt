@@ -1,5 +1,5 @@
 -- What `report TABLE BACK ..` is to do, and what its answers mean. No file changes.
-use Rattle.std.specs.Prelude.{◌≡◌, ℕ, List, [], ◌∷◌, map, slice_index, true, false, Option, Some, None, Result, Ok, Err}
+use Rattle.std.specs.Prelude.{◌≡◌, ℕ, List, [], ◌∷◌, map, slice_index, true, false, Option, Some, Result, Ok, Err}
 use Rattle.frz_board.specs.declared.man.Colour.{Colour}
 use Rattle.frz_board.specs.Boards.{Board}
 use Rattle.frz_sets.specs.declared.exit.Value.{Value}

@@ -8,8 +8,8 @@ use Rattle.frz_report.specs.declared.fault.ReportFault.{ReportFault}
 use Rattle.frz_report.specs.declared.fault.ReportFault.TheVariants as faults
 use Rattle.frz_report.specs.declared.fault.Totals.{Totals}
 
--- with the totals the command has done its work; a fault of the store or of memory stops it, and
--- nothing is said where the sink failed
+-- with the totals the command has done its work; a fault of the store or of memory stops it, and one
+-- of the sink ends it so
 abbrev pub end_by : Result Totals ReportFault → End
 end_by (Ok totals) = Done Success
 end_by (Err faults.Store) = Stopped stops.Store
