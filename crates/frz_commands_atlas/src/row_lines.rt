@@ -1,11 +1,12 @@
 //! The lines that tell what is behind each move.
-ghost use Rattle.std.specs.Prelude.{◌≡◌, ◌≤◌, ◌+◌, All, length, true};
+ghost use Rattle.std.specs.Prelude.{◌≡◌, ◌≤◌, ◌+◌, ◌++◌, All, codes, length, true};
 ghost use Rattle.frz_fide.specs.Legal.{is_legal};
 ghost use Rattle.frz_fide.specs.Listing.{legal_moves_of};
 ghost use Rattle.frz_fide.specs.Valid.{IsValid};
 ghost use Rattle.frz_san.specs.Notation.{san_of};
 ghost use Rattle.frz_store.specs.Told.{sink_of};
 ghost use Rattle.frz_answer.specs.Texts.{WroteText};
+ghost use Rattle.frz_ways.specs.Texts.{value_text};
 ghost use Rattle.frz_commands_atlas.specs.RowLines.{behind_text, each_text, freedom_text, reached_text, row_line, rows_text, both_words, side_words};
 
 use crate::rows::Row;
@@ -15,6 +16,7 @@ use frz_fide::{Ending, ending, legal_moves};
 use frz_graph::Next;
 use frz_prelude::{write_kept_words, write_side_name};
 use frz_san::san_among;
+use frz_sets::Value;
 use frz_steps::Steps;
 use frz_store::{Failed, Sink};
 use frz_ways::write_value;
@@ -38,20 +40,30 @@ fn write_both<O: Sink>(white: u32, black: u32, out: &mut O) -> Result<(), Failed
     write_side(Colour::Black, black, out)
 }
 
+fn write_bounds<O: Sink>(white: u32, black: u32, out: &mut O) -> Result<(), Failed>
+    ensures { WroteText (codes " " ++ both_words white black) result
+        (sink_of O.Sink out.old) (sink_of O.Sink out.new) }
+{
+    write_piece(b" ", out)?;
+    write_both(white, black, out)
+}
+
+fn write_exit<O: Sink>(value: Value, out: &mut O) -> Result<(), Failed>
+    ensures { WroteText (codes " exit " ++ value_text value) result
+        (sink_of O.Sink out.old) (sink_of O.Sink out.new) }
+{
+    write_piece(b" exit ", out)?;
+    write_value(value, out)
+}
+
 /// Writes the codes of both sides where the move stays in the set, and else the value of the exit.
 fn write_reached<O: Sink>(row: Row, out: &mut O) -> Result<(), Failed>
     ensures { WroteText (reached_text row.arm.next row.white row.black) result
         (sink_of O.Sink out.old) (sink_of O.Sink out.new) }
 {
     match row.arm.next {
-        Next::Inside(_) => {
-            write_piece(b" ", out)?;
-            write_both(row.white, row.black, out)
-        }
-        Next::Outside(value) => {
-            write_piece(b" exit ", out)?;
-            write_value(value, out)
-        }
+        Next::Inside(_) => write_bounds(row.white, row.black, out),
+        Next::Outside(value) => write_exit(value, out),
     }
 }
 
