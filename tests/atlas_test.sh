@@ -41,6 +41,7 @@ test_no_file_stands_twice_among_the_names_of_atlas() {
     refused_by_atlas build A table one ./A
     refused_by_atlas check one two link
     refused_by_atlas check one ./one
+    refused_by_atlas report one two link
     is "$(cat "$FAKE_LOG")" "" "checks: the program is not built for this"
 }
 
