@@ -1,6 +1,7 @@
 -- What the rows of a position tell: where each move leads, and the bounds there.
-use Rattle.std.proofs.Common.{◌≡◌, refl, sym, ap, subst, ◌∙◌, ℕ, List, [], ◌∷◌, ◌++◌, map, length, length-map, Bool, true, false, codes}
+use Rattle.std.proofs.Common.{◌≡◌, refl, sym, ap, subst, ◌∙◌, ℕ, List, [], ◌∷◌, ◌++◌, map, length, Bool, true, false, codes}
 use Rattle.std.specs.Prelude.{All, Contains, slice_index}
+use Rattle.std.proofs.lemmas.List.{length-map}
 use Rattle.std.proofs.lemmas.List.Elements.{All-contains_itself, All-map, All-weaker}
 use Rattle.std.proofs.lemmas.List.Sorted.{All-permutation, length_permutation}
 use Rattle.frz_board.specs.declared.man.Colour.{Colour}
@@ -130,7 +131,11 @@ module _ (value : Board → Value) (contents : Contents) (bytes : List ℕ) (p :
         inside = (stays_at contents.rules (value_by contents.rules) p m n e).0;
         white = white;
         black = black;
-        told = words_of_bounds _ _ white.bound black.bound
+        told = words_of_bounds
+            (arm_code White (kept_codes contents bytes White)
+            (arm_at contents.rules (value_by contents.rules) p m))
+            (arm_code Black (kept_codes contents bytes Black)
+            (arm_at contents.rules (value_by contents.rules) p m)) white.bound black.bound
             (ap kept_words white.is ∙ kept_bound white.bound)
             (ap kept_words black.is ∙ kept_bound black.bound);
       }

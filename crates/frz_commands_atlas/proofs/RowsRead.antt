@@ -1,6 +1,9 @@
 -- Which files give the rows that were read, or refuse as they were refused.
 use Rattle.std.proofs.Common.{◌≡◌, refl, sym, ap, subst, ◌∙◌, ℕ, ◌+◌, ◌*◌, ◌<◌, ◌≤◌, List, [], length, map, Bool, true, false, Option, Some, None, Result, Ok, Err, if◌then◌else◌, arith}
-use Rattle.std.specs.Prelude.{All, MatchBool, MatchResult}
+use Rattle.std.specs.Prelude.{All, IfErr, MatchBool, MatchResult}
+use Rattle.std.specs.Global.{Vec}
+use Rattle.std.specs.Option.{unwrap_or}
+use Rattle.std.specs.Result.{IsErr}
 use Rattle.frz_board.specs.declared.man.Colour.{Colour}
 use Rattle.frz_board.specs.declared.man.Colour.TheVariants.{White, Black}
 use Rattle.frz_board.specs.Boards.{Board}
@@ -38,8 +41,8 @@ use Rattle.frz_prelude.specs.declared.stop.Stop.{Stop}
 use Rattle.frz_prelude.specs.declared.stop.Stop.TheVariants.{Refused, Fault}
 use Rattle.frz_prelude.proofs.Lemmas.{holding}
 use Rattle.frz_commands_atlas.specs.declared.rows.Row.{Row}
-use Rattle.frz_commands_atlas.specs.Each.{AreRowsBy, AreRowsIn, AreRowsOf, AreRowsRead, GivesRows, ReadsIn, ReadsRows, each_bytes, each_calls, staying, staying_by, staying_in}
-use Rattle.frz_commands_atlas.specs.MoveRows.{arms_of, row_by, rows_in}
+use Rattle.frz_commands_atlas.specs.Each.{AreRowsBy, AreRowsIn, AreRowsOf, AreRowsRead, GivesRows, ReadsIn, ReadsRows, each_bytes, each_calls, rows_given, staying, staying_by, staying_in}
+use Rattle.frz_commands_atlas.specs.MoveRows.{IsFault, arms_of, row_by, rows_in}
 use Rattle.frz_commands_atlas.specs.Ranked.{IsRanked, rank_for}
 use Rattle.frz_commands_atlas.proofs.MovesBehind.{legal_rows, many_rows}
 use Rattle.frz_commands_atlas.proofs.ReadFile.{HoldsRead, holds_read}
@@ -121,8 +124,8 @@ refusal_due : (held : Option (List ℕ)) (p : Board) (fault : TableFault)
     → opened (table_format (kind_held held)) held ≡ Err fault
     → AreRowsOf held p (Err (refusals.Table fault))
 refusal_due held p fault e =
-    subst (λ (x : Result Contents TableFault). AreRowsBy x _ p (Err (refusals.Table fault))) (sym e)
-    refl
+    subst (λ (x : Result Contents TableFault).
+    AreRowsBy x (unwrap_or held []) p (Err (refusals.Table fault))) (sym e) refl
 
 fault_due : (held : Option (List ℕ)) (p : Board) (fault : TableFault)
     → Refuses (opened (table_format (kind_held held)) held) fault
@@ -146,16 +149,23 @@ refused_rows name p old new fault stop is may calls =
     (let asked = may.asked in omega (arith, asked)) (omega (arith, calls))
 
 -- a fault of opening stops the command with its cause
-pub file_stops : {T A : Type 0} (fault : TableFault) (old new : StoreTold)
-    → HasFileCause {T} (Err fault) old new → HasItsCause {A} (Err (stop_of_table fault)) old new
-file_stops Missing old new h = h
-file_stops Magic old new h = h
-file_stops (Truncated length due) old new h = h
-file_stops (Extra length due) old new h = h
-file_stops (Rules fault) old new h = h
-file_stops (Size kept due) old new h = h
-file_stops Failed old new h = h
-file_stops NoMemory old new h = tt
+pub file_stops : (T A : Type 0) (fault : TableFault) (old new : StoreTold)
+    → HasFileCause {T = T} (Err fault) old new → HasItsCause {A = A} (Err (stop_of_table fault)) old new
+file_stops T A Missing old new h = h
+file_stops T A Magic old new h = h
+file_stops T A (Truncated length due) old new h = h
+file_stops T A (Extra length due) old new h = h
+file_stops T A (Rules fault) old new h = h
+file_stops T A (Size kept due) old new h = h
+file_stops T A Failed old new h = h
+file_stops T A NoMemory old new h = tt
+
+-- a fault stopped the call that reads the rows
+pub no_rows : (table : Table) (p : Board) (told : Option Files) (result : Result (Vec Row) Stop)
+    → IsErr result → IfErr result IsFault → ReadsIn table p told (rows_given result)
+no_rows table p told (Ok rows) none fault = cc
+no_rows table p told (Err (Refused why)) none fault = absurd fault
+no_rows table p told (Err (Fault fault)) none met = tt
 
 -- by the bytes of an open table
 module _ (contents : Contents) (bytes : List ℕ) (p : Board)

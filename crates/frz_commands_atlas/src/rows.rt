@@ -1,5 +1,5 @@
 //! The legal moves at a number of a table, each with the codes of both sides behind it.
-ghost use Rattle.std.specs.Prelude.{◌≡◌, ◌≤◌, ◌<◌, ◌+◌, ◌*◌, ℕ, List, length, map, IfOk};
+ghost use Rattle.std.specs.Prelude.{◌≡◌, ◌≤◌, ◌<◌, ◌+◌, ◌*◌, ℕ, List, length, map, IfErr, IfOk};
 ghost use Rattle.frz_board.specs.declared.man.Colour.TheVariants.{White, Black};
 ghost use Rattle.frz_store.specs.Told.{store_of, StoreQuiet};
 ghost use Rattle.frz_exits.specs.Books.{value_by};
@@ -10,7 +10,7 @@ ghost use Rattle.frz_ways.specs.Costs.{arms_reads};
 ghost use Rattle.frz_ways.specs.Kept.{told_codes, MayRead};
 ghost use Rattle.frz_ways.specs.Reads.{HasDifferentArms};
 ghost use Rattle.frz_prelude.specs.Stops.{HasItsCause};
-ghost use Rattle.frz_commands_atlas.specs.MoveRows.{row_by};
+ghost use Rattle.frz_commands_atlas.specs.MoveRows.{IsFault, row_by};
 
 use frz_answer::Fault;
 use frz_board::Colour;
@@ -79,6 +79,7 @@ fn rows_by<G: NumberedGame<L>, S: Store, L: Ledger>(
         × MayRead (told_codes table.now White (S.files store.old)) (table_size table.now) white
         × MayRead (told_codes table.now Black (S.files store.old)) (table_size table.now) black
         × (rows.items ≡ map (row_by white black) ((G.arena game.now).arms number))) }
+    ensures fault { IfErr result IsFault }
     ensures quiet { StoreQuiet (store_of S.Store store.old) (store_of S.Store store.new) }
     ensures cause { HasItsCause result (store_of S.Store store.old) (store_of S.Store store.new) }
     ensures asked { S.asked store.new ≤
@@ -115,6 +116,7 @@ pub fn read_rows<S: Store, L: Ledger>(
         × MayRead (told_codes table.now Black (S.files store.old)) (table_size table.now) black
         × (rows.items ≡ map (row_by white black)
         ((graph_by table.now.rules (value_by table.now.rules)).arms number))) }
+    ensures fault { IfErr result IsFault }
     ensures quiet { StoreQuiet (store_of S.Store store.old) (store_of S.Store store.new) }
     ensures cause { HasItsCause result (store_of S.Store store.old) (store_of S.Store store.new) }
     ensures asked { S.asked store.new ≤ S.asked store.old + 8 * arms_reads
