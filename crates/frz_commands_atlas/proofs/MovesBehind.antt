@@ -91,8 +91,8 @@ pub many_rows : (rules : RuleLines) (p : Board) (white black : List ℕ) (rank :
     → length rows ≡ length (legal_moves_of p)
 many_rows rules p white black rank rows ranked =
     length_permutation (map (row_by white black) (arms_of rules p)) rows ranked.same
-    ∙ length-map (row_by white black) (arms_of rules p)
-    ∙ length-map (arm_at rules (value_by rules) p) (legal_moves_of p)
+    ∙ length-map (arms_of rules p) (row_by white black)
+    ∙ length-map (legal_moves_of p) (arm_at rules (value_by rules) p)
 
 -- the words of the codes of bounds are those of the bounds
 words_of_bounds : (w b : ℕ) (white black : Bound)

@@ -1,4 +1,5 @@
 use Rattle.std.proofs.Common.{refl, Ok, arith}
+use Rattle.std.specs.Global.{Vec}
 use Rattle.frz_answer.specs.World.{world}
 use Rattle.frz_answer.proofs.Lemmas.{fine_store, quiet_both, said}
 use Rattle.frz_prelude.proofs.Lemmas.{ended, found_where, may_stop}
@@ -10,13 +11,16 @@ use Rattle.frz_commands_atlas.proofs.each.each_at.Goals as goal
 
 pub write_each-requires-clause-legal : goal.write_each-requires-clause-legal
 write_each-requires-clause-legal g c =
-    rw c.deref.ensures.value (legal_given _ _ _ c.in-Ok.ensures.rows.due).0
+    let read = c.in-Ok.ensures.rows in
+    rw c.deref.ensures.value
+    (legal_given c.args.p.now c.in-Ok.rows.items (read.files c.args.name.now) read.due).0
 
 pub returns-in-Ok : goal.returns-in-Ok
 returns-in-Ok g c = λ input.
     let e = c.in-Ok.ensures in
     let job = each_at c.args.name.now c.args.p.now in
-    let many = (legal_given _ _ _ e.rows.due).1 in
+    let many = (legal_given c.args.p.now c.in-Ok.rows.items (e.rows.files c.args.name.now)
+    e.rows.due).1 in
     let few = rw c.deref.ensures.value at c.write_each.ensures.few in
     said job _ _ _ (world _ _ _ _) _ _
     (quiet_both _ _ _ _ _ _ e.quiet (omega (arith, e.later, c.write_each.ensures.later)))
@@ -38,6 +42,7 @@ returns-in-Err g c = λ input.
     let stop = c.in-Err.stop in
     let job = each_at c.args.name.now c.args.p.now in
     ended job stop _ _ (world _ _ _ _) _ (quiet_both _ _ _ _ _ _ e.quiet e.later)
-    (may_stop Row job stop _ _ input _ _ _ refl refl (own_stop _ _ stop e.rows.due) e.cause)
+    (may_stop (Vec Row) job stop _ _ input _ _ _ refl refl
+    (own_stop (e.rows.files c.args.name.now) c.args.p.now stop e.rows.due) e.cause)
     c.end.ensures
     (λ files left agrees. stopped_each _ _ stop files left _ _ e.rows e.step agrees)
