@@ -8,16 +8,13 @@ use Rattle.frz_board.specs.Moving.{Step}
 use Rattle.frz_fen.specs.Reading.{fen_of}
 use Rattle.frz_fide.specs.Listing.{legal_moves_of}
 use Rattle.frz_san.specs.Notation.{san_of}
-use Rattle.frz_index.specs.Members.{Member}
 use Rattle.frz_index.proofs.Lemmas.{member_of, of_member}
 use Rattle.frz_game.specs.Numbers.{is_member}
 use Rattle.frz_store.specs.Files.{Files}
 use Rattle.frz_table.specs.declared.fault.TableFault.{TableFault}
 use Rattle.frz_table.specs.Opening.{Contents, opened, table_format}
 use Rattle.frz_table.proofs.Lemmas.{opened_missing}
-use Rattle.frz_check.specs.Kept.{kept_codes}
-use Rattle.frz_atlas.specs.Behind.{kind_by, kind_held, kind_of}
-use Rattle.frz_answer.specs.declared.status.Status.{Status}
+use Rattle.frz_atlas.specs.Behind.{kind_held, kind_of}
 use Rattle.frz_answer.specs.Answers.{Answer, SomeAnswer, says}
 use Rattle.frz_answer.specs.Lawful.{HasOneAnswer, IsLawful}
 use Rattle.frz_answer.specs.Words.{two_words_of}
@@ -27,7 +24,7 @@ use Rattle.frz_prelude.specs.declared.refused.Refused.{Refused}
 use Rattle.frz_prelude.specs.declared.refused.Refused.TheVariants as refusals
 use Rattle.frz_prelude.proofs.Lemmas.{fen_lawful, refusal_said, refused_means}
 use Rattle.frz_commands_atlas.specs.declared.rows.Row.{Row}
-use Rattle.frz_commands_atlas.specs.Each.{AreRowsBy, AreRowsIn, AreRowsOf, IsEachAt, answer_by}
+use Rattle.frz_commands_atlas.specs.Each.{AreRowsBy, AreRowsOf, IsEachAt, answer_by}
 use Rattle.frz_commands_atlas.specs.EachMeans.{MeansEach, MeansEachBy, each_at, each_words}
 use Rattle.frz_commands_atlas.specs.MoveRows.{rows_in}
 use Rattle.frz_commands_atlas.specs.Ranked.{IsRanked, rank_for}

@@ -1,5 +1,5 @@
 -- How `each` ends where it has no rows to tell.
-use Rattle.std.proofs.Common.{◌≡◌, refl, sym, subst, ℕ, ◌+◌, ◌≤◌, List, [], ◌∷◌, Bool, true, false, Option, Result, Ok, Err, arith}
+use Rattle.std.proofs.Common.{◌≡◌, refl, subst, ℕ, ◌+◌, ◌≤◌, List, [], ◌∷◌, Bool, true, false, Option, Result, Ok, Err, arith}
 use Rattle.std.specs.Prelude.{MatchBool}
 use Rattle.frz_board.specs.Boards.{Board}
 use Rattle.frz_game.specs.Numbers.{is_member}
@@ -18,7 +18,7 @@ use Rattle.frz_prelude.specs.declared.stop.Stop.{Stop}
 use Rattle.frz_prelude.specs.declared.stop.Stop.TheVariants.{Refused, Fault}
 use Rattle.frz_prelude.proofs.Lemmas.{StopsWith, found_where, table_own}
 use Rattle.frz_commands_atlas.specs.declared.rows.Row.{Row}
-use Rattle.frz_commands_atlas.specs.Each.{AreRowsBy, AreRowsOf, AreRowsRead, GivesRows}
+use Rattle.frz_commands_atlas.specs.Each.{AreRowsBy, AreRowsRead, GivesRows}
 use Rattle.frz_commands_atlas.specs.EachMeans.{each_at}
 use Rattle.frz_commands_atlas.proofs.EachOnce.{some_each}
 

@@ -1,5 +1,5 @@
 -- What the rows of a position tell: where each move leads, and the bounds there.
-use Rattle.std.proofs.Common.{◌≡◌, refl, sym, ap, subst, ◌∙◌, ℕ, List, [], ◌∷◌, ◌++◌, map, length, Bool, true, false, codes}
+use Rattle.std.proofs.Common.{◌≡◌, refl, sym, ap, subst, ◌∙◌, ℕ, List, ◌++◌, map, length, Bool, true, false, codes}
 use Rattle.std.specs.Prelude.{All, Contains, slice_index}
 use Rattle.std.proofs.lemmas.List.{length-map}
 use Rattle.std.proofs.lemmas.List.Elements.{All-contains_itself, All-map, All-weaker}
@@ -20,7 +20,7 @@ use Rattle.frz_index.proofs.Lemmas.{member_of, number_there}
 use Rattle.frz_arena.specs.declared.bound.Bound.{Bound}
 use Rattle.frz_arena.specs.declared.arm.Arm.{Arm}
 use Rattle.frz_arena.specs.declared.arm.Next.{Next}
-use Rattle.frz_arena.specs.declared.arm.Next.TheVariants.{Inside, Outside}
+use Rattle.frz_arena.specs.declared.arm.Next.TheVariants.{Inside}
 use Rattle.frz_arena.specs.Games.{next_by}
 use Rattle.frz_arena.specs.Names.{name_by, name_in, named_next}
 use Rattle.frz_graph.specs.EntryCodes.{arm_code, next_code}
@@ -33,7 +33,7 @@ use Rattle.frz_check.proofs.Lemmas.{bound_kept}
 use Rattle.frz_prelude.specs.BoundLines.{bound_text, kept_words, side_name}
 use Rattle.frz_prelude.proofs.Lemmas.{kept_bound}
 use Rattle.frz_commands_atlas.specs.declared.rows.Row.{Row}
-use Rattle.frz_commands_atlas.specs.EachMeans.{TellsBehind, TellsBoundsAfter}
+use Rattle.frz_commands_atlas.specs.EachMeans.{TellsBehind}
 use Rattle.frz_commands_atlas.specs.MoveRows.{arms_of, row_by, rows_in}
 use Rattle.frz_commands_atlas.specs.Ranked.{IsRanked}
 use Rattle.frz_commands_atlas.specs.RowLines.{both_words, side_words}

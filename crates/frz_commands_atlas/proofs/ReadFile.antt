@@ -1,5 +1,5 @@
 -- Files that hold the codes that were read of an open table.
-use Rattle.std.proofs.Common.{◌≡◌, refl, sym, ap, subst, ◌∙◌, ℕ, List, length, Option, Some, None, Ok, arith}
+use Rattle.std.proofs.Common.{◌≡◌, sym, subst, ℕ, List, Option, Some, None, Ok, arith}
 use Rattle.std.specs.Option.{option_map}
 use Rattle.frz_board.specs.declared.man.Colour.{Colour}
 use Rattle.frz_board.specs.declared.man.Colour.TheVariants.{White, Black}
@@ -11,7 +11,7 @@ use Rattle.frz_table.specs.Possible.{MayHold}
 use Rattle.frz_table.specs.Tables.{Table, table_size}
 use Rattle.frz_table.proofs.Lemmas.{belongs, file_bytes, magic_bytes, magic_long, opens_by, text_bytes, written_belongs, written_is_loaded}
 use Rattle.frz_check.specs.Kept.{kept_codes}
-use Rattle.frz_atlas.specs.Behind.{kind_by, kind_of, leans}
+use Rattle.frz_atlas.specs.Behind.{kind_of, leans}
 use Rattle.frz_atlas.specs.Opening.{MayOpenOwn}
 use Rattle.frz_atlas.proofs.Lemmas.{opens_own}
 use Rattle.frz_ways.specs.Kept.{told_codes, MayRead}

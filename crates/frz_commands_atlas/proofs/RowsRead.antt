@@ -1,22 +1,19 @@
 -- Which files give the rows that were read, or refuse as they were refused.
-use Rattle.std.proofs.Common.{◌≡◌, refl, sym, ap, subst, ◌∙◌, ℕ, ◌+◌, ◌*◌, ◌<◌, ◌≤◌, List, [], length, map, Bool, true, false, Option, Some, None, Result, Ok, Err, if◌then◌else◌, arith}
-use Rattle.std.specs.Prelude.{All, IfErr, MatchBool, MatchResult}
+use Rattle.std.proofs.Common.{◌≡◌, refl, sym, ap, subst, ◌∙◌, ℕ, ◌+◌, ◌*◌, ◌<◌, ◌≤◌, List, [], length, map, Bool, true, false, Option, Some, Result, Ok, Err, if◌then◌else◌, arith}
+use Rattle.std.specs.Prelude.{All, IfErr, MatchBool}
 use Rattle.std.specs.Global.{Vec}
 use Rattle.std.specs.Option.{unwrap_or}
 use Rattle.std.specs.Result.{IsErr}
 use Rattle.frz_board.specs.declared.man.Colour.{Colour}
 use Rattle.frz_board.specs.declared.man.Colour.TheVariants.{White, Black}
 use Rattle.frz_board.specs.Boards.{Board}
-use Rattle.frz_board.specs.Moving.{Step}
 use Rattle.frz_fide.specs.Legal.{is_legal}
 use Rattle.frz_fide.specs.Listing.{legal_moves_of}
-use Rattle.frz_sets.specs.declared.exit.Value.{Value}
 use Rattle.frz_sets.specs.Sets.{size_of}
 use Rattle.frz_sets.specs.Views.{GroupLine, RuleLines}
 use Rattle.frz_exits.specs.Books.{value_by}
 use Rattle.frz_index.specs.Members.{Member, Num}
 use Rattle.frz_index.proofs.Lemmas.{Num_below, member_of, of_member, position_of}
-use Rattle.frz_arena.specs.declared.arm.Arm.{Arm}
 use Rattle.frz_game.specs.Games.{graph_by}
 use Rattle.frz_game.specs.Numbers.{is_member}
 use Rattle.frz_game.proofs.Lemmas.{arms_there}
@@ -24,7 +21,7 @@ use Rattle.frz_store.specs.Files.{Files}
 use Rattle.frz_store.specs.Told.{StoreTold}
 use Rattle.frz_table.specs.declared.fault.TableFault.{TableFault}
 use Rattle.frz_table.specs.declared.fault.TableFault.TheVariants.{Missing, Magic, Truncated, Extra, Rules, Size, Failed, NoMemory}
-use Rattle.frz_table.specs.Opening.{Contents, Refuses, contents_of, kept_text, opened, table_format}
+use Rattle.frz_table.specs.Opening.{Contents, Refuses, contents_of, opened, table_format}
 use Rattle.frz_table.specs.Possible.{MayHold, held_text}
 use Rattle.frz_table.specs.Tables.{Table, table_size}
 use Rattle.frz_table.proofs.Lemmas.{belongs, text_kept}
@@ -41,11 +38,11 @@ use Rattle.frz_prelude.specs.declared.stop.Stop.{Stop}
 use Rattle.frz_prelude.specs.declared.stop.Stop.TheVariants.{Refused, Fault}
 use Rattle.frz_prelude.proofs.Lemmas.{holding}
 use Rattle.frz_commands_atlas.specs.declared.rows.Row.{Row}
-use Rattle.frz_commands_atlas.specs.Each.{AreRowsBy, AreRowsIn, AreRowsOf, AreRowsRead, GivesRows, ReadsIn, ReadsRows, each_bytes, each_calls, rows_given, staying, staying_by, staying_in}
-use Rattle.frz_commands_atlas.specs.MoveRows.{IsFault, arms_of, row_by, rows_in}
+use Rattle.frz_commands_atlas.specs.Each.{AreRowsBy, AreRowsIn, AreRowsOf, AreRowsRead, GivesRows, IsFault, ReadsIn, ReadsRows, each_bytes, each_calls, rows_given, staying, staying_by, staying_in}
+use Rattle.frz_commands_atlas.specs.MoveRows.{arms_of, row_by, rows_in}
 use Rattle.frz_commands_atlas.specs.Ranked.{IsRanked, rank_for}
 use Rattle.frz_commands_atlas.proofs.MovesBehind.{legal_rows, many_rows}
-use Rattle.frz_commands_atlas.proofs.ReadFile.{HoldsRead, holds_read}
+use Rattle.frz_commands_atlas.proofs.ReadFile.{holds_read}
 
 -- the position was found in the set of an open table
 module _ (rules : RuleLines) (groups : List GroupLine) (same : groups ≡ rules.groups) (p : Board)

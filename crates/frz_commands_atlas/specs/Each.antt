@@ -89,6 +89,11 @@ each_costs held p = record {
   asked = Some (each_bytes held p);
 }
 
+-- a fault stopped the call, and nothing was refused
+abbrev pub IsFault : Stop → Type 0
+IsFault (stops.Refused why) = ⊥
+IsFault (stops.Fault fault) = ⊤
+
 -- where the store tells, these are the rows by the codes that the table's file holds, and else by
 -- some codes; the position is in the set
 pub record ReadsRows (table : Table) (p : Board) (told : Option Files)

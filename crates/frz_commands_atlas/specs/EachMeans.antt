@@ -8,8 +8,7 @@ use Rattle.frz_index.specs.Members.{Member}
 use Rattle.frz_sets.specs.declared.exit.Value.{Value}
 use Rattle.frz_sets.specs.Views.{RuleLines}
 use Rattle.frz_store.specs.Files.{Files}
-use Rattle.frz_arena.specs.declared.arm.Next.{Next}
-use Rattle.frz_arena.specs.declared.arm.Next.TheVariants.{Inside, Outside}
+use Rattle.frz_arena.specs.declared.arm.Next.TheVariants.{Inside}
 use Rattle.frz_table.specs.Opening.{Contents}
 use Rattle.frz_check.specs.KeptTables.{KeepsBound, KeepsTables}
 use Rattle.frz_answer.specs.declared.status.Status.{Status}

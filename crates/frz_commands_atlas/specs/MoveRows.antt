@@ -1,5 +1,5 @@
 -- The legal moves of a position, with the codes that a table file keeps behind each.
-use Rattle.std.specs.Prelude.{ℕ, List, map, ⊤}
+use Rattle.std.specs.Prelude.{ℕ, List, map}
 use Rattle.frz_board.specs.declared.man.Colour.TheVariants.{White, Black}
 use Rattle.frz_board.specs.Boards.{Board}
 use Rattle.frz_board.specs.Moving.{Step}
@@ -12,8 +12,6 @@ use Rattle.frz_graph.specs.EntryCodes.{arm_code}
 use Rattle.frz_game.specs.Games.{arm_at}
 use Rattle.frz_table.specs.Opening.{Contents}
 use Rattle.frz_check.specs.Kept.{kept_codes}
-use Rattle.frz_prelude.specs.declared.stop.Stop.{Stop}
-use Rattle.frz_prelude.specs.declared.stop.Stop.TheVariants as stops
 use Rattle.frz_commands_atlas.specs.declared.rows.Row.{Row}
 
 -- a move with the codes of White and Black behind it: the entries of where it stays in the set, and
@@ -34,8 +32,3 @@ abbrev pub rows_in : Contents → List ℕ → Board → List Row
 rows_in contents bytes p =
     map (row_by (kept_codes contents bytes White) (kept_codes contents bytes Black))
     (arms_of contents.rules p)
-
--- a call was stopped by a fault, and not by what its words name
-abbrev pub IsFault : Stop → Type 0
-IsFault (stops.Refused why) = ⊥
-IsFault (stops.Fault fault) = ⊤

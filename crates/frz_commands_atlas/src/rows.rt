@@ -10,7 +10,8 @@ ghost use Rattle.frz_ways.specs.Costs.{arms_reads};
 ghost use Rattle.frz_ways.specs.Kept.{told_codes, MayRead};
 ghost use Rattle.frz_ways.specs.Reads.{HasDifferentArms};
 ghost use Rattle.frz_prelude.specs.Stops.{HasItsCause};
-ghost use Rattle.frz_commands_atlas.specs.MoveRows.{IsFault, row_by};
+ghost use Rattle.frz_commands_atlas.specs.Each.{IsFault};
+ghost use Rattle.frz_commands_atlas.specs.MoveRows.{row_by};
 
 use frz_answer::Fault;
 use frz_board::Colour;
