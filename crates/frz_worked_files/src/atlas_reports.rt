@@ -87,6 +87,17 @@ fn reported<L: Ledger>(
     Ok(run_report(alloc, &words, store, out, &mut steps))
 }
 
+/// The same with a count of steps that nobody reads.
+fn report(
+    alloc: Global,
+    line: &[&str],
+    store: &mut MemStore,
+    out: &mut MemSink,
+) -> Result<End, Fail> {
+    let blank = Blank::new(1);
+    reported::<Brand>(alloc, blank, line, store, out)
+}
+
 /// The words of a report, its end and its text.
 #[derive(Drop)]
 struct Row(&'static [&'static str], End, &'static [u8]);
@@ -95,8 +106,7 @@ struct Row(&'static [&'static str], End, &'static [u8]);
 fn check_row(rt: &impl Abort, alloc: Global, row: &Row, store: &mut MemStore) -> Result<(), Fail> {
     let Row(line, wanted, text) = row;
     let mut out = MemSink::new(alloc, 300, Vec::new(alloc)).or(Err("sink"))?;
-    let blank = Blank::new(1);
-    let end = reported::<Brand>(alloc, blank, line, store, &mut out)?;
+    let end = report(alloc, line, store, &mut out)?;
     check_bytes(rt, out.taken(), text, "report");
     assert_eq!(rt; end, *wanted);
     Ok(())
