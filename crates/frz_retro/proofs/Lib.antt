@@ -16,6 +16,7 @@ pub mod Tallies
 pub mod Pairs
 pub mod Meetings
 pub mod QueueFront
+pub mod QueueOrder
 pub mod PassToPass
 pub mod DueSteps
 pub mod DueNumbers

@@ -1,5 +1,5 @@
 -- What the solver keeps of the numbers, as its calls see it.
-use Rattle.std.specs.Prelude.{◌≡◌, ◌⊎◌, ℕ, ◌+◌, ◌-◌, ◌<◌, ◌≤◌, Bool, List, if◌then◌else◌, nat_le, slice_index, slice_set}
+use Rattle.std.specs.Prelude.{◌≡◌, ◌⊎◌, ℕ, ◌+◌, ◌-◌, ◌<◌, ◌≤◌, Bool, List, length, if◌then◌else◌, nat_le, slice_index, slice_range, slice_set}
 use Rattle.frz_board.specs.declared.man.Colour.{Colour}
 use Rattle.frz_board.specs.Moving.{Step}
 use Rattle.frz_sets.specs.declared.exit.Value.{Value}
@@ -47,6 +47,16 @@ counted_down t i = record {
   queue = t.queue;
   tail = t.tail;
 }
+
+-- the numbers that stand in the queue from place head on
+abbrev pub queued_from : Tally → ℕ → List ℕ
+queued_from t head = slice_range t.queue head t.tail
+
+-- t becomes u: only those places of the queue change
+pub record ChangesOnlyFrom (head : ℕ) (t u : Tally) : Type 0 where
+  pub lists : u ≡ record t { queue = u.queue }
+  pub size : length u.queue ≡ length t.queue
+  pub places : (j : ℕ) → (j < head) ⊎ (t.tail ≤ j) → slice_index u.queue j ≡ slice_index t.queue j
 
 abbrev pub HasSize : ℕ → Tally → Type 0
 HasSize n t = Sized n t.codes t.counts t.later t.queue

@@ -22,7 +22,8 @@ use std::sync::ledger::Ledger;
 
 /// Pass `k`: it settles the numbers whose exits are due, and then those predecessors that the
 /// numbers of the pass before settle. The numbers of the pass before stand in the queue from `head`
-/// on. No code that exits give is above `last`.
+/// on. The pass sorts them, so that it comes to neighbours in the lists one after another. No code
+/// that exits give is above `last`.
 pub fn pass<G: Graph<L>, L: Ledger>(
     graph: &G,
     side: Colour,
@@ -44,6 +45,7 @@ pub fn pass<G: Graph<L>, L: Ledger>(
     ensures exits { tally.new.later ≡ tally.old.later }
     ensures cost { steps.new ≡ steps.old + (tally.old.tail - head) }
 {
+    tally.put_in_order(head);
     let end = tally.tail();
     settle_late(graph, side, k, last, tally);
     for at in head..end {

@@ -1,8 +1,9 @@
 //! What the solver keeps of the numbers: their entries, counters and due codes, and the queue of
 //! those that are settled.
 
-ghost use Rattle.std.specs.Prelude.{◌≡◌, ℕ, ◌<◌, length, slice_index, vec_len, IfOk};
-ghost use Rattle.frz_retro.specs.Tallies.{HasSize, begun_at, counted_down, settled};
+ghost use Rattle.std.specs.Prelude.{◌≡◌, ℕ, ◌<◌, ◌≤◌, length, slice_index, vec_len, IfOk, IsPermutation};
+ghost use Rattle.std.specs.List.Sorted.{IsNonDecreasing};
+ghost use Rattle.frz_retro.specs.Tallies.{ChangesOnlyFrom, HasSize, begun_at, counted_down, queued_from, settled};
 
 use frz_board::NoMemory;
 use std::alloc::Global;
@@ -139,6 +140,17 @@ impl Tally {
         ensures { result ≡ slice_index self.now.queue at }
     {
         self.queue[at]
+    }
+
+    /// Sorts the numbers that stand in the queue from place `head` on.
+    pub fn put_in_order(&mut self, head: usize)
+        requires inside { head ≤ self.old.tail }
+        requires room { self.old.tail ≤ length self.old.queue }
+        ensures rest { ChangesOnlyFrom head self.old self.new }
+        ensures same { IsPermutation (queued_from self.old head) (queued_from self.new head) }
+        ensures order { IsNonDecreasing (queued_from self.new head) }
+    {
+        self.queue[head..self.tail].sort_unstable();
     }
 
     /// Begins number `i` with this entry, with `count` arms to wait for, and with `later`, the code
