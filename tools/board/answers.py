@@ -1,99 +1,92 @@
 """What the page asks about: a position with its moves, a line, a report. Each fact in it is an answer of
 `freezer` or of `atlas`."""
 
-import os
-
-from .head import CHAINED, LEANING, PLAIN
-from .report import Report
+from .bounds import read_bound, read_bounds
+from .head import PLAIN, NoTable
+from .listing import Listing
+from .report import Report, words_of
 from .start import first_positions
 
 ENDS = ("mate", "stalemate")
 LONGEST_WORD = 200
-# The program and the command that tell the bounds of a table, by its kind.
-ASKED = {
-    PLAIN: ("freezer", "query"),
-    CHAINED: ("freezer", "chainquery"),
-    LEANING: ("atlas", "query"),
-}
-
-
-def question(head, fen):
-    """The words that ask for the bounds of a table at a position."""
-    return (*ASKED[head.kind], head.path, fen)
+NO_LINE = "best lines are told of tables of freezer build alone"
 
 
 class Answers:
     """The answers about one table, and those behind it."""
 
-    def __init__(self, calls, heads):
+    def __init__(self, calls, tables):
         self.calls = calls
-        self.head, *self.backs = heads
-        self.report = Report(calls, self.head.path)
+        self.tables = tables
+        self.listing = Listing(calls, tables)
+        self.report = Report(calls, words_of(tables.heads))
 
-    def stop(self):
-        self.report.stop()
+    def refresh(self):
+        """Begins anew where a file was written anew; what is wrong with it then, or nothing."""
+        try:
+            if self.tables.refresh():
+                self.report.stop()
+                self.report = Report(self.calls, words_of(self.tables.heads))
+        except NoTable as why:
+            return str(why)
+        return None
 
-    def tables(self):
+    def shown(self):
+        """What the page is told of the tables."""
         return {
-            "table": self.head.shown(),
-            "backs": [back.shown() for back in self.backs],
+            "tables": [head.shown() for head in self.tables.heads],
+            "age": self.tables.age,
             "start": self.start(),
         }
 
     def start(self):
         """A position of the set to begin with, or nothing where none was found."""
-        for fen in first_positions(self.head.text):
-            if self.calls.ask(*question(self.head, fen)).status == 0:
+        for fen in first_positions(self.tables.heads[0].text):
+            if self.calls.ask(*self.tables.question(0, fen)).status == 0:
                 return fen
         return None
 
-    def position(self, fen):
+    def position(self, fen, san=""):
+        """What is told of a position, or of that after a move."""
+        if not san:
+            return self.at(fen)
+        played = self.calls.ask("freezer", "move", fen, san)
+        return self.at(played.lines[1]) if played.status == 0 else refused(fen, played)
+
+    def at(self, fen):
         """The bounds at a position, and its legal moves with the bounds after each."""
-        bounds, sans, moves = self.calls.ask_all(
-            [question(self.head, fen), ("freezer", "sans", fen), ("freezer", "moves", fen)]
+        sans, texts, _ = self.calls.ask_all(
+            [("freezer", "sans", fen), ("freezer", "moves", fen), self.tables.question(0, fen)]
         )
         if sans.status != 0:
-            return {"fen": fen, "refused": sans.text.strip()}
-        words = sans.text.split()
-        shown = {"fen": fen, "turn": turn_of(fen), "bounds": self.bounds(fen, bounds)}
-        if words[:1] and words[0] in ENDS:
-            return {**shown, "end": words[0], "moves": []}
-        return {**shown, "end": None, "moves": self.after(fen, words, moves.text.split())}
+            return refused(fen, sans)
+        end = sans.text.strip() if sans.text.strip() in ENDS else None
+        named = {} if end else dict(zip(sans.text.split(), texts.text.split()))
+        return {"fen": fen, "turn": turn_of(fen), "end": end, **self.told(fen, named)}
 
-    def after(self, fen, sans, moves):
-        """Each move with the position that it leads to, and the bounds there."""
-        played = self.calls.ask_all([("freezer", "move", fen, san) for san in sans])
-        fens = [answer.lines[1] if len(answer.lines) > 1 else "" for answer in played]
-        asked = self.calls.ask_all([question(self.head, next_fen) for next_fen in fens])
-        return [
-            {"san": san, "move": move, "fen": next_fen, "bounds": self.bounds(next_fen, answer)}
-            for san, move, next_fen, answer in zip(sans, moves, fens, asked)
-        ]
-
-    def bounds(self, fen, answer):
-        """Both sides' bounds in the program's words, or what it said in their place."""
-        if answer.status == 0:
-            white, black = answer.lines
-            return {"white": white, "black": black}
-        said = {"text": answer.text.strip()}
-        if said["text"] == "outside":
-            said.update(self.behind(fen))
-        return said
-
-    def behind(self, fen):
-        """What the first of the tables behind says that has the position, and its name."""
-        for back in self.backs:
-            answer = self.calls.ask(*question(back, fen))
-            if answer.status == 0:
-                return {"behind": answer.lines, "table": os.path.basename(back.path)}
-        return {}
+    def told(self, fen, texts):
+        """What the first table that has the position says of it, and of its moves with these texts."""
+        place, answer = self.tables.first(fen)
+        lines = answer.lines if place is not None else []
+        before, side = read_bounds(lines), turn_of(fen)
+        moves = self.listing.moves(fen, place, side, texts) if texts else []
+        return {
+            "age": self.tables.age,
+            "table": place,
+            "said": answer.text.strip(),
+            "bounds": [bound_shown(line) for line in lines],
+            "moves": [move.shown(side, before) for move in moves],
+        }
 
     def line(self, fen, side):
         """The best line of a side: its bound, the positions that it comes to, and how it ends."""
-        answer = self.calls.ask("freezer", "line", self.head.path, fen, side)
+        place, _ = self.tables.first(fen)
+        if place is None or self.tables.heads[place].kind != PLAIN:
+            return {"fen": fen, "refused": NO_LINE}
+        answer = self.calls.ask("freezer", "line", self.tables.heads[place].path, fen, side)
         lines = answer.lines
         if answer.status not in (0, 6) or not lines:
-            return {"refused": answer.text.strip()}
+            return refused(fen, answer)
         steps, at = [], fen
         for move in lines[1:-1]:
             san, at = self.step(at, move)
@@ -104,14 +97,25 @@ class Answers:
         """A move of coordinates in algebraic notation, and the position after it."""
         sans, moves = self.calls.ask_all([("freezer", "sans", fen), ("freezer", "moves", fen)])
         san = dict(zip(moves.text.split(), sans.text.split()))[move]
-        return san, self.calls.ask("freezer", "move", fen, san).lines[1]
+        return san, self.listing.after(fen, san)
+
+
+def refused(fen, answer):
+    """A refusal in the program's words."""
+    return {"fen": fen, "refused": answer.text.strip()}
+
+
+def bound_shown(line):
+    """A bound in its words, with its kind and the plies of a win."""
+    bound = read_bound(line)
+    return {"words": line, "kind": bound.kind, "plies": bound.plies}
 
 
 def turn_of(fen):
     """The side to move, as the FEN that the program has accepted names it."""
-    return "white" if fen.split(" ")[1] == "w" else "black"
+    return "white" if [word for word in fen.split(" ") if word][1] == "w" else "black"
 
 
 def is_word(text):
     """Whether a text may be a word of the program's."""
-    return 0 < len(text) <= LONGEST_WORD and "\0" not in text
+    return len(text) <= LONGEST_WORD and "\0" not in text

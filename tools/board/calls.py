@@ -4,12 +4,17 @@ time, and what was answered is kept."""
 import collections
 import concurrent.futures
 import os
+import signal
 import subprocess
+import sys
 import threading
 
 AT_ONCE = min(4, os.cpu_count() or 1)
 LONGEST = 20  # seconds that one question may take
 KEPT = 20_000  # answers
+KEPT_TEXT = 20_000_000  # characters of all that are kept
+# A call leads a group of processes, so what it has started ends with it.
+OWN_GROUP = {"process_group": 0} if sys.version_info >= (3, 11) else {"start_new_session": True}
 
 
 class Answer:
@@ -30,54 +35,84 @@ class Calls:
     def __init__(self, programs):
         self.programs = programs
         self.pool = concurrent.futures.ThreadPoolExecutor(AT_ONCE)
-        self.kept = collections.OrderedDict()
+        self.places = threading.BoundedSemaphore(AT_ONCE)
         self.lock = threading.Lock()
+        self.kept = collections.OrderedDict()
+        self.length = 0
+        self.age = 0
+        self.children = set()
 
     def ask(self, *words):
         """The answer to these words, kept or new."""
         with self.lock:
+            age = self.age
             if words in self.kept:
                 self.kept.move_to_end(words)
                 return self.kept[words]
-        answer = self.call(words)
+        with self.places:
+            answer = self.call(words)
         if answer.status is not None:
-            self.keep(words, answer)
+            self.keep(words, answer, age)
         return answer
 
     def ask_all(self, questions):
         """The answers to many questions, some at once."""
-        return list(self.pool.map(lambda words: self.ask(*words), questions))
+        return self.each_of(lambda words: self.ask(*words), questions)
 
-    def command(self, words):
-        return [self.programs[words[0]], *words[1:]]
+    def each_of(self, task, items):
+        """What a task gives for each item, some at once. The task itself does not come back here."""
+        return list(self.pool.map(task, items))
 
     def call(self, words):
         try:
-            done = subprocess.run(
-                self.command(words),
-                stdin=subprocess.DEVNULL,
-                stdout=subprocess.PIPE,
-                stderr=subprocess.DEVNULL,
-                timeout=LONGEST,
-                check=False,
-            )
-        except subprocess.TimeoutExpired:
-            return Answer(None, "no answer in time")
+            child = self.start(*words)
         except (OSError, ValueError) as fault:
             return Answer(None, f"the program cannot be asked: {fault}")
-        return Answer(done.returncode, done.stdout.decode("utf-8", "replace"))
+        try:
+            printed = child.communicate(timeout=LONGEST)[0]
+        except subprocess.TimeoutExpired:
+            end(child)
+            child.communicate()
+            return Answer(None, "no answer in time")
+        finally:
+            self.children.discard(child)
+        return Answer(child.returncode, printed.decode("utf-8", "replace"))
 
-    def keep(self, words, answer):
+    def keep(self, words, answer, age):
         with self.lock:
+            if words in self.kept or age != self.age:
+                return
             self.kept[words] = answer
-            while len(self.kept) > KEPT:
-                self.kept.popitem(last=False)
+            self.length += len(answer.text)
+            while len(self.kept) > KEPT or self.length > KEPT_TEXT:
+                self.length -= len(self.kept.popitem(last=False)[1].text)
+
+    def forget(self):
+        """Drops the answers, as the files that they are about were written anew."""
+        with self.lock:
+            self.kept.clear()
+            self.length = 0
+            self.age += 1
 
     def start(self, *words):
         """A call that may take long, for who waits for it or ends it."""
-        return subprocess.Popen(
-            self.command(words),
+        child = subprocess.Popen(
+            [self.programs[words[0]], *words[1:]],
             stdin=subprocess.DEVNULL,
             stdout=subprocess.PIPE,
             stderr=subprocess.DEVNULL,
+            **OWN_GROUP,
         )
+        self.children.add(child)
+        return child
+
+    def stop(self):
+        """Ends all calls."""
+        for child in list(self.children):
+            end(child)
+
+
+def end(child):
+    """Ends a call and all that it has started."""
+    if child.poll() is None:
+        os.killpg(child.pid, signal.SIGKILL)

@@ -1,13 +1,12 @@
 """The head of a table file: its kind, its rules text, and the men that this text holds fast."""
 
 import os
-import re
+
+from .groups import fast_men
 
 PLAIN, CHAINED, LEANING = "plain", "chained", "leaning"
 KINDS = {b"FREEZER2": PLAIN, b"FREEZERC": CHAINED, b"FREEZERA": LEANING}
 LONGEST_TEXT = 65_536
-# A group of one man on one square.
-FAST = re.compile(r"\s*group\s+(white|black)\s+1\s+([KQRBNP]):([a-h][1-8])\s*$")
 
 
 class NoTable(Exception):
@@ -24,23 +23,17 @@ class Head:
         self.size = size
 
     @property
-    def fast(self):
-        """The squares of men that stand fast in every position of the set, with their letters."""
-        found = (FAST.match(line) for line in self.text.splitlines())
-        return {
-            match[3]: match[2] if match[1] == "white" else match[2].lower()
-            for match in found
-            if match
-        }
+    def name(self):
+        return os.path.basename(self.path)
 
     def shown(self):
         """What the page is told of the table."""
         return {
-            "name": os.path.basename(self.path),
+            "name": self.name,
             "kind": self.kind,
             "text": self.text,
             "size": self.size,
-            "fast": self.fast,
+            "fast": fast_men(self.text),
         }
 
 

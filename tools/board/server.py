@@ -9,18 +9,22 @@ import threading
 import urllib.parse
 
 from .answers import is_word
+from .bounds import SIDES
 
 PAGE = os.path.join(os.path.dirname(os.path.abspath(__file__)), "page")
 FILES = {
     "": ("index.html", "text/html"),
     "page.css": ("page.css", "text/css"),
+    "ask.js": ("ask.js", "text/javascript"),
     "men.js": ("men.js", "text/javascript"),
     "board.js": ("board.js", "text/javascript"),
+    "hand.js": ("hand.js", "text/javascript"),
     "moves.js": ("moves.js", "text/javascript"),
+    "report.js": ("report.js", "text/javascript"),
     "page.js": ("page.js", "text/javascript"),
 }
 LONGEST_PATH = 2_000
-REQUESTS_AT_ONCE = 16
+CONNECTIONS = 32  # each has one request at a time
 SILENCE = 30  # seconds after which a connection is dropped
 HEADERS = {
     "Cache-Control": "no-store",
@@ -40,7 +44,7 @@ class Server(http.server.ThreadingHTTPServer):
         super().__init__(("127.0.0.1", port), Handler)
         self.answers = answers
         self.token = secrets.token_urlsafe(24)
-        self.places = threading.BoundedSemaphore(REQUESTS_AT_ONCE)
+        self.places = threading.BoundedSemaphore(CONNECTIONS)
 
     @property
     def host(self):
@@ -49,6 +53,21 @@ class Server(http.server.ThreadingHTTPServer):
     @property
     def address(self):
         return f"http://{self.host}/{self.token}/"
+
+    def process_request(self, request, client_address):
+        if self.places.acquire(blocking=False):
+            super().process_request(request, client_address)
+        else:
+            self.shutdown_request(request)
+
+    def process_request_thread(self, request, client_address):
+        try:
+            super().process_request_thread(request, client_address)
+        finally:
+            self.places.release()
+
+    def handle_error(self, request, client_address):
+        """Says nothing of a connection that broke."""
 
 
 class Handler(http.server.BaseHTTPRequestHandler):
@@ -60,15 +79,10 @@ class Handler(http.server.BaseHTTPRequestHandler):
     sys_version = ""
 
     def do_GET(self):
-        if not self.server.places.acquire(blocking=False):
-            self.send_text(503, "too many requests at once")
-            return
         try:
             self.answer()
-        except (LookupError, ValueError):
+        except (LookupError, ValueError, AttributeError):
             self.send_text(500, "the program's answer was not understood")
-        finally:
-            self.server.places.release()
 
     def answer(self):
         if self.headers.get("Host") != self.server.host or len(self.path) > LONGEST_PATH:
@@ -85,12 +99,15 @@ class Handler(http.server.BaseHTTPRequestHandler):
 
     def send_answer(self, name, asked):
         answers = self.server.answers
-        fen, side = (asked.get(key, [""])[0] for key in ("fen", "side"))
-        if name == "tables":
-            self.send_json(answers.tables())
-        elif name == "position" and is_word(fen):
-            self.send_json(answers.position(fen))
-        elif name == "line" and is_word(fen) and side in ("white", "black"):
+        fen, san, side = (asked.get(key, [""])[0] for key in ("fen", "san", "side"))
+        wrong = answers.refresh()
+        if wrong:
+            self.send_text(500, wrong)
+        elif name == "tables":
+            self.send_json(answers.shown())
+        elif name == "position" and is_word(fen) and is_word(san):
+            self.send_json(answers.position(fen, san))
+        elif name == "line" and is_word(fen) and side in SIDES:
             self.send_json(answers.line(fen, side))
         elif name in ("report", "report/start", "report/stop"):
             if name != "report":

@@ -1,5 +1,5 @@
 // A board with coordinates, from a FEN.
-import { drawMan, element } from "./men.js";
+import { drawMan, element, nameOf } from "./men.js";
 
 const FILES = "abcdefgh";
 const SIZE = 45;
@@ -8,7 +8,7 @@ const MARGIN = 6;
 // The men of a FEN, by their squares.
 export function menOf(fen) {
   const men = {};
-  fen.split(" ")[0].split("/").forEach((row, index) => {
+  fen.trim().split(" ")[0].split("/").forEach((row, index) => {
     let file = 0;
     for (const sign of row) {
       if (sign >= "1" && sign <= "8") file += Number(sign);
@@ -16,6 +16,11 @@ export function menOf(fen) {
     }
   });
   return men;
+}
+
+// The men in words, for who does not see the board.
+export function wordsOf(fen) {
+  return Object.entries(menOf(fen)).map(([square, letter]) => `${nameOf(letter)} ${square}`).join(", ");
 }
 
 function cornerOf(square, turned) {
@@ -28,19 +33,15 @@ function coordinates(svg, turned) {
   for (let at = 0; at < 8; at++) {
     const file = FILES[turned ? 7 - at : at];
     const rank = turned ? at + 1 : 8 - at;
-    const below = element("text", { class: "coordinate", x: MARGIN + SIZE * at + 41, y: MARGIN + SIZE * 8 - 3, "text-anchor": "end" });
+    const below = element("text", { class: "coordinate", x: MARGIN + SIZE * at + 42, y: MARGIN + SIZE * 8 - 3, "text-anchor": "end" });
     below.textContent = file;
-    const beside = element("text", { class: "coordinate", x: MARGIN + 3, y: MARGIN + SIZE * at + 11 });
+    const beside = element("text", { class: "coordinate", x: MARGIN + 3, y: MARGIN + SIZE * at + 12 });
     beside.textContent = rank;
     svg.append(below, beside);
   }
 }
 
-// Draws the position. `marks` gives squares a class of their own, `fast` the letters of the men that the
-// set holds on their squares.
-export function drawBoard(svg, fen, { turned = false, fast = {}, marks = {}, plain = false } = {}) {
-  svg.replaceChildren();
-  const men = fen ? menOf(fen) : {};
+function drawSquares(svg, turned, marks) {
   for (const file of FILES) {
     for (let rank = 1; rank <= 8; rank++) {
       const square = file + rank;
@@ -50,8 +51,15 @@ export function drawBoard(svg, fen, { turned = false, fast = {}, marks = {}, pla
       svg.append(element("rect", { class: kind, x, y, width: SIZE, height: SIZE, "data-square": square }));
     }
   }
+}
+
+// Draws the position. `marks` gives squares a class of their own, `fast` the letters of the men that the
+// set holds on their squares.
+export function drawBoard(svg, fen, { turned = false, fast = {}, marks = {}, plain = false } = {}) {
+  svg.replaceChildren();
+  drawSquares(svg, turned, marks);
   if (!plain) coordinates(svg, turned);
-  for (const [square, letter] of Object.entries(men)) {
+  for (const [square, letter] of Object.entries(menOf(fen))) {
     const [x, y] = cornerOf(square, turned);
     const man = drawMan(letter, fast[square] === letter);
     man.setAttribute("transform", `translate(${x} ${y})`);
@@ -60,8 +68,9 @@ export function drawBoard(svg, fen, { turned = false, fast = {}, marks = {}, pla
   }
 }
 
-// The square of an event on the board.
-export function squareAt(event) {
-  const found = document.elementFromPoint(event.clientX, event.clientY);
-  return found?.closest?.("[data-square]")?.dataset.square ?? null;
+// A small board to press.
+export function smallBoard(fen, turned) {
+  const svg = element("svg", { viewBox: "0 0 372 372", role: "img", "aria-label": `${wordsOf(fen)}; ${fen}` });
+  drawBoard(svg, fen, { turned, plain: true });
+  return svg;
 }

@@ -1,62 +1,33 @@
-// Bounds as the program words them, and what a move keeps for the side that makes it.
+// The bounds of both sides and the moves of a position, as the server tells them.
+import { at, make, makeButton } from "./ask.js";
 
-export const WIN = "win";
-export const HOLD = "hold";
-export const NONE = "none";
-export const OUTSIDE = "outside";
-const ORDER = [WIN, HOLD, NONE, OUTSIDE];
-
-// What a line of bounds says: its kind, and the plies of a win.
-export function readBound(line) {
-  if (line === undefined) return { kind: OUTSIDE };
-  const win = / wins within (\d+)$/.exec(line);
-  if (win) return { kind: WIN, plies: Number(win[1]) };
-  return { kind: line.endsWith(" holds") ? HOLD : NONE };
+function boundRow({ words, kind, plies }) {
+  const row = make("p", "", `bound ${kind}`);
+  row.append(make("span", words, "words"));
+  if (plies !== null) row.append(make("span", String(plies), "plies"));
+  return row;
 }
 
-// The line of bounds of a side: of the table, or of the first one behind it that has the position.
-export function lineOf(bounds, side) {
-  return bounds[side] ?? bounds.behind?.[side === "white" ? 0 : 1];
+// Shows what the position is worth to each side, and who is to move; `name` is that of the table that
+// says so, where it is one behind.
+export function showBounds({ bounds, said, end, turn }, name) {
+  const rows = bounds.length ? bounds.map(boundRow) : [boundRow({ words: said, kind: "outside", plies: null })];
+  const by = name ? `, by ${name}` : "";
+  at("bounds").replaceChildren(...rows, make("p", `${turn} to move${end ? `: ${end}` : ""}${by}`, "turn"));
 }
 
-export function boundOf(bounds, side) {
-  return readBound(lineOf(bounds, side));
+function moveItem(move, play) {
+  const item = document.createElement("li");
+  const button = makeButton("", `move ${move.kind}`, () => play(move));
+  button.append(make("span", move.san, "san"), make("span", move.said, "after"));
+  const marks = make("span", "", "marks");
+  marks.append(...move.marks.map((words) => make("span", words, "mark")));
+  if (move.marks.length) button.append(marks);
+  item.append(button);
+  return item;
 }
 
-export function otherSide(side) {
-  return side === "white" ? "black" : "white";
-}
-
-function rankOf(bound) {
-  return ORDER.indexOf(bound.kind) * 10000 + (bound.plies ?? 0);
-}
-
-// What the move does to the mover's bound, as a class and in words.
-function markOf(before, after, behind) {
-  if (after.kind === OUTSIDE) return ["leaves", "leaves the set"];
-  if (ORDER.indexOf(after.kind) > ORDER.indexOf(before.kind)) {
-    return ["throws", before.kind === WIN ? "throws the win away" : "throws the hold away"];
-  }
-  if (behind) return ["keeps", "into a table behind"];
-  if (before.kind === WIN && after.plies + 1 > before.plies) return ["slower", "wins more slowly"];
-  return ["keeps", ""];
-}
-
-// The moves of a position, best first for the mover, each with what it keeps.
-export function sortedMoves(position) {
-  const side = position.turn;
-  const before = boundOf(position.bounds, side);
-  const valued = position.moves.map((move) => {
-    const own = boundOf(move.bounds, side);
-    const other = boundOf(move.bounds, otherSide(side));
-    const [mark, words] = markOf(before, own, move.bounds.behind !== undefined);
-    return { ...move, own, other, mark, words };
-  });
-  return valued.sort((a, b) => rankOf(a.own) - rankOf(b.own) || rankOf(b.other) - rankOf(a.other));
-}
-
-// Both bounds in short, or what the program said in their place.
-export function shortBounds(bounds) {
-  if (bounds.white !== undefined) return `${bounds.white}, ${bounds.black}`;
-  return bounds.behind ? `in ${bounds.table}: ${bounds.behind.join(", ")}` : bounds.text;
+// Shows the moves in their order; those from one square alone where a man is picked.
+export function showMoves(moves, play) {
+  at("moves").replaceChildren(...moves.map((move) => moveItem(move, play)));
 }

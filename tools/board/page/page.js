@@ -1,234 +1,248 @@
 // The page: the game so far, the position shown, and the questions that are asked about it.
-import { drawBoard, squareAt } from "./board.js";
-import { element } from "./men.js";
-import { boundOf, lineOf, shortBounds, sortedMoves } from "./moves.js";
+import { ask, at, make, makeButton, refuse, shown } from "./ask.js";
+import { drawBoard, wordsOf } from "./board.js";
+import { listenToHand } from "./hand.js";
+import { showBounds, showMoves } from "./moves.js";
+import { beginReport, listenToReport, turnReport } from "./report.js";
 
-const at = (id) => document.getElementById(id);
-const state = { game: [], place: 0, turned: false, position: null, picked: null, tables: null, asked: 0 };
-const MOST_BOARDS = 60;
+// The game is a list of steps, each a position and the move to it; `place` is that of the one shown, and
+// `going` that of the one that is asked for.
+const state = { game: [], place: 0, going: 0, turned: false, position: null, picked: null, told: null, asked: 0 };
+const BUSY = 200; // milliseconds after which the page says that it waits
 
-async function ask(question, words = {}) {
-  const answer = await fetch(`${question}?${new URLSearchParams(words)}`);
-  if (!answer.ok) throw new Error(await answer.text());
-  return answer.json();
+function tableShown() {
+  return state.told.tables[state.position.table ?? 0];
 }
 
-function make(name, text, kind = "") {
-  const made = document.createElement(name);
-  made.textContent = text;
-  if (kind) made.className = kind;
-  return made;
+function movesFrom(square) {
+  return state.position.moves.filter((move) => move.move.startsWith(square));
 }
 
-function marksOf(position) {
+function marksOf() {
   const marks = {};
-  const step = state.game[state.place];
-  if (step.move) marks[step.move.slice(0, 2)] = marks[step.move.slice(2, 4)] = "last";
+  const text = state.game[state.place].move;
+  if (text) marks[text.slice(0, 2)] = marks[text.slice(2, 4)] = "last";
   if (state.picked) {
-    for (const move of position.moves) {
-      if (move.move.startsWith(state.picked)) marks[move.move.slice(2, 4)] = "target";
-    }
-    marks[state.picked] = "picked";
+    for (const move of movesFrom(state.picked)) marks[move.move.slice(2, 4)] = "target";
+    marks[state.picked.slice(0, 2)] = "picked";
   }
   return marks;
 }
 
 function showBoard() {
-  const { position, turned } = state;
-  drawBoard(at("board"), position.fen, { turned, fast: state.tables.table.fast, marks: marksOf(position) });
-}
-
-function showBounds() {
-  const { bounds, end, turn } = state.position;
-  at("bounds").replaceChildren();
-  for (const side of ["white", "black"]) {
-    const { kind, plies } = boundOf(bounds, side);
-    const row = make("p", "", `bound ${kind}`);
-    row.append(make("span", lineOf(bounds, side) ?? (side === "white" ? bounds.text : ""), "words"));
-    if (plies !== undefined) row.append(make("span", String(plies), "plies"));
-    at("bounds").append(row);
-  }
-  const where = bounds.behind ? `, by ${bounds.table}` : "";
-  at("bounds").append(make("p", `${turn} to move${end ? `: ${end}` : ""}${where}`, "turn"));
-}
-
-function moveButton(move) {
-  const button = make("button", "", `move ${move.mark}`);
-  button.type = "button";
-  button.append(make("span", move.san, "san"), make("span", shortBounds(move.bounds), "after"));
-  if (move.words) button.append(make("span", move.words, "mark"));
-  button.addEventListener("click", () => play(move));
-  return button;
-}
-
-function showMoves() {
-  const wanted = (move) => !state.picked || move.move.startsWith(state.picked);
-  at("moves").replaceChildren(
-    ...sortedMoves(state.position).filter(wanted).map((move) => {
-      const item = document.createElement("li");
-      item.append(moveButton(move));
-      return item;
-    }),
-  );
+  const { fen } = state.position;
+  drawBoard(at("board"), fen, { turned: state.turned, fast: tableShown().fast, marks: marksOf() });
+  at("board").setAttribute("aria-label", wordsOf(fen));
 }
 
 function showGame() {
+  const inside = at("game").contains(document.activeElement);
   at("game").replaceChildren(
     ...state.game.map((step, place) => {
       const item = document.createElement("li");
-      const button = make("button", step.san ?? "start", place === state.place ? "here" : "");
-      button.type = "button";
-      button.addEventListener("click", () => go(place));
+      const button = makeButton(step.text ?? "start", place === state.place ? "here" : "", () => go(place));
+      if (place === state.place) button.setAttribute("aria-current", "step");
       item.append(button);
       return item;
     }),
   );
+  if (inside) at("game").querySelector(".here").focus();
   at("back").disabled = state.place === 0;
   at("forth").disabled = state.place + 1 >= state.game.length;
 }
 
+// Shows the moves; who chose one of them by its key can go on from the best of the next ones.
+function listMoves() {
+  const inside = at("moves").contains(document.activeElement);
+  showMoves(state.picked ? movesFrom(state.picked) : state.position.moves, play);
+  if (inside) (at("moves").querySelector("button") ?? at("back")).focus();
+}
+
 function show() {
-  showBoard();
-  showBounds();
-  showMoves();
-  showGame();
-  if (document.activeElement !== at("fen")) at("fen").value = state.position.fen;
-}
-
-// Asks about the position at a place of the game and shows it. Where it is refused, nothing changes.
-async function go(place, game = state.game) {
-  const question = ++state.asked;
-  const position = await ask("position", { fen: game[place].fen });
-  if (question !== state.asked) return;
-  at("refusal").textContent = position.refused ?? "";
-  if (position.refused !== undefined) return;
-  Object.assign(state, { game, place, position, picked: null });
-  show();
-}
-
-function play(move) {
-  const game = [...state.game.slice(0, state.place + 1), { fen: move.fen, san: move.san, move: move.move }];
-  at("line-said").textContent = "";
-  return go(game.length - 1, game);
-}
-
-function pick(square) {
   const { position } = state;
-  const found = state.picked
-    ? position.moves.filter((move) => move.move.startsWith(state.picked + square))
-    : [];
-  if (found.length === 1) return play(found[0]);
-  const begins = position.moves.some((move) => move.move.startsWith(square));
-  state.picked = found.length > 1 ? state.picked + square : begins && square !== state.picked ? square : null;
   showBoard();
-  showMoves();
-  if (found.length > 1) at("moves").querySelector("button")?.focus();
-}
-
-async function bestLine(side) {
-  const fen = state.position.fen;
-  const line = await ask("line", { fen, side });
-  at("line-said").textContent = line.refused ?? `${line.bound}; ${line.steps.length} plies, then ${line.end}`;
-  if (line.refused !== undefined) return;
-  state.game = [...state.game.slice(0, state.place + 1), ...line.steps];
+  showBounds(position, position.table ? tableShown().name : "");
+  listMoves();
   showGame();
+  for (const side of ["white", "black"]) {
+    at(`line-${side}`).disabled = position.table === null || tableShown().kind !== "plain";
+  }
+  if (document.activeElement !== at("fen")) at("fen").value = position.fen;
 }
 
-function smallBoard(fen) {
-  const button = make("button", "", "small");
-  button.type = "button";
-  const svg = element("svg", { viewBox: "0 0 372 372", role: "img", "aria-label": fen });
-  drawBoard(svg, fen, { turned: state.turned, plain: true });
-  button.append(svg);
-  button.addEventListener("click", () => go(0, [{ fen }]));
-  return button;
-}
-
-function showReport(report) {
-  at("report-stop").hidden = report.state !== "running";
-  at("report-start").disabled = report.state === "running" || state.tables.table.kind !== "plain";
-  const words = { none: "", stopped: "stopped", refused: report.text };
-  if (report.state === "running") words.running = `going over ${state.tables.table.size} numbers, ${report.seconds} s`;
-  at("report-said").textContent = words[report.state] ?? report.totals;
-  if (report.state !== "done") return;
-  at("exits").replaceChildren(...report.exits.map(({ count, men }) => make("li", `${men}: ${count} open exits`)));
-  const boards = (from, to) => report.squeezes.slice(from, to).map(smallBoard);
-  at("squeezes").replaceChildren(...boards(0, MOST_BOARDS));
-  if (report.squeezes.length > MOST_BOARDS) {
-    at("squeezes").append(make("p", `the first ${MOST_BOARDS} of ${report.squeezes.length}`));
+// The answer to a question about a position, or nothing where a later question was asked meanwhile.
+async function askPosition(words) {
+  const question = ++state.asked;
+  const waiting = setTimeout(() => at("moves").setAttribute("aria-busy", "true"), BUSY);
+  try {
+    const position = await ask("position", words);
+    if (position.age !== undefined && position.age !== state.told.age) await tell();
+    return question === state.asked ? position : null;
+  } finally {
+    clearTimeout(waiting);
+    at("moves").removeAttribute("aria-busy");
   }
 }
 
-async function report(question) {
-  const told = await ask(question);
-  showReport(told);
-  if (told.state === "running" && question !== "report/stop") setTimeout(() => report("report"), 500);
-  if (question === "report/stop") setTimeout(() => report("report"), 300);
+// Shows a place of a game by the answer about it. Where it is refused, nothing changes.
+function arrive(position, game, place) {
+  refuse(position.refused ?? "");
+  if (position.refused !== undefined) {
+    state.going = state.place;
+    return;
+  }
+  game[place].turn = position.turn;
+  Object.assign(state, { game, place, going: place, position, picked: null });
+  show();
 }
+
+const go = shown(async (place, game = state.game) => {
+  if (place < 0 || place >= game.length) return;
+  state.going = place;
+  const position = await askPosition({ fen: game[place].fen });
+  if (position) arrive(position, game, place);
+});
+
+const play = shown(async (move) => {
+  const { game, place } = state;
+  const position = await askPosition({ fen: game[place].fen, san: move.san });
+  if (!position) return;
+  at("line-said").textContent = "";
+  const step = { fen: position.fen, san: move.san, move: move.move };
+  arrive(position, numbered([...game.slice(0, place + 1), step]), place + 1);
+});
+
+function open(fen) {
+  at("line-said").textContent = "";
+  return go(0, [{ fen }]);
+}
+
+// The steps of a game with their texts: the number of the move before each of White's, and before the
+// first one where Black begins.
+function numbered(game) {
+  let black = game[0].turn === "black";
+  let number = 1;
+  return game.map((step, place) => {
+    if (place === 0) return step;
+    const head = black ? (place === 1 ? `${number}... ` : "") : `${number}. `;
+    if (black) number += 1;
+    black = !black;
+    return { ...step, text: head + step.san };
+  });
+}
+
+function pick(square) {
+  state.picked = square;
+  showBoard();
+  listMoves();
+}
+
+// Lays the picked man on a square. Where it may become several men there, the list asks which.
+function lay(square) {
+  const found = square ? movesFrom(state.picked + square) : [];
+  if (found.length === 1) return play(found[0]);
+  pick(found.length > 1 ? state.picked + square : null);
+  if (found.length > 1) at("moves").querySelector("button").focus();
+}
+
+const bestLine = shown(async (side) => {
+  const { game, place, asked } = state;
+  const line = await ask("line", { fen: state.position.fen, side });
+  if (asked !== state.asked) return;
+  at("line-said").textContent = line.refused ?? `${line.bound}; ${line.steps.length} plies, then ${line.end}`;
+  if (line.refused !== undefined) return;
+  state.game = numbered([...game.slice(0, place + 1), ...line.steps]);
+  showGame();
+});
 
 function flip() {
   state.turned = !state.turned;
-  showBoard();
+  if (state.position) showBoard();
+  turnReport();
 }
+
+// Moves the choice among the moves by so many places.
+function choose(places) {
+  const buttons = [...at("moves").querySelectorAll("button")];
+  const now = buttons.indexOf(document.activeElement);
+  const next = now < 0 ? (places > 0 ? 0 : buttons.length - 1) : now + places;
+  buttons[Math.max(0, Math.min(buttons.length - 1, next))]?.focus();
+}
+
+const KEYS = {
+  ArrowLeft: () => go(state.going - 1),
+  ArrowRight: () => go(state.going + 1),
+  ArrowUp: () => choose(-1),
+  ArrowDown: () => choose(1),
+  Escape: () => pick(null),
+  f: flip,
+};
 
 function onKey(event) {
   if (event.target.closest("input") || event.ctrlKey || event.altKey || event.metaKey) return;
-  if (event.key === "ArrowLeft" && state.place > 0) go(state.place - 1);
-  else if (event.key === "ArrowRight" && state.place + 1 < state.game.length) go(state.place + 1);
-  else if (event.key === "f") flip();
-  else return;
+  if (!KEYS[event.key] || !state.position) return;
+  event.preventDefault();
+  KEYS[event.key]();
+}
+
+function onCopy(event) {
+  if (event.target.closest?.("input") || !getSelection().isCollapsed || !state.position) return;
+  event.clipboardData.setData("text/plain", state.position.fen);
   event.preventDefault();
 }
 
+function onPaste(event) {
+  if (event.target.closest?.("input") || !event.clipboardData.getData("text/plain")) return;
+  open(event.clipboardData.getData("text/plain").trim().slice(0, 200));
+}
+
 function listen() {
-  at("board").addEventListener("pointerdown", (event) => {
-    const square = squareAt(event);
-    if (square) pick(square);
-  });
-  at("board").addEventListener("pointerup", (event) => {
-    const square = squareAt(event);
-    if (square && state.picked && square !== state.picked.slice(0, 2)) pick(square);
+  listenToHand(at("board"), {
+    canPick: (square) => movesFrom(square).length > 0,
+    picked: () => state.picked?.slice(0, 2) ?? null,
+    pick,
+    lay,
   });
   at("fen-form").addEventListener("submit", (event) => {
     event.preventDefault();
-    go(0, [{ fen: at("fen").value.trim() }]);
+    open(at("fen").value.trim());
   });
   at("copy").addEventListener("click", () => navigator.clipboard.writeText(state.position.fen));
   at("flip").addEventListener("click", flip);
-  at("back").addEventListener("click", () => go(state.place - 1));
-  at("forth").addEventListener("click", () => go(state.place + 1));
+  at("back").addEventListener("click", () => go(state.going - 1));
+  at("forth").addEventListener("click", () => go(state.going + 1));
   at("line-white").addEventListener("click", () => bestLine("white"));
   at("line-black").addEventListener("click", () => bestLine("black"));
-  at("report-start").addEventListener("click", () => report("report/start"));
-  at("report-stop").addEventListener("click", () => report("report/stop"));
   document.addEventListener("keydown", onKey);
+  document.addEventListener("copy", onCopy);
+  document.addEventListener("paste", onPaste);
+  listenToReport();
 }
 
 const KINDS = { plain: "a table", chained: "a chained table", leaning: "a table over others" };
 
 function rulesOf(back) {
-  const shown = document.createElement("details");
-  shown.append(make("summary", `Rules text of ${back.name}, ${back.size} numbers`), make("pre", back.text));
-  return shown;
+  const details = document.createElement("details");
+  details.append(make("summary", `Rules text of ${back.name}, ${back.size} numbers`), make("pre", back.text));
+  return details;
 }
 
-function showTables() {
-  const { table, backs } = state.tables;
+// Asks for the tables, and shows their rules texts.
+async function tell() {
+  state.told = await ask("tables");
+  const [table, ...backs] = state.told.tables;
   document.title = at("title").textContent = table.name;
   at("table-said").textContent = `${KINDS[table.kind]} of ${table.size} numbers`;
   at("rules").textContent = table.text;
   at("behind").replaceChildren(...backs.map(rulesOf));
-  at("plain-alone").hidden = table.kind === "plain";
-  for (const id of ["line-white", "line-black", "report-start"]) at(id).disabled = table.kind !== "plain";
+  beginReport(table.size, open, () => state.turned);
 }
 
-async function begin() {
-  state.tables = await ask("tables");
-  const { start } = state.tables;
-  showTables();
+const begin = shown(async () => {
+  await tell();
   listen();
-  if (start) await go(0, [{ fen: start }]);
-  else at("refusal").textContent = "type a FEN to begin";
-}
+  if (state.told.start) await open(state.told.start);
+  else refuse("type a FEN to begin");
+});
 
 begin();

@@ -1,0 +1,60 @@
+"""The tables of the command line, TABLE and those behind it: their heads, and which of them has a
+position."""
+
+import os
+
+from .head import CHAINED, LEANING, PLAIN, read_head
+
+# The program and the command that tell the bounds of a table, by its kind.
+ASKED = {
+    PLAIN: ("freezer", "query"),
+    CHAINED: ("freezer", "chainquery"),
+    LEANING: ("atlas", "query"),
+}
+
+
+def stamp_of(path):
+    """What changes when a file is written anew."""
+    found = os.stat(path)
+    return found.st_mtime_ns, found.st_size, found.st_ino
+
+
+class Tables:
+    """The tables by their places, TABLE at 0. A file that was written anew is read anew."""
+
+    def __init__(self, calls, paths):
+        self.calls = calls
+        self.paths = paths
+        self.age = 0
+        self.stamps = None
+        self.heads = []
+        self.refresh()
+
+    def refresh(self):
+        """Whether the files are others than those that were read; then the answers are dropped."""
+        stamps = [stamp_of(path) if os.path.exists(path) else None for path in self.paths]
+        if stamps == self.stamps:
+            return False
+        self.heads = [read_head(path) for path in self.paths]
+        self.stamps = stamps
+        self.age += 1
+        self.calls.forget()
+        return True
+
+    def question(self, place, fen):
+        """The words that ask a table for its bounds at a position."""
+        head = self.heads[place]
+        return (*ASKED[head.kind], head.path, fen)
+
+    def first(self, fen):
+        """The place of the first table that has the position, and what it answers; None and the answer of
+        TABLE where no table has it, or TABLE cannot be asked."""
+        told = self.calls.ask(*self.question(0, fen))
+        if told.status == 0:
+            return 0, told
+        if told.text.strip() == "outside":
+            for place in range(1, len(self.heads)):
+                answer = self.calls.ask(*self.question(place, fen))
+                if answer.status == 0:
+                    return place, answer
+        return None, told
