@@ -9,6 +9,7 @@ sys.path.append("/usr/lib/python3/dist-packages")  # Debian's, where another Pyt
 from selenium import webdriver
 from selenium.webdriver.chrome.service import Service
 from selenium.webdriver.common.action_chains import ActionChains
+from selenium.webdriver.common.actions.action_builder import ActionBuilder
 from selenium.webdriver.common.by import By
 from selenium.webdriver.common.keys import Keys
 
@@ -99,12 +100,21 @@ class Page:
     def square(self, name):
         return self.find(f'#board rect[data-square="{name}"]')[0]
 
-    def click_squares(self, *names):
-        for name in names:
-            ActionChains(self.driver).move_to_element(self.square(name)).click().perform()
+    def point(self, square):
+        """The middle of a square in the window. The board is drawn anew under the hand."""
+        found = self.square(square).rect
+        return int(found["x"] + found["width"] / 2), int(found["y"] + found["height"] / 2)
+
+    def click_squares(self, *squares):
+        for square in squares:
+            self.drag(square, square)
 
     def drag(self, origin, destination):
-        ActionChains(self.driver).drag_and_drop(self.square(origin), self.square(destination)).perform()
+        actions = ActionBuilder(self.driver)
+        hand = actions.pointer_action
+        hand.move_to_location(*self.point(origin)).pointer_down()
+        hand.move_to_location(*self.point(destination)).pointer_up()
+        actions.perform()
 
     def run(self, script, *words):
         return self.driver.execute_script(script, *words)

@@ -88,13 +88,21 @@ class Served:
                  "--program", programs.counted("freezer"), "--atlas", programs.counted("atlas")]
         self.server = subprocess.Popen(words, stdout=subprocess.PIPE, text=True)
         self.address = self.server.stdout.readline().strip()
-        self.page = Page(self.address, programs.folder)
+        self.page = None
 
     def __enter__(self):
+        try:
+            self.page = Page(self.address, self.programs.folder)
+        except Exception:
+            self.end()
+            raise
         return self.page
 
     def __exit__(self, *_):
         self.page.driver.quit()
+        self.end()
+
+    def end(self):
         self.server.terminate()
         self.server.wait()
 
