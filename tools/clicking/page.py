@@ -22,6 +22,9 @@ return board.getData("text/plain");"""
 PASTE = """const board = new DataTransfer();
 board.setData("text/plain", arguments[0]);
 document.body.dispatchEvent(new ClipboardEvent("paste", {clipboardData: board, bubbles: true}));"""
+# Each move of the list: its notation, what is said of it, and its marks.
+MOVES = """return [...document.querySelectorAll("#moves .move")].map((row) => [".san", ".after", ".mark"].map(
+  (kind) => [...row.querySelectorAll(kind)].map((part) => part.innerText.trim()).join(" ")));"""
 # The least contrast of a text with its ground, by the formula of WCAG 2, over all texts that are seen.
 CONTRAST = """const part = (c) => (c / 255 <= 0.03928 ? c / 255 / 12.92 : ((c / 255 + 0.055) / 1.055) ** 2.4);
 const light = (c) => { const [r, g, b] = c.match(/[\\d.]+/g).map(Number);
@@ -72,12 +75,9 @@ class Page:
         return self.wait(lambda: self.bounds() == words)
 
     def moves(self):
-        """Each move of the list: its notation, what is said of it, and its marks."""
-        return [
-            tuple(" ".join(part.text for part in row.find_elements(By.CSS_SELECTOR, kind))
-                  for kind in (".san", ".after", ".mark"))
-            for row in self.find("#moves .move")
-        ]
+        """Each move of the list: its notation, what is said of it, and its marks; all read at once,
+        since the page may draw the list anew."""
+        return [tuple(row) for row in self.driver.execute_script(MOVES)]
 
     def show(self, fen):
         field = self.find("#fen")[0]
