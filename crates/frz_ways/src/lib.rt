@@ -32,4 +32,4 @@ pub use reading::read_codes;
 pub use session::play_session;
 pub use session_end::{MOST_LENGTH, MOST_LINES, PlayFault, PlayLimit, SessionEnd};
 pub use texts::write_value;
-pub use way_end::{Finish, WayEnd};
+pub use way_end::{Finish, WayEnd, end_answer};

@@ -15,9 +15,35 @@ ghost use Rattle.frz_ways.specs.Reading.{Input};
 ghost use Rattle.frz_ways.specs.Ways.{WayPly, EndOfWay, GoesOn};
 
 use crate::laws::sessions::{HaltedInput, LeftInput};
+use frz_arena::laws::lines::lines_end;
+use frz_arena::laws::sessions::{sessions_end, sides_move_in_turn};
 use frz_arena::laws::ways;
-use frz_board::Move;
+use frz_board::{Move, Position};
+use frz_fide::laws::all_listed;
+use frz_game::laws::numbers::numbered;
 use frz_sets::Value as ExitValue;
+
+/// From each number there is exactly one way by given codes, wherever the input stands. `codes k` are
+/// those known after `k` plies.
+pub fn one_way()
+    ensures there { (rules : RuleLines) (value : Board → Value) (opponent : Opponent)
+        (side : Colour) (codes : ℕ → List ℕ) (start : ℕ) (input : Input) →
+        (plies : List WayPly) × (end : EndOfWay) × (left : Input)
+        × GoesOn (graph_by rules value) opponent side codes 0 input start plies end left }
+    ensures one { (rules : RuleLines) (value : Board → Value) (opponent : Opponent)
+        (side : Colour) (codes : ℕ → List ℕ) (start : ℕ) (input : Input)
+        (plies others : List WayPly) (end last : EndOfWay) (left rest : Input) →
+        GoesOn (graph_by rules value) opponent side codes 0 input start plies end left →
+        GoesOn (graph_by rules value) opponent side codes 0 input start others last rest →
+        (plies ≡ others) × (end ≡ last) × (left ≡ rest) }
+{
+    lines_end::<Move, (u32, u32), ExitValue, LeftInput, HaltedInput>();
+    sessions_end::<Move, (u32, u32), ExitValue, LeftInput, HaltedInput>();
+    sides_move_in_turn::<Position, Move, ExitValue>();
+    ways::one_way::<Move, (u32, u32), ExitValue, LeftInput, HaltedInput>();
+    all_listed();
+    numbered();
+}
 
 /// A way is a game of chess. From a number that belongs to no position there is no ply.
 pub fn ways_are_games()

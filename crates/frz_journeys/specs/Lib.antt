@@ -1,0 +1,9 @@
+pub mod Tables
+pub mod Journeys
+pub mod JourneyTexts
+pub mod Arrivals
+pub mod Onward
+pub mod Playing
+pub mod JourneyGames
+pub mod KeptBounds
+pub mod ExactJourneys
