@@ -8,6 +8,7 @@ pub mod laws;
 mod value;
 
 pub use book::{ExitBook, RuleBook};
+pub use conditions::all_hold;
 pub use forbidding::allowed;
 pub use frz_arena::Class;
 pub use value::{class, lag};

@@ -1,0 +1,10 @@
+mod Listed
+mod FirstLines
+mod Exits
+mod TableWords
+mod TrueLines
+mod ManyTexts
+mod Numbering
+mod Trying
+mod SideValues
+mod Needs

@@ -1,0 +1,109 @@
+-- The exit that is told of a believed line is the first that needs belief.
+use Rattle.std.proofs.Common.{◌≡◌, ℕ, inl, inr, Bool, true, false, List, [], ◌∷◌, All, get_or, Option, Some, None, refl, sym, subst, ap, ◌∙◌}
+use Rattle.std.specs.Prelude.{find}
+use Rattle.std.specs.List.{Contains, enumerate_from, list_any, position_from}
+use Rattle.std.proofs.lemmas.Bool.{cases_Bool, not-true}
+use Rattle.std.proofs.lemmas.List.Elements.{All-map}
+use Rattle.frz_board.specs.Boards.{Board}
+use Rattle.frz_fide.specs.Valid.{IsValid}
+use Rattle.frz_fide.proofs.Lemmas.{only_legal, valid_after}
+use Rattle.frz_sets.specs.declared.exit.Value.{Value}
+use Rattle.frz_sets.specs.declared.exit.Value.TheVariants.{Unknown}
+use Rattle.frz_sets.specs.Views.{ExitLine, GroupLine, RuleLines}
+use Rattle.frz_index.proofs.Lemmas.{member_of}
+use Rattle.frz_arena.specs.Exits.{IsExit}
+use Rattle.frz_arena.proofs.Lemmas.{first_in, later_in}
+use Rattle.frz_game.specs.Games.{game_of}
+use Rattle.frz_game.specs.TextsByMen.{is_true_by}
+use Rattle.frz_backs.specs.Links.{Link}
+use Rattle.frz_premises.specs.declared.basis.Basis.{Basis}
+use Rattle.frz_premises.specs.declared.basis.Basis.TheVariants.{AsksNothing, ByMen, ByTable, ByTables, Believed}
+use Rattle.frz_premises.specs.Bases.{bases_of, basis_at, basis_of, by_need, by_tables, is_unknown}
+use Rattle.frz_premises.specs.Deciding.{decided_by, decides}
+use Rattle.frz_premises.specs.Needs.{HasValidNeed, NeedsBelief}
+use Rattle.frz_premises.specs.Saying.{none_says, says_as_much, says_at_each}
+use Rattle.frz_premises.specs.WaysOut.{outside_of}
+use Rattle.frz_premises.proofs.Exits.{unlisted}
+use Rattle.frz_premises.proofs.Listed.{of_filter}
+
+found_in : {X : Type 0} (test : X → Bool) (xs : List X) (x : X) → find test xs ≡ Some x →
+    Contains xs x × (test x ≡ true)
+found_in test [] x h = absurd (cc)
+found_in test (y ∷ xs) x h =
+    elim (cases_Bool (test y)) [
+      | inl passes ↦ (let e : Some y ≡ Some x = rw passes at h in
+          let same : y ≡ x = cc in
+          (subst (λ z. Contains (y ∷ xs) z) same (first_in y xs), sym (ap test same) ∙ passes))
+      | inr fails ↦ (let e : find test xs ≡ Some x = rw fails at h in
+          let rest = found_in test xs x e in (later_in y xs x rest.0, rest.1))
+    ]
+
+need_is : (need : Option Board) (place : Option ℕ) (q : Board) →
+    by_need need place ≡ Believed q → need ≡ Some q
+need_is (Some first) place q h = let same : first ≡ q = cc in ap Some same
+need_is None (Some k) q h = absurd (cc)
+need_is None None q h = absurd (cc)
+
+told_need : (groups : List GroupLine) (links : List Link) (line : ExitLine) (qs : List Board)
+    (q : Board) → basis_at groups links line qs ≡ Believed q →
+    (find (none_says links line.value) qs ≡ Some q) × (is_unknown line.value ≡ false)
+    × (is_true_by groups line.conds line.value ≡ false)
+told_need groups links line [] q h = absurd (cc)
+told_need groups links line (first ∷ qs) q h =
+    elim (cases_Bool (is_unknown line.value)) [
+      | inl unknown ↦ absurd (let e : AsksNothing ≡ Believed q = rw unknown at h in cc)
+      | inr known ↦ elim (cases_Bool (is_true_by groups line.conds line.value)) [
+        | inl men ↦ absurd (let e : ByMen ≡ Believed q = rw (known, men) at h in cc)
+        | inr asked ↦ (
+            let e : by_tables links line.value (first ∷ qs) ≡ Believed q =
+            rw (known, asked) at h in (
+              need_is (find (none_says links line.value) (first ∷ qs))
+                  (position_from (says_at_each line.value (first ∷ qs)) 0 links) q e,
+              known,
+              asked,
+            ))
+      ]
+    ]
+
+pub needs : (rules : RuleLines) (value : Board → Value) (links : List Link) (i : ℕ)
+    (line : ExitLine) (q : Board) → basis_of rules links i line ≡ Believed q →
+    NeedsBelief rules value links i line q
+needs rules value links i line q h =
+    let exits = outside_of rules.groups in
+    let told = told_need rules.groups links line (decided_by rules.exits i exits) q h in
+    let found = found_in (none_says links line.value) (decided_by rules.exits i exits) q told.0 in
+    let kept = of_filter (decides rules.exits i) exits q found.0 in
+    record {
+      is_exit = unlisted rules value q kept.0;
+      decided = kept.1;
+      known = told.1;
+      asked = told.2;
+      none = not-true (list_any (λ link. says_as_much line.value link q) links) found.1;
+    }
+
+-- so each exit that is told is a valid position
+exit_valid : (rules : RuleLines) (value : Board → Value) (q : Board) →
+    IsExit (game_of rules value) q → IsValid q
+exit_valid rules value q x =
+    let l = only_legal x.from x.move x.legal in
+    let v = (member_of rules.groups x.from x.begins).valid in
+    subst IsValid x.ends (valid_after x.from x.move v l.0.to l.1)
+
+by_basis : (rules : RuleLines) (links : List Link) (i : ℕ) (line : ExitLine) (b : Basis) →
+    basis_of rules links i line ≡ b → HasValidNeed b
+by_basis rules links i line AsksNothing e = tt
+by_basis rules links i line ByMen e = tt
+by_basis rules links i line (ByTable k) e = tt
+by_basis rules links i line ByTables e = tt
+by_basis rules links i line (Believed q) e =
+    exit_valid rules (λ q. Unknown) q (needs rules (λ q. Unknown) links i line q e).is_exit
+
+pub valid_needs : (rules : RuleLines) (links : List Link) →
+    All HasValidNeed (bases_of rules links)
+unfolding bases_of
+valid_needs rules links =
+    let f : ℕ × ExitLine → Basis = λ e. basis_of rules links e.0 e.1 in
+    All-map HasValidNeed f (enumerate_from 0 rules.exits)
+    (λ k d l. (
+    let e = get_or (enumerate_from 0 rules.exits) k d in
+    by_basis rules links e.0 e.1 (f e) refl))

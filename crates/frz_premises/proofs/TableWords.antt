@@ -1,0 +1,201 @@
+-- What an exact table says of a position is true, if its own exits are true.
+use Rattle.std.proofs.Common.{◌≡◌, ◌≤◌, ◌+◌, ◌*◌, ℕ, zero, suc, inl, inr, Bool, true, false, not, ◌||◌, List, [], ◌∷◌, ◌++◌, All, Some, refl, sym, subst, ap, ◌∙◌, arith}
+use Rattle.std.specs.Prelude.{slice_get, slice_index, ◌==◌, nat_le}
+use Rattle.std.specs.List.{list_any}
+use Rattle.std.proofs.lemmas.Bool.{and_parts, or_cases, or_parts, not-true, eqb-true, leb-true}
+use Rattle.std.proofs.lemmas.List.Elements.{All-nil, All-cons, All-head, All-tail, All-push}
+use Rattle.frz_board.specs.Boards.{Board}
+use Rattle.frz_board.specs.Men.{other_of}
+use Rattle.frz_board.specs.declared.man.Colour.{Colour}
+use Rattle.frz_board.specs.declared.man.Colour.TheVariants.{White, Black}
+use Rattle.frz_sets.specs.declared.exit.Value.{Value}
+use Rattle.frz_sets.specs.declared.exit.Value.TheVariants.{WhiteWins, BlackWins, Draw, WhiteHolds, BlackHolds, Unknown, WhiteWinsIn, BlackWinsIn}
+use Rattle.frz_sets.specs.Views.{ExitLine, RuleLines}
+use Rattle.frz_exits.specs.Books.{value_by}
+use Rattle.frz_exits.specs.Values.{class_of, is_numbered}
+use Rattle.frz_index.specs.Members.{Member, Num}
+use Rattle.frz_index.specs.Membership.{is_member}
+use Rattle.frz_index.proofs.Lemmas.{member_of}
+use Rattle.frz_arena.specs.declared.bound.Bound.{Bound}
+use Rattle.frz_arena.specs.declared.bound.Bound.TheVariants.{Wins, Holds, Fails}
+use Rattle.frz_arena.specs.declared.class.Class.TheVariants.{Good}
+use Rattle.frz_arena.specs.Chess.{ForcesMate, NeverForcesMate, mate_alone}
+use Rattle.frz_arena.specs.Codes.{code_of, is_win}
+use Rattle.frz_arena.specs.Exits.{AllNumbered}
+use Rattle.frz_arena.proofs.Lemmas.{as_failure, win_and_failure, forces_later}
+use Rattle.frz_game.specs.Games.{chess, game_of}
+use Rattle.frz_game.specs.Meaning.{Means}
+use Rattle.frz_game.specs.Values.{AreTrueExits, IsTrueValue}
+use Rattle.frz_game.proofs.Lemmas.{bound_means, stored_bound}
+use Rattle.frz_chain.specs.Books.{Back}
+use Rattle.frz_chain.specs.FileOn.{IsExactBack}
+use Rattle.frz_chain.proofs.Lemmas.{number_inside, number_outside}
+use Rattle.frz_backs.specs.Links.{Link, value_over, AreExactOver, AreExact, AreTrueLines}
+use Rattle.frz_backs.proofs.Lemmas.{TellsTrue, link_true, over_true}
+use Rattle.frz_premises.specs.Saying.{codes_say, counts_wins, holds, is_uncounted, says_as_much, says_at, wins_within}
+use Rattle.frz_premises.proofs.FirstLines.{first_cases}
+
+-- bounds by their codes
+no_win_of_failure : (m code : ℕ) → code ≡ code_of (Fails m) → is_win code ≡ true → ⊥
+no_win_of_failure m code e win = win_and_failure code win (as_failure code m e).0
+
+no_win_of_hold : (code : ℕ) → code ≡ 1 → is_win code ≡ true → ⊥
+no_win_of_hold code e win =
+    let h : is_win 1 ≡ true = subst (λ (c : ℕ). is_win c ≡ true) e win in cc
+
+module _ (rules : RuleLines) (value : Board → Value) (exits : AreTrueExits rules value)
+    (side : Colour) (q : Board) where
+  won : (b : Bound) (code : ℕ) → Means rules value side q b → code ≡ code_of b →
+      is_win code ≡ true → (n : ℕ) × ForcesMate chess side n q
+  won (Wins n) code means e win = means.mate exits
+  won Holds code means e win = absurd (no_win_of_hold code e win)
+  won (Fails m) code means e win = absurd (no_win_of_failure m code e win)
+
+  won_in : (all : AllNumbered (game_of rules value) side) (b : Bound) (code c : ℕ) →
+      Means rules value side q b → code ≡ code_of b → wins_within c code ≡ true →
+      ForcesMate chess side c q
+  won_in all (Wins n) code c means e h =
+      let both = and_parts (is_win code) (nat_le code (2 + 2 * c)) h in
+      let few : code ≤ 2 + 2 * c = leb-true code (2 + 2 * c) both.1 in
+      forces_later chess mate_alone side n c q (omega arith) (means.within exits all)
+  won_in all Holds code c means e h =
+      absurd (no_win_of_hold code e (and_parts (is_win code) (nat_le code (2 + 2 * c)) h).0)
+  won_in all (Fails m) code c means e h =
+      absurd (no_win_of_failure m code e (and_parts (is_win code) (nat_le code (2 + 2 * c)) h).0)
+
+  held : (b : Bound) (code : ℕ) → Means rules value side q b → code ≡ code_of b →
+      holds code ≡ true → NeverForcesMate chess (other_of side) q
+  held (Wins n) code means e h = means.safe exits
+  held Holds code means e h = means exits
+  held (Fails m) code means e h =
+      elim (or_cases (code == 1) (is_win code) h) [
+        | inl one ↦ absurd (let k = eqb-true code 1 one in omega arith)
+        | inr win ↦ absurd (no_win_of_failure m code e win)
+      ]
+
+-- each winning line of a text without uncounted ones gives its plies
+numbered : (v : Value) (side : Colour) → is_uncounted v side ≡ false → class_of v side ≡ Good →
+    is_numbered v ≡ true
+numbered WhiteWins White u g = absurd (cc)
+numbered WhiteWins Black u g = absurd (cc)
+numbered BlackWins White u g = absurd (cc)
+numbered BlackWins Black u g = absurd (cc)
+numbered Draw side u g = absurd (cc)
+numbered WhiteHolds White u g = absurd (cc)
+numbered WhiteHolds Black u g = absurd (cc)
+numbered BlackHolds White u g = absurd (cc)
+numbered BlackHolds Black u g = absurd (cc)
+numbered Unknown side u g = absurd (cc)
+numbered (WhiteWinsIn n) side u g = refl
+numbered (BlackWinsIn n) side u g = refl
+
+none_at : (test : ExitLine → Bool) (lines : List ExitLine) (i : ℕ) (line : ExitLine) →
+    list_any test lines ≡ false → slice_get lines i ≡ Some line → test line ≡ false
+none_at test [] i line h e = absurd (cc)
+none_at test (x ∷ lines) zero line h e =
+    let same : x ≡ line = cc in
+    sym (ap test same) ∙ (or_parts (test x) (list_any test lines) h).0
+none_at test (x ∷ lines) (suc i) line h e =
+    none_at test lines i line (or_parts (test x) (list_any test lines) h).1 e
+
+numbered_by : (leans : Bool) (rules : RuleLines) (before : List Back) (side : Colour) →
+    not (leans || list_any (λ line. is_uncounted line.value side) rules.exits) ≡ true →
+    AllNumbered (game_of rules (value_over leans rules before)) side
+numbered_by true rules before side h = absurd (cc)
+numbered_by false rules before side h = λ q x good.
+    (let none = not-true (list_any (λ line. is_uncounted line.value side) rules.exits) h in
+    elim (first_cases rules.exits q) [
+      | inl unknown ↦ absurd (let e = sym (ap (λ v. class_of v side) unknown) ∙ good in cc)
+      | inr (i, line, decides, first) ↦ (
+          let u = none_at (λ l. is_uncounted l.value side) rules.exits i line none first.there in
+          let g = sym (ap (λ v. class_of v side) first.value) ∙ good in
+          ap is_numbered first.value ∙ numbered line.value side u g)
+    ])
+
+-- what the table says of a position is true there
+abbrev pub Proves : Link → Type 0
+Proves link = (v : Value) (q : Board) → says_as_much v link q ≡ true → IsTrueValue v q
+
+module _ (link : Link) (value : Board → Value)
+    (exact : IsExactBack link.rules value link.back)
+    (exits : AreTrueExits link.rules value)
+    (counted : (side : Colour) → counts_wins link side ≡ true →
+    AllNumbered (game_of link.rules value) side) (q : Board) where
+  in_set : Member link.rules.groups q → (v : Value) →
+      codes_say link (slice_index link.back.white (Num link.rules.groups q))
+      (slice_index link.back.black (Num link.rules.groups q)) v ≡ true → IsTrueValue v q
+  in_set member =
+      let i : ℕ = Num link.rules.groups q in
+      let w : ℕ = slice_index link.back.white i in
+      let b : ℕ = slice_index link.back.black i in
+      let white = stored_bound link.rules value White link.back.white exact.white q member in
+      let black = stored_bound link.rules value Black link.back.black exact.black q member in
+      let white_means = bound_means link.rules value White q white.0 member white.2 in
+      let black_means = bound_means link.rules value Black q black.0 member black.2 in
+      let W = link.rules in
+      λ (v : Value). by_value w b white.0 black.0 white.1 black.1 white_means black_means v
+    where
+      by_value : (w b : ℕ) (white black : Bound) → w ≡ code_of white → b ≡ code_of black →
+          Means link.rules value White q white → Means link.rules value Black q black →
+          (v : Value) → codes_say link w b v ≡ true → IsTrueValue v q
+      by_value w b white black we be wm bm WhiteWins h =
+          won link.rules value exits White q white w wm we h
+      by_value w b white black we be wm bm BlackWins h =
+          won link.rules value exits Black q black b bm be h
+      by_value w b white black we be wm bm (WhiteWinsIn c) h =
+          let both = and_parts (wins_within c w) (counts_wins link White) h in
+          won_in link.rules value exits White q (counted White both.1) white w c wm we both.0
+      by_value w b white black we be wm bm (BlackWinsIn c) h =
+          let both = and_parts (wins_within c b) (counts_wins link Black) h in
+          won_in link.rules value exits Black q (counted Black both.1) black b c bm be both.0
+      by_value w b white black we be wm bm Draw h =
+          let both = and_parts (holds w) (holds b) h in (
+            held link.rules value exits White q white w wm we both.0,
+            held link.rules value exits Black q black b bm be both.1,
+          )
+      by_value w b white black we be wm bm WhiteHolds h =
+          held link.rules value exits White q white w wm we h
+      by_value w b white black we be wm bm BlackHolds h =
+          held link.rules value exits Black q black b bm be h
+      by_value w b white black we be wm bm Unknown h = tt
+
+  pub proves_at : (v : Value) → says_as_much v link q ≡ true → IsTrueValue v q
+  unfolding says_as_much
+  proves_at v h = by_member (is_member link.rules.groups q) refl
+    where
+      by_member : (inside : Bool) → is_member link.rules.groups q ≡ inside → IsTrueValue v q
+      by_member true e =
+          let member = member_of link.rules.groups q e in
+          in_set member v
+          (sym (ap (says_at v link) (number_inside link.rules link.back exact.set q member)) ∙ h)
+      by_member false e =
+          absurd (let none = sym (ap (says_at v link)
+          (number_outside link.rules link.back exact.set q e)) ∙ h in cc)
+
+exits_true : (leans : Bool) (rules : RuleLines) (before : List Back) → All TellsTrue before →
+    AreTrueExits rules (value_by rules) → AreTrueExits rules (value_over leans rules before)
+exits_true true rules before told own = over_true rules before told own
+exits_true false rules before told own = own
+
+pub link_proves : (link : Link) (before : List Back) →
+    IsExactBack link.rules (value_over link.leans link.rules before) link.back →
+    All TellsTrue before → AreTrueExits link.rules (value_by link.rules) → Proves link
+link_proves link before exact told own v q h =
+    proves_at link (value_over link.leans link.rules before) exact
+    (exits_true link.leans link.rules before told own)
+    (λ side c. numbered_by link.leans link.rules before side c) q v h
+
+each_proves : (before : List Back) (links : List Link) → All TellsTrue before →
+    AreExactOver before links → AreTrueLines links → All Proves links
+unfolding AreExactOver
+each_proves before [] told exact own = All-nil Proves
+each_proves before (link ∷ links) told exact own =
+    let Lines : Link → Type 0 = λ l. AreTrueExits l.rules (value_by l.rules) in
+    let mine = All-head Lines link links own in
+    All-cons Proves link links (link_proves link before exact.0 told mine)
+    (each_proves (before ++ (link.back ∷ [])) links
+    (All-push TellsTrue before link.back told (link_true link before exact.0 told mine)) exact.1
+    (All-tail Lines link links own))
+
+pub all_prove : (links : List Link) → AreExact links → AreTrueLines links → All Proves links
+all_prove links exact own = each_proves [] links (All-nil TellsTrue) exact own

@@ -1,0 +1,190 @@
+-- A line that is not believed is true at each exit that it decides.
+use Rattle.std.proofs.Common.{◌≡◌, ◌+◌, ℕ, zero, suc, inl, inr, Bool, true, false, List, [], ◌∷◌, map, All, Option, Some, None, refl, sym, subst, ap, ◌∙◌, arith, cond}
+use Rattle.std.specs.Prelude.{slice_get, find, count_by}
+use Rattle.std.specs.List.{Contains, enumerate_from, list_any, position_from}
+use Rattle.std.proofs.lemmas.Bool.{cases_Bool, not-false}
+use Rattle.std.proofs.lemmas.List.Elements.{All-head, All-tail}
+use Rattle.std.proofs.lemmas.List.Sums.{sum_by-cons}
+use Rattle.frz_board.specs.Boards.{Board}
+use Rattle.frz_fide.specs.Legal.{after}
+use Rattle.frz_sets.specs.declared.exit.Value.{Value}
+use Rattle.frz_sets.specs.declared.exit.Value.TheVariants.{WhiteWins, BlackWins, Draw, WhiteHolds, BlackHolds, Unknown, WhiteWinsIn, BlackWinsIn}
+use Rattle.frz_sets.specs.Views.{ExitLine, RuleLines}
+use Rattle.frz_exits.specs.Books.{value_by}
+use Rattle.frz_exits.specs.Conditions.{conditions_hold}
+use Rattle.frz_index.specs.Membership.{is_member}
+use Rattle.frz_arena.specs.Exits.{IsExit}
+use Rattle.frz_arena.proofs.Lemmas.{none_in_empty}
+use Rattle.frz_game.specs.Games.{game_of}
+use Rattle.frz_game.specs.TextsByMen.{are_true_by_men, is_true_by}
+use Rattle.frz_game.specs.Values.{AreTrueExits, IsTrueValue}
+use Rattle.frz_game.proofs.Lemmas.{exits_by_men, text_by_men}
+use Rattle.frz_backs.specs.Links.{Link, AreExact, AreTrueLines, backs_of}
+use Rattle.frz_backs.specs.Values.{atlas_value}
+use Rattle.frz_backs.proofs.Lemmas.{exits_over_true}
+use Rattle.frz_premises.specs.declared.basis.Basis.{Basis}
+use Rattle.frz_premises.specs.declared.basis.Basis.TheVariants.{Believed}
+use Rattle.frz_premises.specs.Bases.{bases_of, basis_at, basis_of, believed_of, by_need, by_tables, is_believed, is_unknown}
+use Rattle.frz_premises.specs.Deciding.{decided_by, decides}
+use Rattle.frz_premises.specs.Saying.{none_says, says_as_much, says_at_each}
+use Rattle.frz_premises.specs.WaysOut.{outside_of}
+use Rattle.frz_premises.proofs.Exits.{listed}
+use Rattle.frz_premises.proofs.FirstLines.{decides_first, first_cases}
+use Rattle.frz_premises.proofs.Listed.{in_filter, none_found}
+use Rattle.frz_premises.proofs.TableWords.{Proves, all_prove}
+
+-- what one of several tables says is true where each of them says what is true
+some_proves : (links : List Link) (v : Value) (q : Board) → All Proves links →
+    list_any (λ link. says_as_much v link q) links ≡ true → IsTrueValue v q
+some_proves [] v q proves h = absurd (cc)
+some_proves (link ∷ links) v q proves h =
+    elim (cases_Bool (says_as_much v link q)) [
+      | inl says ↦ All-head Proves link links proves v q says
+      | inr silent ↦ some_proves links v q (All-tail Proves link links proves)
+          (let rest = rw silent at h in rest)
+    ]
+
+-- an unknown value is true, and so is one that the men show
+unknown_true : (v : Value) (q : Board) → is_unknown v ≡ true → IsTrueValue v q
+unknown_true Unknown q h = tt
+unknown_true WhiteWins q h = absurd (cc)
+unknown_true BlackWins q h = absurd (cc)
+unknown_true Draw q h = absurd (cc)
+unknown_true WhiteHolds q h = absurd (cc)
+unknown_true BlackHolds q h = absurd (cc)
+unknown_true (WhiteWinsIn n) q h = absurd (cc)
+unknown_true (BlackWinsIn n) q h = absurd (cc)
+
+-- the rules with this exit line alone
+abbrev alone : RuleLines → ExitLine → RuleLines
+alone rules line = record rules { exits = line ∷ [] }
+
+alone_true : (rules : RuleLines) (line : ExitLine) →
+    is_true_by rules.groups line.conds line.value ≡ true →
+    are_true_by_men (alone rules line) ≡ true
+unfolding are_true_by_men
+alone_true rules line h = rw h refl
+
+men_true : (rules : RuleLines) (value : Board → Value) (line : ExitLine) (q : Board) →
+    IsExit (game_of rules value) q → conditions_hold q line.conds ≡ true →
+    is_true_by rules.groups line.conds line.value ≡ true → IsTrueValue line.value q
+men_true rules value line q x hold h =
+    let one = alone rules line in
+    let exits = exits_by_men one (value_by one) (text_by_men one (alone_true rules line h)) in
+    let there = exits x.from x.move x.begins x.legal
+    (subst (λ (z : Board). is_member rules.groups z ≡ false) (sym x.ends) x.outside) in
+    let here : IsTrueValue (value_by one q) q =
+    subst (λ (z : Board). IsTrueValue (value_by one z) z) x.ends there in
+    let same : value_by one q ≡ line.value = rw hold refl in
+    subst (λ (v : Value). IsTrueValue v q) same here
+
+-- no exit needs belief where the tables are asked
+tables_told : (links : List Link) (v : Value) (qs : List Board) (q : Board) → Contains qs q →
+    is_believed (by_tables links v qs) ≡ false →
+    list_any (λ link. says_as_much v link q) links ≡ true
+tables_told links v qs q i h = by_find (find (none_says links v) qs) refl
+  where
+    by_find : (need : Option Board) → find (none_says links v) qs ≡ need →
+        list_any (λ link. says_as_much v link q) links ≡ true
+    by_find None e =
+        not-false (list_any (λ link. says_as_much v link q) links)
+        (none_found (none_says links v) qs q e i)
+    by_find (Some first) e =
+        absurd (let told : is_believed (Believed first) ≡ false =
+        sym (ap (λ (o : Option Board). is_believed
+        (by_need o (position_from (says_at_each v qs) 0 links))) e) ∙ h in cc)
+
+-- what shows that a line is true at an exit that it decides
+shown : (rules : RuleLines) (value : Board → Value) (links : List Link) → All Proves links →
+    (line : ExitLine) (q : Board) → IsExit (game_of rules value) q →
+    conditions_hold q line.conds ≡ true → (qs : List Board) → Contains qs q →
+    is_believed (basis_at rules.groups links line qs) ≡ false → IsTrueValue line.value q
+shown rules value links proves line q x hold [] i h = absurd (none_in_empty q i)
+shown rules value links proves line q x hold (first ∷ qs) i h =
+    elim (cases_Bool (is_unknown line.value)) [
+      | inl unknown ↦ unknown_true line.value q unknown
+      | inr known ↦ elim (cases_Bool (is_true_by rules.groups line.conds line.value)) [
+        | inl men ↦ men_true rules value line q x hold men
+        | inr asked ↦ (let told = rw (known, asked) at h in
+            some_proves links line.value q proves
+            (tables_told links line.value (first ∷ qs) q i told))
+      ]
+    ]
+
+pub line_true : (rules : RuleLines) (value : Board → Value) (links : List Link) →
+    All Proves links → (i : ℕ) (line : ExitLine) → slice_get rules.exits i ≡ Some line →
+    is_believed (basis_of rules links i line) ≡ false → (q : Board) →
+    IsExit (game_of rules value) q → decides rules.exits i q ≡ true → IsTrueValue line.value q
+line_true rules value links proves i line there h q x d =
+    let w = decides_first rules.exits q i d in
+    let first = w.1 in
+    let known = first.there in
+    let same : w.0 ≡ line = cc in
+    let hold = subst (λ (l : ExitLine). conditions_hold q l.conds ≡ true) same first.holds in
+    shown rules value links proves line q x hold
+    (decided_by rules.exits i (outside_of rules.groups))
+    (in_filter (decides rules.exits i) (outside_of rules.groups) q (listed rules value q x) d) h
+
+-- none of several is counted
+zero_parts : (t : Bool) (n : ℕ) → cond t 1 0 + n ≡ 0 → (t ≡ false) × (n ≡ 0)
+zero_parts true n h = absurd (omega arith)
+zero_parts false n h = (refl, omega arith)
+
+counts_none : (p : Basis → Bool) (b : Basis) (bs : List Basis) → count_by p (b ∷ bs) ≡ 0 →
+    (p b ≡ false) × (count_by p bs ≡ 0)
+counts_none p b bs h =
+    zero_parts (p b) (count_by p bs) (sym (sum_by-cons (λ x. cond (p x) 1 0) b bs) ∙ h)
+
+none_counted : (p : Basis → Bool) (f : ℕ × ExitLine → Basis) (n : ℕ) (lines : List ExitLine)
+    (i j : ℕ) (line : ExitLine) → j ≡ n + i →
+    count_by p (map f (enumerate_from n lines)) ≡ 0 → slice_get lines i ≡ Some line →
+    p (f (j, line)) ≡ false
+none_counted p f n [] i j line e h there = absurd (cc)
+none_counted p f n (x ∷ lines) zero j line e h there =
+    let same : x ≡ line = cc in
+    let place : n ≡ j = omega arith in
+    let parts = counts_none p (f (n, x)) (map f (enumerate_from (n + 1) lines)) h in
+    subst (λ (l : ExitLine). p (f (j, l)) ≡ false) same
+    (subst (λ (k : ℕ). p (f (k, x)) ≡ false) place parts.0)
+none_counted p f n (x ∷ lines) (suc i) j line e h there =
+    let parts = counts_none p (f (n, x)) (map f (enumerate_from (n + 1) lines)) h in
+    none_counted p f (n + 1) lines i j line (omega arith) parts.1 there
+
+not_believed : (rules : RuleLines) (links : List Link) (i : ℕ) (line : ExitLine) →
+    believed_of rules links ≡ 0 → slice_get rules.exits i ≡ Some line →
+    is_believed (basis_of rules links i line) ≡ false
+unfolding bases_of
+not_believed rules links i line h there =
+    none_counted is_believed (λ e. basis_of rules links e.0 e.1) 0 rules.exits i i line
+    (omega arith) h there
+
+-- so where no line is believed the exits are true
+pub exits_true_by : (rules : RuleLines) (links : List Link) → All Proves links →
+    believed_of rules links ≡ 0 → AreTrueExits rules (value_by rules)
+exits_true_by rules links proves none p m member legal outside =
+    let q = after p m in
+    let x : IsExit (game_of rules (value_by rules)) q = record {
+      from = p;
+      move = m;
+      begins = member;
+      legal = legal;
+      ends = refl;
+      outside = outside;
+    } in
+    elim (first_cases rules.exits q) [
+      | inl unknown ↦ subst (λ (v : Value). IsTrueValue v q) (sym unknown) tt
+      | inr (i, line, d, first) ↦ subst (λ (v : Value). IsTrueValue v q) (sym first.value)
+          (line_true rules (value_by rules) links proves i line first.there
+          (not_believed rules links i line none first.there) q x d)
+    ]
+
+pub none_believed : (rules : RuleLines) (links : List Link) → AreExact links →
+    AreTrueLines links → believed_of rules links ≡ 0 → AreTrueExits rules (value_by rules)
+none_believed rules links exact own none =
+    exits_true_by rules links (all_prove links exact own) none
+
+pub none_believed_over : (rules : RuleLines) (links : List Link) → AreExact links →
+    AreTrueLines links → believed_of rules links ≡ 0 →
+    AreTrueExits rules (atlas_value rules (backs_of links))
+none_believed_over rules links exact own none =
+    exits_over_true rules links exact own (none_believed rules links exact own none)

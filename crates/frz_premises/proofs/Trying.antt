@@ -1,0 +1,428 @@
+-- What is known of the exit lines after one more exit.
+use Rattle.std.proofs.Common.{◌≡◌, ◌≢◌, ◌+◌, ◌<◌, ℕ, zero, suc, inl, inr, ◌⊎◌, Bool, true, false, not, ◌&&◌, List, [], ◌∷◌, ◌++◌, map, length, replicate, ◌||◌, is_some, set, Option, Some, None, get_or, refl, sym, subst, ap, ap₂, ◌∙◌, arith, cond, append-nil, zero-add, take, Result, Ok, Err, IfOk}
+use Rattle.std.specs.Prelude.{find, slice_get, unwrap_or}
+use Rattle.std.specs.List.{enumerate_from, filter, list_any, position_from}
+use Rattle.std.specs.Option.{option_or}
+use Rattle.std.proofs.lemmas.Bool.{cases_eq, cases_lt, eq-eqb, ne_eqb}
+use Rattle.std.proofs.lemmas.List.{ext_get_or, get_or_append_left, get_or_push, get_or_read, map-append, same_lists, take_more, get_or-map, get_or-set_same, get_or-set_other, length-map, length-replicate, length-set}
+use Rattle.std.proofs.lemmas.List.Elements.{filter-append}
+use Rattle.std.proofs.lemmas.List.FromFn.{get_or-enumerate_from, length-enumerate_from}
+use Rattle.std.proofs.lemmas.List.Folds.{find-append, list_all-append}
+use Rattle.frz_board.specs.Boards.{Board}
+use Rattle.frz_board.specs.Moving.{Step}
+use Rattle.frz_fide.specs.Legal.{after}
+use Rattle.frz_arena.specs.declared.arm.Arm.{Arm}
+use Rattle.frz_arena.specs.declared.arm.Next.{Next}
+use Rattle.frz_arena.specs.declared.arm.Next.TheVariants.{Outside}
+use Rattle.frz_sets.specs.declared.exit.Value.{Value}
+use Rattle.frz_sets.specs.declared.exit.Value.TheVariants.{Unknown}
+use Rattle.frz_sets.specs.Views.{ExitLine, GroupLine, RuleLines}
+use Rattle.frz_backs.specs.Links.{Link}
+use Rattle.frz_chain.specs.declared.back.BackTable.{BackTable}
+use Rattle.frz_premises.specs.declared.basis.Basis.{Basis}
+use Rattle.frz_premises.specs.declared.trial.Trial.{Trial}
+use Rattle.frz_premises.specs.Bases.{bases_of, basis_at, basis_of, by_need, by_tables, by_text}
+use Rattle.frz_premises.specs.Deciding.{decided_by, decides, is_place, line_at}
+use Rattle.frz_premises.specs.Saying.{loaded_link, none_says, says_as_much, says_at_each}
+use Rattle.frz_premises.specs.Trials.{AreTried, IsHeard, IsTried, boards_after, is_outside, is_some_there}
+use Rattle.frz_premises.proofs.FirstLines.{decides_first}
+
+some_more : (qs : List Board) (q : Board) → is_some_there (qs ++ q ∷ []) ≡ true
+some_more [] q = refl
+some_more (x ∷ qs) q = refl
+
+and_true : (b : Bool) → (b && true) ≡ b
+and_true true = refl
+and_true false = refl
+
+-- the first exit that needs belief, after one more
+module _ (links : List Link) (v : Value) (qs : List Board) (q : Board) where
+  pub need_stays : (first : Board) → Some first ≡ find (none_says links v) qs →
+      Some first ≡ find (none_says links v) (qs ++ q ∷ [])
+  need_stays first e =
+      ap (λ o. option_or o (find (none_says links v) (q ∷ []))) e
+      ∙ sym (find-append (none_says links v) qs (q ∷ []))
+
+  need_more : None ≡ find (none_says links v) qs →
+      find (none_says links v) (qs ++ q ∷ []) ≡ find (none_says links v) (q ∷ [])
+  need_more e =
+      find-append (none_says links v) qs (q ∷ [])
+      ∙ sym (ap (λ o. option_or o (find (none_says links v) (q ∷ []))) e)
+
+  pub none_needs : None ≡ find (none_says links v) qs →
+      true ≡ list_any (λ link. says_as_much v link q) links →
+      None ≡ find (none_says links v) (qs ++ q ∷ [])
+  none_needs e said =
+      let told : none_says links v q ≡ false = ap not (sym said) in
+      sym (need_more e ∙ (rw told refl))
+
+  pub this_needs : None ≡ find (none_says links v) qs →
+      false ≡ list_any (λ link. says_as_much v link q) links →
+      Some q ≡ find (none_says links v) (qs ++ q ∷ [])
+  this_needs e said =
+      let told : none_says links v q ≡ true = ap not (sym said) in
+      sym (need_more e ∙ (rw told refl))
+
+-- which tables said as much at each exit, after one more
+one_more : (v : Value) (qs : List Board) (q : Board) (link : Link) →
+    says_at_each v (qs ++ q ∷ []) link ≡ (says_at_each v qs link && says_as_much v link q)
+one_more v qs q link =
+    list_all-append (says_as_much v link) qs (q ∷ [])
+    ∙ ap (λ b. says_at_each v qs link && b) (and_true (says_as_much v link q))
+
+pub says_more : (v : Value) (qs : List Board) (q : Board) (backs : List BackTable)
+    (old new : List Bool) → length new ≡ length backs →
+    old ≡ map (says_at_each v qs) (map loaded_link backs) →
+    ((k : ℕ) (back : BackTable) → k < length backs → get_or new k false
+    ≡ (get_or old k false && says_as_much v (loaded_link (get_or backs k back)) q)) →
+    new ≡ map (says_at_each v (qs ++ q ∷ [])) (map loaded_link backs)
+says_more v qs q [] old [] many was heard = refl
+says_more v qs q [] old (b ∷ new) many was heard = absurd (omega arith)
+says_more v qs q (first ∷ backs) old new many was heard =
+    let all = first ∷ backs in
+    let links = map loaded_link all in
+    ext_get_or false new (map (says_at_each v (qs ++ q ∷ [])) links)
+    (many ∙ sym (length-map links (says_at_each v (qs ++ q ∷ []))
+    ∙ length-map all loaded_link))
+    (λ i l. (
+    let here : i < length all = omega arith in
+    let there : i < length links = omega (arith, length-map all loaded_link) in
+    let link = get_or links i (loaded_link first) in
+    let is : link ≡ loaded_link (get_or all i first) =
+    get_or-map loaded_link all i first (loaded_link first) here in
+    heard i first here
+    ∙ ap₂ ◌&&◌ (ap (λ (bs : List Bool). get_or bs i false) was
+    ∙ get_or-map (says_at_each v qs) links i (loaded_link first) false there)
+    (ap (λ (k : Link). says_as_much v k q) (sym is))
+    ∙ sym (one_more v qs q link)
+    ∙ sym (get_or-map (says_at_each v (qs ++ q ∷ [])) links i (loaded_link first) false there)))
+
+-- one exit noted for a line
+any_mapped : {X Y : Type 0} (f : Y → Bool) (g : X → Y) (xs : List X) →
+    list_any (λ x. f (g x)) xs ≡ list_any f (map g xs)
+any_mapped f g [] = refl
+any_mapped f g (x ∷ xs) = ap (λ b. f (g x) || b) (any_mapped f g xs)
+
+pub none_by : {X : Type 0} (o : Option X) (r : Bool) → is_some o ≡ not r → r ≡ true → o ≡ None
+none_by None r h e = refl
+none_by (Some x) r h e = absurd (let k : true ≡ false = h ∙ ap not e in cc)
+
+pub some_by : {X : Type 0} (o : Option X) (r : Bool) → is_some o ≡ not r → r ≡ false →
+    (x : X) × (o ≡ Some x)
+some_by None r h e = absurd (let k : false ≡ true = h ∙ ap not e in cc)
+some_by (Some x) r h e = (x, refl)
+
+module _ (backs : List BackTable) (line : ExitLine) (qs : List Board) (q : Board)
+    (old new : Trial) where
+  -- after an exit that needs belief nothing is heard
+  pub stays_heard : IsHeard (map loaded_link backs) line qs old → (first : Board) →
+      old.need ≡ Some first → new.need ≡ old.need →
+      IsHeard (map loaded_link backs) line (qs ++ q ∷ []) new
+  stays_heard heard first some same = record {
+    need = same ∙ some ∙ need_stays (map loaded_link backs) line.value qs q first
+        (sym some ∙ heard.need);
+    says = λ none. absurd (let e : None ≡ Some first = sym none ∙ (same ∙ some) in cc);
+  }
+
+  module _ (v : Value) (is : line.value ≡ v) (heard : IsHeard (map loaded_link backs) line qs old)
+      (none : old.need ≡ None) where
+    -- some table says as much
+    pub said_heard : new.need ≡ old.need →
+        true ≡ list_any (λ back. says_as_much v (loaded_link back) q) backs →
+        length new.says.items ≡ length backs →
+        ((k : ℕ) (back : BackTable) → k < length backs → get_or new.says.items k false
+        ≡ (get_or old.says.items k false
+        && says_as_much v (loaded_link (get_or backs k back)) q)) →
+        IsHeard (map loaded_link backs) line (qs ++ q ∷ []) new
+    said_heard same told many each =
+        let P : Value → Type 0 = λ x. true ≡ list_any (λ back. says_as_much x (loaded_link back) q)
+        backs in
+        let Q : Value → Type 0 = λ x. (k : ℕ) (back : BackTable) → k < length backs →
+        get_or new.says.items k false ≡ (get_or old.says.items k false
+        && says_as_much x (loaded_link (get_or backs k back)) q) in
+        record {
+          need = same ∙ none ∙ none_needs (map loaded_link backs) line.value qs q
+              (sym none ∙ heard.need)
+              (subst P (sym is) told
+              ∙ any_mapped (λ link. says_as_much line.value link q) loaded_link backs);
+          says = λ still. says_more line.value qs q backs old.says.items new.says.items many
+              (heard.says none) (subst Q (sym is) each);
+        }
+
+    -- none does
+    pub needs_here : new.need ≡ Some q →
+        false ≡ list_any (λ back. says_as_much v (loaded_link back) q) backs →
+        IsHeard (map loaded_link backs) line (qs ++ q ∷ []) new
+    needs_here here told =
+        let P : Value → Type 0 = λ x. false ≡ list_any
+        (λ back. says_as_much x (loaded_link back) q) backs in
+        record {
+          need = here ∙ this_needs (map loaded_link backs) line.value qs q
+              (sym none ∙ heard.need)
+              (subst P (sym is) told
+              ∙ any_mapped (λ link. says_as_much line.value link q) loaded_link backs);
+          says = λ still. absurd (let e : None ≡ Some q = sym still ∙ here in cc);
+        }
+
+  pub noted : (groups : List GroupLine) → IsTried groups (map loaded_link backs) line qs old →
+      new.settled ≡ old.settled → new.has_exits ≡ true →
+      length new.says.items ≡ length backs →
+      (old.settled ≡ None → IsHeard (map loaded_link backs) line qs old →
+      IsHeard (map loaded_link backs) line (qs ++ q ∷ []) new) →
+      IsTried groups (map loaded_link backs) line (qs ++ q ∷ []) new
+  noted groups tried same some many step = record {
+    settled = same ∙ tried.settled;
+    has_exits = some ∙ sym (some_more qs q);
+    many = many ∙ sym (length-map backs loaded_link);
+    heard = λ none. step (sym same ∙ none) (tried.heard (sym same ∙ none));
+  }
+
+-- before the first exit each table has said as much at each
+all_said : (v : Value) (links : List Link) →
+    replicate (length links) true ≡ map (says_at_each v []) links
+all_said v [] = refl
+all_said v (link ∷ links) = ap (λ bs. true ∷ bs) (all_said v links)
+
+pub begun : (groups : List GroupLine) (links : List Link) (line : ExitLine) (new : Trial)
+    (tables : ℕ) → length links ≡ tables → new.settled ≡ by_text groups line →
+    new.has_exits ≡ false → new.need ≡ None → new.says.items ≡ replicate tables true →
+    IsTried groups links line [] new
+begun groups links line new tables e settled none need all =
+    let said : new.says.items ≡ replicate (length links) true =
+    all ∙ ap (λ n. replicate n true) (sym e) in
+    record {
+      settled = settled;
+      has_exits = none;
+      many = ap length said ∙ length-replicate (length links) true;
+      heard = λ n. record {
+        need = need;
+        says = λ m. said ∙ all_said line.value links;
+      };
+    }
+
+-- what a line rests on by what is known of it
+first_mapped : (f : Link → Bool) (n : ℕ) (links : List Link) →
+    position_from (λ said. said) n (map f links) ≡ position_from f n links
+first_mapped f n [] = refl
+first_mapped f n (link ∷ links) =
+    ap (cond (f link) (Some n)) (first_mapped f (n + 1) links)
+
+needed : (links : List Link) (line : ExitLine) (qs : List Board) (trial : Trial)
+    (place : Option ℕ) → IsHeard links line qs trial →
+    place ≡ position_from (λ said. said) 0 trial.says.items →
+    by_need trial.need place ≡ by_tables links line.value qs
+needed links line qs trial place heard at = by_cases trial.need refl
+  where
+    told : by_tables links line.value qs
+        ≡ by_need trial.need (position_from (says_at_each line.value qs) 0 links)
+    told = ap (λ o. by_need o (position_from (says_at_each line.value qs) 0 links))
+        (sym heard.need)
+
+    by_cases : (o : Option Board) → trial.need ≡ o →
+        by_need trial.need place ≡ by_tables links line.value qs
+    by_cases (Some q) e =
+        ap (λ o. by_need o place) e
+        ∙ sym (told ∙ ap (λ o. by_need o (position_from (says_at_each line.value qs) 0 links)) e)
+    by_cases None e =
+        ap (by_need trial.need)
+        (at ∙ ap (position_from (λ said. said) 0) (heard.says e)
+        ∙ first_mapped (says_at_each line.value qs) 0 links)
+        ∙ sym told
+
+pub basis_by : (groups : List GroupLine) (links : List Link) (line : ExitLine)
+    (qs : List Board) (trial : Trial) (place : Option ℕ) → IsTried groups links line qs trial →
+    trial.has_exits ≡ true → trial.settled ≡ None →
+    place ≡ position_from (λ said. said) 0 trial.says.items →
+    by_need trial.need place ≡ basis_at groups links line qs
+basis_by groups links line [] trial place tried some asked at =
+    absurd (let none : true ≡ false = sym some ∙ tried.has_exits in cc)
+basis_by groups links line (q ∷ qs) trial place tried some asked at =
+    needed links line (q ∷ qs) trial place (tried.heard asked) at
+    ∙ ap (λ o. unwrap_or o (by_tables links line.value (q ∷ qs))) (sym asked ∙ tried.settled)
+
+-- the lines after one more exit
+more_decided : (lines : List ExitLine) (k : ℕ) (qs : List Board) (q : Board) →
+    decided_by lines k (qs ++ q ∷ []) ≡ decided_by lines k qs ++ decided_by lines k (q ∷ [])
+more_decided lines k qs q = filter-append (decides lines k) qs (q ∷ [])
+
+this_decides : (lines : List ExitLine) (i : ℕ) (qs : List Board) (q : Board) →
+    Some i ≡ line_at lines q →
+    decided_by lines i (qs ++ q ∷ []) ≡ decided_by lines i qs ++ q ∷ []
+this_decides lines i qs q at =
+    let d : decides lines i q ≡ true = sym (ap (is_place i) at) ∙ eq-eqb i i refl in
+    more_decided lines i qs q
+    ∙ ap (λ (l : List Board). decided_by lines i qs ++ l) (rw d refl)
+
+others_stay : (lines : List ExitLine) (k : ℕ) (qs : List Board) (q : Board) →
+    decides lines k q ≡ false → decided_by lines k qs ≡ decided_by lines k (qs ++ q ∷ [])
+others_stay lines k qs q d =
+    sym (more_decided lines k qs q
+    ∙ ap (λ (l : List Board). decided_by lines k qs ++ l) (rw d refl)
+    ∙ append-nil (decided_by lines k qs))
+
+-- the place of the line that decides it is one of a line
+pub place_below : (lines : List ExitLine) (q : Board) (i : ℕ) → Some i ≡ line_at lines q →
+    (line : ExitLine) × (i < length lines)
+place_below lines q i at =
+    let first = decides_first lines q i (sym (ap (is_place i) at) ∙ eq-eqb i i refl) in
+    (first.0, below_there lines i first.0 first.1.there)
+  where
+    below_there : (ls : List ExitLine) (k : ℕ) (line : ExitLine) → slice_get ls k ≡ Some line →
+        k < length ls
+    below_there [] k line e = absurd (cc)
+    below_there (x ∷ ls) zero line e = omega arith
+    below_there (x ∷ ls) (suc k) line e =
+        let l = below_there ls k line e in omega arith
+
+module _ (rules : RuleLines) (links : List Link) (qs : List Board) (q : Board)
+    (trials : List Trial) (tried : AreTried rules links qs trials) where
+  -- no line decides it
+  pub none_decides : None ≡ line_at rules.exits q → AreTried rules links (qs ++ q ∷ []) trials
+  none_decides at = record {
+    many = tried.many;
+    each = λ k line trial l.
+        subst (λ (l : List Board). IsTried rules.groups links (get_or rules.exits k line) l
+        (get_or trials k trial))
+        (others_stay rules.exits k qs q (sym (ap (is_place k) at)))
+        (tried.each k line trial l);
+  }
+
+  -- the line at this place decides it
+  module _ (i : ℕ) (at : Some i ≡ line_at rules.exits q) (t : Trial)
+      (here : (line : ExitLine) →
+      IsTried rules.groups links (get_or rules.exits i line)
+      (decided_by rules.exits i qs ++ q ∷ []) t) where
+    other : (k : ℕ) → k ≢ i → decides rules.exits k q ≡ false
+    other k apart = sym (ap (is_place k) at) ∙ ne_eqb i k (λ e. apart (sym e))
+
+    by_place : (k : ℕ) (line : ExitLine) (trial : Trial) → k < length (set trials i t) →
+        (k ≡ i) ⊎ (k ≡ i → ⊥) →
+        IsTried rules.groups links (get_or rules.exits k line)
+        (decided_by rules.exits k (qs ++ q ∷ [])) (get_or (set trials i t) k trial)
+    by_place k line trial l (inl same) =
+        let P : ℕ → Type 0 = λ j. IsTried rules.groups links (get_or rules.exits j line)
+        (decided_by rules.exits j (qs ++ q ∷ [])) (get_or (set trials i t) j trial) in
+        let many = length-set trials i t in
+        let inside : i < length trials = omega arith in
+        subst P (sym same)
+        (subst (λ (x : Trial). IsTried rules.groups links (get_or rules.exits i line)
+        (decided_by rules.exits i (qs ++ q ∷ [])) x)
+        (sym (get_or-set_same trials i t trial inside))
+        (subst (λ (ds : List Board). IsTried rules.groups links (get_or rules.exits i line) ds t)
+        (sym (this_decides rules.exits i qs q at)) (here line)))
+    by_place k line trial l (inr apart) =
+        let many = length-set trials i t in
+        let inside : k < length trials = omega arith in
+        subst (λ (x : Trial). IsTried rules.groups links (get_or rules.exits k line)
+        (decided_by rules.exits k (qs ++ q ∷ [])) x)
+        (sym (get_or-set_other trials i k t trial apart))
+        (subst (λ (ds : List Board). IsTried rules.groups links (get_or rules.exits k line) ds
+        (get_or trials k trial))
+        (others_stay rules.exits k qs q (other k apart))
+        (tried.each k line trial inside))
+
+    pub one_decides : AreTried rules links (qs ++ q ∷ []) (set trials i t)
+    one_decides = record {
+      many = length-set trials i t ∙ tried.many;
+      each = λ k line trial l. by_place k line trial l (cases_eq k i);
+    }
+
+-- the moves of a position, one by one
+boards_append : (p : Board) (arms more : List (Arm Step ℕ Value)) →
+    boards_after p (arms ++ more) ≡ boards_after p arms ++ boards_after p more
+boards_append p arms more =
+    ap (map (λ (a : Arm Step ℕ Value). after p a.mv))
+    (filter-append (λ (a : Arm Step ℕ Value). is_outside a.next) arms more)
+    ∙ map-append (λ (a : Arm Step ℕ Value). after p a.mv)
+    (filter (λ (a : Arm Step ℕ Value). is_outside a.next) arms)
+    (filter (λ (a : Arm Step ℕ Value). is_outside a.next) more)
+
+pub boards_step : (p : Board) (arms : List (Arm Step ℕ Value)) (i : ℕ) (a : Arm Step ℕ Value) →
+    i < length arms → a ≡ get_or arms i a →
+    boards_after p (take (i + 1) arms) ≡ boards_after p (take i arms) ++ boards_after p (a ∷ [])
+boards_step p arms i a within is =
+    ap (boards_after p) (take_more arms i a within)
+    ∙ boards_append p (take i arms) (get_or arms i a ∷ [])
+    ∙ ap (λ (x : Arm Step ℕ Value). boards_after p (take i arms) ++ boards_after p (x ∷ []))
+    (sym is)
+
+pub out_one : (p : Board) (a : Arm Step ℕ Value) (v : Value) → a.next ≡ Outside v →
+    boards_after p (a ∷ []) ≡ after p a.mv ∷ []
+out_one p a v e = ap (λ (n : Next ℕ Value). map (λ (x : Arm Step ℕ Value). after p x.mv)
+    (cond (is_outside n) (a ∷ []) [])) e
+
+-- the lines, one by one
+pub begun_more : (P : ExitLine → Trial → Type 0) (lines : List ExitLine) (trials : List Trial)
+    (i : ℕ) (line : ExitLine) (t : Trial) → i < length lines → line ≡ get_or lines i line →
+    length trials ≡ i →
+    ((k : ℕ) (l : ExitLine) (x : Trial) → k < i → P (get_or lines k l) (get_or trials k x)) →
+    P line t → (k : ℕ) (l : ExitLine) (x : Trial) → k < i + 1 →
+    P (get_or lines k l) (get_or (trials ++ t ∷ []) k x)
+begun_more P lines trials i line t within is many before this k l x less =
+    elim (cases_lt k i) [
+      | inl low ↦ subst (λ (z : Trial). P (get_or lines k l) z)
+          (sym (get_or_append_left trials (t ∷ []) x k (omega arith))) (before k l x low)
+      | inr top ↦ (let same : i ≡ k = omega arith in
+          subst (λ (j : ℕ). P (get_or lines j l) (get_or (trials ++ t ∷ []) j x)) same
+          (subst (λ (z : Trial). P (get_or lines i l) z)
+          (sym (get_or_push trials t x i many))
+          (subst (λ (z : ExitLine). P z t) (get_or_read lines i line within is l) this)))
+    ]
+
+pub all_begun : (groups : List GroupLine) (lines : List ExitLine) (rules : RuleLines)
+    (links : List Link) (trials : List Trial) → rules.groups ≡ groups → rules.exits ≡ lines →
+    length trials ≡ length lines →
+    ((k : ℕ) (line : ExitLine) (trial : Trial) → k < length lines →
+    IsTried groups links (get_or lines k line) [] (get_or trials k trial)) →
+    AreTried rules links [] trials
+all_begun groups lines rules links trials same_groups same_lines many each =
+    let long = ap length same_lines in
+    record {
+      many = many ∙ sym long;
+      each = λ k line trial l.
+          subst (λ (gs : List GroupLine). IsTried gs links (get_or rules.exits k line) []
+          (get_or trials k trial)) (sym same_groups)
+          (subst (λ (ls : List ExitLine). IsTried groups links (get_or ls k line) []
+          (get_or trials k trial)) (sym same_lines)
+          (each k line trial (omega arith)));
+    }
+
+-- what the lines rest on, one by one
+pub based_more : (F : ℕ → Basis) (bases : List Basis) (i : ℕ) (b : Basis) →
+    length bases ≡ i → ((k : ℕ) (x : Basis) → k < i → get_or bases k x ≡ F k) → b ≡ F i →
+    (k : ℕ) (x : Basis) → k < i + 1 → get_or (bases ++ b ∷ []) k x ≡ F k
+based_more F bases i b many before this k x less =
+    elim (cases_lt k i) [
+      | inl low ↦ get_or_append_left bases (b ∷ []) x k (omega arith) ∙ before k x low
+      | inr top ↦ (let same : i ≡ k = omega arith in
+          subst (λ (j : ℕ). get_or (bases ++ b ∷ []) j x ≡ F j) same
+          (get_or_push bases b x i many ∙ this))
+    ]
+
+abbrev no_line : ExitLine
+no_line = record { value = Unknown; conds = [] }
+
+pub all_based : (rules : RuleLines) (links : List Link) (bases : List Basis) →
+    length bases ≡ length rules.exits →
+    ((k : ℕ) (line : ExitLine) (x : Basis) → k < length rules.exits →
+    get_or bases k x ≡ basis_of rules links k (get_or rules.exits k line)) →
+    bases ≡ bases_of rules links
+unfolding bases_of
+all_based rules links bases many each =
+    let f : ℕ × ExitLine → Basis = λ e. basis_of rules links e.0 e.1 in
+    let numbered = enumerate_from 0 rules.exits in
+    let long : length numbered ≡ length rules.exits = length-enumerate_from 0 rules.exits in
+    same_lists bases (map f numbered) (many ∙ sym (length-map numbered f ∙ long))
+    (λ k d l. (
+    let low : k < length rules.exits = omega arith in
+    let inside : k < length numbered = omega arith in
+    each k no_line d low
+    ∙ sym (get_or-map f numbered k (0, no_line) d inside
+    ∙ ap f (get_or-enumerate_from 0 rules.exits k (0, no_line) low)
+    ∙ ap (λ (j : ℕ). basis_of rules links j (get_or rules.exits k no_line)) (zero-add k))))
+
+-- the value of a result, weakened
+pub if_ok : {T E : Type 0} (P Q : T → Type 0) (r : Result T E) → ((x : T) → P x → Q x) →
+    IfOk r P → IfOk r Q
+if_ok P Q (Ok x) f h = f x h
+if_ok P Q (Err e) f h = tt

@@ -1,0 +1,49 @@
+use Rattle.std.proofs.Common.{◌≡◌, ◌∙◌, [], List, All, Vec, Global, map, sym, ap, subst, arith}
+use Rattle.std.proofs.lemmas.List.{length-map, with_items_is}
+use Rattle.frz_sets.specs.Views.{RuleLines}
+use Rattle.frz_backs.specs.Links.{Link}
+use Rattle.frz_premises.specs.declared.basis.Basis.{Basis}
+use Rattle.frz_premises.specs.declared.trial.Trial.{Trial}
+use Rattle.frz_premises.specs.Bases.{bases_of}
+use Rattle.frz_premises.specs.Needs.{HasValidNeed}
+use Rattle.frz_premises.specs.Saying.{loaded_link}
+use Rattle.frz_premises.specs.Trials.{AreTried}
+use Rattle.frz_premises.specs.WaysOut.{outside_of}
+use Rattle.frz_premises.proofs.Needs.{valid_needs}
+use Rattle.frz_premises.proofs.Trying.{if_ok}
+use Rattle.frz_premises.proofs.premises.premises_of.Goals as goal
+
+pub walk-requires-clause-tried : goal.walk-requires-clause-tried
+walk-requires-clause-tried g c =
+    let rules = c.args.rules.now in
+    let links = map loaded_link c.args.backs.now in
+    subst (λ (ts : List Trial). AreTried rules links [] ts) (sym c.deref_mut.ensures.value)
+    (c.in_ok-trials.ensures rules links
+    (sym (c.as_slice-groups.ensures.value ∙ ap (λ (r : RuleLines). r.groups) c.rules.view_is))
+    (sym (c.as_slice-lines.ensures.value ∙ ap (λ (r : RuleLines). r.exits) c.rules.view_is))
+    (length-map c.args.backs.now loaded_link))
+
+pub returns-clause-bases : goal.returns-clause-bases
+returns-clause-bases g c =
+    let rules = c.args.rules.now in
+    let links = map loaded_link c.args.backs.now in
+    let items = with_items_is c.in_ok-trials.trials c.walk.new.trials (omega arith) in
+    let tried = subst (λ (ts : List Trial). AreTried rules links (outside_of rules.groups) ts)
+    (sym (c.deref.ensures.value ∙ items)) c.walk.ensures.tried in
+    if_ok (λ (v : Vec Basis Global). (rs : RuleLines) (ls : List Link) →
+    AreTried rs ls (outside_of rs.groups) c.deref.result.now → v.items ≡ bases_of rs ls)
+    (λ (v : Vec Basis Global). v.items ≡ bases_of rules links) c.bases.result
+    (λ v h. h rules links tried) c.bases.ensures
+
+pub returns-clause-valid : goal.returns-clause-valid
+returns-clause-valid g c =
+    let rules = c.args.rules.now in
+    let links = map loaded_link c.args.backs.now in
+    let items = with_items_is c.in_ok-trials.trials c.walk.new.trials (omega arith) in
+    let tried = subst (λ (ts : List Trial). AreTried rules links (outside_of rules.groups) ts)
+    (sym (c.deref.ensures.value ∙ items)) c.walk.ensures.tried in
+    if_ok (λ (v : Vec Basis Global). (rs : RuleLines) (ls : List Link) →
+    AreTried rs ls (outside_of rs.groups) c.deref.result.now → v.items ≡ bases_of rs ls)
+    (λ (v : Vec Basis Global). All HasValidNeed v.items) c.bases.result
+    (λ v h. subst (λ (bs : List Basis). All HasValidNeed bs) (sym (h rules links tried))
+    (valid_needs rules links)) c.bases.ensures

@@ -1,0 +1,69 @@
+-- What an exit line rests on, at the exits that it decides.
+use Rattle.std.specs.Prelude.{ℕ, Bool, true, false, List, [], ◌∷◌, map, find, count_by, Option, Some, None, unwrap_or, if◌then◌else◌}
+use Rattle.std.specs.List.{enumerate_from, position_from}
+use Rattle.frz_board.specs.Boards.{Board}
+use Rattle.frz_sets.specs.declared.exit.Value.{Value}
+use Rattle.frz_sets.specs.declared.exit.Value.TheVariants.{WhiteWins, BlackWins, Draw, WhiteHolds, BlackHolds, Unknown, WhiteWinsIn, BlackWinsIn}
+use Rattle.frz_sets.specs.Views.{GroupLine, ExitLine, RuleLines}
+use Rattle.frz_game.specs.TextsByMen.{is_true_by}
+use Rattle.frz_backs.specs.Links.{Link}
+use Rattle.frz_premises.specs.declared.basis.Basis.{Basis}
+use Rattle.frz_premises.specs.declared.basis.Basis.TheVariants.{AsksNothing, ByMen, ByTable, ByTables, Believed}
+use Rattle.frz_premises.specs.Deciding.{decided_by}
+use Rattle.frz_premises.specs.Saying.{none_says, says_at_each}
+use Rattle.frz_premises.specs.WaysOut.{outside_of}
+
+abbrev pub is_unknown : Value → Bool
+is_unknown WhiteWins = false
+is_unknown BlackWins = false
+is_unknown Draw = false
+is_unknown WhiteHolds = false
+is_unknown BlackHolds = false
+is_unknown Unknown = true
+is_unknown (WhiteWinsIn n) = false
+is_unknown (BlackWinsIn n) = false
+
+-- what the text alone shows of a line that decides some exit: an unknown value asks nothing, and
+-- the men may show the value to be true
+abbrev pub by_text : List GroupLine → ExitLine → Option Basis
+by_text groups line =
+    if is_unknown line.value then Some AsksNothing
+    else (if is_true_by groups line.conds line.value then Some ByMen else None)
+
+-- it is believed where some exit is told as much by no table; else the first table that says as
+-- much at each exit proves it, and where there is none, several tables together do
+abbrev pub by_need : Option Board → Option ℕ → Basis
+by_need (Some q) place = Believed q
+by_need None (Some k) = ByTable k
+by_need None None = ByTables
+
+-- what tables show of a value at the exits that get it
+abbrev pub by_tables : List Link → Value → List Board → Basis
+by_tables links value qs =
+    by_need (find (none_says links value) qs) (position_from (says_at_each value qs) 0 links)
+
+-- what a line rests on by the exits that it decides: nothing is asked where there is none
+abbrev pub basis_at : List GroupLine → List Link → ExitLine → List Board → Basis
+basis_at groups links line [] = AsksNothing
+basis_at groups links line (q ∷ qs) =
+    unwrap_or (by_text groups line) (by_tables links line.value (q ∷ qs))
+
+-- what the line at this place of rules rests on, with these tables
+abbrev pub basis_of : RuleLines → List Link → ℕ → ExitLine → Basis
+basis_of rules links i line =
+    basis_at rules.groups links line (decided_by rules.exits i (outside_of rules.groups))
+
+-- what each exit line of the rules rests on, in the order of the text
+unfoldable pub bases_of : RuleLines → List Link → List Basis
+bases_of rules links = map (λ e. basis_of rules links e.0 e.1) (enumerate_from 0 rules.exits)
+
+abbrev pub is_believed : Basis → Bool
+is_believed AsksNothing = false
+is_believed ByMen = false
+is_believed (ByTable k) = false
+is_believed ByTables = false
+is_believed (Believed q) = true
+
+-- how many exit lines are believed
+abbrev pub believed_of : RuleLines → List Link → ℕ
+believed_of rules links = count_by is_believed (bases_of rules links)

@@ -1,0 +1,9 @@
+-- What an exit line rests on: the definitions that the contracts cite.
+pub mod WaysOut
+pub mod Deciding
+pub mod Saying
+pub mod Bases
+pub mod Trials
+pub mod Proved
+pub mod Sides
+pub mod Needs

@@ -1,0 +1,92 @@
+//! What the bases of exit lines say of chess. Each law is the contract of a function that does
+//! nothing.
+ghost use Rattle.std.specs.Prelude.{◌≡◌, ◌⊎◌, ◌↔◌, ℕ, List, true, false, Some, slice_get, slice_index};
+ghost use Rattle.std.specs.List.{Contains};
+ghost use Rattle.frz_board.specs.declared.man.Colour.{Colour};
+ghost use Rattle.frz_board.specs.Boards.{Board};
+ghost use Rattle.frz_sets.specs.declared.exit.Value.{Value};
+ghost use Rattle.frz_sets.specs.Views.{ExitLine, RuleLines};
+ghost use Rattle.frz_index.specs.Members.{Member, Num};
+ghost use Rattle.frz_arena.specs.declared.bound.Bound.TheVariants.{Wins};
+ghost use Rattle.frz_arena.specs.Codes.{code_of};
+ghost use Rattle.frz_arena.specs.Exits.{IsExit};
+ghost use Rattle.frz_arena.specs.WholeTruth.{MatesIn};
+ghost use Rattle.frz_exits.specs.Books.{value_by};
+ghost use Rattle.frz_game.specs.Bounds.{IsTableOf};
+ghost use Rattle.frz_game.specs.ExactTables.{HasExactOutcomes};
+ghost use Rattle.frz_game.specs.Games.{chess, game_of};
+ghost use Rattle.frz_game.specs.Values.{AreTrueExits, IsTrueValue};
+ghost use Rattle.frz_backs.specs.Links.{AreExact, AreTrueLines, Link, backs_of};
+ghost use Rattle.frz_backs.specs.Values.{atlas_value};
+ghost use Rattle.frz_premises.specs.declared.basis.Basis.TheVariants.{Believed};
+ghost use Rattle.frz_premises.specs.declared.sides.Strength.TheVariants.{Outcomes, Exact};
+ghost use Rattle.frz_premises.specs.Bases.{basis_of, believed_of, is_believed};
+ghost use Rattle.frz_premises.specs.Deciding.{decides};
+ghost use Rattle.frz_premises.specs.Needs.{NeedsBelief};
+ghost use Rattle.frz_premises.specs.Proved.{AreProved};
+ghost use Rattle.frz_premises.specs.Sides.{exits_tell, strength_of};
+ghost use Rattle.frz_premises.specs.WaysOut.{outside_of};
+
+/// The exits of a set are the positions one legal move outside it.
+pub fn exits_in_words()
+    ensures { (rules : RuleLines) (value : Board → Value) (q : Board) →
+        Contains (outside_of rules.groups) q ↔ IsExit (game_of rules value) q }
+{}
+
+/// The value of a position by the rules is that of the line that decides it.
+pub fn decided_values()
+    ensures { (rules : RuleLines) (q : Board) (i : ℕ) (line : ExitLine) →
+        slice_get rules.exits i ≡ Some line → decides rules.exits i q ≡ true →
+        value_by rules q ≡ line.value }
+{}
+
+/// A line that is not believed is true at each exit that it decides, if the tables are exact and
+/// their own exit lines are true.
+pub fn lines_are_true()
+    ensures { (rules : RuleLines) (links : List Link) → AreExact links → AreTrueLines links →
+        (i : ℕ) (line : ExitLine) → slice_get rules.exits i ≡ Some line →
+        is_believed (basis_of rules links i line) ≡ false →
+        (q : Board) → IsExit (game_of rules (value_by rules)) q →
+        decides rules.exits i q ≡ true → IsTrueValue line.value q }
+{}
+
+/// The exit that is told of a believed line is one that the line decides, and neither the men nor a
+/// table show there what the line says.
+pub fn believed_exits()
+    ensures { (rules : RuleLines) (value : Board → Value) (links : List Link) (i : ℕ)
+        (line : ExitLine) (q : Board) → basis_of rules links i line ≡ Believed q →
+        NeedsBelief rules value links i line q }
+{}
+
+/// If no exit line is believed, the exits are true: by the exit lines alone, and with the tables
+/// behind them.
+pub fn none_believed()
+    ensures lines { (rules : RuleLines) (links : List Link) → AreExact links →
+        AreTrueLines links → believed_of rules links ≡ 0 → AreTrueExits rules (value_by rules) }
+    ensures atlas { (rules : RuleLines) (links : List Link) → AreExact links →
+        AreTrueLines links → believed_of rules links ≡ 0 →
+        AreTrueExits rules (atlas_value rules (backs_of links)) }
+{}
+
+/// If no exit line of the tables is believed, each with those tables before it, all these lines are
+/// true.
+pub fn tables_are_true()
+    ensures { (links : List Link) → AreExact links → AreProved links → AreTrueLines links }
+{}
+
+/// What the strength of a side means, where the exits are true: with `Outcomes` and `Exact` the
+/// outcomes of its table are those of chess, and with `Exact` the plies of a win are those of the
+/// quickest mate.
+pub fn sides_are_exact()
+    ensures outcomes { (rules : RuleLines) (value : Board → Value) (side : Colour)
+        (codes : List ℕ) → AreTrueExits rules value → IsTableOf rules value side codes →
+        (believed : ℕ) →
+        (strength_of rules believed (exits_tell rules value) side ≡ Outcomes)
+        ⊎ (strength_of rules believed (exits_tell rules value) side ≡ Exact) →
+        HasExactOutcomes rules side codes }
+    ensures plies { (rules : RuleLines) (value : Board → Value) (side : Colour)
+        (codes : List ℕ) → AreTrueExits rules value → IsTableOf rules value side codes →
+        (believed : ℕ) → strength_of rules believed (exits_tell rules value) side ≡ Exact →
+        (p : Board) (n : ℕ) → Member rules.groups p →
+        (slice_index codes (Num rules.groups p) ≡ code_of (Wins n)) ↔ MatesIn chess side n p }
+{}

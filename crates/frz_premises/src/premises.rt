@@ -1,0 +1,86 @@
+//! What each exit line of rules rests on.
+ghost use Rattle.std.specs.Prelude.{◌≡◌, ◌≤◌, ◌+◌, [], List, All, length, map, IfOk};
+ghost use Rattle.frz_sets.specs.Sets.{size_of};
+ghost use Rattle.frz_sets.specs.Sound.{IsSound};
+ghost use Rattle.frz_sets.specs.Views.{RuleLines};
+ghost use Rattle.frz_backs.specs.Links.{Link};
+ghost use Rattle.frz_premises.specs.Bases.{bases_of};
+ghost use Rattle.frz_premises.specs.Needs.{HasValidNeed};
+ghost use Rattle.frz_premises.specs.Saying.{loaded_link};
+ghost use Rattle.frz_premises.specs.Trials.{AreTried};
+ghost use Rattle.frz_premises.specs.WaysOut.{outside_of};
+
+use crate::basis::Basis;
+use crate::silent::Silent;
+use crate::trial::Trial;
+use crate::walk::walk;
+use frz_chain::BackTable;
+use frz_game::Game;
+use frz_index::Set;
+use frz_sets::{Exit, Group, Rules};
+use frz_steps::Steps;
+use std::alloc::{AllocError, Global};
+use std::sync::ledger::Ledger;
+
+/// The lines of a text, of which none has decided an exit yet, with so many tables.
+fn begin(
+    alloc: Global,
+    groups: &[Group],
+    lines: &[Exit],
+    tables: usize,
+) -> Result<Vec<Trial>, AllocError>
+    ensures { IfOk result (λ trials. (rules : RuleLines) (links : List Link) →
+        rules.groups ≡ groups.now → rules.exits ≡ lines.now → length links ≡ tables →
+        AreTried rules links [] trials.items) }
+{
+    let mut trials = Vec::new(alloc);
+    for line in lines {
+        let trial = Trial::new(alloc, groups, line, tables)?;
+        trials.push(trial)?;
+    }
+    Ok(trials)
+}
+
+/// What each line rests on, by all exits.
+fn bases(alloc: Global, trials: &[Trial]) -> Result<Vec<Basis>, AllocError>
+    ensures { IfOk result (λ bases. (rules : RuleLines) (links : List Link) →
+        AreTried rules links (outside_of rules.groups) trials.now →
+        bases.items ≡ bases_of rules links) }
+{
+    let mut bases = Vec::new(alloc);
+    for trial in trials {
+        bases.push(trial.basis())?;
+    }
+    Ok(bases)
+}
+
+/// What each exit line of the rules rests on, in the order of the text, where these tables may
+/// prove lines. Each exit of the set is looked at, by a free move or another; the moves of each
+/// number are listed once. The tables are not checked here.
+pub fn premises_of<L: Ledger>(
+    alloc: Global,
+    set: &Set,
+    rules: &Rules,
+    backs: &[BackTable],
+    steps: &mut Steps<L>,
+) -> Result<Vec<Basis>, AllocError>
+    requires sound { IsSound rules.now }
+    requires fits { set.now ≡ rules.now.groups }
+    ensures bases { IfOk result
+        (λ bases. bases.items ≡ bases_of rules.now (map loaded_link backs.now)) }
+    ensures valid { IfOk result (λ bases. All HasValidNeed bases.items) }
+    ensures steps { steps.new ≤ steps.old + size_of rules.now.groups }
+    ensures later { steps.old ≤ steps.new }
+{
+    let groups = rules.groups.as_slice();
+    let lines = rules.exits.as_slice();
+    let mut trials = begin(alloc, groups, lines, backs.len())?;
+    let book = Silent;
+    let game = Game {
+        set,
+        rules,
+        book: &book,
+    };
+    walk(&game, backs, &mut trials, steps);
+    bases(alloc, &trials)
+}

@@ -1,0 +1,93 @@
+//! What a table says of a position, against the value that an exit line gives it.
+ghost use Rattle.std.specs.Prelude.{◌≡◌};
+ghost use Rattle.std.specs.List.{list_any};
+ghost use Rattle.frz_fide.specs.Valid.{IsValid};
+ghost use Rattle.frz_premises.specs.Saying as words;
+ghost use Rattle.frz_premises.specs.Saying.{loaded_link};
+
+use frz_arena::is_win;
+use frz_bits::Bitboards;
+use frz_board::Colour;
+use frz_chain::BackTable;
+use frz_sets::{Exit, Value};
+use frz_table::FileKind;
+
+/// The code of a position where a side holds.
+const HOLD: u32 = 1;
+
+/// Does the value say that the side wins, but not in how many plies?
+fn is_uncounted(value: Value, side: Colour) -> bool
+    ensures { result ≡ words.is_uncounted value side }
+{
+    match (value, side) {
+        (Value::WhiteWins, Colour::White) => true,
+        (Value::BlackWins, Colour::Black) => true,
+        _ => false,
+    }
+}
+
+/// Does a table of this kind lean on others?
+fn leans(kind: FileKind) -> bool
+    ensures { result ≡ words.leans_as kind }
+{
+    match kind {
+        FileKind::Plain => false,
+        _ => true,
+    }
+}
+
+/// Does some exit line say that the side wins, but not in how many plies?
+fn leaves_uncounted(lines: &[Exit], side: Colour) -> bool
+    ensures { result ≡ list_any (λ line. words.is_uncounted line.value side) lines.now }
+{
+    lines.iter().any(|line| is_uncounted(line.value, side))
+}
+
+/// Are the plies of the side's wins in the table plies to mate?
+fn counts_wins(back: &BackTable, side: Colour) -> bool
+    ensures { result ≡ words.counts_wins (loaded_link back.now) side }
+{
+    !(leans(back.table.kind()) || leaves_uncounted(&back.table.rules().exits, side))
+}
+
+/// Is it the code of a hold or of a win?
+fn holds(code: u32) -> bool
+    ensures { result ≡ words.holds code }
+{
+    code == HOLD || is_win(code)
+}
+
+/// Is it the code of a win within so many plies?
+fn wins_within(plies: u32, code: u32) -> bool
+    ensures { result ≡ words.wins_within plies code }
+{
+    is_win(code) && code as u64 <= 2 + 2 * plies as u64
+}
+
+/// Do these two codes of the table, White's and Black's, say at least as much as the value?
+fn codes_say(back: &BackTable, white: u32, black: u32, value: Value) -> bool
+    ensures { result ≡ words.codes_say (loaded_link back.now) white black value }
+{
+    match value {
+        Value::WhiteWins => is_win(white),
+        Value::BlackWins => is_win(black),
+        Value::WhiteWinsIn(plies) => wins_within(plies, white) && counts_wins(back, Colour::White),
+        Value::BlackWinsIn(plies) => wins_within(plies, black) && counts_wins(back, Colour::Black),
+        Value::Draw => holds(white) && holds(black),
+        Value::WhiteHolds => holds(white),
+        Value::BlackHolds => holds(black),
+        Value::Unknown => true,
+    }
+}
+
+/// Is the position in the set of the table, and does the table say there at least as much as the
+/// value?
+pub fn says_as_much(value: Value, back: &BackTable, q: &Bitboards) -> bool
+    requires { IsValid q.now }
+    ensures { result ≡ words.says_as_much value (loaded_link back.now) q.now }
+{
+    match back.table.set().number_on(q) {
+        Some(i) => codes_say(back, back.white[i as usize], back.black[i as usize], value),
+        None => false,
+    }
+}

@@ -1,0 +1,129 @@
+//! The walk over the numbers of a set: each exit is noted with the line that decides it.
+ghost use Rattle.std.specs.Prelude.{◌≡◌, ◌≤◌, ◌<◌, ◌+◌, ◌++◌, ◌∷◌, [], List, All, map, true, Some};
+ghost use Rattle.frz_board.specs.Boards.{Board};
+ghost use Rattle.frz_fide.specs.Legal.{is_legal};
+ghost use Rattle.frz_fide.specs.Valid.{IsValid};
+ghost use Rattle.frz_sets.specs.Sets.{size_of};
+ghost use Rattle.frz_sets.specs.Sound.{IsSound};
+ghost use Rattle.frz_exits.specs.Conditions.{conditions_hold};
+ghost use Rattle.frz_premises.specs.Deciding as deciding;
+ghost use Rattle.frz_premises.specs.Saying.{loaded_link};
+ghost use Rattle.frz_premises.specs.Trials.{AreTried, boards_after};
+ghost use Rattle.frz_premises.specs.WaysOut.{outside_below, outside_of};
+
+use crate::silent::Silent;
+use crate::trial::Trial;
+use frz_bits::Bitboards;
+use frz_chain::BackTable;
+use frz_exits::all_hold;
+use frz_fide::after;
+use frz_game::{Arm, Game, Lists, Next};
+use frz_sets::{Exit, Rules};
+use frz_steps::Steps;
+use std::sync::ledger::Ledger;
+
+/// Do all conditions of the line hold at the position?
+fn fits(line: &Exit, q: &Bitboards) -> bool
+    requires { IsValid q.now }
+    ensures { result ≡ conditions_hold q.now line.now.conds }
+{
+    all_hold(&line.conds, q)
+}
+
+/// The place of the line that decides the position: the first that fits.
+fn line_at(lines: &[Exit], q: &Bitboards) -> Option<usize>
+    requires { IsValid q.now }
+    ensures { result ≡ deciding.line_at lines.now q.now }
+{
+    lines.iter().position(|line| fits(line, q))
+}
+
+/// Notes an exit with the line that decides it.
+fn note(trials: &mut [Trial], rules: &Rules, backs: &[BackTable], q: &Bitboards)
+    requires valid { IsValid q.now }
+    requires sound { IsSound rules.now }
+    requires tried { (qs : List Board)
+        × AreTried rules.now (map loaded_link backs.now) qs trials.old }
+    ensures { (qs : List Board) → AreTried rules.now (map loaded_link backs.now) qs trials.old →
+        AreTried rules.now (map loaded_link backs.now) (qs ++ q.now ∷ []) trials.new }
+{
+    if let Some(i) = line_at(&rules.exits, q) {
+        let value = rules.exits[i].value;
+        trials[i].note(value, backs, q);
+    }
+}
+
+/// Notes a move of a position, if it leads out of the set.
+fn note_arm(trials: &mut [Trial], rules: &Rules, backs: &[BackTable], p: &Bitboards, arm: Arm)
+    requires valid { IsValid p.now }
+    requires sound { IsSound rules.now }
+    requires legal { is_legal p.now arm.mv ≡ true }
+    requires tried { (qs : List Board)
+        × AreTried rules.now (map loaded_link backs.now) qs trials.old }
+    ensures { (qs : List Board) → AreTried rules.now (map loaded_link backs.now) qs trials.old →
+        AreTried rules.now (map loaded_link backs.now) (qs ++ boards_after p.now (arm ∷ []))
+        trials.new }
+{
+    if let Next::Outside(_) = arm.next {
+        note(trials, rules, backs, &after(p, arm.mv));
+    }
+}
+
+/// Notes the moves of a position that lead out of the set.
+fn note_all(trials: &mut [Trial], rules: &Rules, backs: &[BackTable], p: &Bitboards, arms: &[Arm])
+    requires valid { IsValid p.now }
+    requires sound { IsSound rules.now }
+    requires legal { All (λ a. is_legal p.now a.mv ≡ true) arms.now }
+    requires tried { (qs : List Board)
+        × AreTried rules.now (map loaded_link backs.now) qs trials.old }
+    ensures { (qs : List Board) → AreTried rules.now (map loaded_link backs.now) qs trials.old →
+        AreTried rules.now (map loaded_link backs.now) (qs ++ boards_after p.now arms.now)
+        trials.new }
+{
+    for arm in arms {
+        note_arm(trials, rules, backs, p, *arm);
+    }
+}
+
+/// Notes the exits of a number. A broken number has none.
+fn look<L: Ledger>(
+    game: &Game<'_, Silent>,
+    backs: &[BackTable],
+    number: u32,
+    lists: &mut Lists,
+    trials: &mut [Trial],
+    steps: &mut Steps<L>,
+)
+    requires sound { IsSound game.now.rules.now }
+    requires tried { AreTried game.now.rules.now (map loaded_link backs.now)
+        (outside_below game.now.rules.now.groups number) trials.old }
+    ensures tried { AreTried game.now.rules.now (map loaded_link backs.now)
+        (outside_below game.now.rules.now.groups (number + 1)) trials.new }
+    ensures step { steps.new ≤ steps.old + 1 }
+    ensures later { steps.old ≤ steps.new }
+{
+    if let Some(p) = game.set.boards_at(number) {
+        game.nexts_by(number, &mut lists.moves, &mut lists.nexts, steps);
+        note_all(trials, game.rules, backs, &p, lists.nexts.as_slice());
+    }
+}
+
+/// Walks over all numbers, whose moves are listed once, and notes each exit.
+pub fn walk<L: Ledger>(
+    game: &Game<'_, Silent>,
+    backs: &[BackTable],
+    trials: &mut [Trial],
+    steps: &mut Steps<L>,
+)
+    requires sound { IsSound game.now.rules.now }
+    requires tried { AreTried game.now.rules.now (map loaded_link backs.now) [] trials.old }
+    ensures tried { AreTried game.now.rules.now (map loaded_link backs.now)
+        (outside_of game.now.rules.now.groups) trials.new }
+    ensures steps { steps.new ≤ steps.old + size_of game.now.rules.now.groups }
+    ensures later { steps.old ≤ steps.new }
+{
+    let mut lists = Lists::new();
+    for number in 0..game.set.size() {
+        look(game, backs, number, &mut lists, trials, steps);
+    }
+}
