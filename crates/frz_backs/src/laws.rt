@@ -15,7 +15,7 @@ ghost use Rattle.frz_chain.specs.Books.{Back, back_value, chain_value};
 ghost use Rattle.frz_chain.specs.ChainPlies.{OwnWinsNumbered};
 ghost use Rattle.frz_chain.specs.Transfer.{TellsChess};
 ghost use Rattle.frz_backs.specs.Decided.{AreLinesOrTables, HasBothOutcomes};
-ghost use Rattle.frz_backs.specs.LinkPlies.{AreWithinPlies, longest_over};
+ghost use Rattle.frz_backs.specs.LinkPlies.{MatesOver};
 ghost use Rattle.frz_backs.specs.Links.{AreExact, AreTrueLines, Link, backs_of};
 ghost use Rattle.frz_backs.specs.Values.{atlas_value};
 
@@ -53,13 +53,8 @@ pub fn codes_over_tables_tell()
 /// A win within n by a table over such tables forces mate within n plies and those of the longest
 /// win behind it.
 pub fn plies_over_tables()
-    ensures { (rules : RuleLines) (links : List Link) → AreExact links → AreTrueLines links →
-        AreTrueExits rules (value_by rules) → (side : Colour) →
-        OwnWinsNumbered rules (atlas_value rules (backs_of links)) side →
-        (most : Link → ℕ) → AreWithinPlies [] links side most →
-        (n : ℕ) (p : Board) →
-        IsBoundAt rules (atlas_value rules (backs_of links)) side p (Wins n) →
-        ForcesMate chess side (n + longest_over 0 links most) p }
+    ensures { (rules : RuleLines) (links : List Link) → AreExact links → (side : Colour) →
+        MatesOver rules links side }
 {}
 
 /// If the outcomes in the tables are those of chess, and each way out of the set is decided by an

@@ -15,6 +15,7 @@ use Rattle.frz_table.specs.declared.kind.FileKind.TheVariants.{Atlas}
 use Rattle.frz_table.specs.Layout.{codes_at, magic_of}
 use Rattle.frz_table.specs.Tables.{IsTableFile}
 use Rattle.frz_backs.specs.Decided.{AreLinesOrTables, HasBothOutcomes}
+use Rattle.frz_backs.specs.LinkPlies.{MatesOver}
 use Rattle.frz_backs.specs.Links.{AreExact, AreTrueLines, Link, backs_of}
 use Rattle.frz_backs.specs.Values.{atlas_value}
 use Rattle.frz_atlas.specs.Behind.{AreJudged, TableBytes, link_of}
@@ -53,6 +54,10 @@ pub record AtlasHeadline (table : List ℕ) (behind : List (List ℕ)) (files : 
   -- the exits of TABLE are true where the exit lines of all texts are true
   pub true_exits : AreTrueExits rules (value_by rules) → AreTrueLines links
       → AreTrueExits rules (atlas_value rules (backs_of links))
+  -- a win within n forces mate within n plies and those of the longest win behind it, as MatesOver
+  -- says
+  pub white_mates : MatesOver rules links White
+  pub black_mates : MatesOver rules links Black
   -- where no line of TABLE forbids a side a move, its codes there are exact in chess as
   -- TableMeansExactly says
   pub white_exact :

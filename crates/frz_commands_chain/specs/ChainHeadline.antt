@@ -16,6 +16,7 @@ use Rattle.frz_table.specs.Layout.{codes_at, magic_of}
 use Rattle.frz_table.specs.Tables.{IsTableFile}
 use Rattle.frz_check.specs.OneFile.{IsOneFile}
 use Rattle.frz_chain.specs.Books.{Back, back_with, chain_value}
+use Rattle.frz_chain.specs.ChainPlies.{MatesOnBack}
 use Rattle.frz_chain.specs.DecidedBacks.{AreLinesOrBehind}
 use Rattle.frz_chain.specs.FileOn.{IsExactBack, IsFileOn}
 
@@ -58,6 +59,10 @@ pub record ChainHeadline (table back : List ℕ) (files : Files) : Type 0 where
   pub true_exits : AreTrueExits rules (value_by rules)
       → AreTrueExits back_rules (value_by back_rules)
       → AreTrueExits rules (chain_value rules behind)
+  -- a win within n forces mate within n plies and those of the longest win in BACK, as MatesOnBack
+  -- says
+  pub white_mates : MatesOnBack rules back_rules (value_by back_rules) behind White
+  pub black_mates : MatesOnBack rules back_rules (value_by back_rules) behind Black
   -- where no line of BACK forbids a side a move, its codes in BACK are exact in chess as
   -- TableMeansExactly says; and so are those in TABLE, with BACK behind its exit lines
   pub back_white_exact : TableIsExactWhereFree back_rules (value_by back_rules) White behind.white
