@@ -26,7 +26,8 @@ use Rattle.frz_commands_atlas.specs.MoveRows.{rows_in}
 use Rattle.frz_commands_atlas.specs.Ranked.{IsRanked, rank_for}
 use Rattle.frz_commands_atlas.specs.RowLines.{both_words, each_text}
 
--- the row's words are those of the bounds of both sides after the move, and the bounds hold in chess
+-- the row's words are those of the bounds of both sides after the move, and the bounds say of chess
+-- what Means states, under the premise that the exits are true
 pub record TellsBoundsAfter (rules : RuleLines) (value : Board → Value) (p : Board)
     (row : Row) : Type 0 where
   pub inside : Member rules.groups (after p row.arm.mv)
