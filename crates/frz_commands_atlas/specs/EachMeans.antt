@@ -37,7 +37,7 @@ pub record TellsBoundsAfter (rules : RuleLines) (value : Board → Value) (p : B
       ≡ (side_name White ++ bound_text white.bound)
       ++ (codes ", " ++ (side_name Black ++ bound_text black.bound))
 
--- a move that stays in the set tells bounds; an exit tells its value
+-- a move that stays in the set tells bounds; of an exit nothing is said here
 abbrev pub TellsBehind : RuleLines → (Board → Value) → Board → Row → Type 0
 TellsBehind rules value p row =
     (number : ℕ) → row.arm.next ≡ Inside number → TellsBoundsAfter rules value p row
