@@ -44,7 +44,7 @@ pub fn chained_exits_true()
 {}
 
 /// If the exit lines of the rules and those of the text of the back table are true, the codes of a
-/// table over the back table say of chess what they say of the restricted game.
+/// table over the back table say of chess what `TellsChess` states of wins and holds.
 pub fn chained_tables_tell()
     ensures { (rules backs : RuleLines) (back : Back) → IsExactBack backs (value_by backs) back →
         AreTrueExits rules (value_by rules) → AreTrueExits backs (value_by backs) →

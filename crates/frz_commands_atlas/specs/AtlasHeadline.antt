@@ -47,8 +47,10 @@ pub record AtlasHeadline (table : List ℕ) (behind : List (List ℕ)) (files : 
   pub white_table : IsTableOf rules (atlas_value rules (backs_of links)) White white
   pub black_table : IsTableOf rules (atlas_value rules (backs_of links)) Black black
   pub one_file : IsFileOver text rules (backs_of links) bytes
-  -- a win forces mate or an exit that is won, within its plies. Where the exits are true it forces
-  -- mate, and with a win or a hold the opponent cannot force mate
+  -- a win forces mate, or a position outside the set whose value is a win, within its plies and
+  -- against every legal reply. That position may lie beyond an exit of another value, as an unknown
+  -- one. Where the exits are true the win forces mate, and with a win or a hold the opponent cannot
+  -- force mate
   pub white_means : TableMeans rules (atlas_value rules (backs_of links)) White white
   pub black_means : TableMeans rules (atlas_value rules (backs_of links)) Black black
   -- the exits of TABLE are true where the exit lines of all texts are true

@@ -51,8 +51,10 @@ pub record ChainHeadline (table back : List ℕ) (files : Files) : Type 0 where
   pub white_table : IsTableOf rules (chain_value rules behind) White white
   pub black_table : IsTableOf rules (chain_value rules behind) Black black
   pub one_file : IsFileOn text rules behind bytes
-  -- a win forces mate or an exit that is won, within its plies. Where the exits are true it forces
-  -- mate, and with a win or a hold the opponent cannot force mate
+  -- a win forces mate, or a position outside the set whose value is a win, within its plies and
+  -- against every legal reply. That position may lie beyond an exit of another value, as an unknown
+  -- one. Where the exits are true the win forces mate, and with a win or a hold the opponent cannot
+  -- force mate
   pub white_means : TableMeans rules (chain_value rules behind) White white
   pub black_means : TableMeans rules (chain_value rules behind) Black black
   -- the exits of TABLE are true where the exit lines of both texts are true

@@ -233,12 +233,12 @@ next_code_is side mover kept arms cs many agrees stands i y found =
     let is : y ≡ seen r.0 = cc in
     let code : y.code ≡ arm_code arena side (seen_entry kept) r.0 = ap (λ (z : Choice). z.code)
     is in
-    let by = or_right (same_colour mover side) true refl in
+    let by_codes = or_right (same_colour mover side) true refl in
     elim keeps.stands [
       | inl w ↦ inl (
         w,
         subst (λ c. is_win c ≡ true) (sym code) (keeps.win w).0,
-        ap (λ c. c + 2) code ∙ keeps.best_win by w,
+        ap (λ c. c + 2) code ∙ keeps.best_win by_codes w,
       )
-      | inr h ↦ inr (h, (let l = keeps.best_hold by h in omega (arith, code, l)))
+      | inr h ↦ inr (h, (let l = keeps.best_hold by_codes h in omega (arith, code, l)))
     ]

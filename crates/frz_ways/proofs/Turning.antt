@@ -64,8 +64,7 @@ on_cut code (nodes.Going m) h =
     (λ b. (if b then dues.Cut else dues.Ply m) ≡ dues.Cut) (and_right (code == 1) false refl) h in
     absurd (cc)
 
--- what is due at a cursor, where it is told whether its way is late
--- no session is cut
+-- where a way is not late, as a session never is, no cut is due
 never_cut : (is_start : Bool) (code given : ℕ) (node : Node) (due : Due)
     → due ≡ due_by is_start false code given node → due ≡ dues.Cut → ⊥
 never_cut is_start code given node due e cut =

@@ -483,6 +483,7 @@ module _ (one : AsksForOne) (fills : FillsLocal)
           read.1,
           λ kept same.
               opened_tail arena opponent side kept cursor due old new t.bytes t.text result
-              (standing due e kept (read_by known many read kept same)) (t.goes kept (read_by known many read kept same)),
+              (standing due e kept (read_by known many read kept same))
+              (t.goes kept (read_by known many read kept same)),
         ),
       )
