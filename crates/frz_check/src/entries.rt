@@ -96,7 +96,7 @@ fn check_numbers<G: NumberedGame<L>, E: Entries, L: Ledger>(
 }
 
 /// Checks the codes of both sides, one a side for each number of the set: the verdict is `Exact`
-/// just if they are the tables of the game. The moves of each number are listed once, up to the
+/// exactly if they are the tables of the game. The moves of each number are listed once, up to the
 /// first wrong entry, so the steps are at most the size. No memory is taken.
 pub fn check_entries<B: ExitBook, E: Entries, L: Ledger>(
     game: &Game<'_, B>,

@@ -18,7 +18,7 @@ use Rattle.frz_ways.specs.declared.due.Due.TheVariants as dues
 use Rattle.frz_ways.specs.declared.playing.Cursor.{Cursor}
 use Rattle.frz_ways.specs.Dues.{due_by, due_on}
 use Rattle.frz_ways.specs.Turns.{HasMove}
-use Rattle.frz_ways.proofs.Seen.{move_there}
+use Rattle.frz_ways.proofs.MovesOfOneNumber.{move_there}
 
 by_if : (b : Bool) (x y : Due) (m : Colour) → (if b then x else y) ≡ dues.Ply m
     → ((b ≡ true) × (x ≡ dues.Ply m)) ⊎ ((b ≡ false) × (y ≡ dues.Ply m))

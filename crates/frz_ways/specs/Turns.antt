@@ -138,7 +138,7 @@ wrong_at side cursor given =
     plays.Line (faults.Wrong
     (record { side = side; number = cursor.number; kept = cursor.code; given = given }))
 
--- the turn did what is due, with these moves and their codes
+-- the turn played the ply that is due, or ended the way, with these moves and their codes
 abbrev pub IsPlayed : Opponent → Colour → Cursor → Due → List (Arm Step ℕ Value) → List ℕ → Reader →
     Reader → Result Turn PlayFault → SourceTold → SourceTold → SinkTold → SinkTold → Type 0
 IsPlayed opponent side cursor (dues.Wrong given) arms cs old new result source left out taken =
