@@ -57,8 +57,8 @@ to_any q b l h =
       | inl w ↦
           (let parts = and_parts (nat_lt 0 (file_of b)) (q (b - 1)) w in
           any_square (λ s. is_beside s b && q s) (b - 1) (omega arith)
-          (and_from (is_beside (b - 1) b) (q (b - 1)) (left_is_beside b l (ltb-true 0 (file_of b) parts.0))
-          parts.1))
+          (and_from (is_beside (b - 1) b) (q (b - 1))
+          (left_is_beside b l (ltb-true 0 (file_of b) parts.0)) parts.1))
       | inr w ↦
           (let parts = and_parts (nat_lt (file_of b) 7) (q (b + 1)) w in
           let inside : file_of b < 7 = ltb-true (file_of b) 7 parts.0 in
