@@ -36,7 +36,8 @@ own_colour White = refl
 own_colour Black = refl
 
 -- groups that have a state in common overlap
-common_state_overlaps : (e g : GroupLine) (cell s : ℕ) → is_state cell s e ≡ true → is_state cell s g ≡ true →
+common_state_overlaps : (e g : GroupLine) (cell s : ℕ) → is_state cell s e ≡ true →
+    is_state cell s g ≡ true →
     (same_colour e.colour g.colour && shares e.states g.states) ≡ true
 common_state_overlaps e g cell s he hg =
     let a = any_found (λ (x : Kind × ℕ). cell_of_man (record { colour = e.colour; kind = x.0 })
