@@ -5,7 +5,7 @@ use Rattle.std.specs.Option.{option_map, unwrap_or}
 use Rattle.std.proofs.lemmas.Bool.{ltb-false}
 use Rattle.frz_answer.specs.declared.end.End.{End}
 use Rattle.frz_answer.specs.declared.words.Refusal.{Refusal}
-use Rattle.frz_answer.specs.declared.words.Refusal.TheVariants.{Count, SameName}
+use Rattle.frz_answer.specs.declared.words.Refusal.TheVariants.{Count, NoCommand, SameName}
 use Rattle.frz_answer.specs.Ends.{Ran}
 use Rattle.frz_answer.specs.Jobs.{Job}
 use Rattle.frz_answer.specs.Words.{refusing, taking, unless}
@@ -75,5 +75,6 @@ module _ (job : List ℕ × List (List ℕ) → Job) (words : List (List ℕ)) (
 
   pub ran_refused : (why : Refusal) → DoNotName words why → Ran (refusing why) end old new
       → Ran (by_words job words) end old new
+  ran_refused NoCommand no ran = elim no [ ]
   ran_refused Count (not_so_many none) ran = rw none ran
   ran_refused SameName (same names some twice) ran = rw (some, twice) ran
