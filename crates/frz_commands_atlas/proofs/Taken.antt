@@ -75,6 +75,6 @@ module _ (job : List ℕ × List (List ℕ) → Job) (words : List (List ℕ)) (
 
   pub ran_refused : (why : Refusal) → DoNotName words why → Ran (refusing why) end old new
       → Ran (by_words job words) end old new
-  ran_refused NoCommand no ran = elim no [ ]
+  ran_refused NoCommand never ran = elim never [ ]
   ran_refused Count (not_so_many none) ran = rw none ran
   ran_refused SameName (same names some twice) ran = rw (some, twice) ran
