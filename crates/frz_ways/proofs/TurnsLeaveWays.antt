@@ -105,9 +105,9 @@ abbrev pub turn_over : Result WayEnd PlayFault → Result Turn PlayFault
 turn_over (Ok answer) = Ok (Over answer)
 turn_over (Err fault) = Err fault
 
-joined : (first move plies last : List ℕ)
+texts_regrouped : (first move plies last : List ℕ)
     → (first ++ (move ++ [])) ++ (plies ++ last) ≡ ((first ++ move) ++ plies) ++ last
-joined first move plies last = simp (append_assoc, append-nil)
+texts_regrouped first move plies last = simp (append_assoc, append-nil)
 
 joined_exit : (first move exit : List ℕ) → (first ++ (move ++ exit)) ++ [] ≡ ((first ++ move) ++ [])
     ++ exit
@@ -161,7 +161,7 @@ module _ (arena : Arena Step ℕ Value) (opponent : Opponent) (side : Colour) (k
       (front ++ (move_line move ++ next_line next)) (Ok (turn_of move next code))
   ply_leaves u last front move (Inside n) code first others end is same from moved to leads = (
     plies_text opponent side others ++ end_text end,
-    joined front (move_line move) (plies_text opponent side others) (end_text end)
+    texts_regrouped front (move_line move) (plies_text opponent side others) (end_text end)
         ∙ ap (λ (l : List ℕ). (l ++ plies_text opponent side others) ++ end_text end) (sym same),
     (is n refl, (first, others, refl, to, leads, refl)),
   )
