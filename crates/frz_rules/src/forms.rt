@@ -8,7 +8,7 @@ use crate::slots::{colour_at, conds_at, count_at, kind_at, literal_at, places_at
 use crate::stop::{Left, Stop};
 use crate::words::colour;
 use frz_board::{Colour, Kind};
-use frz_sets::{Cond, Forbid, MOST_PLIES, Only, Value};
+use frz_sets::{Cond, Forbid, MOST_LAG, Only, Value};
 use frz_words::{SquareSet, is_word, next_word, read_number};
 use std::alloc::Global;
 
@@ -118,7 +118,7 @@ fn wins_at(c: Colour, line: &[u8]) -> Result<(Value, &[u8]), Left<'_>>
     if is_word(w, b"if") {
         return Ok((wins(c), rest));
     }
-    match read_number(w, MOST_PLIES) {
+    match read_number(w, MOST_LAG) {
         None => Err(Left(line)),
         Some(n) => value_if(wins_in(c, n), rest),
     }

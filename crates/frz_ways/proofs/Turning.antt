@@ -36,7 +36,7 @@ use Rattle.frz_ways.proofs.Chosen.{at_in}
 use Rattle.frz_ways.proofs.PlyDues.{PlyDue, ply_due, never_failing, still_early}
 use Rattle.frz_ways.proofs.MovesOfOneNumber.{next_code_is}
 use Rattle.frz_ways.specs.declared.way_end.WayEnd.TheVariants as ends
-use Rattle.frz_ways.specs.declared.end.TheConstants.{MOST_PLIES}
+use Rattle.frz_ways.specs.declared.end.TheConstants.{LINE_LIMIT}
 use Rattle.frz_ways.specs.declared.opponent.Opponent.{Opponent}
 use Rattle.frz_ways.specs.declared.opponent.Opponent.TheVariants as opponents
 use Rattle.frz_ways.specs.declared.session_end.PlayFault.{PlayFault}
@@ -205,7 +205,7 @@ module _ {arena : Arena Step ℕ Value} {size : ℕ} (finite : IsFinite arena si
   less_by_codes alternates opponents.Codes is m e own old new same place a there next n leads =
       let early = subst (λ (z : Opponent). ((cursor.code == 1) && late_by z cursor.played) ≡ false)
       (sym is) (facts m e).early in
-      (next, still_early cursor.code cursor.played MOST_PLIES early)
+      (next, still_early cursor.code cursor.played LINE_LIMIT early)
   less_by_codes alternates opponents.Input is m e own old new same place a there next n leads =
       subst (λ k. session_left arena side k n < session_left arena side old.more cursor.number)
       (sym same) (left_own alternates m e own old.more place a there n leads)

@@ -39,7 +39,7 @@ use Rattle.frz_ways.specs.declared.hearing.Why.{Why}
 use Rattle.frz_ways.specs.declared.playing.Cursor.{Cursor}
 use Rattle.frz_ways.specs.declared.playing.Turn.{Turn}
 use Rattle.frz_ways.specs.declared.playing.Turn.TheVariants.{Over, Out}
-use Rattle.frz_ways.specs.declared.end.TheConstants.{MOST_PLIES}
+use Rattle.frz_ways.specs.declared.end.TheConstants.{LINE_LIMIT}
 use Rattle.frz_ways.specs.declared.opponent.Opponent.{Opponent}
 use Rattle.frz_ways.specs.declared.opponent.Opponent.TheVariants as opponents
 use Rattle.frz_ways.specs.WayEnds.{told, Finishes}
@@ -80,7 +80,7 @@ module _ (arena : Arena Step ℕ Value) (opponent : Opponent) (side : Colour) (k
 cut_by : (o : Opponent) (arena : Arena Step ℕ Value) (played entry code : ℕ) → entry ≡ code
     → is_cut (finder arena o) played entry ≡ ((code == 1) && late_by o played)
 cut_by opponents.Codes arena played entry code e =
-    ap (λ (c : ℕ). (c == 1) && nat_le MOST_PLIES played) e
+    ap (λ (c : ℕ). (c == 1) && nat_le LINE_LIMIT played) e
 cut_by opponents.Input arena played entry code e = sym (and_right (code == 1) false refl)
 
 pub way_stage : FillsLocal → (arena : Arena Step ℕ Value) (size : ℕ) → IsFinite arena size
