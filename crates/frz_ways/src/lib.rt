@@ -24,7 +24,7 @@ mod way;
 mod way_end;
 
 pub use best::best_line;
-pub use end::{LineEnd, LineFault, LINE_LIMIT};
+pub use end::{LINE_LIMIT, LineEnd, LineFault};
 pub use hearing::Reader;
 pub use loaded::play_loaded;
 pub use opponent::{Opponent, Player};
