@@ -22,6 +22,7 @@ use std::sync::ledger::Ledger;
 
 /// Compares the entry of the side at the number with its local code. The node says what the number
 /// is, and the list has its moves. Answers both codes if they differ, else `None`.
+#[inline(always)]
 fn compare<E: Entries>(
     side: Colour,
     number: u32,
