@@ -56,8 +56,8 @@ pub record AtlasHeadline (table : List ℕ) (behind : List (List ℕ)) (files : 
   -- the exits of TABLE are true where the exit lines of all texts are true
   pub true_exits : AreTrueExits rules (value_by rules) → AreTrueLines links
       → AreTrueExits rules (atlas_value rules (backs_of links))
-  -- a win within n forces mate within n plies and those of the longest win behind it, as MatesOver
-  -- says
+  -- where the exit lines of all texts are true, and give the plies of the side's wins, a win within
+  -- n forces mate within n plies and those of the longest win behind it, as MatesOver says
   pub white_mates : MatesOver rules links White
   pub black_mates : MatesOver rules links Black
   -- where no line of TABLE forbids a side a move, its codes there are exact in chess as

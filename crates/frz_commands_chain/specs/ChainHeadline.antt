@@ -61,8 +61,8 @@ pub record ChainHeadline (table back : List ℕ) (files : Files) : Type 0 where
   pub true_exits : AreTrueExits rules (value_by rules)
       → AreTrueExits back_rules (value_by back_rules)
       → AreTrueExits rules (chain_value rules behind)
-  -- a win within n forces mate within n plies and those of the longest win in BACK, as MatesOnBack
-  -- says
+  -- where the exits of both are true, and their lines give the plies of the side's wins, a win
+  -- within n forces mate within n plies and those of the longest win in BACK, as MatesOnBack says
   pub white_mates : MatesOnBack rules back_rules (value_by back_rules) behind White
   pub black_mates : MatesOnBack rules back_rules (value_by back_rules) behind Black
   -- where no line of BACK forbids a side a move, its codes in BACK are exact in chess as
